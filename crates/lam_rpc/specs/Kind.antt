@@ -1,0 +1,78 @@
+-- What a body is to the protocol: JSON-RPC 2.0 without batches, one message a body.
+use Rattle.std.specs.Prelude.{◌≡◌, List, ℕ, Bool, false, not, ◌&&◌, ◌||◌, if◌then◌else◌, Option, Some, None, is_some, option_and_then, unwrap_or, codes, string_bytes}
+use Rattle.std.specs.Str.{IsUtf8}
+use Rattle.serde_json.specs.Data.{Data, null}
+use Rattle.serde_json.specs.Find.{get, as_object, as_number, as_str, as_i64, as_u64}
+use Rattle.serde_json.specs.Read.{read}
+use Rattle.serde_json.specs.View.{view}
+use Rattle.serde_json.specs.Written.{has_float}
+use Rattle.lam_rpc.specs.declared.body.Incoming.{Incoming}
+use Rattle.lam_rpc.specs.declared.body.Incoming.TheVariants.{Request, Notice, Reply, Unreadable, Invalid}
+
+-- one message of a client
+pub data Message : Type 0 where
+  request : Data → List ℕ → Data → Message
+  notice : List ℕ → Data → Message
+  reply : Message
+  unreadable : Message
+  invalid : Message
+
+-- the message that an `Incoming` holds
+abbrev pub message_of : Incoming → Message
+message_of (Request id method params) = request (view id) (string_bytes method) (view params)
+message_of (Notice method params) = notice (string_bytes method) (view params)
+message_of Reply = reply
+message_of Unreadable = unreadable
+message_of Invalid = invalid
+
+-- an id is a whole number of 64 bits, with a sign or without, or a text
+abbrev pub is_id : Data → Bool
+is_id d = is_some (option_and_then as_i64 (as_number d)) || is_some (option_and_then as_u64 (as_number d)) || is_some (as_str d)
+
+-- the value has no method, and a result or an error
+abbrev pub is_reply : Data → Bool
+is_reply d = not (is_some (get (codes "method") d)) && (is_some (get (codes "result") d) || is_some (get (codes "error") d))
+
+-- a message with this method and these params: a notice where it has no id
+abbrev pub with_id : Option Data → List ℕ → Data → Message
+with_id None method params = notice method params
+with_id (Some id) method params = if is_id id then request id method params else invalid
+
+-- a message whose method is this text; missing params are null
+abbrev pub with_method : Option (List ℕ) → Data → Message
+with_method None d = invalid
+with_method (Some method) d = with_id (get (codes "id") d) method (unwrap_or (get (codes "params") d) null)
+
+-- the kind of a value, by the first rule that fits
+abbrev pub kind_of : Data → Message
+kind_of d =
+    if not (is_some (as_object d)) then invalid
+    else (if is_reply d then reply
+    else with_method (option_and_then as_str (get (codes "method") d)) d)
+
+-- the body is the text of this value
+pub record IsTextOf (body : List ℕ) (d : Data) : Type 0 where
+  pub utf8 : IsUtf8 body
+  pub reads : read body ≡ Some d
+
+-- the body is the text of a value of this kind
+pub record HasKind (body : List ℕ) (m : Message) : Type 0 where
+  pub value : Data
+  pub text : IsTextOf body value
+  pub kind : m ≡ kind_of value
+
+-- the kind of a body, where no value is read the unreadable one
+abbrev pub IsKindOf : List ℕ → Message → Type 0
+IsKindOf body unreadable = (d : Data) → ¬ (IsTextOf body d)
+IsKindOf body (request id method params) = HasKind body (request id method params)
+IsKindOf body (notice method params) = HasKind body (notice method params)
+IsKindOf body reply = HasKind body reply
+IsKindOf body invalid = HasKind body invalid
+
+-- what a request has as its id can be written without a float
+abbrev pub HasPlainId : Message → Type 0
+HasPlainId (request id method params) = has_float id ≡ false
+HasPlainId (notice method params) = Unit {0}
+HasPlainId reply = Unit {0}
+HasPlainId unreadable = Unit {0}
+HasPlainId invalid = Unit {0}

@@ -1,0 +1,109 @@
+//! What a body is.
+ghost use Rattle.std.specs.Prelude.{◌≡◌, IfOk, codes, unwrap_or};
+ghost use Rattle.serde_json.specs.Data.{null};
+ghost use Rattle.serde_json.specs.Find.{get};
+ghost use Rattle.serde_json.specs.View.{view};
+
+use serde_json::Value;
+use std::alloc::{AllocError, Global};
+
+/// A client's message, by its kind.
+#[derive(Drop)]
+pub enum Incoming {
+    /// It wants exactly one reply, with its id.
+    Request {
+        id: Value,
+        method: String,
+        params: Value,
+    },
+    /// It wants no reply. Missing params are null.
+    Notice {
+        method: String,
+        params: Value,
+    },
+    /// An answer to a request that this server never made.
+    Reply,
+    /// No JSON text.
+    Unreadable,
+    /// A JSON text that is no message.
+    Invalid,
+}
+
+ghost use Rattle.lam_rpc.specs.Kind.{message_of, kind_of, is_id, is_reply, IsKindOf, HasPlainId};
+
+/// The kind of a body, by the first rule that fits:
+///
+/// 1. no JSON text (or one that nests more than 127 levels): unreadable;
+/// 2. no object: invalid;
+/// 3. no method, but a result or an error: a reply;
+/// 4. a method that is missing or no text: invalid;
+/// 5. an id that is neither a whole number of 64 bits nor a text: invalid;
+/// 6. with an id a request, without one a notice.
+///
+/// Of a name that is repeated the last value counts. `jsonrpc` is not looked at.
+pub fn classify(alloc: Global, body: &[u8]) -> Result<Incoming, AllocError>
+    ensures kind { IfOk result (λ incoming. IsKindOf body.now (message_of incoming)) }
+    ensures plain { IfOk result (λ incoming. HasPlainId (message_of incoming)) }
+{
+    match Value::from_slice(alloc, body) {
+        Ok(value) => of_value(alloc, value),
+        Err(fault) => {
+            if fault.is_memory() {
+                Err(AllocError)
+            } else {
+                Ok(Incoming::Unreadable)
+            }
+        }
+    }
+}
+
+fn of_value(alloc: Global, mut value: Value) -> Result<Incoming, AllocError>
+    ensures kind { IfOk result (λ incoming. message_of incoming ≡ kind_of (view value)) }
+    ensures plain { IfOk result (λ incoming. HasPlainId (message_of incoming)) }
+{
+    if !value.is_object() {
+        return Ok(Incoming::Invalid);
+    }
+    if is_reply(&value) {
+        return Ok(Incoming::Reply);
+    }
+    let Some(method) = value.get("method").and_then(Value::as_str) else {
+        return Ok(Incoming::Invalid);
+    };
+    let method = String::from_str(alloc, method)?;
+    let Some(id) = value.get("id") else {
+        let params = taken_params(&mut value);
+        return Ok(Incoming::Notice { method, params });
+    };
+    if !is_id(id) {
+        return Ok(Incoming::Invalid);
+    }
+    let id = id.clone()?;
+    let params = taken_params(&mut value);
+    Ok(Incoming::Request { id, method, params })
+}
+
+fn is_reply(value: &Value) -> bool
+    ensures { result ≡ is_reply (view value.now) }
+{
+    if value.get("method").is_some() {
+        return false;
+    }
+    value.get("result").is_some() || value.get("error").is_some()
+}
+
+fn is_id(value: &Value) -> bool
+    ensures { result ≡ is_id (view value.now) }
+{
+    value.as_i64().is_some() || value.as_u64().is_some() || value.is_string()
+}
+
+// The params are moved out, since they may hold a whole document.
+fn taken_params(value: &mut Value) -> Value
+    ensures { view result ≡ unwrap_or (get (codes "params") (view value.old)) null }
+{
+    match value.get_mut("params") {
+        Some(params) => params.take(),
+        None => Value::Null,
+    }
+}

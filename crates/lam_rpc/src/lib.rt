@@ -1,0 +1,16 @@
+//! Messages of JSON-RPC 2.0 as the Language Server Protocol sends them, one in a body.
+//!
+//! `classify` says what a body is, exactly: a request, a notice (a message without an id), a
+//! reply, or one of the two kinds of nonsense. `ok_reply`, `error_reply` and `notice` build the
+//! values that go back. Nothing here knows frames, documents or the life of a session.
+#![tactic(auto)]
+
+mod body;
+mod laws;
+mod replies;
+#[cfg(test)]
+mod tests;
+
+pub use body::{Incoming, classify};
+pub use laws::{one_kind, some_kind};
+pub use replies::{error_reply, notice, ok_reply};
