@@ -1,0 +1,4 @@
+pub mod TypeShapes
+pub mod Placing
+pub mod SubShapes
+pub mod Permutations

@@ -1,0 +1,23 @@
+//! The types of the calculus with records and subtyping (TAPL chapters 8, 9, 11 and 15), the rules
+//! of subtyping and typing as trees, and checkers that trust no one: a tree is accepted exactly where
+//! it is a proof.
+//!
+//! The rules stand in `specs/Subtyping.antt` and `specs/Typing.antt`. Those two files have to be
+//! believed; everything else is proved from them.
+#![tactic(auto)]
+
+mod rules;
+mod subtyping;
+mod texts;
+mod types;
+
+pub use rules::{Dialect, SubRule, TypeRule};
+pub use subtyping::{SubProof, check_sub, has_field};
+pub use texts::{plain_text_of, sorted_of, text_of};
+pub use types::{
+    Fields, Ty, copy_of, copy_of_fields, is_absent, make_arrow, make_record, same, same_fields,
+    size, wf,
+};
+
+#[cfg(test)]
+mod tests;

@@ -1,0 +1,290 @@
+//! Proof trees of subtyping, and their checker.
+
+ghost use Rattle.std.specs.Prelude.{◌≡◌, ◌↔◌, [], ◌∷◌, IsTrue};
+ghost use Rattle.lam_rules.specs.Types.{IsWellFormed, AreWellFormed, Has, Includes};
+ghost use Rattle.lam_rules.specs.TypeViews.{typ_of, fields_of};
+ghost use Rattle.lam_rules.specs.Subtyping.{BySubRule, BeginsWith, GoesFieldByField, IsPermutation, IsRuleOf, IsSubProof, AreSubProofs};
+ghost use Rattle.lam_rules.specs.SubViews.{claim_of, claims_of, sub_tree_of, sub_trees_of};
+
+use crate::rules::{Dialect, SubRule};
+use crate::types::{Ty, same, wf};
+
+/// A tree of the rules of subtyping: the rule of its last step, the two types that this concludes
+/// of, and its premises in the rule's order. It need not be a proof.
+#[derive(Drop)]
+pub struct SubProof {
+    pub rule: SubRule,
+    pub lower: Ty,
+    pub upper: Ty,
+    pub premises: Vec<SubProof>,
+}
+
+/// Whether a tree is a proof in this dialect.
+#[cycle(check_sub)]
+#[tactic(auto, using(crate::proofs::SubShapes::sub_nodes))]
+pub fn check_sub(proof: &SubProof, dialect: Dialect) -> bool
+    ensures { IsTrue result ↔ IsSubProof (sub_tree_of proof.now) dialect }
+{
+    if !wf(&proof.lower) {
+        return false;
+    }
+    if !wf(&proof.upper) {
+        return false;
+    }
+    if !is_rule_of(proof.rule, dialect) {
+        return false;
+    }
+    if !follows(proof.rule, &proof.premises, &proof.lower, &proof.upper) {
+        return false;
+    }
+    check_subs(&proof.premises, dialect)
+}
+
+#[cycle(check_sub)]
+#[tactic(auto, using(crate::proofs::SubShapes::sub_nodes))]
+fn check_subs(proofs: &[SubProof], dialect: Dialect) -> bool
+    ensures { IsTrue result ↔ AreSubProofs (sub_trees_of proofs.now) dialect }
+{
+    for proof in proofs {
+        if !check_sub(proof, dialect) {
+            return false;
+        }
+    }
+    true
+}
+
+fn is_rule_of(rule: SubRule, dialect: Dialect) -> bool
+    ensures { IsTrue result ↔ IsRuleOf rule dialect }
+{
+    match rule {
+        SubRule::BoolNat => match dialect {
+            Dialect::One => false,
+            Dialect::Two => true,
+        },
+        _ => true,
+    }
+}
+
+#[tactic(auto, using(crate::proofs::TypeShapes::shapes, crate::proofs::SubShapes::sub_shapes))]
+fn follows(rule: SubRule, premises: &[SubProof], lower: &Ty, upper: &Ty) -> bool
+    requires lower { IsWellFormed (typ_of lower.now) }
+    requires upper { IsWellFormed (typ_of upper.now) }
+    ensures { IsTrue result ↔ BySubRule rule (claims_of premises.now) (typ_of lower.now) (typ_of upper.now) }
+{
+    match rule {
+        SubRule::Trans => {
+            let [first, second] = premises else {
+                return false;
+            };
+            by_trans(first, second, lower, upper)
+        }
+        SubRule::Arrow => {
+            let [first, second] = premises else {
+                return false;
+            };
+            by_arrow(first, second, lower, upper)
+        }
+        SubRule::RcdDepth => by_depth(premises, lower, upper),
+        SubRule::Refl => {
+            if !premises.is_empty() {
+                return false;
+            }
+            same(lower, upper)
+        }
+        SubRule::Top => {
+            if !premises.is_empty() {
+                return false;
+            }
+            same(upper, &Ty::Top)
+        }
+        SubRule::RcdWidth => {
+            if !premises.is_empty() {
+                return false;
+            }
+            by_width(lower, upper)
+        }
+        SubRule::RcdPerm => {
+            if !premises.is_empty() {
+                return false;
+            }
+            by_permutation(lower, upper)
+        }
+        SubRule::BoolNat => {
+            if !premises.is_empty() {
+                return false;
+            }
+            if !same(lower, &Ty::Bool) {
+                return false;
+            }
+            same(upper, &Ty::Nat)
+        }
+    }
+}
+
+#[tactic(auto, using(crate::proofs::TypeShapes::shapes))]
+fn by_trans(first: &SubProof, second: &SubProof, lower: &Ty, upper: &Ty) -> bool
+    ensures { IsTrue result ↔ BySubRule SubRule.Trans (claim_of first.now ∷ claim_of second.now ∷ []) (typ_of lower.now) (typ_of upper.now) }
+{
+    if !same(&first.lower, lower) {
+        return false;
+    }
+    if !same(&first.upper, &second.lower) {
+        return false;
+    }
+    same(&second.upper, upper)
+}
+
+#[tactic(auto, using(crate::proofs::TypeShapes::shapes))]
+fn by_arrow(first: &SubProof, second: &SubProof, lower: &Ty, upper: &Ty) -> bool
+    ensures { IsTrue result ↔ BySubRule SubRule.Arrow (claim_of first.now ∷ claim_of second.now ∷ []) (typ_of lower.now) (typ_of upper.now) }
+{
+    let Ty::Arrow(lower_parameter, lower_outcome) = lower else {
+        return false;
+    };
+    let Ty::Arrow(upper_parameter, upper_outcome) = upper else {
+        return false;
+    };
+    if !same(&first.lower, upper_parameter) {
+        return false;
+    }
+    if !same(&first.upper, lower_parameter) {
+        return false;
+    }
+    if !same(&second.lower, lower_outcome) {
+        return false;
+    }
+    same(&second.upper, upper_outcome)
+}
+
+#[tactic(auto, using(crate::proofs::TypeShapes::shapes))]
+fn by_width(lower: &Ty, upper: &Ty) -> bool
+    ensures { IsTrue result ↔ BySubRule SubRule.RcdWidth [] (typ_of lower.now) (typ_of upper.now) }
+{
+    let Ty::Record(fields) = lower else {
+        return false;
+    };
+    let Ty::Record(first_fields) = upper else {
+        return false;
+    };
+    begins_with(&fields.items, &first_fields.items)
+}
+
+#[tactic(auto, using(crate::proofs::TypeShapes::shapes, crate::proofs::SubShapes::sub_shapes))]
+fn begins_with(fields: &[(String, Ty)], first_fields: &[(String, Ty)]) -> bool
+    ensures { IsTrue result ↔ BeginsWith (fields_of fields.now) (fields_of first_fields.now) }
+{
+    if fields.len() < first_fields.len() {
+        return false;
+    }
+    for i in 0..first_fields.len() {
+        let field = &fields[i];
+        let first_field = &first_fields[i];
+        if field.0.as_str() != first_field.0.as_str() {
+            return false;
+        }
+        if !same(&field.1, &first_field.1) {
+            return false;
+        }
+    }
+    true
+}
+
+#[tactic(auto, using(crate::proofs::TypeShapes::shapes))]
+fn by_depth(premises: &[SubProof], lower: &Ty, upper: &Ty) -> bool
+    ensures { IsTrue result ↔ BySubRule SubRule.RcdDepth (claims_of premises.now) (typ_of lower.now) (typ_of upper.now) }
+{
+    let Ty::Record(lower_fields) = lower else {
+        return false;
+    };
+    let Ty::Record(upper_fields) = upper else {
+        return false;
+    };
+    goes_field_by_field(&lower_fields.items, &upper_fields.items, premises)
+}
+
+#[tactic(auto, using(crate::proofs::TypeShapes::shapes, crate::proofs::SubShapes::sub_shapes))]
+fn goes_field_by_field(
+    lower: &[(String, Ty)],
+    upper: &[(String, Ty)],
+    premises: &[SubProof],
+) -> bool
+    ensures { IsTrue result ↔ GoesFieldByField (fields_of lower.now) (fields_of upper.now) (claims_of premises.now) }
+{
+    if lower.len() != upper.len() {
+        return false;
+    }
+    if lower.len() != premises.len() {
+        return false;
+    }
+    for i in 0..lower.len() {
+        let lower_field = &lower[i];
+        let upper_field = &upper[i];
+        let premise = &premises[i];
+        if lower_field.0.as_str() != upper_field.0.as_str() {
+            return false;
+        }
+        if !same(&premise.lower, &lower_field.1) {
+            return false;
+        }
+        if !same(&premise.upper, &upper_field.1) {
+            return false;
+        }
+    }
+    true
+}
+
+#[tactic(auto, using(crate::proofs::TypeShapes::shapes))]
+fn by_permutation(lower: &Ty, upper: &Ty) -> bool
+    requires lower { IsWellFormed (typ_of lower.now) }
+    requires upper { IsWellFormed (typ_of upper.now) }
+    ensures { IsTrue result ↔ BySubRule SubRule.RcdPerm [] (typ_of lower.now) (typ_of upper.now) }
+{
+    let Ty::Record(fields) = lower else {
+        return false;
+    };
+    let Ty::Record(others) = upper else {
+        return false;
+    };
+    is_permutation(&fields.items, &others.items)
+}
+
+/// Since the labels on each side are distinct, it is enough that each side's fields are among the
+/// other's.
+#[tactic(auto, using(crate::proofs::Permutations::permutations))]
+fn is_permutation(fields: &[(String, Ty)], others: &[(String, Ty)]) -> bool
+    requires fields { AreWellFormed (fields_of fields.now) }
+    requires others { AreWellFormed (fields_of others.now) }
+    ensures { IsTrue result ↔ IsPermutation (fields_of fields.now) (fields_of others.now) }
+{
+    if !includes(fields, others) {
+        return false;
+    }
+    includes(others, fields)
+}
+
+#[tactic(auto, using(crate::proofs::TypeShapes::shapes))]
+fn includes(fields: &[(String, Ty)], others: &[(String, Ty)]) -> bool
+    ensures { IsTrue result ↔ Includes (fields_of fields.now) (fields_of others.now) }
+{
+    for field in fields {
+        if !has_field(&field.0, &field.1, others) {
+            return false;
+        }
+    }
+    true
+}
+
+/// Whether a field with this label and this type is among the fields.
+#[tactic(auto, using(crate::proofs::TypeShapes::shapes))]
+pub fn has_field(label: &str, ty: &Ty, fields: &[(String, Ty)]) -> bool
+    ensures { IsTrue result ↔ Has label.now (typ_of ty.now) (fields_of fields.now) }
+{
+    for field in fields {
+        if field.0.as_str() == label {
+            if same(&field.1, ty) {
+                return true;
+            }
+        }
+    }
+    false
+}

@@ -1,0 +1,156 @@
+//! The texts of types.
+
+ghost use Rattle.std.specs.Prelude.{◌≡◌, ◌++◌, ◌≤◌, length, IfOk, OnOk, string_bytes};
+ghost use Rattle.lam_rules.specs.Texts.{plain_text, plain_fields, left_of_arrow, separator_before, sorted, sorted_fields, placed, place_in, text};
+ghost use Rattle.lam_rules.specs.TypeViews.{typ_of, fields_of};
+
+use crate::types::{Fields, Ty};
+use std::alloc::{AllocError, Global};
+
+/// The text of a type with the fields of each record in their own order, as `{b:Bool, a:Nat}`.
+pub fn plain_text_of(alloc: Global, ty: &Ty) -> Result<String, AllocError>
+    ensures { IfOk result (λ written. string_bytes written ≡ plain_text (typ_of ty.now)) }
+{
+    let mut out = String::new(alloc);
+    write_type(&mut out, ty)?;
+    Ok(out)
+}
+
+#[cycle(write)]
+#[tactic(auto, using(crate::proofs::TypeShapes::shapes))]
+fn write_type(out: &mut String, ty: &Ty) -> Result<(), AllocError>
+    ensures { OnOk result (string_bytes out.new ≡ string_bytes out.old ++ plain_text (typ_of ty.now)) }
+{
+    match ty {
+        Ty::Bool => out.push_str("Bool"),
+        Ty::Nat => out.push_str("Nat"),
+        Ty::Unit => out.push_str("Unit"),
+        Ty::Top => out.push_str("Top"),
+        Ty::Arrow(parameter, outcome) => {
+            write_parameter(out, parameter)?;
+            out.push_str("->")?;
+            write_type(out, outcome)
+        }
+        Ty::Record(fields) => {
+            out.push_str("{")?;
+            write_fields(out, &fields.items)?;
+            out.push_str("}")
+        }
+    }
+}
+
+#[cycle(write)]
+#[tactic(auto, using(crate::proofs::TypeShapes::shapes))]
+fn write_parameter(out: &mut String, ty: &Ty) -> Result<(), AllocError>
+    ensures { OnOk result (string_bytes out.new ≡ string_bytes out.old ++ left_of_arrow (typ_of ty.now) (plain_text (typ_of ty.now))) }
+{
+    match ty {
+        Ty::Arrow(_, _) => {
+            out.push_str("(")?;
+            write_type(out, ty)?;
+            out.push_str(")")
+        }
+        _ => write_type(out, ty),
+    }
+}
+
+#[cycle(write)]
+#[tactic(auto, using(crate::proofs::TypeShapes::shapes))]
+fn write_fields(out: &mut String, fields: &[(String, Ty)]) -> Result<(), AllocError>
+    ensures { OnOk result (string_bytes out.new ≡ string_bytes out.old ++ plain_fields (fields_of fields.now)) }
+{
+    for i in 0..fields.len() {
+        let field = &fields[i];
+        out.push_str(&field.0)?;
+        out.push_str(":")?;
+        write_type(out, &field.1)?;
+        write_separator(out, &fields[i + 1..])?;
+    }
+    Ok(())
+}
+
+#[tactic(auto, using(crate::proofs::TypeShapes::shapes))]
+fn write_separator(out: &mut String, rest: &[(String, Ty)]) -> Result<(), AllocError>
+    ensures { OnOk result (string_bytes out.new ≡ string_bytes out.old ++ separator_before (fields_of rest.now)) }
+{
+    if rest.is_empty() {
+        return Ok(());
+    }
+    out.push_str(", ")
+}
+
+/// The text of a type with the labels of each record in ascending byte order, equal ones in their
+/// own order, as `{a:Nat, b:Bool}`.
+pub fn text_of(alloc: Global, ty: &Ty) -> Result<String, AllocError>
+    ensures { IfOk result (λ written. string_bytes written ≡ text (typ_of ty.now)) }
+{
+    let sorted = sorted_of(alloc, ty)?;
+    plain_text_of(alloc, &sorted)
+}
+
+/// The same type with the labels of each record in ascending byte order, equal ones in their own
+/// order.
+#[cycle(sorted)]
+#[tactic(auto, using(crate::proofs::TypeShapes::shapes))]
+pub fn sorted_of(alloc: Global, ty: &Ty) -> Result<Ty, AllocError>
+    ensures { IfOk result (λ made. typ_of made ≡ sorted (typ_of ty.now)) }
+{
+    match ty {
+        Ty::Bool => Ok(Ty::Bool),
+        Ty::Nat => Ok(Ty::Nat),
+        Ty::Unit => Ok(Ty::Unit),
+        Ty::Top => Ok(Ty::Top),
+        Ty::Arrow(parameter, outcome) => {
+            let sorted_parameter = sorted_of(alloc, parameter)?;
+            let sorted_outcome = sorted_of(alloc, outcome)?;
+            Ok(Ty::Arrow(
+                Box::new(alloc, sorted_parameter)?,
+                Box::new(alloc, sorted_outcome)?,
+            ))
+        }
+        Ty::Record(fields) => {
+            let items = sorted_fields_of(alloc, &fields.items)?;
+            Ok(Ty::Record(Fields { items }))
+        }
+    }
+}
+
+#[cycle(sorted)]
+#[tactic(auto, using(crate::proofs::TypeShapes::shapes))]
+fn sorted_fields_of(alloc: Global, fields: &[(String, Ty)]) -> Result<Vec<(String, Ty)>, AllocError>
+    ensures { IfOk result (λ made. fields_of made.items ≡ sorted_fields (fields_of fields.now)) }
+{
+    let mut made = Vec::new(alloc);
+    for i in (0..fields.len()).rev() {
+        let field = &fields[i];
+        let label = field.0.clone()?;
+        let ty = sorted_of(alloc, &field.1)?;
+        place(&mut made, label, ty)?;
+    }
+    Ok(made)
+}
+
+/// Puts a field before the first one whose label its own is not after.
+#[tactic(auto, using(crate::proofs::Placing::placing))]
+fn place(fields: &mut Vec<(String, Ty)>, label: String, ty: Ty) -> Result<(), AllocError>
+    ensures { OnOk result (fields_of fields.new.items ≡ placed (string_bytes label) (typ_of ty) (fields_of fields.old.items)) }
+{
+    let at = place_of(&label, fields);
+    fields.insert(at, (label, ty))?;
+    Ok(())
+}
+
+/// Where the first field stands whose label the given one is not after, or else the end.
+#[tactic(auto, using(crate::proofs::TypeShapes::shapes))]
+fn place_of(label: &str, fields: &[(String, Ty)]) -> usize
+    ensures within { result ≤ length fields.now }
+    ensures place { result ≡ place_in label.now (fields_of fields.now) }
+{
+    for i in 0..fields.len() {
+        let field = &fields[i];
+        if label <= field.0.as_str() {
+            return i;
+        }
+    }
+    fields.len()
+}

@@ -1,0 +1,232 @@
+//! Types, and what is read off one type alone.
+
+ghost use Rattle.std.specs.Prelude.{◌≡◌, ◌↔◌, ◌≤◌, ℕ, min, IsTrue, IfOk};
+ghost use Rattle.lam_rules.specs.Types.{IsWellFormed, AreWellFormed, IsAbsent, nodes, nodes_in, arrow, record_of};
+ghost use Rattle.lam_rules.specs.TypeViews.{typ_of, fields_of};
+
+use std::alloc::{AllocError, Global};
+
+/// The fields of a record type, in their own order.
+#[cycle(types)]
+#[derive(Drop)]
+pub struct Fields {
+    pub items: Vec<(String, Ty)>,
+}
+
+/// A type.
+#[cycle(types)]
+#[derive(Drop)]
+pub enum Ty {
+    Bool,
+    Nat,
+    Unit,
+    Top,
+    Arrow(Box<Ty>, Box<Ty>),
+    Record(Fields),
+}
+
+/// The arrow from one type to another.
+#[tactic(auto, using(crate::proofs::TypeShapes::shapes))]
+pub fn make_arrow(alloc: Global, parameter: Ty, outcome: Ty) -> Result<Ty, AllocError>
+    ensures { IfOk result (λ made. typ_of made ≡ arrow (typ_of parameter) (typ_of outcome)) }
+{
+    Ok(Ty::Arrow(Box::new(alloc, parameter)?, Box::new(alloc, outcome)?))
+}
+
+/// The record type of these fields, in their order.
+#[tactic(auto, using(crate::proofs::TypeShapes::shapes))]
+pub fn make_record(items: Vec<(String, Ty)>) -> Ty
+    ensures { typ_of result ≡ record_of (fields_of items.items) }
+{
+    Ty::Record(Fields { items })
+}
+
+/// Whether the labels of each record type in it are distinct, at every depth.
+#[cycle(wf)]
+#[tactic(auto, using(crate::proofs::TypeShapes::shapes))]
+pub fn wf(ty: &Ty) -> bool
+    ensures { IsTrue result ↔ IsWellFormed (typ_of ty.now) }
+{
+    match ty {
+        Ty::Bool => true,
+        Ty::Nat => true,
+        Ty::Unit => true,
+        Ty::Top => true,
+        Ty::Arrow(parameter, outcome) => {
+            if !wf(parameter) {
+                return false;
+            }
+            wf(outcome)
+        }
+        Ty::Record(fields) => wf_fields(&fields.items),
+    }
+}
+
+#[cycle(wf)]
+#[tactic(auto, using(crate::proofs::TypeShapes::shapes))]
+fn wf_fields(fields: &[(String, Ty)]) -> bool
+    ensures { IsTrue result ↔ AreWellFormed (fields_of fields.now) }
+{
+    for i in 0..fields.len() {
+        let field = &fields[i];
+        if !wf(&field.1) {
+            return false;
+        }
+        if !is_absent(&field.0, &fields[i + 1..]) {
+            return false;
+        }
+    }
+    true
+}
+
+/// Whether no field has this label.
+#[tactic(auto, using(crate::proofs::TypeShapes::shapes))]
+pub fn is_absent(label: &str, fields: &[(String, Ty)]) -> bool
+    ensures { IsTrue result ↔ IsAbsent label.now (fields_of fields.now) }
+{
+    for field in fields {
+        if field.0.as_str() == label {
+            return false;
+        }
+    }
+    true
+}
+
+/// Where `size` stops counting: one more than a type of a document may have.
+const SIZE_CAP: u64 = 4_097;
+
+/// How many nodes a type has, or 4,097 where it has more: Bool, Nat, Unit, Top, arrows and records
+/// are a node each, labels are none.
+#[cycle(size)]
+#[tactic(auto, using(crate::proofs::TypeShapes::shapes))]
+pub fn size(ty: &Ty) -> u64
+    ensures { result ≡ min (nodes (typ_of ty.now)) 4097 }
+{
+    match ty {
+        Ty::Bool => 1,
+        Ty::Nat => 1,
+        Ty::Unit => 1,
+        Ty::Top => 1,
+        Ty::Arrow(parameter, outcome) => (1 + size(parameter) + size(outcome)).min(SIZE_CAP),
+        Ty::Record(fields) => (1 + size_of_fields(&fields.items)).min(SIZE_CAP),
+    }
+}
+
+#[cycle(size)]
+#[tactic(auto, using(crate::proofs::TypeShapes::shapes))]
+fn size_of_fields(fields: &[(String, Ty)]) -> u64
+    ensures { result ≡ min (nodes_in (fields_of fields.now)) 4097 }
+{
+    let mut total = 0;
+    for i in 0..fields.len() {
+        let field = &fields[i];
+        total = (total + size(&field.1)).min(SIZE_CAP);
+    }
+    total
+}
+
+/// Whether two types are one type, with the fields of each record in one order.
+#[cycle(same)]
+#[tactic(auto, using(crate::proofs::TypeShapes::shapes))]
+pub fn same(left: &Ty, right: &Ty) -> bool
+    ensures { IsTrue result ↔ (typ_of left.now ≡ typ_of right.now) }
+{
+    match left {
+        Ty::Bool => match right {
+            Ty::Bool => true,
+            _ => false,
+        },
+        Ty::Nat => match right {
+            Ty::Nat => true,
+            _ => false,
+        },
+        Ty::Unit => match right {
+            Ty::Unit => true,
+            _ => false,
+        },
+        Ty::Top => match right {
+            Ty::Top => true,
+            _ => false,
+        },
+        Ty::Arrow(parameter, outcome) => match right {
+            Ty::Arrow(other_parameter, other_outcome) => {
+                if !same(parameter, other_parameter) {
+                    return false;
+                }
+                same(outcome, other_outcome)
+            }
+            _ => false,
+        },
+        Ty::Record(fields) => match right {
+            Ty::Record(others) => same_fields(&fields.items, &others.items),
+            _ => false,
+        },
+    }
+}
+
+/// Whether two lists of fields have the same labels and types in the same order.
+#[cycle(same)]
+#[tactic(auto, using(crate::proofs::TypeShapes::shapes))]
+pub fn same_fields(left: &[(String, Ty)], right: &[(String, Ty)]) -> bool
+    ensures { IsTrue result ↔ (fields_of left.now ≡ fields_of right.now) }
+{
+    if left.len() != right.len() {
+        return false;
+    }
+    for i in 0..left.len() {
+        let field = &left[i];
+        let other = &right[i];
+        if field.0.as_str() != other.0.as_str() {
+            return false;
+        }
+        if !same(&field.1, &other.1) {
+            return false;
+        }
+    }
+    true
+}
+
+/// The same type in memory of its own.
+#[cycle(copy_of)]
+#[tactic(auto, using(crate::proofs::TypeShapes::shapes))]
+pub fn copy_of(alloc: Global, ty: &Ty) -> Result<Ty, AllocError>
+    ensures { IfOk result (λ copy. typ_of copy ≡ typ_of ty.now) }
+{
+    match ty {
+        Ty::Bool => Ok(Ty::Bool),
+        Ty::Nat => Ok(Ty::Nat),
+        Ty::Unit => Ok(Ty::Unit),
+        Ty::Top => Ok(Ty::Top),
+        Ty::Arrow(parameter, outcome) => {
+            let parameter_copy = copy_of(alloc, parameter)?;
+            let outcome_copy = copy_of(alloc, outcome)?;
+            Ok(Ty::Arrow(
+                Box::new(alloc, parameter_copy)?,
+                Box::new(alloc, outcome_copy)?,
+            ))
+        }
+        Ty::Record(fields) => {
+            let items = copy_of_fields(alloc, &fields.items)?;
+            Ok(Ty::Record(Fields { items }))
+        }
+    }
+}
+
+/// The same fields in memory of their own.
+#[cycle(copy_of)]
+#[tactic(auto, using(crate::proofs::TypeShapes::shapes))]
+pub fn copy_of_fields(
+    alloc: Global,
+    fields: &[(String, Ty)],
+) -> Result<Vec<(String, Ty)>, AllocError>
+    ensures { IfOk result (λ copies. fields_of copies.items ≡ fields_of fields.now) }
+{
+    let mut copies = Vec::new(alloc);
+    for i in 0..fields.len() {
+        let field = &fields[i];
+        let label = field.0.clone()?;
+        let ty = copy_of(alloc, &field.1)?;
+        copies.push((label, ty))?;
+    }
+    Ok(copies)
+}
