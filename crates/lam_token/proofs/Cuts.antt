@@ -1,0 +1,269 @@
+-- A text has one cut, and its tokens are slices of it in ascending order.
+use Rattle.std.proofs.Common.{◌≡◌, ℕ, ◌+◌, ◌-◌, ◌≤◌, ◌<◌, true, false, Some, None, List, [], ◌∷◌, ◌++◌, length, take, drop, ⊎_elim, sym, refl, ap, ◌∙◌, subst, append_assoc, arith, length-append, add-one, zero, suc}
+use Rattle.std.specs.Prelude.{encode_utf8_all, map, slice_index, All, ◌==◌}
+use Rattle.std.specs.List.{slice_range, AllByRecursion}
+use Rattle.std.specs.List.Sorted.{IsStrictlyIncreasing}
+use Rattle.std.specs.Str.{chars, IsUtf8}
+use Rattle.std.proofs.lemmas.Bool.{cases_order, eqb-true, eqb-false}
+use Rattle.std.proofs.lemmas.List.{append-nil}
+use Rattle.std.proofs.lemmas.List.Elements.{All-from_recursion}
+use Rattle.std.proofs.lemmas.Str.{encodes-append, encodes-chars, chars-nil, length-le-encodes}
+use Rattle.std.proofs.Math.Seq.{take-append_seam, drop-append_seam}
+use Rattle.lam_token.specs.declared.kind.Kind.{Kind}
+use Rattle.lam_token.specs.declared.kind.Kind.TheVariants.{Name, TypeName, BadCharacter, BadComment}
+use Rattle.lam_token.specs.declared.kind.Segment.{Segment}
+use Rattle.lam_token.specs.declared.kind.Segment.TheVariants.{Blank, Comment, Token}
+use Rattle.lam_token.specs.Lexeme.{Lexeme, lexeme, lexeme_at, text_of, start_of, end_of}
+use Rattle.lam_token.specs.Shape.{shape_of, opens_comment}
+use Rattle.lam_token.specs.Reading.{SegmentIs}
+use Rattle.lam_token.proofs.Reading.{length_front}
+use Rattle.lam_token.specs.Cut.{NothingLonger, IsFirst, longest, unclosed, stray, Part, IsCut, with_token, tokens_of, AreTokensOf, IsWholeKind}
+
+-- two fronts of one length of one list
+same_front : (xs ys r m : List ℕ) → xs ++ r ≡ ys ++ m → length xs ≡ length ys → (xs ≡ ys) × (r ≡ m)
+same_front [] [] r m same lengths = (refl, same)
+same_front [] (y ∷ ys) r m same lengths = absurd (omega arith)
+same_front (x ∷ xs) [] r m same lengths = absurd (omega arith)
+same_front (x ∷ xs) (y ∷ ys) r m same lengths =
+    let head : x ≡ y = cc in
+    let tail : xs ++ r ≡ ys ++ m = cc in
+    let found = same_front xs ys r m tail (omega arith) in
+    ((λ i. head i ∷ found.0 i), found.1)
+
+-- two first segments of one text are the same
+abbrev SameFirst : Segment → Segment → List ℕ → List ℕ → List ℕ → List ℕ → Type 0
+SameFirst s t cs ds rest more = (s ≡ t) × (cs ≡ ds) × (rest ≡ more)
+
+two_longest : (s t : Segment) (cs ds rest more : List ℕ) → cs ++ rest ≡ ds ++ more → shape_of cs ≡ Some s → NothingLonger (cs ++ rest) cs → shape_of ds ≡ Some t → NothingLonger (ds ++ more) ds → SameFirst s t cs ds rest more
+two_longest s t cs ds rest more same one none_longer other none_longer' =
+    ⊎_elim
+    (λ (equal : length cs ≡ length ds).
+    let found = same_front cs ds rest more same equal in
+    let sorts : Some s ≡ Some t = sym one ∙ ap shape_of found.0 ∙ other in
+    let sort : s ≡ t = cc in
+    (sort, found.0, found.1))
+    (λ unequal. ⊎_elim
+    (λ (shorter : length cs < length ds). let none = none_longer ds more same shorter in absurd cc)
+    (λ (shorter : length ds < length cs). let none = none_longer' cs rest (sym same) shorter in absurd cc)
+    unequal)
+    (cases_order (length cs) (length ds))
+
+one_first : (s t : Segment) (cs ds rest more : List ℕ) → cs ++ rest ≡ ds ++ more → IsFirst s cs rest → IsFirst t ds more → SameFirst s t cs ds rest more
+one_first s t cs ds rest more same (longest one none_longer) (longest other none_longer') =
+    two_longest s t cs ds rest more same one none_longer other none_longer'
+one_first s t cs ds rest more same (longest one none_longer) (unclosed none is_open ends) =
+    let no = none cs rest (sym same) in absurd cc
+one_first s t cs ds rest more same (longest one none_longer) (stray none not_open single) =
+    let no = none cs rest (sym same) in absurd cc
+one_first s t cs ds rest more same (unclosed none is_open ends) (longest other none_longer) =
+    let no = none ds more same in absurd cc
+one_first s t cs ds rest more same (unclosed none is_open ends) (unclosed none' is_open' ends') =
+    let lengths : length cs ≡ length ds = omega (arith, length-append cs rest, length-append ds more, ap length same, ap length ends, ap length ends') in
+    let found = same_front cs ds rest more same lengths in
+    (refl, found.0, found.1)
+one_first s t cs ds rest more same (unclosed none is_open ends) (stray none' not_open single) =
+    let no = ap opens_comment same in absurd cc
+one_first s t cs ds rest more same (stray none not_open single) (longest other none_longer) =
+    let no = none ds more same in absurd cc
+one_first s t cs ds rest more same (stray none not_open single) (unclosed none' is_open ends) =
+    let no = ap opens_comment same in absurd cc
+one_first s t cs ds rest more same (stray none not_open single) (stray none' not_open' single') =
+    let lengths : length cs ≡ length ds = omega arith in
+    let found = same_front cs ds rest more same lengths in
+    (refl, found.0, found.1)
+
+-- a first segment has a character
+some_characters : (s : Segment) (cs rest : List ℕ) → IsFirst s cs rest → 0 < length cs
+some_characters s [] rest (longest one none_longer) = absurd cc
+some_characters s (c ∷ cs) rest (longest one none_longer) = omega arith
+some_characters s [] rest (unclosed none is_open ends) = let no = ap opens_comment ends in absurd cc
+some_characters s (c ∷ cs) rest (unclosed none is_open ends) = omega arith
+some_characters s cs rest (stray none not_open single) = omega arith
+
+not_empty : (p : Part) (rest : List ℕ) → IsFirst p.sort p.characters rest → [] ≡ p.characters ++ rest → ⊥
+not_empty p rest is_first same =
+    let some = some_characters p.sort p.characters rest is_first in
+    absurd (omega (arith, ap length same, length-append p.characters rest))
+
+one_cut : (text text' : List ℕ) (ps qs : List Part) → text ≡ text' → IsCut text ps → IsCut text' qs → ps ≡ qs
+one_cut text text' [] [] same cut cut' = refl
+one_cut text text' [] (q ∷ qs) same cut cut' = absurd (not_empty q cut'.0 cut'.2 (sym cut ∙ same ∙ cut'.1))
+one_cut text text' (p ∷ ps) [] same cut cut' = absurd (not_empty p cut.0 cut.2 (sym cut' ∙ sym same ∙ cut.1))
+one_cut text text' (p ∷ ps) (q ∷ qs) same cut cut' =
+    let found = one_first p.sort q.sort p.characters q.characters cut.0 cut'.0 (sym cut.1 ∙ same ∙ cut'.1) cut.2 cut'.2 in
+    let others = one_cut cut.0 cut'.0 ps qs found.2 cut.3 cut'.3 in
+    (λ i. record { sort = found.0 i; characters = found.1 i } ∷ others i)
+
+-- a text has one list of tokens
+pub one_list : (text : List ℕ) (ts us : List Lexeme) → AreTokensOf text ts → AreTokensOf text us → us ≡ ts
+one_list text ts us are are' =
+    are'.tokens_are ∙ ap (tokens_of 0) (one_cut _ _ are'.parts are.parts refl are'.cut are.cut) ∙ sym are.tokens_are
+
+-- each token is the slice of the text between its start and its end
+
+abbrev IsSlice : List ℕ → Lexeme → Type 0
+IsSlice text t = slice_range text (start_of t) (end_of t) ≡ text_of t
+
+slice_at : (before bytes after : List ℕ) (kind : Kind) → IsSlice (before ++ (bytes ++ after)) (lexeme_at kind bytes (length before))
+slice_at before bytes after kind =
+    let count : length before + length bytes - length before ≡ length bytes = omega arith in
+    ap (λ n. take n (drop (length before) (before ++ (bytes ++ after)))) count
+    ∙ ap (take (length bytes)) (drop-append_seam before (bytes ++ after))
+    ∙ take-append_seam bytes after
+
+with_slice : (text before bytes after : List ℕ) (start : ℕ) (s : Segment) (ts : List Lexeme) → text ≡ before ++ (bytes ++ after) → start ≡ length before → AllByRecursion (IsSlice text) ts → AllByRecursion (IsSlice text) (with_token s bytes start ts)
+with_slice text before bytes after start Blank ts whole at slices = slices
+with_slice text before bytes after start Comment ts whole at slices = slices
+with_slice text before bytes after start (Token kind) ts whole at slices =
+    let place = slice_at before bytes after kind in
+    (rw (whole, at) place, slices)
+
+tokens-slices : (text before : List ℕ) (start : ℕ) (left : List ℕ) (ps : List Part) → text ≡ before ++ encode_utf8_all left → start ≡ length before → IsCut left ps → AllByRecursion (IsSlice text) (tokens_of start ps)
+tokens-slices text before start left [] whole at cut = tt
+tokens-slices text before start left (p ∷ ps) whole at cut =
+    let bytes = encode_utf8_all p.characters in
+    let split : encode_utf8_all left ≡ bytes ++ encode_utf8_all cut.0 = ap encode_utf8_all cut.1 ∙ encodes-append p.characters cut.0 in
+    let whole' : text ≡ before ++ (bytes ++ encode_utf8_all cut.0) = whole ∙ ap (λ l. before ++ l) split in
+    let next : start + length bytes ≡ length (before ++ bytes) = omega (arith, length-append before bytes) in
+    with_slice text before bytes (encode_utf8_all cut.0) start p.sort _ whole' at
+    (tokens-slices text (before ++ bytes) (start + length bytes) cut.0 ps (whole' ∙ sym (append_assoc before bytes (encode_utf8_all cut.0))) next cut.3)
+
+pub tokens_slices : (text : List ℕ) (ts : List Lexeme) → IsUtf8 text → AreTokensOf text ts → All (λ t. slice_range text (start_of t) (end_of t) ≡ text_of t) ts
+tokens_slices text ts is_text are =
+    subst (All (IsSlice text)) (sym are.tokens_are)
+    (All-from_recursion (IsSlice text) _ (tokens-slices text [] 0 (chars text) are.parts (sym (encodes-chars text is_text)) refl are.cut))
+
+-- the starts ascend
+
+abbrev StartsFrom : ℕ → List Lexeme → Type 0
+StartsFrom n [] = Unit {0}
+StartsFrom n (t ∷ ts) = (n ≤ start_of t) × StartsFrom (start_of t + 1) ts
+
+starts_lower : (m n : ℕ) (ts : List Lexeme) → m ≤ n → StartsFrom n ts → StartsFrom m ts
+starts_lower m n [] below starts = tt
+starts_lower m n (t ∷ ts) below starts = (omega (arith, starts.0), starts.1)
+
+with_start : (start : ℕ) (bytes : List ℕ) (s : Segment) (ts : List Lexeme) → 0 < length bytes → StartsFrom (start + length bytes) ts → StartsFrom start (with_token s bytes start ts)
+with_start start bytes Blank ts some starts = starts_lower start (start + length bytes) ts (omega arith) starts
+with_start start bytes Comment ts some starts = starts_lower start (start + length bytes) ts (omega arith) starts
+with_start start bytes (Token kind) ts some starts = (omega arith, starts_lower (start + 1) (start + length bytes) ts (omega arith) starts)
+
+tokens-start : (start : ℕ) (left : List ℕ) (ps : List Part) → IsCut left ps → StartsFrom start (tokens_of start ps)
+tokens-start start left [] cut = tt
+tokens-start start left (p ∷ ps) cut =
+    let bytes = encode_utf8_all p.characters in
+    with_start start bytes p.sort _
+    (omega (arith, some_characters p.sort p.characters cut.0 cut.2, length-le-encodes p.characters))
+    (tokens-start (start + length bytes) cut.0 ps cut.3)
+
+next_start : (n : ℕ) (ts : List Lexeme) → StartsFrom n ts → (k : ℕ) → suc k < length (map start_of ts) → slice_index (map start_of ts) k < slice_index (map start_of ts) (suc k)
+next_start n [] starts k inside = absurd (omega arith)
+next_start n (t ∷ []) starts k inside = absurd (omega arith)
+next_start n (t ∷ u ∷ ts) starts zero inside = omega (arith, starts.1.0)
+next_start n (t ∷ u ∷ ts) starts (suc k) inside = next_start (start_of t + 1) (u ∷ ts) starts.1 k (omega arith)
+
+starts_increase : (n : ℕ) (ts : List Lexeme) → StartsFrom n ts → (k : ℕ) → k + 1 < length (map start_of ts) → slice_index (map start_of ts) k < slice_index (map start_of ts) (k + 1)
+starts_increase n ts starts k inside = rw add-one (next_start n ts starts k (omega (arith, inside)))
+
+pub tokens_ascend : (text : List ℕ) (ts : List Lexeme) → AreTokensOf text ts → IsStrictlyIncreasing (map start_of ts)
+tokens_ascend text ts are =
+    subst (λ l. IsStrictlyIncreasing (map start_of l)) (sym are.tokens_are)
+    (starts_increase 0 _ (tokens-start 0 (chars text) are.parts are.cut))
+
+-- each cut of what is left is the end of a cut of the whole, whose tokens are those so far and its own
+abbrev pub Cuts : (whole rest : List ℕ) → (start : ℕ) → (so_far : List Lexeme) → Type 0
+Cuts whole rest start so_far =
+    (ps : List Part) → IsCut (chars rest) ps → (qs : List Part) × IsCut (chars whole) qs × (tokens_of 0 qs ≡ so_far ++ tokens_of start ps)
+
+-- one segment more
+pub cuts_next : (whole rest after : List ℕ) (s : Segment) (start end : ℕ) (ts us : List Lexeme) → (is : SegmentIs rest s after) → Cuts whole rest start ts → end ≡ start + length (encode_utf8_all is.segment) → ((others : List Lexeme) → ts ++ with_token s (encode_utf8_all is.segment) start others ≡ us ++ others) → Cuts whole after end us
+cuts_next whole rest after s start end ts us is cuts next tokens ps cut =
+    let found = cuts (record { sort = s; characters = is.segment } ∷ ps) (chars after, is.front.characters, is.is_first, cut) in
+    (found.0, found.1, found.2 ∙ tokens (tokens_of (start + length (encode_utf8_all is.segment)) ps) ∙ ap (λ n. us ++ tokens_of n ps) (sym next))
+
+-- a token more
+pub token_more : (s : Segment) (kind : Kind) (bytes text : List ℕ) (start end : ℕ) (ts us : List Lexeme) → s ≡ Token kind → text ≡ bytes → end ≡ start + length bytes → us ≡ ts ++ lexeme kind text (record { start = start; end = end }) ∷ [] → (others : List Lexeme) → ts ++ with_token s bytes start others ≡ us ++ others
+token_more s kind bytes text start end ts us sort same next pushed others =
+    let token : lexeme kind text (record { start = start; end = end }) ≡ lexeme_at kind bytes start = (λ i. lexeme kind (same i) (record { start = start; end = next i })) in
+    ap (λ k. ts ++ with_token k bytes start others) sort
+    ∙ sym (append_assoc ts (lexeme_at kind bytes start ∷ []) others)
+    ∙ ap (λ t. (ts ++ t ∷ []) ++ others) (sym token)
+    ∙ ap (λ l. l ++ others) (sym pushed)
+
+-- no token more
+pub no_token_more : (s : Segment) (bytes : List ℕ) (start : ℕ) (ts : List Lexeme) → ((kind : Kind) → s ≡ Token kind → ⊥) → (others : List Lexeme) → ts ++ with_token s bytes start others ≡ ts ++ others
+no_token_more Blank bytes start ts no_token others = refl
+no_token_more Comment bytes start ts no_token others = refl
+no_token_more (Token kind) bytes start ts no_token others = absurd (no_token kind refl)
+
+-- nothing is left
+pub cuts_end : (whole rest : List ℕ) (start : ℕ) (ts : List Lexeme) → Cuts whole rest start ts → rest ≡ [] → AreTokensOf whole ts
+cuts_end whole rest start ts cuts is_end =
+    let found = cuts [] (ap chars is_end ∙ chars-nil) in
+    record { parts = found.0; cut = found.1; tokens_are = sym (append-nil ts) ∙ sym found.2 }
+
+-- the kind of the whole text
+
+pub whole_shape : (k : Kind) (text : List ℕ) → IsFirst (Token k) text [] → (kind : Kind) → shape_of text ≡ Some (Token kind) → k ≡ kind
+whole_shape k text (longest one none_longer) kind shape = cc
+whole_shape k text (unclosed none is_open ends) kind shape = let no = none text [] refl in absurd cc
+whole_shape k text (stray none not_open single) kind shape = let no = none text [] refl in absurd cc
+
+pub name_shape : (k : Kind) (text : List ℕ) → IsFirst (Token k) text [] → k ≡ Name → shape_of text ≡ Some (Token Name)
+name_shape k text (longest one none_longer) is = one ∙ ap (λ n. Some (Token n)) is
+name_shape k text (unclosed none is_open ends) is = absurd cc
+name_shape k text (stray none not_open single) is = absurd cc
+
+pub type_name_shape : (k : Kind) (text : List ℕ) → IsFirst (Token k) text [] → k ≡ TypeName → shape_of text ≡ Some (Token TypeName)
+type_name_shape k text (longest one none_longer) is = one ∙ ap (λ n. Some (Token n)) is
+type_name_shape k text (unclosed none is_open ends) is = absurd cc
+type_name_shape k text (stray none not_open single) is = absurd cc
+
+-- a text that goes on behind its first segment is none by itself
+longer_whole : (s : Segment) (cs rest : List ℕ) → IsFirst s cs rest → 0 < length rest → shape_of (cs ++ rest) ≡ None
+longer_whole s cs rest (longest one none_longer) more =
+    none_longer (cs ++ rest) [] (sym (append-nil _)) (omega (arith, length-append cs rest))
+longer_whole s cs rest (unclosed none is_open ends) more = none (cs ++ rest) [] (sym (append-nil _))
+longer_whole s cs rest (stray none not_open single) more = none (cs ++ rest) [] (sym (append-nil _))
+
+some_chars : (bytes : List ℕ) → IsUtf8 bytes → (bytes ≡ [] → ⊥) → 0 < length (chars bytes)
+some_chars bytes is_text some = counted (chars bytes) refl
+  where
+    counted : (cs : List ℕ) → chars bytes ≡ cs → 0 < length cs
+    counted [] e = absurd (some (sym (encodes-chars bytes is_text) ∙ ap encode_utf8_all e))
+    counted (c ∷ cs) e = omega arith
+
+pub more_is_none : (text rest : List ℕ) (s : Segment) → SegmentIs text s rest → false ≡ (length rest == 0) → IsWholeKind (chars text) None
+more_is_none text rest s is not_empty kind shape =
+    let some : rest ≡ [] → ⊥ = λ none. eqb-false (length rest) 0 (sym not_empty) (ap length none) in
+    let none = ap shape_of is.front.characters ∙ longer_whole s is.segment (chars rest) is.is_first (some_chars rest is.front.is_text some) in
+    absurd cc
+
+pub empty_is_none : (text : List ℕ) → text ≡ [] → IsWholeKind (chars text) None
+empty_is_none text is_end kind shape =
+    let none : shape_of (chars text) ≡ None = ap shape_of (ap chars is_end ∙ chars-nil) in
+    absurd cc
+
+no_bytes : (bytes : List ℕ) → length bytes ≡ 0 → bytes ≡ []
+no_bytes [] none = refl
+no_bytes (b ∷ bytes) none = absurd (omega arith)
+
+-- the text is its first segment
+pub all_is_first : (text rest : List ℕ) (s t : Segment) → SegmentIs text s rest → true ≡ (length rest == 0) → s ≡ t → IsFirst t (chars text) []
+all_is_first text rest s t is is_empty sort =
+    let none : chars rest ≡ [] = ap chars (no_bytes rest (eqb-true (length rest) 0 (sym is_empty))) ∙ chars-nil in
+    let whole : is.segment ≡ chars text = sym (append-nil _) ∙ ap (λ l. is.segment ++ l) (sym none) ∙ sym is.front.characters in
+    subst (λ k. IsFirst k (chars text) []) sort
+    (subst (λ l. IsFirst s (chars text) l) none (subst (λ l. IsFirst s l (chars rest)) whole is.is_first))
+
+pub blank_is_none : (text : List ℕ) (s : Segment) → IsFirst s text [] → ((kind : Kind) → s ≡ Token kind → ⊥) → IsWholeKind text None
+blank_is_none text s (longest one none_longer) no_token kind shape =
+    let same : Some s ≡ Some (Token kind) = sym one ∙ shape in
+    no_token kind cc
+blank_is_none text s (unclosed none is_open ends) no_token kind shape = no_token BadComment refl
+blank_is_none text s (stray none not_open single) no_token kind shape = no_token BadCharacter refl
+
+-- what is left behind a segment is shorter
+pub segment_shorter : (text rest : List ℕ) (s : Segment) → SegmentIs text s rest → length rest < length text
+segment_shorter text rest s is =
+    omega (arith, length_front text is.segment rest is.front, some_characters s is.segment (chars rest) is.is_first, length-le-encodes is.segment)

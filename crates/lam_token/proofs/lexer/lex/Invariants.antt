@@ -1,0 +1,14 @@
+use Rattle.std.proofs.Common.{◌≡◌, ◌+◌, length}
+use Rattle.std.specs.Str.{IsUtf8}
+use Rattle.lam_token.proofs.Cuts.{Cuts}
+use Rattle.lam_token.proofs.lexer.lex.Given as goal
+
+abbrev pub invariant-loop-segment : goal.invariant-loop-segment
+invariant-loop-segment l = record {
+  is_text : IsUtf8 l.rest;
+  place : l.start + length l.rest ≡ length l.fn.text;
+  cuts : Cuts l.fn.text l.rest l.start l.tokens.items;
+}
+
+abbrev pub decreases-loop-segment : goal.decreases-loop-segment
+decreases-loop-segment l = length l.rest

@@ -1,0 +1,57 @@
+-- The one cut of a text into its longest segments, and its tokens.
+use Rattle.std.specs.Prelude.{◌≡◌, ℕ, ◌+◌, ◌<◌, true, false, Option, Some, None, List, [], ◌∷◌, ◌++◌, length, encode_utf8_all}
+use Rattle.std.specs.Str.{chars}
+use Rattle.lam_token.specs.declared.kind.Kind.{Kind}
+use Rattle.lam_token.specs.declared.kind.Kind.TheVariants.{BadCharacter, BadComment}
+use Rattle.lam_token.specs.declared.kind.Segment.{Segment}
+use Rattle.lam_token.specs.declared.kind.Segment.TheVariants.{Blank, Comment, Token}
+use Rattle.lam_token.specs.Lexeme.{Lexeme, lexeme_at}
+use Rattle.lam_token.specs.Shape.{shape_of, opens_comment}
+
+-- no front of the text is a blank, a comment or a lexeme
+abbrev pub NothingBegins : List ℕ → Type 0
+NothingBegins text = (front after : List ℕ) → text ≡ front ++ after → shape_of front ≡ None
+
+-- no front of the text that is longer than this one is a blank, a comment or a lexeme
+abbrev pub NothingLonger : List ℕ → List ℕ → Type 0
+NothingLonger text cs = (front after : List ℕ) → text ≡ front ++ after → length cs < length front → shape_of front ≡ None
+
+-- The first segment of a text is these characters and is of this sort, where these others follow it: the longest front
+-- that is a blank, a comment or a lexeme; where no front is one, the whole text if it begins with the mark that opens a
+-- comment, and else one character.
+pub data IsFirst : Segment → List ℕ → List ℕ → Type 0 where
+  longest : {s : Segment} {cs rest : List ℕ} → shape_of cs ≡ Some s → NothingLonger (cs ++ rest) cs → IsFirst s cs rest
+  unclosed : {cs rest : List ℕ} → NothingBegins (cs ++ rest) → opens_comment (cs ++ rest) ≡ true → rest ≡ [] → IsFirst (Token BadComment) cs rest
+  stray : {cs rest : List ℕ} → NothingBegins (cs ++ rest) → opens_comment (cs ++ rest) ≡ false → length cs ≡ 1 → IsFirst (Token BadCharacter) cs rest
+
+-- a segment: its sort and its characters
+pub record Part : Type 0 where
+  pub sort : Segment
+  pub characters : List ℕ
+
+-- the segments that joined are the text, each the first of what is left
+abbrev pub IsCut : List ℕ → List Part → Type 0
+IsCut text [] = text ≡ []
+IsCut text (p ∷ ps) = (rest : List ℕ) × (text ≡ p.characters ++ rest) × IsFirst p.sort p.characters rest × IsCut rest ps
+
+-- the token that a segment is, in front of others; a blank or a comment is none
+abbrev pub with_token : Segment → (bytes : List ℕ) → (start : ℕ) → List Lexeme → List Lexeme
+with_token Blank bytes start others = others
+with_token Comment bytes start others = others
+with_token (Token kind) bytes start others = lexeme_at kind bytes start ∷ others
+
+-- the tokens of segments that begin at a byte offset
+abbrev pub tokens_of : ℕ → List Part → List Lexeme
+tokens_of start [] = []
+tokens_of start (p ∷ ps) = let bytes = encode_utf8_all p.characters in with_token p.sort bytes start (tokens_of (start + length bytes) ps)
+
+-- these are the tokens of the text that these bytes spell
+pub record AreTokensOf (text : List ℕ) (tokens : List Lexeme) : Type 0 where
+  pub parts : List Part
+  pub cut : IsCut (chars text) parts
+  pub tokens_are : tokens ≡ tokens_of 0 parts
+
+-- the kind of the token that the whole text is; None where it is none by itself
+abbrev pub IsWholeKind : List ℕ → Option Kind → Type 0
+IsWholeKind text None = (kind : Kind) → shape_of text ≡ Some (Token kind) → ⊥
+IsWholeKind text (Some kind) = IsFirst (Token kind) text []

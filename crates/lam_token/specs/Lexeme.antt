@@ -1,0 +1,29 @@
+-- A token, apart from where it lies in memory.
+use Rattle.std.specs.Prelude.{ℕ, ◌+◌, List, length}
+use Rattle.lam_token.specs.declared.kind.Kind.{Kind}
+use Rattle.lam_token.specs.declared.span.Span.{Span}
+
+-- its kind, the bytes of its text, and its place
+pub data Lexeme : Type 0 where
+  lexeme : (kind : Kind) → (text : List ℕ) → (span : Span) → Lexeme
+
+abbrev pub kind_of : Lexeme → Kind
+kind_of (lexeme kind text span) = kind
+
+abbrev pub text_of : Lexeme → List ℕ
+text_of (lexeme kind text span) = text
+
+abbrev pub span_of : Lexeme → Span
+span_of (lexeme kind text span) = span
+
+-- the byte offset of its first byte
+abbrev pub start_of : Lexeme → ℕ
+start_of t = (span_of t).start
+
+-- the byte offset behind its last byte
+abbrev pub end_of : Lexeme → ℕ
+end_of t = (span_of t).end
+
+-- a token of that text that begins at that offset
+abbrev pub lexeme_at : Kind → List ℕ → (start : ℕ) → Lexeme
+lexeme_at kind text start = lexeme kind text (record { start = start; end = start + length text })

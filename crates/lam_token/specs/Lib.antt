@@ -1,0 +1,4 @@
+pub mod Lexeme
+pub mod Shape
+pub mod Cut
+pub mod Reading

@@ -1,0 +1,133 @@
+-- What a list of characters is by itself: a blank, a comment, a lexeme, or none of these.
+use Rattle.std.specs.Prelude.{ℕ, ◌+◌, ◌-◌, Bool, false, ◌&&◌, ◌||◌, ◌==◌, nat_le, if◌then◌else◌, Option, Some, None, List, [], ◌∷◌, codes, encode_utf8_all}
+use Rattle.std.specs.List.{list_all}
+use Rattle.std.specs.Str.{bytes_eq}
+use Rattle.unicode_ident.specs.Ident.{is_xid_start, is_xid_continue}
+use Rattle.lam_token.specs.declared.kind.Kind.{Kind}
+use Rattle.lam_token.specs.declared.kind.Kind.TheVariants.{Name, TypeName, Numeral, Lambda, If, Then, Else, Let, Letrec, In, Fix, Succ, Pred, IsZero, True, False, UnitTerm, As, BoolType, NatType, UnitType, TopType, Semicolon, Equals, Colon, Dot, Comma, OpenParen, CloseParen, OpenBrace, CloseBrace, Arrow, Underscore}
+use Rattle.lam_token.specs.declared.kind.Segment.{Segment}
+use Rattle.lam_token.specs.declared.kind.Segment.TheVariants as segment
+use Rattle.lam_token.specs.declared.kind.Beginning.{Beginning}
+use Rattle.lam_token.specs.declared.kind.Beginning.TheVariants as first
+
+-- space, tab, line feed, carriage return
+unfoldable pub is_blank : ℕ → Bool
+is_blank c = (c == 32) || (c == 9) || (c == 10) || (c == 13)
+
+-- 0 to 9
+unfoldable pub is_digit : ℕ → Bool
+is_digit c = nat_le 48 c && nat_le c 57
+
+-- A to Z
+unfoldable pub is_capital : ℕ → Bool
+is_capital c = nat_le 65 c && nat_le c 90
+
+-- what an identifier may go on with: XID_Continue, or an apostrophe
+unfoldable pub is_continuing : ℕ → Bool
+is_continuing c = (c == 39) || is_xid_continue c
+
+-- the kind of a word, given as the bytes of its text: one of the words of the language, and else by its first character
+unfoldable pub word_kind : (first : ℕ) → List ℕ → Kind
+word_kind first word =
+    if bytes_eq word (codes "lambda") then Lambda
+    else if bytes_eq word (codes "if") then If
+    else if bytes_eq word (codes "then") then Then
+    else if bytes_eq word (codes "else") then Else
+    else if bytes_eq word (codes "let") then Let
+    else if bytes_eq word (codes "letrec") then Letrec
+    else if bytes_eq word (codes "in") then In
+    else if bytes_eq word (codes "fix") then Fix
+    else if bytes_eq word (codes "succ") then Succ
+    else if bytes_eq word (codes "pred") then Pred
+    else if bytes_eq word (codes "iszero") then IsZero
+    else if bytes_eq word (codes "true") then True
+    else if bytes_eq word (codes "false") then False
+    else if bytes_eq word (codes "unit") then UnitTerm
+    else if bytes_eq word (codes "as") then As
+    else if bytes_eq word (codes "Bool") then BoolType
+    else if bytes_eq word (codes "Nat") then NatType
+    else if bytes_eq word (codes "Unit") then UnitType
+    else if bytes_eq word (codes "Top") then TopType
+    else if is_capital first then TypeName
+    else Name
+
+-- what may begin with a character that is neither a blank, a digit nor a letter
+unfoldable pub mark_of : ℕ → Beginning
+mark_of c =
+    if c == 47 then first.Slash
+    else if c == 95 then first.Underscore
+    else if c == 45 then first.Dash
+    else if c == 59 then first.Mark Semicolon
+    else if c == 61 then first.Mark Equals
+    else if c == 58 then first.Mark Colon
+    else if c == 46 then first.Mark Dot
+    else if c == 44 then first.Mark Comma
+    else if c == 40 then first.Mark OpenParen
+    else if c == 41 then first.Mark CloseParen
+    else if c == 123 then first.Mark OpenBrace
+    else if c == 125 then first.Mark CloseBrace
+    else first.Stray
+
+-- what may begin with a character
+unfoldable pub beginning_of : ℕ → Beginning
+beginning_of c =
+    if is_blank c then first.Blank
+    else if is_digit c then first.Digit
+    else if is_xid_start c then first.Letter
+    else mark_of c
+
+-- a slash and a star open a comment
+unfoldable pub is_opening : ℕ → ℕ → Bool
+is_opening before c = (before == 47) && (c == 42)
+
+-- a star and a slash close it
+unfoldable pub is_closing : ℕ → ℕ → Bool
+is_closing before c = (before == 42) && (c == 47)
+
+-- What is left behind a comment of which so many marks are open; None where the text ends first.
+-- Marks are two characters, taken from the left: `before` is the character before, or a space if a mark took it.
+unfoldable pub behind : (depth before : ℕ) → List ℕ → Option (List ℕ)
+behind depth before [] = None
+behind depth before (c ∷ cs) =
+    if is_opening before c then behind (depth + 1) 32 cs
+    else if is_closing before c then (if depth == 1 then Some cs else behind (depth - 1) 32 cs)
+    else behind depth c cs
+
+-- a segment of that sort, if nothing follows
+abbrev pub alone : Segment → List ℕ → Option Segment
+alone s [] = Some s
+alone s (c ∷ cs) = None
+
+-- a comment, if it closes where the text ends
+abbrev pub closed_at_end : Option (List ℕ) → Option Segment
+closed_at_end (Some rest) = alone segment.Comment rest
+closed_at_end None = None
+
+-- what the first character and those behind it are together, by what may begin so
+abbrev pub begun : Beginning → ℕ → List ℕ → Option Segment
+begun first.Blank c cs = alone segment.Blank cs
+begun first.Slash c [] = None
+begun first.Slash c (d ∷ cs) = if d == 42 then closed_at_end (behind 1 32 cs) else None
+begun first.Digit c cs = if list_all is_digit cs then Some (segment.Token Numeral) else None
+begun first.Letter c cs = if list_all is_continuing cs then Some (segment.Token (word_kind c (encode_utf8_all (c ∷ cs)))) else None
+begun first.Underscore c [] = Some (segment.Token Underscore)
+begun first.Underscore c (d ∷ cs) = if list_all is_continuing (d ∷ cs) then Some (segment.Token Name) else None
+begun first.Dash c [] = None
+begun first.Dash c (d ∷ cs) = if d == 62 then alone (segment.Token Arrow) cs else None
+begun (first.Mark kind) c cs = alone (segment.Token kind) cs
+begun first.Stray c cs = None
+
+-- what a whole list of characters is
+abbrev pub shape_of : List ℕ → Option Segment
+shape_of [] = None
+shape_of (c ∷ cs) = begun (beginning_of c) c cs
+
+-- the first character is the slash, and the second a star
+abbrev pub opened : Beginning → List ℕ → Bool
+opened first.Slash (d ∷ cs) = d == 42
+opened _ _ = false
+
+-- the text begins with the mark that opens a comment
+abbrev pub opens_comment : List ℕ → Bool
+opens_comment [] = false
+opens_comment (c ∷ cs) = opened (beginning_of c) cs

@@ -1,0 +1,131 @@
+//! A text as its characters, and what a character may begin or continue.
+ghost use Rattle.std.specs.Prelude.{◌≡◌, [], MatchOption};
+ghost use Rattle.std.specs.Str.{chars};
+ghost use Rattle.lam_token.specs.Shape.{is_blank, is_digit, is_capital, is_continuing, is_opening, is_closing, mark_of, beginning_of, word_kind};
+ghost use Rattle.lam_token.specs.Reading.{FirstIs};
+
+use crate::kind::{Beginning, Kind};
+
+/// The first character, and the text behind it.
+pub(crate) fn split_first(text: &str) -> Option<(char, &str)>
+    ensures { MatchOption result (text.now ≡ []) (λ found. FirstIs text.now found.0 found.1.now) }
+{
+    let mut characters = text.chars();
+    let first = characters.next()?;
+    Some((first, characters.as_str()))
+}
+
+#[tactic(auto, unfolding(crate::specs::Shape::is_blank))]
+fn is_blank(c: char) -> bool
+    ensures { result ≡ is_blank c }
+{
+    c == ' ' || c == '\t' || c == '\n' || c == '\r'
+}
+
+#[tactic(auto, unfolding(crate::specs::Shape::is_digit))]
+pub(crate) fn is_digit(c: char) -> bool
+    ensures { result ≡ is_digit c }
+{
+    c >= '0' && c <= '9'
+}
+
+#[tactic(auto, unfolding(crate::specs::Shape::is_capital))]
+fn is_capital(c: char) -> bool
+    ensures { result ≡ is_capital c }
+{
+    c >= 'A' && c <= 'Z'
+}
+
+#[tactic(auto, unfolding(crate::specs::Shape::is_continuing))]
+pub(crate) fn is_continuing(c: char) -> bool
+    ensures { result ≡ is_continuing c }
+{
+    c == '\'' || unicode_ident::is_xid_continue(c)
+}
+
+/// Whether the two characters open a comment.
+#[tactic(auto, unfolding(crate::specs::Shape::is_opening))]
+pub(crate) fn is_opening(before: char, c: char) -> bool
+    ensures { result ≡ is_opening before c }
+{
+    before == '/' && c == '*'
+}
+
+/// Whether the two characters close a comment.
+#[tactic(auto, unfolding(crate::specs::Shape::is_closing))]
+pub(crate) fn is_closing(before: char, c: char) -> bool
+    ensures { result ≡ is_closing before c }
+{
+    before == '*' && c == '/'
+}
+
+#[tactic(auto, unfolding(crate::specs::Shape::mark_of))]
+fn mark_of(c: char) -> Beginning
+    ensures { result ≡ mark_of c }
+{
+    match c {
+        '/' => Beginning::Slash,
+        '_' => Beginning::Underscore,
+        '-' => Beginning::Dash,
+        ';' => Beginning::Mark(Kind::Semicolon),
+        '=' => Beginning::Mark(Kind::Equals),
+        ':' => Beginning::Mark(Kind::Colon),
+        '.' => Beginning::Mark(Kind::Dot),
+        ',' => Beginning::Mark(Kind::Comma),
+        '(' => Beginning::Mark(Kind::OpenParen),
+        ')' => Beginning::Mark(Kind::CloseParen),
+        '{' => Beginning::Mark(Kind::OpenBrace),
+        '}' => Beginning::Mark(Kind::CloseBrace),
+        _ => Beginning::Stray,
+    }
+}
+
+#[tactic(auto, unfolding(crate::specs::Shape::beginning_of))]
+pub(crate) fn beginning_of(c: char) -> Beginning
+    ensures { result ≡ beginning_of c }
+{
+    if is_blank(c) {
+        Beginning::Blank
+    } else if is_digit(c) {
+        Beginning::Digit
+    } else if unicode_ident::is_xid_start(c) {
+        Beginning::Letter
+    } else {
+        mark_of(c)
+    }
+}
+
+/// The kind of a word that begins with this character.
+#[tactic(auto, unfolding(crate::specs::Shape::word_kind))]
+pub(crate) fn word_kind(first: char, word: &str) -> Kind
+    ensures { result ≡ word_kind first word.now }
+{
+    match word {
+        "lambda" => Kind::Lambda,
+        "if" => Kind::If,
+        "then" => Kind::Then,
+        "else" => Kind::Else,
+        "let" => Kind::Let,
+        "letrec" => Kind::Letrec,
+        "in" => Kind::In,
+        "fix" => Kind::Fix,
+        "succ" => Kind::Succ,
+        "pred" => Kind::Pred,
+        "iszero" => Kind::IsZero,
+        "true" => Kind::True,
+        "false" => Kind::False,
+        "unit" => Kind::UnitTerm,
+        "as" => Kind::As,
+        "Bool" => Kind::BoolType,
+        "Nat" => Kind::NatType,
+        "Unit" => Kind::UnitType,
+        "Top" => Kind::TopType,
+        _ => {
+            if is_capital(first) {
+                Kind::TypeName
+            } else {
+                Kind::Name
+            }
+        }
+    }
+}

@@ -1,0 +1,64 @@
+//! A token of a text, which borrows the text.
+ghost use Rattle.std.specs.Prelude.{◌≡◌, ◌+◌, length};
+ghost use Rattle.lam_token.specs.Lexeme.{kind_of, text_of, span_of, start_of, end_of};
+
+use crate::kind::Kind;
+use crate::span::Span;
+use std::marker::Model;
+
+/// A lexeme of a text, or what stands where none begins. A clause sees it as a `Lexeme`.
+#[derive(Drop, Debug)]
+pub struct Token<'a> {
+    pub(crate) kind: Kind,
+    pub(crate) text: &'a str,
+    pub(crate) place: Span,
+}
+
+impl<'a> Model for Token<'a> {
+    ghost use Rattle.std.specs.Prelude.{◌≡◌, ◌+◌, length};
+    ghost use Rattle.lam_token.specs.Lexeme.{Lexeme, lexeme};
+
+    ghost Value = { Lexeme };
+
+    ghost view = { λ t. lexeme t.kind t.text.now t.place };
+
+    ghost invariant = { λ t. t.place.end ≡ t.place.start + length t.text.now };
+}
+
+impl<'a> Token<'a> {
+    /// What it is.
+    pub fn kind(&self) -> Kind
+        ensures { result ≡ kind_of self.now }
+    {
+        self.kind
+    }
+
+    /// The slice of the source that it is.
+    pub fn text(&self) -> &'a str
+        ensures text { result.now ≡ text_of self.now }
+        ensures whole { end_of self.now ≡ start_of self.now + length result.now }
+    {
+        self.text
+    }
+
+    /// Where its first byte is, in bytes from the start of the source.
+    pub fn start(&self) -> usize
+        ensures { result ≡ start_of self.now }
+    {
+        self.span().start
+    }
+
+    /// Where the byte behind its last one is, in bytes from the start of the source.
+    pub fn end(&self) -> usize
+        ensures { result ≡ end_of self.now }
+    {
+        self.span().end
+    }
+
+    /// Its place in the source.
+    pub fn span(&self) -> Span
+        ensures { result ≡ span_of self.now }
+    {
+        self.place
+    }
+}
