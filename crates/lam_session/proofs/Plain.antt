@@ -1,0 +1,84 @@
+-- What a step sends holds no float where the request's id holds none: so its text is known.
+use Rattle.std.proofs.Common.{◌≡◌, zero, suc, List, [], ◌∷◌, map, false, refl, subst, sym, arith}
+use Rattle.std.specs.List.{All}
+use Rattle.serde_json.specs.Data.{Data, null}
+use Rattle.serde_json.specs.View.{view}
+use Rattle.serde_json.specs.Written.{has_float}
+use Rattle.serde_json.specs.declared.value.Value.{Value}
+use Rattle.lam_rpc.specs.Kind.{Message, request, notice, reply, unreadable, invalid, HasPlainId}
+use Rattle.lam_rpc.specs.Reply.{result_reply}
+use Rattle.lam_session.specs.declared.states.Life.{Life}
+use Rattle.lam_session.specs.declared.states.Life.TheVariants.{Fresh, Running, Down, Over}
+use Rattle.lam_session.specs.declared.states.Encoding.{Encoding}
+use Rattle.lam_session.specs.declared.states.Encoding.TheVariants.{Utf8, Utf16, Utf32}
+use Rattle.lam_session.specs.declared.methods.RequestMethod.{RequestMethod}
+use Rattle.lam_session.specs.declared.methods.RequestMethod.TheVariants.{Initialize, Shutdown, UnknownRequest}
+use Rattle.lam_session.specs.declared.methods.NoticeMethod.{NoticeMethod}
+use Rattle.lam_session.specs.declared.methods.NoticeMethod.TheVariants.{Exit, UnknownNotice}
+use Rattle.lam_session.specs.declared.refusals.Refusal.{Refusal}
+use Rattle.lam_session.specs.declared.refusals.Refusal.TheVariants.{UnreadableMessage, InvalidMessage, AlreadyInitialized, ShutDown, NotInitialized, MethodNotFound}
+use Rattle.lam_session.specs.Initialize.{chosen, initialize_answer}
+use Rattle.lam_session.specs.Methods.{request_method, notice_method}
+use Rattle.lam_session.specs.Refusals.{refused}
+use Rattle.lam_session.specs.State.{State}
+use Rattle.lam_session.specs.Step.{Does, Serves, Awaits, Requested, Noticed, Receives, ReceivesIn, Steps}
+
+-- no value of the list holds a float
+abbrev pub NoFloats : List Data → Type 0
+NoFloats [] = Unit {0}
+NoFloats (d ∷ ds) = (has_float d ≡ false) × NoFloats ds
+
+refused_plain : (id : Data) (refusal : Refusal) → has_float id ≡ false → NoFloats (refused id refusal ∷ [])
+refused_plain id UnreadableMessage h = (rw h, tt)
+refused_plain id InvalidMessage h = (rw h, tt)
+refused_plain id AlreadyInitialized h = (rw h, tt)
+refused_plain id ShutDown h = (rw h, tt)
+refused_plain id NotInitialized h = (rw h, tt)
+refused_plain id MethodNotFound h = (rw h, tt)
+
+initialized_plain : (id : Data) (encoding : Encoding) → has_float id ≡ false → NoFloats (result_reply id (initialize_answer encoding) ∷ [])
+initialized_plain id Utf8 h = (rw h, tt)
+initialized_plain id Utf16 h = (rw h, tt)
+initialized_plain id Utf32 h = (rw h, tt)
+
+does_plain : (values : List Data) (after : State) (sent : List Data) (next : State) → NoFloats values → Does values after sent next → NoFloats sent
+does_plain values after sent next h d = subst NoFloats (sym d.0) h
+
+serves_plain : (s : State) (id : Data) (method : RequestMethod) (params : Data) (sent : List Data) (next : State) → has_float id ≡ false → Serves s id method params sent next → NoFloats sent
+serves_plain s id Initialize params sent next h d = does_plain _ _ sent next (refused_plain id AlreadyInitialized h) d
+serves_plain s id Shutdown params sent next h d = does_plain _ _ sent next (rw h, tt) d
+serves_plain s id UnknownRequest params sent next h d = does_plain _ _ sent next (refused_plain id MethodNotFound h) d
+
+awaits_plain : (s : State) (id : Data) (method : RequestMethod) (params : Data) (sent : List Data) (next : State) → has_float id ≡ false → Awaits s id method params sent next → NoFloats sent
+awaits_plain s id Initialize params sent next h d = does_plain _ _ sent next (initialized_plain id (chosen params) h) d
+awaits_plain s id _ params sent next h d = does_plain _ _ sent next (refused_plain id NotInitialized h) d
+
+requested_plain : (life : Life) (s : State) (id : Data) (method : RequestMethod) (params : Data) (sent : List Data) (next : State) → has_float id ≡ false → Requested life s id method params sent next → NoFloats sent
+requested_plain Fresh s id method params sent next h d = awaits_plain s id method params sent next h d
+requested_plain Running s id method params sent next h d = serves_plain s id method params sent next h d
+requested_plain Down s id method params sent next h d = does_plain _ _ sent next (refused_plain id ShutDown h) d
+requested_plain (Over status) s id method params sent next h d = does_plain _ _ sent next tt d
+
+noticed_plain : (life : Life) (s : State) (method : NoticeMethod) (params : Data) (sent : List Data) (next : State) → Noticed life s method params sent next → NoFloats sent
+noticed_plain life s Exit params sent next d = does_plain _ _ sent next tt d
+noticed_plain life s UnknownNotice params sent next d = does_plain _ _ sent next tt d
+
+receives_plain : (s : State) (m : Message) (sent : List Data) (next : State) → HasPlainId m → Receives s m sent next → NoFloats sent
+receives_plain s (request id method params) sent next h d = requested_plain s.life s id (request_method method) params sent next h d
+receives_plain s (notice method params) sent next h d = noticed_plain s.life s (notice_method method) params sent next d
+receives_plain s reply sent next h d = does_plain _ _ sent next tt d
+receives_plain s unreadable sent next h d = does_plain _ _ sent next (refused_plain null UnreadableMessage refl) d
+receives_plain s invalid sent next h d = does_plain _ _ sent next (refused_plain null InvalidMessage refl) d
+
+lives_plain : (life : Life) (s : State) (m : Message) (sent : List Data) (next : State) → HasPlainId m → ReceivesIn life s m sent next → NoFloats sent
+lives_plain (Over status) s m sent next h d = does_plain _ _ sent next tt d
+lives_plain _ s m sent next h d = receives_plain s m sent next h d
+
+pub steps_plain : (s : State) (m : Message) (sent : List Data) (next : State) → HasPlainId m → Steps s m sent next → NoFloats sent
+steps_plain s m sent next h d = lives_plain s.life s m sent next h d
+
+-- the same of each value that the list is seen of
+pub each_plain : (values : List Value) → NoFloats (map view values) → All (λ v. has_float (view v) ≡ false) values
+each_plain [] h k d l = absurd (omega arith)
+each_plain (v ∷ vs) h zero d l = h.0
+each_plain (v ∷ vs) h (suc k) d l = each_plain vs h.1 k d (omega arith)

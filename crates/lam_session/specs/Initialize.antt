@@ -1,0 +1,54 @@
+-- What `initialize` settles: the unit of columns, and what the server says that it can do.
+use Rattle.std.specs.Prelude.{ℕ, List, codes, if◌then◌else◌, Option, Some, None, option_and_then, unwrap_or}
+use Rattle.std.specs.Str.{bytes_eq}
+use Rattle.serde_json.specs.Data.{Data, string, object, Items, no_items, item, member, no_members}
+use Rattle.serde_json.specs.Find.{get, as_array, as_str}
+use Rattle.lam_session.specs.declared.states.Encoding.{Encoding}
+use Rattle.lam_session.specs.declared.states.Encoding.TheVariants.{Utf8, Utf16, Utf32}
+
+-- the protocol's name of an encoding (LSP 3.17, PositionEncodingKind)
+abbrev pub encoding_name : Encoding → List ℕ
+encoding_name Utf8 = codes "utf-8"
+encoding_name Utf16 = codes "utf-16"
+encoding_name Utf32 = codes "utf-32"
+
+-- the encoding with this name
+abbrev pub encoding_named : List ℕ → Option Encoding
+encoding_named name =
+    if bytes_eq name (encoding_name Utf8) then Some Utf8
+    else (if bytes_eq name (encoding_name Utf16) then Some Utf16
+    else (if bytes_eq name (encoding_name Utf32) then Some Utf32
+    else None))
+
+-- the list that the client offers, where its params have one
+abbrev pub offered : Data → Option Items
+offered params =
+    option_and_then as_array
+    (option_and_then (get (codes "positionEncodings"))
+    (option_and_then (get (codes "general")) (get (codes "capabilities") params)))
+
+-- the encoding that one offer names
+abbrev pub encoding_of : Data → Option Encoding
+encoding_of offer = option_and_then encoding_named (as_str offer)
+
+-- the first one, where there is one
+abbrev pub or_else : Option Encoding → Option Encoding → Option Encoding
+or_else None later = later
+or_else (Some encoding) later = Some encoding
+
+-- the first offer that names an encoding
+abbrev pub first_known : Items → Option Encoding
+first_known no_items = None
+first_known (item offer offers) = or_else (encoding_of offer) (first_known offers)
+
+-- without such an offer columns count UTF-16 units, as the protocol has it
+abbrev pub chosen : Data → Encoding
+chosen params = unwrap_or (option_and_then first_known (offered params)) Utf16
+
+-- what the server can do, with the unit that it has chosen
+abbrev pub capabilities : Encoding → Data
+capabilities encoding = object (member (codes "positionEncoding") (string (encoding_name encoding)) no_members)
+
+-- the answer to `initialize`
+abbrev pub initialize_answer : Encoding → Data
+initialize_answer encoding = object (member (codes "capabilities") (capabilities encoding) no_members)

@@ -1,0 +1,5 @@
+pub mod Methods
+pub mod Refusals
+pub mod State
+pub mod Initialize
+pub mod Step

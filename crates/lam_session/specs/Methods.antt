@@ -1,0 +1,18 @@
+-- The methods that are served, by their names; any other is unknown.
+use Rattle.std.specs.Prelude.{ℕ, List, codes, if◌then◌else◌}
+use Rattle.std.specs.Str.{bytes_eq}
+use Rattle.lam_session.specs.declared.methods.RequestMethod.{RequestMethod}
+use Rattle.lam_session.specs.declared.methods.RequestMethod.TheVariants.{Initialize, Shutdown, UnknownRequest}
+use Rattle.lam_session.specs.declared.methods.NoticeMethod.{NoticeMethod}
+use Rattle.lam_session.specs.declared.methods.NoticeMethod.TheVariants.{Exit, UnknownNotice}
+
+-- the requests that are served
+abbrev pub request_method : List ℕ → RequestMethod
+request_method name =
+    if bytes_eq name (codes "initialize") then Initialize
+    else (if bytes_eq name (codes "shutdown") then Shutdown
+    else UnknownRequest)
+
+-- the notices that are heeded
+abbrev pub notice_method : List ℕ → NoticeMethod
+notice_method name = if bytes_eq name (codes "exit") then Exit else UnknownNotice

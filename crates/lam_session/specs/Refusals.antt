@@ -1,0 +1,27 @@
+-- The refusals of a message: JSON-RPC 2.0's and LSP 3.17's codes, and this server's texts.
+use Rattle.std.specs.Prelude.{ℕ, ℤ, negsuc, List, codes}
+use Rattle.serde_json.specs.Data.{Data}
+use Rattle.lam_rpc.specs.Reply.{refusal_reply}
+use Rattle.lam_session.specs.declared.refusals.Refusal.{Refusal}
+use Rattle.lam_session.specs.declared.refusals.Refusal.TheVariants.{UnreadableMessage, InvalidMessage, AlreadyInitialized, ShutDown, NotInitialized, MethodNotFound}
+
+-- the code, counted from -1 downwards: -32700 is `negsuc 32699`
+abbrev pub code_of : Refusal → ℤ
+code_of UnreadableMessage = negsuc 32699
+code_of InvalidMessage = negsuc 32599
+code_of AlreadyInitialized = negsuc 32599
+code_of ShutDown = negsuc 32599
+code_of NotInitialized = negsuc 32001
+code_of MethodNotFound = negsuc 32600
+
+abbrev pub text_of : Refusal → List ℕ
+text_of UnreadableMessage = codes "unreadable message"
+text_of InvalidMessage = codes "invalid message"
+text_of AlreadyInitialized = codes "already initialized"
+text_of ShutDown = codes "server is shut down"
+text_of NotInitialized = codes "server not initialized"
+text_of MethodNotFound = codes "method not found"
+
+-- the reply that refuses the request with this id
+abbrev pub refused : Data → Refusal → Data
+refused id refusal = refusal_reply id (code_of refusal) (text_of refusal)

@@ -1,0 +1,41 @@
+-- What a session knows between two messages.
+use Rattle.std.specs.Prelude.{◌≡◌, ℕ, ℤ, List, [], Bool, true, Option, Some, None}
+use Rattle.lam_session.specs.declared.states.Life.{Life}
+use Rattle.lam_session.specs.declared.states.Life.TheVariants.{Fresh, Running, Down, Over}
+use Rattle.lam_session.specs.declared.states.Encoding.{Encoding}
+use Rattle.lam_session.specs.declared.states.Encoding.TheVariants.{Utf16}
+use Rattle.lam_session.specs.declared.states.Dialect.{Dialect}
+use Rattle.lam_session.specs.declared.states.Dialect.TheVariants.{One}
+
+-- an open document: its uri and its text, both UTF-8, and the client's number of the text, where it gave one
+pub record Document : Type 0 where
+  pub uri : List ℕ
+  pub text : List ℕ
+  pub version : Option ℤ
+
+-- the life, what columns count, the rules in force, and the open documents in the order of opening
+pub record State : Type 0 where
+  pub life : Life
+  pub encoding : Encoding
+  pub dialect : Dialect
+  pub documents : List Document
+
+-- before the first message
+abbrev pub fresh : State
+fresh = record { life = Fresh; encoding = Utf16; dialect = One; documents = [] }
+
+-- the status that the session ended with
+abbrev pub ended_status : Life → Option ℕ
+ended_status Fresh = None
+ended_status Running = None
+ended_status Down = None
+ended_status (Over status) = Some status
+
+-- a state, and whether a step lacked memory: after that the session answers nothing more
+pub record Snapshot : Type 0 where
+  pub state : State
+  pub gave_up : Bool
+
+-- a session gives up only while it lives
+abbrev pub IsWhole : Life → Bool → Type 0
+IsWhole life gave_up = gave_up ≡ true → ended_status life ≡ None

@@ -1,0 +1,100 @@
+-- What one message does: the values sent back, in order, and the state after it. A method that is
+-- served is a case of its own; what is not served falls under the unknown ones.
+use Rattle.std.specs.Prelude.{◌≡◌, ℕ, List, [], ◌∷◌, true, false, None}
+use Rattle.serde_json.specs.Data.{Data, null}
+use Rattle.lam_rpc.specs.Kind.{Message, request, notice, reply, unreadable, invalid}
+use Rattle.lam_rpc.specs.Reply.{result_reply}
+use Rattle.lam_session.specs.declared.states.Life.{Life}
+use Rattle.lam_session.specs.declared.states.Life.TheVariants.{Fresh, Running, Down, Over}
+use Rattle.lam_session.specs.declared.methods.RequestMethod.{RequestMethod}
+use Rattle.lam_session.specs.declared.methods.RequestMethod.TheVariants.{Initialize, Shutdown, UnknownRequest}
+use Rattle.lam_session.specs.declared.methods.NoticeMethod.{NoticeMethod}
+use Rattle.lam_session.specs.declared.methods.NoticeMethod.TheVariants.{Exit, UnknownNotice}
+use Rattle.lam_session.specs.declared.refusals.Refusal.{Refusal}
+use Rattle.lam_session.specs.declared.refusals.Refusal.TheVariants.{UnreadableMessage, InvalidMessage, AlreadyInitialized, ShutDown, NotInitialized, MethodNotFound}
+use Rattle.lam_session.specs.Initialize.{chosen, initialize_answer}
+use Rattle.lam_session.specs.Methods.{request_method, notice_method}
+use Rattle.lam_session.specs.Refusals.{refused}
+use Rattle.lam_session.specs.State.{State, Snapshot, ended_status}
+
+-- these values are sent, and this is the state after it
+abbrev pub Does : List Data → State → List Data → State → Type 0
+Does values after sent next = (sent ≡ values) × (next ≡ after)
+
+-- nothing is sent and nothing changes
+abbrev pub Ignores : State → List Data → State → Type 0
+Ignores s = Does [] s
+
+-- the request is refused and nothing changes
+abbrev pub Refuses : State → Data → Refusal → List Data → State → Type 0
+Refuses s id refusal = Does (refused id refusal ∷ []) s
+
+-- the session begins to serve, and says what it can do
+abbrev pub Initializes : State → Data → Data → List Data → State → Type 0
+Initializes s id params =
+    Does (result_reply id (initialize_answer (chosen params)) ∷ []) (record s { life = Running; encoding = chosen params })
+
+-- the session serves no more
+abbrev pub ShutsDown : State → Data → List Data → State → Type 0
+ShutsDown s id = Does (result_reply id null ∷ []) (record s { life = Down })
+
+-- the session ends with this status
+abbrev pub Ends : State → ℕ → List Data → State → Type 0
+Ends s status = Does [] (record s { life = Over status })
+
+-- a request while the session serves
+abbrev pub Serves : State → Data → RequestMethod → Data → List Data → State → Type 0
+Serves s id Initialize params = Refuses s id AlreadyInitialized
+Serves s id Shutdown params = ShutsDown s id
+Serves s id UnknownRequest params = Refuses s id MethodNotFound
+
+-- a request before the first `initialize`
+abbrev pub Awaits : State → Data → RequestMethod → Data → List Data → State → Type 0
+Awaits s id Initialize params = Initializes s id params
+Awaits s id _ params = Refuses s id NotInitialized
+
+-- a request, by the life
+abbrev pub Requested : Life → State → Data → RequestMethod → Data → List Data → State → Type 0
+Requested Fresh s id method params = Awaits s id method params
+Requested Running s id method params = Serves s id method params
+Requested Down s id method params = Refuses s id ShutDown
+Requested (Over status) s id method params = Ignores s
+
+-- only after a shutdown the end is a success (LSP 3.17, exit)
+abbrev pub exit_status : Life → ℕ
+exit_status Down = 0
+exit_status _ = 1
+
+-- a notice, by the life
+abbrev pub Noticed : Life → State → NoticeMethod → Data → List Data → State → Type 0
+Noticed life s Exit params = Ends s (exit_status life)
+Noticed life s UnknownNotice params = Ignores s
+
+-- a message before the end
+abbrev pub Receives : State → Message → List Data → State → Type 0
+Receives s (request id method params) = Requested s.life s id (request_method method) params
+Receives s (notice method params) = Noticed s.life s (notice_method method) params
+Receives s reply = Ignores s
+Receives s unreadable = Refuses s null UnreadableMessage
+Receives s invalid = Refuses s null InvalidMessage
+
+-- after the end every message is ignored
+abbrev pub ReceivesIn : Life → State → Message → List Data → State → Type 0
+ReceivesIn (Over status) s m = Ignores s
+ReceivesIn _ s m = Receives s m
+
+-- what one message does
+abbrev pub Steps : State → Message → List Data → State → Type 0
+Steps s m = ReceivesIn s.life s m
+
+-- a session that has not given up does what the message asks
+pub record Answers (old : Snapshot) (m : Message) (sent : List Data) (new : Snapshot) : Type 0 where
+  pub before : old.gave_up ≡ false
+  pub after : new.gave_up ≡ false
+  pub steps : Steps old.state m sent new.state
+
+-- a session that had not ended gives up, or had done so; whether it has ended stays as it was
+pub record GivesUp (old new : Snapshot) : Type 0 where
+  pub lives : ended_status old.state.life ≡ None
+  pub gave_up : new.gave_up ≡ true
+  pub life : new.state.life ≡ old.state.life

@@ -1,0 +1,37 @@
+//! The methods that are served, by their names.
+ghost use Rattle.std.specs.Prelude.{◌≡◌};
+ghost use Rattle.lam_session.specs.Methods.{request_method, notice_method};
+
+#[derive(Clone, Copy)]
+pub enum RequestMethod {
+    Initialize,
+    Shutdown,
+    UnknownRequest,
+}
+
+#[derive(Clone, Copy)]
+pub enum NoticeMethod {
+    Exit,
+    UnknownNotice,
+}
+
+pub fn request_method(name: &str) -> RequestMethod
+    ensures { result ≡ request_method name.now }
+{
+    if name == "initialize" {
+        return RequestMethod::Initialize;
+    }
+    if name == "shutdown" {
+        return RequestMethod::Shutdown;
+    }
+    RequestMethod::UnknownRequest
+}
+
+pub fn notice_method(name: &str) -> NoticeMethod
+    ensures { result ≡ notice_method name.now }
+{
+    if name == "exit" {
+        return NoticeMethod::Exit;
+    }
+    NoticeMethod::UnknownNotice
+}

@@ -1,0 +1,50 @@
+//! The refusals of a message.
+ghost use Rattle.std.specs.Prelude.{◌≡◌, IfOk};
+ghost use Rattle.serde_json.specs.View.{view};
+ghost use Rattle.lam_session.specs.Refusals.{code_of, text_of, refused};
+
+use serde_json::Value;
+use std::alloc::{AllocError, Global};
+
+#[derive(Clone, Copy)]
+pub enum Refusal {
+    UnreadableMessage,
+    InvalidMessage,
+    AlreadyInitialized,
+    ShutDown,
+    NotInitialized,
+    MethodNotFound,
+}
+
+fn code_of(refusal: Refusal) -> i64
+    ensures { result ≡ code_of refusal }
+{
+    match refusal {
+        Refusal::UnreadableMessage => -32700,
+        Refusal::InvalidMessage => -32600,
+        Refusal::AlreadyInitialized => -32600,
+        Refusal::ShutDown => -32600,
+        Refusal::NotInitialized => -32002,
+        Refusal::MethodNotFound => -32601,
+    }
+}
+
+fn text_of(refusal: Refusal) -> &'static str
+    ensures { result.now ≡ text_of refusal }
+{
+    match refusal {
+        Refusal::UnreadableMessage => "unreadable message",
+        Refusal::InvalidMessage => "invalid message",
+        Refusal::AlreadyInitialized => "already initialized",
+        Refusal::ShutDown => "server is shut down",
+        Refusal::NotInitialized => "server not initialized",
+        Refusal::MethodNotFound => "method not found",
+    }
+}
+
+/// The reply that refuses the request with this id.
+pub fn refused(alloc: Global, id: Value, refusal: Refusal) -> Result<Value, AllocError>
+    ensures { IfOk result (λ value. view value ≡ refused (view id) refusal) }
+{
+    lam_rpc::error_reply(alloc, id, code_of(refusal), text_of(refusal))
+}

@@ -1,0 +1,220 @@
+//! One message, answered in full.
+ghost use Rattle.std.specs.Prelude.{◌≡◌, ◌∷◌, [], map, false, IfOk, OnErr, None};
+ghost use Rattle.serde_json.specs.View.{view};
+ghost use Rattle.serde_json.specs.Written.{has_float};
+ghost use Rattle.std.specs.List.{All};
+ghost use Rattle.lam_rpc.specs.Kind.{message_of, HasPlainId};
+ghost use Rattle.lam_rpc.specs.Reply.{result_reply};
+ghost use Rattle.lam_session.specs.Refusals.{refused};
+ghost use Rattle.lam_session.specs.State.{fresh, ended_status};
+ghost use Rattle.lam_session.specs.Step.{Answers, GivesUp, Steps, Requested, Awaits, Noticed, Serves, Initializes, ShutsDown, exit_status};
+
+use crate::initialize::{chosen, initialize_answer};
+use crate::methods::{NoticeMethod, RequestMethod, notice_method, request_method};
+use crate::refusals::{Refusal, refused};
+use crate::states::{Config, Dialect, Encoding, Life};
+use lam_rpc::{Incoming, ok_reply};
+use serde_json::Value;
+use std::alloc::{AllocError, Global};
+use std::marker::Model;
+
+/// A session with one client.
+#[derive(Drop)]
+pub struct Session {
+    alloc: Global,
+    life: Life,
+    encoding: Encoding,
+    dialect: Dialect,
+    gave_up: bool,
+}
+
+impl Model for Session {
+    ghost use Rattle.std.specs.Prelude.{[]};
+    ghost use Rattle.lam_session.specs.State.{Snapshot, IsWhole};
+
+    ghost Value = { Snapshot };
+
+    ghost view = { λ s. record { state = record { life = s.life; encoding = s.encoding; dialect = s.dialect; documents = [] }; gave_up = s.gave_up } };
+
+    ghost invariant = { λ s. IsWhole s.life s.gave_up };
+}
+
+impl Session {
+    /// A session before its first message. It takes no memory.
+    pub fn new(alloc: Global, _config: Config) -> Session
+        ensures { result ≡ record { state = fresh; gave_up = false } }
+    {
+        Session {
+            alloc,
+            life: Life::Fresh,
+            encoding: Encoding::Utf16,
+            dialect: Dialect::One,
+            gave_up: false,
+        }
+    }
+
+    /// The program's status, once the session has ended.
+    pub fn ended(&self) -> Option<u8>
+        ensures { result ≡ ended_status self.now.state.life }
+    {
+        match self.life {
+            Life::Over(status) => Some(status),
+            _ => None,
+        }
+    }
+
+    /// One message, answered in full: the values to send, in order.
+    ///
+    /// `AllocError` says that memory ran out, in this step or an earlier one; from then on every
+    /// step answers it. After the end of the session a step sends nothing and changes nothing.
+    pub fn step(&mut self, incoming: Incoming) -> Result<Vec<Value>, AllocError>
+        ensures answers { IfOk result (λ values. Answers self.old (message_of incoming) (map view values.items) self.new) }
+        ensures gives_up { OnErr result (GivesUp self.old self.new) }
+        ensures plain { HasPlainId (message_of incoming) → IfOk result (λ values. All (λ v. has_float (view v) ≡ false) values.items) }
+    {
+        if self.gave_up {
+            return Err(AllocError);
+        }
+        let answer = self.receive(incoming);
+        if answer.is_err() {
+            self.gave_up = true;
+        }
+        answer
+    }
+
+    fn receive(&mut self, incoming: Incoming) -> Result<Vec<Value>, AllocError>
+        requires { self.old.gave_up ≡ false }
+        ensures steps { IfOk result (λ values. Steps self.old.state (message_of incoming) (map view values.items) self.new.state) }
+        ensures flag { self.new.gave_up ≡ self.old.gave_up }
+        ensures same { OnErr result (self.new ≡ self.old) }
+        ensures lives { OnErr result (ended_status self.old.state.life ≡ None) }
+    {
+        if self.ended().is_some() {
+            return Ok(Vec::new(self.alloc));
+        }
+        match incoming {
+            Incoming::Request { id, method, params } => {
+                let method = request_method(method.as_str());
+                self.request(id, method, &params)
+            }
+            Incoming::Notice { method, params } => {
+                let method = notice_method(method.as_str());
+                Ok(self.notice(method, &params))
+            }
+            Incoming::Reply => Ok(Vec::new(self.alloc)),
+            Incoming::Unreadable => refuse(self.alloc, Value::Null, Refusal::UnreadableMessage),
+            Incoming::Invalid => refuse(self.alloc, Value::Null, Refusal::InvalidMessage),
+        }
+    }
+
+    fn request(
+        &mut self,
+        id: Value,
+        method: RequestMethod,
+        params: &Value,
+    ) -> Result<Vec<Value>, AllocError>
+        ensures steps { IfOk result (λ values. Requested self.old.state.life self.old.state (view id) method (view params.now) (map view values.items) self.new.state) }
+        ensures flag { self.new.gave_up ≡ self.old.gave_up }
+        ensures same { OnErr result (self.new ≡ self.old) }
+    {
+        match self.life {
+            Life::Fresh => self.await_initialize(id, method, params),
+            Life::Running => self.serve(id, method, params),
+            Life::Down => refuse(self.alloc, id, Refusal::ShutDown),
+            Life::Over(_) => Ok(Vec::new(self.alloc)),
+        }
+    }
+
+    fn await_initialize(
+        &mut self,
+        id: Value,
+        method: RequestMethod,
+        params: &Value,
+    ) -> Result<Vec<Value>, AllocError>
+        ensures steps { IfOk result (λ values. Awaits self.old.state (view id) method (view params.now) (map view values.items) self.new.state) }
+        ensures flag { self.new.gave_up ≡ self.old.gave_up }
+        ensures same { OnErr result (self.new ≡ self.old) }
+    {
+        match method {
+            RequestMethod::Initialize => self.initialize(id, params),
+            _ => refuse(self.alloc, id, Refusal::NotInitialized),
+        }
+    }
+
+    fn initialize(&mut self, id: Value, params: &Value) -> Result<Vec<Value>, AllocError>
+        ensures steps { IfOk result (λ values. Initializes self.old.state (view id) (view params.now) (map view values.items) self.new.state) }
+        ensures flag { self.new.gave_up ≡ self.old.gave_up }
+        ensures same { OnErr result (self.new ≡ self.old) }
+    {
+        let encoding = chosen(params);
+        let values = answer(self.alloc, id, initialize_answer(self.alloc, encoding)?)?;
+        self.life = Life::Running;
+        self.encoding = encoding;
+        Ok(values)
+    }
+
+    fn serve(
+        &mut self,
+        id: Value,
+        method: RequestMethod,
+        _params: &Value,
+    ) -> Result<Vec<Value>, AllocError>
+        ensures steps { IfOk result (λ values. Serves self.old.state (view id) method (view _params.now) (map view values.items) self.new.state) }
+        ensures flag { self.new.gave_up ≡ self.old.gave_up }
+        ensures same { OnErr result (self.new ≡ self.old) }
+    {
+        match method {
+            RequestMethod::Initialize => refuse(self.alloc, id, Refusal::AlreadyInitialized),
+            RequestMethod::Shutdown => self.shut_down(id),
+            RequestMethod::UnknownRequest => refuse(self.alloc, id, Refusal::MethodNotFound),
+        }
+    }
+
+    fn shut_down(&mut self, id: Value) -> Result<Vec<Value>, AllocError>
+        ensures steps { IfOk result (λ values. ShutsDown self.old.state (view id) (map view values.items) self.new.state) }
+        ensures flag { self.new.gave_up ≡ self.old.gave_up }
+        ensures same { OnErr result (self.new ≡ self.old) }
+    {
+        let values = answer(self.alloc, id, Value::Null)?;
+        self.life = Life::Down;
+        Ok(values)
+    }
+
+    fn notice(&mut self, method: NoticeMethod, _params: &Value) -> Vec<Value>
+        requires { self.old.gave_up ≡ false }
+        ensures steps { Noticed self.old.state.life self.old.state method (view _params.now) (map view result.items) self.new.state }
+        ensures flag { self.new.gave_up ≡ self.old.gave_up }
+    {
+        match method {
+            NoticeMethod::Exit => {
+                self.life = Life::Over(exit_status(self.life));
+                Vec::new(self.alloc)
+            }
+            NoticeMethod::UnknownNotice => Vec::new(self.alloc),
+        }
+    }
+}
+
+// Only after a shutdown the end is a success (LSP 3.17, exit).
+fn exit_status(life: Life) -> u8
+    ensures { result ≡ exit_status life }
+{
+    match life {
+        Life::Down => 0,
+        _ => 1,
+    }
+}
+
+fn refuse(alloc: Global, id: Value, refusal: Refusal) -> Result<Vec<Value>, AllocError>
+    ensures { IfOk result (λ values. map view values.items ≡ refused (view id) refusal ∷ []) }
+{
+    let value = refused(alloc, id, refusal)?;
+    Ok(vec![in alloc; value]?)
+}
+
+fn answer(alloc: Global, id: Value, outcome: Value) -> Result<Vec<Value>, AllocError>
+    ensures { IfOk result (λ values. map view values.items ≡ result_reply (view id) (view outcome) ∷ []) }
+{
+    let value = ok_reply(alloc, id, outcome)?;
+    Ok(vec![in alloc; value]?)
+}

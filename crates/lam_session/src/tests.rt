@@ -1,0 +1,191 @@
+//! Rows: what a client says, what it is told, and how the session ends.
+use crate::{Config, Session};
+use lam_rpc::classify;
+use std::alloc::{AllocError, Global};
+use std::test::Fail;
+
+const INITIALIZE: &str = r#"{"id":0,"method":"initialize"}"#;
+
+const INITIALIZED: &str =
+    r#"{"id":0,"jsonrpc":"2.0","result":{"capabilities":{"positionEncoding":"utf-16"}}}"#;
+
+/// The values sent for one body, each as its text and a line feed.
+fn told(alloc: Global, session: &mut Session, body: &str) -> Result<String, AllocError> {
+    let values = session.step(classify(alloc, body.as_bytes())?)?;
+    let mut text = String::new(alloc);
+    for value in &values {
+        text.push_str(value.to_string(alloc)?.as_str())?;
+        text.push('\n')?;
+    }
+    Ok(text)
+}
+
+fn refusal(alloc: Global, id: &str, code: &str, text: &str) -> Result<String, AllocError> {
+    format!(in alloc;
+        "{{\"error\":{{\"code\":{code},\"message\":\"{text}\"}},\"id\":{id},\"jsonrpc\":\"2.0\"}}\n"
+    )
+}
+
+#[test]
+fn a_session_from_start_to_end(rt: HostRuntime) -> Result<(), Fail> {
+    let alloc = rt.alloc();
+    let mut session = Session::new(alloc, Config::new());
+    assert_eq!(rt;
+        told(alloc, &mut session, r#"{"method":"initialized"}"#)?.as_str(),
+        ""
+    );
+    let expected = format!(in alloc; "{INITIALIZED}\n")?;
+    assert_eq!(rt;
+        told(alloc, &mut session, INITIALIZE)?.as_str(),
+        expected.as_str()
+    );
+    assert_eq!(rt; INITIALIZED.len(), 80);
+    for quiet in [
+        r#"{"result":0}"#,
+        r#"{"method":"shutdown"}"#,
+        r#"{"method":"$/cancelRequest"}"#,
+    ] {
+        assert_eq!(rt;
+            told(alloc, &mut session, quiet)?.as_str(),
+            "",
+            "at {quiet}"
+        );
+    }
+    let reply = told(alloc, &mut session, r#"{"id":"x","method":"shutdown"}"#)?;
+    assert_eq!(rt;
+        reply.as_str(),
+        "{\"id\":\"x\",\"jsonrpc\":\"2.0\",\"result\":null}\n"
+    );
+    assert_eq!(rt; session.ended(), None);
+    assert_eq!(rt;
+        told(alloc, &mut session, r#"{"method":"exit"}"#)?.as_str(),
+        ""
+    );
+    assert_eq!(rt; session.ended(), Some(0));
+    for late in ["{", "{}", INITIALIZE, r#"{"method":"exit"}"#] {
+        assert_eq!(rt; told(alloc, &mut session, late)?.as_str(), "", "at {late}");
+        assert_eq!(rt; session.ended(), Some(0));
+    }
+    Ok(())
+}
+
+#[test]
+fn refusals(rt: HostRuntime) -> Result<(), Fail> {
+    let alloc = rt.alloc();
+    let shutdown = r#"{"id":1,"method":"shutdown"}"#;
+    let rows = [
+        ("", "{", "null", "-32700", "unreadable message"),
+        ("", "[]", "null", "-32600", "invalid message"),
+        (
+            "",
+            r#"{"id":null,"method":"shutdown"}"#,
+            "null",
+            "-32600",
+            "invalid message",
+        ),
+        ("", shutdown, "1", "-32002", "server not initialized"),
+        (
+            "",
+            r#"{"id":1,"method":"exit"}"#,
+            "1",
+            "-32002",
+            "server not initialized",
+        ),
+        (INITIALIZE, "{", "null", "-32700", "unreadable message"),
+        (INITIALIZE, INITIALIZE, "0", "-32600", "already initialized"),
+        (
+            INITIALIZE,
+            r#"{"id":1,"method":"exit"}"#,
+            "1",
+            "-32601",
+            "method not found",
+        ),
+        (
+            INITIALIZE,
+            r#"{"id":1,"method":"$/x"}"#,
+            "1",
+            "-32601",
+            "method not found",
+        ),
+    ];
+    for (before, body, id, code, text) in rows {
+        let mut session = Session::new(alloc, Config::new());
+        if !before.is_empty() {
+            drop(told(alloc, &mut session, before)?);
+        }
+        let found = told(alloc, &mut session, body)?;
+        let expected = refusal(alloc, id, code, text)?;
+        assert_eq!(rt; found.as_str(), expected.as_str(), "at {body}");
+    }
+    let mut session = Session::new(alloc, Config::new());
+    drop(told(alloc, &mut session, INITIALIZE)?);
+    drop(told(alloc, &mut session, shutdown)?);
+    let expected = refusal(alloc, "1", "-32600", "server is shut down")?;
+    assert_eq!(rt;
+        told(alloc, &mut session, shutdown)?.as_str(),
+        expected.as_str()
+    );
+    let expected = refusal(alloc, "0", "-32600", "server is shut down")?;
+    assert_eq!(rt;
+        told(alloc, &mut session, INITIALIZE)?.as_str(),
+        expected.as_str()
+    );
+    Ok(())
+}
+
+#[test]
+fn exits(rt: HostRuntime) -> Result<(), Fail> {
+    let alloc = rt.alloc();
+    let mut session = Session::new(alloc, Config::new());
+    drop(told(alloc, &mut session, r#"{"method":"exit"}"#)?);
+    assert_eq!(rt; session.ended(), Some(1), "before initialize");
+    let mut session = Session::new(alloc, Config::new());
+    drop(told(alloc, &mut session, INITIALIZE)?);
+    drop(told(alloc, &mut session, r#"{"method":"exit"}"#)?);
+    assert_eq!(rt; session.ended(), Some(1), "without shutdown");
+    Ok(())
+}
+
+#[test]
+fn position_encodings(rt: HostRuntime) -> Result<(), Fail> {
+    let alloc = rt.alloc();
+    let rows = [
+        (
+            r#"{"capabilities":{"general":{"positionEncodings":["utf-8","utf-16"]}}}"#,
+            "utf-8",
+        ),
+        (
+            r#"{"capabilities":{"general":{"positionEncodings":["utf-32","utf-8","utf-16"]}}}"#,
+            "utf-32",
+        ),
+        (
+            r#"{"capabilities":{"general":{"positionEncodings":[1,"utf-7","utf-8"]}}}"#,
+            "utf-8",
+        ),
+        (
+            r#"{"capabilities":{"general":{"positionEncodings":["UTF-8"]}}}"#,
+            "utf-16",
+        ),
+        (
+            r#"{"capabilities":{"general":{"positionEncodings":"utf-8"}}}"#,
+            "utf-16",
+        ),
+        (r#"{"capabilities":{"general":["utf-8"]}}"#, "utf-16"),
+        (
+            r#"{"capabilities":{"positionEncodings":["utf-8"]}}"#,
+            "utf-16",
+        ),
+        ("[]", "utf-16"),
+        ("null", "utf-16"),
+    ];
+    for (params, encoding) in rows {
+        let body = format!(in alloc; "{{\"id\":0,\"method\":\"initialize\",\"params\":{params}}}")?;
+        let mut session = Session::new(alloc, Config::new());
+        let found = told(alloc, &mut session, body.as_str())?;
+        let expected = format!(in alloc;
+            "{{\"id\":0,\"jsonrpc\":\"2.0\",\"result\":{{\"capabilities\":{{\"positionEncoding\":\"{encoding}\"}}}}}}\n"
+        )?;
+        assert_eq!(rt; found.as_str(), expected.as_str(), "at {params}");
+    }
+    Ok(())
+}
