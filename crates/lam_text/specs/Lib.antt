@@ -1,0 +1,9 @@
+pub mod Units
+pub mod Lines
+pub mod Positions
+pub mod Edits
+pub mod Document
+pub mod Index
+pub mod Search
+pub mod Splice
+pub mod Rows

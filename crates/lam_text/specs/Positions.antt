@@ -1,0 +1,48 @@
+-- What a position of a text means, and the position of an offset (LSP 3.17, "Position").
+use Rattle.std.specs.Prelude.{◌≡◌, ℕ, zero, suc, ◌+◌, ◌-◌, ◌<◌, List, [], ◌∷◌, length, take, slice_index, nat_lt, if◌then◌else◌}
+use Rattle.lam_text.specs.declared.units.Encoding.{Encoding}
+use Rattle.lam_text.specs.declared.places.Position.{Position}
+use Rattle.lam_text.specs.Units.{bytes_within, units_in}
+use Rattle.lam_text.specs.Lines.{Line, Lines, Cut, content, line_bytes, lines_of}
+
+-- the bytes of the lines before, and of the longest front of the line whose units are at most `character`;
+-- past the last line the text's end
+abbrev pub offset_in : Encoding → List Line → List ℕ → ℕ → ℕ → ℕ
+offset_in encoding [] last zero character = bytes_within encoding character last
+offset_in encoding [] last (suc n) character = length last
+offset_in encoding (line ∷ lines) last zero character = bytes_within encoding character (content line)
+offset_in encoding (line ∷ lines) last (suc n) character =
+    length (line_bytes line) + offset_in encoding lines last n character
+
+abbrev pub offset_on : Encoding → Lines → Position → ℕ
+offset_on encoding (Cut lines last) position = offset_in encoding lines last position.line position.character
+
+-- the byte offset that a position of a text means
+unfoldable pub offset_of : Encoding → List ℕ → Position → ℕ
+offset_of encoding text position = offset_on encoding (lines_of text) position
+
+-- the same place, seen from one line above
+abbrev pub one_line_down : Position → Position
+one_line_down position = record { line = position.line + 1; character = position.character }
+
+-- the line is the number of line ends that end at or before the offset; the character is the units from the
+-- line's start to the offset, or to the end of the line's content, where that comes first
+abbrev pub position_in : Encoding → List Line → List ℕ → ℕ → Position
+position_in encoding [] last offset = record { line = 0; character = units_in encoding (take offset last) }
+position_in encoding (line ∷ lines) last offset =
+    if nat_lt offset (length (line_bytes line))
+    then record { line = 0; character = units_in encoding (take offset (content line)) }
+    else one_line_down (position_in encoding lines last (offset - length (line_bytes line)))
+
+abbrev pub position_on : Encoding → Lines → ℕ → Position
+position_on encoding (Cut lines last) offset = position_in encoding lines last offset
+
+-- the position of a byte offset
+unfoldable pub position_of : Encoding → List ℕ → ℕ → Position
+position_of encoding text offset = position_on encoding (lines_of text) offset
+
+-- the offset lies between a CR and its LF
+pub record IsInsideCrLf (text : List ℕ) (offset : ℕ) : Type 0 where
+  pub after_start : 0 < offset
+  pub cr : slice_index text (offset - 1) ≡ 13
+  pub lf : slice_index text offset ≡ 10

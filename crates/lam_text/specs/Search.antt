@@ -1,0 +1,63 @@
+-- What the search for line ends has found on its way, for the contracts of its steps: no public contract names these.
+use Rattle.std.specs.Prelude.{◌≡◌, ℕ, ◌+◌, Bool, true, not, ◌&&◌, ◌||◌, ◌==◌, nat_lt, nat_le, List, [], ◌∷◌, take, drop, if◌then◌else◌}
+use Rattle.lam_text.specs.declared.index.Mark.{Mark}
+use Rattle.lam_text.specs.Lines.{begins_with_lf}
+use Rattle.lam_text.specs.Index.{all_ascii, index_of}
+
+-- the marks are the index of some text
+abbrev pub IsIndex : List Mark → Type 0
+IsIndex marks = (text : List ℕ) × (marks ≡ index_of text)
+
+-- the line that starts at a byte, before anything of it is read
+abbrev pub fresh : ℕ → Mark
+fresh at = record { start = at; ascii = true }
+
+-- an open line after its next byte
+abbrev pub grown : Mark → ℕ → Mark
+grown open_line b = record { start = open_line.start; ascii = open_line.ascii && nat_lt b 128 }
+
+-- an open line after some more bytes, among which no line ends
+abbrev pub lengthened : Mark → List ℕ → Mark
+lengthened open_line bytes = record { start = open_line.start; ascii = open_line.ascii && all_ascii bytes }
+
+-- the byte ends a line, where an LF follows or not
+abbrev pub ends : ℕ → Bool → Bool
+ends b lf = b == 10 || (b == 13 && not lf)
+
+-- the marks from the line that is open at byte `at` on, where these bytes follow
+abbrev pub marks_from : Mark → ℕ → List ℕ → List Mark
+marks_from open_line at [] = open_line ∷ []
+marks_from open_line at (b ∷ bytes) =
+    if ends b (begins_with_lf bytes) then open_line ∷ marks_from (fresh (at + 1)) (at + 1) bytes
+    else marks_from (grown open_line b) (at + 1) bytes
+
+-- whether an LF follows the first byte of these, where `lf` says it of the last
+abbrev pub lf_after : List ℕ → Bool → Bool
+lf_after [] lf = lf
+lf_after (b ∷ bytes) lf = b == 10
+
+-- the marks of the lines that end among these bytes, which an LF follows or not
+abbrev pub ended_in : Mark → ℕ → List ℕ → Bool → List Mark
+ended_in open_line at [] lf = []
+ended_in open_line at (b ∷ bytes) lf =
+    if ends b (lf_after bytes lf) then open_line ∷ ended_in (fresh (at + 1)) (at + 1) bytes lf
+    else ended_in (grown open_line b) (at + 1) bytes lf
+
+-- the line that is open after these bytes
+abbrev pub open_after : Mark → ℕ → List ℕ → Bool → Mark
+open_after open_line at [] lf = open_line
+open_after open_line at (b ∷ bytes) lf =
+    if ends b (lf_after bytes lf) then open_after (fresh (at + 1)) (at + 1) bytes lf
+    else open_after (grown open_line b) (at + 1) bytes lf
+
+-- the line starts at byte `k` or before
+abbrev pub starts_by : ℕ → Mark → Bool
+starts_by k mark = nat_le mark.start k
+
+-- the marks of the lines that end before the byte `at`
+abbrev pub ended_by : List ℕ → ℕ → List Mark
+ended_by text at = ended_in (fresh 0) 0 (take at text) (begins_with_lf (drop at text))
+
+-- the line that is open at the byte `at`, as far as that byte
+abbrev pub open_at : List ℕ → ℕ → Mark
+open_at text at = open_after (fresh 0) 0 (take at text) (begins_with_lf (drop at text))

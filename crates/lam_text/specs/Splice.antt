@@ -1,0 +1,36 @@
+-- What a splice leaves of a text and of its index, for the contracts of its steps: no public contract names these.
+use Rattle.std.specs.Prelude.{◌≡◌, ℕ, ◌+◌, ◌-◌, ◌≤◌, Bool, ◌&&◌, List, [], ◌∷◌, length, take, drop}
+use Rattle.lam_text.specs.declared.index.Mark.{Mark}
+use Rattle.lam_text.specs.Lines.{Lines, Cut, content, line_bytes, lines_of}
+use Rattle.lam_text.specs.Index.{all_ascii, marks_in}
+
+-- whether the first line is all ASCII
+abbrev pub first_ascii_on : Lines → Bool
+first_ascii_on (Cut [] last) = all_ascii last
+first_ascii_on (Cut (line ∷ lines) last) = all_ascii (content line)
+
+-- an open line up to its end, where these bytes follow
+abbrev pub closed : Mark → List ℕ → Mark
+closed open_line bytes = record { start = open_line.start; ascii = open_line.ascii && first_ascii_on (lines_of bytes) }
+
+-- the marks of all lines but the first
+abbrev pub later_on : ℕ → Lines → List Mark
+later_on at (Cut [] last) = []
+later_on at (Cut (line ∷ lines) last) = marks_in (at + length (line_bytes line)) lines last
+
+-- where the first of these lines starts, or where the text ends
+abbrev pub first_start : List Mark → ℕ → ℕ
+first_start [] end = end
+first_start (mark ∷ marks) end = mark.start
+
+-- a mark that is moved with its text from the byte `from` to the byte `to`
+abbrev pub moved : ℕ → ℕ → Mark → Mark
+moved from to mark = record { start = mark.start - from + to; ascii = mark.ascii }
+
+-- the bytes from `start` to `end` of a text gave way to `inserted` others
+pub record IsSplice (old new : List ℕ) (start end inserted : ℕ) : Type 0 where
+  pub ordered : start ≤ end
+  pub within_old : end ≤ length old
+  pub within_new : start + inserted ≤ length new
+  pub before : take start new ≡ take start old
+  pub after : drop (start + inserted) new ≡ drop end old

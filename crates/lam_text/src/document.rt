@@ -1,0 +1,197 @@
+//! An open document.
+ghost use Rattle.std.specs.Prelude.{◌≡◌, ◌≤◌, ◌++◌, length, take, drop, IfOk, OnOk, OnErr};
+ghost use Rattle.std.specs.Str.{IsCharBoundary};
+ghost use Rattle.std.specs.String.{string_bytes};
+ghost use Rattle.lam_text.specs.Positions.{offset_of, position_of};
+ghost use Rattle.lam_text.specs.Edits.{edited, text_after};
+
+use crate::changes::Change;
+use crate::index::{Mark, Splice, content, front_len, index_of, line_at, mended, units};
+use crate::places::Position;
+use crate::units::Encoding;
+use std::alloc::{AllocError, Global};
+use std::marker::Model;
+
+/// A text, the units in which its client counts, and an index of its lines.
+#[derive(Drop)]
+pub struct Doc {
+    alloc: Global,
+    text: String,
+    encoding: Encoding,
+    marks: Vec<Mark>,
+}
+
+impl Model for Doc {
+    ghost use Rattle.std.specs.Prelude.{◌≡◌};
+    ghost use Rattle.std.specs.String.{string_bytes};
+    ghost use Rattle.lam_text.specs.Document.{Document};
+    ghost use Rattle.lam_text.specs.Index.{index_of};
+
+    ghost Value = { Document };
+
+    ghost view = { λ d. record { text = string_bytes d.text; encoding = d.encoding } };
+
+    ghost invariant = { λ d. d.marks.items ≡ index_of (string_bytes d.text) };
+}
+
+impl Doc {
+    /// A document of this text. It keeps the allocator for its later texts.
+    pub fn new(alloc: Global, text: &str, encoding: Encoding) -> Result<Doc, AllocError>
+        ensures text { IfOk result (λ doc. doc.text ≡ text.now) }
+        ensures encoding { IfOk result (λ doc. doc.encoding ≡ encoding) }
+    {
+        let text = String::from_str(alloc, text)?;
+        let marks = index_of(alloc, text.as_bytes())?;
+        Ok(Doc {
+            alloc,
+            text,
+            encoding,
+            marks,
+        })
+    }
+
+    pub fn text(&self) -> &str
+        ensures { result.now ≡ self.now.text }
+    {
+        self.text.as_str()
+    }
+
+    /// The byte offset that a position means: in a line that is too short its end, without the line end; past the
+    /// last line the text's end; inside a character that character's start.
+    pub fn offset_of(&self, position: Position) -> usize
+        ensures value { result ≡ offset_of self.now.encoding self.now.text position }
+        ensures boundary { IsCharBoundary self.now.text result }
+    {
+        let text = self.text.as_str();
+        let marks = self.marks.as_slice();
+        if marks.len() as u64 <= position.line {
+            return text.len();
+        }
+        let number = position.line as usize;
+        let mark = marks[number];
+        let line = content(marks, text, number);
+        mark.start + front_len(mark, self.encoding, line, position.character)
+    }
+
+    /// The position of a byte offset. Between a CR and its LF it is the end of the line's content.
+    pub fn position_of(&self, offset: usize) -> Position
+        requires { IsCharBoundary self.now.text offset }
+        ensures { result ≡ position_of self.now.encoding self.now.text offset }
+    {
+        let text = self.text.as_str();
+        let marks = self.marks.as_slice();
+        let number = line_at(marks, offset);
+        let mark = marks[number];
+        let line = content(marks, text, number);
+        let (front, _) = line.split_at(line.len().min(offset - mark.start));
+        Position {
+            line: number as u64,
+            character: units(mark, self.encoding, front),
+        }
+    }
+
+    /// Makes these changes, each in the text that the one before left. On an error the document is as before.
+    pub fn apply(&mut self, changes: &[Change]) -> Result<(), AllocError>
+        ensures text { OnOk result (self.new.text ≡ text_after self.old.encoding self.old.text changes.now) }
+        ensures encoding { self.new.encoding ≡ self.old.encoding }
+        ensures unchanged { OnErr result (self.new ≡ self.old) }
+    {
+        let Some((first, rest)) = changes.split_first() else {
+            return Ok(());
+        };
+        let mut next = self.changed(first)?;
+        for change in rest {
+            next = next.changed(change)?;
+        }
+        *self = next;
+        Ok(())
+    }
+
+    /// The document after one change.
+    fn changed(&self, change: &Change) -> Result<Doc, AllocError>
+        ensures text { IfOk result (λ doc. doc.text ≡ edited self.now.encoding self.now.text change.now) }
+        ensures encoding { IfOk result (λ doc. doc.encoding ≡ self.now.encoding) }
+    {
+        let Some(range) = change.range else {
+            return Doc::new(self.alloc, change.text.as_str(), self.encoding);
+        };
+        let start = self.offset_of(range.start);
+        let end = self.offset_of(range.end);
+        self.replaced(start.min(end), start.max(end), change.text.as_str())
+    }
+
+    /// The document with `new` in place of the bytes from `start` to `end`.
+    fn replaced(&self, start: usize, end: usize, new: &str) -> Result<Doc, AllocError>
+        requires ordered { start ≤ end }
+        requires starts { IsCharBoundary self.now.text start }
+        requires ends { IsCharBoundary self.now.text end }
+        ensures text { IfOk result (λ doc. doc.text ≡ take start self.now.text ++ new.now ++ drop end self.now.text) }
+        ensures encoding { IfOk result (λ doc. doc.encoding ≡ self.now.encoding) }
+    {
+        let text = spliced(self.alloc, self.text.as_str(), start, end, new)?;
+        let splice = Splice {
+            start,
+            end,
+            inserted: new.len(),
+        };
+        let marks = mended(
+            self.alloc,
+            &self.marks,
+            self.text.as_bytes(),
+            text.as_bytes(),
+            splice,
+        )?;
+        Ok(Doc {
+            alloc: self.alloc,
+            text,
+            encoding: self.encoding,
+            marks,
+        })
+    }
+}
+
+/// A copy of `old` with `new` in place of the bytes from `start` to `end`.
+fn spliced(
+    alloc: Global,
+    old: &str,
+    start: usize,
+    end: usize,
+    new: &str,
+) -> Result<String, AllocError>
+    requires starts { IsCharBoundary old.now start }
+    requires ends { IsCharBoundary old.now end }
+    ensures { IfOk result (λ text. string_bytes text ≡ take start old.now ++ new.now ++ drop end old.now) }
+{
+    let before = &old[..start];
+    let after = &old[end..];
+    let room = before
+        .len()
+        .saturating_add(new.len())
+        .saturating_add(after.len());
+    let mut text = String::with_capacity(alloc, room)?;
+    text.push_str(before)?;
+    text.push_str(new)?;
+    text.push_str(after)?;
+    Ok(text)
+}
+
+#[cfg(test)]
+mod tests {
+    use super::*;
+    use crate::places::Range;
+    use std::test::Fail;
+
+    fn at(line: u64, character: u64) -> Position {
+        Position { line, character }
+    }
+
+    #[test]
+    fn opens(rt: HostRuntime) -> Result<(), Fail> {
+        let doc = Doc::new(rt.alloc(), "x = 0;\r\ny = x;", Encoding::Utf16)?;
+        assert_eq!(rt; doc.offset_of(at(0, 99)), 6);
+        assert_eq!(rt; doc.offset_of(at(7, 0)), 14);
+        assert_eq!(rt; doc.position_of(8), at(1, 0));
+        assert_eq!(rt; doc.position_of(7), at(0, 6));
+        Ok(())
+    }
+}
