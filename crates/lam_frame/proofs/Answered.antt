@@ -1,0 +1,88 @@
+-- What a chain of pulls and the answer after it make of a call.
+use Rattle.std.proofs.Common.{◌≡◌, ◌<◌, length, ℕ, ◌+◌, ◌^◌, List, [], ◌∷◌, ◌++◌, Option, None, Result, Ok, Err, refl, sym, ap, ◌∙◌, subst, arith, length-append}
+use Rattle.lam_frame.specs.declared.fault.FrameFault.{FrameFault}
+use Rattle.lam_frame.specs.declared.fault.FrameFault.TheVariants.{NoLength, BadLength, TooLong, BadHeader, Truncated, Device, Memory, TooManyTurns, Spent}
+use Rattle.lam_frame.specs.Frame.{HasFault, IsOpen}
+use Rattle.lam_frame.specs.Next.{Reads, After, EndsEmpty}
+use Rattle.lam_frame.specs.Steps.{IsByteFault, Moved, PulledPiece, SaysBody, SaysHeader, end_after}
+use Rattle.lam_frame.proofs.Pulls.{Pulling, pulling_end}
+
+module _ {S V : Type 0} (coming : S → Option (List ℕ)) (failed : S → ℕ) (gave : S → List ℕ → S → Type 0) where
+  pub answered : (P : List ℕ → Type 0) (Said : List ℕ → List (List ℕ) → Result V FrameFault → List ℕ → Type 0) (held : List ℕ) (pulls : ℕ) (source : S) (heard : List ℕ) (count : ℕ) (last : S)
+      (answer : Result V FrameFault) (held_after : List ℕ) (left : S) → (w : Pulling coming failed gave P held pulls source heard count last) → After coming failed last answer left
+      → Said heard w.pieces answer held_after → (answer ≡ Err TooManyTurns → count ≡ 2 ^ 48)
+      → Reads coming failed gave P Said held pulls source answer held_after count left
+  answered P Said held pulls source heard count last answer held_after left w after says limit = record {
+    pieces = w.pieces;
+    last = last;
+    needed = w.needed;
+    after = after;
+    says = subst (λ (h : List ℕ). Said h w.pieces answer held_after) w.heard_is says;
+    counted = w.counted;
+    few = w.few;
+    limit = limit;
+  }
+
+pub after_byte_fault : {S : Type 0} (V : Type 0) (coming : S → Option (List ℕ)) (failed : S → ℕ) (fault : FrameFault) (last left : S) → IsByteFault fault → last ≡ left → After {V = V} coming failed last (Err fault) left
+after_byte_fault V coming failed NoLength last left b e = e
+after_byte_fault V coming failed BadLength last left b e = e
+after_byte_fault V coming failed TooLong last left b e = e
+after_byte_fault V coming failed BadHeader last left b e = e
+after_byte_fault V coming failed Truncated last left b e = absurd b
+after_byte_fault V coming failed Device last left b e = absurd b
+after_byte_fault V coming failed Memory last left b e = absurd b
+after_byte_fault V coming failed TooManyTurns last left b e = absurd b
+after_byte_fault V coming failed Spent last left b e = absurd b
+
+no_limit : {V : Type 0} (fault : FrameFault) → IsByteFault fault → (let failure : Result V FrameFault = Err fault in failure ≡ Err TooManyTurns) → ⊥
+no_limit fault b e = let same : fault ≡ TooManyTurns = cc e in subst IsByteFault same b
+
+says_byte_fault : (heard : List ℕ) (pieces : List (List ℕ)) (fault : FrameFault) (held : List ℕ) → HasFault heard fault × IsByteFault fault → SaysHeader heard pieces (Err fault) held
+says_byte_fault heard pieces NoLength held h = h
+says_byte_fault heard pieces BadLength held h = h
+says_byte_fault heard pieces TooLong held h = h
+says_byte_fault heard pieces BadHeader held h = h
+says_byte_fault heard pieces Truncated held h = absurd h.1
+says_byte_fault heard pieces Device held h = absurd h.1
+says_byte_fault heard pieces Memory held h = absurd h.1
+says_byte_fault heard pieces TooManyTurns held h = absurd h.1
+says_byte_fault heard pieces Spent held h = absurd h.1
+
+pub moved_open : (body held : List ℕ) (size : ℕ) (body_after held_after : List ℕ) → Moved body held size body_after held_after → (length body_after ≡ size → ⊥) → length (body ++ held) < size
+moved_open body held size body_after held_after m short =
+    let less : length body_after < size = omega (arith, m.within, short) in
+    omega (arith, less, ap length m.same, length-append body_after held_after, ap length (m.rest less))
+
+module _ {S : Type 0} (coming : S → Option (List ℕ)) (failed : S → ℕ) (gave : S → List ℕ → S → Type 0) where
+  pub header_faulty : (held : List ℕ) (pulls : ℕ) (source : S) (heard : List ℕ) (count : ℕ) (last : S) (fault : FrameFault) → Pulling coming failed gave IsOpen held pulls source heard count last
+      → HasFault heard fault × IsByteFault fault → Reads coming failed gave IsOpen SaysHeader held pulls source (Err fault) heard count last
+  header_faulty held pulls source heard count last fault w h =
+      answered coming failed gave IsOpen SaysHeader held pulls source heard count last (Err fault) heard last w
+      (after_byte_fault (Option ℕ) coming failed fault last last h.1 refl) (says_byte_fault heard w.pieces fault heard h) (λ e. absurd (no_limit fault h.1 e))
+
+  header_end_at : (held : List ℕ) (pulls : ℕ) (source : S) (rest : List ℕ) (count : ℕ) (last : S) → (w : Pulling coming failed gave IsOpen held pulls source rest count last) → EndsEmpty w.pieces → IsOpen rest
+      → Reads coming failed gave IsOpen SaysHeader held pulls source (end_after rest) rest count last
+  header_end_at held pulls source [] count last w e o =
+      answered coming failed gave IsOpen SaysHeader held pulls source [] count last (Ok None) [] last w refl (refl, e) (λ t. absurd (cc t))
+  header_end_at held pulls source (b ∷ rest) count last w e o =
+      answered coming failed gave IsOpen SaysHeader held pulls source (b ∷ rest) count last (Err Truncated) (b ∷ rest) last w refl (o, ((λ t. absurd (cc t)), e)) (λ t. absurd (cc t))
+
+  pub header_end : (held : List ℕ) (pulls : ℕ) (source : S) (heard : List ℕ) (count : ℕ) (middle : S) (rest : List ℕ) (n : ℕ) (count_after : ℕ) (last : S) (answer : Result (Option ℕ) FrameFault)
+      → Pulling coming failed gave IsOpen held pulls source heard count middle → IsOpen heard → n ≡ 0 → PulledPiece coming failed gave heard middle n rest last × ((count_after ≡ count + 1) × (count < 2 ^ 48))
+      → answer ≡ end_after rest → Reads coming failed gave IsOpen SaysHeader held pulls source answer rest count_after last
+  header_end held pulls source heard count middle rest n count_after last answer w still zero p e =
+      let more = pulling_end coming failed gave IsOpen held pulls source heard count middle [] heard rest n last w still refl p.1.1 zero p.0 in
+      subst (λ (a : Result (Option ℕ) FrameFault). Reads coming failed gave IsOpen SaysHeader held pulls source a rest count_after last) (sym e)
+      (subst (λ (k : ℕ). Reads coming failed gave IsOpen SaysHeader held pulls source (end_after rest) rest k last) (sym p.1.0)
+      (header_end_at held pulls source rest (count + 1) last more.0 more.1.0 (subst IsOpen (sym more.1.1) still)))
+
+  pub body_end : {V : Type 0} (items : V → List ℕ) (size : ℕ) (held : List ℕ) (pulls : ℕ) (source : S) (heard : List ℕ) (count : ℕ) (middle : S) (front rest rest_after : List ℕ) (n count_after : ℕ) (last : S)
+      → Pulling coming failed gave (λ (h : List ℕ). length h < size) held pulls source heard count middle → length heard < size → heard ≡ front ++ rest → n ≡ 0
+      → PulledPiece coming failed gave rest middle n rest_after last × ((count_after ≡ count + 1) × (count < 2 ^ 48))
+      → Reads coming failed gave (λ (h : List ℕ). length h < size) (SaysBody items size) held pulls source (Err Truncated) rest_after count_after last
+  body_end items size held pulls source heard count middle front rest rest_after n count_after last w still split zero p =
+      let more = pulling_end coming failed gave (λ (h : List ℕ). length h < size) held pulls source heard count middle front rest rest_after n last w still split p.1.1 zero p.0 in
+      let same : front ++ rest_after ≡ heard = ap (λ (l : List ℕ). front ++ l) more.1.1 ∙ sym split in
+      subst (λ (k : ℕ). Reads coming failed gave (λ (h : List ℕ). length h < size) (SaysBody items size) held pulls source (Err Truncated) rest_after k last) (sym p.1.0)
+      (answered coming failed gave (λ (h : List ℕ). length h < size) (SaysBody items size) held pulls source (front ++ rest_after) (count + 1) last (Err Truncated) rest_after last more.0 refl
+      (subst (λ (h : List ℕ). length h < size) (sym same) still, more.1.0) (λ t. absurd (cc t)))

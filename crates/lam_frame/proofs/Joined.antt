@@ -1,0 +1,125 @@
+-- A header part and then a body, each read by a chain of pulls, are one frame read by one chain.
+use Rattle.std.proofs.Common.{◌≡◌, ◌≢◌, ◌<◌, length, ℕ, List, [], ◌∷◌, ◌++◌, Option, Some, Result, Ok, Err, refl, sym, ap, ◌∙◌, subst, arith, append_assoc, length-append}
+use Rattle.std.specs.List.{concat}
+use Rattle.lam_frame.specs.declared.fault.FrameFault.{FrameFault}
+use Rattle.lam_frame.specs.declared.fault.FrameFault.TheVariants.{NoLength, BadLength, TooLong, BadHeader, Truncated, Device, Memory, TooManyTurns, Spent}
+use Rattle.lam_frame.specs.Frame.{IsOpen}
+use Rattle.lam_frame.specs.Frame.IsOpen.{InBody}
+use Rattle.lam_frame.specs.Header.{ended_lines, header_text}
+use Rattle.lam_frame.specs.Next.{Reads, After, EndsEmpty, PulledWhile, Says}
+use Rattle.lam_frame.specs.Steps.{HeaderIsRead, SaysBody, SaysHeader}
+use Rattle.lam_frame.proofs.Pulls.{PulledWhile-append, PulledWhile-front, concat-append}
+
+-- the header part that is read, and then any part of its body
+body_open : (heard held part : List ℕ) (size : ℕ) (h : HeaderIsRead heard size held) → length part < size → IsOpen (header_text h.lines ++ part)
+body_open heard held part size h less =
+    InBody h.lines part size (record { are_lines = h.header.are_lines; text = refl; fits = h.header.fits }) h.says less
+
+EndsEmpty-behind : (front back : List (List ℕ)) → EndsEmpty back → EndsEmpty (front ++ back)
+EndsEmpty-behind front back e = (front ++ e.0, ap (λ (l : List (List ℕ)). front ++ l) e.1 ∙ sym (append_assoc front e.0 ([] ∷ [])))
+
+module _ {V : Type 0} (items : V → List ℕ) where
+  -- the same answer, where it was a fault of reading the body, or the body
+  abbrev pub with_body : Result V FrameFault → Result (Option V) FrameFault
+  with_body (Ok body) = Ok (Some body)
+  with_body (Err fault) = Err fault
+
+  -- and where it was the clean end or a fault of reading the header part
+  says_header : (heard : List ℕ) (pieces : List (List ℕ)) (fault : FrameFault) (held : List ℕ) → SaysHeader heard pieces (Err fault) held → Says items heard pieces (Err fault) held
+  says_header heard pieces NoLength held h = h.0
+  says_header heard pieces BadLength held h = h.0
+  says_header heard pieces TooLong held h = h.0
+  says_header heard pieces BadHeader held h = h.0
+  says_header heard pieces Truncated held h = h
+  says_header heard pieces Device held h = h
+  says_header heard pieces Memory held h = tt
+  says_header heard pieces TooManyTurns held h = h
+  says_header heard pieces Spent held h = absurd h.1
+
+  says_body : (first heard held part left : List ℕ) (size : ℕ) (front back : List (List ℕ)) (answer : Result V FrameFault) → (h : HeaderIsRead first size held) → heard ≡ header_text h.lines ++ part
+      → (heard ≢ []) → SaysBody items size part back answer left → Says items heard (front ++ back) (with_body answer) left
+  says_body first heard held part left size front back (Ok body) h e some s = record {
+    lines = h.lines;
+    header = record { are_lines = h.header.are_lines; text = e ∙ ap (λ (l : List ℕ). header_text h.lines ++ l) s.0; fits = h.header.fits };
+    size = h.says ∙ ap (λ (n : ℕ). Ok n) (sym s.1);
+  }
+  says_body first heard held part left size front back (Err Truncated) h e some s =
+      (subst IsOpen (sym e) (body_open first held part size h s.0), (some, EndsEmpty-behind front back s.1))
+  says_body first heard held part left size front back (Err Device) h e some s = subst IsOpen (sym e) (body_open first held part size h s)
+  says_body first heard held part left size front back (Err TooManyTurns) h e some s = subst IsOpen (sym e) (body_open first held part size h s)
+  says_body first heard held part left size front back (Err Memory) h e some s = tt
+  says_body first heard held part left size front back (Err NoLength) h e some s = absurd s
+  says_body first heard held part left size front back (Err BadLength) h e some s = absurd s
+  says_body first heard held part left size front back (Err TooLong) h e some s = absurd s
+  says_body first heard held part left size front back (Err BadHeader) h e some s = absurd s
+  says_body first heard held part left size front back (Err Spent) h e some s = absurd s
+
+  module _ {S : Type 0} (coming : S → Option (List ℕ)) (failed : S → ℕ) (gave : S → List ℕ → S → Type 0) where
+    after_header : (fault : FrameFault) (last left : S) → After {V = Option ℕ} coming failed last (Err fault) left → After {V = Option V} coming failed last (Err fault) left
+    after_header NoLength last left a = a
+    after_header BadLength last left a = a
+    after_header TooLong last left a = a
+    after_header BadHeader last left a = a
+    after_header Truncated last left a = a
+    after_header Device last left a = a
+    after_header Memory last left a = a
+    after_header TooManyTurns last left a = a
+    after_header Spent last left a = a
+
+    after_body : (answer : Result V FrameFault) (last left : S) → After coming failed last answer left → After coming failed last (with_body answer) left
+    after_body (Ok body) last left a = a
+    after_body (Err NoLength) last left a = a
+    after_body (Err BadLength) last left a = a
+    after_body (Err TooLong) last left a = a
+    after_body (Err BadHeader) last left a = a
+    after_body (Err Truncated) last left a = a
+    after_body (Err Device) last left a = a
+    after_body (Err Memory) last left a = a
+    after_body (Err TooManyTurns) last left a = a
+    after_body (Err Spent) last left a = a
+
+    limit_body : (answer : Result V FrameFault) → with_body answer ≡ Err TooManyTurns → answer ≡ Err TooManyTurns
+    limit_body (Ok body) e = absurd (cc e)
+    limit_body (Err fault) e = let same : fault ≡ TooManyTurns = cc e in ap (λ (f : FrameFault). Err f) same
+
+    pub no_header : (held : List ℕ) (pulls : ℕ) (source : S) (fault : FrameFault) (held_after : List ℕ) (pulls_after : ℕ) (left : S)
+        → Reads coming failed gave IsOpen SaysHeader held pulls source (Err fault) held_after pulls_after left
+        → Reads coming failed gave IsOpen (Says items) held pulls source (Err fault) held_after pulls_after left
+    no_header held pulls source fault held_after pulls_after left r = record {
+      pieces = r.pieces;
+      last = r.last;
+      needed = r.needed;
+      after = after_header fault r.last left r.after;
+      says = says_header (held ++ concat r.pieces) r.pieces fault held_after r.says;
+      counted = r.counted;
+      few = r.few;
+      limit = λ e. let same : fault ≡ TooManyTurns = cc e in r.limit (ap (λ (f : FrameFault). Err f) same);
+    }
+
+    pub header_and_body : (held : List ℕ) (pulls : ℕ) (source : S) (size : ℕ) (held_between : List ℕ) (pulls_between : ℕ) (between : S) (answer : Result V FrameFault) (held_after : List ℕ) (pulls_after : ℕ) (left : S)
+        → Reads coming failed gave IsOpen SaysHeader held pulls source (Ok (Some size)) held_between pulls_between between
+        → Reads coming failed gave (λ (heard : List ℕ). length heard < size) (SaysBody items size) held_between pulls_between between answer held_after pulls_after left
+        → Reads coming failed gave IsOpen (Says items) held pulls source (with_body answer) held_after pulls_after left
+    header_and_body held pulls source size held_between pulls_between between answer held_after pulls_after left h b =
+        let text = header_text h.says.lines in
+        let heard_is : held ++ concat h.pieces ≡ text ++ held_between = h.says.header.text in
+        let part = held_between ++ concat b.pieces in
+        let all : held ++ concat (h.pieces ++ b.pieces) ≡ text ++ part =
+        ap (λ (l : List ℕ). held ++ l) (concat-append h.pieces b.pieces) ∙ sym (append_assoc held (concat h.pieces) (concat b.pieces)) ∙ ap (λ (l : List ℕ). l ++ concat b.pieces) heard_is
+        ∙ append_assoc text held_between (concat b.pieces) in
+        let behind : PulledWhile coming failed gave IsOpen (text ++ held_between) between b.pieces b.last =
+        PulledWhile-front coming failed gave (λ (heard : List ℕ). length heard < size) IsOpen text held_between between b.last b.pieces
+        (λ heard less. body_open (held ++ concat h.pieces) held_between heard size h.says less) b.needed in
+        record {
+          pieces = h.pieces ++ b.pieces;
+          last = b.last;
+          needed = PulledWhile-append coming failed gave IsOpen held source between b.last h.pieces b.pieces
+              (subst (λ (s : S). PulledWhile coming failed gave IsOpen held source h.pieces s) h.after h.needed)
+              (subst (λ (l : List ℕ). PulledWhile coming failed gave IsOpen l between b.pieces b.last) (sym heard_is) behind);
+          after = after_body answer b.last left b.after;
+          says = says_body (held ++ concat h.pieces) (held ++ concat (h.pieces ++ b.pieces)) held_between part held_after size h.pieces b.pieces answer h.says all
+              (λ none. let sizes = ap length (sym none ∙ all) in absurd (omega (arith, sizes, length-append text part, length-append (ended_lines h.says.lines) (13 ∷ 10 ∷ [])))) b.says;
+          counted = omega (arith, h.counted, b.counted, length-append h.pieces b.pieces);
+          few = b.few;
+          limit = λ e. b.limit (limit_body answer e);
+        }

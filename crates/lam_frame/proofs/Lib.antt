@@ -1,0 +1,9 @@
+pub mod Lines
+pub mod Walk
+pub mod Starts
+pub mod Chunk
+pub mod Pulls
+pub mod Answered
+pub mod Joined
+pub mod Told
+pub mod Writing

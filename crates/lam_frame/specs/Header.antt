@@ -1,0 +1,125 @@
+-- Header parts of the base protocol (LSP 3.17, "Header Part"): lines, each ended by CR LF, and an empty line.
+use Rattle.std.specs.Prelude.{◌≡◌, ◌≢◌, ◌⊎◌, ℕ, ◌<◌, ◌≤◌, Bool, true, not, ◌&&◌, ◌||◌, if◌then◌else◌, ◌==◌, nat_lt, nat_le, List, [], ◌∷◌, ◌++◌, length, map, filter, codes, Result, Ok, Err}
+use Rattle.std.specs.List.{list_all, list_any, before_first, after_first, AllByRecursion}
+use Rattle.std.specs.Char.{is_ascii_digit, to_ascii_lowercase}
+use Rattle.std.specs.Str.{bytes_eq}
+use Rattle.std.specs.Str.Parse.{digits_value}
+use Rattle.lam_frame.specs.declared.fault.FrameFault.{FrameFault}
+use Rattle.lam_frame.specs.declared.fault.FrameFault.TheVariants.{NoLength, BadLength, TooLong, BadHeader}
+
+-- ---- the lines
+
+-- ASCII, and neither CR nor LF
+abbrev pub is_plain : ℕ → Bool
+is_plain b = nat_lt b 128 && not (b == 13 || b == 10)
+
+abbrev pub IsPlain : List ℕ → Type 0
+IsPlain bytes = list_all is_plain bytes ≡ true
+
+-- a line is not empty, since an empty one ends the header part
+abbrev pub IsLine : List ℕ → Type 0
+IsLine line = (0 < length line) × IsPlain line
+
+abbrev pub AreLines : List (List ℕ) → Type 0
+AreLines lines = AllByRecursion IsLine lines
+
+-- the lines, each ended by CR LF
+abbrev pub ended_lines : List (List ℕ) → List ℕ
+ended_lines [] = []
+ended_lines (line ∷ lines) = line ++ (13 ∷ 10 ∷ ended_lines lines)
+
+-- the lines and the empty line
+abbrev pub header_text : List (List ℕ) → List ℕ
+header_text lines = ended_lines lines ++ (13 ∷ 10 ∷ [])
+
+-- the bytes begin with the header part of these lines, and these bytes follow it
+pub record HasHeader (bytes : List ℕ) (lines : List (List ℕ)) (after : List ℕ) : Type 0 where
+  pub are_lines : AreLines lines
+  pub text : bytes ≡ header_text lines ++ after
+  pub fits : length (header_text lines) ≤ 4096
+
+-- ---- what is no header part, or none yet
+
+-- bytes of which the first cannot stand in a header part:
+-- it is not ASCII, or an LF that no CR precedes, or a CR that another byte than LF follows
+abbrev pub IsMisplaced : List ℕ → Type 0
+IsMisplaced [] = ⊥
+IsMisplaced (b ∷ []) = (128 ≤ b) ⊎ (b ≡ 10)
+IsMisplaced (b ∷ c ∷ _) = ((128 ≤ b) ⊎ (b ≡ 10)) ⊎ ((b ≡ 13) × (c ≢ 10))
+
+-- some lines, then a part of a line, and then a byte that cannot stand there
+pub record IsSpoiled (bytes : List ℕ) : Type 0 where
+  pub lines : List (List ℕ)
+  pub part : List ℕ
+  pub rest : List ℕ
+  pub are_lines : AreLines lines
+  pub plain : IsPlain part
+  pub misplaced : IsMisplaced rest
+  pub text : bytes ≡ ended_lines lines ++ (part ++ rest)
+
+-- of CR LF as much as the bytes end with: nothing yet, or the CR
+abbrev pub IsBegunEnd : List ℕ → Type 0
+IsBegunEnd [] = Unit {0}
+IsBegunEnd (b ∷ []) = b ≡ 13
+IsBegunEnd (_ ∷ _ ∷ _) = ⊥
+
+-- some lines, and then at most a part of a line
+pub record IsUnfinished (bytes : List ℕ) : Type 0 where
+  pub lines : List (List ℕ)
+  pub part : List ℕ
+  pub begun_end : List ℕ
+  pub are_lines : AreLines lines
+  pub plain : IsPlain part
+  pub begun : IsBegunEnd begun_end
+  pub text : bytes ≡ ended_lines lines ++ (part ++ begun_end)
+
+-- 4,096 bytes, and no header part ends among them
+pub record IsTooLong (bytes : List ℕ) : Type 0 where
+  pub long : 4096 ≤ length bytes
+  pub endless : (lines : List (List ℕ)) (after : List ℕ) → HasHeader bytes lines after → ⊥
+
+-- ---- the fields
+
+abbrev pub is_colon : ℕ → Bool
+is_colon b = b == 58
+
+abbrev pub has_colon : List ℕ → Bool
+has_colon line = list_any is_colon line
+
+-- the name before the first colon is `Content-Length`, in capital or small letters
+abbrev pub names_length : List ℕ → Bool
+names_length line = bytes_eq (map to_ascii_lowercase (before_first is_colon line)) (codes "content-length")
+
+abbrev pub is_blank : ℕ → Bool
+is_blank b = b == 32 || b == 9
+
+-- without the spaces and tabs in front, behind, and both
+abbrev pub trim_front : List ℕ → List ℕ
+trim_front [] = []
+trim_front (b ∷ bs) = if is_blank b then trim_front bs else b ∷ bs
+
+abbrev pub trim_back : List ℕ → List ℕ
+trim_back [] = []
+trim_back (b ∷ bs) = if is_blank b && list_all is_blank bs then [] else b ∷ trim_back bs
+
+abbrev pub trim : List ℕ → List ℕ
+trim bs = trim_back (trim_front bs)
+
+-- 1 to 19 decimal digits
+abbrev pub is_number : List ℕ → Bool
+is_number ds = nat_lt 0 (length ds) && (nat_le (length ds) 19 && list_all is_ascii_digit ds)
+
+-- the number that a value of `Content-Length` writes, at most 64 MiB
+abbrev pub length_in : List ℕ → Result ℕ FrameFault
+length_in value =
+    if is_number value then (if nat_lt 67108864 (digits_value 10 value) then Err TooLong else Ok (digits_value 10 value)) else Err BadLength
+
+-- the value of the one line that names the length
+abbrev pub one_length : List (List ℕ) → Result ℕ FrameFault
+one_length [] = Err NoLength
+one_length (line ∷ []) = length_in (trim (after_first is_colon line))
+one_length (_ ∷ _ ∷ _) = Err BadLength
+
+-- how many bytes the body has by these lines, or their fault
+abbrev pub body_length : List (List ℕ) → Result ℕ FrameFault
+body_length lines = if list_any (λ line. not (has_colon line)) lines then Err BadHeader else one_length (filter names_length lines)

@@ -1,0 +1,7 @@
+pub mod Bytes
+pub mod Device
+pub mod Frame
+pub mod Header
+pub mod Next
+pub mod Scan
+pub mod Steps

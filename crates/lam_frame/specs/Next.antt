@@ -1,0 +1,89 @@
+-- What a call that reads does: the pieces that it pulls, and what its answer says of the bytes.
+use Rattle.std.specs.Prelude.{◌≡◌, ◌≢◌, ℕ, ◌+◌, ◌-◌, ◌*◌, ◌^◌, ◌≤◌, List, [], ◌∷◌, ◌++◌, length, Option, Some, None, Result, Ok, Err}
+use Rattle.std.specs.List.{concat}
+use Rattle.lam_frame.specs.Device.{Gave, FailedPull}
+use Rattle.lam_frame.specs.Frame.{HasFrame, HasFault, IsOpen, IsRest}
+use Rattle.lam_frame.specs.declared.fault.FrameFault.{FrameFault}
+use Rattle.lam_frame.specs.declared.fault.FrameFault.TheVariants.{Truncated, Device, Memory, TooManyTurns, Spent}
+use Rattle.lam_frame.specs.declared.reader.State.{State}
+use Rattle.lam_frame.specs.declared.reader.State.TheVariants.{Reading, Ended, Spent as SpentState}
+
+-- a reader: the bytes held for later, the pulls made so far, and whether it reads on
+pub record Progress : Type 0 where
+  pub held : List ℕ
+  pub pulls : ℕ
+  pub state : State
+
+-- ---- the pulls
+
+-- pulls gave these pieces, of at most 65,536 bytes each, and before each pull P held of the bytes that were there
+abbrev pub PulledWhile : {S : Type 0} → (S → Option (List ℕ)) → (S → ℕ) → (S → List ℕ → S → Type 0) → (List ℕ → Type 0) → List ℕ → S → List (List ℕ) → S → Type 0
+PulledWhile coming failed gave P held source [] last = source ≡ last
+PulledWhile {S} coming failed gave P held source (piece ∷ pieces) last =
+    P held × (length piece ≤ 65536) × ((middle : S) × Gave coming failed gave source piece middle × PulledWhile coming failed gave P (held ++ piece) middle pieces last)
+
+-- the last piece is empty, as at the source's end
+abbrev pub EndsEmpty : List (List ℕ) → Type 0
+EndsEmpty pieces = (front : List (List ℕ)) × (pieces ≡ front ++ ([] ∷ []))
+
+-- after the pieces came nothing, or the one pull that failed
+abbrev pub After : {S V : Type 0} → (S → Option (List ℕ)) → (S → ℕ) → S → Result V FrameFault → S → Type 0
+After coming failed last (Err Device) new = FailedPull coming failed last new
+After coming failed last _ new = last ≡ new
+
+-- a call that pulls while the bytes are open, and then says something of the bytes held before, of the pieces, and of the bytes held after
+pub record Reads {S V : Type 0} (coming : S → Option (List ℕ)) (failed : S → ℕ) (gave : S → List ℕ → S → Type 0)
+    (Open : List ℕ → Type 0) (Said : List ℕ → List (List ℕ) → Result V FrameFault → List ℕ → Type 0)
+    (held : List ℕ) (pulls : ℕ) (source : S) (answer : Result V FrameFault) (held_after : List ℕ) (pulls_after : ℕ) (source_after : S) : Type 0 where
+  pub pieces : List (List ℕ)
+  pub last : S
+  pub needed : PulledWhile coming failed gave Open held source pieces last
+  pub after : After coming failed last answer source_after
+  pub says : Said (held ++ concat pieces) pieces answer held_after
+  pub counted : pulls_after ≡ pulls + length pieces
+  pub few : pulls_after ≤ 2 ^ 48
+  pub limit : answer ≡ Err TooManyTurns → pulls_after ≡ 2 ^ 48
+
+-- ---- what an answer of `next` says
+
+-- of the bytes held at the call and pulled in it, and of those held after it
+abbrev pub Says : {V : Type 0} → (V → List ℕ) → List ℕ → List (List ℕ) → Result (Option V) FrameFault → List ℕ → Type 0
+Says items heard pieces (Ok (Some body)) held = HasFrame heard (items body) held
+Says items heard pieces (Ok None) held = (heard ≡ []) × EndsEmpty pieces
+Says items heard pieces (Err Truncated) held = IsOpen heard × ((heard ≢ []) × EndsEmpty pieces)
+Says items heard pieces (Err Device) held = IsOpen heard
+Says items heard pieces (Err TooManyTurns) held = IsOpen heard
+Says items heard pieces (Err Memory) held = Unit {0}
+Says items heard pieces (Err Spent) held = ⊥
+Says items heard pieces (Err fault) held = HasFault heard fault
+
+-- of all bytes, held and to come, at the call and after it
+abbrev pub Answers : {V : Type 0} → (V → List ℕ) → List ℕ → Result (Option V) FrameFault → List ℕ → Type 0
+Answers items bytes (Ok (Some body)) left = HasFrame bytes (items body) left
+Answers items bytes (Ok None) left = bytes ≡ []
+Answers items bytes (Err Device) left = Unit {0}
+Answers items bytes (Err TooManyTurns) left = Unit {0}
+Answers items bytes (Err Memory) left = Unit {0}
+Answers items bytes (Err Spent) left = ⊥
+Answers items bytes (Err fault) left = IsRest bytes (Some fault)
+
+-- the same, where the source tells what is to come
+abbrev pub AnswersWhereTold : {V : Type 0} → (V → List ℕ) → List ℕ → Option (List ℕ) → Result (Option V) FrameFault → List ℕ → Option (List ℕ) → Type 0
+AnswersWhereTold items held None answer held_after left = Unit {0}
+AnswersWhereTold items held (Some coming) answer held_after None = ⊥
+AnswersWhereTold items held (Some coming) answer held_after (Some left) = Answers items (held ++ coming) answer (held_after ++ left)
+
+-- one failure more where the device failed, else as many as before
+abbrev pub failures_after : {V : Type 0} → Result V FrameFault → ℕ → ℕ
+failures_after (Err Device) failures = failures + 1
+failures_after _ failures = failures
+
+-- a reader reads on after a body alone
+abbrev pub state_after : {V : Type 0} → Result (Option V) FrameFault → State
+state_after (Ok (Some _)) = Reading
+state_after (Ok None) = Ended
+state_after (Err _) = SpentState
+
+-- a number that each body makes smaller: the pulls not made yet, of at most 65,536 bytes each, and the bytes held
+abbrev pub work_left : ℕ → List ℕ → ℕ
+work_left pulls held = 65537 * (2 ^ 48 - pulls) + length held

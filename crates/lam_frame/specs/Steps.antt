@@ -1,0 +1,87 @@
+-- What the steps of a call that reads do: for the reader's private functions alone.
+use Rattle.std.specs.Prelude.{◌≡◌, ◌≢◌, ℕ, ◌+◌, ◌^◌, ◌<◌, ◌≤◌, List, [], ◌∷◌, ◌++◌, length, drop, Option, Some, None, Result, Ok, Err}
+use Rattle.lam_frame.specs.Device.{Gave, FailedPull}
+use Rattle.lam_frame.specs.Frame.{HasFault, IsOpen}
+use Rattle.lam_frame.specs.Header.{HasHeader, IsUnfinished, body_length}
+use Rattle.lam_frame.specs.Next.{EndsEmpty}
+use Rattle.lam_frame.specs.declared.device.DeviceFault.{DeviceFault}
+use Rattle.lam_frame.specs.declared.fault.FrameFault.{FrameFault}
+use Rattle.lam_frame.specs.declared.fault.FrameFault.TheVariants.{Truncated, Device, Memory, TooManyTurns, NoLength, BadLength, TooLong, BadHeader}
+use Rattle.lam_frame.specs.declared.header.Start.{Start}
+use Rattle.lam_frame.specs.declared.header.Start.TheVariants.{Whole, Open, Faulty}
+
+-- the faults that bytes themselves have
+abbrev pub IsByteFault : FrameFault → Type 0
+IsByteFault NoLength = Unit {0}
+IsByteFault BadLength = Unit {0}
+IsByteFault TooLong = Unit {0}
+IsByteFault BadHeader = Unit {0}
+IsByteFault _ = ⊥
+
+-- the bytes begin with a header part of so many bytes, for a body of this size
+pub record StartsBody (bytes : List ℕ) (len size : ℕ) : Type 0 where
+  pub lines : List (List ℕ)
+  pub header : HasHeader bytes lines (drop len bytes)
+  pub says : body_length lines ≡ Ok size
+  pub within : len ≤ length bytes
+
+abbrev pub IsStart : List ℕ → Start → Type 0
+IsStart bytes (Whole len size) = StartsBody bytes len size
+IsStart bytes Open = IsUnfinished bytes × (length bytes < 4096)
+IsStart bytes (Faulty fault) = HasFault bytes fault × IsByteFault fault
+
+-- one pull behind the bytes held
+pub record PulledPiece {S : Type 0} (coming : S → Option (List ℕ)) (failed : S → ℕ) (gave : S → List ℕ → S → Type 0) (held : List ℕ) (source : S) (n : ℕ) (held_after : List ℕ) (source_after : S) : Type 0 where
+  pub piece : List ℕ
+  pub given : Gave coming failed gave source piece source_after
+  pub counted : length piece ≡ n
+  pub small : n ≤ 65536
+  pub added : held_after ≡ held ++ piece
+
+abbrev pub PullsBehind : {S : Type 0} → (S → Option (List ℕ)) → (S → ℕ) → (S → List ℕ → S → Type 0) → List ℕ → S → Result ℕ DeviceFault → List ℕ → S → Type 0
+PullsBehind coming failed gave held source (Ok n) held_after source_after = PulledPiece coming failed gave held source n held_after source_after
+PullsBehind coming failed gave held source (Err _) held_after source_after = FailedPull coming failed source source_after
+
+-- the same with the count of pulls and its limit
+abbrev pub PullsMore : {S : Type 0} → (S → Option (List ℕ)) → (S → ℕ) → (S → List ℕ → S → Type 0) → List ℕ → ℕ → S → Result ℕ FrameFault → List ℕ → ℕ → S → Type 0
+PullsMore coming failed gave held pulls source (Ok n) held_after pulls_after source_after =
+    PulledPiece coming failed gave held source n held_after source_after × ((pulls_after ≡ pulls + 1) × (pulls < 2 ^ 48))
+PullsMore coming failed gave held pulls source (Err Device) held_after pulls_after source_after =
+    FailedPull coming failed source source_after × (pulls_after ≡ pulls)
+PullsMore coming failed gave held pulls source (Err TooManyTurns) held_after pulls_after source_after =
+    (source ≡ source_after) × ((pulls_after ≡ pulls) × (pulls ≡ 2 ^ 48))
+PullsMore coming failed gave held pulls source (Err _) held_after pulls_after source_after = ⊥
+
+-- what reading a header part says: a body of some size follows, or the clean end is there
+pub record HeaderIsRead (heard : List ℕ) (size : ℕ) (held : List ℕ) : Type 0 where
+  pub lines : List (List ℕ)
+  pub header : HasHeader heard lines held
+  pub says : body_length lines ≡ Ok size
+
+abbrev pub SaysHeader : List ℕ → List (List ℕ) → Result (Option ℕ) FrameFault → List ℕ → Type 0
+SaysHeader heard pieces (Ok (Some size)) held = HeaderIsRead heard size held
+SaysHeader heard pieces (Ok None) held = (heard ≡ []) × EndsEmpty pieces
+SaysHeader heard pieces (Err Truncated) held = IsOpen heard × ((heard ≢ []) × EndsEmpty pieces)
+SaysHeader heard pieces (Err Device) held = IsOpen heard
+SaysHeader heard pieces (Err TooManyTurns) held = IsOpen heard
+SaysHeader heard pieces (Err fault) held = HasFault heard fault × IsByteFault fault
+
+-- what reading a body says
+abbrev pub SaysBody : {V : Type 0} → (V → List ℕ) → ℕ → List ℕ → List (List ℕ) → Result V FrameFault → List ℕ → Type 0
+SaysBody items size heard pieces (Ok body) held = (heard ≡ items body ++ held) × (length (items body) ≡ size)
+SaysBody items size heard pieces (Err Truncated) held = (length heard < size) × EndsEmpty pieces
+SaysBody items size heard pieces (Err Device) held = length heard < size
+SaysBody items size heard pieces (Err TooManyTurns) held = length heard < size
+SaysBody items size heard pieces (Err Memory) held = Unit {0}
+SaysBody items size heard pieces (Err _) held = ⊥
+
+-- bytes move from the front of what is held to the end of the body, up to its size
+pub record Moved (body held : List ℕ) (size : ℕ) (body_after held_after : List ℕ) : Type 0 where
+  pub same : body_after ++ held_after ≡ body ++ held
+  pub within : length body_after ≤ size
+  pub rest : length body_after < size → held_after ≡ []
+
+-- where the source has ended while no header part was whole
+abbrev pub end_after : List ℕ → Result (Option ℕ) FrameFault
+end_after [] = Ok None
+end_after (_ ∷ _) = Err Truncated

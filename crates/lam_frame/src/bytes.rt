@@ -1,0 +1,108 @@
+//! Devices over memory, which tell their bytes.
+
+ghost use Rattle.std.specs.Prelude.{◌≡◌, ◌++◌, ℕ, List, [], IfOk, Some, length};
+ghost use Rattle.lam_frame.specs.Bytes.{Output};
+
+use crate::device::{DeviceFault, Sink, Source};
+use std::alloc::Global;
+use std::marker::Model;
+
+/// Brings the bytes of a slice. No pull of it fails.
+#[derive(Drop)]
+pub struct BytesIn<'a> {
+    rest: &'a [u8],
+}
+
+// Seen as the bytes that are still to come.
+impl<'a> Model for BytesIn<'a> {
+    ghost Value = { List ℕ };
+
+    ghost view = { λ s. s.rest.now };
+}
+
+impl<'a> BytesIn<'a> {
+    pub fn new(bytes: &'a [u8]) -> BytesIn<'a>
+        ensures { result ≡ bytes.now }
+    {
+        BytesIn { rest: bytes }
+    }
+}
+
+impl Source for BytesIn<'_> {
+    ghost coming = { λ s. Some s };
+
+    ghost failed = { λ _. 0 };
+
+    ghost gave = { λ old piece new. old ≡ piece ++ new };
+
+    fn failures(&self) -> u64 {
+        0
+    }
+
+    fn pull(&mut self, into: &mut [u8]) -> Result<usize, DeviceFault> {
+        let count = into.len().min(self.rest.len());
+        let (piece, rest) = self.rest.split_at(count);
+        into[..count].copy_from_slice(piece);
+        self.rest = rest;
+        Ok(count)
+    }
+}
+
+/// Takes bytes into memory. A push fails where the memory for its bytes is refused, and a flush
+/// never.
+#[derive(Drop)]
+pub struct BytesOut {
+    bytes: Vec<u8>,
+    flushed: usize,
+    failures: u64,
+}
+
+impl Model for BytesOut {
+    ghost Value = { Output };
+
+    ghost view = { λ s. record { bytes = s.bytes.items; flushed = s.flushed; failures = s.failures } };
+}
+
+impl BytesOut {
+    pub fn new(alloc: Global) -> BytesOut
+        ensures { result ≡ (record { bytes = []; flushed = 0; failures = 0 }) }
+    {
+        BytesOut {
+            bytes: Vec::new(alloc),
+            flushed: 0,
+            failures: 0,
+        }
+    }
+
+    /// All that was taken, flushed or not.
+    pub fn bytes(&self) -> &[u8]
+        ensures { result.now ≡ self.now.bytes }
+    {
+        self.bytes.as_slice()
+    }
+}
+
+impl Sink for BytesOut {
+    ghost taken = { λ s. Some s.bytes };
+
+    ghost flushed = { λ s. s.flushed };
+
+    ghost failed = { λ s. s.failures };
+
+    fn failures(&self) -> u64 {
+        self.failures
+    }
+
+    fn push(&mut self, from: &[u8]) -> Result<usize, DeviceFault> {
+        let Ok(()) = self.bytes.extend_from_slice(from) else {
+            self.failures += 1;
+            return Err(DeviceFault);
+        };
+        Ok(from.len())
+    }
+
+    fn flush(&mut self) -> Result<(), DeviceFault> {
+        self.flushed = self.bytes.len();
+        Ok(())
+    }
+}

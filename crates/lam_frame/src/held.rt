@@ -1,0 +1,73 @@
+//! Bytes that were pulled and are not used yet.
+
+ghost use Rattle.std.specs.Prelude.{◌≡◌, ◌-◌, ◌^◌, ◌<◌, ◌≤◌, IfOk, List, ℕ, [], drop, length, take};
+ghost use Rattle.lam_frame.specs.Steps.{PullsBehind};
+
+use crate::device::{DeviceFault, Source};
+use std::alloc::{AllocError, Global};
+use std::marker::Model;
+
+/// A pull asks for at most so many bytes.
+const CHUNK: usize = 65_536;
+
+/// A part of a chunk, from `start` to `end`.
+#[derive(Drop)]
+pub(crate) struct Held {
+    chunk: Vec<u8>,
+    start: usize,
+    end: usize,
+}
+
+// Seen as the bytes.
+impl Model for Held {
+    ghost Value = { List ℕ };
+
+    ghost view = { λ h. take (h.end - h.start) (drop h.start h.chunk.items) };
+
+    ghost invariant = { λ h. (h.start ≤ h.end) × ((h.end ≤ 65536) × (length h.chunk.items ≡ 65536)) };
+}
+
+impl Held {
+    pub(crate) fn new(alloc: Global) -> Result<Held, AllocError>
+        ensures { IfOk result (λ h. h ≡ []) }
+    {
+        let chunk = vec![in alloc; 0; CHUNK]?;
+        Ok(Held {
+            chunk,
+            start: 0,
+            end: 0,
+        })
+    }
+
+    pub(crate) fn bytes(&self) -> &[u8]
+        ensures { result.now ≡ self.now }
+    {
+        &self.chunk[self.start..self.end]
+    }
+
+    pub(crate) fn drop_front(&mut self, count: usize)
+        requires { count ≤ length self.old }
+        ensures { self.new ≡ drop count self.old }
+    {
+        self.start += count;
+    }
+
+    /// Pulls once, with the bytes moved to the front of the chunk, so that there is room behind
+    /// them.
+    pub(crate) fn pull<S: Source>(&mut self, source: &mut S) -> Result<usize, DeviceFault>
+        requires room { length self.old < 65536 }
+        requires failures { S.failed source.old < 2 ^ 64 - 1 }
+        ensures { PullsBehind S.coming S.failed S.gave self.old source.old result self.new source.new }
+    {
+        self.chunk.copy_within(self.start..self.end, 0);
+        self.end -= self.start;
+        self.start = 0;
+        match source.pull(&mut self.chunk[self.end..]) {
+            Ok(count) => {
+                self.end += count;
+                Ok(count)
+            }
+            Err(fault) => Err(fault),
+        }
+    }
+}

@@ -1,0 +1,135 @@
+//! Devices over the readers and writers of `std`, which tell counts alone.
+
+ghost use Rattle.std.specs.Prelude.{◌≡◌, ◌-◌, ◌^◌, ◌<◌, ◌≤◌, IfOk, length, ⊤};
+
+use crate::device::{DeviceFault, Sink, Source};
+use std::io::{ErrorKind, Read, Write};
+
+/// How often a read, a write or a flush is tried that a signal interrupts. All tries are one call
+/// of the device.
+const TRIES: u32 = 1024;
+
+/// Brings what a reader gives.
+#[derive(Drop)]
+pub struct FromRead<R> {
+    inner: R,
+    failures: u64,
+}
+
+impl<R: Read> FromRead<R> {
+    pub fn new(inner: R) -> FromRead<R>
+        ensures { ⟦<FromRead<R> as Source>⟧.failed result ≡ 0 }
+    {
+        FromRead { inner, failures: 0 }
+    }
+}
+
+impl<R: Read> Source for FromRead<R> {
+    ghost failed = { λ s. s.failures };
+
+    ghost gave = { λ _ _ _. ⊤ };
+
+    fn failures(&self) -> u64 {
+        self.failures
+    }
+
+    fn pull(&mut self, into: &mut [u8]) -> Result<usize, DeviceFault> {
+        let pulled = read_through(&mut self.inner, into);
+        if pulled.is_err() {
+            self.failures += 1;
+        }
+        pulled
+    }
+}
+
+/// Hands on to a writer.
+#[derive(Drop)]
+pub struct ToWrite<W> {
+    inner: W,
+    failures: u64,
+}
+
+impl<W: Write> ToWrite<W> {
+    pub fn new(inner: W) -> ToWrite<W>
+        ensures { ⟦<ToWrite<W> as Sink>⟧.failed result ≡ 0 }
+    {
+        ToWrite { inner, failures: 0 }
+    }
+}
+
+impl<W: Write> Sink for ToWrite<W> {
+    ghost failed = { λ s. s.failures };
+
+    fn failures(&self) -> u64 {
+        self.failures
+    }
+
+    /// A writer that takes nothing of some bytes has failed.
+    fn push(&mut self, from: &[u8]) -> Result<usize, DeviceFault> {
+        let pushed = write_through(&mut self.inner, from);
+        if pushed.is_err() {
+            self.failures += 1;
+        }
+        pushed
+    }
+
+    fn flush(&mut self) -> Result<(), DeviceFault> {
+        let flushed = flush_through(&mut self.inner);
+        if flushed.is_err() {
+            self.failures += 1;
+        }
+        flushed
+    }
+}
+
+fn read_through<R: Read>(reader: &mut R, into: &mut [u8]) -> Result<usize, DeviceFault>
+    ensures { IfOk result (λ n. n ≤ length into.new) }
+{
+    for _ in 0..TRIES {
+        match reader.read(into) {
+            Ok(count) => return Ok(count),
+            Err(error) => {
+                if error.kind() != ErrorKind::Interrupted {
+                    return Err(DeviceFault);
+                }
+            }
+        }
+    }
+    Err(DeviceFault)
+}
+
+fn write_through<W: Write>(writer: &mut W, from: &[u8]) -> Result<usize, DeviceFault>
+    ensures within { IfOk result (λ n. n ≤ length from.now) }
+    ensures some { IfOk result (λ n. 0 < length from.now → 0 < n) }
+{
+    for _ in 0..TRIES {
+        match writer.write(from) {
+            Ok(count) => {
+                if count == 0 && !from.is_empty() {
+                    return Err(DeviceFault);
+                }
+                return Ok(count);
+            }
+            Err(error) => {
+                if error.kind() != ErrorKind::Interrupted {
+                    return Err(DeviceFault);
+                }
+            }
+        }
+    }
+    Err(DeviceFault)
+}
+
+fn flush_through<W: Write>(writer: &mut W) -> Result<(), DeviceFault> {
+    for _ in 0..TRIES {
+        match writer.flush() {
+            Ok(()) => return Ok(()),
+            Err(error) => {
+                if error.kind() != ErrorKind::Interrupted {
+                    return Err(DeviceFault);
+                }
+            }
+        }
+    }
+    Err(DeviceFault)
+}
