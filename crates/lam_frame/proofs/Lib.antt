@@ -7,3 +7,4 @@ pub mod Answered
 pub mod Joined
 pub mod Told
 pub mod Writing
+pub mod Readings

@@ -70,12 +70,15 @@ read-lines (line ∷ lines) rest a =
 pub kind : List ℕ → Lines
 kind bytes = read false [] bytes
 
-pub kind-header : (bytes : List ℕ) (lines : List (List ℕ)) (after : List ℕ) → HasHeader bytes lines after → kind bytes ≡ Whole lines after
+pub kind-lines : (bytes : List ℕ) (lines : List (List ℕ)) (after : List ℕ) → AreLines lines → bytes ≡ header_text lines ++ after → kind bytes ≡ Whole lines after
 unfolding kind
-kind-header bytes lines after h =
-    ap (read false []) (h.text ∙ append_assoc (ended_lines lines) (13 ∷ 10 ∷ []) after)
-    ∙ read-lines lines (13 ∷ 10 ∷ after) h.are_lines
+kind-lines bytes lines after a e =
+    ap (read false []) (e ∙ append_assoc (ended_lines lines) (13 ∷ 10 ∷ []) after)
+    ∙ read-lines lines (13 ∷ 10 ∷ after) a
     ∙ ap (λ (l : List (List ℕ)). Whole l after) (append-nil lines)
+
+kind-header : (bytes : List ℕ) (lines : List (List ℕ)) (after : List ℕ) → HasHeader bytes lines after → kind bytes ≡ Whole lines after
+kind-header bytes lines after h = kind-lines bytes lines after h.are_lines h.text
 
 read-unfinished : (part begun_end : List ℕ) → IsBegunEnd begun_end → read false part begun_end ≡ Open
 read-unfinished part [] b = refl

@@ -1,0 +1,26 @@
+-- Laws of frames: a byte list is in exactly one way a list of frames and a rest, and bytes decide nothing just where a frame or its end is still to come.
+use Rattle.std.specs.Prelude.{◌≡◌, ◌⊎◌, ◌↔◌, ℕ, List, ◌++◌, Option}
+use Rattle.lam_frame.specs.declared.fault.FrameFault.{FrameFault}
+use Rattle.lam_frame.specs.Frame.{HasFault, HasFrame, IsOpen, IsReading}
+
+-- there is a reading
+abbrev pub HasReading : List ℕ → Type 0
+HasReading bytes = (bodies : List (List ℕ)) × (fault : Option FrameFault) × IsReading bytes bodies fault
+
+-- two readings are the same
+abbrev pub ReadsOneWay : List ℕ → Type 0
+ReadsOneWay bytes = (b c : List (List ℕ)) (f g : Option FrameFault) → IsReading bytes b f → IsReading bytes c g → (b ≡ c) × (f ≡ g)
+
+-- whatever bytes follow, the first frame is this one, or this fault stands in its place
+abbrev pub SettlesFrame : List ℕ → List ℕ → Type 0
+SettlesFrame bytes body = (more : List ℕ) → (after : List ℕ) × HasFrame (bytes ++ more) body after
+
+abbrev pub SettlesFault : List ℕ → FrameFault → Type 0
+SettlesFault bytes fault = (more : List ℕ) → HasFault (bytes ++ more) fault
+
+abbrev pub Settles : List ℕ → Type 0
+Settles bytes = ((body : List ℕ) × SettlesFrame bytes body) ⊎ ((fault : FrameFault) × SettlesFault bytes fault)
+
+-- open bytes are just those that settle nothing
+abbrev pub OpenSettlesNothing : List ℕ → Type 0
+OpenSettlesNothing bytes = IsOpen bytes ↔ (Settles bytes → ⊥)
