@@ -5,3 +5,4 @@ pub mod Splices
 pub mod Walks
 pub mod RowLemmas
 pub mod Lookups
+pub mod LawLemmas

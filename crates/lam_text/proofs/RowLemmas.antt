@@ -112,7 +112,7 @@ pub record Row (text : List ℕ) (start : ℕ) (bytes : List ℕ) : Type 0 where
   pub utf8_after : IsUtf8 after
 
 -- what stands before and behind a line end is text
-IsUtf8-around : (bytes : List ℕ) (ending : LineEnd) (after : List ℕ) → IsUtf8 (bytes ++ (end_bytes ending ++ after)) → IsUtf8 bytes × (IsUtf8 (end_bytes ending ++ after) × IsUtf8 after)
+pub IsUtf8-around : (bytes : List ℕ) (ending : LineEnd) (after : List ℕ) → IsUtf8 (bytes ++ (end_bytes ending ++ after)) → IsUtf8 bytes × (IsUtf8 (end_bytes ending ++ after) × IsUtf8 after)
 IsUtf8-around bytes ending after utf8 =
     let text = bytes ++ (end_bytes ending ++ after) in
     let long : length bytes < length text = omega (arith, length-append bytes (end_bytes ending ++ after), some_end ending after) in

@@ -7,3 +7,4 @@ pub mod Index
 pub mod Search
 pub mod Splice
 pub mod Rows
+pub mod Laws

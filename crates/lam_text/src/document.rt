@@ -174,24 +174,3 @@ fn spliced(
     text.push_str(after)?;
     Ok(text)
 }
-
-#[cfg(test)]
-mod tests {
-    use super::*;
-    use crate::places::Range;
-    use std::test::Fail;
-
-    fn at(line: u64, character: u64) -> Position {
-        Position { line, character }
-    }
-
-    #[test]
-    fn opens(rt: HostRuntime) -> Result<(), Fail> {
-        let doc = Doc::new(rt.alloc(), "x = 0;\r\ny = x;", Encoding::Utf16)?;
-        assert_eq!(rt; doc.offset_of(at(0, 99)), 6);
-        assert_eq!(rt; doc.offset_of(at(7, 0)), 14);
-        assert_eq!(rt; doc.position_of(8), at(1, 0));
-        assert_eq!(rt; doc.position_of(7), at(0, 6));
-        Ok(())
-    }
-}

@@ -11,10 +11,15 @@
 mod changes;
 mod document;
 mod index;
+mod laws;
 mod places;
 mod units;
 
 pub use changes::Change;
 pub use document::Doc;
+pub use laws::{line_counts_ends, longest_front, one_cut, position_comes_back, range_is_unordered};
 pub use places::{Position, Range};
 pub use units::Encoding;
+
+#[cfg(test)]
+mod tests;

@@ -1,0 +1,8 @@
+use Rattle.lam_text.proofs.Cuts.{IsCutOf-lines_of, lines_of-only}
+use Rattle.lam_text.proofs.laws.one_cut.Goals as goal
+
+pub returns-clause-cut : goal.returns-clause-cut
+returns-clause-cut c = IsCutOf-lines_of c.args.text.now
+
+pub returns-clause-only : goal.returns-clause-only
+returns-clause-only c = lines_of-only c.args.text.now
