@@ -1,2 +1,3 @@
 pub mod Kind
 pub mod Reply
+pub mod Fields

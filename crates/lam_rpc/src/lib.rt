@@ -2,15 +2,19 @@
 //!
 //! `classify` says what a body is, exactly: a request, a notice (a message without an id), a
 //! reply, or one of the two kinds of nonsense. `ok_reply`, `error_reply` and `notice` build the
-//! values that go back. Nothing here knows frames, documents or the life of a session.
+//! values that go back. `read_position`, `read_range`, `read_uri` and `read_changes` read the fields
+//! of params, exactly: each answers the field, or refuses where its shape does not stand there.
+//! Nothing here knows frames, open documents or the life of a session.
 #![tactic(auto)]
 
 mod body;
+mod fields;
 mod laws;
 mod replies;
 #[cfg(test)]
 mod tests;
 
 pub use body::{Incoming, classify};
+pub use fields::{BadParams, ChangesFault, read_changes, read_position, read_range, read_uri};
 pub use laws::{one_kind, some_kind};
 pub use replies::{error_reply, notice, ok_reply};

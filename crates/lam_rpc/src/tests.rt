@@ -1,5 +1,9 @@
-//! Rows: bodies and what they are, replies byte for byte.
-use crate::{Incoming, classify, error_reply, notice, ok_reply};
+//! Rows: bodies and what they are, replies byte for byte, fields of params.
+use crate::{
+    BadParams, ChangesFault, Incoming, classify, error_reply, notice, ok_reply, read_changes,
+    read_position, read_range, read_uri,
+};
+use lam_text::{Position, Range};
 use serde_json::{Value, json};
 use std::alloc::{AllocError, Global};
 use std::test::Fail;
@@ -110,5 +114,108 @@ fn replies(rt: HostRuntime) -> Result<(), Fail> {
         r#"{"jsonrpc":"2.0","method":"textDocument/publishDiagnostics","params":{"diagnostics":[],"uri":"file:///a"}}"#;
     assert_eq!(rt; published.as_str(), expected);
     assert_eq!(rt; published.len(), 106);
+    Ok(())
+}
+
+#[test]
+fn positions(rt: HostRuntime) -> Result<(), Fail> {
+    let alloc = rt.alloc();
+    let last = u64::MAX;
+    let rows = [
+        (r#"{"position":{"line":0,"character":7}}"#, Ok((0, 7))),
+        (
+            r#"{"position":{"line":18446744073709551615,"character":18446744073709551615,"x":1}}"#,
+            Ok((last, last)),
+        ),
+        (
+            r#"{"position":{"line":18446744073709551616,"character":0}}"#,
+            Err(BadParams {}),
+        ),
+        (
+            r#"{"position":{"line":-1,"character":0}}"#,
+            Err(BadParams {}),
+        ),
+        (
+            r#"{"position":{"line":1.0,"character":0}}"#,
+            Err(BadParams {}),
+        ),
+        (r#"{"position":{"line":1}}"#, Err(BadParams {})),
+        (r#"{"line":1,"character":0}"#, Err(BadParams {})),
+        (r#"[{"line":1,"character":0}]"#, Err(BadParams {})),
+        ("null", Err(BadParams {})),
+    ];
+    for (params, expected) in rows {
+        let params = Value::from_str(alloc, params)?;
+        let found = read_position(&params).map(|position| (position.line, position.character));
+        assert_eq!(rt; found, expected);
+    }
+    let range = r#"{"end":{"line":1,"character":2},"start":{"line":3,"character":4}}"#;
+    let expected = Range {
+        start: Position {
+            line: 3,
+            character: 4,
+        },
+        end: Position {
+            line: 1,
+            character: 2,
+        },
+    };
+    assert_eq!(rt; read_range(&Value::from_str(alloc, range)?), Ok(expected));
+    let half = Value::from_str(alloc, r#"{"start":{"line":3,"character":4}}"#)?;
+    assert_eq!(rt; read_range(&half), Err(BadParams {}));
+    Ok(())
+}
+
+#[test]
+fn uris(rt: HostRuntime) -> Result<(), Fail> {
+    let alloc = rt.alloc();
+    let rows = [
+        (
+            r#"{"textDocument":{"uri":"file:///a","version":1}}"#,
+            "file:///a",
+        ),
+        (r#"{"textDocument":{"uri":""}}"#, ""),
+        (r#"{"textDocument":{"uri":1}}"#, "refused"),
+        (r#"{"textDocument":"file:///a"}"#, "refused"),
+        (r#"{"uri":"file:///a"}"#, "refused"),
+    ];
+    for (params, expected) in rows {
+        let value = Value::from_str(alloc, params)?;
+        assert_eq!(rt;
+            read_uri(&value).unwrap_or("refused"),
+            expected,
+            "at {params}"
+        );
+    }
+    Ok(())
+}
+
+#[test]
+fn changes(rt: HostRuntime) -> Result<(), Fail> {
+    let alloc = rt.alloc();
+    let two = r#"{"contentChanges":[{"text":"a","range":null},
+        {"range":{"start":{"line":0,"character":0},"end":{"line":0,"character":1}},"rangeLength":"x","text":""}]}"#;
+    let found = read_changes(alloc, &Value::from_str(alloc, two)?).map_err(|_| "refused")?;
+    assert_eq!(rt; found.len(), 2);
+    assert_eq!(rt; found[0].text.as_str(), "a");
+    assert_eq!(rt; found[0].range.is_none(), true);
+    assert_eq!(rt; found[1].text.as_str(), "");
+    assert_eq!(rt; found[1].range.map(|range| range.end.character), Some(1));
+    let none = read_changes(alloc, &Value::from_str(alloc, r#"{"contentChanges":[]}"#)?);
+    assert_eq!(rt; none.map_err(|_| "refused")?.len(), 0);
+    let refused = [
+        r#"{}"#,
+        r#"{"contentChanges":{}}"#,
+        r#"{"contentChanges":[{"text":"a"},{}]}"#,
+        r#"{"contentChanges":["a"]}"#,
+        r#"{"contentChanges":[{"text":"a","range":false}]}"#,
+        r#"{"contentChanges":[{"text":"a","range":{}}]}"#,
+        r#"{"contentChanges":[{"text":"a","range":{"start":{"line":0,"character":0.5},"end":{"line":0,"character":1}}}]}"#,
+    ];
+    for params in refused {
+        let value = Value::from_str(alloc, params)?;
+        let fault = read_changes(alloc, &value).err();
+        assert_eq!(rt; fault, Some(ChangesFault::BadParams), "at {params}");
+    }
     Ok(())
 }
