@@ -1,7 +1,7 @@
 -- What a step sends holds no float where the request's id holds none: so its text is known.
-use Rattle.std.proofs.Common.{◌≡◌, zero, suc, List, [], ◌∷◌, map, false, refl, subst, sym, arith}
+use Rattle.std.proofs.Common.{ℕ, ℤ, pos, negsuc, Option, None, Some, ◌≡◌, zero, suc, List, [], ◌∷◌, map, false, refl, subst, sym, arith}
 use Rattle.std.specs.List.{All}
-use Rattle.serde_json.specs.Data.{Data, null}
+use Rattle.serde_json.specs.Data.{Data, null, no_items}
 use Rattle.serde_json.specs.View.{view}
 use Rattle.serde_json.specs.Written.{has_float}
 use Rattle.serde_json.specs.declared.value.Value.{Value}
@@ -9,19 +9,24 @@ use Rattle.lam_rpc.specs.Kind.{Message, request, notice, reply, unreadable, inva
 use Rattle.lam_rpc.specs.Reply.{result_reply}
 use Rattle.lam_session.specs.declared.states.Life.{Life}
 use Rattle.lam_session.specs.declared.states.Life.TheVariants.{Fresh, Running, Down, Over}
-use Rattle.lam_session.specs.declared.states.Encoding.{Encoding}
-use Rattle.lam_session.specs.declared.states.Encoding.TheVariants.{Utf8, Utf16, Utf32}
+use Rattle.lam_text.specs.declared.units.Encoding.{Encoding}
+use Rattle.lam_text.specs.declared.units.Encoding.TheVariants.{Utf8, Utf16, Utf32}
+use Rattle.lam_text.specs.Edits.{Edit}
 use Rattle.lam_session.specs.declared.methods.RequestMethod.{RequestMethod}
 use Rattle.lam_session.specs.declared.methods.RequestMethod.TheVariants.{Initialize, Shutdown, UnknownRequest}
 use Rattle.lam_session.specs.declared.methods.NoticeMethod.{NoticeMethod}
-use Rattle.lam_session.specs.declared.methods.NoticeMethod.TheVariants.{Exit, UnknownNotice}
+use Rattle.lam_session.specs.declared.methods.NoticeMethod.TheVariants.{Exit, DidOpen, DidChange, DidClose, UnknownNotice}
 use Rattle.lam_session.specs.declared.refusals.Refusal.{Refusal}
 use Rattle.lam_session.specs.declared.refusals.Refusal.TheVariants.{UnreadableMessage, InvalidMessage, AlreadyInitialized, ShutDown, NotInitialized, MethodNotFound}
 use Rattle.lam_session.specs.Initialize.{chosen, initialize_answer}
 use Rattle.lam_session.specs.Methods.{request_method, notice_method}
 use Rattle.lam_session.specs.Refusals.{refused}
 use Rattle.lam_session.specs.State.{State}
-use Rattle.lam_session.specs.Step.{Does, Serves, Awaits, Requested, Noticed, Receives, ReceivesIn, Steps}
+use Rattle.lam_rpc.specs.Fields.{named_uri, listed_changes}
+use Rattle.lam_session.specs.Does.{Does}
+use Rattle.lam_session.specs.Documents.{open_text}
+use Rattle.lam_session.specs.Sync.{published, opened_text, given_version, OpensAs, ChangesText, ChangesAs, ClosesOpen, ClosesAs}
+use Rattle.lam_session.specs.Step.{Heeds, Passes, Serves, Awaits, Requested, Noticed, Receives, ReceivesIn, Steps}
 
 -- no value of the list holds a float
 abbrev pub NoFloats : List Data → Type 0
@@ -59,9 +64,47 @@ requested_plain Running s id method params sent next h d = serves_plain s id met
 requested_plain Down s id method params sent next h d = does_plain _ _ sent next (refused_plain id ShutDown h) d
 requested_plain (Over status) s id method params sent next h d = does_plain _ _ sent next tt d
 
+published_plain : (uri : List ℕ) (version : Option ℤ) → NoFloats (published uri version no_items ∷ [])
+published_plain uri None = (refl, tt)
+published_plain uri (Some (pos n)) = (refl, tt)
+published_plain uri (Some (negsuc n)) = (refl, tt)
+
+opens_plain : (s : State) (uri text : Option (List ℕ)) (version : Option ℤ) (sent : List Data) (next : State) → OpensAs s uri text version sent next → NoFloats sent
+opens_plain s None text version sent next d = does_plain _ _ sent next tt d
+opens_plain s (Some uri) None version sent next d = does_plain _ _ sent next tt d
+opens_plain s (Some uri) (Some text) version sent next d = does_plain _ _ sent next (published_plain uri version) d
+
+changes_text_plain : (s : State) (uri : List ℕ) (text : Option (List ℕ)) (edits : List Edit) (version : Option ℤ) (sent : List Data) (next : State) → ChangesText s uri text edits version sent next → NoFloats sent
+changes_text_plain s uri None edits version sent next d = does_plain _ _ sent next tt d
+changes_text_plain s uri (Some text) edits version sent next d = does_plain _ _ sent next (published_plain uri version) d
+
+changes_plain : (s : State) (uri : Option (List ℕ)) (edits : Option (List Edit)) (version : Option ℤ) (sent : List Data) (next : State) → ChangesAs s uri edits version sent next → NoFloats sent
+changes_plain s None edits version sent next d = does_plain _ _ sent next tt d
+changes_plain s (Some uri) None version sent next d = does_plain _ _ sent next tt d
+changes_plain s (Some uri) (Some edits) version sent next d = changes_text_plain s uri (open_text uri s.documents) edits version sent next d
+
+closes_open_plain : (s : State) (uri : List ℕ) (text : Option (List ℕ)) (sent : List Data) (next : State) → ClosesOpen s uri text sent next → NoFloats sent
+closes_open_plain s uri None sent next d = does_plain _ _ sent next tt d
+closes_open_plain s uri (Some text) sent next d = does_plain _ _ sent next (published_plain uri None) d
+
+closes_plain : (s : State) (uri : Option (List ℕ)) (sent : List Data) (next : State) → ClosesAs s uri sent next → NoFloats sent
+closes_plain s None sent next d = does_plain _ _ sent next tt d
+closes_plain s (Some uri) sent next d = closes_open_plain s uri (open_text uri s.documents) sent next d
+
+heeds_plain : (s : State) (method : NoticeMethod) (params : Data) (sent : List Data) (next : State) → Heeds s method params sent next → NoFloats sent
+heeds_plain s Exit params sent next d = does_plain _ _ sent next tt d
+heeds_plain s DidOpen params sent next d = opens_plain s (named_uri params) (opened_text params) (given_version params) sent next d
+heeds_plain s DidChange params sent next d = changes_plain s (named_uri params) (listed_changes params) (given_version params) sent next d
+heeds_plain s DidClose params sent next d = closes_plain s (named_uri params) sent next d
+heeds_plain s UnknownNotice params sent next d = does_plain _ _ sent next tt d
+
+passes_plain : (s : State) (method : NoticeMethod) (sent : List Data) (next : State) → Passes s method sent next → NoFloats sent
+passes_plain s Exit sent next d = does_plain _ _ sent next tt d
+passes_plain s _ sent next d = does_plain _ _ sent next tt d
+
 noticed_plain : (life : Life) (s : State) (method : NoticeMethod) (params : Data) (sent : List Data) (next : State) → Noticed life s method params sent next → NoFloats sent
-noticed_plain life s Exit params sent next d = does_plain _ _ sent next tt d
-noticed_plain life s UnknownNotice params sent next d = does_plain _ _ sent next tt d
+noticed_plain Running s method params sent next d = heeds_plain s method params sent next d
+noticed_plain _ s method params sent next d = passes_plain s method sent next d
 
 receives_plain : (s : State) (m : Message) (sent : List Data) (next : State) → HasPlainId m → Receives s m sent next → NoFloats sent
 receives_plain s (request id method params) sent next h d = requested_plain s.life s id (request_method method) params sent next h d

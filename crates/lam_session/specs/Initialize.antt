@@ -1,10 +1,10 @@
 -- What `initialize` settles: the unit of columns, and what the server says that it can do.
-use Rattle.std.specs.Prelude.{ℕ, List, codes, if◌then◌else◌, Option, Some, None, option_and_then, unwrap_or}
+use Rattle.std.specs.Prelude.{ℕ, List, codes, true, if◌then◌else◌, Option, Some, None, option_and_then, unwrap_or}
 use Rattle.std.specs.Str.{bytes_eq}
-use Rattle.serde_json.specs.Data.{Data, string, object, Items, no_items, item, member, no_members}
+use Rattle.serde_json.specs.Data.{Data, boolean, number, unsigned, string, object, Items, no_items, item, member, no_members}
 use Rattle.serde_json.specs.Find.{get, as_array, as_str}
-use Rattle.lam_session.specs.declared.states.Encoding.{Encoding}
-use Rattle.lam_session.specs.declared.states.Encoding.TheVariants.{Utf8, Utf16, Utf32}
+use Rattle.lam_text.specs.declared.units.Encoding.{Encoding}
+use Rattle.lam_text.specs.declared.units.Encoding.TheVariants.{Utf8, Utf16, Utf32}
 
 -- the protocol's name of an encoding (LSP 3.17, PositionEncodingKind)
 abbrev pub encoding_name : Encoding → List ℕ
@@ -45,9 +45,15 @@ first_known (item offer offers) = or_else (encoding_of offer) (first_known offer
 abbrev pub chosen : Data → Encoding
 chosen params = unwrap_or (option_and_then first_known (offered params)) Utf16
 
+-- how documents come: each is opened and closed, and changes come piece by piece (TextDocumentSyncKind.Incremental)
+abbrev pub document_sync : Data
+document_sync = object (member (codes "change") (number (unsigned 2)) (member (codes "openClose") (boolean true) no_members))
+
 -- what the server can do, with the unit that it has chosen
 abbrev pub capabilities : Encoding → Data
-capabilities encoding = object (member (codes "positionEncoding") (string (encoding_name encoding)) no_members)
+capabilities encoding =
+    object (member (codes "positionEncoding") (string (encoding_name encoding))
+    (member (codes "textDocumentSync") document_sync no_members))
 
 -- the answer to `initialize`
 abbrev pub initialize_answer : Encoding → Data

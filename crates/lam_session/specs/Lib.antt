@@ -1,5 +1,9 @@
 pub mod Methods
 pub mod Refusals
+pub mod Documents
+pub mod Entries
 pub mod State
+pub mod Does
 pub mod Initialize
+pub mod Sync
 pub mod Step

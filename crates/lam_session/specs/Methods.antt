@@ -4,7 +4,7 @@ use Rattle.std.specs.Str.{bytes_eq}
 use Rattle.lam_session.specs.declared.methods.RequestMethod.{RequestMethod}
 use Rattle.lam_session.specs.declared.methods.RequestMethod.TheVariants.{Initialize, Shutdown, UnknownRequest}
 use Rattle.lam_session.specs.declared.methods.NoticeMethod.{NoticeMethod}
-use Rattle.lam_session.specs.declared.methods.NoticeMethod.TheVariants.{Exit, UnknownNotice}
+use Rattle.lam_session.specs.declared.methods.NoticeMethod.TheVariants.{Exit, DidOpen, DidChange, DidClose, UnknownNotice}
 
 -- the requests that are served
 abbrev pub request_method : List ℕ → RequestMethod
@@ -15,4 +15,9 @@ request_method name =
 
 -- the notices that are heeded
 abbrev pub notice_method : List ℕ → NoticeMethod
-notice_method name = if bytes_eq name (codes "exit") then Exit else UnknownNotice
+notice_method name =
+    if bytes_eq name (codes "exit") then Exit
+    else (if bytes_eq name (codes "textDocument/didOpen") then DidOpen
+    else (if bytes_eq name (codes "textDocument/didChange") then DidChange
+    else (if bytes_eq name (codes "textDocument/didClose") then DidClose
+    else UnknownNotice)))

@@ -1,24 +1,19 @@
 -- What a session knows between two messages.
-use Rattle.std.specs.Prelude.{◌≡◌, ℕ, ℤ, List, [], Bool, true, Option, Some, None}
+use Rattle.std.specs.Prelude.{◌≡◌, ℕ, List, [], Bool, true, Option, Some, None}
 use Rattle.lam_session.specs.declared.states.Life.{Life}
 use Rattle.lam_session.specs.declared.states.Life.TheVariants.{Fresh, Running, Down, Over}
-use Rattle.lam_session.specs.declared.states.Encoding.{Encoding}
-use Rattle.lam_session.specs.declared.states.Encoding.TheVariants.{Utf16}
+use Rattle.lam_text.specs.declared.units.Encoding.{Encoding}
+use Rattle.lam_text.specs.declared.units.Encoding.TheVariants.{Utf16}
+use Rattle.lam_session.specs.Documents.{OpenDocument}
 use Rattle.lam_session.specs.declared.states.Dialect.{Dialect}
 use Rattle.lam_session.specs.declared.states.Dialect.TheVariants.{One}
-
--- an open document: its uri and its text, both UTF-8, and the client's number of the text, where it gave one
-pub record Document : Type 0 where
-  pub uri : List ℕ
-  pub text : List ℕ
-  pub version : Option ℤ
 
 -- the life, what columns count, the rules in force, and the open documents in the order of opening
 pub record State : Type 0 where
   pub life : Life
   pub encoding : Encoding
   pub dialect : Dialect
-  pub documents : List Document
+  pub documents : List OpenDocument
 
 -- before the first message
 abbrev pub fresh : State

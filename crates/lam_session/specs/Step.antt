@@ -9,30 +9,25 @@ use Rattle.lam_session.specs.declared.states.Life.TheVariants.{Fresh, Running, D
 use Rattle.lam_session.specs.declared.methods.RequestMethod.{RequestMethod}
 use Rattle.lam_session.specs.declared.methods.RequestMethod.TheVariants.{Initialize, Shutdown, UnknownRequest}
 use Rattle.lam_session.specs.declared.methods.NoticeMethod.{NoticeMethod}
-use Rattle.lam_session.specs.declared.methods.NoticeMethod.TheVariants.{Exit, UnknownNotice}
+use Rattle.lam_session.specs.declared.methods.NoticeMethod.TheVariants.{Exit, DidOpen, DidChange, DidClose, UnknownNotice}
 use Rattle.lam_session.specs.declared.refusals.Refusal.{Refusal}
 use Rattle.lam_session.specs.declared.refusals.Refusal.TheVariants.{UnreadableMessage, InvalidMessage, AlreadyInitialized, ShutDown, NotInitialized, MethodNotFound}
+use Rattle.lam_session.specs.Does.{Does, Ignores}
 use Rattle.lam_session.specs.Initialize.{chosen, initialize_answer}
 use Rattle.lam_session.specs.Methods.{request_method, notice_method}
 use Rattle.lam_session.specs.Refusals.{refused}
+use Rattle.lam_session.specs.Sync.{Opens, Changes, Closes}
 use Rattle.lam_session.specs.State.{State, Snapshot, ended_status}
-
--- these values are sent, and this is the state after it
-abbrev pub Does : List Data → State → List Data → State → Type 0
-Does values after sent next = (sent ≡ values) × (next ≡ after)
-
--- nothing is sent and nothing changes
-abbrev pub Ignores : State → List Data → State → Type 0
-Ignores s = Does [] s
 
 -- the request is refused and nothing changes
 abbrev pub Refuses : State → Data → Refusal → List Data → State → Type 0
 Refuses s id refusal = Does (refused id refusal ∷ []) s
 
--- the session begins to serve, and says what it can do
+-- the session begins to serve with no document open, and says what it can do
 abbrev pub Initializes : State → Data → Data → List Data → State → Type 0
 Initializes s id params =
-    Does (result_reply id (initialize_answer (chosen params)) ∷ []) (record s { life = Running; encoding = chosen params })
+    Does (result_reply id (initialize_answer (chosen params)) ∷ [])
+    (record s { life = Running; encoding = chosen params; documents = [] })
 
 -- the session serves no more
 abbrev pub ShutsDown : State → Data → List Data → State → Type 0
@@ -65,10 +60,23 @@ abbrev pub exit_status : Life → ℕ
 exit_status Down = 0
 exit_status _ = 1
 
+-- a notice while the session serves
+abbrev pub Heeds : State → NoticeMethod → Data → List Data → State → Type 0
+Heeds s Exit params = Ends s (exit_status s.life)
+Heeds s DidOpen params = Opens s params
+Heeds s DidChange params = Changes s params
+Heeds s DidClose params = Closes s params
+Heeds s UnknownNotice params = Ignores s
+
+-- a notice while the session does not serve
+abbrev pub Passes : State → NoticeMethod → List Data → State → Type 0
+Passes s Exit = Ends s (exit_status s.life)
+Passes s _ = Ignores s
+
 -- a notice, by the life
 abbrev pub Noticed : Life → State → NoticeMethod → Data → List Data → State → Type 0
-Noticed life s Exit params = Ends s (exit_status life)
-Noticed life s UnknownNotice params = Ignores s
+Noticed Running s method params = Heeds s method params
+Noticed _ s method params = Passes s method
 
 -- a message before the end
 abbrev pub Receives : State → Message → List Data → State → Type 0

@@ -3,7 +3,7 @@ ghost use Rattle.std.specs.Prelude.{◌≡◌, IfOk, option_map};
 ghost use Rattle.serde_json.specs.View.{view, items_view};
 ghost use Rattle.lam_session.specs.Initialize.{encoding_name, encoding_named, encoding_of, offered, first_known, chosen, initialize_answer};
 
-use crate::states::Encoding;
+use lam_text::Encoding;
 use serde_json::{Value, json};
 use std::alloc::{AllocError, Global};
 
@@ -75,5 +75,8 @@ fn encoding_name(encoding: Encoding) -> &'static str
 pub fn initialize_answer(alloc: Global, encoding: Encoding) -> Result<Value, AllocError>
     ensures { IfOk result (λ value. view value ≡ initialize_answer encoding) }
 {
-    json!(in alloc; {"capabilities": {"positionEncoding": encoding_name(encoding)}})
+    json!(in alloc; {"capabilities": {
+        "positionEncoding": encoding_name(encoding),
+        "textDocumentSync": {"change": 2u64, "openClose": true},
+    }})
 }

@@ -5,13 +5,15 @@
 //! or devices.
 #![tactic(auto)]
 
+mod documents;
 mod initialize;
 mod methods;
 mod refusals;
 mod states;
 mod step;
+mod sync;
 #[cfg(test)]
 mod tests;
 
-pub use states::{Config, Dialect, Encoding};
+pub use states::{Config, Dialect};
 pub use step::Session;

@@ -12,6 +12,9 @@ pub enum RequestMethod {
 #[derive(Clone, Copy)]
 pub enum NoticeMethod {
     Exit,
+    DidOpen,
+    DidChange,
+    DidClose,
     UnknownNotice,
 }
 
@@ -32,6 +35,15 @@ pub fn notice_method(name: &str) -> NoticeMethod
 {
     if name == "exit" {
         return NoticeMethod::Exit;
+    }
+    if name == "textDocument/didOpen" {
+        return NoticeMethod::DidOpen;
+    }
+    if name == "textDocument/didChange" {
+        return NoticeMethod::DidChange;
+    }
+    if name == "textDocument/didClose" {
+        return NoticeMethod::DidClose;
     }
     NoticeMethod::UnknownNotice
 }

@@ -1,16 +1,5 @@
 //! What a session is set to.
 
-/// What columns count.
-#[derive(Clone, Copy)]
-pub enum Encoding {
-    /// Bytes.
-    Utf8,
-    /// UTF-16 units.
-    Utf16,
-    /// Characters.
-    Utf32,
-}
-
 /// The subtyping rules in force: the book's, or the book's and Bool below Nat.
 #[derive(Clone, Copy)]
 pub enum Dialect {

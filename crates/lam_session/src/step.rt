@@ -7,13 +7,17 @@ ghost use Rattle.lam_rpc.specs.Kind.{message_of, HasPlainId};
 ghost use Rattle.lam_rpc.specs.Reply.{result_reply};
 ghost use Rattle.lam_session.specs.Refusals.{refused};
 ghost use Rattle.lam_session.specs.State.{fresh, ended_status};
-ghost use Rattle.lam_session.specs.Step.{Answers, GivesUp, Steps, Requested, Awaits, Noticed, Serves, Initializes, ShutsDown, exit_status};
+ghost use Rattle.lam_session.specs.Sync.{Opens, Changes, Closes};
+ghost use Rattle.lam_session.specs.Step.{Answers, GivesUp, Steps, Requested, Awaits, Noticed, Heeds, Passes, Serves, Ends, Initializes, ShutsDown, exit_status};
 
+use crate::documents::Documents;
 use crate::initialize::{chosen, initialize_answer};
 use crate::methods::{NoticeMethod, RequestMethod, notice_method, request_method};
 use crate::refusals::{Refusal, refused};
-use crate::states::{Config, Dialect, Encoding, Life};
-use lam_rpc::{Incoming, ok_reply};
+use crate::states::{Config, Dialect, Life};
+use crate::sync::{given_version, opened_text, published};
+use lam_rpc::{ChangesFault, Incoming, ok_reply, read_changes, read_uri};
+use lam_text::Encoding;
 use serde_json::Value;
 use std::alloc::{AllocError, Global};
 use std::marker::Model;
@@ -23,18 +27,25 @@ use std::marker::Model;
 pub struct Session {
     alloc: Global,
     life: Life,
-    encoding: Encoding,
     dialect: Dialect,
+    documents: Documents,
     gave_up: bool,
 }
 
 impl Model for Session {
-    ghost use Rattle.std.specs.Prelude.{[]};
     ghost use Rattle.lam_session.specs.State.{Snapshot, IsWhole};
 
     ghost Value = { Snapshot };
 
-    ghost view = { λ s. record { state = record { life = s.life; encoding = s.encoding; dialect = s.dialect; documents = [] }; gave_up = s.gave_up } };
+    ghost view = { λ s. record {
+      state = record {
+        life = s.life;
+        encoding = s.documents.encoding;
+        dialect = s.dialect;
+        documents = s.documents.documents;
+      };
+      gave_up = s.gave_up;
+    } };
 
     ghost invariant = { λ s. IsWhole s.life s.gave_up };
 }
@@ -47,8 +58,8 @@ impl Session {
         Session {
             alloc,
             life: Life::Fresh,
-            encoding: Encoding::Utf16,
             dialect: Dialect::One,
+            documents: Documents::new(alloc, Encoding::Utf16),
             gave_up: false,
         }
     }
@@ -82,6 +93,12 @@ impl Session {
         answer
     }
 
+    /// The text of an open document.
+    #[cfg(test)]
+    pub fn text(&self, uri: &str) -> Option<&str> {
+        self.documents.text(uri)
+    }
+
     fn receive(&mut self, incoming: Incoming) -> Result<Vec<Value>, AllocError>
         requires { self.old.gave_up ≡ false }
         ensures steps { IfOk result (λ values. Steps self.old.state (message_of incoming) (map view values.items) self.new.state) }
@@ -99,7 +116,7 @@ impl Session {
             }
             Incoming::Notice { method, params } => {
                 let method = notice_method(method.as_str());
-                Ok(self.notice(method, &params))
+                self.notice(method, &params)
             }
             Incoming::Reply => Ok(Vec::new(self.alloc)),
             Incoming::Unreadable => refuse(self.alloc, Value::Null, Refusal::UnreadableMessage),
@@ -149,7 +166,7 @@ impl Session {
         let encoding = chosen(params);
         let values = answer(self.alloc, id, initialize_answer(self.alloc, encoding)?)?;
         self.life = Life::Running;
-        self.encoding = encoding;
+        self.documents = Documents::new(self.alloc, encoding);
         Ok(values)
     }
 
@@ -180,18 +197,107 @@ impl Session {
         Ok(values)
     }
 
-    fn notice(&mut self, method: NoticeMethod, _params: &Value) -> Vec<Value>
+    fn notice(&mut self, method: NoticeMethod, params: &Value) -> Result<Vec<Value>, AllocError>
         requires { self.old.gave_up ≡ false }
-        ensures steps { Noticed self.old.state.life self.old.state method (view _params.now) (map view result.items) self.new.state }
+        ensures steps { IfOk result (λ values. Noticed self.old.state.life self.old.state method (view params.now) (map view values.items) self.new.state) }
+        ensures flag { self.new.gave_up ≡ self.old.gave_up }
+        ensures same { OnErr result (self.new ≡ self.old) }
+        ensures lives { OnErr result (ended_status self.old.state.life ≡ None) }
+    {
+        match self.life {
+            Life::Running => self.heed(method, params),
+            _ => Ok(self.pass(method)),
+        }
+    }
+
+    fn heed(&mut self, method: NoticeMethod, params: &Value) -> Result<Vec<Value>, AllocError>
+        requires { self.old.gave_up ≡ false }
+        ensures steps { IfOk result (λ values. Heeds self.old.state method (view params.now) (map view values.items) self.new.state) }
+        ensures flag { self.new.gave_up ≡ self.old.gave_up }
+        ensures same { OnErr result (self.new ≡ self.old) }
+    {
+        match method {
+            NoticeMethod::Exit => Ok(self.exit()),
+            NoticeMethod::DidOpen => self.open_document(params),
+            NoticeMethod::DidChange => self.change_document(params),
+            NoticeMethod::DidClose => self.close_document(params),
+            NoticeMethod::UnknownNotice => Ok(Vec::new(self.alloc)),
+        }
+    }
+
+    fn pass(&mut self, method: NoticeMethod) -> Vec<Value>
+        requires { self.old.gave_up ≡ false }
+        ensures steps { Passes self.old.state method (map view result.items) self.new.state }
         ensures flag { self.new.gave_up ≡ self.old.gave_up }
     {
         match method {
-            NoticeMethod::Exit => {
-                self.life = Life::Over(exit_status(self.life));
-                Vec::new(self.alloc)
-            }
-            NoticeMethod::UnknownNotice => Vec::new(self.alloc),
+            NoticeMethod::Exit => self.exit(),
+            _ => Vec::new(self.alloc),
         }
+    }
+
+    fn exit(&mut self) -> Vec<Value>
+        requires { self.old.gave_up ≡ false }
+        ensures steps { Ends self.old.state (exit_status self.old.state.life) (map view result.items) self.new.state }
+        ensures flag { self.new.gave_up ≡ self.old.gave_up }
+    {
+        self.life = Life::Over(exit_status(self.life));
+        Vec::new(self.alloc)
+    }
+
+    fn open_document(&mut self, params: &Value) -> Result<Vec<Value>, AllocError>
+        ensures steps { IfOk result (λ values. Opens self.old.state (view params.now) (map view values.items) self.new.state) }
+        ensures flag { self.new.gave_up ≡ self.old.gave_up }
+        ensures same { OnErr result (self.new ≡ self.old) }
+    {
+        let Ok(uri) = read_uri(params) else {
+            return Ok(Vec::new(self.alloc));
+        };
+        let Some(text) = opened_text(params) else {
+            return Ok(Vec::new(self.alloc));
+        };
+        let version = given_version(params);
+        let values = published(self.alloc, uri, version)?;
+        self.documents.open(uri, text, version)?;
+        Ok(values)
+    }
+
+    fn change_document(&mut self, params: &Value) -> Result<Vec<Value>, AllocError>
+        ensures steps { IfOk result (λ values. Changes self.old.state (view params.now) (map view values.items) self.new.state) }
+        ensures flag { self.new.gave_up ≡ self.old.gave_up }
+        ensures same { OnErr result (self.new ≡ self.old) }
+    {
+        let Ok(uri) = read_uri(params) else {
+            return Ok(Vec::new(self.alloc));
+        };
+        if !self.documents.is_open(uri) {
+            return Ok(Vec::new(self.alloc));
+        }
+        let changes = match read_changes(self.alloc, params) {
+            Ok(changes) => changes,
+            Err(ChangesFault::BadParams) => return Ok(Vec::new(self.alloc)),
+            Err(ChangesFault::Memory) => return Err(AllocError),
+        };
+        let version = given_version(params);
+        let values = published(self.alloc, uri, version)?;
+        self.documents.change(uri, &changes, version)?;
+        Ok(values)
+    }
+
+    fn close_document(&mut self, params: &Value) -> Result<Vec<Value>, AllocError>
+        ensures steps { IfOk result (λ values. Closes self.old.state (view params.now) (map view values.items) self.new.state) }
+        ensures flag { self.new.gave_up ≡ self.old.gave_up }
+        ensures same { OnErr result (self.new ≡ self.old) }
+    {
+        let Ok(uri) = read_uri(params) else {
+            return Ok(Vec::new(self.alloc));
+        };
+        if !self.documents.is_open(uri) {
+            return Ok(Vec::new(self.alloc));
+        }
+        let values = published(self.alloc, uri, None)?;
+        self.documents.close(uri);
+        Ok(values)
     }
 }
 

@@ -7,7 +7,7 @@ use std::test::Fail;
 const INITIALIZE: &str = r#"{"id":0,"method":"initialize"}"#;
 
 const INITIALIZED: &str =
-    r#"{"id":0,"jsonrpc":"2.0","result":{"capabilities":{"positionEncoding":"utf-16"}}}"#;
+    r#"{"id":0,"jsonrpc":"2.0","result":{"capabilities":{"positionEncoding":"utf-16","textDocumentSync":{"change":2,"openClose":true}}}}"#;
 
 /// The values sent for one body, each as its text and a line feed.
 fn told(alloc: Global, session: &mut Session, body: &str) -> Result<String, AllocError> {
@@ -39,7 +39,7 @@ fn a_session_from_start_to_end(rt: HostRuntime) -> Result<(), Fail> {
         told(alloc, &mut session, INITIALIZE)?.as_str(),
         expected.as_str()
     );
-    assert_eq!(rt; INITIALIZED.len(), 80);
+    assert_eq!(rt; INITIALIZED.len(), 129);
     for quiet in [
         r#"{"result":0}"#,
         r#"{"method":"shutdown"}"#,
@@ -182,10 +182,102 @@ fn position_encodings(rt: HostRuntime) -> Result<(), Fail> {
         let body = format!(in alloc; "{{\"id\":0,\"method\":\"initialize\",\"params\":{params}}}")?;
         let mut session = Session::new(alloc, Config::new());
         let found = told(alloc, &mut session, body.as_str())?;
-        let expected = format!(in alloc;
-            "{{\"id\":0,\"jsonrpc\":\"2.0\",\"result\":{{\"capabilities\":{{\"positionEncoding\":\"{encoding}\"}}}}}}\n"
-        )?;
-        assert_eq!(rt; found.as_str(), expected.as_str(), "at {params}");
+        let named = format!(in alloc; "\"positionEncoding\":\"{encoding}\",")?;
+        assert_eq!(rt;
+            found.as_str().contains(named.as_str()),
+            true,
+            "at {params}"
+        );
+    }
+    Ok(())
+}
+
+#[test]
+fn documents(rt: HostRuntime) -> Result<(), Fail> {
+    let alloc = rt.alloc();
+    let mut session = Session::new(alloc, Config::new());
+    let open =
+        r#"{"method":"textDocument/didOpen","params":{"textDocument":{"uri":"file:///a","version":1,"text":""}}}"#;
+    assert_eq!(rt;
+        told(alloc, &mut session, open)?.as_str(),
+        "",
+        "before initialize"
+    );
+    drop(told(alloc, &mut session, INITIALIZE)?);
+    let rows = [
+        (
+            open,
+            r#"{"jsonrpc":"2.0","method":"textDocument/publishDiagnostics","params":{"diagnostics":[],"uri":"file:///a","version":1}}"#,
+        ),
+        (
+            r#"{"method":"textDocument/didChange","params":{"textDocument":{"uri":"file:///a","version":-2},"contentChanges":[]}}"#,
+            r#"{"jsonrpc":"2.0","method":"textDocument/publishDiagnostics","params":{"diagnostics":[],"uri":"file:///a","version":-2}}"#,
+        ),
+        (
+            r#"{"method":"textDocument/didChange","params":{"textDocument":{"uri":"file:///b"},"contentChanges":[]}}"#,
+            "",
+        ),
+        (
+            r#"{"method":"textDocument/didChange","params":{"textDocument":{"uri":"file:///a"},"contentChanges":[{"text":""},{"text":1}]}}"#,
+            "",
+        ),
+        (
+            r#"{"method":"textDocument/didOpen","params":{"textDocument":{"uri":"file:///a"}}}"#,
+            "",
+        ),
+        (
+            r#"{"method":"textDocument/didOpen","params":{"textDocument":{"uri":"file:///a","version":1.0,"text":"x"}}}"#,
+            r#"{"jsonrpc":"2.0","method":"textDocument/publishDiagnostics","params":{"diagnostics":[],"uri":"file:///a"}}"#,
+        ),
+        (
+            r#"{"method":"textDocument/didClose","params":{"textDocument":{"uri":"file:///a","version":7}}}"#,
+            r#"{"jsonrpc":"2.0","method":"textDocument/publishDiagnostics","params":{"diagnostics":[],"uri":"file:///a"}}"#,
+        ),
+        (
+            r#"{"method":"textDocument/didClose","params":{"textDocument":{"uri":"file:///a"}}}"#,
+            "",
+        ),
+    ];
+    for (body, expected) in rows {
+        let found = told(alloc, &mut session, body)?;
+        assert_eq!(rt; found.as_str().trim_end(), expected, "at {body}");
+    }
+    assert_eq!(rt; rows[0].1.len(), 118);
+    assert_eq!(rt; rows[6].1.len(), 106);
+    Ok(())
+}
+
+#[test]
+fn edited_texts(rt: HostRuntime) -> Result<(), Fail> {
+    let alloc = rt.alloc();
+    let mut session = Session::new(alloc, Config::new());
+    drop(told(alloc, &mut session, INITIALIZE)?);
+    let rows = [
+        (
+            r#"{"method":"textDocument/didOpen","params":{"textDocument":{"uri":"file:///a","text":"x = 0;\r\ny = x;"}}}"#,
+            "x = 0;\r\ny = x;",
+        ),
+        (
+            r#"{"method":"textDocument/didChange","params":{"textDocument":{"uri":"file:///a"},"contentChanges":[{"range":{"start":{"line":1,"character":4},"end":{"line":1,"character":5}},"text":"succ x"},{"range":{"start":{"line":1,"character":9},"end":{"line":1,"character":10}},"text":"0"}]}}"#,
+            "x = 0;\r\ny = succ 0;",
+        ),
+        (
+            r#"{"method":"textDocument/didChange","params":{"textDocument":{"uri":"file:///a"},"contentChanges":[{"range":{"start":{"line":7,"character":0},"end":{"line":1,"character":10}},"text":""}]}}"#,
+            "x = 0;\r\ny = succ 0",
+        ),
+        (
+            r#"{"method":"textDocument/didOpen","params":{"textDocument":{"uri":"file:///b","text":"other"}}}"#,
+            "x = 0;\r\ny = succ 0",
+        ),
+        (
+            r#"{"method":"textDocument/didClose","params":{"textDocument":{"uri":"file:///a"}}}"#,
+            "closed",
+        ),
+    ];
+    for (body, expected) in rows {
+        drop(told(alloc, &mut session, body)?);
+        let text = session.text("file:///a").unwrap_or("closed");
+        assert_eq!(rt; text, expected, "at {body}");
     }
     Ok(())
 }

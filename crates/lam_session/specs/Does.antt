@@ -1,0 +1,12 @@
+-- What a case of a step says: the values sent and the state after it.
+use Rattle.std.specs.Prelude.{◌≡◌, List, []}
+use Rattle.serde_json.specs.Data.{Data}
+use Rattle.lam_session.specs.State.{State}
+
+-- these values are sent, and this is the state after it
+abbrev pub Does : List Data → State → List Data → State → Type 0
+Does values after sent next = (sent ≡ values) × (next ≡ after)
+
+-- nothing is sent and nothing changes
+abbrev pub Ignores : State → List Data → State → Type 0
+Ignores s = Does [] s

@@ -1,0 +1,71 @@
+-- What the notices about documents do (LSP 3.17, "Text Document Synchronization"): each that has its shape and means
+-- a document is followed by one notice with that document's faults, of which none are known yet.
+use Rattle.std.specs.Prelude.{ℕ, ℤ, List, [], ◌∷◌, codes, Option, None, Some, option_and_then}
+use Rattle.serde_json.specs.Data.{Data, number, string, array, object, Items, no_items, Members, member, no_members}
+use Rattle.serde_json.specs.Find.{get, as_number, as_i64, of_integer}
+use Rattle.lam_rpc.specs.Fields.{text_at, named_uri, listed_changes}
+use Rattle.lam_rpc.specs.Reply.{sent_notice}
+use Rattle.lam_text.specs.Edits.{Edit, text_after}
+use Rattle.lam_session.specs.Documents.{OpenDocument, open_text, with_document, without_document}
+use Rattle.lam_session.specs.State.{State}
+use Rattle.lam_session.specs.Does.{Does, Ignores}
+
+-- the text that a client opens a document with
+abbrev pub opened_text : Data → Option (List ℕ)
+opened_text params = option_and_then (text_at (codes "text")) (get (codes "textDocument") params)
+
+-- the client's number of a text: a whole number of 64 bits with a sign, or none
+abbrev pub given_version : Data → Option ℤ
+given_version params =
+    option_and_then as_i64 (option_and_then as_number
+    (option_and_then (get (codes "version")) (get (codes "textDocument") params)))
+
+-- a version is named where there is one
+abbrev pub version_member : Option ℤ → Members
+version_member None = no_members
+version_member (Some version) = member (codes "version") (number (of_integer version)) no_members
+
+-- the notice with a document's faults
+abbrev pub published : List ℕ → Option ℤ → Items → Data
+published uri version faults =
+    sent_notice (codes "textDocument/publishDiagnostics")
+    (object (member (codes "diagnostics") (array faults) (member (codes "uri") (string uri) (version_member version))))
+
+-- the document is open as it now stands, and its faults are told
+abbrev pub Holds : State → OpenDocument → List Data → State → Type 0
+Holds s document =
+    Does (published document.uri document.version no_items ∷ []) (record s { documents = with_document document s.documents })
+
+-- a document is opened, anew where one of its uri is open
+abbrev pub OpensAs : State → Option (List ℕ) → Option (List ℕ) → Option ℤ → List Data → State → Type 0
+OpensAs s (Some uri) (Some text) version = Holds s (record { uri = uri; text = text; version = version })
+OpensAs s _ _ version = Ignores s
+
+abbrev pub Opens : State → Data → List Data → State → Type 0
+Opens s params = OpensAs s (named_uri params) (opened_text params) (given_version params)
+
+-- the open text is changed, each change in what the one before left
+abbrev pub ChangesText : State → List ℕ → Option (List ℕ) → List Edit → Option ℤ → List Data → State → Type 0
+ChangesText s uri None edits version = Ignores s
+ChangesText s uri (Some text) edits version =
+    Holds s (record { uri = uri; text = text_after s.encoding text edits; version = version })
+
+abbrev pub ChangesAs : State → Option (List ℕ) → Option (List Edit) → Option ℤ → List Data → State → Type 0
+ChangesAs s (Some uri) (Some edits) version = ChangesText s uri (open_text uri s.documents) edits version
+ChangesAs s _ _ version = Ignores s
+
+abbrev pub Changes : State → Data → List Data → State → Type 0
+Changes s params = ChangesAs s (named_uri params) (listed_changes params) (given_version params)
+
+-- an open document is closed, and no fault of it stays
+abbrev pub ClosesOpen : State → List ℕ → Option (List ℕ) → List Data → State → Type 0
+ClosesOpen s uri None = Ignores s
+ClosesOpen s uri (Some text) =
+    Does (published uri None no_items ∷ []) (record s { documents = without_document uri s.documents })
+
+abbrev pub ClosesAs : State → Option (List ℕ) → List Data → State → Type 0
+ClosesAs s None = Ignores s
+ClosesAs s (Some uri) = ClosesOpen s uri (open_text uri s.documents)
+
+abbrev pub Closes : State → Data → List Data → State → Type 0
+Closes s params = ClosesAs s (named_uri params)
