@@ -2,3 +2,11 @@ pub mod TypeShapes
 pub mod Placing
 pub mod SubShapes
 pub mod Permutations
+pub mod TermShapes
+pub mod TypingShapes
+pub mod RuleForms
+pub mod Contexts
+pub mod RulesHere
+pub mod ByShape
+pub mod SharedTexts
+pub mod Composing

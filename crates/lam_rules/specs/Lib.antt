@@ -4,3 +4,8 @@ pub mod Texts
 pub mod Rules
 pub mod Subtyping
 pub mod SubViews
+pub mod Terms
+pub mod TermViews
+pub mod Typing
+pub mod TypingViews
+pub mod SharedTexts

@@ -1,13 +1,13 @@
 //! Proof trees of subtyping, and their checker.
 
 ghost use Rattle.std.specs.Prelude.{◌≡◌, ◌↔◌, [], ◌∷◌, IsTrue};
-ghost use Rattle.lam_rules.specs.Types.{IsWellFormed, AreWellFormed, Has, Includes};
+ghost use Rattle.lam_rules.specs.Types.{IsWellFormed, AreWellFormed, Includes};
 ghost use Rattle.lam_rules.specs.TypeViews.{typ_of, fields_of};
 ghost use Rattle.lam_rules.specs.Subtyping.{BySubRule, BeginsWith, GoesFieldByField, IsPermutation, IsRuleOf, IsSubProof, AreSubProofs};
 ghost use Rattle.lam_rules.specs.SubViews.{claim_of, claims_of, sub_tree_of, sub_trees_of};
 
 use crate::rules::{Dialect, SubRule};
-use crate::types::{Ty, same, wf};
+use crate::types::{Ty, has_field, same, wf};
 
 /// A tree of the rules of subtyping: the rule of its last step, the two types that this concludes
 /// of, and its premises in the rule's order. It need not be a proof.
@@ -272,19 +272,4 @@ fn includes(fields: &[(String, Ty)], others: &[(String, Ty)]) -> bool
         }
     }
     true
-}
-
-/// Whether a field with this label and this type is among the fields.
-#[tactic(auto, using(crate::proofs::TypeShapes::shapes))]
-pub fn has_field(label: &str, ty: &Ty, fields: &[(String, Ty)]) -> bool
-    ensures { IsTrue result ↔ Has label.now (typ_of ty.now) (fields_of fields.now) }
-{
-    for field in fields {
-        if field.0.as_str() == label {
-            if same(&field.1, ty) {
-                return true;
-            }
-        }
-    }
-    false
 }

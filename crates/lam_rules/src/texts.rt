@@ -2,6 +2,7 @@
 
 ghost use Rattle.std.specs.Prelude.{◌≡◌, ◌++◌, ◌≤◌, length, IfOk, OnOk, string_bytes};
 ghost use Rattle.lam_rules.specs.Texts.{plain_text, plain_fields, left_of_arrow, separator_before, sorted, sorted_fields, placed, place_in, text};
+ghost use Rattle.lam_rules.specs.SharedTexts.{IsSharedText};
 ghost use Rattle.lam_rules.specs.TypeViews.{typ_of, fields_of};
 
 use crate::types::{Fields, Ty};
@@ -81,8 +82,10 @@ fn write_separator(out: &mut String, rest: &[(String, Ty)]) -> Result<(), AllocE
 
 /// The text of a type with the labels of each record in ascending byte order, equal ones in their
 /// own order, as `{a:Nat, b:Bool}`.
+#[tactic(auto, using(crate::proofs::SharedTexts::text_same))]
 pub fn text_of(alloc: Global, ty: &Ty) -> Result<String, AllocError>
-    ensures { IfOk result (λ written. string_bytes written ≡ text (typ_of ty.now)) }
+    ensures text { IfOk result (λ written. string_bytes written ≡ text (typ_of ty.now)) }
+    ensures shared { IfOk result (λ written. IsSharedText (string_bytes written) (typ_of ty.now)) }
 {
     let sorted = sorted_of(alloc, ty)?;
     plain_text_of(alloc, &sorted)

@@ -1,7 +1,7 @@
 //! Types, and what is read off one type alone.
 
 ghost use Rattle.std.specs.Prelude.{◌≡◌, ◌↔◌, ◌≤◌, ℕ, min, IsTrue, IfOk};
-ghost use Rattle.lam_rules.specs.Types.{IsWellFormed, AreWellFormed, IsAbsent, nodes, nodes_in, arrow, record_of};
+ghost use Rattle.lam_rules.specs.Types.{IsWellFormed, AreWellFormed, IsAbsent, Has, nodes, nodes_in, arrow, record_of};
 ghost use Rattle.lam_rules.specs.TypeViews.{typ_of, fields_of};
 
 use std::alloc::{AllocError, Global};
@@ -85,11 +85,26 @@ pub fn is_absent(label: &str, fields: &[(String, Ty)]) -> bool
     ensures { IsTrue result ↔ IsAbsent label.now (fields_of fields.now) }
 {
     for field in fields {
-        if field.0.as_str() == label {
+        if label == field.0.as_str() {
             return false;
         }
     }
     true
+}
+
+/// Whether a field with this label and this type is among the fields.
+#[tactic(auto, using(crate::proofs::TypeShapes::shapes))]
+pub fn has_field(label: &str, ty: &Ty, fields: &[(String, Ty)]) -> bool
+    ensures { IsTrue result ↔ Has label.now (typ_of ty.now) (fields_of fields.now) }
+{
+    for field in fields {
+        if field.0.as_str() == label {
+            if same(&field.1, ty) {
+                return true;
+            }
+        }
+    }
+    false
 }
 
 /// Where `size` stops counting: one more than a type of a document may have.

@@ -1,0 +1,106 @@
+-- Each rule of typing at a term and premises that were told apart.
+use Rattle.std.proofs.Common.{◌≡◌, ℕ, ◌<◌, ◌≤◌, ◌↔◌, List, [], ◌∷◌, Option, Some, None, String, string_bytes, Box, length, get_or, ap, sym, ◌∙◌, refl}
+use Rattle.std.specs.declared.alloc.Global.{Global}
+use Rattle.lam_rules.specs.Types.{Label, Typ, bool, nat, arrow, record_of, Fields, Has}
+use Rattle.lam_rules.specs.TypeViews.{typ_of}
+use Rattle.lam_rules.specs.TermViews.{term_of}
+use Rattle.lam_rules.specs.Terms.{Term}
+use Rattle.lam_rules.specs.Subtyping.{Claim, SubTree, conclusion, IsSubProof}
+use Rattle.lam_rules.specs.SubViews.{sub_tree_of}
+use Rattle.lam_rules.specs.Typing.{Context, TypingTree, typing_first, no_typings, type_in, IsTyping, ByTypeRule, HasField}
+use Rattle.lam_rules.specs.TypingViews.{typing_tree_of, typings_of}
+use Rattle.lam_rules.specs.declared.types.Ty.{Ty}
+use Rattle.lam_rules.specs.declared.rules.Dialect.{Dialect}
+use Rattle.lam_rules.specs.declared.rules.TypeRule.{TypeRule}
+use Rattle.lam_rules.specs.declared.terms.Core.{Core}
+use Rattle.lam_rules.specs.declared.terms.Core.TheVariants.{If, Succ, Pred, IsZero, Abs, App, Ascribe, Let, Proj, Fix}
+use Rattle.lam_rules.specs.declared.subtyping.SubProof.{SubProof, out-SubProof}
+use Rattle.lam_rules.specs.declared.typing.TypeProof.{TypeProof, out-TypeProof}
+use Rattle.lam_rules.proofs.TermShapes.{term_of-If, term_of-Succ, term_of-Pred, term_of-IsZero, term_of-Abs, term_of-App, term_of-Ascribe, term_of-Let, term_of-Proj, term_of-Fix}
+use Rattle.lam_rules.proofs.SubShapes.{conclusion-sub_tree_of}
+use Rattle.lam_rules.proofs.TypingShapes.{type_in-typing_tree_of, one_premise, two_premises, three_premises}
+
+both_ways : {A : Type 0} → A ↔ A
+both_ways = (λ a. a, λ a. a)
+
+pub here_succ : (term : Core) (e : Box Core Global) (a : Core) → term ≡ Succ e → a ≡ e.value
+    → (ps : List TypeProof) (p : TypeProof) → 1 ≤ length ps → length ps < 2 → p ≡ get_or ps 0 p
+    → (g : Context) (t : Typ) (d : Dialect)
+    → ByTypeRule TypeRule.Succ None g (term_of term) t (typings_of ps) d ↔ (IsTyping g (term_of a) (typing_tree_of p) d × (type_in (typing_tree_of p) ≡ nat) × (t ≡ nat))
+here_succ term e a is is_a ps p low high is_p g t d = rw (is, term_of-Succ e, sym is_a, one_premise ps p low high is_p) both_ways
+
+pub here_pred : (term : Core) (e : Box Core Global) (a : Core) → term ≡ Pred e → a ≡ e.value
+    → (ps : List TypeProof) (p : TypeProof) → 1 ≤ length ps → length ps < 2 → p ≡ get_or ps 0 p
+    → (g : Context) (t : Typ) (d : Dialect)
+    → ByTypeRule TypeRule.Pred None g (term_of term) t (typings_of ps) d ↔ (IsTyping g (term_of a) (typing_tree_of p) d × (type_in (typing_tree_of p) ≡ nat) × (t ≡ nat))
+here_pred term e a is is_a ps p low high is_p g t d = rw (is, term_of-Pred e, sym is_a, one_premise ps p low high is_p) both_ways
+
+pub here_is_zero : (term : Core) (e : Box Core Global) (a : Core) → term ≡ IsZero e → a ≡ e.value
+    → (ps : List TypeProof) (p : TypeProof) → 1 ≤ length ps → length ps < 2 → p ≡ get_or ps 0 p
+    → (g : Context) (t : Typ) (d : Dialect)
+    → ByTypeRule TypeRule.IsZero None g (term_of term) t (typings_of ps) d ↔ (IsTyping g (term_of a) (typing_tree_of p) d × (type_in (typing_tree_of p) ≡ nat) × (t ≡ bool))
+here_is_zero term e a is is_a ps p low high is_p g t d = rw (is, term_of-IsZero e, sym is_a, one_premise ps p low high is_p) both_ways
+
+pub here_if : (term : Core) (e1 e2 e3 : Box Core Global) (a b c : Core) → term ≡ If e1 e2 e3 → a ≡ e1.value → b ≡ e2.value → c ≡ e3.value
+    → (ps : List TypeProof) (p q r : TypeProof) → 3 ≤ length ps → length ps < 4 → p ≡ get_or ps 0 p → q ≡ get_or ps 1 q → r ≡ get_or ps 2 r
+    → (g : Context) (t : Typ) (d : Dialect)
+    → ByTypeRule TypeRule.If None g (term_of term) t (typings_of ps) d ↔ (IsTyping g (term_of a) (typing_tree_of p) d × (type_in (typing_tree_of p) ≡ bool) × IsTyping g (term_of b) (typing_tree_of q) d × (type_in (typing_tree_of q) ≡ t) × IsTyping g (term_of c) (typing_tree_of r) d × (type_in (typing_tree_of r) ≡ t))
+here_if term e1 e2 e3 a b c is is_a is_b is_c ps p q r low high is_p is_q is_r g t d = rw (is, term_of-If e1 e2 e3, sym is_a, sym is_b, sym is_c, three_premises ps p q r low high is_p is_q is_r) both_ways
+
+pub here_abs : (term : Core) (w : Option Ty) (e : Box Core Global) (b : Core) (u : Ty) → term ≡ Abs w e → b ≡ e.value → w ≡ Some u
+    → (ps : List TypeProof) (p : TypeProof) → 1 ≤ length ps → length ps < 2 → p ≡ get_or ps 0 p
+    → (g : Context) (t : Typ) (d : Dialect)
+    → ByTypeRule TypeRule.Abs None g (term_of term) t (typings_of ps) d ↔ (IsTyping (Some (typ_of u) ∷ g) (term_of b) (typing_tree_of p) d × (t ≡ arrow (typ_of u) (type_in (typing_tree_of p))))
+here_abs term w e b u is is_b is_u ps p low high is_p g t d = rw (is, term_of-Abs w e, sym is_b, is_u, one_premise ps p low high is_p) both_ways
+
+pub here_app : (term : Core) (e1 e2 : Box Core Global) (a b : Core) → term ≡ App e1 e2 → a ≡ e1.value → b ≡ e2.value
+    → (ps : List TypeProof) (p q : TypeProof) → 2 ≤ length ps → length ps < 3 → p ≡ get_or ps 0 p → q ≡ get_or ps 1 q
+    → (g : Context) (t : Typ) (d : Dialect)
+    → ByTypeRule TypeRule.App None g (term_of term) t (typings_of ps) d ↔ (IsTyping g (term_of a) (typing_tree_of p) d × IsTyping g (term_of b) (typing_tree_of q) d × (typ_of (out-TypeProof p).ty ≡ arrow (typ_of (out-TypeProof q).ty) t))
+here_app term e1 e2 a b is is_a is_b ps p q low high is_p is_q g t d = rw (is, term_of-App e1 e2, sym is_a, sym is_b, two_premises ps p q low high is_p is_q, type_in-typing_tree_of p, type_in-typing_tree_of q) both_ways
+
+pub here_ascribe : (term : Core) (e : Box Core Global) (w : Option Ty) (a : Core) (u : Ty) → term ≡ Ascribe e w → a ≡ e.value → w ≡ Some u
+    → (ps : List TypeProof) (p : TypeProof) → 1 ≤ length ps → length ps < 2 → p ≡ get_or ps 0 p
+    → (g : Context) (t : Typ) (d : Dialect)
+    → ByTypeRule TypeRule.Ascribe None g (term_of term) t (typings_of ps) d ↔ (IsTyping g (term_of a) (typing_tree_of p) d × (type_in (typing_tree_of p) ≡ typ_of u) × (t ≡ typ_of u))
+here_ascribe term e w a u is is_a is_u ps p low high is_p g t d = rw (is, term_of-Ascribe e w, sym is_a, is_u, one_premise ps p low high is_p) both_ways
+
+pub here_let : (term : Core) (e1 e2 : Box Core Global) (a b : Core) → term ≡ Let e1 e2 → a ≡ e1.value → b ≡ e2.value
+    → (ps : List TypeProof) (p q : TypeProof) → 2 ≤ length ps → length ps < 3 → p ≡ get_or ps 0 p → q ≡ get_or ps 1 q
+    → (g : Context) (t : Typ) (d : Dialect)
+    → ByTypeRule TypeRule.Let None g (term_of term) t (typings_of ps) d ↔ (IsTyping g (term_of a) (typing_tree_of p) d × IsTyping (Some (typ_of (out-TypeProof p).ty) ∷ g) (term_of b) (typing_tree_of q) d × (type_in (typing_tree_of q) ≡ t))
+here_let term e1 e2 a b is is_a is_b ps p q low high is_p is_q g t d = rw (is, term_of-Let e1 e2, sym is_a, sym is_b, two_premises ps p q low high is_p is_q, type_in-typing_tree_of p) both_ways
+
+pub here_proj : (term : Core) (e : Box Core Global) (s : String Global) (a : Core) → term ≡ Proj e s → a ≡ e.value
+    → (ps : List TypeProof) (p : TypeProof) → 1 ≤ length ps → length ps < 2 → p ≡ get_or ps 0 p
+    → (g : Context) (t : Typ) (d : Dialect)
+    → ByTypeRule TypeRule.Proj None g (term_of term) t (typings_of ps) d ↔ (IsTyping g (term_of a) (typing_tree_of p) d × HasField (typ_of (out-TypeProof p).ty) (string_bytes s) t)
+here_proj term e s a is is_a ps p low high is_p g t d = rw (is, term_of-Proj e s, sym is_a, one_premise ps p low high is_p, type_in-typing_tree_of p) both_ways
+
+pub here_fix : (term : Core) (e : Box Core Global) (a : Core) → term ≡ Fix e → a ≡ e.value
+    → (ps : List TypeProof) (p : TypeProof) → 1 ≤ length ps → length ps < 2 → p ≡ get_or ps 0 p
+    → (g : Context) (t : Typ) (d : Dialect)
+    → ByTypeRule TypeRule.Fix None g (term_of term) t (typings_of ps) d ↔ (IsTyping g (term_of a) (typing_tree_of p) d × (typ_of (out-TypeProof p).ty ≡ arrow t t))
+here_fix term e a is is_a ps p low high is_p g t d = rw (is, term_of-Fix e, sym is_a, one_premise ps p low high is_p, type_in-typing_tree_of p) both_ways
+
+-- T-Proj: the fields of a record type
+pub fields_here : (u t : Typ) (gs hs : Fields) (k l : Label) → u ≡ record_of gs → l ≡ k → hs ≡ gs → HasField u k t ↔ Has l t hs
+fields_here u t gs hs k l is is_l is_hs = rw (is, is_l, is_hs) both_ways
+
+-- T-Sub: the claim of a tree, part by part
+concludes : (q : SubProof) (s t : Typ)
+    → (conclusion (sub_tree_of q) ≡ record { lower = s; upper = t }) ↔ ((typ_of (out-SubProof q).lower ≡ s) × (typ_of (out-SubProof q).upper ≡ t))
+concludes q s t =
+    let shown = conclusion-sub_tree_of q in (
+      λ e. (ap (λ c. c.lower) (sym shown ∙ e), ap (λ c. c.upper) (sym shown ∙ e)),
+      λ e. shown ∙ (rw (e.0, e.1)),
+    )
+
+pub here_sub : (ps : List TypeProof) (p : TypeProof) → 1 ≤ length ps → length ps < 2 → p ≡ get_or ps 0 p
+    → (q : SubProof) (g : Context) (e : Term) (t : Typ) (d : Dialect)
+    → ByTypeRule TypeRule.Sub (Some (sub_tree_of q)) g e t (typings_of ps) d
+    ↔ (IsTyping g e (typing_tree_of p) d × IsSubProof (sub_tree_of q) d × (typ_of (out-SubProof q).lower ≡ typ_of (out-TypeProof p).ty) × (typ_of (out-SubProof q).upper ≡ t))
+here_sub ps p low high is_p q g e t d =
+    let ends = concludes q (typ_of (out-TypeProof p).ty) t in
+    rw (one_premise ps p low high is_p, type_in-typing_tree_of p)
+    (λ h. let k = ends.0 h.1.1 in (h.0, h.1.0, k.0, k.1), λ h. (h.0, (h.1, ends.1 (h.2, h.3))))

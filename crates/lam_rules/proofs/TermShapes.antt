@@ -1,0 +1,134 @@
+-- How terms are seen as trees: the tree at each variant, and of lists of labelled terms.
+use Rattle.std.proofs.Common.{◌≡◌, ℕ, ◌+◌, ◌<◌, List, [], ◌∷◌, map, Option, String, string_bytes, Box, Vec, length, drop, get_or, drop-cons, add-one, suc, ap, sym, ◌∙◌, refl, subst}
+use Rattle.std.specs.declared.alloc.Global.{Global}
+use Rattle.lam_rules.specs.Terms.{Term, true_term, false_term, if_then_else, numeral, succ, pred, is_zero, variable, free, lambda, apply, unit_term, ascribe, let_in, record_term, project, fix, TermFields, no_terms, term_field}
+use Rattle.lam_rules.specs.TermViews.{written_of, terms_made, term_step, term_of, terms_of}
+use Rattle.lam_rules.specs.declared.types.Ty.{Ty}
+use Rattle.lam_rules.specs.declared.terms.Core.{Core, fold-Core, fold-roll-Core, out-Core, roll-Core, roll-out-Core}
+use Rattle.lam_rules.specs.declared.terms.Core.TheOpen.{Core-F}
+use Rattle.lam_rules.specs.declared.terms.Core.TheVariants.{True, False, If, Num, Succ, Pred, IsZero, Var, Free, Abs, App, Unit as UnitTerm, Ascribe, Let, Record, Proj, Fix, rolls-True, rolls-False, rolls-If, rolls-Num, rolls-Succ, rolls-Pred, rolls-IsZero, rolls-Var, rolls-Free, rolls-Abs, rolls-App, rolls-Unit, rolls-Ascribe, rolls-Let, rolls-Record, rolls-Proj, rolls-Fix}
+
+terms_made-map : (fs : List (String Global × Core)) → terms_made (map (λ f. (f.0, term_of f.1)) fs) ≡ terms_of fs
+terms_made-map [] = refl
+terms_made-map (f ∷ fs) = ap (λ rest. term_field (string_bytes f.0) (term_of f.1) rest) (terms_made-map fs)
+
+-- the tree of each variant
+
+pub term_of-True : term_of True ≡ true_term
+unfolding term_of
+term_of-True = ap term_of (sym rolls-True) ∙ fold-roll-Core Term term_step Core-F.True
+
+pub term_of-False : term_of False ≡ false_term
+unfolding term_of
+term_of-False = ap term_of (sym rolls-False) ∙ fold-roll-Core Term term_step Core-F.False
+
+pub term_of-If : (e1 : Box Core Global) (e2 : Box Core Global) (e3 : Box Core Global) → term_of (If e1 e2 e3) ≡ if_then_else (term_of e1.value) (term_of e2.value) (term_of e3.value)
+unfolding term_of
+term_of-If e1 e2 e3 = ap term_of (sym (rolls-If e1 e2 e3)) ∙ fold-roll-Core Term term_step (Core-F.If e1 e2 e3)
+
+pub term_of-Num : (s : String Global) → term_of (Num s) ≡ numeral (string_bytes s)
+unfolding term_of
+term_of-Num s = ap term_of (sym (rolls-Num s)) ∙ fold-roll-Core Term term_step (Core-F.Num s)
+
+pub term_of-Succ : (e : Box Core Global) → term_of (Succ e) ≡ succ (term_of e.value)
+unfolding term_of
+term_of-Succ e = ap term_of (sym (rolls-Succ e)) ∙ fold-roll-Core Term term_step (Core-F.Succ e)
+
+pub term_of-Pred : (e : Box Core Global) → term_of (Pred e) ≡ pred (term_of e.value)
+unfolding term_of
+term_of-Pred e = ap term_of (sym (rolls-Pred e)) ∙ fold-roll-Core Term term_step (Core-F.Pred e)
+
+pub term_of-IsZero : (e : Box Core Global) → term_of (IsZero e) ≡ is_zero (term_of e.value)
+unfolding term_of
+term_of-IsZero e = ap term_of (sym (rolls-IsZero e)) ∙ fold-roll-Core Term term_step (Core-F.IsZero e)
+
+pub term_of-Var : (n : ℕ) → term_of (Var n) ≡ variable n
+unfolding term_of
+term_of-Var n = ap term_of (sym (rolls-Var n)) ∙ fold-roll-Core Term term_step (Core-F.Var n)
+
+pub term_of-Free : (s : String Global) → term_of (Free s) ≡ free (string_bytes s)
+unfolding term_of
+term_of-Free s = ap term_of (sym (rolls-Free s)) ∙ fold-roll-Core Term term_step (Core-F.Free s)
+
+pub term_of-Abs : (w : Option Ty) (e : Box Core Global) → term_of (Abs w e) ≡ lambda (written_of w) (term_of e.value)
+unfolding term_of
+term_of-Abs w e = ap term_of (sym (rolls-Abs w e)) ∙ fold-roll-Core Term term_step (Core-F.Abs w e)
+
+pub term_of-App : (e1 : Box Core Global) (e2 : Box Core Global) → term_of (App e1 e2) ≡ apply (term_of e1.value) (term_of e2.value)
+unfolding term_of
+term_of-App e1 e2 = ap term_of (sym (rolls-App e1 e2)) ∙ fold-roll-Core Term term_step (Core-F.App e1 e2)
+
+pub term_of-Unit : term_of UnitTerm ≡ unit_term
+unfolding term_of
+term_of-Unit = ap term_of (sym rolls-Unit) ∙ fold-roll-Core Term term_step Core-F.Unit
+
+pub term_of-Ascribe : (e : Box Core Global) (w : Option Ty) → term_of (Ascribe e w) ≡ ascribe (term_of e.value) (written_of w)
+unfolding term_of
+term_of-Ascribe e w = ap term_of (sym (rolls-Ascribe e w)) ∙ fold-roll-Core Term term_step (Core-F.Ascribe e w)
+
+pub term_of-Let : (e1 : Box Core Global) (e2 : Box Core Global) → term_of (Let e1 e2) ≡ let_in (term_of e1.value) (term_of e2.value)
+unfolding term_of
+term_of-Let e1 e2 = ap term_of (sym (rolls-Let e1 e2)) ∙ fold-roll-Core Term term_step (Core-F.Let e1 e2)
+
+pub term_of-Record : (fs : Vec (String Global × Core) Global) → term_of (Record fs) ≡ record_term (terms_of fs.items)
+unfolding term_of
+term_of-Record fs = ap term_of (sym (rolls-Record fs)) ∙ fold-roll-Core Term term_step (Core-F.Record fs) ∙ ap record_term (terms_made-map fs.items)
+
+pub term_of-Proj : (e : Box Core Global) (s : String Global) → term_of (Proj e s) ≡ project (term_of e.value) (string_bytes s)
+unfolding term_of
+term_of-Proj e s = ap term_of (sym (rolls-Proj e s)) ∙ fold-roll-Core Term term_step (Core-F.Proj e s)
+
+pub term_of-Fix : (e : Box Core Global) → term_of (Fix e) ≡ fix (term_of e.value)
+unfolding term_of
+term_of-Fix e = ap term_of (sym (rolls-Fix e)) ∙ fold-roll-Core Term term_step (Core-F.Fix e)
+
+-- a term beside its tree, variant by variant
+pub data Seen : Core → Term → Type 0 where
+  seen_True : Seen True true_term
+  seen_False : Seen False false_term
+  seen_If : (e1 : Box Core Global) (e2 : Box Core Global) (e3 : Box Core Global) → Seen (If e1 e2 e3) (if_then_else (term_of e1.value) (term_of e2.value) (term_of e3.value))
+  seen_Num : (s : String Global) → Seen (Num s) (numeral (string_bytes s))
+  seen_Succ : (e : Box Core Global) → Seen (Succ e) (succ (term_of e.value))
+  seen_Pred : (e : Box Core Global) → Seen (Pred e) (pred (term_of e.value))
+  seen_IsZero : (e : Box Core Global) → Seen (IsZero e) (is_zero (term_of e.value))
+  seen_Var : (n : ℕ) → Seen (Var n) (variable n)
+  seen_Free : (s : String Global) → Seen (Free s) (free (string_bytes s))
+  seen_Abs : (w : Option Ty) (e : Box Core Global) → Seen (Abs w e) (lambda (written_of w) (term_of e.value))
+  seen_App : (e1 : Box Core Global) (e2 : Box Core Global) → Seen (App e1 e2) (apply (term_of e1.value) (term_of e2.value))
+  seen_Unit : Seen UnitTerm unit_term
+  seen_Ascribe : (e : Box Core Global) (w : Option Ty) → Seen (Ascribe e w) (ascribe (term_of e.value) (written_of w))
+  seen_Let : (e1 : Box Core Global) (e2 : Box Core Global) → Seen (Let e1 e2) (let_in (term_of e1.value) (term_of e2.value))
+  seen_Record : (fs : Vec (String Global × Core) Global) → Seen (Record fs) (record_term (terms_of fs.items))
+  seen_Proj : (e : Box Core Global) (s : String Global) → Seen (Proj e s) (project (term_of e.value) (string_bytes s))
+  seen_Fix : (e : Box Core Global) → Seen (Fix e) (fix (term_of e.value))
+
+pub seen : (e : Core) → Seen e (term_of e)
+seen e = subst (λ e. Seen e (term_of e)) (roll-out-Core e) (rolled (out-Core e))
+  where
+    rolled : (o : Core-F Core) → Seen (roll-Core o) (term_of (roll-Core o))
+    rolled Core-F.True = subst (λ e. Seen e (term_of e)) (sym rolls-True) (subst (λ u. Seen True u) (sym term_of-True) seen_True)
+    rolled Core-F.False = subst (λ e. Seen e (term_of e)) (sym rolls-False) (subst (λ u. Seen False u) (sym term_of-False) seen_False)
+    rolled (Core-F.If e1 e2 e3) = subst (λ e. Seen e (term_of e)) (sym (rolls-If e1 e2 e3)) (subst (λ u. Seen (If e1 e2 e3) u) (sym (term_of-If e1 e2 e3)) (seen_If e1 e2 e3))
+    rolled (Core-F.Num s) = subst (λ e. Seen e (term_of e)) (sym (rolls-Num s)) (subst (λ u. Seen (Num s) u) (sym (term_of-Num s)) (seen_Num s))
+    rolled (Core-F.Succ e) = subst (λ e. Seen e (term_of e)) (sym (rolls-Succ e)) (subst (λ u. Seen (Succ e) u) (sym (term_of-Succ e)) (seen_Succ e))
+    rolled (Core-F.Pred e) = subst (λ e. Seen e (term_of e)) (sym (rolls-Pred e)) (subst (λ u. Seen (Pred e) u) (sym (term_of-Pred e)) (seen_Pred e))
+    rolled (Core-F.IsZero e) = subst (λ e. Seen e (term_of e)) (sym (rolls-IsZero e)) (subst (λ u. Seen (IsZero e) u) (sym (term_of-IsZero e)) (seen_IsZero e))
+    rolled (Core-F.Var n) = subst (λ e. Seen e (term_of e)) (sym (rolls-Var n)) (subst (λ u. Seen (Var n) u) (sym (term_of-Var n)) (seen_Var n))
+    rolled (Core-F.Free s) = subst (λ e. Seen e (term_of e)) (sym (rolls-Free s)) (subst (λ u. Seen (Free s) u) (sym (term_of-Free s)) (seen_Free s))
+    rolled (Core-F.Abs w e) = subst (λ e. Seen e (term_of e)) (sym (rolls-Abs w e)) (subst (λ u. Seen (Abs w e) u) (sym (term_of-Abs w e)) (seen_Abs w e))
+    rolled (Core-F.App e1 e2) = subst (λ e. Seen e (term_of e)) (sym (rolls-App e1 e2)) (subst (λ u. Seen (App e1 e2) u) (sym (term_of-App e1 e2)) (seen_App e1 e2))
+    rolled Core-F.Unit = subst (λ e. Seen e (term_of e)) (sym rolls-Unit) (subst (λ u. Seen UnitTerm u) (sym term_of-Unit) seen_Unit)
+    rolled (Core-F.Ascribe e w) = subst (λ e. Seen e (term_of e)) (sym (rolls-Ascribe e w)) (subst (λ u. Seen (Ascribe e w) u) (sym (term_of-Ascribe e w)) (seen_Ascribe e w))
+    rolled (Core-F.Let e1 e2) = subst (λ e. Seen e (term_of e)) (sym (rolls-Let e1 e2)) (subst (λ u. Seen (Let e1 e2) u) (sym (term_of-Let e1 e2)) (seen_Let e1 e2))
+    rolled (Core-F.Record fs) = subst (λ e. Seen e (term_of e)) (sym (rolls-Record fs)) (subst (λ u. Seen (Record fs) u) (sym (term_of-Record fs)) (seen_Record fs))
+    rolled (Core-F.Proj e s) = subst (λ e. Seen e (term_of e)) (sym (rolls-Proj e s)) (subst (λ u. Seen (Proj e s) u) (sym (term_of-Proj e s)) (seen_Proj e s))
+    rolled (Core-F.Fix e) = subst (λ e. Seen e (term_of e)) (sym (rolls-Fix e)) (subst (λ u. Seen (Fix e) u) (sym (term_of-Fix e)) (seen_Fix e))
+
+-- lists of labelled terms
+
+pub terms_of-drop : (fs : List (String Global × Core)) (i : ℕ) (f : String Global × Core)
+    → i < length fs → f ≡ get_or fs i f
+    → terms_of (drop i fs) ≡ term_field (string_bytes f.0) (term_of f.1) (terms_of (drop (i + 1) fs))
+terms_of-drop fs i f lt is = rw add-one (rw (drop-cons fs i f lt) (ap (λ g. term_field (string_bytes g.0) (term_of g.1) (terms_of (drop (suc i) fs))) (sym is)))
+
+pub ruleset term_shapes = (term_of-True, term_of-False, term_of-If, term_of-Num, term_of-Succ, term_of-Pred, term_of-IsZero, term_of-Var, term_of-Free, term_of-Abs, term_of-App, term_of-Unit, term_of-Ascribe, term_of-Let, term_of-Record, term_of-Proj, term_of-Fix, terms_of-drop)

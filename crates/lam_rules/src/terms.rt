@@ -1,0 +1,52 @@
+//! Nameless terms.
+
+ghost use Rattle.std.specs.Prelude.{◌≡◌, IfOk};
+ghost use Rattle.lam_rules.specs.Terms.{letrec_in};
+ghost use Rattle.lam_rules.specs.TermViews.{term_of, written_of};
+
+use crate::types::Ty;
+use std::alloc::{AllocError, Global};
+
+/// A nameless term: without spans and without the names of binders.
+#[derive(Drop)]
+pub enum Core {
+    True,
+    False,
+    If(Box<Core>, Box<Core>, Box<Core>),
+    /// A numeral, by its digits.
+    Num(String),
+    Succ(Box<Core>),
+    Pred(Box<Core>),
+    IsZero(Box<Core>),
+    /// A bound name: how many binders of names stand between it and its own.
+    Var(usize),
+    /// An unbound name.
+    Free(String),
+    /// A lambda. The type is what the written one stands for, or none where it stands for no type.
+    Abs(Option<Ty>, Box<Core>),
+    App(Box<Core>, Box<Core>),
+    Unit,
+    /// An ascription, with its type as in a lambda.
+    Ascribe(Box<Core>, Option<Ty>),
+    /// A let: the term that is bound, and the one under its binder.
+    Let(Box<Core>, Box<Core>),
+    Record(Vec<(String, Core)>),
+    Proj(Box<Core>, String),
+    Fix(Box<Core>),
+}
+
+/// What `letrec x:T = bound in body` stands for: `let x = fix (lambda x:T. bound) in body`
+/// (TAPL 11.11).
+#[tactic(auto, using(crate::proofs::TermShapes::term_shapes))]
+pub fn make_letrec(
+    alloc: Global,
+    written: Option<Ty>,
+    bound: Core,
+    body: Core,
+) -> Result<Core, AllocError>
+    ensures { IfOk result (λ made. term_of made ≡ letrec_in (written_of written) (term_of bound) (term_of body)) }
+{
+    let lambda = Core::Abs(written, Box::new(alloc, bound)?);
+    let fixed = Core::Fix(Box::new(alloc, lambda)?);
+    Ok(Core::Let(Box::new(alloc, fixed)?, Box::new(alloc, body)?))
+}
