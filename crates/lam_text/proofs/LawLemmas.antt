@@ -1,19 +1,19 @@
 -- The longest front, and the way from an offset to its position and back.
-use Rattle.std.proofs.Common.{◌≡◌, ℕ, zero, suc, ◌+◌, ◌-◌, ◌<◌, ◌≤◌, Bool, true, false, cond, leb, ltb, List, [], ◌∷◌, ◌++◌, length, get_or, take, drop, min, refl, ap, sym, ◌∙◌, inl, inr, arith, add-one, zero-add}
-use Rattle.std.proofs.lemmas.Bool.{cases_Bool, cases_lt, leb-true, leb-false, le-leb, lt-leb, ltb-true, ltb-false}
+use Rattle.std.proofs.Common.{◌≡◌, ℕ, ◌+◌, ◌-◌, ◌<◌, ◌≤◌, cond, leb, ltb, List, [], ◌∷◌, ◌++◌, length, get_or, take, drop, refl, ap, sym, ◌∙◌, inl, inr, arith, add-one, zero-add}
+use Rattle.std.proofs.lemmas.Bool.{cases_Bool, cases_lt, leb-true, le-leb, lt-leb, ltb-true, ltb-false}
 use Rattle.std.proofs.lemmas.List.{length-append, append_assoc, take-append-drop, length-take-le, get_or-append_right, get_or-append-add, get_or_append_left}
-use Rattle.std.proofs.lemmas.Str.{chars-append, encodes-chars, IsUtf8-take, IsUtf8-drop}
+use Rattle.std.proofs.lemmas.Str.{chars-append, encodes-chars, IsUtf8-take}
 use Rattle.std.proofs.lemmas.List.Sums.{sum_by-cons}
 use Rattle.std.specs.List.{count_by}
-use Rattle.std.specs.Str.{chars, encode_utf8_all, IsUtf8, IsCharBoundary}
+use Rattle.std.specs.Str.{chars, IsUtf8, IsCharBoundary}
 use Rattle.lam_text.specs.declared.units.Encoding.{Encoding}
 use Rattle.lam_text.specs.Units.{units_of, units, units_in, front_within, bytes_within}
-use Rattle.lam_text.specs.Lines.{Line, Ended, LineEnd, CrLf, Lf, Cr, Lines, Cut, content, line_bytes, end_bytes, Spell, IsCutOf, lines_of}
-use Rattle.lam_text.specs.Positions.{offset_in, offset_on, offset_of, position_in, position_on, position_of, one_line_down, IsInsideCrLf}
+use Rattle.lam_text.specs.Lines.{Line, Ended, LineEnd, CrLf, Lf, Cr, Lines, Cut, line_bytes, end_bytes, Spell, IsCutOf, lines_of}
+use Rattle.lam_text.specs.Positions.{offset_in, offset_on, offset_of, position_in, position_on, position_of, IsInsideCrLf}
 use Rattle.lam_text.specs.Laws.{IsLongestFront, ends_in, ends_on, line_ends}
 use Rattle.lam_text.proofs.Cuts.{IsCutOf-lines_of}
 use Rattle.lam_text.proofs.RowLemmas.{IsUtf8-around}
-use Rattle.lam_text.proofs.Walks.{units_of-bounds, units-cons, front_bytes}
+use Rattle.lam_text.proofs.Walks.{units_of-bounds, units-cons}
 
 -- ---- the longest front
 

@@ -16,7 +16,7 @@ fresh at = record { start = at; ascii = true }
 abbrev pub grown : Mark → ℕ → Mark
 grown open_line b = record { start = open_line.start; ascii = open_line.ascii && nat_lt b 128 }
 
--- an open line after some more bytes, among which no line ends
+-- an open line with some more of its bytes
 abbrev pub lengthened : Mark → List ℕ → Mark
 lengthened open_line bytes = record { start = open_line.start; ascii = open_line.ascii && all_ascii bytes }
 

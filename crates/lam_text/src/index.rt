@@ -52,7 +52,7 @@ fn ends_line(text: &[u8], at: usize) -> bool
     text[at + 1] != b'\n'
 }
 
-/// An open line after some more bytes, among which no line ends.
+/// An open line with some more of its bytes.
 fn lengthened(open_line: Mark, bytes: &[u8]) -> Mark
     ensures { result ≡ lengthened open_line bytes.now }
 {
@@ -271,7 +271,8 @@ pub(crate) fn mended(
     requires splice { IsSplice old.now new.now splice.start splice.end splice.inserted }
     ensures { IfOk result (λ marks. marks.items ≡ index_of new.now) }
 {
-    let mut marks = Vec::with_capacity(alloc, old_marks.len())?;
+    // Room for one line more, as typing adds them.
+    let mut marks = Vec::with_capacity(alloc, old_marks.len().saturating_add(1))?;
     let from = splice.start.saturating_sub(1);
     let first = line_at(old_marks, from);
     marks.extend_from_slice(&old_marks[..first])?;
