@@ -1,3 +1,4 @@
 pub mod Plain
 pub mod EntryLemmas
 pub mod ChangeSteps
+pub mod AloneRuns

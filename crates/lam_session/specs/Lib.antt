@@ -7,3 +7,4 @@ pub mod Does
 pub mod Initialize
 pub mod Sync
 pub mod Step
+pub mod Runs

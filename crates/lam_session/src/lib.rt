@@ -7,6 +7,7 @@
 
 mod documents;
 mod initialize;
+mod laws;
 mod methods;
 mod refusals;
 mod states;
@@ -15,5 +16,6 @@ mod sync;
 #[cfg(test)]
 mod tests;
 
+pub use laws::isolation;
 pub use states::{Config, Dialect};
 pub use step::Session;

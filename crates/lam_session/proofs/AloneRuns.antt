@@ -1,0 +1,378 @@
+-- What comes between does not change the answers about a document.
+use Rattle.std.proofs.Common.{not, option_and_then, ◌≡◌, ℕ, ℤ, List, [], ◌∷◌, filter, codes, Bool, true, false, cond, ◌||◌, Option, None, Some, refl, sym, ap, ◌∙◌, subst, true≢false}
+use Rattle.std.proofs.lemmas.Slice.Eq.{bytes_eq-Decides}
+use Rattle.std.specs.Str.{bytes_eq}
+use Rattle.serde_json.specs.Data.{Data, null, string, no_items}
+use Rattle.serde_json.specs.Find.{get}
+use Rattle.lam_rpc.specs.Reply.{result_reply}
+use Rattle.lam_rpc.specs.Fields.{named_uri, listed_changes}
+use Rattle.lam_rpc.specs.Kind.{Message, request, notice, reply, unreadable, invalid}
+use Rattle.lam_text.specs.Edits.{Edit, text_after}
+use Rattle.lam_session.specs.declared.states.Life.{Life}
+use Rattle.lam_session.specs.declared.states.Life.TheVariants.{Fresh, Running, Down, Over}
+use Rattle.lam_session.specs.declared.methods.RequestMethod.{RequestMethod}
+use Rattle.lam_session.specs.declared.methods.RequestMethod.TheVariants.{Initialize, Shutdown, UnknownRequest}
+use Rattle.lam_session.specs.declared.methods.NoticeMethod.{NoticeMethod}
+use Rattle.lam_session.specs.declared.methods.NoticeMethod.TheVariants.{Exit, DidOpen, DidChange, DidClose, UnknownNotice}
+use Rattle.lam_session.specs.Documents.{OpenDocument, open_text, with_document, without_document}
+use Rattle.lam_session.specs.declared.refusals.Refusal.{Refusal}
+use Rattle.lam_session.specs.declared.refusals.Refusal.TheVariants.{UnreadableMessage, InvalidMessage, AlreadyInitialized, ShutDown, NotInitialized, MethodNotFound}
+use Rattle.lam_session.specs.Does.{Does}
+use Rattle.lam_session.specs.Initialize.{chosen, initialize_answer}
+use Rattle.lam_session.specs.Refusals.{refused}
+use Rattle.lam_session.specs.Methods.{request_method, notice_method}
+use Rattle.lam_session.specs.Runs.{Exchange, Runs, is_lifecycle, is_named, concerns, IsAlone, SaysNothing}
+use Rattle.lam_session.specs.State.{State, fresh}
+use Rattle.lam_session.specs.Step.{exit_status, Serves, Awaits, Requested, Heeds, Passes, Noticed, Receives, ReceivesIn, Steps}
+use Rattle.lam_session.specs.Sync.{published, opened_text, given_version, Holds, OpensAs, ChangesText, ChangesAs, ClosesOpen, ClosesAs}
+
+-- ---- the documents
+
+same_text : (uri : List ℕ) → bytes_eq uri uri ≡ true
+same_text uri = (bytes_eq-Decides uri uri).1 refl
+
+-- a document that is set is found
+set_found : (b : Bool) (d e : OpenDocument) (ds es : List OpenDocument) → bytes_eq d.uri e.uri ≡ b → open_text d.uri es ≡ Some d.text → open_text d.uri (cond b (d ∷ ds) (e ∷ es)) ≡ Some d.text
+set_found true d e ds es is later = rw same_text refl
+set_found false d e ds es is later = rw is later
+
+found_set : (d : OpenDocument) (ds : List OpenDocument) → open_text d.uri (with_document d ds) ≡ Some d.text
+found_set d [] = rw same_text refl
+found_set d (e ∷ es) = set_found (bytes_eq d.uri e.uri) d e es (with_document d es) refl (found_set d es)
+
+-- another document stays
+other_set : (uri : List ℕ) (b : Bool) (d e : OpenDocument) (es rest : List OpenDocument) → bytes_eq uri d.uri ≡ false → bytes_eq d.uri e.uri ≡ b → open_text uri rest ≡ open_text uri es
+    → open_text uri (cond b (d ∷ es) (e ∷ rest)) ≡ open_text uri (e ∷ es)
+other_set uri true d e es rest apart is later =
+    let same : d.uri ≡ e.uri = (bytes_eq-Decides d.uri e.uri).0 is in
+    let apart_too : bytes_eq uri e.uri ≡ false = rw (← same) apart in
+    rw (apart, apart_too) refl
+other_set uri false d e es rest apart is later = ap (λ r. cond (bytes_eq uri e.uri) (Some e.text) r) later
+
+kept_set : (uri : List ℕ) (d : OpenDocument) (ds : List OpenDocument) → bytes_eq uri d.uri ≡ false → open_text uri (with_document d ds) ≡ open_text uri ds
+kept_set uri d [] apart = rw apart refl
+kept_set uri d (e ∷ es) apart = other_set uri (bytes_eq d.uri e.uri) d e es (with_document d es) apart refl (kept_set uri d es apart)
+
+-- setting a document keeps agreement
+agree_at : (uri : List ℕ) (b : Bool) (d : OpenDocument) (ds es : List OpenDocument) → bytes_eq uri d.uri ≡ b → open_text uri ds ≡ open_text uri es → open_text uri (with_document d ds) ≡ open_text uri (with_document d es)
+agree_at uri true d ds es is agree =
+    let same : uri ≡ d.uri = (bytes_eq-Decides uri d.uri).0 is in
+    rw same (found_set d ds ∙ sym (found_set d es))
+agree_at uri false d ds es is agree = kept_set uri d ds is ∙ (agree ∙ sym (kept_set uri d es is))
+
+agree_set : (uri : List ℕ) (d : OpenDocument) (ds es : List OpenDocument) → open_text uri ds ≡ open_text uri es → open_text uri (with_document d ds) ≡ open_text uri (with_document d es)
+agree_set uri d ds es agree = agree_at uri (bytes_eq uri d.uri) d ds es refl agree
+
+gone_at : (uri : List ℕ) (b : Bool) (d : OpenDocument) (rest : List OpenDocument) → bytes_eq uri d.uri ≡ b → open_text uri rest ≡ None → open_text uri (cond (not b) (d ∷ rest) rest) ≡ None
+gone_at uri true d rest is later = later
+gone_at uri false d rest is later = rw is later
+
+-- a closed document is not found
+gone : (uri : List ℕ) (ds : List OpenDocument) → open_text uri (without_document uri ds) ≡ None
+gone uri [] = refl
+gone uri (d ∷ ds) = gone_at uri (bytes_eq uri d.uri) d (without_document uri ds) refl (gone uri ds)
+
+other_closed : (uri other : List ℕ) (b : Bool) (d : OpenDocument) (ds rest : List OpenDocument) → bytes_eq uri other ≡ false → bytes_eq other d.uri ≡ b → open_text uri rest ≡ open_text uri ds
+    → open_text uri (cond (not b) (d ∷ rest) rest) ≡ open_text uri (d ∷ ds)
+other_closed uri other true d ds rest apart is later =
+    let same : other ≡ d.uri = (bytes_eq-Decides other d.uri).0 is in
+    let apart_too : bytes_eq uri d.uri ≡ false = rw (← same) apart in
+    rw apart_too later
+other_closed uri other false d ds rest apart is later = ap (λ r. cond (bytes_eq uri d.uri) (Some d.text) r) later
+
+kept_close : (uri other : List ℕ) (ds : List OpenDocument) → bytes_eq uri other ≡ false → open_text uri (without_document other ds) ≡ open_text uri ds
+kept_close uri other [] apart = refl
+kept_close uri other (d ∷ ds) apart = other_closed uri other (bytes_eq other d.uri) d ds (without_document other ds) apart refl (kept_close uri other ds apart)
+
+-- ---- one step, beside the same step of a session with other documents
+
+-- the state with these documents
+abbrev beside : State → List OpenDocument → State
+beside s docs = record s { documents = docs }
+
+-- the same step with other documents, and agreement after it
+abbrev Goes : List ℕ → (List Data → State → Type 0) → List Data → State → Type 0
+Goes uri Step sent next = (docs : List OpenDocument) × Step sent (beside next docs) × (open_text uri next.documents ≡ open_text uri docs)
+
+does_same : (uri : List ℕ) (values : List Data) (after : State) (docs : List OpenDocument) (sent : List Data) (next : State)
+    → open_text uri after.documents ≡ open_text uri docs → Does values after sent next → Goes uri (Does values (beside after docs)) sent next
+does_same uri values after docs sent next agree d =
+    (docs, (d.0, ap (λ (x : State). beside x docs) d.1), ap (λ (x : State). open_text uri x.documents) d.1 ∙ agree)
+
+serves_same : (uri : List ℕ) (s : State) (docs : List OpenDocument) (id : Data) (method : RequestMethod) (params : Data) (sent : List Data) (next : State)
+    → open_text uri s.documents ≡ open_text uri docs → Serves s id method params sent next → Goes uri (Serves (beside s docs) id method params) sent next
+serves_same uri s docs id Initialize params sent next agree d = does_same uri (refused id AlreadyInitialized ∷ []) s docs sent next agree d
+serves_same uri s docs id Shutdown params sent next agree d = does_same uri (result_reply id null ∷ []) (record s { life = Down }) docs sent next agree d
+serves_same uri s docs id UnknownRequest params sent next agree d = does_same uri (refused id MethodNotFound ∷ []) s docs sent next agree d
+
+awaits_same : (uri : List ℕ) (s : State) (docs : List OpenDocument) (id : Data) (method : RequestMethod) (params : Data) (sent : List Data) (next : State)
+    → open_text uri s.documents ≡ open_text uri docs → Awaits s id method params sent next → Goes uri (Awaits (beside s docs) id method params) sent next
+awaits_same uri s docs id Initialize params sent next agree d =
+    does_same uri (result_reply id (initialize_answer (chosen params)) ∷ []) (record s { life = Running; encoding = chosen params; documents = [] }) [] sent next refl d
+awaits_same uri s docs id _ params sent next agree d = does_same uri (refused id NotInitialized ∷ []) s docs sent next agree d
+
+requested_same : (uri : List ℕ) (life : Life) (s : State) (docs : List OpenDocument) (id : Data) (method : RequestMethod) (params : Data) (sent : List Data) (next : State)
+    → open_text uri s.documents ≡ open_text uri docs → Requested life s id method params sent next → Goes uri (Requested life (beside s docs) id method params) sent next
+requested_same uri Fresh s docs id method params sent next agree d = awaits_same uri s docs id method params sent next agree d
+requested_same uri Running s docs id method params sent next agree d = serves_same uri s docs id method params sent next agree d
+requested_same uri Down s docs id method params sent next agree d = does_same uri (refused id ShutDown ∷ []) s docs sent next agree d
+requested_same uri (Over status) s docs id method params sent next agree d = does_same uri [] s docs sent next agree d
+
+holds_same : (uri : List ℕ) (s : State) (docs : List OpenDocument) (document : OpenDocument) (sent : List Data) (next : State)
+    → open_text uri s.documents ≡ open_text uri docs → Holds s document sent next → Goes uri (Holds (beside s docs) document) sent next
+holds_same uri s docs document sent next agree d =
+    does_same uri (published document.uri document.version no_items ∷ []) (beside s (with_document document s.documents)) (with_document document docs) sent next
+    (agree_set uri document s.documents docs agree) d
+
+opens_same : (uri : List ℕ) (s : State) (docs : List OpenDocument) (named text : Option (List ℕ)) (version : Option ℤ) (sent : List Data) (next : State)
+    → open_text uri s.documents ≡ open_text uri docs → OpensAs s named text version sent next → Goes uri (OpensAs (beside s docs) named text version) sent next
+opens_same uri s docs None text version sent next agree d = does_same uri [] s docs sent next agree d
+opens_same uri s docs (Some other) None version sent next agree d = does_same uri [] s docs sent next agree d
+opens_same uri s docs (Some other) (Some text) version sent next agree d = holds_same uri s docs (record { uri = other; text = text; version = version }) sent next agree d
+
+changes_text_same : (uri : List ℕ) (s : State) (docs : List OpenDocument) (other : List ℕ) (found : Option (List ℕ)) (edits : List Edit) (version : Option ℤ) (sent : List Data) (next : State)
+    → open_text uri s.documents ≡ open_text uri docs → ChangesText s other found edits version sent next → Goes uri (ChangesText (beside s docs) other found edits version) sent next
+changes_text_same uri s docs other None edits version sent next agree d = does_same uri [] s docs sent next agree d
+changes_text_same uri s docs other (Some text) edits version sent next agree d =
+    holds_same uri s docs (record { uri = other; text = text_after s.encoding text edits; version = version }) sent next agree d
+
+-- agreement about a uri is agreement about an equal one
+agree_named : (uri other : List ℕ) (ds es : List OpenDocument) → bytes_eq uri other ≡ true → open_text uri ds ≡ open_text uri es → open_text other ds ≡ open_text other es
+agree_named uri other ds es is agree = subst (λ (u : List ℕ). open_text u ds ≡ open_text u es) ((bytes_eq-Decides uri other).0 is) agree
+
+changes_same : (uri : List ℕ) (s : State) (docs : List OpenDocument) (named : Option (List ℕ)) (edits : Option (List Edit)) (version : Option ℤ) (sent : List Data) (next : State)
+    → open_text uri s.documents ≡ open_text uri docs → is_named uri named ≡ true → ChangesAs s named edits version sent next → Goes uri (ChangesAs (beside s docs) named edits version) sent next
+changes_same uri s docs None edits version sent next agree is d = does_same uri [] s docs sent next agree d
+changes_same uri s docs (Some other) None version sent next agree is d = does_same uri [] s docs sent next agree d
+changes_same uri s docs (Some other) (Some edits) version sent next agree is d =
+    subst (λ (found : Option (List ℕ)). Goes uri (ChangesText (beside s docs) other found edits version) sent next)
+    (agree_named uri other s.documents docs is agree)
+    (changes_text_same uri s docs other (open_text other s.documents) edits version sent next agree d)
+
+closed_agree : (uri other : List ℕ) (ds es : List OpenDocument) → bytes_eq uri other ≡ true → open_text uri (without_document other ds) ≡ open_text uri (without_document other es)
+closed_agree uri other ds es is =
+    subst (λ (u : List ℕ). open_text uri (without_document u ds) ≡ open_text uri (without_document u es)) ((bytes_eq-Decides uri other).0 is) (gone uri ds ∙ sym (gone uri es))
+
+closes_open_same : (uri : List ℕ) (s : State) (docs : List OpenDocument) (other : List ℕ) (found : Option (List ℕ)) (sent : List Data) (next : State)
+    → open_text uri s.documents ≡ open_text uri docs → bytes_eq uri other ≡ true → ClosesOpen s other found sent next → Goes uri (ClosesOpen (beside s docs) other found) sent next
+closes_open_same uri s docs other None sent next agree is d = does_same uri [] s docs sent next agree d
+closes_open_same uri s docs other (Some text) sent next agree is d =
+    does_same uri (published other None no_items ∷ []) (beside s (without_document other s.documents)) (without_document other docs) sent next
+    (closed_agree uri other s.documents docs is) d
+
+closes_same : (uri : List ℕ) (s : State) (docs : List OpenDocument) (named : Option (List ℕ)) (sent : List Data) (next : State)
+    → open_text uri s.documents ≡ open_text uri docs → is_named uri named ≡ true → ClosesAs s named sent next → Goes uri (ClosesAs (beside s docs) named) sent next
+closes_same uri s docs None sent next agree is d = does_same uri [] s docs sent next agree d
+closes_same uri s docs (Some other) sent next agree is d =
+    subst (λ (found : Option (List ℕ)). Goes uri (ClosesOpen (beside s docs) other found) sent next)
+    (agree_named uri other s.documents docs is agree)
+    (closes_open_same uri s docs other (open_text other s.documents) sent next agree is d)
+
+-- a fact that only a change and a close need
+abbrev IfNamed : NoticeMethod → Type 0 → Type 0
+IfNamed DidChange P = P
+IfNamed DidClose P = P
+IfNamed _ P = Unit {0}
+
+heeds_same : (uri : List ℕ) (s : State) (docs : List OpenDocument) (method : NoticeMethod) (params : Data) (sent : List Data) (next : State)
+    → open_text uri s.documents ≡ open_text uri docs → IfNamed method (is_named uri (named_uri params) ≡ true) → Heeds s method params sent next → Goes uri (Heeds (beside s docs) method params) sent next
+heeds_same uri s docs Exit params sent next agree is d = does_same uri [] (record s { life = Over (exit_status s.life) }) docs sent next agree d
+heeds_same uri s docs DidOpen params sent next agree is d = opens_same uri s docs (named_uri params) (opened_text params) (given_version params) sent next agree d
+heeds_same uri s docs DidChange params sent next agree is d = changes_same uri s docs (named_uri params) (listed_changes params) (given_version params) sent next agree is d
+heeds_same uri s docs DidClose params sent next agree is d = closes_same uri s docs (named_uri params) sent next agree is d
+heeds_same uri s docs UnknownNotice params sent next agree is d = does_same uri [] s docs sent next agree d
+
+passes_same : (uri : List ℕ) (s : State) (docs : List OpenDocument) (method : NoticeMethod) (sent : List Data) (next : State)
+    → open_text uri s.documents ≡ open_text uri docs → Passes s method sent next → Goes uri (Passes (beside s docs) method) sent next
+passes_same uri s docs Exit sent next agree d = does_same uri [] (record s { life = Over (exit_status s.life) }) docs sent next agree d
+passes_same uri s docs _ sent next agree d = does_same uri [] s docs sent next agree d
+
+noticed_same : (uri : List ℕ) (life : Life) (s : State) (docs : List OpenDocument) (method : NoticeMethod) (params : Data) (sent : List Data) (next : State)
+    → open_text uri s.documents ≡ open_text uri docs → IfNamed method (is_named uri (named_uri params) ≡ true) → Noticed life s method params sent next → Goes uri (Noticed life (beside s docs) method params) sent next
+noticed_same uri Running s docs method params sent next agree is d = heeds_same uri s docs method params sent next agree is d
+noticed_same uri _ s docs method params sent next agree is d = passes_same uri s docs method sent next agree d
+
+if_named : (exit opens changes closes : Bool) (P : Type 0) → (changes ≡ true → P) → (closes ≡ true → P) → IfNamed (cond exit Exit (cond opens DidOpen (cond changes DidChange (cond closes DidClose UnknownNotice)))) P
+if_named true opens changes closes P f g = tt
+if_named false true changes closes P f g = tt
+if_named false false true closes P f g = f refl
+if_named false false false true P f g = g refl
+if_named false false false false P f g = tt
+
+-- a change or a close that concerns a document names it
+concerned : (name : List ℕ) (b : Bool) → (is_lifecycle name || b) ≡ true → IfNamed (notice_method name) (b ≡ true)
+concerned name b h =
+    if_named (bytes_eq name (codes "exit")) (bytes_eq name (codes "textDocument/didOpen")) (bytes_eq name (codes "textDocument/didChange")) (bytes_eq name (codes "textDocument/didClose")) (b ≡ true)
+    (λ is. subst (λ (n : List ℕ). (is_lifecycle n || b) ≡ true) ((bytes_eq-Decides name (codes "textDocument/didChange")).0 is) h)
+    (λ is. subst (λ (n : List ℕ). (is_lifecycle n || b) ≡ true) ((bytes_eq-Decides name (codes "textDocument/didClose")).0 is) h)
+
+receives_same : (uri : List ℕ) (s : State) (docs : List OpenDocument) (m : Message) (sent : List Data) (next : State)
+    → open_text uri s.documents ≡ open_text uri docs → concerns uri m ≡ true → Receives s m sent next → Goes uri (Receives (beside s docs) m) sent next
+receives_same uri s docs (request id method params) sent next agree is d = requested_same uri s.life s docs id (request_method method) params sent next agree d
+receives_same uri s docs (notice method params) sent next agree is d =
+    noticed_same uri s.life s docs (notice_method method) params sent next agree (concerned method (is_named uri (named_uri params)) is) d
+receives_same uri s docs reply sent next agree is d = does_same uri [] s docs sent next agree d
+receives_same uri s docs unreadable sent next agree is d = does_same uri (refused null UnreadableMessage ∷ []) s docs sent next agree d
+receives_same uri s docs invalid sent next agree is d = does_same uri (refused null InvalidMessage ∷ []) s docs sent next agree d
+
+lives_same : (uri : List ℕ) (life : Life) (s : State) (docs : List OpenDocument) (m : Message) (sent : List Data) (next : State)
+    → open_text uri s.documents ≡ open_text uri docs → concerns uri m ≡ true → ReceivesIn life s m sent next → Goes uri (ReceivesIn life (beside s docs) m) sent next
+lives_same uri (Over status) s docs m sent next agree is d = does_same uri [] s docs sent next agree d
+lives_same uri _ s docs m sent next agree is d = receives_same uri s docs m sent next agree is d
+
+-- ---- one step that does not concern a document
+
+-- nothing but other documents changes, and nothing is told of this one
+abbrev Quiet : List ℕ → State → List Data → State → Type 0
+Quiet uri s sent next = (next ≡ beside s next.documents) × (open_text uri next.documents ≡ open_text uri s.documents) × SaysNothing uri sent
+
+does_quiet : (uri : List ℕ) (s : State) (values : List Data) (docs : List OpenDocument) (sent : List Data) (next : State)
+    → open_text uri docs ≡ open_text uri s.documents → SaysNothing uri values → Does values (beside s docs) sent next → Quiet uri s sent next
+does_quiet uri s values docs sent next agree says d =
+    subst (λ (x : State). Quiet uri s sent x) (sym d.1) (refl, agree, subst (λ (v : List Data). SaysNothing uri v) (sym d.0) says)
+
+refused_says : (uri : List ℕ) (id : Data) (refusal : Refusal) → SaysNothing uri (refused id refusal ∷ [])
+refused_says uri id refusal = (λ about. let clash : None ≡ Some (string (codes "textDocument/publishDiagnostics")) = ap (get (codes "method")) about.2 in cc, tt)
+
+published_says : (uri other : List ℕ) (version : Option ℤ) → bytes_eq uri other ≡ false → SaysNothing uri (published other version no_items ∷ [])
+published_says uri other version apart = (
+  λ about.
+      let found : Some (string other) ≡ Some (string uri) = ap (λ (d : Data). option_and_then (get (codes "uri")) (get (codes "params") d)) about.2 in
+      let same : other ≡ uri = cc in
+      true≢false (sym (subst (λ (u : List ℕ). bytes_eq uri u ≡ true) (sym same) (same_text uri)) ∙ apart),
+  tt,
+)
+
+requested_quiet : (uri : List ℕ) (life : Life) (s : State) (id params : Data) (sent : List Data) (next : State) → Requested life s id UnknownRequest params sent next → Quiet uri s sent next
+requested_quiet uri Fresh s id params sent next d = does_quiet uri s (refused id NotInitialized ∷ []) s.documents sent next refl (refused_says uri id NotInitialized) d
+requested_quiet uri Running s id params sent next d = does_quiet uri s (refused id MethodNotFound ∷ []) s.documents sent next refl (refused_says uri id MethodNotFound) d
+requested_quiet uri Down s id params sent next d = does_quiet uri s (refused id ShutDown ∷ []) s.documents sent next refl (refused_says uri id ShutDown) d
+requested_quiet uri (Over status) s id params sent next d = does_quiet uri s [] s.documents sent next refl tt d
+
+unknown_at : (initialize shutdown exit : Bool) → (initialize || (shutdown || exit)) ≡ false → cond initialize Initialize (cond shutdown Shutdown UnknownRequest) ≡ UnknownRequest
+unknown_at true shutdown exit is = cc
+unknown_at false true exit is = cc
+unknown_at false false exit is = refl
+
+unknown_request : (name : List ℕ) → is_lifecycle name ≡ false → request_method name ≡ UnknownRequest
+unknown_request name is = unknown_at (bytes_eq name (codes "initialize")) (bytes_eq name (codes "shutdown")) (bytes_eq name (codes "exit")) is
+
+holds_quiet : (uri : List ℕ) (s : State) (document : OpenDocument) (sent : List Data) (next : State) → bytes_eq uri document.uri ≡ false → Holds s document sent next → Quiet uri s sent next
+holds_quiet uri s document sent next apart d =
+    does_quiet uri s (published document.uri document.version no_items ∷ []) (with_document document s.documents) sent next
+    (kept_set uri document s.documents apart) (published_says uri document.uri document.version apart) d
+
+opens_quiet : (uri : List ℕ) (s : State) (named text : Option (List ℕ)) (version : Option ℤ) (sent : List Data) (next : State) → is_named uri named ≡ false → OpensAs s named text version sent next → Quiet uri s sent next
+opens_quiet uri s None text version sent next apart d = does_quiet uri s [] s.documents sent next refl tt d
+opens_quiet uri s (Some other) None version sent next apart d = does_quiet uri s [] s.documents sent next refl tt d
+opens_quiet uri s (Some other) (Some text) version sent next apart d = holds_quiet uri s (record { uri = other; text = text; version = version }) sent next apart d
+
+changes_text_quiet : (uri : List ℕ) (s : State) (other : List ℕ) (found : Option (List ℕ)) (edits : List Edit) (version : Option ℤ) (sent : List Data) (next : State)
+    → bytes_eq uri other ≡ false → ChangesText s other found edits version sent next → Quiet uri s sent next
+changes_text_quiet uri s other None edits version sent next apart d = does_quiet uri s [] s.documents sent next refl tt d
+changes_text_quiet uri s other (Some text) edits version sent next apart d =
+    holds_quiet uri s (record { uri = other; text = text_after s.encoding text edits; version = version }) sent next apart d
+
+changes_quiet : (uri : List ℕ) (s : State) (named : Option (List ℕ)) (edits : Option (List Edit)) (version : Option ℤ) (sent : List Data) (next : State) → is_named uri named ≡ false → ChangesAs s named edits version sent next → Quiet uri s sent next
+changes_quiet uri s None edits version sent next apart d = does_quiet uri s [] s.documents sent next refl tt d
+changes_quiet uri s (Some other) None version sent next apart d = does_quiet uri s [] s.documents sent next refl tt d
+changes_quiet uri s (Some other) (Some edits) version sent next apart d = changes_text_quiet uri s other (open_text other s.documents) edits version sent next apart d
+
+closes_open_quiet : (uri : List ℕ) (s : State) (other : List ℕ) (found : Option (List ℕ)) (sent : List Data) (next : State) → bytes_eq uri other ≡ false → ClosesOpen s other found sent next → Quiet uri s sent next
+closes_open_quiet uri s other None sent next apart d = does_quiet uri s [] s.documents sent next refl tt d
+closes_open_quiet uri s other (Some text) sent next apart d =
+    does_quiet uri s (published other None no_items ∷ []) (without_document other s.documents) sent next
+    (kept_close uri other s.documents apart) (published_says uri other None apart) d
+
+closes_quiet : (uri : List ℕ) (s : State) (named : Option (List ℕ)) (sent : List Data) (next : State) → is_named uri named ≡ false → ClosesAs s named sent next → Quiet uri s sent next
+closes_quiet uri s None sent next apart d = does_quiet uri s [] s.documents sent next refl tt d
+closes_quiet uri s (Some other) sent next apart d = closes_open_quiet uri s other (open_text other s.documents) sent next apart d
+
+heeds_quiet : (uri : List ℕ) (s : State) (method : NoticeMethod) (params : Data) (sent : List Data) (next : State) → (method ≡ Exit → ⊥) → is_named uri (named_uri params) ≡ false → Heeds s method params sent next → Quiet uri s sent next
+heeds_quiet uri s Exit params sent next stays apart d = absurd (stays refl)
+heeds_quiet uri s DidOpen params sent next stays apart d = opens_quiet uri s (named_uri params) (opened_text params) (given_version params) sent next apart d
+heeds_quiet uri s DidChange params sent next stays apart d = changes_quiet uri s (named_uri params) (listed_changes params) (given_version params) sent next apart d
+heeds_quiet uri s DidClose params sent next stays apart d = closes_quiet uri s (named_uri params) sent next apart d
+heeds_quiet uri s UnknownNotice params sent next stays apart d = does_quiet uri s [] s.documents sent next refl tt d
+
+passes_quiet : (uri : List ℕ) (s : State) (method : NoticeMethod) (sent : List Data) (next : State) → (method ≡ Exit → ⊥) → Passes s method sent next → Quiet uri s sent next
+passes_quiet uri s Exit sent next stays d = absurd (stays refl)
+passes_quiet uri s _ sent next stays d = does_quiet uri s [] s.documents sent next refl tt d
+
+noticed_quiet : (uri : List ℕ) (life : Life) (s : State) (method : NoticeMethod) (params : Data) (sent : List Data) (next : State) → (method ≡ Exit → ⊥) → is_named uri (named_uri params) ≡ false → Noticed life s method params sent next → Quiet uri s sent next
+noticed_quiet uri Running s method params sent next stays apart d = heeds_quiet uri s method params sent next stays apart d
+noticed_quiet uri _ s method params sent next stays apart d = passes_quiet uri s method sent next stays d
+
+exits_at : (exit opens changes closes : Bool) → exit ≡ false → cond exit Exit (cond opens DidOpen (cond changes DidChange (cond closes DidClose UnknownNotice))) ≡ Exit → ⊥
+exits_at true opens changes closes is e = cc
+exits_at false true changes closes is e = cc
+exits_at false false true closes is e = cc
+exits_at false false false true is e = cc
+exits_at false false false false is e = cc
+
+last_false : (a b c : Bool) → (a || (b || c)) ≡ false → c ≡ false
+last_false true b c is = cc
+last_false false true c is = cc
+last_false false false c is = is
+
+not_exit : (name : List ℕ) → is_lifecycle name ≡ false → notice_method name ≡ Exit → ⊥
+not_exit name is =
+    exits_at (bytes_eq name (codes "exit")) (bytes_eq name (codes "textDocument/didOpen")) (bytes_eq name (codes "textDocument/didChange")) (bytes_eq name (codes "textDocument/didClose"))
+    (last_false (bytes_eq name (codes "initialize")) (bytes_eq name (codes "shutdown")) (bytes_eq name (codes "exit")) is)
+
+first_false : (a b : Bool) → (a || b) ≡ false → a ≡ false
+first_false true b is = cc
+first_false false b is = refl
+
+second_false : (a b : Bool) → (a || b) ≡ false → b ≡ false
+second_false true b is = cc
+second_false false b is = is
+
+receives_quiet : (uri : List ℕ) (s : State) (m : Message) (sent : List Data) (next : State) → concerns uri m ≡ false → Receives s m sent next → Quiet uri s sent next
+receives_quiet uri s (request id method params) sent next apart d =
+    requested_quiet uri s.life s id params sent next
+    (subst (λ (r : RequestMethod). Requested s.life s id r params sent next) (unknown_request method (first_false (is_lifecycle method) (is_named uri (named_uri params)) apart)) d)
+receives_quiet uri s (notice method params) sent next apart d =
+    noticed_quiet uri s.life s (notice_method method) params sent next
+    (not_exit method (first_false (is_lifecycle method) (is_named uri (named_uri params)) apart)) (second_false (is_lifecycle method) (is_named uri (named_uri params)) apart) d
+receives_quiet uri s reply sent next apart d = does_quiet uri s [] s.documents sent next refl tt d
+receives_quiet uri s unreadable sent next apart d = does_quiet uri s (refused null UnreadableMessage ∷ []) s.documents sent next refl (refused_says uri null UnreadableMessage) d
+receives_quiet uri s invalid sent next apart d = does_quiet uri s (refused null InvalidMessage ∷ []) s.documents sent next refl (refused_says uri null InvalidMessage) d
+
+lives_quiet : (uri : List ℕ) (life : Life) (s : State) (m : Message) (sent : List Data) (next : State) → concerns uri m ≡ false → ReceivesIn life s m sent next → Quiet uri s sent next
+lives_quiet uri (Over status) s m sent next apart d = does_quiet uri s [] s.documents sent next refl tt d
+lives_quiet uri _ s m sent next apart d = receives_quiet uri s m sent next apart d
+
+-- what does not concern a document publishes nothing about it
+pub untold : (uri : List ℕ) (s : State) (m : Message) (sent : List Data) (next : State) → Steps s m sent next → concerns uri m ≡ false → SaysNothing uri sent
+untold uri s m sent next d apart = (lives_quiet uri s.life s m sent next apart d).2
+
+-- ---- whole runs
+
+-- the rest of a run, beside its part that concerns a document
+abbrev Rest : List ℕ → State → List OpenDocument → List Exchange → State → Type 0
+Rest uri s docs es end = (ds : List OpenDocument) × Runs (beside s docs) (filter (λ (e : Exchange). concerns uri e.message) es) (beside end ds) × (open_text uri end.documents ≡ open_text uri ds)
+
+run_more : (uri : List ℕ) (b : Bool) (s next end : State) (docs : List OpenDocument) (e : Exchange) (es : List Exchange)
+    → concerns uri e.message ≡ b → open_text uri s.documents ≡ open_text uri docs → Steps s e.message e.sent next
+    → ((ds : List OpenDocument) → open_text uri next.documents ≡ open_text uri ds → Rest uri next ds es end)
+    → (ds : List OpenDocument) × Runs (beside s docs) (cond b (e ∷ filter (λ (x : Exchange). concerns uri x.message) es) (filter (λ (x : Exchange). concerns uri x.message) es)) (beside end ds) × (open_text uri end.documents ≡ open_text uri ds)
+run_more uri true s next end docs e es is agree step later =
+    let here = lives_same uri s.life s docs e.message e.sent next agree is step in
+    let rest = later here.0 here.2 in
+    (rest.0, (beside next here.0, here.1, rest.1), rest.2)
+run_more uri false s next end docs e es is agree step later =
+    let quiet = lives_quiet uri s.life s e.message e.sent next is step in
+    let rest = later docs (quiet.1 ∙ agree) in
+    let same : beside next docs ≡ beside s docs = ap (λ (x : State). beside x docs) quiet.0 in
+    (rest.0, subst (λ (x : State). Runs x (filter (λ (y : Exchange). concerns uri y.message) es) (beside end rest.0)) same rest.1, rest.2)
+
+runs_same : (uri : List ℕ) (es : List Exchange) (s end : State) (docs : List OpenDocument) → open_text uri s.documents ≡ open_text uri docs → Runs s es end → Rest uri s docs es end
+runs_same uri [] s end docs agree r = (docs, ap (λ (x : State). beside x docs) r, ap (λ (x : State). open_text uri x.documents) r ∙ agree)
+runs_same uri (e ∷ es) s end docs agree r =
+    run_more uri (concerns uri e.message) s r.0 end docs e es refl agree r.1 (λ ds next_agree. runs_same uri es r.0 end ds next_agree r.2)
+
+pub isolated : (uri : List ℕ) (exchanges : List Exchange) (end : State) → Runs fresh exchanges end → IsAlone uri exchanges end
+isolated uri exchanges end r =
+    let part = runs_same uri exchanges fresh end [] refl r in
+    record { alone = beside end part.0; run = part.1; same = record { life = refl; encoding = refl; dialect = refl; text = part.2 } }

@@ -1,0 +1,5 @@
+use Rattle.lam_session.proofs.AloneRuns as laws
+use Rattle.lam_session.proofs.laws.isolation.Goals as goal
+
+pub returns : goal.returns
+returns c = record { alone = laws.isolated; untold = laws.untold }

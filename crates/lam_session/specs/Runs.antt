@@ -1,0 +1,59 @@
+-- Runs of a session, and what they say of one document.
+use Rattle.std.specs.Prelude.{◌≡◌, ℕ, ℤ, List, [], ◌∷◌, filter, codes, Bool, false, ◌||◌, Option, None, Some}
+use Rattle.std.specs.Str.{bytes_eq}
+use Rattle.std.specs.List.{AllByRecursion}
+use Rattle.serde_json.specs.Data.{Data, Items}
+use Rattle.lam_rpc.specs.Fields.{named_uri}
+use Rattle.lam_rpc.specs.Kind.{Message, request, notice, reply, unreadable, invalid}
+use Rattle.lam_session.specs.Documents.{open_text}
+use Rattle.lam_session.specs.State.{State, fresh}
+use Rattle.lam_session.specs.Step.{Steps}
+use Rattle.lam_session.specs.Sync.{published}
+
+-- a message, and the values that were sent for it
+pub record Exchange : Type 0 where
+  pub message : Message
+  pub sent : List Data
+
+-- these exchanges lead from the one state to the other
+abbrev pub Runs : State → List Exchange → State → Type 0
+Runs s [] end = end ≡ s
+Runs s (e ∷ es) end = (next : State) × Steps s e.message e.sent next × Runs next es end
+
+-- a method that shapes the session as a whole
+abbrev pub is_lifecycle : List ℕ → Bool
+is_lifecycle method = bytes_eq method (codes "initialize") || (bytes_eq method (codes "shutdown") || bytes_eq method (codes "exit"))
+
+-- the params name the document of this uri
+abbrev pub is_named : List ℕ → Option (List ℕ) → Bool
+is_named uri None = false
+is_named uri (Some other) = bytes_eq uri other
+
+-- the message shapes the session, or names the document of this uri
+abbrev pub concerns : List ℕ → Message → Bool
+concerns uri (request id method params) = is_lifecycle method || is_named uri (named_uri params)
+concerns uri (notice method params) = is_lifecycle method || is_named uri (named_uri params)
+concerns uri reply = false
+concerns uri unreadable = false
+concerns uri invalid = false
+
+-- two states that are one to whoever asks about this document
+pub record SameFor (uri : List ℕ) (s t : State) : Type 0 where
+  pub life : s.life ≡ t.life
+  pub encoding : s.encoding ≡ t.encoding
+  pub dialect : s.dialect ≡ t.dialect
+  pub text : open_text uri s.documents ≡ open_text uri t.documents
+
+-- the exchanges that concern a document are a run by themselves, which leaves that document as the whole run does
+pub record IsAlone (uri : List ℕ) (exchanges : List Exchange) (end : State) : Type 0 where
+  pub alone : State
+  pub run : Runs fresh (filter (λ e. concerns uri e.message) exchanges) alone
+  pub same : SameFor uri end alone
+
+-- the value publishes faults of the document of this uri
+abbrev pub IsAbout : List ℕ → Data → Type 0
+IsAbout uri d = (version : Option ℤ) × (faults : Items) × (d ≡ published uri version faults)
+
+-- none of the values does
+abbrev pub SaysNothing : List ℕ → List Data → Type 0
+SaysNothing uri sent = AllByRecursion (λ d. IsAbout uri d → ⊥) sent

@@ -1,0 +1,18 @@
+//! What holds of all runs of a session.
+ghost use Rattle.std.specs.Prelude.{◌≡◌, ℕ, List, false};
+ghost use Rattle.serde_json.specs.Data.{Data};
+ghost use Rattle.lam_rpc.specs.Kind.{Message};
+ghost use Rattle.lam_session.specs.Runs.{Exchange, Runs, concerns, IsAlone, SaysNothing};
+ghost use Rattle.lam_session.specs.State.{State, fresh};
+ghost use Rattle.lam_session.specs.Step.{Steps};
+
+/// What comes between does not change the answers about a document: the messages that shape the
+/// session or name the document, taken by themselves, are a run with the very values sent, which
+/// leaves the document with the same text; and no other message publishes anything about it.
+/// (Nothing runs here: the contract is the law.)
+pub fn isolation()
+    ensures alone { (uri : List ℕ) (exchanges : List Exchange) (end : State)
+        → Runs fresh exchanges end → IsAlone uri exchanges end }
+    ensures untold { (uri : List ℕ) (s : State) (m : Message) (sent : List Data) (next : State)
+        → Steps s m sent next → concerns uri m ≡ false → SaysNothing uri sent }
+{}
