@@ -6,9 +6,9 @@ use Rattle.lam_frame.specs.declared.fault.FrameFault.TheVariants.{NoLength, BadL
 use Rattle.lam_frame.specs.Frame.{IsOpen}
 use Rattle.lam_frame.specs.Frame.IsOpen.{InBody}
 use Rattle.lam_frame.specs.Header.{ended_lines, header_text}
-use Rattle.lam_frame.specs.Next.{Reads, After, EndsEmpty, PulledWhile, Says}
+use Rattle.lam_frame.specs.Next.{Reads, After, EndsEmpty, PulledWhile, Says, IsCutOff}
 use Rattle.lam_frame.specs.Steps.{HeaderIsRead, SaysBody, SaysHeader}
-use Rattle.lam_frame.proofs.Pulls.{PulledWhile-append, PulledWhile-front, concat-append}
+use Rattle.lam_frame.proofs.Pulls.{PulledWhile-append, PulledWhile-front, not_ended_behind, stopped_behind, concat-append}
 
 -- the header part that is read, and then any part of its body
 body_open : (heard held part : List ℕ) (size : ℕ) (h : HeaderIsRead heard size held) → length part < size → IsOpen (header_text h.lines ++ part)
@@ -82,6 +82,29 @@ module _ {V : Type 0} (items : V → List ℕ) where
     limit_body (Ok body) e = absurd (cc e)
     limit_body (Err fault) e = let same : fault ≡ TooManyTurns = cc e in ap (λ (f : FrameFault). Err f) same
 
+    cut_header : (fault : FrameFault) → IsCutOff {V = Option V} (Err fault) → IsCutOff {V = Option ℕ} (Err fault)
+    cut_header Device c = tt
+    cut_header TooManyTurns c = tt
+    cut_header NoLength c = c
+    cut_header BadLength c = c
+    cut_header TooLong c = c
+    cut_header BadHeader c = c
+    cut_header Truncated c = c
+    cut_header Memory c = c
+    cut_header Spent c = c
+
+    cut_body : (answer : Result V FrameFault) → IsCutOff (with_body answer) → IsCutOff answer
+    cut_body (Ok body) c = c
+    cut_body (Err Device) c = tt
+    cut_body (Err TooManyTurns) c = tt
+    cut_body (Err NoLength) c = c
+    cut_body (Err BadLength) c = c
+    cut_body (Err TooLong) c = c
+    cut_body (Err BadHeader) c = c
+    cut_body (Err Truncated) c = c
+    cut_body (Err Memory) c = c
+    cut_body (Err Spent) c = c
+
     pub no_header : (held : List ℕ) (pulls : ℕ) (source : S) (fault : FrameFault) (held_after : List ℕ) (pulls_after : ℕ) (left : S)
         → Reads coming failed gave IsOpen SaysHeader held pulls source (Err fault) held_after pulls_after left
         → Reads coming failed gave IsOpen (Says items) held pulls source (Err fault) held_after pulls_after left
@@ -89,6 +112,8 @@ module _ {V : Type 0} (items : V → List ℕ) where
       pieces = r.pieces;
       last = r.last;
       needed = r.needed;
+      stopped = r.stopped;
+      onward = λ cut e. r.onward (cut_header fault cut) e;
       after = after_header fault r.last left r.after;
       says = says_header (held ++ concat r.pieces) r.pieces fault held_after r.says;
       counted = r.counted;
@@ -101,24 +126,26 @@ module _ {V : Type 0} (items : V → List ℕ) where
         → Reads coming failed gave (λ (heard : List ℕ). length heard < size) (SaysBody items size) held_between pulls_between between answer held_after pulls_after left
         → Reads coming failed gave IsOpen (Says items) held pulls source (with_body answer) held_after pulls_after left
     header_and_body held pulls source size held_between pulls_between between answer held_after pulls_after left h b =
-        let text = header_text h.says.lines in
-        let heard_is : held ++ concat h.pieces ≡ text ++ held_between = h.says.header.text in
+        let text = header_text h.says.0.lines in
+        let heard_is : held ++ concat h.pieces ≡ text ++ held_between = h.says.0.header.text in
         let part = held_between ++ concat b.pieces in
         let all : held ++ concat (h.pieces ++ b.pieces) ≡ text ++ part =
         ap (λ (l : List ℕ). held ++ l) (concat-append h.pieces b.pieces) ∙ sym (append_assoc held (concat h.pieces) (concat b.pieces)) ∙ ap (λ (l : List ℕ). l ++ concat b.pieces) heard_is
         ∙ append_assoc text held_between (concat b.pieces) in
         let behind : PulledWhile coming failed gave IsOpen (text ++ held_between) between b.pieces b.last =
         PulledWhile-front coming failed gave (λ (heard : List ℕ). length heard < size) IsOpen text held_between between b.last b.pieces
-        (λ heard less. body_open (held ++ concat h.pieces) held_between heard size h.says less) b.needed in
+        (λ heard less. body_open (held ++ concat h.pieces) held_between heard size h.says.0 less) b.needed in
         record {
           pieces = h.pieces ++ b.pieces;
           last = b.last;
           needed = PulledWhile-append coming failed gave IsOpen held source between b.last h.pieces b.pieces
               (subst (λ (s : S). PulledWhile coming failed gave IsOpen held source h.pieces s) h.after h.needed)
               (subst (λ (l : List ℕ). PulledWhile coming failed gave IsOpen l between b.pieces b.last) (sym heard_is) behind);
+          stopped = stopped_behind h.pieces b.pieces h.says.1 b.stopped;
+          onward = λ cut e. not_ended_behind h.pieces b.pieces h.says.1 (b.onward (cut_body answer cut)) e;
           after = after_body answer b.last left b.after;
-          says = says_body (held ++ concat h.pieces) (held ++ concat (h.pieces ++ b.pieces)) held_between part held_after size h.pieces b.pieces answer h.says all
-              (λ none. let sizes = ap length (sym none ∙ all) in absurd (omega (arith, sizes, length-append text part, length-append (ended_lines h.says.lines) (13 ∷ 10 ∷ [])))) b.says;
+          says = says_body (held ++ concat h.pieces) (held ++ concat (h.pieces ++ b.pieces)) held_between part held_after size h.pieces b.pieces answer h.says.0 all
+              (λ none. let sizes = ap length (sym none ∙ all) in absurd (omega (arith, sizes, length-append text part, length-append (ended_lines h.says.0.lines) (13 ∷ 10 ∷ [])))) b.says;
           counted = omega (arith, h.counted, b.counted, length-append h.pieces b.pieces);
           few = b.few;
           limit = λ e. b.limit (limit_body answer e);

@@ -8,3 +8,4 @@ pub mod Joined
 pub mod Told
 pub mod Writing
 pub mod Readings
+pub mod Written

@@ -4,18 +4,61 @@ use Rattle.std.specs.List.{concat}
 use Rattle.std.specs.Io.KnownBytes.{Consumes, IsAtEnd}
 use Rattle.std.proofs.lemmas.List.{nil_from_length}
 use Rattle.std.proofs.KnownBytes.{Consumes-nil, Consumes-trans}
-use Rattle.lam_frame.specs.Next.{PulledWhile, EndsEmpty}
-use Rattle.lam_frame.specs.Steps.{PulledPiece}
+use Rattle.lam_frame.specs.Next.{EndsEmpty, OnlyLastEmpty, PulledWhile}
+use Rattle.lam_frame.specs.Steps.{NoneEmpty, PulledPiece}
 
 pub concat-append : (front back : List (List ℕ)) → concat (front ++ back) ≡ concat front ++ concat back
 concat-append [] back = refl
 concat-append (piece ∷ front) back = ap (λ (l : List ℕ). piece ++ l) (concat-append front back) ∙ sym (append_assoc piece (concat front) (concat back))
+
+-- ---- which pieces are empty
+
+NoneEmpty-append : (front back : List (List ℕ)) → NoneEmpty front → NoneEmpty back → NoneEmpty (front ++ back)
+NoneEmpty-append [] back f b = b
+NoneEmpty-append (piece ∷ front) back f b = (f.0, NoneEmpty-append front back f.1 b)
+
+last_has_bytes : (front : List (List ℕ)) (piece : List ℕ) → NoneEmpty (front ++ piece ∷ []) → 0 < length piece
+last_has_bytes [] piece n = n.0
+last_has_bytes (p ∷ front) piece n = last_has_bytes front piece n.1
+
+pub not_ended : (pieces : List (List ℕ)) → NoneEmpty pieces → EndsEmpty pieces → ⊥
+not_ended pieces n e = let some = last_has_bytes e.0 [] (subst NoneEmpty e.1 n) in omega arith
+
+pub stopped_behind : (front back : List (List ℕ)) → NoneEmpty front → OnlyLastEmpty back → OnlyLastEmpty (front ++ back)
+stopped_behind [] back f b = b
+stopped_behind (piece ∷ []) [] f b = tt
+stopped_behind (piece ∷ []) (next ∷ back) f b = (f.0, b)
+stopped_behind (piece ∷ next ∷ front) back f b = (f.0, stopped_behind (next ∷ front) back f.1 b)
+
+pub stopped_none : (pieces : List (List ℕ)) → NoneEmpty pieces → OnlyLastEmpty pieces
+stopped_none pieces n = subst OnlyLastEmpty (append-nil pieces) (stopped_behind pieces [] n tt)
+
+same_last : (a : List (List ℕ)) (x : List ℕ) (b front : List (List ℕ)) → a ++ (x ∷ b) ≡ front ++ ([] ∷ []) → EndsEmpty (x ∷ b)
+same_last [] x b front e = (front, e)
+same_last (p ∷ a) x b [] e = absurd (omega (arith, ap length e, length-append a (x ∷ b)))
+same_last (p ∷ a) x b (q ∷ front) e = let tails : a ++ (x ∷ b) ≡ front ++ ([] ∷ []) = cc e in same_last a x b front tails
+
+pub not_ended_behind : (front back : List (List ℕ)) → NoneEmpty front → (EndsEmpty back → ⊥) → EndsEmpty (front ++ back) → ⊥
+not_ended_behind front [] f b e = not_ended front f (subst EndsEmpty (append-nil front) e)
+not_ended_behind front (x ∷ back) f b e = b (same_last front x back e.0 e.1)
 
 -- pulls while P, from these bytes held and this source to these bytes heard and that source
 pub record Pulling {S : Type 0} (coming : S → Option (List ℕ)) (failed : S → ℕ) (gave : S → List ℕ → S → Type 0) (P : List ℕ → Type 0)
     (held : List ℕ) (pulls : ℕ) (source : S) (heard : List ℕ) (count : ℕ) (last : S) : Type 0 where
   pub pieces : List (List ℕ)
   pub needed : PulledWhile coming failed gave P held source pieces last
+  pub some : NoneEmpty pieces
+  pub heard_is : heard ≡ held ++ concat pieces
+  pub counted : count ≡ pulls + length pieces
+  pub few : count ≤ 2 ^ 48
+
+-- the same, and then a pull that gave nothing
+pub record Ended {S : Type 0} (coming : S → Option (List ℕ)) (failed : S → ℕ) (gave : S → List ℕ → S → Type 0) (P : List ℕ → Type 0)
+    (held : List ℕ) (pulls : ℕ) (source : S) (heard : List ℕ) (count : ℕ) (last : S) : Type 0 where
+  pub pieces : List (List ℕ)
+  pub needed : PulledWhile coming failed gave P held source pieces last
+  pub stopped : OnlyLastEmpty pieces
+  pub ended : EndsEmpty pieces
   pub heard_is : heard ≡ held ++ concat pieces
   pub counted : count ≡ pulls + length pieces
   pub few : count ≤ 2 ^ 48
@@ -74,15 +117,16 @@ module _ {S : Type 0} (coming : S → Option (List ℕ)) (failed : S → ℕ) (g
   PulledWhile-end P held source last (piece ∷ front) p = PulledWhile-end P (held ++ piece) p.2.0 last front p.2.2
 
   pub pulling_none : (P : List ℕ → Type 0) (held : List ℕ) (pulls : ℕ) (source : S) → pulls ≤ 2 ^ 48 → Pulling coming failed gave P held pulls source held pulls source
-  pulling_none P held pulls source few = record { pieces = []; needed = refl; heard_is = sym (append-nil held); counted = omega arith; few = few }
+  pulling_none P held pulls source few = record { pieces = []; needed = refl; some = tt; heard_is = sym (append-nil held); counted = omega arith; few = few }
 
   pub pulling_more : (P : List ℕ → Type 0) (held : List ℕ) (pulls : ℕ) (source : S) (heard : List ℕ) (count : ℕ) (middle : S) (front rest rest_after : List ℕ) (n : ℕ) (last : S)
-      → Pulling coming failed gave P held pulls source heard count middle → P heard → heard ≡ front ++ rest → count < 2 ^ 48 → (p : PulledPiece coming failed gave rest middle n rest_after last)
+      → Pulling coming failed gave P held pulls source heard count middle → P heard → heard ≡ front ++ rest → count < 2 ^ 48 → (n ≡ 0 → ⊥) → (p : PulledPiece coming failed gave rest middle n rest_after last)
       → Pulling coming failed gave P held pulls source (front ++ rest_after) (count + 1) last
-  pulling_more P held pulls source heard count middle front rest rest_after n last w still split below p = record {
+  pulling_more P held pulls source heard count middle front rest rest_after n last w still split below some p = record {
     pieces = w.pieces ++ (p.piece ∷ []);
     needed = PulledWhile-append P held source middle last w.pieces (p.piece ∷ []) w.needed
         (subst P w.heard_is still, omega (arith, p.counted, p.small), (last, p.given, refl));
+    some = NoneEmpty-append w.pieces (p.piece ∷ []) w.some (omega (arith, some, p.counted), tt);
     heard_is = ap (λ (l : List ℕ). front ++ l) p.added ∙ sym (append_assoc front rest p.piece) ∙ ap (λ (l : List ℕ). l ++ p.piece) (sym split ∙ w.heard_is) ∙ append_assoc held (concat w.pieces) p.piece
         ∙ ap (λ (l : List ℕ). held ++ l) (ap (λ (l : List ℕ). concat w.pieces ++ l) (sym (append-nil p.piece)) ∙ sym (concat-append w.pieces (p.piece ∷ [])));
     counted = omega (arith, w.counted, length-append w.pieces (p.piece ∷ []));
@@ -93,12 +137,24 @@ module _ {S : Type 0} (coming : S → Option (List ℕ)) (failed : S → ℕ) (g
   pulling_failed P held pulls source heard count last w = PulledWhile-failed P held source last w.pieces w.needed
 
   -- a pull that gave nothing
+
+  -- a pull that gave nothing leaves the bytes as they were
   pub pulling_end : (P : List ℕ → Type 0) (held : List ℕ) (pulls : ℕ) (source : S) (heard : List ℕ) (count : ℕ) (middle : S) (front rest rest_after : List ℕ) (n : ℕ) (last : S)
       → Pulling coming failed gave P held pulls source heard count middle → P heard → heard ≡ front ++ rest → count < 2 ^ 48 → n ≡ 0 → PulledPiece coming failed gave rest middle n rest_after last
-      → (w : Pulling coming failed gave P held pulls source (front ++ rest_after) (count + 1) last) × (EndsEmpty w.pieces × (rest_after ≡ rest))
-  unfolding pulling_more
+      → Ended coming failed gave P held pulls source (front ++ rest_after) (count + 1) last × (rest_after ≡ rest)
   pulling_end P held pulls source heard count middle front rest rest_after n last w still split below zero p =
-      let none : p.piece ≡ [] = nil_from_length p.piece (p.counted ∙ zero) in (
-        pulling_more P held pulls source heard count middle front rest rest_after n last w still split below p,
-        ((w.pieces, ap (λ (l : List ℕ). w.pieces ++ (l ∷ [])) none), p.added ∙ ap (λ (l : List ℕ). rest ++ l) none ∙ append-nil rest),
+      let none : p.piece ≡ [] = nil_from_length p.piece (p.counted ∙ zero) in
+      let same : rest_after ≡ rest = p.added ∙ ap (λ (l : List ℕ). rest ++ l) none ∙ append-nil rest in (
+        record {
+          pieces = w.pieces ++ (p.piece ∷ []);
+          needed = PulledWhile-append P held source middle last w.pieces (p.piece ∷ []) w.needed
+              (subst P w.heard_is still, omega (arith, p.counted, p.small), (last, p.given, refl));
+          stopped = stopped_behind w.pieces (p.piece ∷ []) w.some tt;
+          ended = (w.pieces, ap (λ (l : List ℕ). w.pieces ++ (l ∷ [])) none);
+          heard_is = ap (λ (l : List ℕ). front ++ l) same ∙ sym split ∙ w.heard_is
+              ∙ ap (λ (l : List ℕ). held ++ l) (sym (append-nil (concat w.pieces)) ∙ ap (λ (l : List ℕ). concat w.pieces ++ (l ++ [])) (sym none) ∙ sym (concat-append w.pieces (p.piece ∷ [])));
+          counted = omega (arith, w.counted, length-append w.pieces (p.piece ∷ []));
+          few = omega arith;
+        },
+        same,
       )

@@ -1,16 +1,15 @@
 -- Bytes begin with a frame, or have a fault, or are open: one of these, and in one way.
-use Rattle.std.proofs.Common.{◌≡◌, ◌≢◌, ◌≤◌, ◌<◌, ◌⊎◌, inl, inr, length, take, drop, ℕ, zero, suc, ◌+◌, ◌-◌, Bool, true, false, not, ◌&&◌, ◌||◌, ◌==◌, cond, nat_lt, nat_le, List, [], ◌∷◌, ◌++◌, Option, Some, None, Result, Ok, Err, refl, sym, ap, ◌∙◌, subst, arith, append_assoc, append-nil, length-append, take-append-drop}
-use Rattle.std.specs.List.{list_all, concat}
+use Rattle.std.proofs.Common.{◌≡◌, ◌≢◌, ◌≤◌, ◌<◌, ◌⊎◌, inl, inr, length, take, drop, ℕ, zero, suc, Bool, true, false, ◌==◌, nat_lt, nat_le, List, [], ◌∷◌, ◌++◌, Option, Some, None, Result, Ok, Err, refl, sym, ap, ◌∙◌, subst, arith, append_assoc, append-nil, length-append, take-append-drop}
 use Rattle.std.proofs.lemmas.Bool.Decides.{nat_tests}
-use Rattle.std.proofs.lemmas.List.{length-drop, length-take}
+use Rattle.std.proofs.lemmas.List.{length-take}
 use Rattle.std.proofs.lemmas.List.Folds.{list_all-append}
 use Rattle.lam_frame.specs.declared.fault.FrameFault.{FrameFault}
 use Rattle.lam_frame.specs.declared.fault.FrameFault.TheVariants.{NoLength, BadLength, TooLong, BadHeader, Truncated, Device, Memory, TooManyTurns, Spent}
-use Rattle.lam_frame.specs.Header.{AreLines, IsBegunEnd, IsPlain, HasHeader, IsSpoiled, IsUnfinished, IsTooLong, IsMisplaced, is_plain, ended_lines, header_text, body_length}
+use Rattle.lam_frame.specs.Header.{AreLines, IsBegunEnd, IsPlain, HasHeader, IsSpoiled, IsUnfinished, IsMisplaced, is_plain, ended_lines, header_text, body_length}
 use Rattle.lam_frame.specs.Frame.{HasFrame, HasFault, IsOpen, IsRest, IsReading}
 use Rattle.lam_frame.specs.Frame.HasFault.{Spoiled as SpoiledFault, TooLong as TooLongFault, BadFields}
 use Rattle.lam_frame.specs.Frame.IsOpen.{InHeader, InBody}
-use Rattle.lam_frame.specs.Laws.{HasReading, ReadsOneWay, Settles, SettlesFrame, SettlesFault, OpenSettlesNothing}
+use Rattle.lam_frame.specs.Laws.{HasReading, ReadsOneWay, Settles, OpenSettlesNothing}
 use Rattle.lam_frame.specs.Steps.{IsByteFault}
 use Rattle.lam_frame.proofs.Starts.Lines.{Whole}
 use Rattle.lam_frame.proofs.Starts.{HasFault-byte, kind-lines, headers_agree, header_not_unfinished, header_not_spoiled, unfinished_not_spoiled}
@@ -63,10 +62,10 @@ module _ (bytes : List ℕ) where
   ended_at lines [] rest w more =
       Header (record { lines = lines; after = rest; are_lines = w.are_lines; text = w.text ∙ sym (append_assoc (ended_lines lines) (13 ∷ 10 ∷ []) rest) })
   ended_at lines (b ∷ part) rest w more = more (record {
-      are_lines = AreLines-append lines ((b ∷ part) ∷ []) w.are_lines ((omega arith, w.plain), tt);
-      plain = refl;
-      text = w.text ∙ line_ended lines (b ∷ part) rest;
-    })
+    are_lines = AreLines-append lines ((b ∷ part) ∷ []) w.are_lines ((omega arith, w.plain), tt);
+    plain = refl;
+    text = w.text ∙ line_ended lines (b ∷ part) rest;
+  })
 
   spoiled_at : (lines : List (List ℕ)) (part rest : List ℕ) → Before lines part rest → IsMisplaced rest → Kind bytes
   spoiled_at lines part rest w m = Spoiled (record { lines = lines; part = part; rest = rest; are_lines = w.are_lines; plain = w.plain; misplaced = m; text = w.text })
@@ -76,10 +75,10 @@ module _ (bytes : List ℕ) where
 
   plain_at : (lines : List (List ℕ)) (part : List ℕ) (b : ℕ) (rest : List ℕ) → Before lines part (b ∷ rest) → is_plain b ≡ true → Before lines (part ++ b ∷ []) rest
   plain_at lines part b rest w p = record {
-      are_lines = w.are_lines;
-      plain = plain_more part b w.plain p;
-      text = w.text ∙ ap (λ (l : List ℕ). ended_lines lines ++ l) (sym (append_assoc part (b ∷ []) rest));
-    }
+    are_lines = w.are_lines;
+    plain = plain_more part b w.plain p;
+    text = w.text ∙ ap (λ (l : List ℕ). ended_lines lines ++ l) (sym (append_assoc part (b ∷ []) rest));
+  }
 
   -- one byte is left, and two or more
   last_byte : (lines : List (List ℕ)) (part : List ℕ) (b : ℕ) (plain return : Bool) → is_plain b ≡ plain → (b == 13) ≡ return → Before lines part (b ∷ []) → Kind bytes
@@ -115,9 +114,9 @@ begins_size bytes lines after size false h e s =
     let enough : size ≤ length after = grind (arith, nat_tests) in
     let long : length (take size after) ≡ size = omega (arith, length-take size after) in
     WithFrame (take size after) (drop size after) (record {
-        lines = lines;
-        header = subst (HasHeader bytes lines) (sym (take-append-drop size after)) h;
-        size = e ∙ ap (λ (n : ℕ). Ok n) (sym long);
+      lines = lines;
+      header = subst (HasHeader bytes lines) (sym (take-append-drop size after)) h;
+      size = e ∙ ap (λ (n : ℕ). Ok n) (sym long);
     })
 
 begins_verdict : (bytes : List ℕ) (lines : List (List ℕ)) (after : List ℕ) (body : Result ℕ FrameFault) → HasHeader bytes lines after → body_length lines ≡ body → Begins bytes
@@ -131,11 +130,11 @@ begins_header bytes a true s =
 begins_header bytes a false s =
     let large : 4096 < length (header_text a.lines) = grind (arith, nat_tests) in
     WithFault BadHeader (TooLongFault (record {
-        long = omega (arith, large, ap length a.text, length-append (header_text a.lines) a.after);
-        endless = λ lines after h.
-            let e : Whole lines after ≡ Whole a.lines a.after = sym (kind-lines bytes lines after h.are_lines h.text) ∙ kind-lines bytes a.lines a.after a.are_lines a.text in
-            let same : lines ≡ a.lines = cc e in
-            absurd (omega (arith, h.fits, large, ap (λ (l : List (List ℕ)). length (header_text l)) same));
+      long = omega (arith, large, ap length a.text, length-append (header_text a.lines) a.after);
+      endless = λ lines after h.
+          let e : Whole lines after ≡ Whole a.lines a.after = sym (kind-lines bytes lines after h.are_lines h.text) ∙ kind-lines bytes a.lines a.after a.are_lines a.text in
+          let same : lines ≡ a.lines = cc e in
+          absurd (omega (arith, h.fits, large, ap (λ (l : List (List ℕ)). length (header_text l)) same));
     }) refl)
 
 begins_unfinished : (bytes : List ℕ) → IsUnfinished bytes → (short : Bool) → nat_lt (length bytes) 4096 ≡ short → Begins bytes

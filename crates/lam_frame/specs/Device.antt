@@ -28,20 +28,22 @@ Pulls coming failed gave old (Err _) into new = FailedPull coming failed old new
 abbrev pub failures_after_push : ℕ → List ℕ → ℕ → ℕ
 failures_after_push failures bytes n = if n == 0 && nat_lt 0 (length bytes) then failures + 1 else failures
 
--- a sink took n bytes of these
-pub record Took {S : Type 0} (taken : S → Option (List ℕ)) (failed : S → ℕ) (bytes : List ℕ) (n : ℕ) (old new : S) : Type 0 where
+-- a sink took n bytes of these, and flushed none of what it has
+pub record Took {S : Type 0} (taken : S → Option (List ℕ)) (flushed failed : S → ℕ) (bytes : List ℕ) (n : ℕ) (old new : S) : Type 0 where
   pub within : n ≤ length bytes
   pub counted : failed new ≡ failures_after_push (failed old) bytes n
   pub appended : Appends (taken old) (taken new) (take n bytes)
+  pub unflushed : flushed new ≡ flushed old
 
--- a call failed: it counts, and what was taken stays
-pub record FailedPush {S : Type 0} (taken : S → Option (List ℕ)) (failed : S → ℕ) (old new : S) : Type 0 where
+-- a call failed: it counts, and what was taken and flushed stays
+pub record FailedPush {S : Type 0} (taken : S → Option (List ℕ)) (flushed failed : S → ℕ) (old new : S) : Type 0 where
   pub counted : failed new ≡ failed old + 1
   pub kept : Keeps (taken old) (taken new)
+  pub unflushed : flushed new ≡ flushed old
 
-abbrev pub Pushes : {S : Type 0} → (S → Option (List ℕ)) → (S → ℕ) → S → Result ℕ DeviceFault → List ℕ → S → Type 0
-Pushes taken failed old (Ok n) bytes new = Took taken failed bytes n old new
-Pushes taken failed old (Err _) bytes new = FailedPush taken failed old new
+abbrev pub Pushes : {S : Type 0} → (S → Option (List ℕ)) → (S → ℕ) → (S → ℕ) → S → Result ℕ DeviceFault → List ℕ → S → Type 0
+Pushes taken flushed failed old (Ok n) bytes new = Took taken flushed failed bytes n old new
+Pushes taken flushed failed old (Err _) bytes new = FailedPush taken flushed failed old new
 
 -- all bytes taken so far are flushed, where they are told
 abbrev pub IsFlushed : Option (List ℕ) → ℕ → Type 0
@@ -55,7 +57,7 @@ pub record Flushed {S : Type 0} (taken : S → Option (List ℕ)) (flushed faile
 
 abbrev pub Flushes : {S : Type 0} → (S → Option (List ℕ)) → (S → ℕ) → (S → ℕ) → S → Result (Unit {0}) DeviceFault → S → Type 0
 Flushes taken flushed failed old (Ok _) new = Flushed taken flushed failed old new
-Flushes taken flushed failed old (Err _) new = FailedPush taken failed old new
+Flushes taken flushed failed old (Err _) new = FailedPush taken flushed failed old new
 
 -- a front of these bytes, all of them at the most, was taken
 pub record AppendsFront (old new : Option (List ℕ)) (bytes : List ℕ) : Type 0 where

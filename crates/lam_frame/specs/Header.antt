@@ -40,8 +40,8 @@ pub record HasHeader (bytes : List ℕ) (lines : List (List ℕ)) (after : List 
 
 -- ---- what is no header part, or none yet
 
--- bytes of which the first cannot stand in a header part:
--- it is not ASCII, or an LF that no CR precedes, or a CR that another byte than LF follows
+-- bytes whose first spoils a header part: one above 127, a line feed with no carriage return in front,
+-- or a carriage return with another byte than a line feed behind it
 abbrev pub IsMisplaced : List ℕ → Type 0
 IsMisplaced [] = ⊥
 IsMisplaced (b ∷ []) = (128 ≤ b) ⊎ (b ≡ 10)

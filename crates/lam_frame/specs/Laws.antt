@@ -1,7 +1,7 @@
--- Laws of frames: a byte list is in exactly one way a list of frames and a rest, and bytes decide nothing just where a frame or its end is still to come.
-use Rattle.std.specs.Prelude.{◌≡◌, ◌⊎◌, ◌↔◌, ℕ, List, ◌++◌, Option}
+-- Laws of frames: every input splits into frames and a rest, and only one way; open bytes settle nothing; a frame that is written is read back.
+use Rattle.std.specs.Prelude.{◌≡◌, ◌≤◌, ◌⊎◌, ◌↔◌, ℕ, List, ◌++◌, Option, length}
 use Rattle.lam_frame.specs.declared.fault.FrameFault.{FrameFault}
-use Rattle.lam_frame.specs.Frame.{HasFault, HasFrame, IsOpen, IsReading}
+use Rattle.lam_frame.specs.Frame.{HasFault, HasFrame, IsOpen, IsReading, frame_text}
 
 -- there is a reading
 abbrev pub HasReading : List ℕ → Type 0
@@ -24,3 +24,7 @@ Settles bytes = ((body : List ℕ) × SettlesFrame bytes body) ⊎ ((fault : Fra
 -- open bytes are just those that settle nothing
 abbrev pub OpenSettlesNothing : List ℕ → Type 0
 OpenSettlesNothing bytes = IsOpen bytes ↔ (Settles bytes → ⊥)
+
+-- a frame that is written is the one that is read, whatever follows it
+abbrev pub IsReadBack : List ℕ → Type 0
+IsReadBack body = length body ≤ 67108864 → (more : List ℕ) → HasFrame (frame_text body ++ more) body more

@@ -1,5 +1,5 @@
 -- What a call that reads does: the pieces that it pulls, and what its answer says of the bytes.
-use Rattle.std.specs.Prelude.{◌≡◌, ◌≢◌, ℕ, ◌+◌, ◌-◌, ◌*◌, ◌^◌, ◌≤◌, List, [], ◌∷◌, ◌++◌, length, Option, Some, None, Result, Ok, Err}
+use Rattle.std.specs.Prelude.{◌≡◌, ◌≢◌, ℕ, ◌+◌, ◌-◌, ◌*◌, ◌^◌, ◌<◌, ◌≤◌, List, [], ◌∷◌, ◌++◌, length, Option, Some, None, Result, Ok, Err}
 use Rattle.std.specs.List.{concat}
 use Rattle.lam_frame.specs.Device.{Gave, FailedPull}
 use Rattle.lam_frame.specs.Frame.{HasFrame, HasFault, IsOpen, IsRest}
@@ -26,6 +26,18 @@ PulledWhile {S} coming failed gave P held source (piece ∷ pieces) last =
 abbrev pub EndsEmpty : List (List ℕ) → Type 0
 EndsEmpty pieces = (front : List (List ℕ)) × (pieces ≡ front ++ ([] ∷ []))
 
+-- each piece before the last has bytes: behind an empty one there is no pull
+abbrev pub OnlyLastEmpty : List (List ℕ) → Type 0
+OnlyLastEmpty [] = Unit {0}
+OnlyLastEmpty (_ ∷ []) = Unit {0}
+OnlyLastEmpty (piece ∷ next ∷ pieces) = (0 < length piece) × OnlyLastEmpty (next ∷ pieces)
+
+-- the answers before which a pull failed or was not made any more
+abbrev pub IsCutOff : {V : Type 0} → Result V FrameFault → Type 0
+IsCutOff (Err Device) = Unit {0}
+IsCutOff (Err TooManyTurns) = Unit {0}
+IsCutOff _ = ⊥
+
 -- after the pieces came nothing, or the one pull that failed
 abbrev pub After : {S V : Type 0} → (S → Option (List ℕ)) → (S → ℕ) → S → Result V FrameFault → S → Type 0
 After coming failed last (Err Device) new = FailedPull coming failed last new
@@ -38,6 +50,8 @@ pub record Reads {S V : Type 0} (coming : S → Option (List ℕ)) (failed : S �
   pub pieces : List (List ℕ)
   pub last : S
   pub needed : PulledWhile coming failed gave Open held source pieces last
+  pub stopped : OnlyLastEmpty pieces
+  pub onward : IsCutOff answer → EndsEmpty pieces → ⊥
   pub after : After coming failed last answer source_after
   pub says : Said (held ++ concat pieces) pieces answer held_after
   pub counted : pulls_after ≡ pulls + length pieces

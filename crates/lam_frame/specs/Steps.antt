@@ -1,5 +1,6 @@
 -- What the steps of a call that reads do: for the reader's private functions alone.
 use Rattle.std.specs.Prelude.{◌≡◌, ◌≢◌, ℕ, ◌+◌, ◌^◌, ◌<◌, ◌≤◌, List, [], ◌∷◌, ◌++◌, length, drop, Option, Some, None, Result, Ok, Err}
+use Rattle.std.specs.List.{AllByRecursion}
 use Rattle.lam_frame.specs.Device.{Gave, FailedPull}
 use Rattle.lam_frame.specs.Frame.{HasFault, IsOpen}
 use Rattle.lam_frame.specs.Header.{HasHeader, IsUnfinished, body_length}
@@ -52,6 +53,10 @@ PullsMore coming failed gave held pulls source (Err TooManyTurns) held_after pul
     (source ≡ source_after) × ((pulls_after ≡ pulls) × (pulls ≡ 2 ^ 48))
 PullsMore coming failed gave held pulls source (Err _) held_after pulls_after source_after = ⊥
 
+-- no piece is empty
+abbrev pub NoneEmpty : List (List ℕ) → Type 0
+NoneEmpty pieces = AllByRecursion (λ (piece : List ℕ). 0 < length piece) pieces
+
 -- what reading a header part says: a body of some size follows, or the clean end is there
 pub record HeaderIsRead (heard : List ℕ) (size : ℕ) (held : List ℕ) : Type 0 where
   pub lines : List (List ℕ)
@@ -59,7 +64,7 @@ pub record HeaderIsRead (heard : List ℕ) (size : ℕ) (held : List ℕ) : Type
   pub says : body_length lines ≡ Ok size
 
 abbrev pub SaysHeader : List ℕ → List (List ℕ) → Result (Option ℕ) FrameFault → List ℕ → Type 0
-SaysHeader heard pieces (Ok (Some size)) held = HeaderIsRead heard size held
+SaysHeader heard pieces (Ok (Some size)) held = HeaderIsRead heard size held × NoneEmpty pieces
 SaysHeader heard pieces (Ok None) held = (heard ≡ []) × EndsEmpty pieces
 SaysHeader heard pieces (Err Truncated) held = IsOpen heard × ((heard ≢ []) × EndsEmpty pieces)
 SaysHeader heard pieces (Err Device) held = IsOpen heard

@@ -21,6 +21,7 @@ impl<'a> Model for BytesIn<'a> {
 }
 
 impl<'a> BytesIn<'a> {
+    /// A source of these bytes.
     pub fn new(bytes: &'a [u8]) -> BytesIn<'a>
         ensures { result ≡ bytes.now }
     {
@@ -64,6 +65,7 @@ impl Model for BytesOut {
 }
 
 impl BytesOut {
+    /// An empty sink, which grows by `alloc`.
     pub fn new(alloc: Global) -> BytesOut
         ensures { result ≡ (record { bytes = []; flushed = 0; failures = 0 }) }
     {

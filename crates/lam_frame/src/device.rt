@@ -48,7 +48,7 @@ pub trait Sink {
     /// be it answered by `Ok(0)`.
     fn push(&mut self, from: &[u8]) -> Result<usize, DeviceFault>
         requires { failed self.old < 2 ^ 64 - 1 }
-        ensures { Pushes taken failed self.old result from.now self.new };
+        ensures { Pushes taken flushed failed self.old result from.now self.new };
 
     /// Passes on all that was taken.
     fn flush(&mut self) -> Result<(), DeviceFault>

@@ -9,7 +9,7 @@ pub enum FrameFault {
     /// No line names `Content-Length`.
     #[error("F1 NoLength")]
     NoLength,
-    /// Two or more lines name it, or its value is not 1 to 19 decimal digits.
+    /// It is named twice, or what is named is no number of at most 19 digits.
     #[error("F2 BadLength")]
     BadLength,
     /// The body would have more than 67,108,864 bytes.

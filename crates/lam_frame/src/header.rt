@@ -78,18 +78,17 @@ fn scan_header(bytes: &[u8]) -> Header
     let mut rest = bytes;
     let mut body = Err(FrameFault::NoLength);
     loop {
-        match first_line(rest) {
+        let (line, after) = match first_line(rest) {
+            Line::Whole(line, after) => (line, after),
             Line::Unfinished => return Header::Unfinished,
             Line::Spoiled => return Header::Spoiled,
-            Line::Whole(line, after) => {
-                if line.is_empty() {
-                    let length = bytes.len() - after.len();
-                    return Header::Whole { length, body };
-                }
-                body = with_line(body, line);
-                rest = after;
-            }
+        };
+        if line.is_empty() {
+            let length = bytes.len() - after.len();
+            return Header::Whole { length, body };
         }
+        body = with_line(body, line);
+        rest = after;
     }
 }
 

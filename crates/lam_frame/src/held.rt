@@ -28,6 +28,7 @@ impl Model for Held {
 }
 
 impl Held {
+    /// Nothing yet, with room for a chunk.
     pub(crate) fn new(alloc: Global) -> Result<Held, AllocError>
         ensures { IfOk result (λ h. h ≡ []) }
     {
@@ -39,12 +40,14 @@ impl Held {
         })
     }
 
+    /// The bytes that are held.
     pub(crate) fn bytes(&self) -> &[u8]
         ensures { result.now ≡ self.now }
     {
         &self.chunk[self.start..self.end]
     }
 
+    /// Uses up so many bytes in front.
     pub(crate) fn drop_front(&mut self, count: usize)
         requires { count ≤ length self.old }
         ensures { self.new ≡ drop count self.old }

@@ -1,4 +1,9 @@
 //! Frames of the base protocol, between bytes and bodies.
+//!
+//! A [`FrameReader`] gives the bodies of the frames that a [`Source`] brings, in order, whatever
+//! the pieces of its pulls, and each fault just where the bytes have it; [`write_frame`] puts one
+//! frame into a [`Sink`], whole and flushed. Every input splits into frames and a rest, and only
+//! one way.
 #![tactic(auto)]
 
 mod bytes;
@@ -9,12 +14,14 @@ mod held;
 mod law;
 mod reader;
 mod streams;
+#[cfg(test)]
+mod tests;
 mod writer;
 
 pub use bytes::{BytesIn, BytesOut};
 pub use device::{DeviceFault, Sink, Source};
 pub use fault::FrameFault;
-pub use law::{one_reading, open_settles_nothing, some_reading};
+pub use law::{one_reading, open_settles_nothing, some_reading, written_is_read};
 pub use reader::{FrameReader, State};
 pub use streams::{FromRead, ToWrite};
 pub use writer::write_frame;

@@ -3,6 +3,7 @@
 ghost use Rattle.std.specs.Prelude.{◌≡◌, ◌-◌, ◌^◌, ◌<◌, ◌≤◌, IfOk, length, ⊤};
 
 use crate::device::{DeviceFault, Sink, Source};
+use std::io;
 use std::io::{ErrorKind, Read, Write};
 
 /// How often a read, a write or a flush is tried that a signal interrupts. All tries are one call
@@ -17,6 +18,7 @@ pub struct FromRead<R> {
 }
 
 impl<R: Read> FromRead<R> {
+    /// A source whose pulls read from `inner`.
     pub fn new(inner: R) -> FromRead<R>
         ensures { ⟦<FromRead<R> as Source>⟧.failed result ≡ 0 }
     {
@@ -50,6 +52,7 @@ pub struct ToWrite<W> {
 }
 
 impl<W: Write> ToWrite<W> {
+    /// A sink whose pushes write to `inner`.
     pub fn new(inner: W) -> ToWrite<W>
         ensures { ⟦<ToWrite<W> as Sink>⟧.failed result ≡ 0 }
     {
@@ -88,11 +91,7 @@ fn read_through<R: Read>(reader: &mut R, into: &mut [u8]) -> Result<usize, Devic
     for _ in 0..TRIES {
         match reader.read(into) {
             Ok(count) => return Ok(count),
-            Err(error) => {
-                if error.kind() != ErrorKind::Interrupted {
-                    return Err(DeviceFault);
-                }
-            }
+            Err(error) => stop_unless_interrupted(&error)?,
         }
     }
     Err(DeviceFault)
@@ -104,17 +103,9 @@ fn write_through<W: Write>(writer: &mut W, from: &[u8]) -> Result<usize, DeviceF
 {
     for _ in 0..TRIES {
         match writer.write(from) {
-            Ok(count) => {
-                if count == 0 && !from.is_empty() {
-                    return Err(DeviceFault);
-                }
-                return Ok(count);
-            }
-            Err(error) => {
-                if error.kind() != ErrorKind::Interrupted {
-                    return Err(DeviceFault);
-                }
-            }
+            Ok(count) if count == 0 && !from.is_empty() => return Err(DeviceFault),
+            Ok(count) => return Ok(count),
+            Err(error) => stop_unless_interrupted(&error)?,
         }
     }
     Err(DeviceFault)
@@ -124,12 +115,16 @@ fn flush_through<W: Write>(writer: &mut W) -> Result<(), DeviceFault> {
     for _ in 0..TRIES {
         match writer.flush() {
             Ok(()) => return Ok(()),
-            Err(error) => {
-                if error.kind() != ErrorKind::Interrupted {
-                    return Err(DeviceFault);
-                }
-            }
+            Err(error) => stop_unless_interrupted(&error)?,
         }
     }
     Err(DeviceFault)
+}
+
+fn stop_unless_interrupted(error: &io::Error) -> Result<(), DeviceFault> {
+    if error.kind() == ErrorKind::Interrupted {
+        Ok(())
+    } else {
+        Err(DeviceFault)
+    }
 }
