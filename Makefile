@@ -1,11 +1,23 @@
-# `make` proves and builds the program, `make test` is the merge gate.
+# `make` proves and builds the program, `make test` is the merge gate, `make bench` prints figures.
 PREFIX ?= $(HOME)/.local
-PROGRAM = crates/lam_server/out/lam_server
 
-.PHONY: all test bench install
+.PHONY: all test install bench
 
+# The program is proved, built and run once on no input, which ends with status 1.
 all:
-	cd crates/lam_server && rt run < /dev/null; test -x out/lam_server
+	cd crates/lam_server && { rt run < /dev/null > out.log 2>&1 || true; } && mv out.log out/run.log
+	test -x crates/lam_server/out/lam_server
 
 test:
 	rt ci
+
+install: all
+	install -D crates/lam_server/out/lam_server $(PREFIX)/bin/lam_server
+
+bench:
+	cd crates/lam_bench && rt run > out.log 2>&1; mv out.log out/run.log
+	for size in 1048576 16777216 67108864; do \
+	  crates/lam_bench/out/lam_bench whole-body $$size; \
+	  crates/lam_bench/out/lam_bench body-by-bytes $$size; \
+	done
+	for count in 10000 100000 1000000; do crates/lam_bench/out/lam_bench small-frames $$count; done

@@ -1,4 +1,4 @@
--- Types that are below each other have one text.
+-- The text of a type does not tell it from one that lies both below and above it.
 use Rattle.std.proofs.Common.{◌≡◌, ◌≢◌, ◌⊎◌, ℕ, List, Bool, true, false, if◌then◌else◌, ap, sym, ◌∙◌, refl, inl, inr, Result, Ok, Err, String, string_bytes}
 use Rattle.std.specs.Prelude.{IfOk}
 use Rattle.std.specs.declared.alloc.Global.{Global}

@@ -3,7 +3,8 @@
 //! it is a proof.
 //!
 //! The rules stand in `specs/Subtyping.antt` and `specs/Typing.antt`. Those two files have to be
-//! believed; everything else is proved from them.
+//! believed, with what they are written in (`Types.antt`, `Terms.antt`), the texts, and the views
+//! that say which tree a value stands for.
 #![tactic(auto)]
 
 mod rules;

@@ -80,8 +80,8 @@ fn write_separator(out: &mut String, rest: &[(String, Ty)]) -> Result<(), AllocE
     out.push_str(", ")
 }
 
-/// The text of a type with the labels of each record in ascending byte order, equal ones in their
-/// own order, as `{a:Nat, b:Bool}`.
+/// The text of a type with the fields of each record sorted by the bytes of their labels, as
+/// `{a:Nat, b:Bool}`. Fields of one label keep their places.
 #[tactic(auto, using(crate::proofs::SharedTexts::text_same))]
 pub fn text_of(alloc: Global, ty: &Ty) -> Result<String, AllocError>
     ensures text { IfOk result (λ written. string_bytes written ≡ text (typ_of ty.now)) }
@@ -91,8 +91,8 @@ pub fn text_of(alloc: Global, ty: &Ty) -> Result<String, AllocError>
     plain_text_of(alloc, &sorted)
 }
 
-/// The same type with the labels of each record in ascending byte order, equal ones in their own
-/// order.
+/// The same type with the fields of each record sorted by the bytes of their labels. Fields of one
+/// label keep their places.
 #[cycle(sorted)]
 #[tactic(auto, using(crate::proofs::TypeShapes::shapes))]
 pub fn sorted_of(alloc: Global, ty: &Ty) -> Result<Ty, AllocError>

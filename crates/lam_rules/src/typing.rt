@@ -33,8 +33,8 @@ enum Entries<'a> {
     Under(&'a Ty, &'a Entries<'a>),
 }
 
-/// Whether a tree is a proof for this term, in this dialect, in the context with these entries, from
-/// the outermost binder to the innermost. A variable of count 0 names the last entry.
+/// Whether a tree is a proof for this term in this context and dialect. The outermost binder's entry
+/// comes first, so the last one is that of the variable with count 0.
 #[tactic(auto, using(crate::proofs::TypingShapes::typing_shapes))]
 pub fn check_type(context: &[Option<Ty>], term: &Core, proof: &TypeProof, dialect: Dialect) -> bool
     ensures { IsTrue result ↔ IsTyping (context_of context.now) (term_of term.now) (typing_tree_of proof.now) dialect }

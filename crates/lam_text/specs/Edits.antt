@@ -22,6 +22,6 @@ edited_in encoding text (Some range) new =
 abbrev pub edited : Encoding → List ℕ → Edit → List ℕ
 edited encoding text edit = edited_in encoding text edit.range edit.text
 
--- the text after a list of changes, each on the text that the one before left
+-- the text after a list of changes: each is made in what its forerunners made
 abbrev pub text_after : Encoding → List ℕ → List Edit → List ℕ
 text_after encoding text edits = fold (edited encoding) text edits

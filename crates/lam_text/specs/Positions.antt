@@ -5,8 +5,8 @@ use Rattle.lam_text.specs.declared.places.Position.{Position}
 use Rattle.lam_text.specs.Units.{bytes_within, units_in}
 use Rattle.lam_text.specs.Lines.{Line, Lines, Cut, content, line_bytes, lines_of}
 
--- the bytes of the lines before, and of the longest front of the line whose units are at most `character`;
--- past the last line the text's end
+-- all earlier lines whole, and of this line as much as fits into `character` units;
+-- a line that is not there means the end
 abbrev pub offset_in : Encoding → List Line → List ℕ → ℕ → ℕ → ℕ
 offset_in encoding [] last zero character = bytes_within encoding character last
 offset_in encoding [] last (suc n) character = length last
@@ -25,8 +25,7 @@ offset_of encoding text position = offset_on encoding (lines_of text) position
 abbrev pub one_line_down : Position → Position
 one_line_down position = record { line = position.line + 1; character = position.character }
 
--- the line is the number of line ends that end at or before the offset; the character is the units from the
--- line's start to the offset, or to the end of the line's content, where that comes first
+-- lines count up by each end that lies behind; columns count from there, and stop where the line's own end begins
 abbrev pub position_in : Encoding → List Line → List ℕ → ℕ → Position
 position_in encoding [] last offset = record { line = 0; character = units_in encoding (take offset last) }
 position_in encoding (line ∷ lines) last offset =

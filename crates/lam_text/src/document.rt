@@ -90,7 +90,7 @@ impl Doc {
         }
     }
 
-    /// Makes these changes, each in the text that the one before left. On an error the document is as before.
+    /// Makes these changes in turn, each in what its forerunners made. An error changes nothing.
     pub fn apply(&mut self, changes: &[Change]) -> Result<(), AllocError>
         ensures text { OnOk result (self.new.text ≡ text_after self.old.encoding self.old.text changes.now) }
         ensures encoding { self.new.encoding ≡ self.old.encoding }

@@ -158,7 +158,7 @@ fn line_ends_that_join_and_part(rt: HostRuntime) -> Result<(), Fail> {
         let doc = edited(rt.alloc(), "a\nb", encoding, at(0, 1), at(0, 1), "\r")?;
         assert_eq!(rt; lines(&doc), 2);
         assert_eq!(rt; doc.offset_of(at(1, 0)), 3);
-        // A CR at the text's end is a line end.
+        // A carriage return may stand last.
         let doc = Doc::new(rt.alloc(), "a\r", encoding)?;
         assert_eq!(rt; lines(&doc), 2);
     }

@@ -8,17 +8,16 @@ use Rattle.lam_token.specs.declared.kind.Segment.TheVariants.{Blank, Comment, To
 use Rattle.lam_token.specs.Lexeme.{Lexeme, lexeme_at}
 use Rattle.lam_token.specs.Shape.{shape_of, opens_comment}
 
--- no front of the text is a blank, a comment or a lexeme
+-- no front of the text has a shape
 abbrev pub NothingBegins : List ℕ → Type 0
 NothingBegins text = (front after : List ℕ) → text ≡ front ++ after → shape_of front ≡ None
 
--- no front of the text that is longer than this one is a blank, a comment or a lexeme
+-- no longer front of the text has one
 abbrev pub NothingLonger : List ℕ → List ℕ → Type 0
 NothingLonger text cs = (front after : List ℕ) → text ≡ front ++ after → length cs < length front → shape_of front ≡ None
 
--- The first segment of a text is these characters and is of this sort, where these others follow it: the longest front
--- that is a blank, a comment or a lexeme; where no front is one, the whole text if it begins with the mark that opens a
--- comment, and else one character.
+-- Of a text that begins with these characters and goes on with those others, the first segment, of this sort: the longest
+-- front with a shape; where none has one, all of it behind the mark that opens a comment, and else a single character.
 pub data IsFirst : Segment → List ℕ → List ℕ → Type 0 where
   longest : {s : Segment} {cs rest : List ℕ} → shape_of cs ≡ Some s → NothingLonger (cs ++ rest) cs → IsFirst s cs rest
   unclosed : {cs rest : List ℕ} → NothingBegins (cs ++ rest) → opens_comment (cs ++ rest) ≡ true → rest ≡ [] → IsFirst (Token BadComment) cs rest
@@ -29,7 +28,7 @@ pub record Part : Type 0 where
   pub sort : Segment
   pub characters : List ℕ
 
--- the segments that joined are the text, each the first of what is left
+-- the segments make up the text, and each is the first one behind those in front of it
 abbrev pub IsCut : List ℕ → List Part → Type 0
 IsCut text [] = text ≡ []
 IsCut text (p ∷ ps) = (rest : List ℕ) × (text ≡ p.characters ++ rest) × IsFirst p.sort p.characters rest × IsCut rest ps

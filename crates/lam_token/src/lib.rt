@@ -1,9 +1,9 @@
 //! The tokens of a text of the language: the one cut into longest segments.
 //!
-//! A text is cut from its start. Each segment is the longest front of what is left that is a blank, a
-//! comment or a lexeme by itself; where no front is one, it is a comment that is not closed, up to the
-//! text's end, or one character that is not allowed. The tokens are the segments that are neither blank
-//! nor comment, each with its kind and its place in bytes.
+//! A text is cut from its start, each time behind the longest front that is white space, a closed
+//! comment or a lexeme. Where there is no such front, an open comment takes all that is left, and any
+//! other character stands alone as a fault. White space and closed comments are dropped; what stays
+//! are the tokens, each with its kind and its place in bytes.
 #![tactic(auto)]
 
 mod characters;

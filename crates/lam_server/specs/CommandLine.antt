@@ -1,0 +1,43 @@
+-- The command line: `lam_server [--stdio] [--clientProcessId TEXT] [--dialect 1]`, as a command of clap.
+use Rattle.std.specs.Prelude.{◌≡◌, ℕ, List, [], ◌∷◌, map, codes, Some}
+use Rattle.std.specs.Borrow.{Bor}
+use Rattle.clap.specs.Simple.{App, app_of, new_app, new_rule, with_rule}
+use Rattle.clap.specs.Walk.{Rule}
+use Rattle.clap.specs.declared.builder.action.ArgAction.TheVariants.{SetTrue}
+use Rattle.clap.specs.declared.builder.command.Command.{Command}
+use Rattle.clap.specs.declared.builder.value_parser.ValueParser.TheVariants.{Names}
+
+-- a flag without effect
+abbrev pub stdio : Rule
+stdio = record (new_rule (codes "stdio")) { long = Some (codes "stdio"); action = Some SetTrue }
+
+-- any text, without effect
+abbrev pub client : Rule
+client = record (new_rule (codes "clientProcessId")) { long = Some (codes "clientProcessId"); value_names = 1 }
+
+-- one of some words, by default 1
+abbrev pub dialect : Bor (List (Bor (List ℕ))) → Rule
+dialect names = record (new_rule (codes "dialect")) { long = Some (codes "dialect"); value_names = 1; defaults = codes "1" ∷ []; parser = Some (Names names) }
+
+-- the dialects that there are
+abbrev pub AreDialects : Bor (List (Bor (List ℕ))) → Type 0
+AreDialects names = map (λ name. name.now) names.now ≡ codes "1" ∷ []
+
+-- the option with just these words
+pub record IsDialect (rule : Rule) : Type 0 where
+  pub names : Bor (List (Bor (List ℕ)))
+  pub dialects : AreDialects names
+  pub is : rule ≡ dialect names
+
+abbrev pub command_line : Rule → App
+command_line rule = with_rule (with_rule (with_rule (new_app (codes "lam_server")) stdio) client) rule
+
+pub record IsCommandLine (command : Command) : Type 0 where
+  pub rule : Rule
+  pub dialect_rule : IsDialect rule
+  pub is : app_of command ≡ command_line rule
+
+-- no word at all counts as the program's name
+abbrev pub named_words : List (List ℕ) → List (List ℕ)
+named_words [] = codes "lam_server" ∷ []
+named_words (word ∷ words) = word ∷ words

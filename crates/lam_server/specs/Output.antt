@@ -1,0 +1,75 @@
+-- What the bytes of a client are answered with: messages are taken from their front in turn, and each is answered in full before the next one is looked at.
+use Rattle.std.specs.Prelude.{◌≡◌, ℕ, List, [], ◌∷◌, ◌++◌, Option, Some, None, Result, Ok, Err}
+use Rattle.serde_json.specs.Data.{Data}
+use Rattle.serde_json.specs.Written.{compact_text}
+use Rattle.lam_frame.specs.Frame.{HasFrame, IsOpen, IsRest, frame_text}
+use Rattle.lam_frame.specs.declared.fault.FrameFault.{FrameFault}
+use Rattle.lam_rpc.specs.Kind.{Message, IsKindOf}
+use Rattle.lam_session.specs.State.{State, ended_status}
+use Rattle.lam_session.specs.Step.{Steps}
+
+-- ---- one message
+
+-- the frames, in order, of the texts of these values
+abbrev pub frames_of : List Data → List ℕ
+frames_of [] = []
+frames_of (d ∷ ds) = frame_text (compact_text d) ++ frames_of ds
+
+-- a message stands at the front of the bytes: these frames answer it, this is the state after it, and these bytes are left
+pub record Takes (s : State) (bytes out : List ℕ) (next : State) (left : List ℕ) : Type 0 where
+  pub body : List ℕ
+  pub message : Message
+  pub values : List Data
+  pub frame : HasFrame bytes body left
+  pub kind : IsKindOf body message
+  pub steps : Steps s message values next
+  pub frames : out ≡ frames_of values
+
+-- ---- message after message
+
+-- the session has not ended
+abbrev pub IsLive : State → Type 0
+IsLive s = ended_status s.life ≡ None
+
+-- some messages at the front of the bytes, while the session lives: the frames that answer them, the state after them, and the bytes left
+pub data Turns (start : State) (bytes : List ℕ) : List ℕ → State → List ℕ → Type 0 where
+  no_turn : Turns start bytes [] start bytes
+  next_turn : {done first : List ℕ} {s next : State} {left after : List ℕ}
+      → Turns start bytes done s left → IsLive s → Takes s left first next after
+      → Turns start bytes (done ++ first) next after
+
+-- ---- whole runs
+
+-- how a run comes out: with a status, or with the fault of the bytes that are left
+abbrev pub Outcome : Type 0
+Outcome = Result ℕ FrameFault
+
+-- the session has ended with its status; or no frame is left: a clean end without an `exit` is status 1
+abbrev pub ComesTo : Option ℕ → List ℕ → Outcome → Type 0
+ComesTo (Some status) left outcome = outcome ≡ Ok status
+ComesTo None left (Ok status) = IsRest left None × (status ≡ 1)
+ComesTo None left (Err fault) = IsRest left (Some fault)
+
+-- the output is allowed for the input, with this outcome
+pub record IsAllowed (start : State) (input out : List ℕ) (outcome : Outcome) : Type 0 where
+  pub state : State
+  pub left : List ℕ
+  pub turns : Turns start input out state left
+  pub comes_to : ComesTo (ended_status state.life) left outcome
+
+-- ---- parts of runs
+
+-- a front of what the bytes are answered with: whole answers, and perhaps a front of the next one
+pub data IsFront (start : State) (bytes out : List ℕ) : Type 0 where
+  whole_answers : (s : State) (left : List ℕ) → Turns start bytes out s left → IsFront start bytes out
+  part_of_answer : (done front rest whole : List ℕ) (s next : State) (left after : List ℕ)
+      → Turns start bytes done s left → IsLive s → Takes s left whole next after
+      → whole ≡ front ++ rest → out ≡ done ++ front → IsFront start bytes out
+
+-- every message that is whole among the bytes is answered whole, the session lives, and what is left decides nothing yet
+pub record IsAwaiting (start : State) (bytes out : List ℕ) : Type 0 where
+  pub state : State
+  pub left : List ℕ
+  pub turns : Turns start bytes out state left
+  pub live : IsLive state
+  pub undecided : IsOpen left

@@ -1,0 +1,82 @@
+-- What a turn does: with the bytes held and pulled, with the session, and with the sink.
+use Rattle.std.specs.Prelude.{◌≡◌, ℕ, ◌+◌, ◌^◌, ◌≤◌, List, [], ◌++◌, length, Option, Some, None, Result, Ok, Err}
+use Rattle.std.specs.List.{concat}
+use Rattle.lam_frame.specs.Device.{FailedPull}
+use Rattle.lam_frame.specs.Frame.{IsOpen}
+use Rattle.lam_frame.specs.Next.{EndsEmpty, PulledWhile}
+use Rattle.lam_session.specs.State.{State, ended_status}
+use Rattle.lam_server.specs.Device.{Sends, FailsToSend, StopsSending, IsBroken}
+use Rattle.lam_server.specs.Output.{Takes, IsLive}
+use Rattle.lam_server.specs.Waiting.{Waiting, HasLessWork}
+use Rattle.lam_server.specs.declared.faults.RunFault.{RunFault}
+use Rattle.lam_server.specs.declared.faults.RunFault.TheVariants.{Header, Device, Memory}
+use Rattle.lam_server.specs.declared.server.Turn.{Turn}
+use Rattle.lam_server.specs.declared.server.Turn.TheVariants.{More, End}
+
+-- one message is taken from these bytes and answered in full
+pub record AnswersOne {W : Type 0} (taken : W → Option (List ℕ)) (flushed failed : W → ℕ)
+    (s : State) (heard : List ℕ) (sink : W) (next : State) (left : List ℕ) (sink_after : W) : Type 0 where
+  pub out : List ℕ
+  pub takes : Takes s heard out next left
+  pub sends : Sends taken flushed failed sink out sink_after
+
+-- the session goes on behind that message
+pub record GoesOn {W : Type 0} (taken : W → Option (List ℕ)) (flushed failed : W → ℕ)
+    (old : Waiting) (heard : List ℕ) (pieces : List (List ℕ)) (sink : W) (new : Waiting) (sink_after : W) : Type 0 where
+  pub answers : AnswersOne taken flushed failed old.state heard sink new.state new.held sink_after
+  pub live : IsLive new.state
+  pub counted : new.pulls ≡ old.pulls + length pieces
+
+-- the session ends with that message, or nothing is left to hear
+pub data Ends {W : Type 0} (taken : W → Option (List ℕ)) (flushed failed : W → ℕ)
+    (s : State) (heard : List ℕ) (pieces : List (List ℕ)) (sink : W) (status : ℕ) (sink_after : W) : Type 0 where
+  by_message : (next : State) (left : List ℕ) → AnswersOne taken flushed failed s heard sink next left sink_after
+      → ended_status next.life ≡ Some status → Ends taken flushed failed s heard pieces sink status sink_after
+  by_silence : heard ≡ [] → EndsEmpty pieces → status ≡ 1 → sink ≡ sink_after → Ends taken flushed failed s heard pieces sink status sink_after
+
+-- a pull failed; or one more was one too many; or the sink failed, while it was given the answer
+pub data DeviceStops {S W : Type 0} (coming : S → Option (List ℕ)) (source_failed : S → ℕ) (taken : W → Option (List ℕ)) (sink_failed : W → ℕ)
+    (s : State) (heard : List ℕ) (pulls : ℕ) (last : S) (sink : W) (source_after : S) (sink_after : W) : Type 0 where
+  at_pull : IsOpen heard → FailedPull coming source_failed last source_after → sink ≡ sink_after
+      → DeviceStops coming source_failed taken sink_failed s heard pulls last sink source_after sink_after
+  at_limit : IsOpen heard → pulls ≡ 2 ^ 48 → last ≡ source_after → sink ≡ sink_after
+      → DeviceStops coming source_failed taken sink_failed s heard pulls last sink source_after sink_after
+  at_sink : (out : List ℕ) (next : State) (left : List ℕ) → Takes s heard out next left → last ≡ source_after → FailsToSend taken sink_failed sink out sink_after
+      → DeviceStops coming source_failed taken sink_failed s heard pulls last sink source_after sink_after
+
+-- nothing was sent; or the memory for the text of a value of the answer was wanting
+pub data MemoryStops {W : Type 0} (taken : W → Option (List ℕ)) (failed : W → ℕ)
+    (s : State) (heard : List ℕ) (sink sink_after : W) : Type 0 where
+  before_sending : sink ≡ sink_after → MemoryStops taken failed s heard sink sink_after
+  while_sending : (out : List ℕ) (next : State) (left : List ℕ) → Takes s heard out next left → StopsSending taken failed sink out sink_after
+      → MemoryStops taken failed s heard sink sink_after
+
+-- what the answer of a turn says of the bytes heard
+abbrev pub TurnSays : {S W : Type 0} → (S → Option (List ℕ)) → (S → ℕ) → (W → Option (List ℕ)) → (W → ℕ) → (W → ℕ)
+    → Waiting → List ℕ → List (List ℕ) → S → W → Result Turn RunFault → S → W → Type 0
+TurnSays coming source_failed taken flushed sink_failed old heard pieces last sink (Ok (More server)) source_after sink_after =
+    GoesOn taken flushed sink_failed old heard pieces sink server sink_after × (last ≡ source_after)
+TurnSays coming source_failed taken flushed sink_failed old heard pieces last sink (Ok (End status)) source_after sink_after =
+    Ends taken flushed sink_failed old.state heard pieces sink status sink_after × (last ≡ source_after)
+TurnSays coming source_failed taken flushed sink_failed old heard pieces last sink (Err (Header fault)) source_after sink_after =
+    IsBroken heard pieces fault × ((last ≡ source_after) × (sink ≡ sink_after))
+TurnSays coming source_failed taken flushed sink_failed old heard pieces last sink (Err Device) source_after sink_after =
+    DeviceStops coming source_failed taken sink_failed old.state heard (old.pulls + length pieces) last sink source_after sink_after
+TurnSays coming source_failed taken flushed sink_failed old heard pieces last sink (Err Memory) source_after sink_after =
+    MemoryStops taken sink_failed old.state heard sink sink_after × (last ≡ source_after)
+
+-- a turn: pulls while the bytes there decide nothing, and then what the answer says
+pub record TakesTurn {S W : Type 0} (coming : S → Option (List ℕ)) (source_failed : S → ℕ) (gave : S → List ℕ → S → Type 0)
+    (taken : W → Option (List ℕ)) (flushed sink_failed : W → ℕ)
+    (old : Waiting) (source : S) (sink : W) (answer : Result Turn RunFault) (source_after : S) (sink_after : W) : Type 0 where
+  pub pieces : List (List ℕ)
+  pub last : S
+  pub needed : PulledWhile coming source_failed gave IsOpen old.held source pieces last
+  pub few : old.pulls + length pieces ≤ 2 ^ 48
+  pub says : TurnSays coming source_failed taken flushed sink_failed old (old.held ++ concat pieces) pieces last sink answer source_after sink_after
+
+-- the work that is left grows less where the session goes on
+abbrev pub ShrinksWork : Waiting → Result Turn RunFault → Type 0
+ShrinksWork old (Ok (More server)) = HasLessWork server old
+ShrinksWork old (Ok (End status)) = Unit {0}
+ShrinksWork old (Err fault) = Unit {0}

@@ -1,0 +1,14 @@
+-- A server between two messages.
+use Rattle.std.specs.Prelude.{ℕ, ◌<◌, List}
+use Rattle.lam_frame.specs.Next.{work_left}
+use Rattle.lam_session.specs.State.{State}
+
+-- the bytes held for later, the pulls made so far, and the session's state
+pub record Waiting : Type 0 where
+  pub held : List ℕ
+  pub pulls : ℕ
+  pub state : State
+
+-- it has less to do than the other: fewer pulls to make, or fewer bytes held
+abbrev pub HasLessWork : Waiting → Waiting → Type 0
+HasLessWork new old = work_left new.pulls new.held < work_left old.pulls old.held

@@ -1,0 +1,51 @@
+//! One body in, the frames of its answer out.
+
+ghost use Rattle.std.specs.Prelude.{◌≡◌, ◌-◌, ◌^◌, ◌<◌, false, List, ℕ, map};
+ghost use Rattle.std.specs.List.{All};
+ghost use Rattle.serde_json.specs.View.{view};
+ghost use Rattle.serde_json.specs.Written.{has_float};
+ghost use Rattle.lam_session.specs.State.{ended_status};
+ghost use Rattle.lam_server.specs.Answer.{AnswersBody, WritesValues};
+
+use crate::faults::RunFault;
+use lam_frame::{Sink, write_frame};
+use lam_rpc::classify;
+use lam_session::Session;
+use serde_json::Value;
+use std::alloc::Global;
+
+/// Takes one body's message and writes its answer.
+pub fn answer<W: Sink>(
+    alloc: Global,
+    session: &mut Session,
+    writer: &mut W,
+    body: &[u8],
+) -> Result<(), RunFault>
+    requires { W.failed writer.old < 2 ^ 64 - 1 }
+    ensures { AnswersBody W.taken W.flushed W.failed session.old body.now writer.old result session.new writer.new }
+{
+    let Ok(incoming) = classify(alloc, body) else {
+        return Err(RunFault::Memory);
+    };
+    let Ok(values) = session.step(incoming) else {
+        return Err(RunFault::Memory);
+    };
+    write_values(alloc, writer, &values)
+}
+
+/// Writes the frame of each value's text, in order, and flushes each.
+fn write_values<W: Sink>(alloc: Global, writer: &mut W, values: &[Value]) -> Result<(), RunFault>
+    requires failures { W.failed writer.old < 2 ^ 64 - 1 }
+    requires plain { All (λ v. has_float (view v) ≡ false) values.now }
+    ensures { WritesValues W.taken W.flushed W.failed (map view values.now) writer.old result writer.new }
+{
+    for value in values {
+        let Ok(text) = value.to_string(alloc) else {
+            return Err(RunFault::Memory);
+        };
+        let Ok(()) = write_frame(writer, text.as_bytes()) else {
+            return Err(RunFault::Device);
+        };
+    }
+    Ok(())
+}

@@ -1,0 +1,133 @@
+//! The words of the command line.
+
+ghost use Rattle.std.specs.Prelude.{◌≡◌, false, IfOk, codes, map};
+ghost use Rattle.clap.specs.Simple.{app_of, new_app};
+ghost use Rattle.clap.specs.Values.{kind_of};
+ghost use Rattle.clap.specs.Walk.{rule_of};
+ghost use Rattle.lam_server.specs.CommandLine.{IsCommandLine, IsDialect, client, named_words, stdio};
+
+use clap::error::ErrorKind;
+use clap::{Arg, ArgAction, Command, Error};
+use lam_session::Config;
+use std::alloc::{AllocError, Global};
+use thiserror::Error as FaultError;
+
+const NAME: &str = "lam_server";
+
+static NAME_ALONE: [&str; 1] = [NAME];
+
+/// The names of the dialects that there are.
+static DIALECTS: [&str; 1] = ["1"];
+
+const ABOUT: &str = "A language server for the typed lambda calculus with records and subtyping. \
+    It speaks LSP 3.17 on standard input and output.";
+
+const STATUSES: &str = "Exit status: 0 after shutdown and exit, 1 at an end without them, 2 for a \
+    wrong command line, 3 for bytes that are no frame, 4 for a device that failed, 5 for want of \
+    memory.";
+
+/// Why the words start no run.
+#[derive(Debug, Drop, FaultError)]
+pub enum ArgsFault {
+    /// Help was asked for: its text, for standard output.
+    #[error("{0}")]
+    Help(String),
+    /// The words are no command line of this program: what is wrong, for standard error.
+    #[error("{0}")]
+    Usage(String),
+    #[error("F7 Memory")]
+    Memory,
+}
+
+ghost use Rattle.lam_server.specs.Words.{ReadsWords, TellsKind};
+
+/// What the words say: `[--stdio] [--clientProcessId TEXT] [--dialect 1]`. The first word is the
+/// program's name, and no word at all counts as that name alone.
+///
+/// `--stdio` and `--clientProcessId` are accepted without effect, since editors give them.
+pub fn read_args(alloc: Global, words: &[&str]) -> Result<Config, ArgsFault>
+    ensures { ReadsWords (map (λ word. word.now) words.now) result }
+{
+    let Ok(command) = command(alloc) else {
+        return Err(ArgsFault::Memory);
+    };
+    match command.try_get_matches_from(named(words)) {
+        Ok(_) => Ok(Config::new()),
+        Err(error) => Err(fault_of(alloc, &error)),
+    }
+}
+
+/// The words, or where there is none the program's name.
+fn named<'a>(words: &'a [&'a str]) -> &'a [&'a str]
+    ensures { map (λ word. word.now) result.now ≡ named_words (map (λ word. word.now) words.now) }
+{
+    if words.is_empty() {
+        return NAME_ALONE.as_slice();
+    }
+    words
+}
+
+fn command<'a>(alloc: Global) -> Result<Command<'a>, AllocError>
+    ensures { IfOk result IsCommandLine }
+{
+    let command = bare_command(alloc);
+    let command = command.arg(stdio(alloc))?;
+    let command = command.arg(client(alloc))?;
+    command.arg(dialect(alloc))
+}
+
+fn bare_command<'a>(alloc: Global) -> Command<'a>
+    ensures { app_of result ≡ new_app (codes "lam_server") }
+{
+    Command::new(alloc, NAME).about(ABOUT).after_help(STATUSES)
+}
+
+fn stdio<'a>(alloc: Global) -> Arg<'a>
+    ensures rule { rule_of result ≡ stdio }
+    ensures local { result.global ≡ false }
+{
+    Arg::new(alloc, "stdio")
+        .long("stdio")
+        .action(ArgAction::SetTrue)
+        .help("Speak on standard input and output, as is done in any case")
+}
+
+fn client<'a>(alloc: Global) -> Arg<'a>
+    ensures rule { rule_of result ≡ client }
+    ensures local { result.global ≡ false }
+{
+    Arg::new(alloc, "clientProcessId")
+        .long("clientProcessId")
+        .value_name("TEXT")
+        .help("Accepted without effect")
+}
+
+fn dialect<'a>(alloc: Global) -> Arg<'a>
+    ensures rule { IsDialect (rule_of result) }
+    ensures local { result.global ≡ false }
+{
+    Arg::new(alloc, "dialect")
+        .long("dialect")
+        .value_name("DIALECT")
+        .value_parser(DIALECTS.as_slice())
+        .default_value("1")
+        .help("The subtyping rules")
+}
+
+/// A text that memory cut short is no text: the kind is looked at first.
+fn fault_of(alloc: Global, error: &Error) -> ArgsFault
+    ensures { TellsKind (kind_of error.now) result }
+{
+    let kind = error.kind();
+    if kind == ErrorKind::OutOfMemory {
+        return ArgsFault::Memory;
+    }
+    let Ok(text) = format!(in alloc; "{error}") else {
+        return ArgsFault::Memory;
+    };
+    if kind == ErrorKind::DisplayHelp {
+        ArgsFault::Help(text)
+    } else {
+        ArgsFault::Usage(text)
+    }
+}

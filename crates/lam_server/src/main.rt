@@ -1,0 +1,84 @@
+//! The language server's program: frames of the base protocol from standard input, the session's
+//! answers to standard output.
+//!
+//! `run::run` is all that happens between the two, and its contract says which bytes are answered
+//! with which, whatever comes and in whatever pieces. Nothing here knows what a message means.
+#![tactic(auto)]
+
+mod answer;
+mod args;
+mod faults;
+mod laws;
+mod run;
+mod server;
+#[cfg(test)]
+mod tests;
+
+use args::{ArgsFault, read_args};
+use faults::{RunFault, line_of, status_of};
+use lam_frame::{FromRead, ToWrite};
+use lam_session::Config;
+use run::run;
+use std::alloc::{AllocError, Global};
+use std::env::{self, Env};
+use std::io;
+use std::process::ExitCode;
+
+/// The status after words that start no run.
+const USAGE: u8 = 2;
+
+fn main(rt: HostRuntime) -> ExitCode {
+    let words: Vec<String> = match words(&rt) {
+        Ok(words) => words,
+        Err(error) => {
+            let _ = eprintln!(rt; "lam_server: the words cannot be read: {error}");
+            return ExitCode::from(USAGE);
+        }
+    };
+    ExitCode::from(started(&rt, words.as_slice()))
+}
+
+fn words<R: AllocGlobal + Env>(rt: &R) -> io::Result<Vec<String>> {
+    Ok(env::args(rt)?.collect(rt.alloc())?)
+}
+
+/// Reads the words, and then runs or says why not. The status to end with.
+fn started<R: AllocGlobal + Input + Print + Eprint>(rt: &R, words: &[String]) -> u8 {
+    match read_words(rt.alloc(), words) {
+        Ok(config) => ran(rt, config),
+        Err(ArgsFault::Help(text)) => {
+            let _ = print!(rt; "{text}");
+            0
+        }
+        Err(ArgsFault::Usage(text)) => {
+            let _ = eprint!(rt; "{text}");
+            USAGE
+        }
+        Err(ArgsFault::Memory) => ended(rt, RunFault::Memory),
+    }
+}
+
+fn read_words(alloc: Global, words: &[String]) -> Result<Config, ArgsFault> {
+    let slices: Result<Vec<&str>, AllocError> = words.iter().map(String::as_str).collect(alloc);
+    let Ok(slices) = slices else {
+        return Err(ArgsFault::Memory);
+    };
+    read_args(alloc, slices.as_slice())
+}
+
+/// Serves standard input and output.
+fn ran<R: AllocGlobal + Input + Print + Eprint>(rt: &R, config: Config) -> u8 {
+    let mut reader = FromRead::new(rt.reader());
+    let mut writer = ToWrite::new(io::writer(rt));
+    match run(rt.alloc(), &mut reader, &mut writer, config) {
+        Ok(status) => status,
+        Err(fault) => ended(rt, fault),
+    }
+}
+
+/// Says why on standard error. That this may fail too changes nothing.
+fn ended<R: Eprint>(rt: &R, fault: RunFault) -> u8 {
+    let line = line_of(&fault);
+    let _ = eprintln!(rt; "{line}");
+    status_of(&fault)
+}

@@ -1,0 +1,38 @@
+//! A run: turn after turn, to the end.
+
+ghost use Rattle.std.specs.Prelude.{◌≡◌, ◌-◌, ◌^◌, ◌<◌};
+ghost use Rattle.lam_session.specs.State.{fresh};
+ghost use Rattle.lam_server.specs.Run.{AnswersWhereTold, Runs};
+
+use crate::faults::RunFault;
+use crate::server::{Server, Turn};
+use lam_frame::{Sink, Source};
+use lam_session::Config;
+use std::alloc::Global;
+
+/// Answers all that the reader brings, and says with which status the program ends.
+pub fn run<R: Source, W: Sink>(
+    alloc: Global,
+    reader: &mut R,
+    writer: &mut W,
+    config: Config,
+) -> Result<u8, RunFault>
+    requires source { R.failed reader.old < 2 ^ 64 - 1 }
+    requires sink { W.failed writer.old < 2 ^ 64 - 1 }
+    ensures told { AnswersWhereTold fresh (R.coming reader.old) (R.coming reader.new) result (W.taken writer.old) (W.taken writer.new) }
+    ensures runs { Runs R.coming R.failed R.gave W.taken W.flushed W.failed fresh reader.old writer.old result reader.new writer.new }
+{
+    let Ok(mut server) = Server::new(alloc, config) else {
+        return Err(RunFault::Memory);
+    };
+    loop {
+        let turn = match server.turn(reader, writer) {
+            Ok(turn) => turn,
+            Err(fault) => return Err(fault),
+        };
+        match turn {
+            Turn::More(next) => server = next,
+            Turn::End(status) => return Ok(status),
+        }
+    }
+}

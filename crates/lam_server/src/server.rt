@@ -1,0 +1,99 @@
+//! A server, turn by turn.
+
+ghost use Rattle.std.specs.Prelude.{◌≡◌, ◌-◌, ◌^◌, ◌<◌, IfOk, [], List, ℕ};
+ghost use Rattle.lam_session.specs.State.{fresh};
+
+use crate::answer::answer;
+use crate::faults::{RunFault, fault_of_run};
+use lam_frame::{FrameReader, Sink, Source};
+use lam_session::{Config, Session};
+use std::alloc::{AllocError, Global};
+use std::marker::Model;
+
+/// The status of a clean end without an `exit`.
+const NO_EXIT: u8 = 1;
+
+/// A server between two messages.
+#[derive(Drop)]
+pub struct Server {
+    alloc: Global,
+    frames: FrameReader,
+    session: Session,
+}
+
+// Seen as the bytes that it holds for later, the pulls that it has made, and its session's state.
+impl Model for Server {
+    ghost use Rattle.std.specs.Prelude.{◌≡◌, false, None};
+    ghost use Rattle.lam_frame.specs.declared.reader.State.TheVariants.{Reading};
+    ghost use Rattle.lam_session.specs.State.{ended_status};
+    ghost use Rattle.lam_server.specs.Waiting.{Waiting};
+
+    ghost Value = { Waiting };
+
+    ghost view = { λ s. record { held = s.frames.held; pulls = s.frames.pulls; state = s.session.state } };
+
+    ghost invariant = { λ s. (s.frames.state ≡ Reading) × ((s.session.gave_up ≡ false) × (ended_status s.session.state.life ≡ None)) };
+}
+
+/// What a turn leads to.
+#[derive(Drop)]
+pub enum Turn {
+    /// A message was answered, and the session goes on.
+    More(Server),
+    /// The session is over: the program's status.
+    End(u8),
+}
+
+impl Server {
+    ghost use Rattle.lam_server.specs.Turn.{TakesTurn, ShrinksWork};
+
+    /// A server before its first message. What later calls need of memory they ask of `alloc`.
+    pub fn new(alloc: Global, config: Config) -> Result<Server, AllocError>
+        ensures { IfOk result (λ s. s ≡ record { held = []; pulls = 0; state = fresh }) }
+    {
+        let frames = FrameReader::new(alloc)?;
+        let session = Session::new(alloc, config);
+        Ok(Server {
+            alloc,
+            frames,
+            session,
+        })
+    }
+
+    /// Takes one message and answers it, or takes the clean end.
+    ///
+    /// After a fault the server is gone. `RunFault::Header` is the fault of the bytes that come
+    /// next: nothing is sent. `Device` comes where a device failed in this call, or before a pull
+    /// that would be one more than 2^48, and `Memory` where memory was refused.
+    pub fn turn<R: Source, W: Sink>(self, reader: &mut R, writer: &mut W) -> Result<Turn, RunFault>
+        requires source { R.failed reader.old < 2 ^ 64 - 1 }
+        requires sink { W.failed writer.old < 2 ^ 64 - 1 }
+        ensures takes { TakesTurn R.coming R.failed R.gave W.taken W.flushed W.failed
+            self reader.old writer.old result reader.new writer.new }
+        ensures progress { ShrinksWork self result }
+    {
+        let Server {
+            alloc,
+            mut frames,
+            mut session,
+        } = self;
+        let read = match frames.next(reader) {
+            Ok(read) => read,
+            Err(fault) => return Err(fault_of_run(fault)),
+        };
+        let Some(body) = read else {
+            return Ok(Turn::End(NO_EXIT));
+        };
+        if let Err(fault) = answer(alloc, &mut session, writer, &body) {
+            return Err(fault);
+        }
+        match session.ended() {
+            Some(status) => Ok(Turn::End(status)),
+            None => Ok(Turn::More(Server {
+                alloc,
+                frames,
+                session,
+            })),
+        }
+    }
+}

@@ -1,0 +1,457 @@
+//! Rows: bytes in, bytes out, and the outcome.
+ghost use Rattle.std.specs.Prelude.{◌≡◌, Some, ⊤};
+
+use crate::args::{ArgsFault, read_args};
+use crate::faults::{RunFault, line_of, status_of};
+use crate::run::run;
+use crate::server::{Server, Turn};
+use lam_frame::{BytesIn, BytesOut, DeviceFault, FrameFault, Sink, Source};
+use lam_session::Config;
+use std::alloc::{AllocError, Global};
+use std::cell::Cell;
+use std::process::Abort;
+use std::test::Fail;
+
+const INITIALIZE: &str = r#"{"jsonrpc":"2.0","id":0,"method":"initialize"}"#;
+
+const SHUTDOWN: &str = r#"{"jsonrpc":"2.0","id":2,"method":"shutdown"}"#;
+
+const EXIT: &str = r#"{"jsonrpc":"2.0","method":"exit"}"#;
+
+const INITIALIZED: &str = "Content-Length: 129\r\n\r\n\
+    {\"id\":0,\"jsonrpc\":\"2.0\",\"result\":{\"capabilities\":{\"positionEncoding\":\"utf-16\",\"textDocumentSync\":{\"change\":2,\"openClose\":true}}}}";
+
+const SHUT_DOWN: &str = "Content-Length: 38\r\n\r\n{\"id\":2,\"jsonrpc\":\"2.0\",\"result\":null}";
+
+const INVALID: &str = "Content-Length: 79\r\n\r\n\
+    {\"error\":{\"code\":-32600,\"message\":\"invalid message\"},\"id\":null,\"jsonrpc\":\"2.0\"}";
+
+const UNREADABLE: &str = "Content-Length: 82\r\n\r\n\
+    {\"error\":{\"code\":-32700,\"message\":\"unreadable message\"},\"id\":null,\"jsonrpc\":\"2.0\"}";
+
+/// The frames of these bodies.
+fn frames(alloc: Global, bodies: &[&str]) -> Result<String, AllocError> {
+    let mut text = String::new(alloc);
+    for body in bodies {
+        let length = body.len();
+        let frame = format!(in alloc; "Content-Length: {length}\r\n\r\n{body}")?;
+        text.push_str(frame.as_str())?;
+    }
+    Ok(text)
+}
+
+/// Runs on these bytes in memory, and compares the outcome and the output.
+fn check_bytes(
+    rt: &impl Abort,
+    alloc: Global,
+    input: &[u8],
+    outcome: Result<u8, RunFault>,
+    output: &str,
+) {
+    let mut reader = BytesIn::new(input);
+    let mut writer = BytesOut::new(alloc);
+    let found = run(alloc, &mut reader, &mut writer, Config::new());
+    assert_eq!(rt; found, outcome);
+    assert_eq!(rt; writer.bytes(), output.as_bytes());
+}
+
+#[test]
+fn headers(rt: HostRuntime) -> Result<(), Fail> {
+    let alloc = rt.alloc();
+    let rows = [
+        ("", Ok(1), ""),
+        (
+            "Content-Length: 44\r\n\r\n{\"jsonrpc\":\"2.0\",\"id\":1,\"method\":\"shutdown\"}",
+            Ok(1),
+            "Content-Length: 83\r\n\r\n{\"error\":{\"code\":-32002,\"message\":\"server not initialized\"},\"id\":1,\"jsonrpc\":\"2.0\"}",
+        ),
+        (
+            "Content-Length: 10\r\n\r\n123456789",
+            Err(RunFault::Header(FrameFault::Truncated)),
+            "",
+        ),
+        (
+            "Content-Length: 2\r\nContent-Length: 2\r\n\r\n{}",
+            Err(RunFault::Header(FrameFault::BadLength)),
+            "",
+        ),
+        (
+            "Content-Length: 67108865\r\n\r\n",
+            Err(RunFault::Header(FrameFault::TooLong)),
+            "",
+        ),
+        ("content-length:\t2 \r\n\r\n{}", Ok(1), INVALID),
+        ("Content-Length: 2\r\n\r\n[]", Ok(1), INVALID),
+        ("Content-Length: 1\r\n\r\n{", Ok(1), UNREADABLE),
+        // The reply stands, and then comes the fault.
+        (
+            "Content-Length: 1\r\n\r\n{Content-Length 1\r\n\r\n{",
+            Err(RunFault::Header(FrameFault::BadHeader)),
+            UNREADABLE,
+        ),
+        (
+            "Content-Length: 1\r\n\r\n{\r\n",
+            Err(RunFault::Header(FrameFault::NoLength)),
+            UNREADABLE,
+        ),
+    ];
+    for (input, outcome, output) in rows {
+        check_bytes(&rt, alloc, input.as_bytes(), outcome, output);
+    }
+    Ok(())
+}
+
+/// A frame of `{}` whose second field has this many bytes.
+fn long_header(alloc: Global, count: usize) -> Result<String, AllocError> {
+    let mut text = String::from_str(alloc, "Content-Length: 2\r\nX: ")?;
+    for _ in 0..count {
+        text.push('a')?;
+    }
+    text.push_str("\r\n\r\n{}")?;
+    Ok(text)
+}
+
+#[test]
+fn header_limit(rt: HostRuntime) -> Result<(), Fail> {
+    let alloc = rt.alloc();
+    let taken = long_header(alloc, 4070)?;
+    assert_eq!(rt; taken.len(), 4096 + 2);
+    check_bytes(&rt, alloc, taken.as_bytes(), Ok(1), INVALID);
+    let refused = long_header(alloc, 4071)?;
+    let fault = Err(RunFault::Header(FrameFault::BadHeader));
+    check_bytes(&rt, alloc, refused.as_bytes(), fault, "");
+    Ok(())
+}
+
+/// Runs on the frames of these bodies, up to an empty one.
+fn check_bodies(
+    rt: &impl Abort,
+    alloc: Global,
+    bodies: &[&str],
+    status: u8,
+    output: &str,
+) -> Result<(), AllocError> {
+    let input = frames(alloc, bodies)?;
+    check_bytes(rt, alloc, input.as_bytes(), Ok(status), output);
+    Ok(())
+}
+
+#[test]
+fn whole_session(rt: HostRuntime) -> Result<(), Fail> {
+    let alloc = rt.alloc();
+    let both = format!(in alloc; "{INITIALIZED}{SHUT_DOWN}")?;
+    check_bodies(&rt, alloc, &[INITIALIZE, SHUTDOWN, EXIT], 0, both.as_str())?;
+    // Without a shutdown, without an exit, and with more behind the exit.
+    check_bodies(&rt, alloc, &[INITIALIZE, EXIT], 1, INITIALIZED)?;
+    check_bodies(&rt, alloc, &[INITIALIZE, SHUTDOWN], 1, both.as_str())?;
+    check_bodies(&rt, alloc, &[EXIT, INITIALIZE], 1, "")?;
+    // Replies and notices that are not heeded.
+    let quiet = [
+        r#"{"result":0}"#,
+        r#"{"method":"initialize"}"#,
+        r#"{"method":"initialized","params":{}}"#,
+    ];
+    check_bodies(&rt, alloc, &quiet, 1, "")?;
+    Ok(())
+}
+
+#[test]
+fn refusals(rt: HostRuntime) -> Result<(), Fail> {
+    let alloc = rt.alloc();
+    let fresh = [
+        (
+            r#"{"id":18446744073709551615,"method":"shutdown"}"#,
+            "Content-Length: 102\r\n\r\n{\"error\":{\"code\":-32002,\"message\":\"server not initialized\"},\"id\":18446744073709551615,\"jsonrpc\":\"2.0\"}",
+        ),
+        (r#"{"id":1.5,"method":"shutdown"}"#, INVALID),
+        (r#"{"id":null,"method":"shutdown"}"#, INVALID),
+        (
+            r#"{"id":1,"method":"exit"}"#,
+            "Content-Length: 83\r\n\r\n{\"error\":{\"code\":-32002,\"message\":\"server not initialized\"},\"id\":1,\"jsonrpc\":\"2.0\"}",
+        ),
+    ];
+    for (body, reply) in fresh {
+        check_bodies(&rt, alloc, &[body], 1, reply)?;
+    }
+    let running = [
+        (
+            r#"{"id":1,"method":"exit"}"#,
+            "Content-Length: 77\r\n\r\n{\"error\":{\"code\":-32601,\"message\":\"method not found\"},\"id\":1,\"jsonrpc\":\"2.0\"}",
+        ),
+        (
+            r#"{"id":1,"method":"initialize"}"#,
+            "Content-Length: 80\r\n\r\n{\"error\":{\"code\":-32600,\"message\":\"already initialized\"},\"id\":1,\"jsonrpc\":\"2.0\"}",
+        ),
+    ];
+    for (body, reply) in running {
+        let output = format!(in alloc; "{INITIALIZED}{reply}")?;
+        check_bodies(&rt, alloc, &[INITIALIZE, body], 1, output.as_str())?;
+    }
+    let late = r#"{"id":1,"method":"initialize"}"#;
+    let refused =
+        "Content-Length: 80\r\n\r\n{\"error\":{\"code\":-32600,\"message\":\"server is shut down\"},\"id\":1,\"jsonrpc\":\"2.0\"}";
+    let output = format!(in alloc; "{INITIALIZED}{SHUT_DOWN}{refused}")?;
+    check_bodies(
+        &rt,
+        alloc,
+        &[INITIALIZE, SHUTDOWN, late, EXIT],
+        0,
+        output.as_str(),
+    )?;
+    Ok(())
+}
+
+#[test]
+fn position_encodings(rt: HostRuntime) -> Result<(), Fail> {
+    let alloc = rt.alloc();
+    for (offered, length, chosen) in [
+        (r#"["utf-8","utf-16"]"#, 128, "utf-8"),
+        (r#"["utf-32","utf-8","utf-16"]"#, 129, "utf-32"),
+    ] {
+        let body = format!(in alloc;
+            "{{\"id\":0,\"method\":\"initialize\",\"params\":{{\"capabilities\":{{\"general\":{{\"positionEncodings\":{offered}}}}}}}}}"
+        )?;
+        let output = format!(in alloc;
+            "Content-Length: {length}\r\n\r\n{{\"id\":0,\"jsonrpc\":\"2.0\",\"result\":{{\"capabilities\":{{\"positionEncoding\":\"{chosen}\",\"textDocumentSync\":{{\"change\":2,\"openClose\":true}}}}}}}}"
+        )?;
+        check_bodies(&rt, alloc, &[body.as_str()], 1, output.as_str())?;
+    }
+    Ok(())
+}
+
+#[test]
+fn documents(rt: HostRuntime) -> Result<(), Fail> {
+    let alloc = rt.alloc();
+    let bodies = [
+        INITIALIZE,
+        r#"{"method":"textDocument/didOpen","params":{"textDocument":{"uri":"file:///a","version":1,"text":""}}}"#,
+        r#"{"method":"textDocument/didClose","params":{"textDocument":{"uri":"file:///a"}}}"#,
+        r#"{"method":"textDocument/didClose","params":{"textDocument":{"uri":"file:///a"}}}"#,
+    ];
+    let opened =
+        "Content-Length: 118\r\n\r\n{\"jsonrpc\":\"2.0\",\"method\":\"textDocument/publishDiagnostics\",\"params\":{\"diagnostics\":[],\"uri\":\"file:///a\",\"version\":1}}";
+    let closed =
+        "Content-Length: 106\r\n\r\n{\"jsonrpc\":\"2.0\",\"method\":\"textDocument/publishDiagnostics\",\"params\":{\"diagnostics\":[],\"uri\":\"file:///a\"}}";
+    let output = format!(in alloc; "{INITIALIZED}{opened}{closed}")?;
+    check_bodies(&rt, alloc, &bodies, 1, output.as_str())?;
+    Ok(())
+}
+
+/// How many turns go on, and the status of the one that ends.
+fn turns(alloc: Global, input: &[u8], writer: &mut BytesOut) -> Result<(usize, u8), RunFault>
+    requires { writer.old.failures ≡ 0 }
+{
+    let mut reader = BytesIn::new(input);
+    let Ok(mut server) = Server::new(alloc, Config::new()) else {
+        return Err(RunFault::Memory);
+    };
+    for count in 0..100 {
+        let turn = match server.turn(&mut reader, writer) {
+            Ok(turn) => turn,
+            Err(fault) => return Err(fault),
+        };
+        match turn {
+            Turn::More(next) => server = next,
+            Turn::End(status) => return Ok((count, status)),
+        }
+    }
+    Err(RunFault::Device)
+}
+
+#[test]
+fn turn_by_turn(rt: HostRuntime) -> Result<(), Fail> {
+    let alloc = rt.alloc();
+    let rows = [
+        (frames(alloc, &[INITIALIZE, SHUTDOWN, EXIT])?, 2, 0),
+        (frames(alloc, &[SHUTDOWN])?, 1, 1),
+    ];
+    for (input, more, status) in &rows {
+        let mut writer = BytesOut::new(alloc);
+        let found = turns(alloc, input.as_bytes(), &mut writer);
+        assert_eq!(rt; found, Ok((*more, *status)));
+    }
+    Ok(())
+}
+
+/// Gives one message at a time, and fails a pull while an answer is owed.
+#[derive(Drop)]
+struct Asker<'a> {
+    frames: &'a [String],
+    /// How many answers are flushed before each message is given, and at the end.
+    owed: &'a [usize],
+    given: usize,
+    answered: &'a Cell<usize>,
+    failures: u64,
+}
+
+impl Source for Asker<'_> {
+    ghost failed = { λ s. s.failures };
+
+    ghost gave = { λ _ _ _. ⊤ };
+
+    fn failures(&self) -> u64 {
+        self.failures
+    }
+
+    fn pull(&mut self, into: &mut [u8]) -> Result<usize, DeviceFault> {
+        let Some(owed) = self.owed.get(self.given) else {
+            return Ok(0);
+        };
+        if self.answered.get() != *owed {
+            self.failures += 1;
+            return Err(DeviceFault);
+        }
+        let Some(frame) = self.frames.get(self.given) else {
+            return Ok(0);
+        };
+        self.given += 1;
+        let bytes = frame.as_bytes();
+        let count = bytes.len().min(into.len());
+        into[..count].copy_from_slice(&bytes[..count]);
+        Ok(count)
+    }
+}
+
+/// Counts the flushes behind some bytes.
+#[derive(Drop)]
+struct Hearer<'a> {
+    inner: BytesOut,
+    unflushed: bool,
+    answered: &'a Cell<usize>,
+}
+
+impl Sink for Hearer<'_> {
+    ghost taken = { λ s. Some s.inner.bytes };
+
+    ghost flushed = { λ s. s.inner.flushed };
+
+    ghost failed = { λ s. s.inner.failures };
+
+    fn failures(&self) -> u64 {
+        self.inner.failures()
+    }
+
+    fn push(&mut self, from: &[u8]) -> Result<usize, DeviceFault> {
+        self.unflushed = true;
+        self.inner.push(from)
+    }
+
+    fn flush(&mut self) -> Result<(), DeviceFault> {
+        if self.unflushed {
+            self.answered.set(self.answered.get().wrapping_add(1));
+        }
+        self.unflushed = false;
+        self.inner.flush()
+    }
+}
+
+#[test]
+fn answers_before_it_pulls_again(rt: HostRuntime) -> Result<(), Fail> {
+    let alloc = rt.alloc();
+    let output = format!(in alloc; "{INITIALIZED}{SHUT_DOWN}")?;
+    let mut messages = Vec::new(alloc);
+    for body in [INITIALIZE, SHUTDOWN, EXIT] {
+        messages.push(frames(alloc, &[body])?)?;
+    }
+    let answered = Cell::new(0);
+    let mut reader = Asker {
+        frames: messages.as_slice(),
+        owed: &[0, 1, 2, 2],
+        given: 0,
+        answered: &answered,
+        failures: 0,
+    };
+    let mut writer = Hearer {
+        inner: BytesOut::new(alloc),
+        unflushed: false,
+        answered: &answered,
+    };
+    let found = run(alloc, &mut reader, &mut writer, Config::new());
+    assert_eq!(rt; found, Ok(0));
+    assert_eq!(rt; writer.inner.bytes(), output.as_bytes());
+    Ok(())
+}
+
+/// How reading these words comes out.
+fn kind_of(alloc: Global, words: &[&str]) -> &'static str {
+    match read_args(alloc, words) {
+        Ok(_) => "run",
+        Err(ArgsFault::Help(_)) => "help",
+        Err(ArgsFault::Usage(_)) => "usage",
+        Err(ArgsFault::Memory) => "memory",
+    }
+}
+
+#[test]
+fn words(rt: HostRuntime) {
+    let alloc = rt.alloc();
+    let none: [&str; 0] = [];
+    assert_eq!(rt; kind_of(alloc, &none), "run");
+    assert_eq!(rt; kind_of(alloc, &["lam_server"]), "run");
+    assert_eq!(rt; kind_of(alloc, &["lam_server", "--help"]), "help");
+    assert_eq!(rt; kind_of(alloc, &["lam_server", "-h"]), "help");
+    assert_eq!(rt; kind_of(alloc, &["lam_server", "--stdio"]), "run");
+    let editor = ["lam_server", "--stdio", "--clientProcessId", "7"];
+    assert_eq!(rt; kind_of(alloc, &editor), "run");
+    assert_eq!(rt;
+        kind_of(alloc, &["lam_server", "--clientProcessId"]),
+        "usage"
+    );
+    assert_eq!(rt; kind_of(alloc, &["lam_server", "--port"]), "usage");
+    assert_eq!(rt; kind_of(alloc, &["lam_server", "file"]), "usage");
+    assert_eq!(rt;
+        kind_of(alloc, &["lam_server", "--stdio", "--stdio"]),
+        "usage"
+    );
+    for (dialect, kind) in [("1", "run"), ("2", "usage"), ("3", "usage"), ("", "usage")] {
+        assert_eq!(rt; kind_of(alloc, &["lam_server", "--dialect", dialect]), kind);
+    }
+    assert_eq!(rt; kind_of(alloc, &["lam_server", "--dialect=1"]), "run");
+}
+
+#[test]
+fn ends(rt: HostRuntime) {
+    let rows = [
+        (
+            RunFault::Header(FrameFault::NoLength),
+            3,
+            "lam_server: F1 NoLength",
+        ),
+        (
+            RunFault::Header(FrameFault::BadLength),
+            3,
+            "lam_server: F2 BadLength",
+        ),
+        (
+            RunFault::Header(FrameFault::TooLong),
+            3,
+            "lam_server: F3 TooLong",
+        ),
+        (
+            RunFault::Header(FrameFault::BadHeader),
+            3,
+            "lam_server: F4 BadHeader",
+        ),
+        (
+            RunFault::Header(FrameFault::Truncated),
+            3,
+            "lam_server: F5 Truncated",
+        ),
+        (
+            RunFault::Header(FrameFault::Memory),
+            5,
+            "lam_server: F7 Memory",
+        ),
+        (
+            RunFault::Header(FrameFault::Spent),
+            4,
+            "lam_server: F6 Device",
+        ),
+        (RunFault::Device, 4, "lam_server: F6 Device"),
+        (RunFault::Memory, 5, "lam_server: F7 Memory"),
+    ];
+    for (fault, status, line) in rows {
+        assert_eq!(rt; status_of(&fault), status);
+        assert_eq!(rt; line_of(&fault), line);
+    }
+}
