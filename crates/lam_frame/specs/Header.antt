@@ -13,6 +13,7 @@ use Rattle.lam_frame.specs.declared.fault.FrameFault.TheVariants.{NoLength, BadL
 abbrev pub is_plain : ℕ → Bool
 is_plain b = nat_lt b 128 && not (b == 13 || b == 10)
 
+-- such bytes alone
 abbrev pub IsPlain : List ℕ → Type 0
 IsPlain bytes = list_all is_plain bytes ≡ true
 
@@ -20,6 +21,7 @@ IsPlain bytes = list_all is_plain bytes ≡ true
 abbrev pub IsLine : List ℕ → Type 0
 IsLine line = (0 < length line) × IsPlain line
 
+-- each of them a line
 abbrev pub AreLines : List (List ℕ) → Type 0
 AreLines lines = AllByRecursion IsLine lines
 
@@ -80,9 +82,11 @@ pub record IsTooLong (bytes : List ℕ) : Type 0 where
 
 -- ---- the fields
 
+-- `:`
 abbrev pub is_colon : ℕ → Bool
 is_colon b = b == 58
 
+-- a field has a name and a value
 abbrev pub has_colon : List ℕ → Bool
 has_colon line = list_any is_colon line
 
@@ -90,18 +94,21 @@ has_colon line = list_any is_colon line
 abbrev pub names_length : List ℕ → Bool
 names_length line = bytes_eq (map to_ascii_lowercase (before_first is_colon line)) (codes "content-length")
 
+-- a space or a tab
 abbrev pub is_blank : ℕ → Bool
 is_blank b = b == 32 || b == 9
 
--- without the spaces and tabs in front, behind, and both
+-- without the spaces and tabs in front
 abbrev pub trim_front : List ℕ → List ℕ
 trim_front [] = []
 trim_front (b ∷ bs) = if is_blank b then trim_front bs else b ∷ bs
 
+-- without those behind
 abbrev pub trim_back : List ℕ → List ℕ
 trim_back [] = []
 trim_back (b ∷ bs) = if is_blank b && list_all is_blank bs then [] else b ∷ trim_back bs
 
+-- without both
 abbrev pub trim : List ℕ → List ℕ
 trim bs = trim_back (trim_front bs)
 

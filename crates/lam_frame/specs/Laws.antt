@@ -11,13 +11,15 @@ HasReading bytes = (bodies : List (List ℕ)) × (fault : Option FrameFault) × 
 abbrev pub ReadsOneWay : List ℕ → Type 0
 ReadsOneWay bytes = (b c : List (List ℕ)) (f g : Option FrameFault) → IsReading bytes b f → IsReading bytes c g → (b ≡ c) × (f ≡ g)
 
--- whatever bytes follow, the first frame is this one, or this fault stands in its place
+-- whatever bytes follow, they begin with a frame of this body
 abbrev pub SettlesFrame : List ℕ → List ℕ → Type 0
 SettlesFrame bytes body = (more : List ℕ) → (after : List ℕ) × HasFrame (bytes ++ more) body after
 
+-- or they have this fault
 abbrev pub SettlesFault : List ℕ → FrameFault → Type 0
 SettlesFault bytes fault = (more : List ℕ) → HasFault (bytes ++ more) fault
 
+-- one of the two is settled
 abbrev pub Settles : List ℕ → Type 0
 Settles bytes = ((body : List ℕ) × SettlesFrame bytes body) ⊎ ((fault : FrameFault) × SettlesFault bytes fault)
 

@@ -9,13 +9,15 @@ use Rattle.lam_frame.specs.declared.header.Header.TheVariants.{Whole, Unfinished
 use Rattle.lam_frame.specs.declared.header.Line.{Line}
 use Rattle.lam_frame.specs.declared.header.Line.TheVariants.{Whole as WholeLine, Unfinished as UnfinishedLine, Spoiled as SpoiledLine}
 
--- the plain bytes in front, and what follows them
+-- the plain bytes in front
 abbrev pub plain_part : List ℕ → List ℕ
 plain_part bytes = take (prefix_len is_plain bytes) bytes
 
+-- what follows them
 abbrev pub plain_rest : List ℕ → List ℕ
 plain_rest bytes = drop (prefix_len is_plain bytes) bytes
 
+-- what the bytes begin with, by the byte behind the plain ones
 abbrev pub IsFirstLine : List ℕ → Line → Type 0
 IsFirstLine bytes (WholeLine line after) = (line.now ≡ plain_part bytes) × (plain_rest bytes ≡ 13 ∷ 10 ∷ after.now)
 IsFirstLine bytes UnfinishedLine = IsBegunEnd (plain_rest bytes)
@@ -29,16 +31,18 @@ pub record HasLines (bytes : List ℕ) (len : ℕ) (body : Result ℕ FrameFault
   pub size : len ≡ length (header_text lines)
   pub says : body ≡ body_length lines
 
+-- what a scan answers of the bytes
 abbrev pub IsScan : List ℕ → Header → Type 0
 IsScan bytes (Whole len body) = HasLines bytes len body
 IsScan bytes Unfinished = IsUnfinished bytes
 IsScan bytes Spoiled = IsSpoiled bytes
 
--- what the lines say with one more that names the length, and with any one more
+-- what the lines say with one more that names the length
 abbrev pub with_length_of : Result ℕ FrameFault → List ℕ → Result ℕ FrameFault
 with_length_of (Err NoLength) value = length_in (trim value)
 with_length_of (Err BadHeader) value = Err BadHeader
 with_length_of _ value = Err BadLength
 
+-- and with any one more
 abbrev pub with_line_of : Result ℕ FrameFault → List ℕ → Result ℕ FrameFault
 with_line_of so_far line = if has_colon line then (if names_length line then with_length_of so_far (after_first is_colon line) else so_far) else Err BadHeader
