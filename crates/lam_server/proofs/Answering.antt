@@ -1,5 +1,5 @@
 -- What a turn makes of what the reader answered and of what answering did.
-use Rattle.std.proofs.Common.{◌≡◌, ◌≢◌, ◌≤◌, ℕ, ◌+◌, ◌^◌, List, [], ◌++◌, length, Option, Some, None, Result, Ok, Err, refl, sym, ap, ◌∙◌, subst}
+use Rattle.std.proofs.Common.{◌≡◌, ◌≤◌, ℕ, ◌^◌, List, ◌++◌, Option, Some, None, Result, Ok, Err, refl, sym, ◌∙◌, subst}
 use Rattle.std.specs.List.{concat}
 use Rattle.serde_json.specs.Data.{Data}
 use Rattle.lam_frame.specs.Frame.{HasFrame, IsOpen}
@@ -9,11 +9,11 @@ use Rattle.lam_frame.specs.declared.fault.FrameFault.TheVariants.{NoLength, BadL
 use Rattle.lam_session.specs.State.{Snapshot, ended_status}
 use Rattle.lam_rpc.specs.Kind.{Message, IsKindOf}
 use Rattle.lam_session.specs.Step.{Answers}
-use Rattle.lam_server.specs.Answer.{AnswersBody, StepsBody, StopsAnswering, WritesValues}
+use Rattle.lam_server.specs.Answer.{AnswersBody, StepsBody, WritesValues}
 use Rattle.lam_server.specs.Answer.StopsAnswering.{before_sending as nothing_sent, while_sending as part_sent}
 use Rattle.lam_server.specs.Output.{Takes, frames_of}
 use Rattle.lam_server.specs.Program.{fault_of_run}
-use Rattle.lam_server.specs.Turn.{TakesTurn, TurnSays, AnswersOne, GoesOn, Ends, DeviceStops, MemoryStops}
+use Rattle.lam_server.specs.Turn.{TakesTurn, TurnSays}
 use Rattle.lam_server.specs.Turn.Ends.{by_message, by_silence}
 use Rattle.lam_server.specs.Turn.DeviceStops.{at_pull, at_limit, at_sink}
 use Rattle.lam_server.specs.Turn.MemoryStops.{before_sending, while_sending}

@@ -1,15 +1,12 @@
 -- A front of what some bytes are answered with goes on to an output that is allowed for them.
-use Rattle.std.proofs.Common.{◌≡◌, ℕ, List, [], ◌∷◌, ◌++◌, Option, Some, None, Result, Ok, Err, refl, sym, ap, ◌∙◌, subst, append_assoc, append-nil}
-use Rattle.serde_json.specs.Data.{Data}
-use Rattle.lam_frame.specs.Frame.{HasFrame, IsReading, IsRest}
+use Rattle.std.proofs.Common.{◌≡◌, ℕ, List, [], ◌∷◌, ◌++◌, Option, Some, None, Ok, Err, refl, sym, ap, ◌∙◌, subst, append_assoc, append-nil}
+use Rattle.lam_frame.specs.Frame.{IsReading, IsRest}
 use Rattle.lam_frame.proofs.Readings.{has_reading}
 use Rattle.lam_frame.specs.declared.fault.FrameFault.{FrameFault}
-use Rattle.lam_rpc.specs.Kind.{Message, IsKindOf}
 use Rattle.lam_rpc.proofs.KindLaws.{some_kind}
 use Rattle.lam_session.specs.State.{State, ended_status}
-use Rattle.lam_session.specs.Step.{Steps}
 use Rattle.lam_server.specs.Laws.{IsAlwaysAnswered, GoesOnToAllowed}
-use Rattle.lam_server.specs.Output.{Takes, Turns, IsLive, Outcome, ComesTo, IsAllowed, IsFront, frames_of}
+use Rattle.lam_server.specs.Output.{Takes, Turns, Outcome, ComesTo, IsAllowed, IsFront, frames_of}
 use Rattle.lam_server.specs.Output.Turns.{next_turn}
 use Rattle.lam_server.specs.Output.IsFront.{whole_answers, part_of_answer}
 

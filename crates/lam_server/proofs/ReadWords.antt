@@ -1,15 +1,14 @@
 -- The command line is one whose faults clap defines.
-use Rattle.std.proofs.Common.{◌≡◌, ◌⊎◌, inl, inr, ℕ, List, [], Result, Ok, Err, true, refl, sym, ap, ◌∙◌, subst}
+use Rattle.std.proofs.Common.{◌≡◌, ◌⊎◌, inl, inr, ℕ, List, Err, true, refl, sym, ap, ◌∙◌, subst}
 use Rattle.clap.specs.Faults.{fault_of, is_simple_and_free}
 use Rattle.clap.specs.Kinds.{Kinds, IsAmong}
 use Rattle.clap.specs.Simple.{App, app_of}
-use Rattle.clap.specs.Walk.{Rule}
 use Rattle.clap.specs.declared.builder.command.Command.{Command}
 use Rattle.clap.specs.declared.error.kind.ErrorKind.{ErrorKind}
 use Rattle.clap.specs.declared.error.kind.ErrorKind.TheVariants.{DisplayHelp, OutOfMemory}
 use Rattle.clap.proofs.OnLiterals.{clap_on_literals}
 use Rattle.std.specs.Borrow.{Bor}
-use Rattle.lam_server.specs.CommandLine.{IsCommandLine, IsDialect, command_line, dialect, named_words}
+use Rattle.lam_server.specs.CommandLine.{IsCommandLine, command_line, dialect, named_words}
 use Rattle.lam_server.specs.Words.{FindsFaults, HasMistake, ReadsWords, TellsKind}
 use Rattle.lam_server.specs.declared.args.ArgsFault.{ArgsFault}
 use Rattle.lam_server.specs.declared.args.ArgsFault.TheVariants.{Help, Usage, Memory}

@@ -1,19 +1,19 @@
 -- A run by the pieces that the source gave is a run by the bytes that it tells.
-use Rattle.std.proofs.Common.{◌≡◌, ◌≢◌, ℕ, List, [], ◌∷◌, ◌++◌, Option, Some, None, Result, Ok, Err, refl, sym, ap, ◌∙◌, subst, append-nil, length}
+use Rattle.std.proofs.Common.{◌≡◌, ◌≢◌, ℕ, List, [], ◌++◌, Option, Some, None, Result, Ok, Err, refl, sym, ap, ◌∙◌, subst, append-nil, length}
 use Rattle.std.specs.List.{concat}
 use Rattle.std.specs.Io.KnownBytes.{Appends, Consumes, Keeps, IsAtEnd}
-use Rattle.std.proofs.KnownBytes.{Consumes-kept, Keeps-refl}
-use Rattle.lam_frame.specs.Frame.{HasFault, IsOpen, IsRest}
+use Rattle.std.proofs.KnownBytes.{Keeps-refl}
+use Rattle.lam_frame.specs.Frame.{IsOpen, IsRest}
 use Rattle.lam_frame.specs.Next.{EndsEmpty, PulledWhile}
 use Rattle.lam_frame.proofs.Pulls.{PulledWhile-bytes, PulledWhile-end}
 use Rattle.lam_frame.proofs.Told.{HasFault-more}
 use Rattle.lam_frame.specs.declared.fault.FrameFault.{FrameFault}
 use Rattle.lam_frame.specs.declared.fault.FrameFault.TheVariants.{NoLength, BadLength, TooLong, BadHeader, Truncated, Device as DeviceFrame, Memory as MemoryFrame, TooManyTurns, Spent}
 use Rattle.lam_session.specs.State.{State, ended_status}
-use Rattle.lam_server.specs.Device.{Sends, IsBroken}
-use Rattle.lam_server.specs.Output.{Turns, IsLive, ComesTo, IsAllowed, IsFront, IsAwaiting}
+use Rattle.lam_server.specs.Device.{IsBroken}
+use Rattle.lam_server.specs.Output.{ComesTo, IsAllowed, IsFront, IsAwaiting}
 use Rattle.lam_server.specs.Output.IsFront.{whole_answers}
-use Rattle.lam_server.specs.Run.{Runs, Finishes, Breaks, DeviceEnds, MemoryEnds, DecidesNothing, AnswersInput, AnswersFront, AnswersTold, AnswersWhereTold}
+use Rattle.lam_server.specs.Run.{Runs, Finishes, Breaks, DeviceEnds, DecidesNothing, AnswersFront, AnswersTold, AnswersWhereTold}
 use Rattle.lam_server.specs.Run.Finishes.{by_message, by_silence}
 use Rattle.lam_server.specs.Run.DeviceEnds.{at_pull, at_limit, at_sink}
 use Rattle.lam_server.specs.declared.faults.RunFault.{RunFault}

@@ -1,24 +1,22 @@
 -- A run, as far as it has come: turn after turn, and then how it ends.
-use Rattle.std.proofs.Common.{◌≡◌, ◌≢◌, ◌≤◌, ℕ, ◌+◌, ◌^◌, List, [], ◌∷◌, ◌++◌, length, Option, Some, None, Result, Ok, Err, refl, sym, ap, ◌∙◌, subst, arith, append_assoc, append-nil, length-append}
+use Rattle.std.proofs.Common.{◌≡◌, ◌≤◌, ℕ, ◌+◌, ◌^◌, List, [], ◌∷◌, ◌++◌, length, Option, Result, Ok, Err, refl, sym, ap, ◌∙◌, subst, arith, append_assoc, length-append}
 use Rattle.std.specs.List.{concat}
-use Rattle.std.specs.Io.KnownBytes.{Appends, Consumes, Keeps, IsAtEnd}
 use Rattle.std.proofs.KnownBytes.{Appends-nil, Appends-trans}
-use Rattle.lam_frame.specs.Device.{FailedPull}
-use Rattle.lam_frame.specs.Frame.{HasFrame, HasFault, IsOpen}
+use Rattle.lam_frame.specs.Frame.{IsOpen}
 use Rattle.lam_frame.specs.Next.{EndsEmpty, PulledWhile}
 use Rattle.lam_frame.proofs.Pulls.{PulledWhile-append, PulledWhile-failed, concat-append}
 use Rattle.lam_frame.proofs.Told.{HasFrame-more}
 use Rattle.lam_frame.specs.declared.fault.FrameFault.{FrameFault}
 use Rattle.lam_frame.specs.declared.fault.FrameFault.TheVariants.{NoLength, BadLength, TooLong, BadHeader, Truncated, Device as DeviceFrame, Memory as MemoryFrame, TooManyTurns, Spent}
-use Rattle.lam_session.specs.State.{State, ended_status}
-use Rattle.lam_server.specs.Device.{Sends, FailsToSend, StopsSending, IsBroken}
+use Rattle.lam_session.specs.State.{State}
+use Rattle.lam_server.specs.Device.{Sends, IsBroken}
 use Rattle.lam_server.specs.Output.{Takes, Turns, IsLive, IsFront, IsAwaiting}
 use Rattle.lam_server.specs.Output.Turns.{no_turn, next_turn}
 use Rattle.lam_server.specs.Output.IsFront.{whole_answers, part_of_answer}
-use Rattle.lam_server.specs.Run.{Runs, RunSays, Finishes, Breaks, DeviceEnds, MemoryEnds, DecidesNothing}
+use Rattle.lam_server.specs.Run.{Runs, RunSays, DecidesNothing}
 use Rattle.lam_server.specs.Run.Finishes.{by_message, by_silence}
 use Rattle.lam_server.specs.Run.DeviceEnds.{at_pull, at_limit, at_sink}
-use Rattle.lam_server.specs.Turn.{TakesTurn, AnswersOne, Ends, DeviceStops, MemoryStops}
+use Rattle.lam_server.specs.Turn.{TakesTurn, Ends, DeviceStops, MemoryStops}
 use Rattle.lam_server.specs.Turn.Ends.{by_message as turn_by_message, by_silence as turn_by_silence}
 use Rattle.lam_server.specs.Turn.DeviceStops.{at_pull as turn_at_pull, at_limit as turn_at_limit, at_sink as turn_at_sink}
 use Rattle.lam_server.specs.Turn.MemoryStops.{before_sending, while_sending}

@@ -1,5 +1,5 @@
 -- What answering one body does to the session and to the sink: for the server's private functions alone.
-use Rattle.std.specs.Prelude.{◌≡◌, ◌≢◌, ℕ, List, false, Option, Result, Ok, Err}
+use Rattle.std.specs.Prelude.{◌≡◌, ℕ, List, Option, Result, Ok, Err}
 use Rattle.serde_json.specs.Data.{Data}
 use Rattle.lam_rpc.specs.Kind.{Message, IsKindOf}
 use Rattle.lam_session.specs.State.{Snapshot}

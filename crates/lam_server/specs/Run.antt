@@ -5,7 +5,7 @@ use Rattle.std.specs.Io.KnownBytes.{Appends}
 use Rattle.lam_frame.specs.Device.{FailedPull}
 use Rattle.lam_frame.specs.Next.{EndsEmpty, PulledWhile}
 use Rattle.lam_session.specs.State.{State, ended_status}
-use Rattle.lam_server.specs.Device.{Sends, FailsToSend, StopsSending, IsBroken}
+use Rattle.lam_server.specs.Device.{Sends, IsBroken}
 use Rattle.lam_server.specs.Output.{Turns, IsLive, Outcome, IsAllowed, IsFront, IsAwaiting}
 use Rattle.lam_frame.specs.declared.fault.FrameFault.{FrameFault}
 use Rattle.lam_server.specs.declared.faults.RunFault.{RunFault}

@@ -1,5 +1,5 @@
 -- What a turn does: with the bytes held and pulled, with the session, and with the sink.
-use Rattle.std.specs.Prelude.{◌≡◌, ℕ, ◌+◌, ◌^◌, ◌≤◌, List, [], ◌++◌, length, Option, Some, None, Result, Ok, Err}
+use Rattle.std.specs.Prelude.{◌≡◌, ℕ, ◌+◌, ◌^◌, ◌≤◌, List, [], ◌++◌, length, Option, Some, Result, Ok, Err}
 use Rattle.std.specs.List.{concat}
 use Rattle.lam_frame.specs.Device.{FailedPull}
 use Rattle.lam_frame.specs.Frame.{IsOpen}
