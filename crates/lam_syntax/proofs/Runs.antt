@@ -1,0 +1,106 @@
+-- The pieces of tokens, one run at a time.
+use Rattle.std.proofs.Common.{◌≡◌, ℕ, zero, suc, ◌+◌, ◌≤◌, ◌<◌, Bool, true, false, cond, List, [], ◌∷◌, ◌++◌, length, take, drop, map, sym, refl, ap, ◌∙◌, add-one, arith, get_or, drop-cons}
+use Rattle.std.proofs.lemmas.List.{drop_all}
+use Rattle.std.specs.Prelude.{filter, ◌==◌}
+use Rattle.std.specs.Borrow.{Bor}
+use Rattle.std.proofs.lemmas.Bool.{eqb-true, eqb-false}
+use Rattle.lam_token.specs.Lexeme.{Lexeme}
+use Rattle.lam_syntax.specs.Answers.{is_semicolon, onto_first, runs_of, has_tokens, pieces_of, run_len}
+
+-- a run in front of pieces, if it has tokens
+abbrev pub with_piece : List Lexeme → List (List Lexeme) → List (List Lexeme)
+with_piece run ps = cond (has_tokens run) (run ∷ ps) ps
+
+-- the runs behind the first
+abbrev others : List Lexeme → List (List Lexeme)
+others [] = []
+others (t ∷ ts) = cond (is_semicolon t) (runs_of ts) (others ts)
+
+runs_of-head : (ts : List Lexeme) → runs_of ts ≡ take (run_len ts) ts ∷ others ts
+runs_of-head [] = refl
+runs_of-head (t ∷ ts) = by (runs_of-head ts) (is_semicolon t)
+  where
+    by : runs_of ts ≡ take (run_len ts) ts ∷ others ts → (b : Bool) → cond b ([] ∷ runs_of ts) (onto_first t (runs_of ts)) ≡ take (cond b 0 (suc (run_len ts))) (t ∷ ts) ∷ cond b (runs_of ts) (others ts)
+    by head true = refl
+    by head false = ap (onto_first t) head
+
+behind-others : (ts : List Lexeme) → filter has_tokens (others ts) ≡ pieces_of (drop (suc (run_len ts)) ts)
+behind-others [] = refl
+behind-others (t ∷ ts) = by (behind-others ts) (is_semicolon t)
+  where
+    by : filter has_tokens (others ts) ≡ pieces_of (drop (suc (run_len ts)) ts) → (b : Bool) → filter has_tokens (cond b (runs_of ts) (others ts)) ≡ pieces_of (drop (suc (cond b 0 (suc (run_len ts)))) (t ∷ ts))
+    by behind true = refl
+    by behind false = behind
+
+pub pieces_of-run : (ts : List Lexeme) → pieces_of ts ≡ with_piece (take (run_len ts) ts) (pieces_of (drop (suc (run_len ts)) ts))
+pieces_of-run ts =
+    ap (filter has_tokens) (runs_of-head ts)
+    ∙ ap (with_piece (take (run_len ts) ts)) (behind-others ts)
+
+-- one run more
+pub run_more : (ts piece behind : List Lexeme) (found : List (List Lexeme)) (n : ℕ) (all : List (List Lexeme)) → n ≡ run_len ts → piece ≡ take n ts → behind ≡ drop 1 (drop n ts) → found ++ pieces_of ts ≡ all → found ++ with_piece piece (pieces_of behind) ≡ all
+run_more ts piece behind found n all at is behind_is so_far =
+    let piece_is : piece ≡ take (run_len ts) ts = is ∙ ap (λ m. take m ts) at in
+    let behind_is' : behind ≡ drop (suc (run_len ts)) ts = behind_is ∙ drop_one n ts ∙ ap (λ m. drop (suc m) ts) at in
+    ap (λ p. found ++ with_piece p (pieces_of behind)) piece_is
+    ∙ ap (λ l. found ++ with_piece (take (run_len ts) ts) (pieces_of l)) behind_is'
+    ∙ ap (λ ps. found ++ ps) (sym (pieces_of-run ts))
+    ∙ so_far
+  where
+    drop_one : (m : ℕ) (l : List Lexeme) → drop 1 (drop m l) ≡ drop (suc m) l
+    drop_one zero [] = refl
+    drop_one zero (t ∷ l) = refl
+    drop_one (suc m) [] = refl
+    drop_one (suc m) (t ∷ l) = drop_one m l
+
+pub some_piece : (piece : List Lexeme) (ps : List (List Lexeme)) → (length piece ≡ 0 → ⊥) → with_piece piece ps ≡ piece ∷ ps
+some_piece [] ps some = absurd (some refl)
+some_piece (t ∷ piece) ps some = refl
+
+pub no_piece : (piece : List Lexeme) (ps : List (List Lexeme)) → length piece ≡ 0 → with_piece piece ps ≡ ps
+no_piece [] ps none = refl
+no_piece (t ∷ piece) ps none = absurd (omega arith)
+
+-- one token more before the first semicolon, and none
+pub run_len-more : (ts : List Lexeme) (n : ℕ) (t : Lexeme) → n < length ts → t ≡ get_or ts n t → false ≡ is_semicolon t → run_len (drop n ts) ≡ suc (run_len (drop (n + 1) ts))
+run_len-more ts n t lt is other =
+    ap run_len (drop-cons ts n t lt)
+    ∙ ap (λ u. cond (is_semicolon u) 0 (suc (run_len (drop (suc n) ts)))) (sym is)
+    ∙ ap (λ b. cond b 0 (suc (run_len (drop (suc n) ts)))) (sym other)
+    ∙ ap (λ m. suc (run_len (drop m ts))) (sym (add-one n))
+
+pub run_len-here : (ts : List Lexeme) (n : ℕ) (t : Lexeme) → n < length ts → t ≡ get_or ts n t → true ≡ is_semicolon t → run_len (drop n ts) ≡ 0
+run_len-here ts n t lt is semicolon =
+    ap run_len (drop-cons ts n t lt)
+    ∙ ap (λ u. cond (is_semicolon u) 0 (suc (run_len (drop (suc n) ts)))) (sym is)
+    ∙ ap (λ b. cond b 0 (suc (run_len (drop (suc n) ts)))) (sym semicolon)
+
+pub run_len-end : (ts : List Lexeme) (n : ℕ) → length ts ≤ n → run_len (drop n ts) ≡ 0
+run_len-end ts n le = ap run_len (drop_all n ts le)
+
+pub run_len-within : (ts : List Lexeme) → run_len ts ≤ length ts
+run_len-within [] = omega arith
+run_len-within (t ∷ ts) = by (is_semicolon t) (run_len-within ts)
+  where
+    by : (b : Bool) → run_len ts ≤ length ts → cond b 0 (suc (run_len ts)) ≤ suc (length ts)
+    by true le = omega arith
+    by false le = omega arith
+
+-- a piece at the end of those found, and none
+
+pushed : (found : List (Bor (List Lexeme))) (piece : Bor (List Lexeme)) (ps : List (List Lexeme)) → map (λ p. p.now) (found ++ piece ∷ []) ++ ps ≡ map (λ p. p.now) found ++ piece.now ∷ ps
+pushed [] piece ps = refl
+pushed (f ∷ found) piece ps = ap (λ l. f.now ∷ l) (pushed found piece ps)
+
+pub piece_kept : (found more : List (Bor (List Lexeme))) (piece : Bor (List Lexeme)) (ps all : List (List Lexeme)) → more ≡ found ++ piece ∷ [] → false ≡ (length piece.now == 0) → map (λ p. p.now) found ++ with_piece piece.now ps ≡ all → map (λ p. p.now) more ++ ps ≡ all
+piece_kept found more piece ps all is some so_far =
+    ap (λ l. map (λ p. p.now) l ++ ps) is
+    ∙ pushed found piece ps
+    ∙ ap (λ l. map (λ p. p.now) found ++ l) (sym (some_piece piece.now ps (eqb-false (length piece.now) 0 (sym some))))
+    ∙ so_far
+
+pub piece_left_out : (found more : List (Bor (List Lexeme))) (piece : List Lexeme) (ps all : List (List Lexeme)) → more ≡ found → true ≡ (length piece == 0) → map (λ p. p.now) found ++ with_piece piece ps ≡ all → map (λ p. p.now) more ++ ps ≡ all
+piece_left_out found more piece ps all is none so_far =
+    ap (λ l. map (λ p. p.now) l ++ ps) is
+    ∙ ap (λ l. map (λ p. p.now) found ++ l) (sym (no_piece piece ps (eqb-true (length piece) 0 (sym none))))
+    ∙ so_far

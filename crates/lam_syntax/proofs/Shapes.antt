@@ -1,0 +1,142 @@
+-- How written types and terms are seen as trees: the tree of each variant.
+use Rattle.std.proofs.Common.{◌≡◌, List, [], ◌∷◌, ◌++◌, map, ap, sym, ◌∙◌, refl, Vec}
+use Rattle.std.specs.declared.alloc.Global.{Global}
+use Rattle.lam_syntax.specs.declared.identifier.Identifier.{Identifier}
+use Rattle.lam_syntax.specs.declared.identifier.Binder.{Binder}
+use Rattle.lam_syntax.specs.declared.types.WrittenTy.{WrittenTy, fold-WrittenTy, fold_out-WrittenTy}
+use Rattle.lam_syntax.specs.declared.types.TyField.{TyField, fold-TyField, fold_out-TyField}
+use Rattle.lam_syntax.specs.declared.types.TyNode.{fold-roll-TyNode}
+use Rattle.lam_syntax.specs.declared.types.TyNode.TheOpen.{TyNode-F}
+use Rattle.lam_syntax.specs.declared.types.TyNode.TheVariants as types
+use Rattle.lam_syntax.specs.declared.terms.Prefix.{Prefix}
+use Rattle.lam_syntax.specs.declared.terms.Tm.{Tm, fold-Tm, fold_out-Tm}
+use Rattle.lam_syntax.specs.declared.terms.TmField.{TmField, fold-TmField, fold_out-TmField}
+use Rattle.lam_syntax.specs.declared.terms.TmNode.{fold-roll-TmNode}
+use Rattle.lam_syntax.specs.declared.terms.TmNode.TheOpen.{TmNode-F}
+use Rattle.lam_syntax.specs.declared.terms.TmNode.TheVariants as terms
+use Rattle.lam_syntax.specs.Trees.{Word, TypeTree, TypeNode, bool, nat, unit, top, named, arrow, record_type, no_type_fields, type_field, TermTree, TermNode, true_term, false_term, unit_term, variable, numeral, lambda, if_term, let_term, letrec_term, prefixed, apply, project, ascribe, record_term, no_fields, field, joined_types, joined}
+use Rattle.lam_syntax.specs.Views.{word_of, bound_of, type_fields_made, type_node_step, type_field_step, type_tree_step, type_node_of, type_of, type_fields_of, fields_made, node_step, field_step, tree_step, term_node_of, term_of, fields_of}
+
+-- written types
+
+type_of-fold : (t : WrittenTy) → fold-WrittenTy TypeNode (Word × TypeTree) TypeTree type_node_step type_field_step type_tree_step t ≡ type_of t
+unfolding type_node_of
+type_of-fold t = fold_out-WrittenTy TypeNode (Word × TypeTree) TypeTree type_node_step type_field_step type_tree_step t
+
+type_field-fold : (f : TyField) → fold-TyField TypeNode (Word × TypeTree) TypeTree type_node_step type_field_step type_tree_step f ≡ (word_of f.label, type_of f.ty)
+unfolding type_node_of
+type_field-fold f = fold_out-TyField TypeNode (Word × TypeTree) TypeTree type_node_step type_field_step type_tree_step f ∙ ap (λ t. (word_of f.label, t)) (type_of-fold f.ty)
+
+type_fields-fold : (fs : List TyField) → type_fields_made (map (fold-TyField TypeNode (Word × TypeTree) TypeTree type_node_step type_field_step type_tree_step) fs) ≡ type_fields_of fs
+type_fields-fold [] = refl
+type_fields-fold (f ∷ fs) = (λ i. type_field ((type_field-fold f i).0) ((type_field-fold f i).1) (type_fields-fold fs i))
+
+pub type_node_of-Bool : type_node_of types.Bool ≡ bool
+unfolding type_node_of
+type_node_of-Bool = ap type_node_of (sym types.rolls-Bool) ∙ fold-roll-TyNode TypeNode (Word × TypeTree) TypeTree type_node_step type_field_step type_tree_step TyNode-F.Bool
+
+pub type_node_of-Nat : type_node_of types.Nat ≡ nat
+unfolding type_node_of
+type_node_of-Nat = ap type_node_of (sym types.rolls-Nat) ∙ fold-roll-TyNode TypeNode (Word × TypeTree) TypeTree type_node_step type_field_step type_tree_step TyNode-F.Nat
+
+pub type_node_of-Unit : type_node_of types.Unit ≡ unit
+unfolding type_node_of
+type_node_of-Unit = ap type_node_of (sym types.rolls-Unit) ∙ fold-roll-TyNode TypeNode (Word × TypeTree) TypeTree type_node_step type_field_step type_tree_step TyNode-F.Unit
+
+pub type_node_of-Top : type_node_of types.Top ≡ top
+unfolding type_node_of
+type_node_of-Top = ap type_node_of (sym types.rolls-Top) ∙ fold-roll-TyNode TypeNode (Word × TypeTree) TypeTree type_node_step type_field_step type_tree_step TyNode-F.Top
+
+pub type_node_of-Named : (x : Identifier) → type_node_of (types.Named x) ≡ named (word_of x)
+unfolding type_node_of
+type_node_of-Named x = ap type_node_of (sym (types.rolls-Named x)) ∙ fold-roll-TyNode TypeNode (Word × TypeTree) TypeTree type_node_step type_field_step type_tree_step (TyNode-F.Named x)
+
+pub type_node_of-Arrow : (a : WrittenTy) (b : WrittenTy) → type_node_of (types.Arrow a b) ≡ arrow (type_of a) (type_of b)
+unfolding type_node_of
+type_node_of-Arrow a b = ap type_node_of (sym (types.rolls-Arrow a b)) ∙ fold-roll-TyNode TypeNode (Word × TypeTree) TypeTree type_node_step type_field_step type_tree_step (TyNode-F.Arrow a b) ∙ (λ i. arrow (type_of-fold a i) (type_of-fold b i))
+
+pub type_node_of-Record : (fs : Vec TyField Global) → type_node_of (types.Record fs) ≡ record_type (type_fields_of fs.items)
+unfolding type_node_of
+type_node_of-Record fs = ap type_node_of (sym (types.rolls-Record fs)) ∙ fold-roll-TyNode TypeNode (Word × TypeTree) TypeTree type_node_step type_field_step type_tree_step (TyNode-F.Record fs) ∙ ap record_type (type_fields-fold fs.items)
+
+pub type_fields_of-push : (fs : List TyField) (f : TyField) → type_fields_of (fs ++ f ∷ []) ≡ joined_types (type_fields_of fs) (type_field (word_of f.label) (type_of f.ty) no_type_fields)
+type_fields_of-push [] f = refl
+type_fields_of-push (g ∷ fs) f = ap (type_field (word_of g.label) (type_of g.ty)) (type_fields_of-push fs f)
+
+-- terms
+
+term_of-fold : (t : Tm) → fold-Tm TermNode TermTree (Word × TermTree) node_step tree_step field_step t ≡ term_of t
+unfolding term_node_of
+term_of-fold t = fold_out-Tm TermNode TermTree (Word × TermTree) node_step tree_step field_step t
+
+field-fold : (f : TmField) → fold-TmField TermNode TermTree (Word × TermTree) node_step tree_step field_step f ≡ (word_of f.label, term_of f.term)
+unfolding term_node_of
+field-fold f = fold_out-TmField TermNode TermTree (Word × TermTree) node_step tree_step field_step f ∙ ap (λ t. (word_of f.label, t)) (term_of-fold f.term)
+
+fields-fold : (fs : List TmField) → fields_made (map (fold-TmField TermNode TermTree (Word × TermTree) node_step tree_step field_step) fs) ≡ fields_of fs
+fields-fold [] = refl
+fields-fold (f ∷ fs) = (λ i. field ((field-fold f i).0) ((field-fold f i).1) (fields-fold fs i))
+
+pub term_node_of-True : term_node_of terms.True ≡ true_term
+unfolding term_node_of
+term_node_of-True = ap term_node_of (sym terms.rolls-True) ∙ fold-roll-TmNode TermNode TermTree (Word × TermTree) node_step tree_step field_step TmNode-F.True
+
+pub term_node_of-False : term_node_of terms.False ≡ false_term
+unfolding term_node_of
+term_node_of-False = ap term_node_of (sym terms.rolls-False) ∙ fold-roll-TmNode TermNode TermTree (Word × TermTree) node_step tree_step field_step TmNode-F.False
+
+pub term_node_of-Unit : term_node_of terms.Unit ≡ unit_term
+unfolding term_node_of
+term_node_of-Unit = ap term_node_of (sym terms.rolls-Unit) ∙ fold-roll-TmNode TermNode TermTree (Word × TermTree) node_step tree_step field_step TmNode-F.Unit
+
+pub term_node_of-Variable : (x : Identifier) → term_node_of (terms.Variable x) ≡ variable (word_of x)
+unfolding term_node_of
+term_node_of-Variable x = ap term_node_of (sym (terms.rolls-Variable x)) ∙ fold-roll-TmNode TermNode TermTree (Word × TermTree) node_step tree_step field_step (TmNode-F.Variable x)
+
+pub term_node_of-Numeral : (x : Identifier) → term_node_of (terms.Numeral x) ≡ numeral (word_of x)
+unfolding term_node_of
+term_node_of-Numeral x = ap term_node_of (sym (terms.rolls-Numeral x)) ∙ fold-roll-TmNode TermNode TermTree (Word × TermTree) node_step tree_step field_step (TmNode-F.Numeral x)
+
+pub term_node_of-Lambda : (b : Binder) (u : WrittenTy) (t : Tm) → term_node_of (terms.Lambda b u t) ≡ lambda (bound_of b) (type_of u) (term_of t)
+unfolding term_node_of
+term_node_of-Lambda b u t = ap term_node_of (sym (terms.rolls-Lambda b u t)) ∙ fold-roll-TmNode TermNode TermTree (Word × TermTree) node_step tree_step field_step (TmNode-F.Lambda b u t) ∙ ap (lambda (bound_of b) (type_of u)) (term_of-fold t)
+
+pub term_node_of-If : (c : Tm) (t : Tm) (e : Tm) → term_node_of (terms.If c t e) ≡ if_term (term_of c) (term_of t) (term_of e)
+unfolding term_node_of
+term_node_of-If c t e = ap term_node_of (sym (terms.rolls-If c t e)) ∙ fold-roll-TmNode TermNode TermTree (Word × TermTree) node_step tree_step field_step (TmNode-F.If c t e) ∙ (λ i. if_term (term_of-fold c i) (term_of-fold t i) (term_of-fold e i))
+
+pub term_node_of-Let : (b : Binder) (t : Tm) (u : Tm) → term_node_of (terms.Let b t u) ≡ let_term (bound_of b) (term_of t) (term_of u)
+unfolding term_node_of
+term_node_of-Let b t u = ap term_node_of (sym (terms.rolls-Let b t u)) ∙ fold-roll-TmNode TermNode TermTree (Word × TermTree) node_step tree_step field_step (TmNode-F.Let b t u) ∙ (λ i. let_term (bound_of b) (term_of-fold t i) (term_of-fold u i))
+
+pub term_node_of-Letrec : (b : Binder) (y : WrittenTy) (t : Tm) (u : Tm) → term_node_of (terms.Letrec b y t u) ≡ letrec_term (bound_of b) (type_of y) (term_of t) (term_of u)
+unfolding term_node_of
+term_node_of-Letrec b y t u = ap term_node_of (sym (terms.rolls-Letrec b y t u)) ∙ fold-roll-TmNode TermNode TermTree (Word × TermTree) node_step tree_step field_step (TmNode-F.Letrec b y t u) ∙ (λ i. letrec_term (bound_of b) (type_of y) (term_of-fold t i) (term_of-fold u i))
+
+pub term_node_of-Prefixed : (p : Prefix) (t : Tm) → term_node_of (terms.Prefixed p t) ≡ prefixed p (term_of t)
+unfolding term_node_of
+term_node_of-Prefixed p t = ap term_node_of (sym (terms.rolls-Prefixed p t)) ∙ fold-roll-TmNode TermNode TermTree (Word × TermTree) node_step tree_step field_step (TmNode-F.Prefixed p t) ∙ ap (prefixed p) (term_of-fold t)
+
+pub term_node_of-Apply : (f : Tm) (a : Tm) → term_node_of (terms.Apply f a) ≡ apply (term_of f) (term_of a)
+unfolding term_node_of
+term_node_of-Apply f a = ap term_node_of (sym (terms.rolls-Apply f a)) ∙ fold-roll-TmNode TermNode TermTree (Word × TermTree) node_step tree_step field_step (TmNode-F.Apply f a) ∙ (λ i. apply (term_of-fold f i) (term_of-fold a i))
+
+pub term_node_of-Project : (t : Tm) (l : Identifier) → term_node_of (terms.Project t l) ≡ project (term_of t) (word_of l)
+unfolding term_node_of
+term_node_of-Project t l = ap term_node_of (sym (terms.rolls-Project t l)) ∙ fold-roll-TmNode TermNode TermTree (Word × TermTree) node_step tree_step field_step (TmNode-F.Project t l) ∙ ap (λ t. project t (word_of l)) (term_of-fold t)
+
+pub term_node_of-Ascribe : (t : Tm) (u : WrittenTy) → term_node_of (terms.Ascribe t u) ≡ ascribe (term_of t) (type_of u)
+unfolding term_node_of
+term_node_of-Ascribe t u = ap term_node_of (sym (terms.rolls-Ascribe t u)) ∙ fold-roll-TmNode TermNode TermTree (Word × TermTree) node_step tree_step field_step (TmNode-F.Ascribe t u) ∙ ap (λ t. ascribe t (type_of u)) (term_of-fold t)
+
+pub term_node_of-Record : (fs : Vec TmField Global) → term_node_of (terms.Record fs) ≡ record_term (fields_of fs.items)
+unfolding term_node_of
+term_node_of-Record fs = ap term_node_of (sym (terms.rolls-Record fs)) ∙ fold-roll-TmNode TermNode TermTree (Word × TermTree) node_step tree_step field_step (TmNode-F.Record fs) ∙ ap record_term (fields-fold fs.items)
+
+pub fields_of-push : (fs : List TmField) (f : TmField) → fields_of (fs ++ f ∷ []) ≡ joined (fields_of fs) (field (word_of f.label) (term_of f.term) no_fields)
+fields_of-push [] f = refl
+fields_of-push (g ∷ fs) f = ap (field (word_of g.label) (term_of g.term)) (fields_of-push fs f)
+
+pub ruleset type_shapes = (type_node_of-Bool, type_node_of-Nat, type_node_of-Unit, type_node_of-Top, type_node_of-Named, type_node_of-Arrow, type_node_of-Record, type_fields_of-push)
+
+pub ruleset term_shapes = (term_node_of-True, term_node_of-False, term_node_of-Unit, term_node_of-Variable, term_node_of-Numeral, term_node_of-Lambda, term_node_of-If, term_node_of-Let, term_node_of-Letrec, term_node_of-Prefixed, term_node_of-Apply, term_node_of-Project, term_node_of-Ascribe, term_node_of-Record, fields_of-push)

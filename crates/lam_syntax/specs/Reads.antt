@@ -1,0 +1,125 @@
+-- What the functions that read a part of a command answer, against the run.
+use Rattle.std.specs.Prelude.{◌≡◌, ℕ, Option, Some, None, Result, Ok, Err, List, [], ◌∷◌}
+use Rattle.std.specs.Borrow.{Bor}
+use Rattle.lam_token.specs.declared.kind.Kind.{Kind}
+use Rattle.lam_token.specs.declared.kind.Kind.TheVariants as kind
+use Rattle.lam_token.specs.declared.span.Span.{Span}
+use Rattle.lam_token.specs.Lexeme.{Lexeme, lexeme}
+use Rattle.lam_syntax.specs.declared.identifier.Identifier.{Identifier}
+use Rattle.lam_syntax.specs.declared.stop.Stop.{Stop}
+use Rattle.lam_syntax.specs.declared.stop.Stop.TheVariants.{At, Memory}
+use Rattle.lam_syntax.specs.declared.identifier.Binder.{Binder}
+use Rattle.lam_syntax.specs.declared.terms.Prefix.{Prefix}
+use Rattle.lam_syntax.specs.declared.terms.Tm.{Tm}
+use Rattle.lam_syntax.specs.declared.terms.TmField.{TmField}
+use Rattle.lam_syntax.specs.declared.terms.Command.{Command}
+use Rattle.lam_syntax.specs.declared.types.WrittenTy.{WrittenTy}
+use Rattle.lam_syntax.specs.declared.types.TyField.{TyField}
+use Rattle.lam_syntax.specs.Trees.{word, TermTree, term_tree, term_span, prefixed, record_term, TermFields, no_fields, field, joined, TypeFields, no_type_fields, type_field, joined_types, type_tree, record_type, from_to}
+use Rattle.lam_syntax.specs.Run.{Purpose, InTerm, InPath, as_head, as_operand, after_binder, after_atom, next_field, ended_asc, ended_app, ended_term, applied, outside, tree, InType, after_atype, next_type_field, Next, go, stop, ended_type, Outcome, fault, run, look}
+use Rattle.lam_syntax.specs.Views.{word_of, bound_of, type_of, term_of, command_of}
+
+-- The run over the tokens goes on behind what was read as over the tokens that are left, or has its fault where reading stopped.
+abbrev pub Reads : {X : Type 0} → Result (X × Bor (List Lexeme)) Stop → Outcome → (X → List Lexeme → Outcome) → Type 0
+Reads (Ok r) o next = o ≡ next r.0 r.1.now
+Reads (Err (At left)) o next = o ≡ fault left.now
+Reads (Err Memory) o next = Unit {0}
+
+-- the tokens begin with one of that kind, at that place, and these are left
+abbrev pub Front : Kind → List Lexeme → Span → List Lexeme → Type 0
+Front kind tokens span rest = (x : List ℕ) × (tokens ≡ lexeme kind x span ∷ rest)
+
+-- they do not
+abbrev pub NoFront : Kind → List Lexeme → Type 0
+NoFront kind tokens = (x : List ℕ) (span : Span) (rest : List Lexeme) → tokens ≡ lexeme kind x span ∷ rest → ⊥
+
+-- a token of that kind is taken off, if there is one
+abbrev pub Takes : Kind → List Lexeme → Option (Span × Bor (List Lexeme)) → Type 0
+Takes kind tokens None = NoFront kind tokens
+Takes kind tokens (Some r) = Front kind tokens r.0 r.1.now
+
+-- a token of that kind is taken off, or reading stops
+abbrev pub Expects : Kind → List Lexeme → Result (Span × Bor (List Lexeme)) Stop → Type 0
+Expects kind tokens (Ok r) = Front kind tokens r.0 r.1.now
+Expects kind tokens (Err (At left)) = (left.now ≡ tokens) × NoFront kind tokens
+Expects kind tokens (Err Memory) = ⊥
+
+-- what follows a type that was read
+abbrev pub behind_type : InType → WrittenTy → List Lexeme → Outcome
+behind_type k t rest = look rest (λ o. ended_type o (type_of t) k)
+
+abbrev pub behind_atype : InType → WrittenTy → List Lexeme → Outcome
+behind_atype k t rest = run rest (after_atype (type_of t) k)
+
+-- what follows a field of a record type: a comma and more fields, or the closing brace
+abbrev pub type_fields_next : Option Lexeme → Span → TypeFields → InType → Next
+type_fields_next (Some (lexeme kind.Comma x e)) s fs k = go (next_type_field s fs k)
+type_fields_next (Some (lexeme kind.CloseBrace x e)) s fs k = go (after_atype (type_tree (from_to s e) (record_type fs)) k)
+type_fields_next o s fs k = stop
+
+abbrev pub behind_type_field : Span → TypeFields → InType → TyField → List Lexeme → Outcome
+behind_type_field s before k f rest = look rest (λ o. type_fields_next o s (joined_types before (type_field (word_of f.label) (type_of f.ty) no_type_fields)) k)
+
+-- what begins an atom
+abbrev pub Starts : List Lexeme → Type 0
+Starts (lexeme kind.OpenParen x s ∷ ts) = Unit {0}
+Starts (lexeme kind.True x s ∷ ts) = Unit {0}
+Starts (lexeme kind.False x s ∷ ts) = Unit {0}
+Starts (lexeme kind.UnitTerm x s ∷ ts) = Unit {0}
+Starts (lexeme kind.Name x s ∷ ts) = Unit {0}
+Starts (lexeme kind.Numeral x s ∷ ts) = Unit {0}
+Starts (lexeme kind.OpenBrace x s ∷ ts) = Unit {0}
+Starts ts = ⊥
+
+-- what follows a binder, an atom, an atom with its type, a path, and a term that were read
+
+abbrev pub behind_binder : Purpose → Span → InTerm → Binder → List Lexeme → Outcome
+behind_binder p s k b rest = run rest (after_binder p s (bound_of b) k)
+
+abbrev pub behind_atom : InPath → Tm → List Lexeme → Outcome
+behind_atom k t rest = run rest (after_atom (term_of t) k)
+
+abbrev pub behind_asc : InPath → Tm → List Lexeme → Outcome
+behind_asc k t rest = look rest (λ o. ended_asc o (term_of t) k)
+
+abbrev pub behind_path : InPath → Tm → List Lexeme → Outcome
+behind_path k t rest = look rest (λ o. ended_app o (applied (term_of t) k) (outside k))
+
+abbrev pub behind_term : InTerm → Tm → List Lexeme → Outcome
+behind_term k t rest = look rest (λ o. ended_term o (term_of t) k)
+
+-- where the path behind a prefix, or behind none, stands
+abbrev pub placed : Option (Prefix × Span) → InTerm → InPath
+placed None k = as_head k
+placed (Some q) k = as_operand q.1 q.0 k
+
+abbrev pub prefixed_by : Option (Prefix × Span) → TermTree → TermTree
+prefixed_by None t = t
+prefixed_by (Some q) t = term_tree (from_to q.1 (term_span t)) (prefixed q.0 t)
+
+-- what follows a field of a record: a comma and more fields, or the closing brace
+abbrev pub fields_next : Option Lexeme → Span → TermFields → InPath → Next
+fields_next (Some (lexeme kind.Comma x e)) s fs k = go (next_field s fs k)
+fields_next (Some (lexeme kind.CloseBrace x e)) s fs k = go (after_atom (term_tree (from_to s e) (record_term fs)) k)
+fields_next o s fs k = stop
+
+abbrev pub behind_field : Span → TermFields → InPath → TmField → List Lexeme → Outcome
+behind_field s before k f rest = look rest (λ o. fields_next o s (joined before (field (word_of f.label) (term_of f.term) no_fields)) k)
+
+-- what a command that is read to its end answers
+abbrev pub ReadsAll : Result Command Stop → Outcome → Type 0
+ReadsAll (Ok c) o = o ≡ tree (command_of c)
+ReadsAll (Err (At left)) o = o ≡ fault left.now
+ReadsAll (Err Memory) o = Unit {0}
+
+-- there are no more tokens, or reading stops
+abbrev pub EndsAll : List Lexeme → Result (Unit {0}) Stop → Type 0
+EndsAll tokens (Ok u) = tokens ≡ []
+EndsAll tokens (Err (At left)) = (left.now ≡ tokens) × (t : Lexeme) × (ts : List Lexeme) × (tokens ≡ t ∷ ts)
+EndsAll tokens (Err Memory) = ⊥
+
+-- a name is taken off, or reading stops
+abbrev pub Names : List Lexeme → Result (Identifier × Bor (List Lexeme)) Stop → Type 0
+Names tokens (Ok r) = (x : List ℕ) × (s : Span) × (tokens ≡ lexeme kind.Name x s ∷ r.1.now) × (word_of r.0 ≡ word x s)
+Names tokens (Err (At left)) = (left.now ≡ tokens) × NoFront kind.Name tokens
+Names tokens (Err Memory) = Unit {0}

@@ -1,0 +1,85 @@
+-- Written types, terms and commands as plain trees. Each node has its place in the text.
+use Rattle.std.specs.Prelude.{ℕ, Option, List}
+use Rattle.lam_token.specs.declared.span.Span.{Span}
+use Rattle.lam_syntax.specs.declared.terms.Prefix.{Prefix}
+
+-- a name, a type name, a label or a numeral, with the place of its token
+pub data Word : Type 0 where
+  word : (text : List ℕ) → Span → Word
+
+-- what binds a name, with the place of its token; an underscore has no name
+pub data Bound : Type 0 where
+  bound : (name : Option (List ℕ)) → Span → Bound
+
+mutual
+  pub data TypeTree : Type 0 where
+    type_tree : Span → TypeNode → TypeTree
+
+  pub data TypeNode : Type 0 where
+    bool : TypeNode
+    nat : TypeNode
+    unit : TypeNode
+    top : TypeNode
+    named : Word → TypeNode
+    arrow : TypeTree → TypeTree → TypeNode
+    record_type : TypeFields → TypeNode
+
+  pub data TypeFields : Type 0 where
+    no_type_fields : TypeFields
+    type_field : Word → TypeTree → TypeFields → TypeFields
+
+mutual
+  pub data TermTree : Type 0 where
+    term_tree : Span → TermNode → TermTree
+
+  pub data TermNode : Type 0 where
+    true_term : TermNode
+    false_term : TermNode
+    unit_term : TermNode
+    variable : Word → TermNode
+    numeral : Word → TermNode
+    lambda : Bound → TypeTree → (body : TermTree) → TermNode
+    if_term : (condition one other : TermTree) → TermNode
+    let_term : Bound → (term body : TermTree) → TermNode
+    letrec_term : Bound → TypeTree → (term body : TermTree) → TermNode
+    prefixed : Prefix → TermTree → TermNode
+    apply : (function argument : TermTree) → TermNode
+    project : TermTree → Word → TermNode
+    ascribe : TermTree → TypeTree → TermNode
+    record_term : TermFields → TermNode
+
+  pub data TermFields : Type 0 where
+    no_fields : TermFields
+    field : Word → TermTree → TermFields → TermFields
+
+pub data CommandTree : Type 0 where
+  definition : Word → TermTree → CommandTree
+  declaration : Word → TypeTree → CommandTree
+  abbreviation : Word → TypeTree → CommandTree
+  evaluation : TermTree → CommandTree
+
+-- from the start of one place to the end of another
+abbrev pub from_to : Span → Span → Span
+from_to a b = record { start = a.start; end = b.end }
+
+abbrev pub type_span : TypeTree → Span
+type_span (type_tree s n) = s
+
+abbrev pub term_span : TermTree → Span
+term_span (term_tree s n) = s
+
+-- the tree with another place, as parentheses round it give it
+abbrev pub spanning_type : Span → TypeTree → TypeTree
+spanning_type s (type_tree r n) = type_tree s n
+
+abbrev pub spanning_term : Span → TermTree → TermTree
+spanning_term s (term_tree r n) = term_tree s n
+
+-- fields, and more behind them
+abbrev pub joined_types : TypeFields → TypeFields → TypeFields
+joined_types no_type_fields gs = gs
+joined_types (type_field l t fs) gs = type_field l t (joined_types fs gs)
+
+abbrev pub joined : TermFields → TermFields → TermFields
+joined no_fields gs = gs
+joined (field l t fs) gs = field l t (joined fs gs)

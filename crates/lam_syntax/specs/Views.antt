@@ -1,0 +1,102 @@
+-- The plain trees that written types, terms and commands stand for.
+use Rattle.std.specs.Prelude.{List, [], ◌∷◌, string_bytes}
+use Rattle.std.specs.Option.{option_map}
+use Rattle.lam_syntax.specs.Trees.{Word, word, Bound, bound, TypeTree, type_tree, TypeNode, bool, nat, unit, top, named, arrow, record_type, TypeFields, no_type_fields, type_field, TermTree, term_tree, TermNode, true_term, false_term, unit_term, variable, numeral, lambda, if_term, let_term, letrec_term, prefixed, apply, project, ascribe, record_term, TermFields, no_fields, field, CommandTree, definition, declaration, abbreviation, evaluation}
+use Rattle.lam_syntax.specs.declared.identifier.Identifier.{Identifier}
+use Rattle.lam_syntax.specs.declared.identifier.Binder.{Binder}
+use Rattle.lam_syntax.specs.declared.types.WrittenTy.{WrittenTy}
+use Rattle.lam_syntax.specs.declared.types.TyNode.{TyNode, fold-TyNode}
+use Rattle.lam_syntax.specs.declared.types.TyNode.TheOpen.{TyNode-F, TyField-F, WrittenTy-F}
+use Rattle.lam_syntax.specs.declared.types.TyField.{TyField}
+use Rattle.lam_syntax.specs.declared.terms.Tm.{Tm}
+use Rattle.lam_syntax.specs.declared.terms.TmNode.{TmNode, fold-TmNode}
+use Rattle.lam_syntax.specs.declared.terms.TmNode.TheOpen.{TmNode-F, TmField-F, Tm-F}
+use Rattle.lam_syntax.specs.declared.terms.TmField.{TmField}
+use Rattle.lam_syntax.specs.declared.terms.Command.{Command}
+use Rattle.lam_syntax.specs.declared.terms.Command.TheVariants as command
+
+abbrev pub word_of : Identifier → Word
+word_of i = word (string_bytes i.text) i.span
+
+abbrev pub bound_of : Binder → Bound
+bound_of b = bound (option_map (λ s. string_bytes s) b.name) b.span
+
+-- one level of a written type, with each type inside already seen as its tree
+
+abbrev pub type_fields_made : List (Word × TypeTree) → TypeFields
+type_fields_made [] = no_type_fields
+type_fields_made (f ∷ fs) = type_field f.0 f.1 (type_fields_made fs)
+
+abbrev pub type_node_step : TyNode-F TypeNode (Word × TypeTree) TypeTree → TypeNode
+type_node_step TyNode-F.Bool = bool
+type_node_step TyNode-F.Nat = nat
+type_node_step TyNode-F.Unit = unit
+type_node_step TyNode-F.Top = top
+type_node_step (TyNode-F.Named x) = named (word_of x)
+type_node_step (TyNode-F.Arrow a b) = arrow a b
+type_node_step (TyNode-F.Record fs) = record_type (type_fields_made fs.items)
+
+abbrev pub type_field_step : TyField-F TypeNode (Word × TypeTree) TypeTree → Word × TypeTree
+type_field_step f = (word_of f.label, f.ty)
+
+abbrev pub type_tree_step : WrittenTy-F TypeNode (Word × TypeTree) TypeTree → TypeTree
+type_tree_step t = type_tree t.span t.node.value
+
+-- the tree of what a written type is, of a written type, and of the fields of a record type
+
+unfoldable pub type_node_of : TyNode → TypeNode
+type_node_of = fold-TyNode TypeNode (Word × TypeTree) TypeTree type_node_step type_field_step type_tree_step
+
+abbrev pub type_of : WrittenTy → TypeTree
+type_of t = type_tree t.span (type_node_of t.node.value)
+
+abbrev pub type_fields_of : List TyField → TypeFields
+type_fields_of [] = no_type_fields
+type_fields_of (f ∷ fs) = type_field (word_of f.label) (type_of f.ty) (type_fields_of fs)
+
+-- one level of a term, with each term inside already seen as its tree
+
+abbrev pub fields_made : List (Word × TermTree) → TermFields
+fields_made [] = no_fields
+fields_made (f ∷ fs) = field f.0 f.1 (fields_made fs)
+
+abbrev pub node_step : TmNode-F TermNode TermTree (Word × TermTree) → TermNode
+node_step TmNode-F.True = true_term
+node_step TmNode-F.False = false_term
+node_step TmNode-F.Unit = unit_term
+node_step (TmNode-F.Variable x) = variable (word_of x)
+node_step (TmNode-F.Numeral x) = numeral (word_of x)
+node_step (TmNode-F.Lambda b u t) = lambda (bound_of b) (type_of u) t
+node_step (TmNode-F.If c t e) = if_term c t e
+node_step (TmNode-F.Let b t u) = let_term (bound_of b) t u
+node_step (TmNode-F.Letrec b ty t u) = letrec_term (bound_of b) (type_of ty) t u
+node_step (TmNode-F.Prefixed p t) = prefixed p t
+node_step (TmNode-F.Apply f a) = apply f a
+node_step (TmNode-F.Project t l) = project t (word_of l)
+node_step (TmNode-F.Ascribe t u) = ascribe t (type_of u)
+node_step (TmNode-F.Record fs) = record_term (fields_made fs.items)
+
+abbrev pub field_step : TmField-F TermNode TermTree (Word × TermTree) → Word × TermTree
+field_step f = (word_of f.label, f.term)
+
+abbrev pub tree_step : Tm-F TermNode TermTree (Word × TermTree) → TermTree
+tree_step t = term_tree t.span t.node.value
+
+-- the tree of what a term is, of a term, and of the fields of a record
+
+unfoldable pub term_node_of : TmNode → TermNode
+term_node_of = fold-TmNode TermNode TermTree (Word × TermTree) node_step tree_step field_step
+
+abbrev pub term_of : Tm → TermTree
+term_of t = term_tree t.span (term_node_of t.node.value)
+
+abbrev pub fields_of : List TmField → TermFields
+fields_of [] = no_fields
+fields_of (f ∷ fs) = field (word_of f.label) (term_of f.term) (fields_of fs)
+
+-- the tree of a command
+abbrev pub command_of : Command → CommandTree
+command_of (command.Definition x t) = definition (word_of x) (term_of t)
+command_of (command.Declaration x t) = declaration (word_of x) (type_of t)
+command_of (command.Abbreviation x t) = abbreviation (word_of x) (type_of t)
+command_of (command.Evaluation t) = evaluation (term_of t)

@@ -1,0 +1,118 @@
+//! Reading of types.
+//!
+//! Each function reads its part at the front of the tokens, with one token of foresight. Where it stops, no
+//! command goes on.
+ghost use Rattle.std.specs.Prelude.{◌<◌, length, IfOk};
+ghost use Rattle.lam_token.specs.declared.span.Span.{Span as Place};
+ghost use Rattle.lam_syntax.specs.Run.{InType, in_type_parens, need_type, need_type_field, next_type_field, run};
+ghost use Rattle.lam_syntax.specs.Trees.{TypeFields};
+ghost use Rattle.lam_syntax.specs.Reads.{Reads, behind_type, behind_atype, behind_type_field};
+
+use crate::stop::Stop;
+use crate::tokens::{expect, expect_name, identifier_of, take};
+use crate::types::{TyField, TyNode, WrittenTy, make_arrow, make_record_type, spanning, type_at};
+use lam_token::{Kind, Span, Token};
+use std::alloc::Global;
+
+/// A type, and the tokens behind it.
+#[cycle(types)]
+pub(crate) fn parse_type<'a, 'b>(
+    alloc: Global,
+    tokens: &'a [Token<'b>],
+) -> Result<(WrittenTy, &'a [Token<'b>]), Stop<'a, 'b>>
+    ensures read { (k : InType) → Reads result (run tokens.now (need_type k)) (behind_type k) }
+    ensures shorter { IfOk result (λ r. length r.1.now < length tokens.now) }
+{
+    let (left, rest) = parse_atype(alloc, tokens)?;
+    let Some((_, rest)) = take(rest, Kind::Arrow) else {
+        return Ok((left, rest));
+    };
+    let (right, rest) = parse_type(alloc, rest)?;
+    let ty = make_arrow(alloc, left, right)?;
+    Ok((ty, rest))
+}
+
+/// A type that is no arrow, or stands in parentheses.
+#[cycle(types)]
+#[tactic(auto, using(crate::proofs::Shapes::type_shapes))]
+fn parse_atype<'a, 'b>(
+    alloc: Global,
+    tokens: &'a [Token<'b>],
+) -> Result<(WrittenTy, &'a [Token<'b>]), Stop<'a, 'b>>
+    ensures read { (k : InType) → Reads result (run tokens.now (need_type k)) (behind_atype k) }
+    ensures shorter { IfOk result (λ r. length r.1.now < length tokens.now) }
+{
+    let Some((first, rest)) = tokens.split_first() else {
+        return Err(Stop::At(tokens));
+    };
+    let span = first.span();
+    match first.kind() {
+        Kind::OpenParen => parse_type_parens(alloc, span, rest),
+        Kind::OpenBrace => parse_record_type(alloc, span, rest),
+        Kind::TypeName => {
+            let name = identifier_of(alloc, first)?;
+            Ok((type_at(alloc, span, TyNode::Named(name))?, rest))
+        }
+        Kind::BoolType => Ok((type_at(alloc, span, TyNode::Bool)?, rest)),
+        Kind::NatType => Ok((type_at(alloc, span, TyNode::Nat)?, rest)),
+        Kind::UnitType => Ok((type_at(alloc, span, TyNode::Unit)?, rest)),
+        Kind::TopType => Ok((type_at(alloc, span, TyNode::Top)?, rest)),
+        _ => Err(Stop::At(tokens)),
+    }
+}
+
+/// A type in parentheses, behind the opening one.
+#[cycle(types)]
+fn parse_type_parens<'a, 'b>(
+    alloc: Global,
+    first: Span,
+    tokens: &'a [Token<'b>],
+) -> Result<(WrittenTy, &'a [Token<'b>]), Stop<'a, 'b>>
+    ensures read { (k : InType) → Reads result (run tokens.now (need_type (in_type_parens first k))) (behind_atype k) }
+    ensures shorter { IfOk result (λ r. length r.1.now < length tokens.now) }
+{
+    let (ty, rest) = parse_type(alloc, tokens)?;
+    let (last, rest) = expect(rest, Kind::CloseParen)?;
+    Ok((spanning(ty, first, last), rest))
+}
+
+/// A record type, behind its opening brace.
+#[cycle(types)]
+#[tactic(auto, using(crate::proofs::Shapes::type_shapes))]
+fn parse_record_type<'a, 'b>(
+    alloc: Global,
+    first: Span,
+    tokens: &'a [Token<'b>],
+) -> Result<(WrittenTy, &'a [Token<'b>]), Stop<'a, 'b>>
+    ensures read { (k : InType) → Reads result (run tokens.now (need_type_field first k)) (behind_atype k) }
+    ensures shorter { IfOk result (λ r. length r.1.now < length tokens.now) }
+{
+    if let Some((last, rest)) = take(tokens, Kind::CloseBrace) {
+        return Ok((make_record_type(alloc, first, last, Vec::new(alloc))?, rest));
+    }
+    let (field, mut rest) = parse_type_field(alloc, tokens)?;
+    let mut fields = Vec::new(alloc);
+    fields.push(field)?;
+    while let Some((_, next)) = take(rest, Kind::Comma) {
+        let (field, after) = parse_type_field(alloc, next)?;
+        fields.push(field)?;
+        rest = after;
+    }
+    let (last, rest) = expect(rest, Kind::CloseBrace)?;
+    Ok((make_record_type(alloc, first, last, fields)?, rest))
+}
+
+/// A label of a record type and its type.
+#[cycle(types)]
+fn parse_type_field<'a, 'b>(
+    alloc: Global,
+    tokens: &'a [Token<'b>],
+) -> Result<(TyField, &'a [Token<'b>]), Stop<'a, 'b>>
+    ensures read { (s : Place) (before : TypeFields) (k : InType) → Reads result (run tokens.now (next_type_field s before k)) (behind_type_field s before k) }
+    ensures shorter { IfOk result (λ r. length r.1.now < length tokens.now) }
+{
+    let (label, rest) = expect_name(alloc, tokens)?;
+    let (_, rest) = expect(rest, Kind::Colon)?;
+    let (ty, rest) = parse_type(alloc, rest)?;
+    Ok((TyField { label, ty }, rest))
+}

@@ -1,0 +1,55 @@
+//! The pieces of a document's tokens.
+ghost use Rattle.std.specs.Prelude.{◌≡◌, ◌≤◌, length, drop, map, IfOk};
+ghost use Rattle.lam_syntax.specs.Answers.{is_semicolon, run_len, pieces_of};
+
+use lam_token::{Kind, Token};
+use std::alloc::{AllocError, Global};
+
+/// The longest runs of tokens without a semicolon, in order. Empty ones are left out.
+pub fn pieces<'a, 'b>(
+    alloc: Global,
+    tokens: &'a [Token<'b>],
+) -> Result<Vec<&'a [Token<'b>]>, AllocError>
+    ensures { IfOk result (λ found. map (λ p. p.now) found.items ≡ pieces_of tokens.now) }
+{
+    let mut found = Vec::new(alloc);
+    let mut left = tokens;
+    while !left.is_empty() {
+        let (piece, rest) = left.split_at(run_len(left));
+        if !piece.is_empty() {
+            found.push(piece)?;
+        }
+        left = behind_first(rest);
+    }
+    Ok(found)
+}
+
+/// How many tokens stand before the first semicolon.
+fn run_len(tokens: &[Token<'_>]) -> usize
+    ensures within { result ≤ length tokens.now }
+    ensures run { result ≡ run_len tokens.now }
+{
+    for (n, token) in tokens.iter().enumerate() {
+        if is_semicolon(token) {
+            return n;
+        }
+    }
+    tokens.len()
+}
+
+/// The tokens behind the first one.
+fn behind_first<'a, 'b>(tokens: &'a [Token<'b>]) -> &'a [Token<'b>]
+    ensures { result.now ≡ drop 1 tokens.now }
+{
+    let (_, rest) = tokens.split_at(tokens.len().min(1));
+    rest
+}
+
+fn is_semicolon(token: &Token<'_>) -> bool
+    ensures { result ≡ is_semicolon token.now }
+{
+    match token.kind() {
+        Kind::Semicolon => true,
+        _ => false,
+    }
+}

@@ -1,0 +1,214 @@
+//! Terms and commands.
+ghost use Rattle.std.specs.Prelude.{◌≡◌, IfOk};
+ghost use Rattle.lam_syntax.specs.Trees.{from_to, term_span, type_span, term_tree, lambda, if_term, let_term, letrec_term, apply, project, ascribe, record_term, spanning_term};
+ghost use Rattle.lam_syntax.specs.Views.{word_of, bound_of, type_of, term_of, term_node_of, fields_of};
+ghost use Rattle.lam_syntax.specs.Reads.{prefixed_by};
+
+use crate::identifier::{Binder, Identifier};
+use crate::spans::from_to;
+use crate::types::WrittenTy;
+use lam_token::Span;
+use std::alloc::{AllocError, Global};
+
+/// A term, its own parentheses included in its span.
+///
+/// The node is boxed, so that the functions that pass terms on need little stack at each level.
+#[cycle(terms)]
+#[derive(Drop)]
+pub struct Tm {
+    pub span: Span,
+    pub node: Box<TmNode>,
+}
+
+/// The words that stand before a path.
+#[derive(Clone, Copy, Debug, PartialEq, Eq)]
+pub enum Prefix {
+    Fix,
+    Succ,
+    Pred,
+    IsZero,
+}
+
+/// What a term is.
+#[cycle(terms)]
+#[derive(Drop)]
+pub enum TmNode {
+    True,
+    False,
+    Unit,
+    Variable(Identifier),
+    Numeral(Identifier),
+    /// `lambda b : type . body`
+    Lambda(Binder, WrittenTy, Tm),
+    /// `if condition then one else other`
+    If(Tm, Tm, Tm),
+    /// `let b = term in body`
+    Let(Binder, Tm, Tm),
+    /// `letrec b : type = term in body`
+    Letrec(Binder, WrittenTy, Tm, Tm),
+    Prefixed(Prefix, Tm),
+    /// A function and its argument.
+    Apply(Tm, Tm),
+    Project(Tm, Identifier),
+    Ascribe(Tm, WrittenTy),
+    Record(Vec<TmField>),
+}
+
+/// A label of a record and its term.
+#[cycle(terms)]
+#[derive(Drop)]
+pub struct TmField {
+    pub label: Identifier,
+    pub term: Tm,
+}
+
+/// A command.
+#[derive(Drop)]
+pub enum Command {
+    /// `name = term`
+    Definition(Identifier, Tm),
+    /// `name : type`
+    Declaration(Identifier, WrittenTy),
+    /// `TypeName = type`
+    Abbreviation(Identifier, WrittenTy),
+    Evaluation(Tm),
+}
+
+/// The term of a node in its place.
+pub(crate) fn term_at(alloc: Global, span: Span, node: TmNode) -> Result<Tm, AllocError>
+    ensures { IfOk result (λ t. term_of t ≡ term_tree span (term_node_of node)) }
+{
+    Ok(Tm {
+        span,
+        node: Box::new(alloc, node)?,
+    })
+}
+
+/// The term with the place of the parentheses round it.
+pub(crate) fn spanning(term: Tm, first: Span, last: Span) -> Tm
+    ensures { term_of result ≡ spanning_term (from_to first last) (term_of term) }
+{
+    Tm {
+        span: from_to(first, last),
+        node: term.node,
+    }
+}
+
+/// The function of this binder.
+#[tactic(auto, using(crate::proofs::Shapes::term_shapes))]
+pub(crate) fn make_lambda(
+    alloc: Global,
+    first: Span,
+    binder: Binder,
+    ty: WrittenTy,
+    body: Tm,
+) -> Result<Tm, AllocError>
+    ensures { IfOk result (λ t. term_of t ≡ term_tree (from_to first (term_span (term_of body))) (lambda (bound_of binder) (type_of ty) (term_of body))) }
+{
+    let span = from_to(first, body.span);
+    term_at(alloc, span, TmNode::Lambda(binder, ty, body))
+}
+
+/// The choice between two terms.
+#[tactic(auto, using(crate::proofs::Shapes::term_shapes))]
+pub(crate) fn make_if(
+    alloc: Global,
+    first: Span,
+    condition: Tm,
+    one: Tm,
+    other: Tm,
+) -> Result<Tm, AllocError>
+    ensures { IfOk result (λ t. term_of t ≡ term_tree (from_to first (term_span (term_of other))) (if_term (term_of condition) (term_of one) (term_of other))) }
+{
+    let span = from_to(first, other.span);
+    term_at(alloc, span, TmNode::If(condition, one, other))
+}
+
+/// The term with a name for another.
+#[tactic(auto, using(crate::proofs::Shapes::term_shapes))]
+pub(crate) fn make_let(
+    alloc: Global,
+    first: Span,
+    binder: Binder,
+    term: Tm,
+    body: Tm,
+) -> Result<Tm, AllocError>
+    ensures { IfOk result (λ t. term_of t ≡ term_tree (from_to first (term_span (term_of body))) (let_term (bound_of binder) (term_of term) (term_of body))) }
+{
+    let span = from_to(first, body.span);
+    term_at(alloc, span, TmNode::Let(binder, term, body))
+}
+
+/// The term with a name for another that may use it.
+#[tactic(auto, using(crate::proofs::Shapes::term_shapes))]
+pub(crate) fn make_letrec(
+    alloc: Global,
+    first: Span,
+    binder: Binder,
+    ty: WrittenTy,
+    term: Tm,
+    body: Tm,
+) -> Result<Tm, AllocError>
+    ensures { IfOk result (λ t. term_of t ≡ term_tree (from_to first (term_span (term_of body))) (letrec_term (bound_of binder) (type_of ty) (term_of term) (term_of body))) }
+{
+    let span = from_to(first, body.span);
+    term_at(alloc, span, TmNode::Letrec(binder, ty, term, body))
+}
+
+/// The term behind a prefix, or behind none.
+#[tactic(auto, using(crate::proofs::Shapes::term_shapes))]
+pub(crate) fn with_prefix(
+    alloc: Global,
+    prefix: Option<(Prefix, Span)>,
+    term: Tm,
+) -> Result<Tm, AllocError>
+    ensures { IfOk result (λ t. term_of t ≡ prefixed_by prefix (term_of term)) }
+{
+    match prefix {
+        None => Ok(term),
+        Some((prefix, first)) => {
+            let span = from_to(first, term.span);
+            term_at(alloc, span, TmNode::Prefixed(prefix, term))
+        }
+    }
+}
+
+/// A function at its argument.
+#[tactic(auto, using(crate::proofs::Shapes::term_shapes))]
+pub(crate) fn make_apply(alloc: Global, function: Tm, argument: Tm) -> Result<Tm, AllocError>
+    ensures { IfOk result (λ t. term_of t ≡ term_tree (from_to (term_span (term_of function)) (term_span (term_of argument))) (apply (term_of function) (term_of argument))) }
+{
+    let span = from_to(function.span, argument.span);
+    term_at(alloc, span, TmNode::Apply(function, argument))
+}
+
+/// The field of a record.
+#[tactic(auto, using(crate::proofs::Shapes::term_shapes))]
+pub(crate) fn make_project(alloc: Global, term: Tm, label: Identifier) -> Result<Tm, AllocError>
+    ensures { IfOk result (λ t. term_of t ≡ term_tree (from_to (term_span (term_of term)) label.span) (project (term_of term) (word_of label))) }
+{
+    let span = from_to(term.span, label.span);
+    term_at(alloc, span, TmNode::Project(term, label))
+}
+
+/// The term with a type that is written to it.
+#[tactic(auto, using(crate::proofs::Shapes::term_shapes))]
+pub(crate) fn make_ascribe(alloc: Global, term: Tm, ty: WrittenTy) -> Result<Tm, AllocError>
+    ensures { IfOk result (λ t. term_of t ≡ term_tree (from_to (term_span (term_of term)) (type_span (type_of ty))) (ascribe (term_of term) (type_of ty))) }
+{
+    let span = from_to(term.span, ty.span);
+    term_at(alloc, span, TmNode::Ascribe(term, ty))
+}
+
+/// The record of these fields between these braces.
+#[tactic(auto, using(crate::proofs::Shapes::term_shapes))]
+pub(crate) fn make_record(
+    alloc: Global,
+    first: Span,
+    last: Span,
+    fields: Vec<TmField>,
+) -> Result<Tm, AllocError>
+    ensures { IfOk result (λ t. term_of t ≡ term_tree (from_to first last) (record_term (fields_of fields.items))) }
+{
+    term_at(alloc, from_to(first, last), TmNode::Record(fields))
+}
