@@ -2,3 +2,4 @@ pub mod Plain
 pub mod EntryLemmas
 pub mod ChangeSteps
 pub mod AloneRuns
+pub mod OneAnswer

@@ -7,4 +7,5 @@ pub mod Does
 pub mod Initialize
 pub mod Sync
 pub mod Step
+pub mod OneAnswer
 pub mod Runs

@@ -5,6 +5,7 @@ ghost use Rattle.serde_json.specs.Written.{has_float};
 ghost use Rattle.std.specs.List.{All};
 ghost use Rattle.lam_rpc.specs.Kind.{message_of, HasPlainId};
 ghost use Rattle.lam_rpc.specs.Reply.{result_reply};
+ghost use Rattle.lam_session.specs.OneAnswer.{HasOneAnswer};
 ghost use Rattle.lam_session.specs.Refusals.{refused};
 ghost use Rattle.lam_session.specs.State.{fresh, ended_status};
 ghost use Rattle.lam_session.specs.Sync.{Opens, Changes, Closes};
@@ -78,10 +79,14 @@ impl Session {
     ///
     /// `AllocError` says that memory ran out, in this step or an earlier one; from then on every
     /// step answers it. After the end of the session a step sends nothing and changes nothing.
+    ///
+    /// What the answer is does not hang on memory: each message has one, and one alone.
+    #[tactic(auto, using(crate::proofs::OneAnswer::has_one_answer))]
     pub fn step(&mut self, incoming: Incoming) -> Result<Vec<Value>, AllocError>
         ensures answers { IfOk result (λ values. Answers self.old (message_of incoming) (map view values.items) self.new) }
         ensures gives_up { OnErr result (GivesUp self.old self.new) }
         ensures plain { HasPlainId (message_of incoming) → IfOk result (λ values. All (λ v. has_float (view v) ≡ false) values.items) }
+        ensures one_answer { HasOneAnswer self.old.state (message_of incoming) }
     {
         if self.gave_up {
             return Err(AllocError);
