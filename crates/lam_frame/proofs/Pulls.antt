@@ -13,7 +13,7 @@ concat-append (piece ∷ front) back = ap (λ (l : List ℕ). piece ++ l) (conca
 
 -- ---- which pieces are empty
 
-NoneEmpty-append : (front back : List (List ℕ)) → NoneEmpty front → NoneEmpty back → NoneEmpty (front ++ back)
+pub NoneEmpty-append : (front back : List (List ℕ)) → NoneEmpty front → NoneEmpty back → NoneEmpty (front ++ back)
 NoneEmpty-append [] back f b = b
 NoneEmpty-append (piece ∷ front) back f b = (f.0, NoneEmpty-append front back f.1 b)
 

@@ -156,7 +156,7 @@ begins bytes = begins_kind bytes (kind_of bytes)
 same_verdict : (bytes : List ℕ) (l k : List (List ℕ)) (a b : List ℕ) (v w : Result ℕ FrameFault) → HasHeader bytes l a → HasHeader bytes k b → body_length l ≡ v → body_length k ≡ w → (v ≡ w) × (a ≡ b)
 same_verdict bytes l k a b v w h g e f = let same = headers_agree bytes l k a b h g in (sym e ∙ ap body_length same.0 ∙ f, same.1)
 
-open_no_frame : (bytes body after : List ℕ) → IsOpen bytes → HasFrame bytes body after → ⊥
+pub open_no_frame : (bytes body after : List ℕ) → IsOpen bytes → HasFrame bytes body after → ⊥
 open_no_frame bytes body after (InHeader u less) f = header_not_unfinished bytes f.lines (body ++ after) f.header u
 open_no_frame bytes body after (InBody lines part size h e less) f =
     let same = same_verdict bytes lines f.lines part (body ++ after) (Ok size) (Ok (length body)) h f.header e f.size in
@@ -188,7 +188,7 @@ same_split (x ∷ a) b (y ∷ c) d e s =
     let more = same_split a b c d tails (omega arith) in
     (ap (λ (z : ℕ). z ∷ a) heads ∙ ap (λ (l : List ℕ). y ∷ l) more.0, more.1)
 
-frames_agree : (bytes b c a d : List ℕ) → HasFrame bytes b a → HasFrame bytes c d → (b ≡ c) × (a ≡ d)
+pub frames_agree : (bytes b c a d : List ℕ) → HasFrame bytes b a → HasFrame bytes c d → (b ≡ c) × (a ≡ d)
 frames_agree bytes b c a d f g =
     let same = same_verdict bytes f.lines g.lines (b ++ a) (c ++ d) (Ok (length b)) (Ok (length c)) f.header g.header f.size g.size in
     let sizes : length b ≡ length c = cc same.0 in

@@ -1,6 +1,7 @@
 pub mod Sending
 pub mod Answering
+pub mod Growing
+pub mod OneOutput
 pub mod Walking
 pub mod Telling
-pub mod Completing
 pub mod ReadWords

@@ -1,20 +1,20 @@
 -- A run, as far as it has come: turn after turn, and then how it ends.
-use Rattle.std.proofs.Common.{◌≡◌, ◌≤◌, ℕ, ◌+◌, ◌^◌, List, [], ◌∷◌, ◌++◌, length, Option, Result, Ok, Err, refl, sym, ap, ◌∙◌, subst, arith, append_assoc, length-append}
+use Rattle.std.proofs.Common.{◌≡◌, ◌≢◌, ◌≤◌, ℕ, ◌+◌, ◌^◌, List, [], ◌∷◌, ◌++◌, length, Option, Some, None, Result, Ok, Err, refl, sym, ap, ◌∙◌, subst, arith, append_assoc, append-nil, length-append}
 use Rattle.std.specs.List.{concat}
 use Rattle.std.proofs.KnownBytes.{Appends-nil, Appends-trans}
-use Rattle.lam_frame.specs.Frame.{IsOpen}
-use Rattle.lam_frame.specs.Next.{EndsEmpty, PulledWhile}
-use Rattle.lam_frame.proofs.Pulls.{PulledWhile-append, PulledWhile-failed, concat-append}
-use Rattle.lam_frame.proofs.Told.{HasFrame-more}
+use Rattle.lam_frame.specs.Frame.{HasFrame, IsOpen, IsRest}
+use Rattle.lam_frame.specs.Next.{EndsEmpty, OnlyLastEmpty, PulledWhile}
+use Rattle.lam_frame.specs.Steps.{NoneEmpty}
+use Rattle.lam_frame.proofs.Pulls.{NoneEmpty-append, PulledWhile-append, PulledWhile-failed, concat-append, not_ended_behind, stopped_behind}
+use Rattle.lam_frame.proofs.Readings.{open_no_frame}
+use Rattle.lam_frame.proofs.Told.{HasFault-more}
 use Rattle.lam_frame.specs.declared.fault.FrameFault.{FrameFault}
 use Rattle.lam_frame.specs.declared.fault.FrameFault.TheVariants.{NoLength, BadLength, TooLong, BadHeader, Truncated, Device as DeviceFrame, Memory as MemoryFrame, TooManyTurns, Spent}
-use Rattle.lam_session.specs.State.{State}
-use Rattle.lam_server.specs.Device.{Sends, IsBroken}
-use Rattle.lam_server.specs.Output.{Takes, Turns, IsLive, IsFront, IsAwaiting}
+use Rattle.lam_session.specs.State.{State, ended_status}
+use Rattle.lam_server.specs.Device.{Sends, WantsMore, IsBroken}
+use Rattle.lam_server.specs.Output.{Takes, Turns, IsLive, Outcome, ComesTo, IsFront, IsAwaiting}
 use Rattle.lam_server.specs.Output.Turns.{no_turn, next_turn}
-use Rattle.lam_server.specs.Output.IsFront.{whole_answers, part_of_answer}
-use Rattle.lam_server.specs.Run.{Runs, RunSays, DecidesNothing}
-use Rattle.lam_server.specs.Run.Finishes.{by_message, by_silence}
+use Rattle.lam_server.specs.Run.{Runs, RunSays, MayFollow, IsSettled, DecidesNothing, AwaitsMore}
 use Rattle.lam_server.specs.Run.DeviceEnds.{at_pull, at_limit, at_sink}
 use Rattle.lam_server.specs.Turn.{TakesTurn, Ends, DeviceStops, MemoryStops}
 use Rattle.lam_server.specs.Turn.Ends.{by_message as turn_by_message, by_silence as turn_by_silence}
@@ -24,25 +24,10 @@ use Rattle.lam_server.specs.Waiting.{Waiting}
 use Rattle.lam_server.specs.declared.faults.RunFault.{RunFault}
 use Rattle.lam_server.specs.declared.faults.RunFault.TheVariants.{Header, Device, Memory}
 use Rattle.lam_server.specs.declared.server.Turn.TheVariants.{More, End}
+use Rattle.lam_server.proofs.Growing.{Turns-more, part_front, whole_front}
 use Rattle.lam_server.proofs.Sending.{Sends-nothing, Sends-both}
 
--- ---- more bytes behind
-
-Takes-more : (s next : State) (bytes out left more : List ℕ) → Takes s bytes out next left → Takes s (bytes ++ more) out next (left ++ more)
-Takes-more s next bytes out left more t = record {
-  body = t.body;
-  message = t.message;
-  values = t.values;
-  frame = HasFrame-more bytes more t.body left t.frame;
-  kind = t.kind;
-  steps = t.steps;
-  frames = t.frames;
-}
-
-pub Turns-more : (start : State) (bytes more out : List ℕ) (s : State) (left : List ℕ) → Turns start bytes out s left → Turns start (bytes ++ more) out s (left ++ more)
-Turns-more start bytes more out s left no_turn = no_turn
-Turns-more start bytes more out s left (next_turn {done = done} {first = first} {s = middle} {next = next} {left = between} {after = after} before live takes) =
-    next_turn (Turns-more start bytes more done middle between before) live (Takes-more middle next between first after more takes)
+-- ---- pulls
 
 -- pulls that a turn needs are pulls that the run needs
 pub PulledWhile-run : {S : Type 0} (coming : S → Option (List ℕ)) (failed : S → ℕ) (gave : S → List ℕ → S → Type 0) (start s : State) (read out held : List ℕ) (source last : S) (pieces : List (List ℕ))
@@ -54,19 +39,58 @@ PulledWhile-run coming failed gave start s read out held source last (piece ∷ 
   (p.2.0, p.2.1, PulledWhile-run coming failed gave start s (read ++ piece) out (held ++ piece) p.2.0 last pieces (Turns-more start read piece out s held turns) live p.2.2),
 )
 
+-- where a frame was found, no piece was empty: before the last one the bytes were open
+found_pieces : {S : Type 0} (coming : S → Option (List ℕ)) (failed : S → ℕ) (gave : S → List ℕ → S → Type 0) (held body left : List ℕ) (source last : S) (pieces : List (List ℕ))
+    → PulledWhile coming failed gave IsOpen held source pieces last → OnlyLastEmpty pieces → HasFrame (held ++ concat pieces) body left → NoneEmpty pieces
+found_pieces coming failed gave held body left source last [] p stopped frame = tt
+found_pieces coming failed gave held body left source last ([] ∷ []) p stopped frame = absurd (open_no_frame held body left p.0 (subst (λ (l : List ℕ). HasFrame l body left) (append-nil held) frame))
+found_pieces coming failed gave held body left source last ((b ∷ bs) ∷ []) p stopped frame = (omega arith, tt)
+found_pieces coming failed gave held body left source last (piece ∷ next ∷ pieces) p stopped frame = (
+  stopped.0,
+  found_pieces coming failed gave (held ++ piece) body left p.2.0 last (next ∷ pieces) p.2.2 stopped.1
+      (subst (λ (l : List ℕ). HasFrame l body left) (sym (append_assoc held piece (concat (next ∷ pieces)))) frame),
+)
+
+-- ---- what is settled
+
+settled_status : (start s : State) (pieces : List (List ℕ)) (out left : List ℕ) (status : ℕ) → Turns start (concat pieces) out s left → ended_status s.life ≡ Some status → IsSettled start pieces out (Ok status)
+settled_status start s pieces out left status turns over = λ more may. record {
+  state = s;
+  left = left ++ more;
+  turns = Turns-more start (concat pieces) more out s left turns;
+  comes_to = subst (λ (o : Option ℕ). ComesTo o (left ++ more) (Ok status)) (sym over) refl;
+}
+
+settled_rest : (start s : State) (pieces : List (List ℕ)) (out left : List ℕ) (outcome : Outcome) → Turns start (concat pieces) out s left → IsLive s
+    → ((more : List ℕ) → MayFollow pieces more → ComesTo None (left ++ more) outcome) → IsSettled start pieces out outcome
+settled_rest start s pieces out left outcome turns live comes = λ more may. record {
+  state = s;
+  left = left ++ more;
+  turns = Turns-more start (concat pieces) more out s left turns;
+  comes_to = subst (λ (o : Option ℕ). ComesTo o (left ++ more) outcome) (sym live) (comes more may);
+}
+
 EndsEmpty-behind : (front back : List (List ℕ)) → EndsEmpty back → EndsEmpty (front ++ back)
 EndsEmpty-behind front back e = (front ++ e.0, ap (λ (l : List (List ℕ)). front ++ l) e.1 ∙ sym (append_assoc front e.0 ([] ∷ [])))
 
-IsBroken-behind : (bytes : List ℕ) (front back : List (List ℕ)) (fault : FrameFault) → IsBroken bytes back fault → IsBroken bytes (front ++ back) fault
-IsBroken-behind bytes front back NoLength b = b
-IsBroken-behind bytes front back BadLength b = b
-IsBroken-behind bytes front back TooLong b = b
-IsBroken-behind bytes front back BadHeader b = b
-IsBroken-behind bytes front back Truncated b = (b.0, (b.1.0, EndsEmpty-behind front back b.1.1))
-IsBroken-behind bytes front back DeviceFrame b = b
-IsBroken-behind bytes front back MemoryFrame b = b
-IsBroken-behind bytes front back TooManyTurns b = b
-IsBroken-behind bytes front back Spent b = b
+silent_rest : (left more : List ℕ) (status : ℕ) → left ≡ [] → more ≡ [] → status ≡ 1 → ComesTo None (left ++ more) (Ok status)
+silent_rest left more status nothing none one = (ap (λ (l : List ℕ). l ++ more) nothing ∙ none, one)
+
+cut_rest : (left more : List ℕ) → IsOpen left → left ≢ [] → more ≡ [] → IsRest (left ++ more) (Some Truncated)
+cut_rest left more undecided some none =
+    let same : left ≡ left ++ more = sym (append-nil left) ∙ ap (λ (l : List ℕ). left ++ l) (sym none) in
+    (subst IsOpen same undecided, subst (λ (l : List ℕ). l ≢ []) same some)
+
+broken_rest : (left more : List ℕ) (front back : List (List ℕ)) (fault : FrameFault) → IsBroken left back fault → MayFollow (front ++ back) more → ComesTo None (left ++ more) (Err fault)
+broken_rest left more front back NoLength b may = HasFault-more left more NoLength b
+broken_rest left more front back BadLength b may = HasFault-more left more BadLength b
+broken_rest left more front back TooLong b may = HasFault-more left more TooLong b
+broken_rest left more front back BadHeader b may = HasFault-more left more BadHeader b
+broken_rest left more front back Truncated b may = cut_rest left more b.0 b.1.0 (may (EndsEmpty-behind front back b.1.1))
+broken_rest left more front back DeviceFrame b may = absurd b
+broken_rest left more front back MemoryFrame b may = absurd b
+broken_rest left more front back TooManyTurns b may = absurd b
+broken_rest left more front back Spent b may = absurd b
 
 -- ---- turn after turn
 
@@ -76,6 +100,7 @@ module _ {S W : Type 0} (coming : S → Option (List ℕ)) (failed : S → ℕ) 
     pub pieces : List (List ℕ)
     pub out : List ℕ
     pub needed : PulledWhile coming failed gave (DecidesNothing start) [] source pieces source_now
+    pub some : NoneEmpty pieces
     pub turns : Turns start (concat pieces) out server.state server.held
     pub live : IsLive server.state
     pub counted : server.pulls ≡ length pieces
@@ -87,6 +112,7 @@ module _ {S W : Type 0} (coming : S → Option (List ℕ)) (failed : S → ℕ) 
     pieces = [];
     out = [];
     needed = refl;
+    some = tt;
     turns = no_turn;
     live = live;
     counted = refl;
@@ -122,6 +148,8 @@ module _ {S W : Type 0} (coming : S → Option (List ℕ)) (failed : S → ℕ) 
           pieces = w.pieces ++ t.pieces;
           out = w.out ++ answers.out;
           needed = subst (λ (s : S). PulledWhile coming failed gave (DecidesNothing start) [] source (w.pieces ++ t.pieces) s) t.says.1 (heard_needed t.pieces t.last t.needed);
+          some = NoneEmpty-append w.pieces t.pieces w.some
+              (found_pieces coming failed gave server.held answers.takes.body next.held source_now t.last t.pieces t.needed t.stopped answers.takes.frame);
           turns = next_turn (heard_turns t.pieces) w.live answers.takes;
           live = t.says.0.live;
           counted = heard_count t.pieces next.pulls t.says.0.counted;
@@ -131,14 +159,15 @@ module _ {S W : Type 0} (coming : S → Option (List ℕ)) (failed : S → ℕ) 
 
     -- the run ends, with these bytes sent
     ends : (pieces : List (List ℕ)) (last : S) (out : List ℕ) (answer : Result ℕ RunFault) (source_after : S) (sink_after : W) → PulledWhile coming failed gave IsOpen server.held source_now pieces last
-        → server.pulls + length pieces ≤ 2 ^ 48
-        → RunSays coming failed taken flushed sink_failed start (concat (w.pieces ++ pieces)) (w.pieces ++ pieces) last sink out answer source_after sink_after
+        → OnlyLastEmpty pieces → server.pulls + length pieces ≤ 2 ^ 48
+        → RunSays coming failed taken flushed sink_failed start (w.pieces ++ pieces) last sink out answer source_after sink_after
         → Runs coming failed gave taken flushed sink_failed start source sink answer source_after sink_after
-    ends pieces last out answer source_after sink_after needed few says = record {
+    ends pieces last out answer source_after sink_after needed stopped few says = record {
       pieces = w.pieces ++ pieces;
       last = last;
       out = out;
       needed = heard_needed pieces last needed;
+      stopped = stopped_behind w.pieces pieces w.some stopped;
       few = heard_few pieces few;
       says = says;
     }
@@ -147,79 +176,91 @@ module _ {S W : Type 0} (coming : S → Option (List ℕ)) (failed : S → ℕ) 
     still : (sink_after : W) → sink_now ≡ sink_after → Sends taken flushed sink_failed sink w.out sink_after
     still sink_after same = subst (λ (s : W). Sends taken flushed sink_failed sink w.out s) same w.sends
 
-    walk_to_status : (status : ℕ) (pieces : List (List ℕ)) (last source_after : S) (sink_after : W) → PulledWhile coming failed gave IsOpen server.held source_now pieces last → server.pulls + length pieces ≤ 2 ^ 48
-        → last ≡ source_after → Ends taken flushed sink_failed server.state (server.held ++ concat pieces) pieces sink_now status sink_after
-        → Runs coming failed gave taken flushed sink_failed start source sink (Ok status) source_after sink_after
-    walk_to_status status pieces last source_after sink_after needed few same (turn_by_message next left answers over) =
-        ends pieces last (w.out ++ answers.out) (Ok status) source_after sink_after needed few (
-          by_message next left (next_turn (heard_turns pieces) w.live answers.takes) over,
-          (Sends-both taken flushed sink_failed sink sink_now sink_after w.out answers.out w.sends answers.sends, same),
-        )
-    walk_to_status status pieces last source_after sink_after needed few same (turn_by_silence nothing end one unsent) =
-        ends pieces last w.out (Ok status) source_after sink_after needed few (
-          by_silence server.state (subst (λ (l : List ℕ). Turns start (concat (w.pieces ++ pieces)) w.out server.state l) nothing (heard_turns pieces)) w.live (EndsEmpty-behind w.pieces pieces end) one,
-          (still sink_after unsent, same),
-        )
+    says_status : (status : ℕ) (pieces : List (List ℕ)) (last source_after : S) (sink_after : W) → last ≡ source_after → Ends taken flushed sink_failed server.state (server.held ++ concat pieces) pieces sink_now status sink_after
+        → (out : List ℕ) × RunSays coming failed taken flushed sink_failed start (w.pieces ++ pieces) last sink out (Ok status) source_after sink_after
+    says_status status pieces last source_after sink_after same (turn_by_message next left answers over) = (
+      w.out ++ answers.out,
+      (
+        settled_status start next (w.pieces ++ pieces) (w.out ++ answers.out) left status (next_turn (heard_turns pieces) w.live answers.takes) over,
+        (Sends-both taken flushed sink_failed sink sink_now sink_after w.out answers.out w.sends answers.sends, same),
+      ),
+    )
+    says_status status pieces last source_after sink_after same (turn_by_silence nothing end one unsent) = (
+      w.out,
+      (
+        settled_rest start server.state (w.pieces ++ pieces) w.out (server.held ++ concat pieces) (Ok status) (heard_turns pieces) w.live
+            (λ more may. silent_rest (server.held ++ concat pieces) more status nothing (may (EndsEmpty-behind w.pieces pieces end)) one),
+        (still sink_after unsent, same),
+      ),
+    )
 
     pub walk_to_end : (status : ℕ) (source_after : S) (sink_after : W) → TakesTurn coming failed gave taken flushed sink_failed server source_now sink_now (Ok (End status)) source_after sink_after
         → Runs coming failed gave taken flushed sink_failed start source sink (Ok status) source_after sink_after
-    walk_to_end status source_after sink_after t = walk_to_status status t.pieces t.last source_after sink_after t.needed t.few t.says.1 t.says.0
+    walk_to_end status source_after sink_after t =
+        let says = says_status status t.pieces t.last source_after sink_after t.says.1 t.says.0 in
+        ends t.pieces t.last says.0 (Ok status) source_after sink_after t.needed t.stopped t.few says.1
 
     -- ---- faults
 
     front_of_part : (pieces : List (List ℕ)) (whole front rest left : List ℕ) (next : State) → Takes server.state (server.held ++ concat pieces) whole next left → whole ≡ front ++ rest
         → IsFront start (concat (w.pieces ++ pieces)) (w.out ++ front)
     front_of_part pieces whole front rest left next takes split =
-        part_of_answer w.out front rest whole server.state next (server.held ++ concat pieces) left (heard_turns pieces) w.live takes split refl
+        part_front start (concat (w.pieces ++ pieces)) w.out whole front rest (server.held ++ concat pieces) left server.state next (heard_turns pieces) w.live takes split
 
-    all_answered : (pieces : List (List ℕ)) → IsOpen (server.held ++ concat pieces) → IsAwaiting start (concat (w.pieces ++ pieces)) w.out
-    all_answered pieces undecided = record { state = server.state; left = server.held ++ concat pieces; turns = heard_turns pieces; live = w.live; undecided = undecided }
+    awaits_more : (pieces : List (List ℕ)) → WantsMore (server.held ++ concat pieces) pieces → AwaitsMore start (w.pieces ++ pieces) w.out
+    awaits_more pieces wants = (
+      record { state = server.state; left = server.held ++ concat pieces; turns = heard_turns pieces; live = w.live; undecided = wants.0 },
+      not_ended_behind w.pieces pieces w.some wants.1,
+    )
 
-    walk_to_device : (pieces : List (List ℕ)) (last source_after : S) (sink_after : W) → PulledWhile coming failed gave IsOpen server.held source_now pieces last → server.pulls + length pieces ≤ 2 ^ 48
-        → DeviceStops coming failed taken sink_failed server.state (server.held ++ concat pieces) (server.pulls + length pieces) last sink_now source_after sink_after
-        → Runs coming failed gave taken flushed sink_failed start source sink (Err Device) source_after sink_after
-    walk_to_device pieces last source_after sink_after needed few (turn_at_pull undecided failure unsent) =
-        ends pieces last w.out (Err Device) source_after sink_after needed few (at_pull (all_answered pieces undecided) failure (still sink_after unsent))
-    walk_to_device pieces last source_after sink_after needed few (turn_at_limit undecided limit same unsent) =
-        ends pieces last w.out (Err Device) source_after sink_after needed few
-        (at_limit (all_answered pieces undecided) (sym (heard_count pieces (2 ^ 48) (sym limit))) same (still sink_after unsent))
-    walk_to_device pieces last source_after sink_after needed few (turn_at_sink whole next left takes same failure) =
-        ends pieces last (w.out ++ failure.front.front) (Err Device) source_after sink_after needed few
-        (at_sink (front_of_part pieces whole failure.front.front failure.front.rest left next takes failure.front.split) same
-        (Appends-trans (taken sink) (taken sink_now) (taken sink_after) w.out failure.front.front w.sends.appended failure.front.appended)
-        (failure.counted ∙ ap (λ (n : ℕ). n + 1) w.sends.unfailed))
+    says_device : (pieces : List (List ℕ)) (last source_after : S) (sink_after : W) → DeviceStops coming failed taken sink_failed server (server.held ++ concat pieces) pieces last sink_now source_after sink_after
+        → (out : List ℕ) × RunSays coming failed taken flushed sink_failed start (w.pieces ++ pieces) last sink out (Err Device) source_after sink_after
+    says_device pieces last source_after sink_after (turn_at_pull wants failure unsent) = (w.out, at_pull (awaits_more pieces wants) failure (still sink_after unsent))
+    says_device pieces last source_after sink_after (turn_at_limit wants limit same unsent) =
+        (w.out, at_limit (awaits_more pieces wants) (sym (heard_count pieces (2 ^ 48) (sym limit))) same (still sink_after unsent))
+    says_device pieces last source_after sink_after (turn_at_sink whole next left takes same failure) = (
+      w.out ++ failure.front.front,
+      at_sink (front_of_part pieces whole failure.front.front failure.front.rest left next takes failure.front.split)
+          (Appends-trans (taken sink) (taken sink_now) (taken sink_after) w.out failure.front.front w.sends.appended failure.front.appended)
+          (failure.counted ∙ ap (λ (n : ℕ). n + 1) w.sends.unfailed) same,
+    )
 
-    walk_to_memory : (pieces : List (List ℕ)) (last source_after : S) (sink_after : W) → PulledWhile coming failed gave IsOpen server.held source_now pieces last → server.pulls + length pieces ≤ 2 ^ 48
-        → last ≡ source_after → MemoryStops taken sink_failed server.state (server.held ++ concat pieces) sink_now sink_after
-        → Runs coming failed gave taken flushed sink_failed start source sink (Err Memory) source_after sink_after
-    walk_to_memory pieces last source_after sink_after needed few same (before_sending unsent) =
-        let sends = still sink_after unsent in
-        ends pieces last w.out (Err Memory) source_after sink_after needed few
-        (record { front = whole_answers server.state (server.held ++ concat pieces) (heard_turns pieces); same = same; appended = sends.appended; unfailed = sends.unfailed })
-    walk_to_memory pieces last source_after sink_after needed few same (while_sending whole next left takes stops) =
-        ends pieces last (w.out ++ stops.front.front) (Err Memory) source_after sink_after needed few
-        (record {
-          front = front_of_part pieces whole stops.front.front stops.front.rest left next takes stops.front.split;
-          same = same;
-          appended = Appends-trans (taken sink) (taken sink_now) (taken sink_after) w.out stops.front.front w.sends.appended stops.front.appended;
-          unfailed = stops.unfailed ∙ w.sends.unfailed;
-        })
+    says_memory : (pieces : List (List ℕ)) (last source_after : S) (sink_after : W) → last ≡ source_after → MemoryStops taken sink_failed server.state (server.held ++ concat pieces) sink_now sink_after
+        → (out : List ℕ) × RunSays coming failed taken flushed sink_failed start (w.pieces ++ pieces) last sink out (Err Memory) source_after sink_after
+    says_memory pieces last source_after sink_after same (before_sending unsent) =
+        let sends = still sink_after unsent in (
+          w.out,
+          record {
+            front = whole_front start (concat (w.pieces ++ pieces)) w.out (server.held ++ concat pieces) server.state (heard_turns pieces);
+            appended = sends.appended;
+            unfailed = sends.unfailed;
+            same = same;
+          },
+        )
+    says_memory pieces last source_after sink_after same (while_sending whole next left takes stops) = (
+      w.out ++ stops.front.front,
+      record {
+        front = front_of_part pieces whole stops.front.front stops.front.rest left next takes stops.front.split;
+        appended = Appends-trans (taken sink) (taken sink_now) (taken sink_after) w.out stops.front.front w.sends.appended stops.front.appended;
+        unfailed = stops.unfailed ∙ w.sends.unfailed;
+        same = same;
+      },
+    )
 
     pub walk_to_fault : (fault : RunFault) (source_after : S) (sink_after : W) → TakesTurn coming failed gave taken flushed sink_failed server source_now sink_now (Err fault) source_after sink_after
         → Runs coming failed gave taken flushed sink_failed start source sink (Err fault) source_after sink_after
     walk_to_fault (Header fault) source_after sink_after t =
-        ends t.pieces t.last w.out (Err (Header fault)) source_after sink_after t.needed t.few (
-          record {
-            state = server.state;
-            left = server.held ++ concat t.pieces;
-            turns = heard_turns t.pieces;
-            live = w.live;
-            broken = IsBroken-behind (server.held ++ concat t.pieces) w.pieces t.pieces fault t.says.0;
-          },
+        ends t.pieces t.last w.out (Err (Header fault)) source_after sink_after t.needed t.stopped t.few (
+          settled_rest start server.state (w.pieces ++ t.pieces) w.out (server.held ++ concat t.pieces) (Err fault) (heard_turns t.pieces) w.live
+              (λ more may. broken_rest (server.held ++ concat t.pieces) more w.pieces t.pieces fault t.says.0 may),
           (still sink_after t.says.1.1, t.says.1.0),
         )
-    walk_to_fault Device source_after sink_after t = walk_to_device t.pieces t.last source_after sink_after t.needed t.few t.says
-    walk_to_fault Memory source_after sink_after t = walk_to_memory t.pieces t.last source_after sink_after t.needed t.few t.says.1 t.says.0
+    walk_to_fault Device source_after sink_after t =
+        let says = says_device t.pieces t.last source_after sink_after t.says in
+        ends t.pieces t.last says.0 (Err Device) source_after sink_after t.needed t.stopped t.few says.1
+    walk_to_fault Memory source_after sink_after t =
+        let says = says_memory t.pieces t.last source_after sink_after t.says.1 t.says.0 in
+        ends t.pieces t.last says.0 (Err Memory) source_after sink_after t.needed t.stopped t.few says.1
 
   -- no server came to be
   pub no_run : (start : State) (source : S) (sink : W) → Runs coming failed gave taken flushed sink_failed start source sink (Err Memory) source sink
@@ -228,6 +269,7 @@ module _ {S W : Type 0} (coming : S → Option (List ℕ)) (failed : S → ℕ) 
     last = source;
     out = [];
     needed = refl;
+    stopped = tt;
     few = omega arith;
-    says = record { front = whole_answers start [] no_turn; same = refl; appended = Appends-nil (taken sink); unfailed = refl };
+    says = record { front = whole_front start [] [] [] start no_turn; appended = Appends-nil (taken sink); unfailed = refl; same = refl };
   }

@@ -28,6 +28,10 @@ pub record StopsSending {W : Type 0} (taken : W → Option (List ℕ)) (failed :
   pub front : AppendsFront (taken old) (taken new) out
   pub unfailed : failed new ≡ failed old
 
+-- one more pull is due: the bytes decide nothing yet, and no empty piece told the end
+abbrev pub WantsMore : List ℕ → List (List ℕ) → Type 0
+WantsMore bytes pieces = IsOpen bytes × (EndsEmpty pieces → ⊥)
+
 -- no frame begins with these bytes, by one of the five faults of headers and ends; an end is told by an empty piece
 abbrev pub IsBroken : List ℕ → List (List ℕ) → FrameFault → Type 0
 IsBroken bytes pieces NoLength = HasFault bytes NoLength

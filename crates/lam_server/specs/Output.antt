@@ -1,4 +1,4 @@
--- What the bytes of a client are answered with: messages are taken from their front in turn, and each is answered in full before the next one is looked at.
+-- What the bytes of a client are answered with: the frames of what each message asks to be sent, message after message.
 use Rattle.std.specs.Prelude.{◌≡◌, ℕ, List, [], ◌∷◌, ◌++◌, Option, Some, None, Result, Ok, Err}
 use Rattle.serde_json.specs.Data.{Data}
 use Rattle.serde_json.specs.Written.{compact_text}
@@ -59,12 +59,11 @@ pub record IsAllowed (start : State) (input out : List ℕ) (outcome : Outcome) 
 
 -- ---- parts of runs
 
--- a front of what the bytes are answered with: whole answers, and perhaps a front of the next one
-pub data IsFront (start : State) (bytes out : List ℕ) : Type 0 where
-  whole_answers : (s : State) (left : List ℕ) → Turns start bytes out s left → IsFront start bytes out
-  part_of_answer : (done front rest whole : List ℕ) (s next : State) (left after : List ℕ)
-      → Turns start bytes done s left → IsLive s → Takes s left whole next after
-      → whole ≡ front ++ rest → out ≡ done ++ front → IsFront start bytes out
+-- with some more behind it, the output is one that is allowed for the bytes
+pub record IsFront (start : State) (bytes out : List ℕ) : Type 0 where
+  pub rest : List ℕ
+  pub outcome : Outcome
+  pub allowed : IsAllowed start bytes (out ++ rest) outcome
 
 -- every message that is whole among the bytes is answered whole, the session lives, and what is left decides nothing yet
 pub record IsAwaiting (start : State) (bytes out : List ℕ) : Type 0 where

@@ -3,9 +3,9 @@ use Rattle.std.specs.Prelude.{◌≡◌, ℕ, ◌+◌, ◌^◌, ◌≤◌, List,
 use Rattle.std.specs.List.{concat}
 use Rattle.lam_frame.specs.Device.{FailedPull}
 use Rattle.lam_frame.specs.Frame.{IsOpen}
-use Rattle.lam_frame.specs.Next.{EndsEmpty, PulledWhile}
+use Rattle.lam_frame.specs.Next.{EndsEmpty, OnlyLastEmpty, PulledWhile}
 use Rattle.lam_session.specs.State.{State, ended_status}
-use Rattle.lam_server.specs.Device.{Sends, FailsToSend, StopsSending, IsBroken}
+use Rattle.lam_server.specs.Device.{Sends, FailsToSend, StopsSending, WantsMore, IsBroken}
 use Rattle.lam_server.specs.Output.{Takes, IsLive}
 use Rattle.lam_server.specs.Waiting.{Waiting, HasLessWork}
 use Rattle.lam_server.specs.declared.faults.RunFault.{RunFault}
@@ -34,15 +34,15 @@ pub data Ends {W : Type 0} (taken : W → Option (List ℕ)) (flushed failed : W
       → ended_status next.life ≡ Some status → Ends taken flushed failed s heard pieces sink status sink_after
   by_silence : heard ≡ [] → EndsEmpty pieces → status ≡ 1 → sink ≡ sink_after → Ends taken flushed failed s heard pieces sink status sink_after
 
--- a pull failed; or one more was one too many; or the sink failed, while it was given the answer
+-- a pull that was due failed; or it was one too many; or the sink failed, while it was given the answer
 pub data DeviceStops {S W : Type 0} (coming : S → Option (List ℕ)) (source_failed : S → ℕ) (taken : W → Option (List ℕ)) (sink_failed : W → ℕ)
-    (s : State) (heard : List ℕ) (pulls : ℕ) (last : S) (sink : W) (source_after : S) (sink_after : W) : Type 0 where
-  at_pull : IsOpen heard → FailedPull coming source_failed last source_after → sink ≡ sink_after
-      → DeviceStops coming source_failed taken sink_failed s heard pulls last sink source_after sink_after
-  at_limit : IsOpen heard → pulls ≡ 2 ^ 48 → last ≡ source_after → sink ≡ sink_after
-      → DeviceStops coming source_failed taken sink_failed s heard pulls last sink source_after sink_after
-  at_sink : (out : List ℕ) (next : State) (left : List ℕ) → Takes s heard out next left → last ≡ source_after → FailsToSend taken sink_failed sink out sink_after
-      → DeviceStops coming source_failed taken sink_failed s heard pulls last sink source_after sink_after
+    (old : Waiting) (heard : List ℕ) (pieces : List (List ℕ)) (last : S) (sink : W) (source_after : S) (sink_after : W) : Type 0 where
+  at_pull : WantsMore heard pieces → FailedPull coming source_failed last source_after → sink ≡ sink_after
+      → DeviceStops coming source_failed taken sink_failed old heard pieces last sink source_after sink_after
+  at_limit : WantsMore heard pieces → old.pulls + length pieces ≡ 2 ^ 48 → last ≡ source_after → sink ≡ sink_after
+      → DeviceStops coming source_failed taken sink_failed old heard pieces last sink source_after sink_after
+  at_sink : (out : List ℕ) (next : State) (left : List ℕ) → Takes old.state heard out next left → last ≡ source_after → FailsToSend taken sink_failed sink out sink_after
+      → DeviceStops coming source_failed taken sink_failed old heard pieces last sink source_after sink_after
 
 -- nothing was sent; or the memory for the text of a value of the answer was wanting
 pub data MemoryStops {W : Type 0} (taken : W → Option (List ℕ)) (failed : W → ℕ)
@@ -61,17 +61,18 @@ TurnSays coming source_failed taken flushed sink_failed old heard pieces last si
 TurnSays coming source_failed taken flushed sink_failed old heard pieces last sink (Err (Header fault)) source_after sink_after =
     IsBroken heard pieces fault × ((last ≡ source_after) × (sink ≡ sink_after))
 TurnSays coming source_failed taken flushed sink_failed old heard pieces last sink (Err Device) source_after sink_after =
-    DeviceStops coming source_failed taken sink_failed old.state heard (old.pulls + length pieces) last sink source_after sink_after
+    DeviceStops coming source_failed taken sink_failed old heard pieces last sink source_after sink_after
 TurnSays coming source_failed taken flushed sink_failed old heard pieces last sink (Err Memory) source_after sink_after =
     MemoryStops taken sink_failed old.state heard sink sink_after × (last ≡ source_after)
 
--- a turn: pulls while the bytes there decide nothing, and then what the answer says
+-- a turn: pulls while the bytes there decide nothing and no empty piece told the end, and then what the answer says
 pub record TakesTurn {S W : Type 0} (coming : S → Option (List ℕ)) (source_failed : S → ℕ) (gave : S → List ℕ → S → Type 0)
     (taken : W → Option (List ℕ)) (flushed sink_failed : W → ℕ)
     (old : Waiting) (source : S) (sink : W) (answer : Result Turn RunFault) (source_after : S) (sink_after : W) : Type 0 where
   pub pieces : List (List ℕ)
   pub last : S
   pub needed : PulledWhile coming source_failed gave IsOpen old.held source pieces last
+  pub stopped : OnlyLastEmpty pieces
   pub few : old.pulls + length pieces ≤ 2 ^ 48
   pub says : TurnSays coming source_failed taken flushed sink_failed old (old.held ++ concat pieces) pieces last sink answer source_after sink_after
 

@@ -8,7 +8,6 @@
 mod answer;
 mod args;
 mod faults;
-mod laws;
 mod run;
 mod server;
 #[cfg(test)]

@@ -1,7 +1,8 @@
 //! A run: turn after turn, to the end.
 
-ghost use Rattle.std.specs.Prelude.{◌≡◌, ◌-◌, ◌^◌, ◌<◌};
+ghost use Rattle.std.specs.Prelude.{◌≡◌, ◌-◌, ◌^◌, ◌<◌, List, ℕ};
 ghost use Rattle.lam_session.specs.State.{fresh};
+ghost use Rattle.lam_server.specs.Laws.{HasOneOutput, OutputGrows};
 ghost use Rattle.lam_server.specs.Run.{AnswersWhereTold, Runs};
 
 use crate::faults::RunFault;
@@ -11,6 +12,10 @@ use lam_session::Config;
 use std::alloc::Global;
 
 /// Answers all that the reader brings, and says with which status the program ends.
+///
+/// What is answered hangs on the bytes alone: every input has one output that is allowed for it,
+/// and what begins the output for some bytes begins it for any more of them.
+#[tactic(auto, using(crate::proofs::OneOutput::has_one_output, crate::proofs::Growing::output_grows))]
 pub fn run<R: Source, W: Sink>(
     alloc: Global,
     reader: &mut R,
@@ -21,6 +26,8 @@ pub fn run<R: Source, W: Sink>(
     requires sink { W.failed writer.old < 2 ^ 64 - 1 }
     ensures told { AnswersWhereTold fresh (R.coming reader.old) (R.coming reader.new) result (W.taken writer.old) (W.taken writer.new) }
     ensures runs { Runs R.coming R.failed R.gave W.taken W.flushed W.failed fresh reader.old writer.old result reader.new writer.new }
+    ensures one_output { (input : List ℕ) → HasOneOutput fresh input }
+    ensures grows { (bytes : List ℕ) → OutputGrows fresh bytes }
 {
     let Ok(mut server) = Server::new(alloc, config) else {
         return Err(RunFault::Memory);
