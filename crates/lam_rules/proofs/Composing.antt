@@ -1,7 +1,7 @@
 -- How proofs of subtyping are put together.
-use Rattle.std.proofs.Common.{◌≡◌, List, [], ◌∷◌, ap, sym, ◌∙◌, refl}
-use Rattle.lam_rules.specs.Types.{Label, Typ, top, arrow, record_of, Fields, no_fields, field, IsAbsent, IsWellFormed, AreWellFormed}
-use Rattle.lam_rules.specs.Subtyping.{Claim, BeginsWith, GoesFieldByField, IsPermutation, SubTree, sub_step, SubTrees, no_subs, sub_first, conclusion, conclusions, IsSubProof, AreSubProofs, ProvesBelow, IsBelow}
+use Rattle.std.proofs.Common.{◌≡◌, ap, sym, ◌∙◌, refl}
+use Rattle.lam_rules.specs.Types.{Typ, top, arrow, record_of, Fields, no_fields, field, IsWellFormed, AreWellFormed}
+use Rattle.lam_rules.specs.Subtyping.{BeginsWith, GoesFieldByField, IsPermutation, sub_step, SubTrees, no_subs, sub_first, conclusions, AreSubProofs, IsBelow}
 use Rattle.lam_rules.specs.declared.rules.Dialect.{Dialect}
 use Rattle.lam_rules.specs.declared.rules.SubRule.{SubRule}
 use Rattle.lam_rules.proofs.ByShape.{below_wf}

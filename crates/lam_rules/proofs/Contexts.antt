@@ -1,5 +1,5 @@
 -- A context that is given from the outermost binder to the innermost.
-use Rattle.std.proofs.Common.{◌≡◌, ℕ, ◌+◌, ◌-◌, ◌<◌, ◌≤◌, ◌↔◌, List, [], ◌∷◌, ◌++◌, Option, Some, None, length, drop, get_or, ap, sym, ◌∙◌, refl, drop-cons, add-one, zero, suc, arith}
+use Rattle.std.proofs.Common.{◌≡◌, ℕ, ◌+◌, ◌-◌, ◌<◌, ◌≤◌, ◌↔◌, List, [], ◌∷◌, ◌++◌, Option, Some, length, drop, get_or, ap, sym, refl, drop-cons, add-one, zero, suc, arith}
 use Rattle.std.proofs.lemmas.List.{length-append}
 use Rattle.lam_rules.specs.Types.{Typ}
 use Rattle.lam_rules.specs.TermViews.{written_of}

@@ -8,5 +8,6 @@ pub mod RuleForms
 pub mod Contexts
 pub mod RulesHere
 pub mod ByShape
+pub mod SortedForms
 pub mod SharedTexts
 pub mod Composing

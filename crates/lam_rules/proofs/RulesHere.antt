@@ -1,13 +1,13 @@
 -- Each rule of typing at a term and premises that were told apart.
-use Rattle.std.proofs.Common.{◌≡◌, ℕ, ◌<◌, ◌≤◌, ◌↔◌, List, [], ◌∷◌, Option, Some, None, String, string_bytes, Box, length, get_or, ap, sym, ◌∙◌, refl}
+use Rattle.std.proofs.Common.{◌≡◌, ◌<◌, ◌≤◌, ◌↔◌, List, ◌∷◌, Option, Some, None, String, string_bytes, Box, length, get_or, ap, sym, ◌∙◌}
 use Rattle.std.specs.declared.alloc.Global.{Global}
 use Rattle.lam_rules.specs.Types.{Label, Typ, bool, nat, arrow, record_of, Fields, Has}
 use Rattle.lam_rules.specs.TypeViews.{typ_of}
 use Rattle.lam_rules.specs.TermViews.{term_of}
 use Rattle.lam_rules.specs.Terms.{Term}
-use Rattle.lam_rules.specs.Subtyping.{Claim, SubTree, conclusion, IsSubProof}
+use Rattle.lam_rules.specs.Subtyping.{conclusion, IsSubProof}
 use Rattle.lam_rules.specs.SubViews.{sub_tree_of}
-use Rattle.lam_rules.specs.Typing.{Context, TypingTree, typing_first, no_typings, type_in, IsTyping, ByTypeRule, HasField}
+use Rattle.lam_rules.specs.Typing.{Context, type_in, IsTyping, ByTypeRule, HasField}
 use Rattle.lam_rules.specs.TypingViews.{typing_tree_of, typings_of}
 use Rattle.lam_rules.specs.declared.types.Ty.{Ty}
 use Rattle.lam_rules.specs.declared.rules.Dialect.{Dialect}

@@ -1,10 +1,10 @@
 -- How terms are seen as trees: the tree at each variant, and of lists of labelled terms.
 use Rattle.std.proofs.Common.{◌≡◌, ℕ, ◌+◌, ◌<◌, List, [], ◌∷◌, map, Option, String, string_bytes, Box, Vec, length, drop, get_or, drop-cons, add-one, suc, ap, sym, ◌∙◌, refl, subst}
 use Rattle.std.specs.declared.alloc.Global.{Global}
-use Rattle.lam_rules.specs.Terms.{Term, true_term, false_term, if_then_else, numeral, succ, pred, is_zero, variable, free, lambda, apply, unit_term, ascribe, let_in, record_term, project, fix, TermFields, no_terms, term_field}
+use Rattle.lam_rules.specs.Terms.{Term, true_term, false_term, if_then_else, numeral, succ, pred, is_zero, variable, free, lambda, apply, unit_term, ascribe, let_in, record_term, project, fix, term_field}
 use Rattle.lam_rules.specs.TermViews.{written_of, terms_made, term_step, term_of, terms_of}
 use Rattle.lam_rules.specs.declared.types.Ty.{Ty}
-use Rattle.lam_rules.specs.declared.terms.Core.{Core, fold-Core, fold-roll-Core, out-Core, roll-Core, roll-out-Core}
+use Rattle.lam_rules.specs.declared.terms.Core.{Core, fold-roll-Core, out-Core, roll-Core, roll-out-Core}
 use Rattle.lam_rules.specs.declared.terms.Core.TheOpen.{Core-F}
 use Rattle.lam_rules.specs.declared.terms.Core.TheVariants.{True, False, If, Num, Succ, Pred, IsZero, Var, Free, Abs, App, Unit as UnitTerm, Ascribe, Let, Record, Proj, Fix, rolls-True, rolls-False, rolls-If, rolls-Num, rolls-Succ, rolls-Pred, rolls-IsZero, rolls-Var, rolls-Free, rolls-Abs, rolls-App, rolls-Unit, rolls-Ascribe, rolls-Let, rolls-Record, rolls-Proj, rolls-Fix}
 

@@ -1,17 +1,16 @@
 -- How trees of typing and contexts are seen.
-use Rattle.std.proofs.Common.{◌≡◌, ℕ, ◌+◌, ◌-◌, ◌<◌, ◌≤◌, ◌≢◌, ◌↔◌, List, [], ◌∷◌, ◌++◌, map, Option, Some, None, String, Box, length, drop, get_or, ap, sym, ◌∙◌, refl, drop-cons, add-one, zero, suc, arith, Bor}
+use Rattle.std.proofs.Common.{◌≡◌, ℕ, ◌+◌, ◌<◌, ◌≤◌, List, [], ◌∷◌, map, Option, Some, length, drop, get_or, ap, sym, ◌∙◌, refl, drop-cons, add-one, suc, arith, Bor}
 use Rattle.std.specs.Option.{option_map}
 use Rattle.lam_rules.specs.Types.{Typ, IsWellFormed}
 use Rattle.lam_rules.specs.TypeViews.{typ_of}
-use Rattle.lam_rules.specs.TermViews.{written_of}
 use Rattle.lam_rules.specs.SubViews.{sub_tree_of}
-use Rattle.lam_rules.specs.Typing.{Context, TypingTree, typing_step, TypingTrees, no_typings, typing_first, type_in, IsTyping, IsWellFormedContext, IsEntry}
+use Rattle.lam_rules.specs.Typing.{Context, TypingTree, typing_step, TypingTrees, no_typings, typing_first, type_in, IsTyping}
 use Rattle.lam_rules.specs.TypingViews.{context_of, entries_step, entries_of, typings_made, typing_tree_step, typing_tree_of, typings_of}
 use Rattle.lam_rules.specs.declared.types.Ty.{Ty}
 use Rattle.lam_rules.specs.declared.rules.Dialect.{Dialect}
 use Rattle.lam_rules.specs.Terms.{Term}
-use Rattle.lam_rules.specs.declared.typing.TypeProof.{TypeProof, fold-TypeProof, out-TypeProof, fold_out-TypeProof}
-use Rattle.lam_rules.specs.declared.typing.Entries.{Entries, fold-Entries, fold-roll-Entries}
+use Rattle.lam_rules.specs.declared.typing.TypeProof.{TypeProof, out-TypeProof, fold_out-TypeProof}
+use Rattle.lam_rules.specs.declared.typing.Entries.{Entries, fold-roll-Entries}
 use Rattle.lam_rules.specs.declared.typing.Entries.TheOpen.{Entries-F}
 use Rattle.lam_rules.specs.declared.typing.Entries.TheVariants.{Given, Under, rolls-Given, rolls-Under}
 

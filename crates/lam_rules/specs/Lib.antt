@@ -8,4 +8,5 @@ pub mod Terms
 pub mod TermViews
 pub mod Typing
 pub mod TypingViews
+pub mod Sorting
 pub mod SharedTexts

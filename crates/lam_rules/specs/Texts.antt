@@ -50,7 +50,7 @@ abbrev pub place_in : Label → Fields → ℕ
 place_in l no_fields = 0
 place_in l (field k u rest) = if is_not_after l k then 0 else 1 + place_in l rest
 
--- the same type with the labels of each record ascending, equal ones in their own order
+-- the same type with the labels of each record ascending, equal ones in their own order: its one sorted form
 abbrev mutual
   pub sorted : Typ → Typ
   sorted bool = bool

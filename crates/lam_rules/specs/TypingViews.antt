@@ -1,7 +1,6 @@
 -- What a context of types and a `TypeProof` stand for.
 use Rattle.std.specs.Prelude.{List, [], ◌∷◌, ◌++◌, Option, Some}
 use Rattle.std.specs.Option.{option_map}
-use Rattle.lam_rules.specs.Types.{Typ}
 use Rattle.lam_rules.specs.TypeViews.{typ_of}
 use Rattle.lam_rules.specs.TermViews.{written_of}
 use Rattle.lam_rules.specs.SubViews.{sub_tree_of}

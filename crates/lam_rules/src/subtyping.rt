@@ -65,66 +65,43 @@ fn is_rule_of(rule: SubRule, dialect: Dialect) -> bool
     }
 }
 
-#[tactic(auto, using(crate::proofs::TypeShapes::shapes, crate::proofs::SubShapes::sub_shapes))]
+/// Whether the conclusion follows by the rule from those of the premises.
 fn follows(rule: SubRule, premises: &[SubProof], lower: &Ty, upper: &Ty) -> bool
     requires lower { IsWellFormed (typ_of lower.now) }
     requires upper { IsWellFormed (typ_of upper.now) }
     ensures { IsTrue result ↔ BySubRule rule (claims_of premises.now) (typ_of lower.now) (typ_of upper.now) }
 {
     match rule {
-        SubRule::Trans => {
-            let [first, second] = premises else {
-                return false;
-            };
-            by_trans(first, second, lower, upper)
-        }
-        SubRule::Arrow => {
-            let [first, second] = premises else {
-                return false;
-            };
-            by_arrow(first, second, lower, upper)
-        }
+        SubRule::Refl => by_refl(premises, lower, upper),
+        SubRule::Trans => by_trans(premises, lower, upper),
+        SubRule::Top => by_top(premises, lower, upper),
+        SubRule::Arrow => by_arrow(premises, lower, upper),
+        SubRule::RcdWidth => by_width(premises, lower, upper),
         SubRule::RcdDepth => by_depth(premises, lower, upper),
-        SubRule::Refl => {
-            if !premises.is_empty() {
-                return false;
-            }
-            same(lower, upper)
-        }
-        SubRule::Top => {
-            if !premises.is_empty() {
-                return false;
-            }
-            same(upper, &Ty::Top)
-        }
-        SubRule::RcdWidth => {
-            if !premises.is_empty() {
-                return false;
-            }
-            by_width(lower, upper)
-        }
-        SubRule::RcdPerm => {
-            if !premises.is_empty() {
-                return false;
-            }
-            by_permutation(lower, upper)
-        }
-        SubRule::BoolNat => {
-            if !premises.is_empty() {
-                return false;
-            }
-            if !same(lower, &Ty::Bool) {
-                return false;
-            }
-            same(upper, &Ty::Nat)
-        }
+        SubRule::RcdPerm => by_permutation(premises, lower, upper),
+        SubRule::BoolNat => by_bool_nat(premises, lower, upper),
     }
 }
 
-#[tactic(auto, using(crate::proofs::TypeShapes::shapes))]
-fn by_trans(first: &SubProof, second: &SubProof, lower: &Ty, upper: &Ty) -> bool
-    ensures { IsTrue result ↔ BySubRule SubRule.Trans (claim_of first.now ∷ claim_of second.now ∷ []) (typ_of lower.now) (typ_of upper.now) }
+/// S-Refl.
+#[tactic(auto, using(crate::proofs::TypeShapes::shapes, crate::proofs::SubShapes::sub_shapes))]
+fn by_refl(premises: &[SubProof], lower: &Ty, upper: &Ty) -> bool
+    ensures { IsTrue result ↔ BySubRule SubRule.Refl (claims_of premises.now) (typ_of lower.now) (typ_of upper.now) }
 {
+    if !premises.is_empty() {
+        return false;
+    }
+    same(lower, upper)
+}
+
+/// S-Trans.
+#[tactic(auto, using(crate::proofs::TypeShapes::shapes, crate::proofs::SubShapes::sub_shapes))]
+fn by_trans(premises: &[SubProof], lower: &Ty, upper: &Ty) -> bool
+    ensures { IsTrue result ↔ BySubRule SubRule.Trans (claims_of premises.now) (typ_of lower.now) (typ_of upper.now) }
+{
+    let [first, second] = premises else {
+        return false;
+    };
     if !same(&first.lower, lower) {
         return false;
     }
@@ -134,10 +111,25 @@ fn by_trans(first: &SubProof, second: &SubProof, lower: &Ty, upper: &Ty) -> bool
     same(&second.upper, upper)
 }
 
-#[tactic(auto, using(crate::proofs::TypeShapes::shapes))]
-fn by_arrow(first: &SubProof, second: &SubProof, lower: &Ty, upper: &Ty) -> bool
-    ensures { IsTrue result ↔ BySubRule SubRule.Arrow (claim_of first.now ∷ claim_of second.now ∷ []) (typ_of lower.now) (typ_of upper.now) }
+/// S-Top.
+#[tactic(auto, using(crate::proofs::TypeShapes::shapes, crate::proofs::SubShapes::sub_shapes))]
+fn by_top(premises: &[SubProof], _lower: &Ty, upper: &Ty) -> bool
+    ensures { IsTrue result ↔ BySubRule SubRule.Top (claims_of premises.now) (typ_of _lower.now) (typ_of upper.now) }
 {
+    if !premises.is_empty() {
+        return false;
+    }
+    same(upper, &Ty::Top)
+}
+
+/// S-Arrow. The parameters go the other way round.
+#[tactic(auto, using(crate::proofs::TypeShapes::shapes, crate::proofs::SubShapes::sub_shapes))]
+fn by_arrow(premises: &[SubProof], lower: &Ty, upper: &Ty) -> bool
+    ensures { IsTrue result ↔ BySubRule SubRule.Arrow (claims_of premises.now) (typ_of lower.now) (typ_of upper.now) }
+{
+    let [first, second] = premises else {
+        return false;
+    };
     let Ty::Arrow(lower_parameter, lower_outcome) = lower else {
         return false;
     };
@@ -156,10 +148,14 @@ fn by_arrow(first: &SubProof, second: &SubProof, lower: &Ty, upper: &Ty) -> bool
     same(&second.upper, upper_outcome)
 }
 
-#[tactic(auto, using(crate::proofs::TypeShapes::shapes))]
-fn by_width(lower: &Ty, upper: &Ty) -> bool
-    ensures { IsTrue result ↔ BySubRule SubRule.RcdWidth [] (typ_of lower.now) (typ_of upper.now) }
+/// S-RcdWidth.
+#[tactic(auto, using(crate::proofs::TypeShapes::shapes, crate::proofs::SubShapes::sub_shapes))]
+fn by_width(premises: &[SubProof], lower: &Ty, upper: &Ty) -> bool
+    ensures { IsTrue result ↔ BySubRule SubRule.RcdWidth (claims_of premises.now) (typ_of lower.now) (typ_of upper.now) }
 {
+    if !premises.is_empty() {
+        return false;
+    }
     let Ty::Record(fields) = lower else {
         return false;
     };
@@ -167,6 +163,53 @@ fn by_width(lower: &Ty, upper: &Ty) -> bool
         return false;
     };
     begins_with(&fields.items, &first_fields.items)
+}
+
+/// S-RcdDepth.
+#[tactic(auto, using(crate::proofs::TypeShapes::shapes, crate::proofs::SubShapes::sub_shapes))]
+fn by_depth(premises: &[SubProof], lower: &Ty, upper: &Ty) -> bool
+    ensures { IsTrue result ↔ BySubRule SubRule.RcdDepth (claims_of premises.now) (typ_of lower.now) (typ_of upper.now) }
+{
+    let Ty::Record(lower_fields) = lower else {
+        return false;
+    };
+    let Ty::Record(upper_fields) = upper else {
+        return false;
+    };
+    goes_field_by_field(&lower_fields.items, &upper_fields.items, premises)
+}
+
+/// S-RcdPerm.
+#[tactic(auto, using(crate::proofs::TypeShapes::shapes, crate::proofs::SubShapes::sub_shapes))]
+fn by_permutation(premises: &[SubProof], lower: &Ty, upper: &Ty) -> bool
+    requires lower { IsWellFormed (typ_of lower.now) }
+    requires upper { IsWellFormed (typ_of upper.now) }
+    ensures { IsTrue result ↔ BySubRule SubRule.RcdPerm (claims_of premises.now) (typ_of lower.now) (typ_of upper.now) }
+{
+    if !premises.is_empty() {
+        return false;
+    }
+    let Ty::Record(fields) = lower else {
+        return false;
+    };
+    let Ty::Record(others) = upper else {
+        return false;
+    };
+    is_permutation(&fields.items, &others.items)
+}
+
+/// S-BoolNat.
+#[tactic(auto, using(crate::proofs::TypeShapes::shapes, crate::proofs::SubShapes::sub_shapes))]
+fn by_bool_nat(premises: &[SubProof], lower: &Ty, upper: &Ty) -> bool
+    ensures { IsTrue result ↔ BySubRule SubRule.BoolNat (claims_of premises.now) (typ_of lower.now) (typ_of upper.now) }
+{
+    if !premises.is_empty() {
+        return false;
+    }
+    if !same(lower, &Ty::Bool) {
+        return false;
+    }
+    same(upper, &Ty::Nat)
 }
 
 #[tactic(auto, using(crate::proofs::TypeShapes::shapes, crate::proofs::SubShapes::sub_shapes))]
@@ -187,19 +230,6 @@ fn begins_with(fields: &[(String, Ty)], first_fields: &[(String, Ty)]) -> bool
         }
     }
     true
-}
-
-#[tactic(auto, using(crate::proofs::TypeShapes::shapes))]
-fn by_depth(premises: &[SubProof], lower: &Ty, upper: &Ty) -> bool
-    ensures { IsTrue result ↔ BySubRule SubRule.RcdDepth (claims_of premises.now) (typ_of lower.now) (typ_of upper.now) }
-{
-    let Ty::Record(lower_fields) = lower else {
-        return false;
-    };
-    let Ty::Record(upper_fields) = upper else {
-        return false;
-    };
-    goes_field_by_field(&lower_fields.items, &upper_fields.items, premises)
 }
 
 #[tactic(auto, using(crate::proofs::TypeShapes::shapes, crate::proofs::SubShapes::sub_shapes))]
@@ -231,21 +261,6 @@ fn goes_field_by_field(
         }
     }
     true
-}
-
-#[tactic(auto, using(crate::proofs::TypeShapes::shapes))]
-fn by_permutation(lower: &Ty, upper: &Ty) -> bool
-    requires lower { IsWellFormed (typ_of lower.now) }
-    requires upper { IsWellFormed (typ_of upper.now) }
-    ensures { IsTrue result ↔ BySubRule SubRule.RcdPerm [] (typ_of lower.now) (typ_of upper.now) }
-{
-    let Ty::Record(fields) = lower else {
-        return false;
-    };
-    let Ty::Record(others) = upper else {
-        return false;
-    };
-    is_permutation(&fields.items, &others.items)
 }
 
 /// Since the labels on each side are distinct, it is enough that each side's fields are among the

@@ -3,6 +3,8 @@
 ghost use Rattle.std.specs.Prelude.{◌≡◌, ◌++◌, ◌≤◌, length, IfOk, OnOk, string_bytes};
 ghost use Rattle.lam_rules.specs.Texts.{plain_text, plain_fields, left_of_arrow, separator_before, sorted, sorted_fields, placed, place_in, text};
 ghost use Rattle.lam_rules.specs.SharedTexts.{IsSharedText};
+ghost use Rattle.lam_rules.specs.Types.{Typ};
+ghost use Rattle.lam_rules.specs.Sorting.{IsSortedForm};
 ghost use Rattle.lam_rules.specs.TypeViews.{typ_of, fields_of};
 
 use crate::types::{Fields, Ty};
@@ -132,6 +134,13 @@ fn sorted_fields_of(alloc: Global, fields: &[(String, Ty)]) -> Result<Vec<(Strin
     }
     Ok(made)
 }
+
+/// A law: what sorting gives is a sorted form, and a type has no other.
+#[tactic(auto, using(crate::proofs::SortedForms::sorted_forms))]
+pub fn one_sorted_form()
+    ensures some { (t : Typ) → IsSortedForm t (sorted t) }
+    ensures one { (t u : Typ) → IsSortedForm t u → u ≡ sorted t }
+{}
 
 /// Puts a field before the first one whose label its own is not after.
 #[tactic(auto, using(crate::proofs::Placing::placing))]

@@ -1,5 +1,4 @@
-use Rattle.std.proofs.Common.{◌≡◌, ◌∙◌, ap, sym, refl, rules, arith}
-use Rattle.lam_rules.specs.Types.{bool, nat, arrow}
+use Rattle.std.proofs.Common.{◌∙◌, ap, sym, refl, arith}
 use Rattle.lam_rules.specs.TypeViews.{typ_of, fields_of}
 use Rattle.lam_rules.proofs.TypeShapes.{typ_of-Bool, typ_of-Nat, typ_of-Arrow, typ_of-Record}
 use Rattle.lam_rules.proofs.TypingShapes.{typing_inner_wf}
