@@ -1,4 +1,4 @@
--- Frames of the base protocol (LSP 3.17, "Base Protocol"): a header part and a body of the length that it names.
+-- Frames of the base protocol (LSP 3.17, "Base Protocol"): a header part that names a length, and as many bytes of body.
 use Rattle.std.specs.Prelude.{◌≡◌, ◌≢◌, ℕ, ◌<◌, List, [], ◌∷◌, ◌++◌, length, codes, decimal, Option, Some, None, Ok, Err}
 use Rattle.lam_frame.specs.declared.fault.FrameFault.{FrameFault}
 use Rattle.lam_frame.specs.declared.fault.FrameFault.TheVariants.{BadHeader, Truncated}

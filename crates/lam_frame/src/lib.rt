@@ -1,8 +1,8 @@
 //! Frames of the base protocol, between bytes and bodies.
 //!
-//! A [`FrameReader`] gives the bodies of the frames that a [`Source`] brings, in order, whatever
-//! the pieces of its pulls, and each fault just where the bytes have it; [`write_frame`] puts one
-//! frame into a [`Sink`], whole and flushed. Every input splits into frames and a rest, and only
+//! A [`FrameReader`] gives the bodies of the frames that a [`Source`] brings, one after the other,
+//! however its pulls cut the bytes, and each fault just where the bytes have it; [`write_frame`]
+//! puts one frame into a [`Sink`], whole and flushed. Every input splits into frames and a rest, and only
 //! one way.
 #![tactic(auto)]
 

@@ -7,14 +7,11 @@ use Rattle.lam_text.specs.declared.places.Position.{Position}
 use Rattle.lam_text.specs.declared.places.Range.{Range}
 use Rattle.lam_text.specs.Edits.{Edit}
 
--- a member of a member
-abbrev pub member_at : List ℕ → Option Data → Option Data
-member_at name d = option_and_then (get name) d
-
 -- a whole number of 0 to 2^64 - 1
 abbrev pub number_at : List ℕ → Data → Option ℕ
 number_at name d = option_and_then as_u64 (option_and_then as_number (get name d))
 
+-- a text
 abbrev pub text_at : List ℕ → Data → Option (List ℕ)
 text_at name d = option_and_then as_str (get name d)
 
@@ -24,6 +21,7 @@ position_of d =
     option_and_then (λ line. option_map (λ character. record { line = line; character = character }) (number_at (codes "character") d))
     (number_at (codes "line") d)
 
+-- a position in a member
 abbrev pub position_at : List ℕ → Data → Option Position
 position_at name d = option_and_then position_of (get name d)
 
@@ -46,6 +44,7 @@ abbrev pub changed_range : Data → Option (Option Range)
 changed_range null = Some None
 changed_range d = option_map (λ range. Some range) (range_of d)
 
+-- the range of a change, which may be missing
 abbrev pub range_at : Option Data → Option (Option Range)
 range_at None = Some None
 range_at (Some d) = changed_range d

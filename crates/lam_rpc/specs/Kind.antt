@@ -43,7 +43,7 @@ abbrev pub with_method : Option (List ℕ) → Data → Message
 with_method None d = invalid
 with_method (Some method) d = with_id (get (codes "id") d) method (unwrap_or (get (codes "params") d) null)
 
--- the kind of a value, by the first rule that fits
+-- the kind of a value: objects alone are messages, and a reply is told before the method is read
 abbrev pub kind_of : Data → Message
 kind_of d =
     if not (is_some (as_object d)) then invalid

@@ -31,16 +31,15 @@ pub enum Incoming {
 
 ghost use Rattle.lam_rpc.specs.Kind.{message_of, kind_of, is_id, is_reply, IsKindOf, HasPlainId};
 
-/// The kind of a body, by the first rule that fits:
+/// Says what a body is.
 ///
-/// 1. no JSON text (or one that nests more than 127 levels): unreadable;
-/// 2. no object: invalid;
-/// 3. no method, but a result or an error: a reply;
-/// 4. a method that is missing or no text: invalid;
-/// 5. an id that is neither a whole number of 64 bits nor a text: invalid;
-/// 6. with an id a request, without one a notice.
+/// What is no JSON text, or nests more than 127 levels, is unreadable. A JSON text that is no
+/// object is invalid: batches are not taken. An object with `result` or `error` and without
+/// `method` answers somebody's request, whatever its id. Every other object needs a text as its
+/// method; then it is a notice where it has no id, a request where its id is a text or a whole
+/// number of 64 bits, and invalid where the id is anything else.
 ///
-/// Of a name that is repeated the last value counts. `jsonrpc` is not looked at.
+/// Where members have one name, the last counts. `jsonrpc` may say anything.
 pub fn classify(alloc: Global, body: &[u8]) -> Result<Incoming, AllocError>
     ensures kind { IfOk result (λ incoming. IsKindOf body.now (message_of incoming)) }
     ensures plain { IfOk result (λ incoming. HasPlainId (message_of incoming)) }

@@ -1,9 +1,9 @@
 //! Messages of JSON-RPC 2.0 as the Language Server Protocol sends them, one in a body.
 //!
 //! `classify` says what a body is, exactly: a request, a notice (a message without an id), a
-//! reply, or one of the two kinds of nonsense. `ok_reply`, `error_reply` and `notice` build the
-//! values that go back. `read_position`, `read_range`, `read_uri` and `read_changes` read the fields
-//! of params, exactly: each answers the field, or refuses where its shape does not stand there.
+//! reply, or one of the two kinds of nonsense. What goes back is built by `ok_reply`, `error_reply`
+//! and `notice`. `read_position`, `read_range`, `read_uri` and `read_changes` read the fields of
+//! params, exactly: each answers the field, and refuses just what has another shape.
 //! Nothing here knows frames, open documents or the life of a session.
 #![tactic(auto)]
 

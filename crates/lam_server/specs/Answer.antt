@@ -28,6 +28,7 @@ pub data StopsAnswering {W : Type 0} (taken : W → Option (List ℕ)) (failed :
   while_sending : (values : List Data) → StepsBody old body values new → StopsSending taken failed sink (frames_of values) sink_after
       → StopsAnswering taken failed old body sink new sink_after
 
+-- one body is answered, or not to its end
 abbrev pub AnswersBody : {W : Type 0} → (W → Option (List ℕ)) → (W → ℕ) → (W → ℕ) → Snapshot → List ℕ → W → Result (Unit {0}) RunFault → Snapshot → W → Type 0
 AnswersBody taken flushed failed old body sink (Ok _) new sink_after =
     (values : List Data) × StepsBody old body values new × Sends taken flushed failed sink (frames_of values) sink_after

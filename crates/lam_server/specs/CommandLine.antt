@@ -1,4 +1,4 @@
--- The command line: `lam_server [--stdio] [--clientProcessId TEXT] [--dialect 1]`, as a command of clap.
+-- The command line, as a command of clap: the dialect, and two options that editors give and that change nothing.
 use Rattle.std.specs.Prelude.{◌≡◌, ℕ, List, [], ◌∷◌, map, codes, Some}
 use Rattle.std.specs.Borrow.{Bor}
 use Rattle.clap.specs.Simple.{App, app_of, new_app, new_rule, with_rule}

@@ -10,7 +10,7 @@ use Rattle.lam_session.specs.Step.{Steps}
 
 -- ---- one message
 
--- the frames, in order, of the texts of these values
+-- a frame for the text of each value, one behind the other
 abbrev pub frames_of : List Data → List ℕ
 frames_of [] = []
 frames_of (d ∷ ds) = frame_text (compact_text d) ++ frames_of ds

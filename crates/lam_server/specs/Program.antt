@@ -31,6 +31,7 @@ status_of (Header Spent) = 4
 status_of DeviceRun = 4
 status_of MemoryRun = 5
 
+-- the fault's code and name
 abbrev pub line_of : RunFault → List ℕ
 line_of (Header NoLength) = codes "lam_server: F1 NoLength"
 line_of (Header BadLength) = codes "lam_server: F2 BadLength"

@@ -41,10 +41,9 @@ pub enum ArgsFault {
 
 ghost use Rattle.lam_server.specs.Words.{ReadsWords, TellsKind};
 
-/// What the words say: `[--stdio] [--clientProcessId TEXT] [--dialect 1]`. The first word is the
-/// program's name, and no word at all counts as that name alone.
-///
-/// `--stdio` and `--clientProcessId` are accepted without effect, since editors give them.
+/// What the words say: `--dialect 1`, which is the default, and `--stdio` and `--clientProcessId ID`,
+/// which editors give and which change nothing. The first word names the program; without any word
+/// the program has its own name.
 pub fn read_args(alloc: Global, words: &[&str]) -> Result<Config, ArgsFault>
     ensures { ReadsWords (map (λ word. word.now) words.now) result }
 {

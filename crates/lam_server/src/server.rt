@@ -60,11 +60,12 @@ impl Server {
         })
     }
 
-    /// Takes one message and answers it, or takes the clean end.
+    /// Reads the next message and sends its answer; where no message comes any more, the session is
+    /// over.
     ///
-    /// After a fault the server is gone. `RunFault::Header` is the fault of the bytes that come
-    /// next: nothing is sent. `Device` comes where a device failed in this call, or before a pull
-    /// that would be one more than 2^48, and `Memory` where memory was refused.
+    /// A fault uses the server up. `RunFault::Header` says what is wrong with the bytes that come
+    /// next, and then nothing was sent. `Device` comes where a device failed in this call, or before
+    /// a pull that would be one more than 2^48, and `Memory` where memory was refused.
     pub fn turn<R: Source, W: Sink>(self, reader: &mut R, writer: &mut W) -> Result<Turn, RunFault>
         requires source { R.failed reader.old < 2 ^ 64 - 1 }
         requires sink { W.failed writer.old < 2 ^ 64 - 1 }

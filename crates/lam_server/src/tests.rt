@@ -273,7 +273,7 @@ fn turn_by_turn(rt: HostRuntime) -> Result<(), Fail> {
     Ok(())
 }
 
-/// Gives one message at a time, and fails a pull while an answer is owed.
+/// Brings a message a pull, and fails where it is pulled before the last one is answered.
 #[derive(Drop)]
 struct Asker<'a> {
     frames: &'a [String],

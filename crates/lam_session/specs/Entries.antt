@@ -6,9 +6,11 @@ use Rattle.lam_text.specs.declared.units.Encoding.{Encoding}
 use Rattle.lam_session.specs.declared.documents.Open.{Open}
 use Rattle.lam_session.specs.Documents.{OpenDocument}
 
+-- an entry as the document that it holds
 abbrev pub document_of : String Global × Open → OpenDocument
 document_of e = record { uri = string_bytes e.0; text = e.1.doc.text; version = e.1.version }
 
+-- all of them
 abbrev pub documents_of : List (String Global × Open) → List OpenDocument
 documents_of entries = map document_of entries
 

@@ -1,8 +1,7 @@
 //! The life of a session: what each message of the client changes, and what is sent back.
 //!
-//! `Session::step` takes one message and answers it in full, by the relation `Steps` between the
-//! state, the message, the values sent and the state after it. Nothing here knows frames, bytes
-//! or devices.
+//! `Session::step` does what one message asks: the relation `Steps` says which values are sent for
+//! it in which state, and which state follows. Nothing here knows frames, bytes or devices.
 #![tactic(auto)]
 
 mod documents;
