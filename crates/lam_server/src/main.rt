@@ -5,6 +5,9 @@
 //! with which, whatever comes and in whatever pieces. Nothing here knows what a message means.
 #![tactic(auto)]
 
+ghost use Rattle.std.specs.Prelude.{◌≡◌};
+ghost use Rattle.lam_server.specs.Program.{status_of};
+
 mod answer;
 mod args;
 mod faults;
@@ -76,7 +79,9 @@ fn ran<R: AllocGlobal + Input + Print + Eprint>(rt: &R, config: Config) -> u8 {
 }
 
 /// Says why on standard error. That this may fail too changes nothing.
-fn ended<R: Eprint>(rt: &R, fault: RunFault) -> u8 {
+fn ended<R: Eprint>(rt: &R, fault: RunFault) -> u8
+    ensures { result ≡ status_of fault }
+{
     let line = line_of(&fault);
     let _ = eprintln!(rt; "{line}");
     status_of(&fault)
