@@ -5,7 +5,8 @@ use Rattle.std.specs.Prelude.{filter, ◌==◌}
 use Rattle.std.specs.Borrow.{Bor}
 use Rattle.std.proofs.lemmas.Bool.{eqb-true, eqb-false}
 use Rattle.lam_token.specs.Lexeme.{Lexeme}
-use Rattle.lam_syntax.specs.Answers.{is_semicolon, onto_first, runs_of, has_tokens, pieces_of, run_len}
+use Rattle.lam_syntax.specs.Answers.{is_semicolon, onto_first, runs_of, has_tokens, pieces_of}
+use Rattle.lam_syntax.specs.Reads.{run_len}
 
 -- a run in front of pieces, if it has tokens
 abbrev pub with_piece : List Lexeme → List (List Lexeme) → List (List Lexeme)

@@ -1,5 +1,5 @@
 -- What `parse` and `pieces` answer.
-use Rattle.std.specs.Prelude.{◌≡◌, ℕ, suc, ◌+◌, ◌<◌, ◌≤◌, Bool, true, false, Result, Ok, Err, List, [], ◌∷◌, length, take, filter, if◌then◌else◌}
+use Rattle.std.specs.Prelude.{◌≡◌, ℕ, ◌+◌, ◌<◌, ◌≤◌, Bool, true, false, Result, Ok, Err, List, [], ◌∷◌, length, take, filter, if◌then◌else◌}
 use Rattle.std.specs.List.{list_any}
 use Rattle.lam_token.specs.declared.kind.Kind.{Kind}
 use Rattle.lam_token.specs.declared.kind.Kind.TheVariants as kind
@@ -24,18 +24,18 @@ is_bad k = false
 abbrev pub has_bad : List Lexeme → Bool
 has_bad ts = list_any (λ t. is_bad (kind_of t)) ts
 
--- the tokens are few enough and none is bad, so that the grammar decides
+-- there are few enough tokens and none is bad, so that the grammar decides
 pub record IsTaken (ts : List Lexeme) : Type 0 where
   pub few : length ts ≤ token_limit
   pub none_bad : has_bad ts ≡ false
 
--- no command goes on with the token at this place: those before it begin one, those through it begin none
+-- the token at this index fits nowhere: some command starts with the tokens in front of it, none with it among them
 pub record GoesWrongAt (ts : List Lexeme) (k : ℕ) : Type 0 where
   pub inside : k < length ts
   pub before : Begins (take k ts)
   pub through : Begins (take (k + 1) ts) → ⊥
 
--- the tokens begin a command and spell none
+-- some command starts with these tokens, and they are none yet
 pub record EndsEarly (ts : List Lexeme) : Type 0 where
   pub begins : Begins ts
   pub none : (c : CommandTree) → Spells ts c → ⊥
@@ -54,7 +54,7 @@ Accepts c (Ok d) = command_of d ≡ c
 Accepts c (Err faults.Memory) = Unit {0}
 Accepts c (Err e) = ⊥
 
--- The pieces of a list of tokens: its longest runs without a semicolon, in order, the empty ones left out.
+-- A list of tokens is divided at each semicolon; its pieces are the parts that have tokens.
 
 abbrev pub ends_piece : Kind → Bool
 ends_piece kind.Semicolon = true
@@ -79,8 +79,3 @@ has_tokens (t ∷ ts) = true
 
 abbrev pub pieces_of : List Lexeme → List (List Lexeme)
 pieces_of ts = filter has_tokens (runs_of ts)
-
--- how many tokens stand before the first semicolon
-abbrev pub run_len : List Lexeme → ℕ
-run_len [] = 0
-run_len (t ∷ ts) = if is_semicolon t then 0 else suc (run_len ts)

@@ -1,6 +1,6 @@
 pub mod Trees
 pub mod Views
 pub mod Grammar
+pub mod Answers
 pub mod Run
 pub mod Reads
-pub mod Answers

@@ -1,5 +1,5 @@
--- What the functions that read a part of a command answer, against the run.
-use Rattle.std.specs.Prelude.{◌≡◌, ℕ, Option, Some, None, Result, Ok, Err, List, [], ◌∷◌}
+-- What the functions that read a part of a command answer, against the run. For private contracts alone, as `Run` is.
+use Rattle.std.specs.Prelude.{◌≡◌, ℕ, suc, if◌then◌else◌, Option, Some, None, Result, Ok, Err, List, [], ◌∷◌}
 use Rattle.std.specs.Borrow.{Bor}
 use Rattle.lam_token.specs.declared.kind.Kind.{Kind}
 use Rattle.lam_token.specs.declared.kind.Kind.TheVariants as kind
@@ -17,6 +17,7 @@ use Rattle.lam_syntax.specs.declared.types.WrittenTy.{WrittenTy}
 use Rattle.lam_syntax.specs.declared.types.TyField.{TyField}
 use Rattle.lam_syntax.specs.Trees.{word, TermTree, term_tree, term_span, prefixed, record_term, TermFields, no_fields, field, joined, TypeFields, no_type_fields, type_field, joined_types, type_tree, record_type, from_to}
 use Rattle.lam_syntax.specs.Run.{Purpose, InTerm, InPath, as_head, as_operand, after_binder, after_atom, next_field, ended_asc, ended_app, ended_term, applied, outside, tree, InType, after_atype, next_type_field, Next, go, stop, ended_type, Outcome, fault, run, look}
+use Rattle.lam_syntax.specs.Answers.{is_semicolon}
 use Rattle.lam_syntax.specs.Views.{word_of, bound_of, type_of, term_of, command_of}
 
 -- The run over the tokens goes on behind what was read as over the tokens that are left, or has its fault where reading stopped.
@@ -123,3 +124,8 @@ abbrev pub Names : List Lexeme → Result (Identifier × Bor (List Lexeme)) Stop
 Names tokens (Ok r) = (x : List ℕ) × (s : Span) × (tokens ≡ lexeme kind.Name x s ∷ r.1.now) × (word_of r.0 ≡ word x s)
 Names tokens (Err (At left)) = (left.now ≡ tokens) × NoFront kind.Name tokens
 Names tokens (Err Memory) = Unit {0}
+
+-- how many tokens stand before the first semicolon
+abbrev pub run_len : List Lexeme → ℕ
+run_len [] = 0
+run_len (t ∷ ts) = if is_semicolon t then 0 else suc (run_len ts)

@@ -1,4 +1,7 @@
--- One run over tokens with a stack of what is begun: how a command is read. What is right is said by the grammar.
+-- How a command is read: one run over the tokens with a stack of what is begun.
+--
+-- For the contracts of private functions alone, which can cite no lemma file. What is right is said by `Grammar`, and no public
+-- contract cites this file; `proofs/Complete`, `Sound` and `Wrong` prove that the two agree.
 use Rattle.std.specs.Prelude.{Option, Some, None, List, [], ◌∷◌}
 use Rattle.lam_token.specs.declared.kind.Kind.TheVariants as kind
 use Rattle.lam_token.specs.declared.span.Span.{Span}

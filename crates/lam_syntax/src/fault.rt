@@ -3,14 +3,14 @@
 /// Why a list of tokens is no command that is taken.
 #[derive(Clone, Copy, Debug, PartialEq, Eq)]
 pub enum ParseFault {
-    /// There are more than `MAX_TOKENS` tokens. This is found first.
+    /// There are more than 2,000 tokens. This is found first.
     TooManyTokens,
-    /// A token is a bad character or a comment that is not closed. This is found next.
+    /// A token is a stray character or an open comment. This is found next.
     BadToken,
-    /// No command goes on with the token at this place, counted from 0: those before it begin one, those
-    /// through it begin none.
+    /// The token at this index fits nowhere: some command starts with the tokens in front of it, and none
+    /// starts with those up to and with it.
     WrongToken(usize),
-    /// The tokens begin a command and end too early.
+    /// Some command starts with these tokens, but they are not a whole one.
     WrongEnd,
     /// Memory ran out.
     Memory,

@@ -1,8 +1,8 @@
 //! The grammar of the language, and the parser of its commands.
 //!
-//! A document's tokens fall into pieces at the semicolons, and each piece is parsed by itself. `parse` answers
-//! the one command that the piece spells, or the first token with which no command goes on. The trees keep the
-//! place of each term, type, name and binder.
+//! Semicolons divide a document's tokens into pieces, and a fault in one of them leaves the others as they are.
+//! `parse` answers the one tree of a piece, or the token at which the piece stops being the start of a command.
+//! The trees keep the place of each term, type, name and binder.
 #![tactic(auto)]
 
 mod fault;
@@ -21,7 +21,7 @@ mod types;
 
 pub use fault::ParseFault;
 pub use identifier::{Binder, Identifier};
-pub use parser::{MAX_TOKENS, parse};
+pub use parser::parse;
 pub use splitting::pieces;
 pub use terms::{Command, Prefix, Tm, TmField, TmNode};
 pub use types::{TyField, TyNode, WrittenTy};

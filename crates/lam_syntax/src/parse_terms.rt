@@ -1,7 +1,7 @@
 //! Reading of terms.
 //!
-//! Each function reads its part at the front of the tokens, with one token of foresight. Where it stops, no
-//! command goes on.
+//! Each function reads its part at the front of the tokens, with one token of foresight, and stops at the first
+//! token that fits nowhere.
 ghost use Rattle.std.specs.Prelude.{◌≡◌, ◌<◌, ◌≤◌, length, IfOk, MatchBool};
 ghost use Rattle.lam_token.specs.declared.span.Span.{Span as Place};
 ghost use Rattle.lam_syntax.specs.Run.{Purpose, for_lambda, for_let, for_letrec, InTerm, InPath, need_binder, need_term, in_condition, in_parens, after_atom, need_field, next_field, begin_app, begin_atom, run, look};
@@ -150,13 +150,7 @@ fn parse_path<'a, 'b>(
     ensures shorter { IfOk result (λ r. length r.1.now < length tokens.now) }
 {
     let (atom, rest) = parse_atom(alloc, tokens)?;
-    let (mut path, mut rest) = ascribed(alloc, atom, rest)?;
-    while let Some((_, after)) = take(rest, Kind::Dot) {
-        let (label, after) = expect_name(alloc, after)?;
-        path = make_project(alloc, path, label)?;
-        rest = after;
-    }
-    Ok((path, rest))
+    parse_suffixes(alloc, atom, rest)
 }
 
 /// A single token, or a term in parentheses or braces.
@@ -173,22 +167,18 @@ fn parse_atom<'a, 'b>(
         return Err(Stop::At(tokens));
     };
     let span = first.span();
-    match first.kind() {
-        Kind::OpenParen => parse_parens(alloc, span, rest),
-        Kind::OpenBrace => parse_record(alloc, span, rest),
-        Kind::Name => {
-            let name = identifier_of(alloc, first)?;
-            Ok((term_at(alloc, span, TmNode::Variable(name))?, rest))
-        }
-        Kind::Numeral => {
-            let digits = identifier_of(alloc, first)?;
-            Ok((term_at(alloc, span, TmNode::Numeral(digits))?, rest))
-        }
-        Kind::True => Ok((term_at(alloc, span, TmNode::True)?, rest)),
-        Kind::False => Ok((term_at(alloc, span, TmNode::False)?, rest)),
-        Kind::UnitTerm => Ok((term_at(alloc, span, TmNode::Unit)?, rest)),
-        _ => Err(Stop::At(tokens)),
-    }
+    let node = match first.kind() {
+        Kind::OpenParen => return parse_parens(alloc, span, rest),
+        Kind::OpenBrace => return parse_record(alloc, span, rest),
+        Kind::Name => TmNode::Variable(identifier_of(alloc, first)?),
+        Kind::Numeral => TmNode::Numeral(identifier_of(alloc, first)?),
+        Kind::True => TmNode::True,
+        Kind::False => TmNode::False,
+        Kind::UnitTerm => TmNode::Unit,
+        _ => return Err(Stop::At(tokens)),
+    };
+    let term = term_at(alloc, span, node)?;
+    Ok((term, rest))
 }
 
 /// A term in parentheses, behind the opening one.
@@ -307,7 +297,7 @@ fn starts_atom(tokens: &[Token<'_>]) -> bool
 }
 
 /// An atom with the type that may be written to it.
-fn ascribed<'a, 'b>(
+fn parse_ascription<'a, 'b>(
     alloc: Global,
     atom: Tm,
     tokens: &'a [Token<'b>],
@@ -321,4 +311,22 @@ fn ascribed<'a, 'b>(
     let (ty, rest) = parse_type(alloc, rest)?;
     let term = make_ascribe(alloc, atom, ty)?;
     Ok((term, rest))
+}
+
+/// The type that may be written to an atom, and the labels behind it.
+fn parse_suffixes<'a, 'b>(
+    alloc: Global,
+    atom: Tm,
+    tokens: &'a [Token<'b>],
+) -> Result<(Tm, &'a [Token<'b>]), Stop<'a, 'b>>
+    ensures read { (k : InPath) → Reads result (run tokens.now (after_atom (term_of atom) k)) (behind_path k) }
+    ensures shorter { IfOk result (λ r. length r.1.now ≤ length tokens.now) }
+{
+    let (mut path, mut rest) = parse_ascription(alloc, atom, tokens)?;
+    while let Some((_, after)) = take(rest, Kind::Dot) {
+        let (label, after) = expect_name(alloc, after)?;
+        path = make_project(alloc, path, label)?;
+        rest = after;
+    }
+    Ok((path, rest))
 }

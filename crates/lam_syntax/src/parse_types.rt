@@ -1,7 +1,7 @@
 //! Reading of types.
 //!
-//! Each function reads its part at the front of the tokens, with one token of foresight. Where it stops, no
-//! command goes on.
+//! Each function reads its part at the front of the tokens, with one token of foresight, and stops at the first
+//! token that fits nowhere.
 ghost use Rattle.std.specs.Prelude.{◌<◌, length, IfOk};
 ghost use Rattle.lam_token.specs.declared.span.Span.{Span as Place};
 ghost use Rattle.lam_syntax.specs.Run.{InType, in_type_parens, need_type, need_type_field, next_type_field, run};
@@ -46,19 +46,18 @@ fn parse_atype<'a, 'b>(
         return Err(Stop::At(tokens));
     };
     let span = first.span();
-    match first.kind() {
-        Kind::OpenParen => parse_type_parens(alloc, span, rest),
-        Kind::OpenBrace => parse_record_type(alloc, span, rest),
-        Kind::TypeName => {
-            let name = identifier_of(alloc, first)?;
-            Ok((type_at(alloc, span, TyNode::Named(name))?, rest))
-        }
-        Kind::BoolType => Ok((type_at(alloc, span, TyNode::Bool)?, rest)),
-        Kind::NatType => Ok((type_at(alloc, span, TyNode::Nat)?, rest)),
-        Kind::UnitType => Ok((type_at(alloc, span, TyNode::Unit)?, rest)),
-        Kind::TopType => Ok((type_at(alloc, span, TyNode::Top)?, rest)),
-        _ => Err(Stop::At(tokens)),
-    }
+    let node = match first.kind() {
+        Kind::OpenParen => return parse_type_parens(alloc, span, rest),
+        Kind::OpenBrace => return parse_record_type(alloc, span, rest),
+        Kind::TypeName => TyNode::Named(identifier_of(alloc, first)?),
+        Kind::BoolType => TyNode::Bool,
+        Kind::NatType => TyNode::Nat,
+        Kind::UnitType => TyNode::Unit,
+        Kind::TopType => TyNode::Top,
+        _ => return Err(Stop::At(tokens)),
+    };
+    let ty = type_at(alloc, span, node)?;
+    Ok((ty, rest))
 }
 
 /// A type in parentheses, behind the opening one.

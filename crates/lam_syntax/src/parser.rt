@@ -18,9 +18,9 @@ use lam_token::{Kind, Token};
 use std::alloc::Global;
 
 /// How many tokens a command may have.
-pub const MAX_TOKENS: usize = 2_000;
+const MAX_TOKENS: usize = 2_000;
 
-/// The command that the tokens spell, which is the only one.
+/// The command that the tokens spell. No other tree, with other places or another grouping, is spelled by them.
 pub fn parse(alloc: Global, tokens: &[Token<'_>]) -> Result<Command, ParseFault>
     ensures taken { IfOk result (λ c. IsTaken tokens.now) }
     ensures spelled { IfOk result (λ c. Spells tokens.now (command_of c)) }

@@ -1,11 +1,12 @@
 //! The pieces of a document's tokens.
 ghost use Rattle.std.specs.Prelude.{◌≡◌, ◌≤◌, length, drop, map, IfOk};
-ghost use Rattle.lam_syntax.specs.Answers.{is_semicolon, run_len, pieces_of};
+ghost use Rattle.lam_syntax.specs.Answers.{is_semicolon, pieces_of};
+ghost use Rattle.lam_syntax.specs.Reads.{run_len};
 
 use lam_token::{Kind, Token};
 use std::alloc::{AllocError, Global};
 
-/// The longest runs of tokens without a semicolon, in order. Empty ones are left out.
+/// What stands between the semicolons: a slice for each stretch of other tokens, in the order of the text.
 pub fn pieces<'a, 'b>(
     alloc: Global,
     tokens: &'a [Token<'b>],

@@ -120,14 +120,6 @@ parse_app-loop-alloc-preserved t c = record {
   shorter = omega (arith, c.in_ok-argument.ensures.shorter, c.loop-alloc.invariant.shorter);
 }
 
--- a label of a path
-
-pub parse_path-returns-in_err-label-clause-read : goal.parse_path-returns-in_err-label-clause-read
-parse_path-returns-in_err-label-clause-read t c =
-    let p = err_from_is_err_and c.from_residual-in_err-label.result c.from_residual-in_err-label.ensures.1 in
-    rw (p.1, p.2)
-    (λ k. dot_label_stop _ _ _ c.in_err-label.field-0.0 (term_of c.loop-after.path) k _ _ (c.loop-after.invariant.read k) c.in-Some.ensures.takes c.in_err-label.ensures.named)
-
 -- any other term is an application
 pub parse_term-returns-in_default-kind : goal.parse_term-returns-in_default-kind
 parse_term-returns-in_default-kind t c = record {

@@ -1,5 +1,5 @@
 use Rattle.std.proofs.Common.{◌≡◌, length, ◌+◌, ◌*◌, ◌<◌}
-use Rattle.lam_syntax.specs.Run.{InTerm, InPath, need_field, begin_app, begin_atom, ended_asc, ended_app, run, look}
+use Rattle.lam_syntax.specs.Run.{InTerm, InPath, need_field, begin_app, ended_app, run, look}
 use Rattle.lam_syntax.specs.Views.{term_of, fields_of}
 use Rattle.lam_syntax.specs.Reads.{fields_next}
 use Rattle.lam_syntax.proofs.parse_terms.+terms.Given as goal
@@ -46,16 +46,6 @@ invariant-parse_app-loop-alloc l = record {
 
 abbrev pub decreases-parse_app-loop-alloc : goal.decreases-parse_app-loop-alloc
 decreases-parse_app-loop-alloc l = length l.rest
-
--- the run goes on behind the path so far
-abbrev pub invariant-parse_path-loop-after : goal.invariant-parse_path-loop-after
-invariant-parse_path-loop-after l = record {
-  read : (k : InPath) → look l.fn.tokens (λ o. begin_atom o k) ≡ look l.rest (λ o. ended_asc o (term_of l.path) k);
-  shorter : length l.rest < length l.fn.tokens;
-}
-
-abbrev pub decreases-parse_path-loop-after : goal.decreases-parse_path-loop-after
-decreases-parse_path-loop-after l = length l.rest
 
 -- the run goes on behind the fields so far
 abbrev pub invariant-parse_record-loop-next : goal.invariant-parse_record-loop-next
