@@ -8,7 +8,11 @@ mod documents;
 mod initialize;
 mod laws;
 mod methods;
+#[cfg(test)]
+mod recordings;
 mod refusals;
+#[cfg(test)]
+mod replay;
 mod states;
 mod step;
 mod sync;

@@ -1,0 +1,186 @@
+"""record.py SERVER: types into real editors, and prints what they sent as a table of Rust.
+
+It needs Neovim, Emacs with eglot, and the built server. Each editor runs in a terminal of its
+own with the configuration that lies beside this folder, opens a file, edits it as a person
+would, saves it, closes it and ends. The table has the bodies that came to the server, byte for
+byte, and the file as it was saved.
+"""
+
+import os
+import pty
+import re
+import select
+import shutil
+import subprocess
+import sys
+import time
+
+HERE = os.path.dirname(os.path.abspath(__file__))
+ROOM = "/tmp/fullsub"
+FILE = f"{ROOM}/a.fsub"
+SENT = f"{ROOM}/sent"
+
+START = """/* Grüße an 😀 */
+T = {a:Nat, b:Bool};
+x = {b=true, a=0};
+y = x.a;
+"""
+
+# What is pasted from outside, as a terminal brackets it.
+PASTED = "\x1b[200~f = lambda 😀n:Nat. succ n;\rß = f y; /* 👩‍🔬 */\r\x1b[201~"
+
+ESCAPE = "\x1b"
+
+# Keys for Neovim, a pause after each.
+NEOVIM_KEYS = [
+    "Go", "z = succ y;", " /* äöü 😀 */", ESCAPE,  # types a line at the end
+    "u", "\x12",  # undoes it and does it again
+    "gg", "f😀", "a é😀", ESCAPE, "x", "u",  # types behind the emoji
+    "3Gyy", "p", "j", "J",  # copies a line, joins two
+    "u", "dd", "kP",  # moves a line
+    ":%s/Nat/Bool/g\r", "u",  # replaces in many places
+    "Go", PASTED, ESCAPE,
+    "gg", "f😀", "xp",  # swaps the emoji and its neighbour
+    "Gdk", "u", "u", "\x12",
+]
+NEOVIM_END = [":w\r", ":bdelete\r", ":q\r"]
+
+# Keys for Emacs, a pause after each.
+EMACS_KEYS = [
+    "\x1b>", "z = succ y;", " /* äöü 😀 */\r",  # types a line at the end
+    "\x1f", "\x07\x1f",  # undoes it and does it again
+    "\x1b<", "\x13😀\r", " é😀", "\x7f",  # types behind the emoji
+    "\x0e\x01\x0b\x0b", "\x19\x19", "\x10\x05\x04",  # cuts a line, puts it back twice, joins two
+    "\x1f",
+    "\x1b<", "\x1b%Nat\rBool\r!",  # replaces in many places
+    "\x1f",
+    "\x1b>\r", PASTED,
+    "\x1b<", "\x13😀\r", "\x14",  # swaps the emoji and its neighbour
+    "\x1b>\x10", "\x1b;", "ümlaut", "\x0b", "\x1f",
+]
+EMACS_END = ["\x18\x13", "\x18k\r", "\x1bxeglot-shutdown-all\r", "\x18\x03"]
+
+SESSIONS = [
+    ("neovim_lf", "\n", ["nvim", "-i", "NONE", FILE], NEOVIM_KEYS, NEOVIM_END),
+    ("neovim_cr_lf", "\r\n", ["nvim", "-i", "NONE", FILE], NEOVIM_KEYS, NEOVIM_END),
+    ("emacs_lf", "\n", ["emacs", "-nw", FILE], EMACS_KEYS, EMACS_END),
+    ("emacs_cr_lf", "\r\n", ["emacs", "-nw", FILE], EMACS_KEYS, EMACS_END),
+]
+
+
+def prepare(server, ends):
+    """An empty home with both configurations, the file, and a server that is listened to."""
+    shutil.rmtree(ROOM, ignore_errors=True)
+    os.makedirs(f"{ROOM}/home/.config/nvim/plugin")
+    os.makedirs(f"{ROOM}/home/.emacs.d")
+    os.makedirs(f"{ROOM}/bin")
+    shutil.copy(f"{HERE}/../fullsub.lua", f"{ROOM}/home/.config/nvim/plugin")
+    with open(f"{ROOM}/home/.emacs.d/init.el", "w") as init:
+        init.write(f'(setq inhibit-startup-screen t make-backup-files nil)\n(load "{HERE}/../fullsub-mode.el")\n')
+    program = f"{ROOM}/bin/lam_server"
+    with open(program, "w") as script:
+        script.write(f'#!/bin/sh\nexec {sys.executable} {HERE}/tee.py {SENT} {server} "$@"\n')
+    os.chmod(program, 0o755)
+    with open(FILE, "w", newline="") as file:
+        file.write(START.replace("\n", ends))
+
+
+def drain(terminal, seconds):
+    """Reads what the editor draws, so that it never waits for us. False once it has ended."""
+    until = time.time() + seconds
+    while (left := until - time.time()) > 0:
+        if select.select([terminal], [], [], left)[0]:
+            try:
+                if not os.read(terminal, 65536):
+                    return False
+            except OSError:
+                return False
+    return True
+
+
+def drive(command, keys):
+    environment = {
+        "PATH": f"{ROOM}/bin:{os.environ['PATH']}",
+        "HOME": f"{ROOM}/home",
+        "LANG": "C.UTF-8",
+        "TERM": "xterm-256color",
+    }
+    child, terminal = pty.fork()
+    if child == 0:
+        os.chdir(ROOM)
+        os.execvpe(command[0], command, environment)
+    drain(terminal, 4)
+    for piece in keys:
+        # A terminal's own sequence and a command go in one write, letters one by one.
+        whole = piece.startswith("\x1b[") or len(piece) < 4
+        for part in [piece] if whole else piece:
+            os.write(terminal, part.encode())
+            if not drain(terminal, 0.06):
+                break
+        if not drain(terminal, 0.9):
+            break
+    drain(terminal, 3)
+    os.close(terminal)
+    return os.waitpid(child, 0)[1]
+
+
+def bodies(sent):
+    """The bodies of these frames, each of which has the one field that editors send."""
+    found = []
+    while sent:
+        head = re.match(rb"Content-Length: ([0-9]+)\r\n\r\n", sent)
+        end = head.end() + int(head[1])
+        found.append(sent[head.end() : end].decode())
+        sent = sent[end:]
+    return found
+
+
+def raw(text):
+    """A literal of Rust that says this text as it stands."""
+    marks = "#"
+    while f'"{marks}' in text:
+        marks += "#"
+    return f'r{marks}"{text}"{marks}'
+
+
+def escaped(text):
+    return '"' + text.replace("\\", "\\\\").replace('"', '\\"').replace("\r", "\\r").replace("\n", "\\n").replace("\t", "\\t") + '"'
+
+
+HEAD = f"""//! What editors sent, and the files that they saved. Made by `editors/record/record.py`.
+
+/// One editor's session with one file.
+#[derive(Clone, Copy)]
+pub struct Recording {{
+    /// One a line.
+    pub bodies: &'static str,
+    /// The line end in the texts that were sent.
+    pub line_end: &'static str,
+    pub saved: &'static str,
+}}
+
+/// The file that each edits.
+pub const URI: &str = "file://{FILE}";
+"""
+
+
+def main():
+    server = os.path.abspath(sys.argv[1])
+    print(HEAD, end="")
+    for name, ends, command, keys, end in SESSIONS:
+        prepare(server, ends)
+        status = drive(command, keys + end)
+        with open(SENT, "rb") as file:
+            messages = bodies(file.read())
+        with open(FILE, newline="") as file:
+            saved = file.read()
+        print(f"{name}: status {status}, {len(messages)} messages", file=sys.stderr)
+        line_end = "\r\n" if "\\r\\n" in "".join(messages) else "\n"
+        print(f"\npub fn {name}() -> Recording {{\n    Recording {{")
+        print(f"        bodies: {raw(chr(10).join(messages))},")
+        print(f"        line_end: {escaped(line_end)},")
+        print(f"        saved: {escaped(saved)},\n    }}\n}}")
+    shutil.rmtree(ROOM)
+
+
+main()
