@@ -1,0 +1,4 @@
+pub mod Derivations
+pub mod Narrows
+pub mod Inversions
+pub mod Shapes

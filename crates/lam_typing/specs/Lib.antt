@@ -1,0 +1,5 @@
+pub mod Places
+pub mod Contexts
+pub mod LeastTypes
+pub mod Blaming
+pub mod Narrowing

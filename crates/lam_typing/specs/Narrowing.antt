@@ -1,0 +1,25 @@
+-- The law of narrowing, on the rules alone.
+use Rattle.std.specs.Prelude.{List, [], ◌∷◌, Option, Some, None}
+use Rattle.lam_rules.specs.Types.{Typ}
+use Rattle.lam_rules.specs.Terms.{Term}
+use Rattle.lam_rules.specs.Subtyping.{IsBelow}
+use Rattle.lam_rules.specs.Typing.{Context, IsWellFormedContext, HasType}
+use Rattle.lam_rules.specs.declared.rules.Dialect.{Dialect}
+
+-- an entry is below another, or the other is none
+abbrev pub IsNarrowerEntry : Option Typ → Option Typ → Dialect → Type 0
+IsNarrowerEntry entry None d = Unit {0}
+IsNarrowerEntry (Some s) (Some t) d = IsBelow s t d
+IsNarrowerEntry None (Some t) d = ⊥
+
+-- two contexts of one length, entry by entry
+abbrev pub IsNarrower : Context → Context → Dialect → Type 0
+IsNarrower [] [] d = Unit {0}
+IsNarrower (a ∷ g) (b ∷ h) d = IsNarrowerEntry a b d × IsNarrower g h d
+IsNarrower [] (b ∷ h) d = ⊥
+IsNarrower (a ∷ g) [] d = ⊥
+
+-- what a term has in a context it has in each narrower one
+abbrev pub Narrows : Context → Context → Dialect → Type 0
+Narrows g h d =
+    IsWellFormedContext g → IsWellFormedContext h → IsNarrower g h d → (e : Term) (t : Typ) → HasType h e t d → HasType g e t d
