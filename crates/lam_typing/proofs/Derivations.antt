@@ -7,6 +7,7 @@ use Rattle.lam_rules.specs.Typing.{Context, IsEntry, IsWellFormedEntry, IsWellFo
 use Rattle.lam_rules.specs.declared.rules.Dialect.{Dialect}
 use Rattle.lam_rules.specs.declared.rules.TypeRule.{TypeRule}
 use Rattle.lam_rules.proofs.ByShape.{below_wf}
+use Rattle.lam_rules.proofs.SharedTexts.{has_wf}
 
 -- The rules. What holds of a context is asked where a rule has no premise, and of a record's labels at T-Rcd: elsewhere it follows.
 mutual
@@ -36,11 +37,6 @@ mutual
 
 -- what follows of the context and of the type
 
-pub has_wf : (l : Label) (t : Typ) (fs : Fields) → AreWellFormed fs → Has l t fs → IsWellFormed t
-has_wf l t no_fields wf has = absurd has
-has_wf l t (field k u fs) wf (inl e) = rw (e.1) at wf.0
-has_wf l t (field k u fs) wf (inr has) = has_wf l t fs wf.2 has
-
 pub entry_wf : (n : ℕ) (g : Context) (t : Typ) → IsWellFormedContext g → IsEntry n g t → IsWellFormed t
 entry_wf n [] t wf is = absurd is
 entry_wf zero (entry ∷ g) t wf is = subst IsWellFormedEntry is wf.0
@@ -62,7 +58,7 @@ mutual
   derives_wf g _ t d (t_ascribe {e = e} x) = derives_wf g e t d x
   derives_wf g _ t d (t_let {s = s} {b = b} x y) = let w = derives_wf (Some s ∷ g) b t d y in (w.0.1, w.1)
   derives_wf g _ _ d (t_rcd {es = es} {ts = ts} x wf) = (fields_wf g es ts d x, wf)
-  derives_wf g _ t d (t_proj {e = e} {ts = ts} {l = l} x has) = let w = derives_wf g e (record_of ts) d x in (w.0, has_wf l t ts w.1 has)
+  derives_wf g _ t d (t_proj {e = e} {ts = ts} {l = l} x has) = let w = derives_wf g e (record_of ts) d x in (w.0, has_wf ts w.1 l t has)
   derives_wf g _ t d (t_fix {e = e} x) = let w = derives_wf g e (arrow t t) d x in (w.0, w.1.0)
   derives_wf g _ t d (t_sub {e = e} {s = s} x below) = ((derives_wf g e s d x).0, (below_wf s t d below).1)
 
@@ -186,7 +182,7 @@ mutual
   has_type g _ t d (t_proj {e = e} {ts = ts} {l = l} x has) =
       let w = derives_wf g e (record_of ts) d x in
       let p = has_type g e (record_of ts) d x in
-      typing_by TypeRule.Proj (typing_first p.0 no_typings) None g (project e l) t d w.0 (has_wf l t ts w.1 has) (p.1.0, subst (λ z. HasField z l t) (sym p.1.1) has)
+      typing_by TypeRule.Proj (typing_first p.0 no_typings) None g (project e l) t d w.0 (has_wf ts w.1 l t has) (p.1.0, subst (λ z. HasField z l t) (sym p.1.1) has)
   has_type g _ t d (t_fix {e = e} x) =
       let w = derives_wf g e (arrow t t) d x in
       let p = has_type g e (arrow t t) d x in

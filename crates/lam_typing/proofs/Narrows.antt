@@ -51,5 +51,11 @@ mutual
   narrow_fields g h _ _ d wg narrower (none_derive wf) = none_derive wg
   narrow_fields g h _ _ d wg narrower (more_derive {e = e} {es = es} {t = t} {ts = ts} x xs) = more_derive (narrow g h e t d wg narrower x) (narrow_fields g h es ts d wg narrower xs)
 
+-- a context is narrower than itself
+pub narrower_self : (g : Context) (d : Dialect) → IsWellFormedContext g → IsNarrower g g d
+narrower_self [] d wf = tt
+narrower_self (None ∷ g) d wf = (tt, narrower_self g d wf.1)
+narrower_self (Some t ∷ g) d wf = (below_refl t d wf.0, narrower_self g d wf.1)
+
 pub narrows : (g h : Context) (d : Dialect) → Narrows g h d
 narrows g h d wg wh narrower e t has = has_type g e t d (narrow g h e t d wg narrower (derives h e t d has))

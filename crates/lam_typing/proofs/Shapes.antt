@@ -6,7 +6,7 @@ use Rattle.lam_rules.specs.declared.rules.Dialect.{Dialect}
 use Rattle.lam_rules.specs.declared.rules.SubRule.{SubRule}
 use Rattle.lam_rules.proofs.Permutations.{permutation_has_back}
 use Rattle.lam_rules.proofs.Composing.{below_refl, below_trans}
-use Rattle.lam_typing.proofs.Derivations.{has_wf}
+use Rattle.lam_rules.proofs.SharedTexts.{has_wf}
 
 -- below an arrow is an arrow, below a record type one with each of its fields
 abbrev pub Parts : Typ → Typ → Dialect → Type 0
@@ -20,7 +20,7 @@ parts_refl nat d wf = tt
 parts_refl unit d wf = tt
 parts_refl top d wf = tt
 parts_refl (arrow a b) d wf = (a, b, refl, below_refl a d wf.0, below_refl b d wf.1)
-parts_refl (record_of fs) d wf = (fs, refl, λ l t has. (t, has, below_refl t d (has_wf l t fs wf has)))
+parts_refl (record_of fs) d wf = (fs, refl, λ l t has. (t, has, below_refl t d (has_wf fs wf l t has)))
 
 parts_trans : (s u t : Typ) (d : Dialect) → Parts s u d → Parts u t d → Parts s t d
 parts_trans s u bool d a b = tt
@@ -71,10 +71,10 @@ rule_parts d SubRule.Arrow (a ∷ b ∷ []) (arrow s1 s2) (arrow t1 t2) ws wt of
   subst (λ x. IsBelow x t2 d) by.2 (subst (λ x. IsBelow b.lower x d) by.3 us.1.0.0),
 )
 rule_parts d SubRule.RcdWidth [] (record_of fs) (record_of gs) ws wt of by us =
-    (fs, refl, λ l t has. (t, begins_has fs gs by l t has, below_refl t d (has_wf l t gs wt has)))
+    (fs, refl, λ l t has. (t, begins_has fs gs by l t has, below_refl t d (has_wf gs wt l t has)))
 rule_parts d SubRule.RcdDepth cs (record_of fs) (record_of gs) ws wt of by us = (fs, refl, depth_has d fs gs cs by us)
 rule_parts d SubRule.RcdPerm [] (record_of fs) (record_of gs) ws wt of by us =
-    (fs, refl, λ l t has. (t, permutation_has_back fs gs by l t has, below_refl t d (has_wf l t gs wt has)))
+    (fs, refl, λ l t has. (t, permutation_has_back fs gs by l t has, below_refl t d (has_wf gs wt l t has)))
 rule_parts d SubRule.BoolNat [] s t ws wt of by us = subst (λ x. Parts s x d) (sym by.1) tt
 rule_parts _ _ _ _ _ ws wt of by us = absurd by
 

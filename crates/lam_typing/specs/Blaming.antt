@@ -1,9 +1,9 @@
 -- Where a document is to blame for a term without a type, and for what.
-use Rattle.std.specs.Prelude.{◌≡◌, ◌⊎◌, ℕ, ◌+◌, List, [], ◌∷◌, Option, Some, None, codes}
+use Rattle.std.specs.Prelude.{◌≡◌, ◌⊎◌, ℕ, zero, suc, ◌+◌, List, [], ◌∷◌, Option, Some, None, codes}
 use Rattle.lam_rules.specs.Types.{Typ, bool, nat, unit, top, arrow, record_of}
 use Rattle.lam_rules.specs.Terms.{Term, true_term, false_term, if_then_else, numeral, succ, pred, is_zero, variable, free, lambda, apply, unit_term, ascribe, let_in, record_term, project, fix, TermFields, no_terms, term_field}
 use Rattle.lam_rules.specs.Texts.{Text}
-use Rattle.lam_rules.specs.Typing.{Context, IsEntry}
+use Rattle.lam_rules.specs.Typing.{Context}
 use Rattle.lam_rules.specs.declared.rules.Dialect.{Dialect}
 use Rattle.lam_typing.specs.Places.{written, of_term, Scope, Place}
 use Rattle.lam_typing.specs.Contexts.{IsContext}
@@ -29,9 +29,15 @@ abbrev mutual
   AreFieldsTyped s no_terms d = Unit {0}
   AreFieldsTyped s (term_field l e es) d = IsTyped s e d × AreFieldsTyped s es d
 
--- the fault lies elsewhere: a variable whose entry is no type, a lambda and an ascription whose written type is faulty
+-- the entry of the binder that a variable counts to is none
+abbrev pub HasNoType : ℕ → Context → Type 0
+HasNoType n [] = ⊥
+HasNoType zero (entry ∷ g) = entry ≡ None
+HasNoType (suc n) (entry ∷ g) = HasNoType n g
+
+-- the fault lies elsewhere: a variable whose entry is none, a lambda and an ascription whose written type is faulty
 abbrev pub IsExcused : Scope → Term → Dialect → Type 0
-IsExcused s (variable n) d = (g : Context) × IsContext s g d × ((t : Typ) → IsEntry n g t → ⊥)
+IsExcused s (variable n) d = (g : Context) × IsContext s g d × HasNoType n g
 IsExcused s (lambda None e) d = Unit {0}
 IsExcused s (ascribe e None) d = Unit {0}
 IsExcused s _ d = ⊥
@@ -47,10 +53,11 @@ abbrev pub application_code : Typ → Text
 application_code (arrow p r) = codes "E3"
 application_code _ = codes "E2"
 
--- What a term is blamed for: an unbound name, a first term that is no function or an argument that does not fit, a field that
+-- What a term is blamed for: an unbound name (or a count past all binders), a first term that is no function or an argument that does not fit, a field that
 -- is not there, a condition, an operand of arithmetic, an ascription, a fix, a label that is repeated.
 abbrev pub IsBlamedFor : Scope → Term → Text → Dialect → Type 0
 IsBlamedFor s (free x) code d = code ≡ codes "E1"
+IsBlamedFor s (variable n) code d = code ≡ codes "E1"
 IsBlamedFor s (apply f a) code d = (t : Typ) × IsLeastAt s f (Some t) d × (code ≡ application_code t)
 IsBlamedFor s (project e l) code d = code ≡ codes "E4"
 IsBlamedFor s (if_then_else c a b) code d = code ≡ codes "E5"

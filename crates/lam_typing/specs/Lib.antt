@@ -3,3 +3,5 @@ pub mod Contexts
 pub mod LeastTypes
 pub mod Blaming
 pub mod Narrowing
+pub mod WellFormed
+pub mod WellTyped
