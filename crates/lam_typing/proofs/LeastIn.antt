@@ -40,7 +40,7 @@ narrower_same : (entry other w : Option Typ) (d : Dialect) → IsWellFormedEntry
 narrower_same entry other None d wf a b = subst (λ x. IsNarrowerEntry entry x d) (sym b) tt
 narrower_same entry other (Some t) d wf a b = subst (λ x. IsNarrowerEntry x other d) (sym a) (subst (λ x. IsNarrowerEntry (Some t) x d) (sym b) (below_refl t d wf))
 
-lowest_written : (w : Option Typ) (outside : Scope) (entry : Option Typ) (g : Context) (d : Dialect)
+pub lowest_written : (w : Option Typ) (outside : Scope) (entry : Option Typ) (g : Context) (d : Dialect)
     → IsWellFormedEntry w → entry ≡ w → Lowest outside g d → Lowest (written w ∷ outside) (entry ∷ g) d
 lowest_written w outside entry g d wf is low = record {
   wf = (subst IsWellFormedEntry (sym is) wf, low.wf);
@@ -52,7 +52,7 @@ lowest_written w outside entry g d wf is low = record {
     go [] c = absurd c
     go (other ∷ h) c = (narrower_same entry other w d wf is c.0, low.narrower h c.1)
 
-lowest_some : (e : Term) (outside : Scope) (t : Typ) (g : Context) (d : Dialect)
+pub lowest_some : (e : Term) (outside : Scope) (t : Typ) (g : Context) (d : Dialect)
     → LeastIn g e (Some t) d → Lowest outside g d → Lowest (of_term e ∷ outside) (Some t ∷ g) d
 lowest_some e outside t g d least low = record {
   wf = ((derives_wf g e t d least.0).1, low.wf);
@@ -65,7 +65,7 @@ lowest_some e outside t g d least low = record {
     go (None ∷ h) c = (tt, low.narrower h c.1)
     go (Some u ∷ h) c = (least.1 u (narrow g c.0.0 e u d low.wf (low.narrower c.0.0 c.0.1) (derives c.0.0 e u d c.0.2)), low.narrower h c.1)
 
-lowest_none : (e : Term) (outside : Scope) (g : Context) (d : Dialect)
+pub lowest_none : (e : Term) (outside : Scope) (g : Context) (d : Dialect)
     → LeastIn g e None d → Lowest outside g d → Lowest (of_term e ∷ outside) (None ∷ g) d
 lowest_none e outside g d least low = record {
   wf = (tt, low.wf);

@@ -5,3 +5,6 @@ pub mod Shapes
 pub mod LeastIn
 pub mod Steps
 pub mod Existing
+pub mod NeverBlamed
+pub mod Documents
+pub mod Deciding

@@ -1,23 +1,23 @@
--- What a nameless document says, the places of its terms, and the binders that each of them sees.
-use Rattle.std.specs.Prelude.{List, [], ◌∷◌, ◌++◌, Option}
+-- What a document says without its names: its statements, the places of their terms, and the binders that each place sees.
+use Rattle.std.specs.Prelude.{ℕ, List, [], ◌∷◌, ◌++◌, Option, Some, None, get_or}
 use Rattle.lam_rules.specs.Types.{Typ}
 use Rattle.lam_rules.specs.Terms.{Term, true_term, false_term, if_then_else, numeral, succ, pred, is_zero, variable, free, lambda, apply, unit_term, ascribe, let_in, record_term, project, fix, TermFields, no_terms, term_field}
 
--- A binder of a name, by what it takes its type from: a written type's expansion (none where what is written is faulty), or the term that it names.
+-- A binder of a name, by what it takes its type from: the expansion of a written type, or none where that is faulty; or a term.
 pub data Binding : Type 0 where
   written : Option Typ → Binding
   of_term : Term → Binding
 
--- the binders of names that a place sees, the innermost first: the term of a binder stands in the scope just outside of it, which is the rest of the list
+-- The binders of names that a place sees, the innermost first. The term of a binder stands in the scope just outside of it, which is the rest of the list.
 abbrev pub Scope : Type 0
 Scope = List Binding
 
--- a term of a command, with the binders that it sees
+-- a term of a statement, with the binders that it sees
 pub record Place : Type 0 where
   pub scope : Scope
   pub here : Term
 
--- the places of a term, each after its immediate terms, from left to right
+-- the places of a term, from left to right, a term after its immediate terms
 abbrev mutual
   pub places : Scope → Term → List Place
   places s (if_then_else c a b) = places s c ++ places s a ++ places s b ++ record { scope = s; here = if_then_else c a b } ∷ []
@@ -31,12 +31,7 @@ abbrev mutual
   places s (record_term es) = places_in s es ++ record { scope = s; here = record_term es } ∷ []
   places s (project e l) = places s e ++ record { scope = s; here = project e l } ∷ []
   places s (fix e) = places s e ++ record { scope = s; here = fix e } ∷ []
-  places s true_term = record { scope = s; here = true_term } ∷ []
-  places s false_term = record { scope = s; here = false_term } ∷ []
-  places s unit_term = record { scope = s; here = unit_term } ∷ []
-  places s (numeral digits) = record { scope = s; here = numeral digits } ∷ []
-  places s (variable n) = record { scope = s; here = variable n } ∷ []
-  places s (free x) = record { scope = s; here = free x } ∷ []
+  places s e = record { scope = s; here = e } ∷ []
 
   pub places_in : Scope → TermFields → List Place
   places_in s no_terms = []
@@ -49,10 +44,18 @@ pub data Statement : Type 0 where
   abbreviates : Option Typ → Statement
   states : Term → Statement
 
--- the places of a document's statements, from the first to the last: each sees the binders of those before it
+-- the places of statements, from the first to the last: each sees the binders of those before it
 abbrev pub places_of : Scope → List Statement → List Place
 places_of s [] = []
 places_of s (defines e ∷ rest) = places s e ++ places_of (of_term e ∷ s) rest
 places_of s (declares w ∷ rest) = places_of (written w ∷ s) rest
 places_of s (abbreviates w ∷ rest) = places_of s rest
 places_of s (states e ∷ rest) = places s e ++ places_of s rest
+
+-- the place of a number, counted from 0
+abbrev pub place_numbered : List Statement → ℕ → Place
+place_numbered ss n = get_or (places_of [] ss) n (record { scope = []; here = unit_term })
+
+-- the statement of a number, counted from 0
+abbrev pub statement_numbered : List Statement → ℕ → Statement
+statement_numbered ss n = get_or ss n (abbreviates None)
