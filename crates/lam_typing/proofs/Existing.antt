@@ -10,7 +10,8 @@ use Rattle.lam_typing.specs.WellFormed.{IsWellFormedTerm, AreWellFormedTerms, Is
 use Rattle.lam_typing.specs.LeastTypes.{IsTyped, IsLeastAt}
 use Rattle.lam_rules.proofs.Permutations.{absent_not}
 use Rattle.lam_typing.proofs.Derivations.{FieldsDerive, none_derive, more_derive, derives_wf}
-use Rattle.lam_typing.proofs.LeastIn.{LeastIn, LeastContext, Lowest, lowest, least_at, least_wf}
+use Rattle.lam_typing.specs.Walk.{IsLowest}
+use Rattle.lam_typing.proofs.LeastIn.{LeastIn, LeastContext, lowest, least_at, least_wf}
 use Rattle.lam_typing.proofs.Steps.{NatRule, LambdaRule, ArrowRule, ApplyRule, AscribeRule, LetRule, JoinRule, IfRule, FixRule, FieldRule, ProjectRule, LeastFields, MoreRule, RecordRule, entry_at, true_least, false_least, unit_least, num_least, free_least, variable_least, succ_least, pred_least, is_zero_least, lambda_least, apply_least, ascribe_least, let_least, if_least, fix_least, project_least, none_least, more_least, record_least}
 
 -- whether one type is below another is decided, every two types have a join, and whether labels are distinct is decided
@@ -210,7 +211,7 @@ module _ (d : Dialect) (decides : Decides d) where
       let o = exists_in e g.0 low.wf wf.0 in
       (o.0 ∷ g.0, (o.1, g.1))
 
-  pub lowest_exists : (s : Scope) → IsWellFormedScope s → (g : Context) × Lowest s g d
+  pub lowest_exists : (s : Scope) → IsWellFormedScope s → (g : Context) × IsLowest s g d
   lowest_exists s wf = let g = context_exists s wf in (g.0, lowest s g.0 d wf g.1)
 
   -- a least type, or none

@@ -8,3 +8,4 @@ pub mod Existing
 pub mod NeverBlamed
 pub mod Documents
 pub mod Deciding
+pub mod Walking

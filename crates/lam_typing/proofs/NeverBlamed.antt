@@ -11,7 +11,8 @@ use Rattle.lam_typing.specs.Blaming.{IsBlamed}
 use Rattle.lam_typing.specs.WellFormed.{IsWellFormedTerm, IsWellFormedScope}
 use Rattle.lam_typing.proofs.Derivations.{Derives, t_true, t_false, t_num, t_unit, t_abs, t_let, t_if, t_sub, derives, has_type, derives_wf}
 use Rattle.lam_typing.proofs.Narrows.{narrow}
-use Rattle.lam_typing.proofs.LeastIn.{LeastIn, Lowest, lowest_some, typed_in, typed_at}
+use Rattle.lam_typing.specs.Walk.{IsLowest}
+use Rattle.lam_typing.proofs.LeastIn.{LeastIn, lowest_some, typed_in, typed_at}
 use Rattle.lam_typing.proofs.Existing.{Decides, exists_in, lowest_exists}
 
 -- a lambda has a type where its body has one
@@ -43,7 +44,7 @@ module _ (d : Dialect) (decides : Decides d) where
   numeral_unblamed s digits ws blamed = let g = lowest_exists d decides s ws in blamed.untyped (typed_at s g.0 (numeral digits) nat d g.1 (t_num g.1.wf))
 
   -- a let has a type where both its terms have one
-  let_typed : (s : Scope) (g : Context) (a b : Term) (o : Option Typ) → Lowest s g d → LeastIn g a o d → IsTyped s a d → IsTyped (of_term a ∷ s) b d → IsTyped s (let_in a b) d
+  let_typed : (s : Scope) (g : Context) (a b : Term) (o : Option Typ) → IsLowest s g d → LeastIn g a o d → IsTyped s a d → IsTyped (of_term a ∷ s) b d → IsTyped s (let_in a b) d
   let_typed s g a b None low least ta tb = let x = typed_in s g a d low ta in absurd (least x.0 x.1)
   let_typed s g a b (Some t) low least ta tb =
       let y = typed_in (of_term a ∷ s) (Some t ∷ g) b d (lowest_some a s t g d least low) tb in
@@ -65,5 +66,5 @@ module _ (d : Dialect) (decides : Decides d) where
       let z = condition_in g.0 g.1 in
       blamed.untyped (typed_at s g.0 (if_then_else c a b) j.0 d g.1 (t_if z (t_sub x.1 j.1.0) (t_sub y.1 j.1.1)))
     where
-      condition_in : (g : Context) → Lowest s g d → Derives g c bool d
+      condition_in : (g : Context) → IsLowest s g d → Derives g c bool d
       condition_in g low = narrow g condition.0 c bool d low.wf (low.narrower condition.0 condition.1) (derives condition.0 c bool d condition.2)

@@ -5,3 +5,5 @@ pub mod Blaming
 pub mod Narrowing
 pub mod WellFormed
 pub mod WellTyped
+pub mod Analysis
+pub mod Walk

@@ -1,0 +1,32 @@
+-- What an analysis finds of places, in their order.
+use Rattle.std.specs.Prelude.{◌<◌, ◌≤◌, ℕ, zero, suc, List, [], ◌∷◌, Option, Some, None}
+use Rattle.lam_rules.specs.Types.{Typ, nodes}
+use Rattle.lam_rules.specs.declared.rules.Dialect.{Dialect}
+use Rattle.lam_typing.specs.Places.{Place}
+use Rattle.lam_typing.specs.LeastTypes.{IsLeastAt}
+
+-- for each place its least type, or none
+abbrev pub AreLeast : List Place → List (Option Typ) → Dialect → Type 0
+AreLeast [] [] d = Unit {0}
+AreLeast (p ∷ ps) (o ∷ os) d = IsLeastAt p.scope p.here o d × AreLeast ps os d
+AreLeast [] (o ∷ os) d = ⊥
+AreLeast (p ∷ ps) [] d = ⊥
+
+-- at most so many nodes as a shown type may have
+abbrev pub IsSmall : Option Typ → Type 0
+IsSmall None = Unit {0}
+IsSmall (Some t) = nodes t ≤ 4096
+
+abbrev pub AreSmall : List (Option Typ) → Type 0
+AreSmall [] = Unit {0}
+AreSmall (o ∷ os) = IsSmall o × AreSmall os
+
+-- a place with a least type of more nodes
+abbrev pub IsTooLarge : Place → Dialect → Type 0
+IsTooLarge p d = (t : Typ) × IsLeastAt p.scope p.here (Some t) d × (4096 < nodes t)
+
+-- the place of this number is the first one of them
+abbrev pub IsFirstTooLarge : List Place → ℕ → Dialect → Type 0
+IsFirstTooLarge [] n d = ⊥
+IsFirstTooLarge (p ∷ ps) zero d = IsTooLarge p d
+IsFirstTooLarge (p ∷ ps) (suc n) d = (o : Option Typ) × IsLeastAt p.scope p.here o d × IsSmall o × IsFirstTooLarge ps n d

@@ -1,0 +1,68 @@
+-- How far a walk over the places of a term has come: what the contracts of its steps say to one another.
+use Rattle.std.specs.Prelude.{◌≡◌, ◌<◌, ℕ, List, [], ◌∷◌, ◌++◌, length, Option, Some, None}
+use Rattle.lam_rules.specs.Types.{Typ}
+use Rattle.lam_rules.specs.Terms.{Term}
+use Rattle.lam_rules.specs.Typing.{Context, IsWellFormedContext}
+use Rattle.lam_rules.specs.declared.rules.Dialect.{Dialect}
+use Rattle.lam_typing.specs.Places.{Scope, Place, places}
+use Rattle.lam_typing.specs.Contexts.{IsContext}
+use Rattle.lam_typing.specs.LeastTypes.{IsLeastAt}
+use Rattle.lam_typing.specs.Narrowing.{IsNarrower}
+use Rattle.lam_typing.specs.Blaming.{Blamed, AreBlamed}
+use Rattle.lam_typing.specs.Analysis.{AreLeast, AreSmall, IsTooLarge}
+
+-- a context of a scope that is narrower than each other one
+pub record IsLowest (s : Scope) (g : Context) (d : Dialect) : Type 0 where
+  pub wf : IsWellFormedContext g
+  pub is_context : IsContext s g d
+  pub narrower : (h : Context) → IsContext s h d → IsNarrower g h d
+
+-- what was found of the places so far, and those to blame among them
+pub record Progress : Type 0 where
+  pub found : List (Option Typ)
+  pub blames : List Blamed
+
+-- these were found of these places, of which the first has this number
+pub record Shown (ps : List Place) (n : ℕ) (found : List (Option Typ)) (blames : List Blamed) (d : Dialect) : Type 0 where
+  pub least : AreLeast ps found d
+  pub small : AreSmall found
+  pub blamed : AreBlamed n ps blames d
+
+-- the walk went over the places of some term, which lie in each scope that has this context as its lowest one
+pub record Went (g : Context) (ps : Scope → List Place) (old now : Progress) (d : Dialect) : Type 0 where
+  pub found : List (Option Typ)
+  pub blames : List Blamed
+  pub found_is : now.found ≡ old.found ++ found
+  pub blames_are : now.blames ≡ old.blames ++ blames
+  pub shown : (s : Scope) → IsLowest s g d → Shown (ps s) (length old.found) found blames d
+
+-- it went over a term whose least type is this
+pub record WentOver (g : Context) (e : Term) (old now : Progress) (o : Option Typ) (d : Dialect) : Type 0 where
+  pub went : Went g (λ s. places s e) old now d
+  pub least : (s : Scope) → IsLowest s g d → IsLeastAt s e o d
+
+-- why a walk stopped before the end: the next place is too large, or all the places that were asked for are found
+pub data Cause : Type 0 where
+  next_is_too_large : Cause
+  enough : Cause
+
+abbrev pub NextIs : Cause → List Place → Dialect → Type 0
+NextIs next_is_too_large [] d = ⊥
+NextIs next_is_too_large (p ∷ ps) d = IsTooLarge p d
+NextIs enough ps d = Unit {0}
+
+-- these were found of the first of these places, and the walk stopped before the others
+pub record ShownFront (ps : List Place) (n : ℕ) (found : List (Option Typ)) (blames : List Blamed) (cause : Cause) (d : Dialect) : Type 0 where
+  pub front : List Place
+  pub rest : List Place
+  pub are : ps ≡ front ++ rest
+  pub shown : Shown front n found blames d
+  pub next : NextIs cause rest d
+
+-- the walk stopped among the places of some term
+pub record StoppedIn (g : Context) (ps : Scope → List Place) (old now : Progress) (cause : Cause) (d : Dialect) : Type 0 where
+  pub found : List (Option Typ)
+  pub blames : List Blamed
+  pub found_is : now.found ≡ old.found ++ found
+  pub blames_are : now.blames ≡ old.blames ++ blames
+  pub shown : (s : Scope) → IsLowest s g d → ShownFront (ps s) (length old.found) found blames cause d
