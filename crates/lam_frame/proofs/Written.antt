@@ -1,5 +1,5 @@
 -- The written frame is read back.
-use Rattle.std.proofs.Common.{◌≡◌, ◌≤◌, ◌<◌, length, ℕ, ◌+◌, ◌^◌, Bool, true, false, ◌&&◌, nat_lt, cond, List, [], ◌∷◌, ◌++◌, Result, Ok, Err, refl, sym, ap, ◌∙◌, subst, arith, append_assoc, length-append}
+use Rattle.std.proofs.Common.{◌≡◌, ◌≤◌, ◌<◌, length, ℕ, ◌+◌, true, false, nat_lt, List, [], ◌∷◌, ◌++◌, Ok, refl, ap, ◌∙◌, arith, append_assoc, length-append}
 use Rattle.std.specs.Prelude.{codes, decimal}
 use Rattle.std.specs.Char.{is_ascii_digit}
 use Rattle.std.specs.List.{list_all}
@@ -8,9 +8,8 @@ use Rattle.std.proofs.lemmas.Bool.Decides.{nat_tests}
 use Rattle.std.proofs.lemmas.Fmt.{decimal_is_IsNumeral, length-decimal-le}
 use Rattle.std.proofs.lemmas.List.Folds.{list_all-append}
 use Rattle.std.proofs.lemmas.Str.Parse.{digit_from_value}
-use Rattle.lam_frame.specs.declared.fault.FrameFault.{FrameFault}
-use Rattle.lam_frame.specs.Header.{HasHeader, IsPlain, body_length, ended_lines, header_text, is_blank, is_number, is_plain, length_in, trim, trim_back, trim_front}
-use Rattle.lam_frame.specs.Frame.{HasFrame, frame_text, header_line}
+use Rattle.lam_frame.specs.Header.{IsPlain, body_length, ended_lines, header_text, is_blank, is_number, is_plain, length_in, trim, trim_back}
+use Rattle.lam_frame.specs.Frame.{frame_text, header_line}
 use Rattle.lam_frame.specs.Laws.{IsReadBack}
 
 -- ---- digits

@@ -1,6 +1,6 @@
 //! Devices over memory, which tell their bytes.
 
-ghost use Rattle.std.specs.Prelude.{◌≡◌, ◌++◌, ℕ, List, [], IfOk, Some, length};
+ghost use Rattle.std.specs.Prelude.{◌≡◌, ◌++◌, ℕ, List, [], Some};
 ghost use Rattle.lam_frame.specs.Bytes.{Output};
 
 use crate::device::{DeviceFault, Sink, Source};

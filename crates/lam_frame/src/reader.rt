@@ -1,6 +1,6 @@
 //! Frames in, bodies out.
 
-ghost use Rattle.std.specs.Prelude.{◌≡◌, IfSome, OnOk, ◌+◌, ◌-◌, ◌^◌, ◌<◌, ◌≤◌, IfOk, List, ℕ, [], ◌++◌, length, Ok, Err, None, OnSome};
+ghost use Rattle.std.specs.Prelude.{◌≡◌, IfSome, OnOk, ◌+◌, ◌-◌, ◌^◌, ◌<◌, ◌≤◌, IfOk, [], length, Ok, Err, None, OnSome};
 ghost use Rattle.lam_frame.specs.Frame.{IsOpen};
 ghost use Rattle.lam_frame.specs.Next.{AnswersWhereTold, Progress, Reads, Says, failures_after, state_after, work_left};
 ghost use Rattle.lam_frame.specs.Steps.{Moved, PullsMore, end_after, SaysBody, SaysHeader};

@@ -1,6 +1,6 @@
 //! Devices over the readers and writers of `std`, which tell counts alone.
 
-ghost use Rattle.std.specs.Prelude.{◌≡◌, ◌-◌, ◌^◌, ◌<◌, ◌≤◌, IfOk, length, ⊤};
+ghost use Rattle.std.specs.Prelude.{◌≡◌, ◌-◌, ◌<◌, ◌≤◌, IfOk, length, ⊤};
 
 use crate::device::{DeviceFault, Sink, Source};
 use std::io;

@@ -1,6 +1,6 @@
 //! Bodies in, frames out.
 
-ghost use Rattle.std.specs.Prelude.{◌≡◌, ◌-◌, ◌^◌, ◌<◌, ◌≤◌, ◌++◌, ◌∷◌, [], OnOk, OnErr, IfErr, codes, decimal, drop, length};
+ghost use Rattle.std.specs.Prelude.{◌≡◌, ◌-◌, ◌^◌, ◌<◌, ◌≤◌, ◌++◌, OnOk, OnErr, IfErr, decimal, drop, length};
 ghost use Rattle.lam_frame.specs.Device.{AppendsFront, IsFlushed};
 ghost use Rattle.lam_frame.specs.Frame.{frame_text, header_line};
 ghost use Rattle.lam_frame.specs.Next.{failures_after};

@@ -1,10 +1,9 @@
 //! One body in, the frames of its answer out.
 
-ghost use Rattle.std.specs.Prelude.{◌≡◌, ◌-◌, ◌^◌, ◌<◌, false, List, ℕ, map};
+ghost use Rattle.std.specs.Prelude.{◌≡◌, ◌-◌, ◌^◌, ◌<◌, false, map};
 ghost use Rattle.std.specs.List.{All};
 ghost use Rattle.serde_json.specs.View.{view};
 ghost use Rattle.serde_json.specs.Written.{has_float};
-ghost use Rattle.lam_session.specs.State.{ended_status};
 ghost use Rattle.lam_server.specs.Answer.{AnswersBody, WritesValues};
 
 use crate::faults::RunFault;

@@ -1,6 +1,6 @@
 //! A run: turn after turn, to the end.
 
-ghost use Rattle.std.specs.Prelude.{◌≡◌, ◌-◌, ◌^◌, ◌<◌, List, ℕ};
+ghost use Rattle.std.specs.Prelude.{◌-◌, ◌^◌, ◌<◌, List, ℕ};
 ghost use Rattle.lam_session.specs.State.{fresh};
 ghost use Rattle.lam_server.specs.Laws.{HasOneOutput, OutputGrows};
 ghost use Rattle.lam_server.specs.Run.{AnswersWhereTold, Runs};

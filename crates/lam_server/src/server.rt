@@ -1,6 +1,6 @@
 //! A server, turn by turn.
 
-ghost use Rattle.std.specs.Prelude.{◌≡◌, ◌-◌, ◌^◌, ◌<◌, IfOk, [], List, ℕ};
+ghost use Rattle.std.specs.Prelude.{◌≡◌, ◌-◌, ◌^◌, ◌<◌, IfOk, []};
 ghost use Rattle.lam_session.specs.State.{fresh};
 
 use crate::answer::answer;
