@@ -11,3 +11,7 @@ pub mod ByShape
 pub mod SortedForms
 pub mod SharedTexts
 pub mod Composing
+pub mod SortedBelow
+pub mod Tables
+pub mod TableEntries
+pub mod TableFields

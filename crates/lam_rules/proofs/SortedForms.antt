@@ -99,11 +99,11 @@ types_placed l k t (field j u fs) = by (is_not_after k j) refl (types_placed l k
 -- the sorted form that putting in place gives
 
 -- each type sorted, the fields where they are
-abbrev sorted_inside : Fields → Fields
+abbrev pub sorted_inside : Fields → Fields
 sorted_inside no_fields = no_fields
 sorted_inside (field l t fs) = field l (sorted t) (sorted_inside fs)
 
-ascending_sorted : (fs : Fields) → IsAscending (sorted_fields fs)
+pub ascending_sorted : (fs : Fields) → IsAscending (sorted_fields fs)
 ascending_sorted no_fields = tt
 ascending_sorted (field l t fs) = ascending_placed l (sorted t) (sorted_fields fs) (ascending_sorted fs)
 

@@ -10,3 +10,6 @@ pub mod Typing
 pub mod TypingViews
 pub mod Sorting
 pub mod SharedTexts
+pub mod TypeCodes
+pub mod Numbers
+pub mod Entries

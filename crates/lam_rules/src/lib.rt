@@ -9,6 +9,7 @@
 
 mod rules;
 mod subtyping;
+mod table;
 mod terms;
 mod texts;
 mod types;
@@ -16,6 +17,7 @@ mod typing;
 
 pub use rules::{Dialect, SubRule, TypeRule};
 pub use subtyping::{SubProof, check_sub};
+pub use table::{Shape, TyNo, TyTable, labels_differ, number_under};
 pub use terms::{Core, make_letrec};
 pub use texts::{one_sorted_form, plain_text_of, sorted_of, text_of};
 pub use types::{

@@ -107,8 +107,8 @@ pub fn has_field(label: &str, ty: &Ty, fields: &[(String, Ty)]) -> bool
     false
 }
 
-/// Where `size` stops counting: one more than a type of a document may have.
-const SIZE_CAP: u64 = 4_097;
+/// Where sizes stop: one more than a type of a document may have.
+pub(crate) const SIZE_CAP: u64 = 4_097;
 
 /// How many nodes a type has, or 4,097 where it has more: Bool, Nat, Unit, Top, arrows and records
 /// are a node each, labels are none.

@@ -1,0 +1,14 @@
+use Rattle.lam_rules.proofs.TableEntries.{found_at, nowhere_at, shape_wf}
+use Rattle.lam_rules.proofs.table.TyTable.find.Goals as goal
+
+pub returns-in-Some-clause-some : goal.returns-in-Some-clause-some
+returns-in-Some-clause-some c = found_at _ _ _ _ _ c.self.view_is c.deref.ensures.value c.self.invariant c.in-Some.ensures.some
+
+pub returns-in-None-clause-none : goal.returns-in-None-clause-none
+returns-in-None-clause-none c = nowhere_at _ _ _ _ c.self.view_is c.deref.ensures.value c.self.invariant c.requires c.in-None.ensures.none
+
+pub returns-in-Some-clause-wf : goal.returns-in-Some-clause-wf
+returns-in-Some-clause-wf c = shape_wf _ _ _ c.self.view_is c.self.invariant c.requires
+
+pub returns-in-None-clause-wf : goal.returns-in-None-clause-wf
+returns-in-None-clause-wf c = shape_wf _ _ _ c.self.view_is c.self.invariant c.requires

@@ -1,0 +1,577 @@
+//! Types in one table: numbers that stand for types, so that a type which is used twice is kept once.
+
+ghost use Rattle.std.specs.Prelude.{◌≡◌, ◌↔◌, ◌<◌, ◌≤◌, ◌++◌, ℕ, List, [], ◌∷◌, length, min, string_bytes, IsTrue, IfOk, OnOk, IfSome, IfNone};
+ghost use Rattle.lam_rules.specs.Types.{Typ, arrow, record_of, Has, IsAbsent, IsWellFormed, AreWellFormed, nodes, nodes_in};
+ghost use Rattle.lam_rules.specs.TypeViews.{typ_of, fields_of};
+ghost use Rattle.lam_rules.specs.Texts.{sorted as sorted_form, sorted_fields, placed, place_in, text};
+ghost use Rattle.lam_rules.specs.Subtyping.{IsBelow};
+ghost use Rattle.lam_rules.specs.Typing.{HasField};
+ghost use Rattle.lam_rules.specs.Numbers.{type_at, type_of, Stands, IsNumberOf, Keeps, fields_over, shaped, AreBelow, IsOver, IsNotAmong, HaveDistinctLabels, HasDistinctLabels, fields_given, AllStand, AreGivenApart};
+ghost use Rattle.lam_rules.specs.Entries.{IsEntryOf, IsSameField, AreSame, IsSame, IsAt, IsNowhere, AreCopies};
+ghost use Rattle.lam_rules.specs.declared.rules.Dialect.{Dialect};
+
+use crate::texts::text_of;
+use crate::types::{SIZE_CAP, Ty, make_arrow, make_record};
+use std::alloc::{AllocError, Global};
+use std::marker::Model;
+
+/// The number of a type in a table.
+#[derive(Clone, Copy, Debug, PartialEq, Eq, Hash)]
+pub struct TyNo {
+    pub index: usize,
+}
+
+/// The outermost form of a type, over numbers of a table.
+#[derive(Drop)]
+pub enum Shape {
+    Bool,
+    Nat,
+    Unit,
+    Top,
+    Arrow(TyNo, TyNo),
+    /// The fields of a record type, in their own order.
+    Record(Vec<(String, TyNo)>),
+}
+
+/// A type of the table, how many nodes it has, at most 4,097, and the number of its sorted form.
+#[derive(Drop)]
+struct Entry {
+    shape: Shape,
+    size: u64,
+    sorted: TyNo,
+}
+
+/// Types by number. Each is a shape over numbers before its own, and no two are one type.
+#[derive(Drop)]
+pub struct TyTable {
+    alloc: Global,
+    entries: Vec<Entry>,
+}
+
+impl Model for TyTable {
+    ghost use Rattle.std.specs.Prelude.{List};
+    ghost use Rattle.lam_rules.specs.Types.{Typ};
+    ghost use Rattle.lam_rules.specs.TypeCodes.{coded_types};
+
+    ghost Value = { List Typ };
+
+    ghost coded = { coded_types };
+
+    ghost use Rattle.lam_rules.specs.Entries.{types_of, IsTable};
+
+    ghost view = { λ t. types_of t.entries.items };
+
+    ghost invariant = { λ t. IsTable t.entries.items };
+}
+
+impl TyTable {
+    /// A table without types. It keeps the allocator for those to come.
+    #[tactic(auto, using(crate::proofs::TableEntries::entry_lists))]
+    pub fn new(alloc: Global) -> TyTable
+        ensures { result ≡ [] }
+    {
+        TyTable {
+            alloc,
+            entries: Vec::new(alloc),
+        }
+    }
+
+    /// The outermost form of a type. Its numbers come before that of the type, so a walk that goes
+    /// from a type to those inside ends.
+    pub fn shape(&self, number: TyNo) -> &Shape
+        requires { Stands self.now number }
+        ensures earlier { IsOver number.index result.now }
+        ensures form { type_of self.now number ≡ shaped self.now result.now }
+        ensures wf { IsWellFormed (type_of self.now number) }
+    {
+        &self.entry(number).shape
+    }
+
+    /// How many nodes a type has, or 4,097 where it has more.
+    pub fn size(&self, number: TyNo) -> u64
+        requires { Stands self.now number }
+        ensures { result ≡ min (nodes (type_of self.now number)) 4097 }
+    {
+        self.entry(number).size
+    }
+
+    /// The number of the type with the fields of each record sorted by the bytes of their labels.
+    pub fn sorted(&self, number: TyNo) -> TyNo
+        requires { Stands self.now number }
+        ensures at_most { result.index ≤ number.index }
+        ensures sorted { type_of self.now result ≡ sorted_form (type_of self.now number) }
+    {
+        self.entry(number).sorted
+    }
+
+    /// Whether each of two types is below the other, in one dialect as in the other.
+    pub fn same(&self, left: TyNo, right: TyNo) -> bool
+        requires left { Stands self.now left }
+        requires right { Stands self.now right }
+        ensures { (d : Dialect) → (IsTrue result ↔ (IsBelow (type_of self.now left) (type_of self.now right) d × IsBelow (type_of self.now right) (type_of self.now left) d)) }
+    {
+        // No two entries are one type, and the proof learns it where a field is used.
+        let _entries = &self.entries;
+        self.sorted(left) == self.sorted(right)
+    }
+
+    /// The number of the field with this label, where the type is a record type that has one.
+    #[tactic(auto, using(crate::proofs::TableFields::found_fields))]
+    pub fn field(&self, number: TyNo, label: &str) -> Option<TyNo>
+        requires { Stands self.now number }
+        ensures earlier { IfSome result (λ found. found.index < number.index) }
+        ensures some { IfSome result (λ found. HasField (type_of self.now number) label.now (type_of self.now found)) }
+        ensures none { IfNone result ((t : Typ) → HasField (type_of self.now number) label.now t → ⊥) }
+    {
+        match self.shape(number) {
+            Shape::Record(fields) => number_under(label, fields),
+            _ => None,
+        }
+    }
+
+    /// The number of the type that has this shape.
+    #[tactic(auto, using(crate::proofs::Tables::numbers, crate::proofs::SortedBelow::sorting_again))]
+    pub fn intern(&mut self, shape: Shape) -> Result<TyNo, AllocError>
+        requires over { IsOver (length self.old) shape }
+        requires labels { HasDistinctLabels shape }
+        ensures keeps { Keeps self.old self.new }
+        ensures number { IfOk result (λ number. IsNumberOf self.new number (shaped self.old shape)) }
+    {
+        match self.find(&shape) {
+            Some(number) => Ok(number),
+            None => {
+                let sorted_shape = self.sorted_shape(&shape)?;
+                let sorted = self.intern_sorted(sorted_shape)?;
+                self.intern_beside(shape, sorted)
+            }
+        }
+    }
+
+    /// The number of the arrow from one type to another.
+    pub fn arrow(&mut self, parameter: TyNo, outcome: TyNo) -> Result<TyNo, AllocError>
+        requires parameter { Stands self.old parameter }
+        requires outcome { Stands self.old outcome }
+        ensures keeps { Keeps self.old self.new }
+        ensures number { IfOk result (λ number. IsNumberOf self.new number (arrow (type_of self.old parameter) (type_of self.old outcome))) }
+    {
+        self.intern(Shape::Arrow(parameter, outcome))
+    }
+
+    /// The number of the record type of these fields, in their order.
+    #[tactic(auto, using(crate::proofs::TableFields::copied))]
+    pub fn record(&mut self, fields: &[(&str, TyNo)]) -> Result<TyNo, AllocError>
+        requires numbers { AllStand self.old fields.now }
+        requires labels { AreGivenApart fields.now }
+        ensures keeps { Keeps self.old self.new }
+        ensures number { IfOk result (λ number. IsNumberOf self.new number (record_of (fields_given self.old fields.now))) }
+    {
+        let items = owned_fields(self.alloc, fields)?;
+        self.intern(Shape::Record(items))
+    }
+
+    /// The number of a type.
+    #[cycle(add)]
+    #[tactic(auto, using(crate::proofs::TypeShapes::shapes, crate::proofs::Tables::numbers))]
+    pub fn add(&mut self, ty: &Ty) -> Result<TyNo, AllocError>
+        requires { IsWellFormed (typ_of ty.now) }
+        ensures keeps { Keeps self.old self.new }
+        ensures number { IfOk result (λ number. IsNumberOf self.new number (typ_of ty.now)) }
+    {
+        match ty {
+            Ty::Bool => self.intern(Shape::Bool),
+            Ty::Nat => self.intern(Shape::Nat),
+            Ty::Unit => self.intern(Shape::Unit),
+            Ty::Top => self.intern(Shape::Top),
+            Ty::Arrow(parameter, outcome) => {
+                let parameter_number = self.add(parameter)?;
+                let outcome_number = self.add(outcome)?;
+                self.arrow(parameter_number, outcome_number)
+            }
+            Ty::Record(fields) => {
+                let items = self.add_fields(&fields.items)?;
+                self.intern(Shape::Record(items))
+            }
+        }
+    }
+
+    #[cycle(add)]
+    #[tactic(auto, using(crate::proofs::TypeShapes::shapes, crate::proofs::Tables::numbers))]
+    fn add_fields(&mut self, fields: &[(String, Ty)]) -> Result<Vec<(String, TyNo)>, AllocError>
+        requires { AreWellFormed (fields_of fields.now) }
+        ensures keeps { Keeps self.old self.new }
+        ensures over { IfOk result (λ items. AreBelow (length self.new) items.items) }
+        ensures fields { IfOk result (λ items. fields_over self.new items.items ≡ fields_of fields.now) }
+    {
+        let mut items = Vec::new(self.alloc);
+        for i in 0..fields.len() {
+            let field = &fields[i];
+            let number = self.add(&field.1)?;
+            items.push((field.0.clone()?, number))?;
+        }
+        Ok(items)
+    }
+
+    /// The type of a number, with nothing shared.
+    #[cycle(tree)]
+    #[tactic(auto, using(crate::proofs::TypeShapes::shapes))]
+    pub fn tree(&self, number: TyNo) -> Result<Ty, AllocError>
+        requires { Stands self.now number }
+        ensures { IfOk result (λ ty. typ_of ty ≡ type_of self.now number) }
+    {
+        match self.shape(number) {
+            Shape::Bool => Ok(Ty::Bool),
+            Shape::Nat => Ok(Ty::Nat),
+            Shape::Unit => Ok(Ty::Unit),
+            Shape::Top => Ok(Ty::Top),
+            Shape::Arrow(parameter, outcome) => {
+                let parameter_tree = self.tree(*parameter)?;
+                let outcome_tree = self.tree(*outcome)?;
+                make_arrow(self.alloc, parameter_tree, outcome_tree)
+            }
+            Shape::Record(fields) => {
+                let items = self.tree_fields(fields)?;
+                Ok(make_record(items))
+            }
+        }
+    }
+
+    #[cycle(tree)]
+    #[tactic(auto, using(crate::proofs::TypeShapes::shapes, crate::proofs::TableEntries::field_lists))]
+    fn tree_fields(&self, fields: &[(String, TyNo)]) -> Result<Vec<(String, Ty)>, AllocError>
+        requires { AreBelow (length self.now) fields.now }
+        ensures { IfOk result (λ items. fields_of items.items ≡ fields_over self.now fields.now) }
+    {
+        let mut items = Vec::new(self.alloc);
+        for i in 0..fields.len() {
+            let field = &fields[i];
+            let label = field.0.clone()?;
+            let ty = self.tree(field.1)?;
+            items.push((label, ty))?;
+        }
+        Ok(items)
+    }
+
+    /// The text of a type with the fields of each record sorted by the bytes of their labels.
+    pub fn text(&self, number: TyNo) -> Result<String, AllocError>
+        requires { Stands self.now number }
+        ensures { IfOk result (λ written. string_bytes written ≡ text (type_of self.now number)) }
+    {
+        let ty = self.tree(number)?;
+        text_of(self.alloc, &ty)
+    }
+
+    /// A law: the types of a table have distinct labels, and no two numbers stand for one type.
+    pub fn types_differ(&self)
+        ensures wf { (i : ℕ) → i < length self.now → IsWellFormed (type_at self.now i) }
+        ensures differ { (i j : ℕ) → i < length self.now → j < length self.now → type_at self.now i ≡ type_at self.now j → i ≡ j }
+    {
+        let _entries = &self.entries;
+    }
+
+    fn entry(&self, number: TyNo) -> &Entry
+        requires { Stands self.now number }
+        ensures { IsEntryOf self.now number.index result.now }
+    {
+        &self.entries[number.index]
+    }
+
+    /// The number of the type that has this shape, if the table has it.
+    fn find(&self, shape: &Shape) -> Option<TyNo>
+        requires { IsOver (length self.now) shape.now }
+        ensures wf { HasDistinctLabels shape.now → IsWellFormed (shaped self.now shape.now) }
+        ensures some { IfSome result (λ number. IsNumberOf self.now number (shaped self.now shape.now)) }
+        ensures none { IfNone result ((i : ℕ) → i < length self.now → type_at self.now i ≡ shaped self.now shape.now → ⊥) }
+    {
+        match position(&self.entries, shape) {
+            Some(index) => Some(TyNo { index }),
+            None => None,
+        }
+    }
+
+    /// Puts a type that the table does not have at its end.
+    fn push(&mut self, shape: Shape, sorted: TyNo) -> Result<TyNo, AllocError>
+        requires over { IsOver (length self.old) shape }
+        requires wf { IsWellFormed (shaped self.old shape) }
+        requires sorted_stands { sorted.index ≤ length self.old }
+        requires sorted_type { type_of (self.old ++ shaped self.old shape ∷ []) sorted ≡ sorted_form (shaped self.old shape) }
+        requires fresh { (i : ℕ) → i < length self.old → type_at self.old i ≡ shaped self.old shape → ⊥ }
+        ensures keeps { Keeps self.old self.new }
+        ensures number { IfOk result (λ number. IsNumberOf self.new number (shaped self.old shape)) }
+    {
+        let size = self.size_of(&shape);
+        let number = TyNo {
+            index: self.entries.len(),
+        };
+        self.entries.push(Entry {
+            shape,
+            size,
+            sorted,
+        })?;
+        Ok(number)
+    }
+
+    /// How many nodes the type of a shape has, or 4,097 where it has more.
+    fn size_of(&self, shape: &Shape) -> u64
+        requires { IsOver (length self.now) shape.now }
+        ensures { result ≡ min (nodes (shaped self.now shape.now)) 4097 }
+    {
+        match shape {
+            Shape::Bool => 1,
+            Shape::Nat => 1,
+            Shape::Unit => 1,
+            Shape::Top => 1,
+            Shape::Arrow(parameter, outcome) => {
+                (1 + self.size(*parameter) + self.size(*outcome)).min(SIZE_CAP)
+            }
+            Shape::Record(fields) => (1 + self.size_of_fields(fields)).min(SIZE_CAP),
+        }
+    }
+
+    #[tactic(auto, using(crate::proofs::TableEntries::field_lists))]
+    fn size_of_fields(&self, fields: &[(String, TyNo)]) -> u64
+        requires { AreBelow (length self.now) fields.now }
+        ensures { result ≡ min (nodes_in (fields_over self.now fields.now)) 4097 }
+    {
+        let mut total = 0;
+        for i in 0..fields.len() {
+            let field = &fields[i];
+            total = (total + self.size(field.1)).min(SIZE_CAP);
+        }
+        total
+    }
+
+    /// The number of a type that is its own sorted form.
+    fn intern_sorted(&mut self, shape: Shape) -> Result<TyNo, AllocError>
+        requires over { IsOver (length self.old) shape }
+        requires wf { IsWellFormed (shaped self.old shape) }
+        requires sorted { sorted_form (shaped self.old shape) ≡ shaped self.old shape }
+        ensures keeps { Keeps self.old self.new }
+        ensures number { IfOk result (λ number. IsNumberOf self.new number (shaped self.old shape)) }
+    {
+        match self.find(&shape) {
+            Some(number) => Ok(number),
+            None => {
+                let own = self.next();
+                self.push(shape, own)
+            }
+        }
+    }
+
+    /// The number of a type whose sorted form has this number.
+    fn intern_beside(&mut self, shape: Shape, sorted: TyNo) -> Result<TyNo, AllocError>
+        requires over { IsOver (length self.old) shape }
+        requires wf { IsWellFormed (shaped self.old shape) }
+        requires sorted { IsNumberOf self.old sorted (sorted_form (shaped self.old shape)) }
+        ensures keeps { Keeps self.old self.new }
+        ensures number { IfOk result (λ number. IsNumberOf self.new number (shaped self.old shape)) }
+    {
+        match self.find(&shape) {
+            Some(number) => Ok(number),
+            None => self.push(shape, sorted),
+        }
+    }
+
+    /// The number that the next type gets.
+    fn next(&self) -> TyNo
+        ensures { result.index ≡ length self.now }
+    {
+        TyNo {
+            index: self.entries.len(),
+        }
+    }
+
+    /// The shape of a type's sorted form.
+    fn sorted_shape(&self, shape: &Shape) -> Result<Shape, AllocError>
+        requires { IsOver (length self.now) shape.now }
+        ensures over { IfOk result (λ made. IsOver (length self.now) made) }
+        ensures sorted { IfOk result (λ made. shaped self.now made ≡ sorted_form (shaped self.now shape.now)) }
+    {
+        match shape {
+            Shape::Bool => Ok(Shape::Bool),
+            Shape::Nat => Ok(Shape::Nat),
+            Shape::Unit => Ok(Shape::Unit),
+            Shape::Top => Ok(Shape::Top),
+            Shape::Arrow(parameter, outcome) => Ok(Shape::Arrow(
+                self.sorted(*parameter),
+                self.sorted(*outcome),
+            )),
+            Shape::Record(fields) => {
+                let items = self.sorted_fields(fields)?;
+                Ok(Shape::Record(items))
+            }
+        }
+    }
+
+    #[tactic(auto, using(crate::proofs::TableEntries::field_lists))]
+    fn sorted_fields(&self, fields: &[(String, TyNo)]) -> Result<Vec<(String, TyNo)>, AllocError>
+        requires { AreBelow (length self.now) fields.now }
+        ensures over { IfOk result (λ made. AreBelow (length self.now) made.items) }
+        ensures sorted { IfOk result (λ made. fields_over self.now made.items ≡ sorted_fields (fields_over self.now fields.now)) }
+    {
+        let mut made = Vec::new(self.alloc);
+        for i in (0..fields.len()).rev() {
+            let field = &fields[i];
+            let label = field.0.clone()?;
+            place(&mut made, label, self.sorted(field.1))?;
+        }
+        Ok(made)
+    }
+}
+
+/// The number under a label.
+#[tactic(auto, using(crate::proofs::TableFields::found_fields))]
+pub fn number_under(label: &str, fields: &[(String, TyNo)]) -> Option<TyNo>
+    ensures below { IfSome result (λ number. (n : ℕ) → AreBelow n fields.now → number.index < n) }
+    ensures some { IfSome result (λ number. (ts : List Typ) → Has label.now (type_of ts number) (fields_over ts fields.now)) }
+    ensures none { IfNone result ((ts : List Typ) → IsAbsent label.now (fields_over ts fields.now)) }
+{
+    for field in fields {
+        if field.0.as_str() == label {
+            return Some(field.1);
+        }
+    }
+    None
+}
+
+/// Whether no two of the labels are equal.
+#[tactic(auto, using(crate::proofs::TableFields::label_lists))]
+pub fn labels_differ(fields: &[(String, TyNo)]) -> bool
+    ensures { IsTrue result ↔ HaveDistinctLabels fields.now }
+{
+    for i in 0..fields.len() {
+        let field = &fields[i];
+        if !is_not_among(&field.0, &fields[i + 1..]) {
+            return false;
+        }
+    }
+    true
+}
+
+#[tactic(auto, using(crate::proofs::TableFields::label_lists))]
+fn is_not_among(label: &str, fields: &[(String, TyNo)]) -> bool
+    ensures { IsTrue result ↔ IsNotAmong label.now fields.now }
+{
+    for field in fields {
+        if label == field.0.as_str() {
+            return false;
+        }
+    }
+    true
+}
+
+/// The same fields with labels in memory of their own.
+fn owned_fields(alloc: Global, fields: &[(&str, TyNo)]) -> Result<Vec<(String, TyNo)>, AllocError>
+    ensures { IfOk result (λ items. AreCopies items.items fields.now) }
+{
+    let mut items = Vec::new(alloc);
+    for i in 0..fields.len() {
+        let field = &fields[i];
+        let label = String::from_str(alloc, field.0)?;
+        items.push((label, field.1))?;
+    }
+    Ok(items)
+}
+
+/// Puts a field before the first one whose label its own is not after.
+#[tactic(auto, using(crate::proofs::TableFields::placed_numbers))]
+fn place(fields: &mut Vec<(String, TyNo)>, label: String, number: TyNo) -> Result<(), AllocError>
+    ensures over { OnOk result ((n : ℕ) → AreBelow n fields.old.items → number.index < n → AreBelow n fields.new.items) }
+    ensures fields { OnOk result ((ts : List Typ) → fields_over ts fields.new.items ≡ placed (string_bytes label) (type_of ts number) (fields_over ts fields.old.items)) }
+{
+    let at = place_of(&label, fields);
+    fields.insert(at, (label, number))?;
+    Ok(())
+}
+
+/// Where the first field stands whose label the given one is not after, or else the end.
+#[tactic(auto, using(crate::proofs::TableFields::placed_numbers))]
+fn place_of(label: &str, fields: &[(String, TyNo)]) -> usize
+    ensures within { result ≤ length fields.now }
+    ensures place { (ts : List Typ) → result ≡ place_in label.now (fields_over ts fields.now) }
+{
+    for i in 0..fields.len() {
+        let field = &fields[i];
+        if label <= field.0.as_str() {
+            return i;
+        }
+    }
+    fields.len()
+}
+
+/// Where a shape stands among the entries.
+fn position(entries: &[Entry], shape: &Shape) -> Option<usize>
+    ensures some { IfSome result (λ i. IsAt entries.now i shape.now) }
+    ensures none { IfNone result (IsNowhere entries.now shape.now) }
+{
+    for i in 0..entries.len() {
+        let entry = &entries[i];
+        if same_shape(&entry.shape, shape) {
+            return Some(i);
+        }
+    }
+    None
+}
+
+/// Whether two shapes are one over the same numbers.
+fn same_shape(left: &Shape, right: &Shape) -> bool
+    ensures { IsTrue result ↔ IsSame left.now right.now }
+{
+    match left {
+        Shape::Bool => match right {
+            Shape::Bool => true,
+            _ => false,
+        },
+        Shape::Nat => match right {
+            Shape::Nat => true,
+            _ => false,
+        },
+        Shape::Unit => match right {
+            Shape::Unit => true,
+            _ => false,
+        },
+        Shape::Top => match right {
+            Shape::Top => true,
+            _ => false,
+        },
+        Shape::Arrow(parameter, outcome) => match right {
+            Shape::Arrow(other_parameter, other_outcome) => {
+                if parameter.index != other_parameter.index {
+                    return false;
+                }
+                outcome.index == other_outcome.index
+            }
+            _ => false,
+        },
+        Shape::Record(fields) => match right {
+            Shape::Record(others) => same_numbers(fields, others),
+            _ => false,
+        },
+    }
+}
+
+/// Whether two lists of fields have the same labels and numbers in the same order.
+#[tactic(auto, using(crate::proofs::TableEntries::same_lists))]
+fn same_numbers(left: &[(String, TyNo)], right: &[(String, TyNo)]) -> bool
+    ensures { IsTrue result ↔ AreSame left.now right.now }
+{
+    if left.len() != right.len() {
+        return false;
+    }
+    for i in 0..left.len() {
+        let field = &left[i];
+        let other = &right[i];
+        if !same_field(field, other) {
+            return false;
+        }
+    }
+    true
+}
+
+fn same_field(left: &(String, TyNo), right: &(String, TyNo)) -> bool
+    ensures { IsTrue result ↔ IsSameField left.now right.now }
+{
+    if left.0.as_str() != right.0.as_str() {
+        return false;
+    }
+    left.1.index == right.1.index
+}
