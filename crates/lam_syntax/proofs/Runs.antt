@@ -1,7 +1,9 @@
 -- The pieces of tokens, one run at a time.
-use Rattle.std.proofs.Common.{◌≡◌, ℕ, zero, suc, ◌+◌, ◌≤◌, ◌<◌, Bool, true, false, cond, List, [], ◌∷◌, ◌++◌, length, take, drop, map, sym, refl, ap, ◌∙◌, add-one, arith, get_or, drop-cons}
-use Rattle.std.proofs.lemmas.List.{drop_all}
-use Rattle.std.specs.Prelude.{filter, ◌==◌}
+use Rattle.std.proofs.Common.{◌≡◌, ℕ, zero, suc, ◌+◌, ◌≤◌, ◌<◌, Bool, true, false, cond, List, [], ◌∷◌, ◌++◌, length, take, drop, map, sym, refl, ap, ◌∙◌, subst, add-one, arith, get_or, drop-cons}
+use Rattle.std.proofs.lemmas.List.{drop_all, append-nil}
+use Rattle.std.specs.Prelude.{filter, All, ◌==◌}
+use Rattle.std.specs.List.{AllByRecursion}
+use Rattle.std.proofs.lemmas.List.Elements.{All-from_recursion}
 use Rattle.std.specs.Borrow.{Bor}
 use Rattle.std.proofs.lemmas.Bool.{eqb-true, eqb-false}
 use Rattle.lam_token.specs.Lexeme.{Lexeme}
@@ -105,3 +107,27 @@ piece_left_out found more piece ps all is none so_far =
     ap (λ l. map (λ p. p.now) l ++ ps) is
     ∙ ap (λ l. map (λ p. p.now) found ++ l) (sym (no_piece piece ps (eqb-true (length piece) 0 (sym none))))
     ∙ so_far
+
+-- a piece has tokens
+
+some_kept : (b : Bool) (p : List Lexeme) (rest : List (List Lexeme)) → has_tokens p ≡ b → AllByRecursion (λ q. 0 < length q) rest → AllByRecursion (λ q. 0 < length q) (cond b (p ∷ rest) rest)
+some_kept true [] rest is all = absurd cc
+some_kept true (t ∷ ts) rest is all = (omega arith, all)
+some_kept false p rest is all = all
+
+none_empty : (runs : List (List Lexeme)) → AllByRecursion (λ q. 0 < length q) (filter has_tokens runs)
+none_empty [] = tt
+none_empty (p ∷ ps) = some_kept (has_tokens p) p (filter has_tokens ps) refl (none_empty ps)
+
+each_some : (ps : List (Bor (List Lexeme))) → AllByRecursion (λ q. 0 < length q) (map (λ p. p.now) ps) → AllByRecursion (λ p. 0 < length p.now) ps
+each_some [] all = tt
+each_some (p ∷ ps) all = (all.0, each_some ps all.1)
+
+all_read : (found : List (List Lexeme)) (left ts : List Lexeme) → found ++ pieces_of left ≡ pieces_of ts → length left ≡ 0 → found ≡ pieces_of ts
+all_read found [] ts are none = sym (append-nil found) ∙ are
+all_read found (t ∷ left) ts are none = absurd (omega arith)
+
+pub pieces_some : (ps : List (Bor (List Lexeme))) (left ts : List Lexeme) → map (λ p. p.now) ps ++ pieces_of left ≡ pieces_of ts → true ≡ (length left == 0) → All (λ p. 0 < length p.now) ps
+pieces_some ps left ts are none =
+    All-from_recursion (λ p. 0 < length p.now) ps
+    (each_some ps (subst (AllByRecursion (λ q. 0 < length q)) (sym (all_read (map (λ p. p.now) ps) left ts are (eqb-true (length left) 0 (sym none)))) (none_empty (runs_of ts))))

@@ -1,5 +1,5 @@
 //! The pieces of a document's tokens.
-ghost use Rattle.std.specs.Prelude.{◌≡◌, ◌≤◌, length, drop, map, IfOk};
+ghost use Rattle.std.specs.Prelude.{◌≡◌, ◌<◌, ◌≤◌, length, drop, map, IfOk, All};
 ghost use Rattle.lam_syntax.specs.Answers.{is_semicolon, pieces_of};
 ghost use Rattle.lam_syntax.specs.Reads.{run_len};
 
@@ -11,7 +11,8 @@ pub fn pieces<'a, 'b>(
     alloc: Global,
     tokens: &'a [Token<'b>],
 ) -> Result<Vec<&'a [Token<'b>]>, AllocError>
-    ensures { IfOk result (λ found. map (λ p. p.now) found.items ≡ pieces_of tokens.now) }
+    ensures pieces { IfOk result (λ found. map (λ p. p.now) found.items ≡ pieces_of tokens.now) }
+    ensures none_empty { IfOk result (λ found. All (λ p. 0 < length p.now) found.items) }
 {
     let mut found = Vec::new(alloc);
     let mut left = tokens;

@@ -3,11 +3,11 @@ use Rattle.std.proofs.Common.{◌≡◌, ℕ, ◌+◌, ◌-◌, ◌≤◌, ◌<�
 use Rattle.std.specs.Prelude.{encode_utf8_all, map, slice_index, All, ◌==◌}
 use Rattle.std.specs.List.{slice_range, AllByRecursion}
 use Rattle.std.specs.List.Sorted.{IsStrictlyIncreasing}
-use Rattle.std.specs.Str.{chars, IsUtf8}
+use Rattle.std.specs.Str.{chars, IsUtf8, IsCharBoundary}
 use Rattle.std.proofs.lemmas.Bool.{cases_order, eqb-true, eqb-false}
 use Rattle.std.proofs.lemmas.List.{append-nil}
-use Rattle.std.proofs.lemmas.List.Elements.{All-from_recursion}
-use Rattle.std.proofs.lemmas.Str.{encodes-append, encodes-chars, chars-nil, length-le-encodes}
+use Rattle.std.proofs.lemmas.List.Elements.{All-from_recursion, All-push}
+use Rattle.std.proofs.lemmas.Str.{encodes-append, encodes-chars, chars-nil, length-le-encodes, IsCharBoundary-at_seam}
 use Rattle.std.proofs.Math.Seq.{take-append_seam, drop-append_seam}
 use Rattle.lam_token.specs.declared.kind.Kind.{Kind}
 use Rattle.lam_token.specs.declared.kind.Kind.TheVariants.{Name, TypeName, BadCharacter, BadComment}
@@ -17,7 +17,7 @@ use Rattle.lam_token.specs.Lexeme.{Lexeme, lexeme, lexeme_at, text_of, start_of,
 use Rattle.lam_token.specs.Shape.{shape_of, opens_comment}
 use Rattle.lam_token.specs.Reading.{SegmentIs}
 use Rattle.lam_token.proofs.Reading.{length_front}
-use Rattle.lam_token.specs.Cut.{NothingLonger, IsFirst, longest, unclosed, stray, Part, IsCut, with_token, tokens_of, AreTokensOf, IsWholeKind}
+use Rattle.lam_token.specs.Cut.{NothingLonger, IsFirst, longest, unclosed, stray, Part, IsCut, with_token, tokens_of, AreTokensOf, StandsIn, IsWholeKind}
 
 -- two fronts of one length of one list
 same_front : (xs ys r m : List ℕ) → xs ++ r ≡ ys ++ m → length xs ≡ length ys → (xs ≡ ys) × (r ≡ m)
@@ -195,6 +195,29 @@ pub no_token_more : (s : Segment) (bytes : List ℕ) (start : ℕ) (ts : List Le
 no_token_more Blank bytes start ts no_token others = refl
 no_token_more Comment bytes start ts no_token others = refl
 no_token_more (Token kind) bytes start ts no_token others = absurd (no_token kind refl)
+
+-- the text falls into what lies before an offset and the rest
+pub record Seam (text rest : List ℕ) (start : ℕ) : Type 0 where
+  pub front : List ℕ
+  pub cut : text ≡ front ++ rest
+  pub at : start ≡ length front
+
+pub seam_next : (text rest after : List ℕ) (s : Segment) (start end : ℕ) → (is : SegmentIs rest s after) → end ≡ start + length (encode_utf8_all is.segment) → Seam text rest start → Seam text after end
+seam_next text rest after s start end is next seam = record {
+  front = seam.front ++ encode_utf8_all is.segment;
+  cut = seam.cut ∙ ap (λ l. seam.front ++ l) is.front.bytes ∙ sym (append_assoc seam.front (encode_utf8_all is.segment) after);
+  at = omega (arith, next, seam.at, length-append seam.front (encode_utf8_all is.segment));
+}
+
+-- a character begins there, or the text ends
+pub boundary : (text rest : List ℕ) (start : ℕ) → IsUtf8 rest → Seam text rest start → IsCharBoundary text start
+boundary text rest start is_text seam =
+    subst (IsCharBoundary text) (sym seam.at) (IsCharBoundary-at_seam text seam.front rest seam.cut is_text)
+
+-- a token more that stands in the text
+pub stands_more : (text : List ℕ) (ts us : List Lexeme) (kind : Kind) (bytes : List ℕ) (start end : ℕ) → us ≡ ts ++ lexeme kind bytes (record { start = start; end = end }) ∷ [] → All (StandsIn text) ts → IsCharBoundary text start → IsCharBoundary text end → All (StandsIn text) us
+stands_more text ts us kind bytes start end pushed all first last =
+    subst (All (StandsIn text)) (sym pushed) (All-push (StandsIn text) ts (lexeme kind bytes (record { start = start; end = end })) all (first, last))
 
 -- nothing is left
 pub cuts_end : (whole rest : List ℕ) (start : ℕ) (ts : List Lexeme) → Cuts whole rest start ts → rest ≡ [] → AreTokensOf whole ts

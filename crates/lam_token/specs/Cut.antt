@@ -1,11 +1,11 @@
 -- The one cut of a text into its longest segments, and its tokens.
 use Rattle.std.specs.Prelude.{◌≡◌, ℕ, ◌+◌, ◌<◌, true, false, Option, Some, None, List, [], ◌∷◌, ◌++◌, length, encode_utf8_all}
-use Rattle.std.specs.Str.{chars}
+use Rattle.std.specs.Str.{chars, IsCharBoundary}
 use Rattle.lam_token.specs.declared.kind.Kind.{Kind}
 use Rattle.lam_token.specs.declared.kind.Kind.TheVariants.{BadCharacter, BadComment}
 use Rattle.lam_token.specs.declared.kind.Segment.{Segment}
 use Rattle.lam_token.specs.declared.kind.Segment.TheVariants.{Blank, Comment, Token}
-use Rattle.lam_token.specs.Lexeme.{Lexeme, lexeme_at}
+use Rattle.lam_token.specs.Lexeme.{Lexeme, lexeme_at, start_of, end_of}
 use Rattle.lam_token.specs.Shape.{shape_of, opens_comment}
 
 -- no front of the text has a shape
@@ -49,6 +49,10 @@ pub record AreTokensOf (text : List ℕ) (tokens : List Lexeme) : Type 0 where
   pub parts : List Part
   pub cut : IsCut (chars text) parts
   pub tokens_are : tokens ≡ tokens_of 0 parts
+
+-- a token begins and ends between two characters of the text
+abbrev pub StandsIn : List ℕ → Lexeme → Type 0
+StandsIn text t = IsCharBoundary text (start_of t) × IsCharBoundary text (end_of t)
 
 -- the kind of the token that the whole text is; None where it is none by itself
 abbrev pub IsWholeKind : List ℕ → Option Kind → Type 0

@@ -5,7 +5,7 @@ ghost use Rattle.std.specs.List.Sorted.{IsStrictlyIncreasing};
 ghost use Rattle.std.specs.Str.{chars};
 ghost use Rattle.lam_token.specs.Lexeme.{Lexeme, text_of, start_of, end_of};
 ghost use Rattle.lam_token.specs.Shape.{shape_of};
-ghost use Rattle.lam_token.specs.Cut.{AreTokensOf, IsWholeKind};
+ghost use Rattle.lam_token.specs.Cut.{AreTokensOf, StandsIn, IsWholeKind};
 
 use crate::kind::{Kind, Segment};
 use crate::scan::next_segment;
@@ -18,6 +18,7 @@ pub fn lex<'a>(alloc: Global, text: &'a str) -> Result<Vec<Token<'a>>, AllocErro
     ensures tokens { IfOk result (λ found. AreTokensOf text.now found.items) }
     ensures only { IfOk result (λ found. (others : List Lexeme) → AreTokensOf text.now others → others ≡ found.items) }
     ensures slices { IfOk result (λ found. All (λ t. slice_range text.now (start_of t) (end_of t) ≡ text_of t) found.items) }
+    ensures whole_characters { IfOk result (λ found. All (StandsIn text.now) found.items) }
     ensures ascend { IfOk result (λ found. IsStrictlyIncreasing (map start_of found.items)) }
 {
     let mut tokens = Vec::new(alloc);
