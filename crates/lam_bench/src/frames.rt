@@ -3,6 +3,8 @@
 use crate::fault::BenchFault;
 use lam_frame::{BytesOut, DeviceFault, FrameReader, Source, write_frame};
 use std::alloc::Global;
+use std::rt::Clock;
+use std::time::Instant;
 
 /// A body whose frame has 60 bytes: 22 of header part and 38 of its own.
 const SMALL_BODY: [u8; 38] = [b'.'; 38];
@@ -33,7 +35,7 @@ impl Source for Pieces<'_> {
 }
 
 /// One frame with a body of so many bytes.
-pub fn one_frame(alloc: Global, size: usize) -> Result<Vec<u8>, BenchFault> {
+fn one_frame(alloc: Global, size: usize) -> Result<Vec<u8>, BenchFault> {
     let body = vec![in alloc; b'.'; size]?;
     let mut sink = BytesOut::new(alloc);
     write_frame(&mut sink, &body)?;
@@ -41,7 +43,7 @@ pub fn one_frame(alloc: Global, size: usize) -> Result<Vec<u8>, BenchFault> {
 }
 
 /// So many frames of 60 bytes.
-pub fn small_frames(alloc: Global, count: usize) -> Result<Vec<u8>, BenchFault> {
+fn small_frames(alloc: Global, count: usize) -> Result<Vec<u8>, BenchFault> {
     let mut sink = BytesOut::new(alloc);
     write_frame(&mut sink, &SMALL_BODY)?;
     let mut input = Vec::new(alloc);
@@ -51,8 +53,29 @@ pub fn small_frames(alloc: Global, count: usize) -> Result<Vec<u8>, BenchFault> 
     Ok(input)
 }
 
+/// How long it takes to read one body of so many bytes, pulled in pieces of so many.
+pub fn one_body(
+    alloc: Global,
+    rt: &impl Clock,
+    size: usize,
+    step: usize,
+) -> Result<u128, BenchFault> {
+    let input = one_frame(alloc, size)?;
+    let start = Instant::now(rt)?;
+    read_all(alloc, &input, step, 1)?;
+    Ok(start.elapsed(rt)?.as_micros())
+}
+
+/// How long it takes to read so many frames of 60 bytes.
+pub fn small_bodies(alloc: Global, rt: &impl Clock, count: usize) -> Result<u128, BenchFault> {
+    let input = small_frames(alloc, count)?;
+    let start = Instant::now(rt)?;
+    read_all(alloc, &input, input.len(), count)?;
+    Ok(start.elapsed(rt)?.as_micros())
+}
+
 /// Reads this many bodies and then the clean end.
-pub fn read_all(alloc: Global, input: &[u8], step: usize, count: usize) -> Result<(), BenchFault> {
+fn read_all(alloc: Global, input: &[u8], step: usize, count: usize) -> Result<(), BenchFault> {
     let mut source = Pieces { rest: input, step };
     let mut reader = FrameReader::new(alloc)?;
     for _ in 0..count {

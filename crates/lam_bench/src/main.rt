@@ -6,6 +6,7 @@
 mod fault;
 mod frames;
 mod measure;
+mod texts;
 
 use fault::BenchFault;
 use measure::Measure;

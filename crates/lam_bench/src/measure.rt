@@ -2,10 +2,13 @@
 
 use crate::fault::BenchFault;
 use crate::frames;
+use crate::texts::{self, Letters};
 use std::alloc::Global;
 use std::fmt;
 use std::rt::Clock;
-use std::time::Instant;
+
+/// At these lengths a source gives all that there is in one pull.
+const WHOLE: usize = usize::MAX;
 
 #[derive(Clone, Copy)]
 pub enum Measure {
@@ -15,55 +18,69 @@ pub enum Measure {
     BodyByBytes,
     /// SIZE frames of 60 bytes each.
     SmallFrames,
+    /// Opening a text of SIZE bytes.
+    Open(Letters),
+    /// Typing a letter in its middle.
+    Edit(Letters),
+    /// The offsets of a hundred thousand positions in it.
+    Offsets(Letters),
+    /// Those offsets, and the positions of them.
+    Positions(Letters),
 }
 
 impl Measure {
-    pub const ALL: [Measure; 3] = [
+    pub const ALL: [Measure; 11] = [
         Measure::WholeBody,
         Measure::BodyByBytes,
         Measure::SmallFrames,
+        Measure::Open(Letters::Ascii),
+        Measure::Open(Letters::Umlauts),
+        Measure::Edit(Letters::Ascii),
+        Measure::Edit(Letters::Umlauts),
+        Measure::Offsets(Letters::Ascii),
+        Measure::Offsets(Letters::Umlauts),
+        Measure::Positions(Letters::Ascii),
+        Measure::Positions(Letters::Umlauts),
     ];
 
     pub fn named(name: &str) -> Option<Measure> {
-        match name {
-            "whole-body" => Some(Measure::WholeBody),
-            "body-by-bytes" => Some(Measure::BodyByBytes),
-            "small-frames" => Some(Measure::SmallFrames),
-            _ => None,
+        Measure::ALL
+            .into_iter()
+            .find(|measure| measure.name() == name)
+    }
+
+    fn name(self) -> &'static str {
+        match self {
+            Measure::WholeBody => "whole-body",
+            Measure::BodyByBytes => "body-by-bytes",
+            Measure::SmallFrames => "small-frames",
+            Measure::Open(Letters::Ascii) => "open-ascii",
+            Measure::Open(Letters::Umlauts) => "open-umlauts",
+            Measure::Edit(Letters::Ascii) => "edit-ascii",
+            Measure::Edit(Letters::Umlauts) => "edit-umlauts",
+            Measure::Offsets(Letters::Ascii) => "offsets-ascii",
+            Measure::Offsets(Letters::Umlauts) => "offsets-umlauts",
+            Measure::Positions(Letters::Ascii) => "positions-ascii",
+            Measure::Positions(Letters::Umlauts) => "positions-umlauts",
         }
     }
 
     /// How many microseconds it takes at this size.
     pub fn take(self, alloc: Global, rt: &impl Clock, size: usize) -> Result<u128, BenchFault> {
         match self {
-            Measure::WholeBody => {
-                let input = frames::one_frame(alloc, size)?;
-                let start = Instant::now(rt)?;
-                frames::read_all(alloc, &input, input.len(), 1)?;
-                Ok(start.elapsed(rt)?.as_micros())
-            }
-            Measure::BodyByBytes => {
-                let input = frames::one_frame(alloc, size)?;
-                let start = Instant::now(rt)?;
-                frames::read_all(alloc, &input, 1, 1)?;
-                Ok(start.elapsed(rt)?.as_micros())
-            }
-            Measure::SmallFrames => {
-                let input = frames::small_frames(alloc, size)?;
-                let start = Instant::now(rt)?;
-                frames::read_all(alloc, &input, input.len(), size)?;
-                Ok(start.elapsed(rt)?.as_micros())
-            }
+            Measure::WholeBody => frames::one_body(alloc, rt, size, WHOLE),
+            Measure::BodyByBytes => frames::one_body(alloc, rt, size, 1),
+            Measure::SmallFrames => frames::small_bodies(alloc, rt, size),
+            Measure::Open(letters) => texts::opening(alloc, rt, letters, size),
+            Measure::Edit(letters) => texts::editing(alloc, rt, letters, size),
+            Measure::Offsets(letters) => texts::finding(alloc, rt, letters, size),
+            Measure::Positions(letters) => texts::counting(alloc, rt, letters, size),
         }
     }
 }
 
 impl fmt::Display for Measure {
     fn fmt<W: fmt::Write>(&self, f: &mut fmt::Formatter<W>) -> fmt::Result {
-        f.write_str(match self {
-            Measure::WholeBody => "whole-body",
-            Measure::BodyByBytes => "body-by-bytes",
-            Measure::SmallFrames => "small-frames",
-        })
+        f.write_str(self.name())
     }
 }
