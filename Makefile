@@ -14,10 +14,16 @@ test:
 install: all
 	install -D crates/lam_server/out/lam_server $(PREFIX)/bin/lam_server
 
-bench:
+bench: all
 	cd crates/lam_bench && rt run > out.log 2>&1; mv out.log out/run.log
 	for size in 1048576 16777216 67108864; do \
 	  crates/lam_bench/out/lam_bench whole-body $$size; \
 	  crates/lam_bench/out/lam_bench body-by-bytes $$size; \
 	done
 	for count in 10000 100000 1000000; do crates/lam_bench/out/lam_bench small-frames $$count; done
+	for size in 1048576 16777216; do for letters in ascii umlauts; do \
+	  for measure in open edit offsets positions; do \
+	    crates/lam_bench/out/lam_bench $$measure-$$letters $$size; \
+	  done; \
+	done; done
+	python3 bench/session.py crates/lam_server/out/lam_server

@@ -4,6 +4,8 @@
 //! it in which state, and which state follows. Nothing here knows frames, bytes or devices.
 #![tactic(auto)]
 
+#[cfg(test)]
+mod column_tests;
 mod documents;
 mod initialize;
 mod laws;

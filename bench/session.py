@@ -1,0 +1,135 @@
+"""session.py SERVER: measures the built program by the frames that an editor sends.
+
+Prints a table: opening texts of 400 KB and 1 MB, a key in the middle of the first one to its
+published faults, hovers where the program serves them, and the peak of the resident memory.
+"""
+
+import json
+import statistics
+import subprocess
+import sys
+import time
+
+import make_document
+
+URI = "file:///made.fsub"
+KEYS = 200
+
+
+class Client:
+    """One run of the program, and what it is told."""
+
+    def __init__(self, program):
+        self.server = subprocess.Popen([program], stdin=subprocess.PIPE, stdout=subprocess.PIPE)
+        self.asked = 0
+        self.version = 0
+        self.capabilities = self.ask("initialize", {"capabilities": {}})["capabilities"]
+        self.tell("initialized", {})
+
+    def send(self, message):
+        body = json.dumps({"jsonrpc": "2.0", **message}, ensure_ascii=False).encode()
+        self.server.stdin.write(b"Content-Length: %d\r\n\r\n%b" % (len(body), body))
+        self.server.stdin.flush()
+
+    def receive(self):
+        """The next body, not yet read as JSON."""
+        length = int(self.server.stdout.readline().removeprefix(b"Content-Length: "))
+        self.server.stdout.readline()
+        return self.server.stdout.read(length)
+
+    def tell(self, method, params):
+        self.send({"method": method, "params": params})
+
+    def ask(self, method, params):
+        self.asked += 1
+        self.send({"id": self.asked, "method": method, "params": params})
+        return json.loads(self.receive())["result"]
+
+    def open(self, text):
+        """Milliseconds from the frame to the published faults, and how many there are."""
+        document = {"uri": URI, "languageId": "fullsub", "version": 0, "text": text}
+        start = time.perf_counter()
+        self.tell("textDocument/didOpen", {"textDocument": document})
+        published = self.receive()
+        taken = 1000 * (time.perf_counter() - start)
+        return taken, len(json.loads(published)["params"]["diagnostics"])
+
+    def key(self, line, end, text):
+        """Milliseconds from a change at the front of a line to the published faults."""
+        self.version += 1
+        places = {"start": {"line": line, "character": 0}, "end": {"line": line, "character": end}}
+        change = {
+            "textDocument": {"uri": URI, "version": self.version},
+            "contentChanges": [{"range": places, "text": text}],
+        }
+        start = time.perf_counter()
+        self.tell("textDocument/didChange", change)
+        self.receive()
+        return 1000 * (time.perf_counter() - start)
+
+    def keys(self, line, count):
+        """So many letters, each typed in front of a line's name and taken away again."""
+        taken = []
+        for _ in range(count // 2):
+            taken += [self.key(line, 0, "x"), self.key(line, 1, "")]
+        return taken
+
+    def hover(self, line):
+        """Milliseconds from the frame to the answer."""
+        where = {"textDocument": {"uri": URI}, "position": {"line": line, "character": 0}}
+        start = time.perf_counter()
+        self.ask("textDocument/hover", where)
+        return 1000 * (time.perf_counter() - start)
+
+    def peak(self):
+        """The peak of the resident memory, in bytes."""
+        with open(f"/proc/{self.server.pid}/status") as status:
+            for line in status:
+                if line.startswith("VmHWM:"):
+                    return 1024 * int(line.split()[1])
+        return 0
+
+    def close(self):
+        self.ask("shutdown", None)
+        self.tell("exit", None)
+        return self.server.wait()
+
+
+def row(name, figure):
+    print(f"| {name} | {figure} |")
+
+
+def spread(taken):
+    return f"{statistics.median(taken):.1f} ms, at the most {max(taken):.1f} ms"
+
+
+def main():
+    program = sys.argv[1]
+    text = make_document.document(10_000)
+    middle = text.count("\n") // 2
+    print("| measure | figure |\n|---|---|")
+
+    client = Client(program)
+    taken, faults = client.open(text)
+    row(f"open {len(text):,} bytes, {faults} faults", f"{taken:.1f} ms")
+    client.keys(middle, 10)
+    after_ten = client.peak()
+    row(f"a key in the middle, {KEYS} times", spread(client.keys(middle, KEYS)))
+    if "hoverProvider" in client.capabilities:
+        both = [client.key(middle, 0, " ") + client.hover(middle) for _ in range(20)]
+        row("a key and a hover behind it", spread(both))
+        row("a hover on a quiet document", spread([client.hover(middle) for _ in range(200)]))
+    client.keys(middle, 1000)
+    peak = client.peak()
+    row("peak of memory after ten keys", f"{after_ten / len(text):.1f} times the text")
+    row("peak of memory after a thousand more", f"{peak / len(text):.1f} times the text")
+    client.close()
+
+    client = Client(program)
+    text = make_document.document(23_700)
+    taken, faults = client.open(text)
+    row(f"open {len(text):,} bytes, {faults} faults", f"{taken:.1f} ms")
+    row("the program's status", client.close())
+
+
+main()
