@@ -1,0 +1,18 @@
+use Rattle.std.proofs.Common.{◌≡◌, sym, ◌∙◌, ap}
+use Rattle.std.specs.Str.{bytes_eq}
+use Rattle.lam_sub.proofs.LookUps.{is_label, is_not_label, has_here, has_later, absent_later}
+use Rattle.lam_sub.proofs.fields.first_type.Goals as goal
+
+pub loop-field-preserved : goal.loop-field-preserved
+loop-field-preserved c = record {
+  has = λ t has. c.loop-field.invariant.has t (has_later c.args.fields.now c.loop-field.field-index c.field-item.result c.args.label.now t c.loop-field-test.true c.field-item.is has);
+  absent = λ absent. c.loop-field.invariant.absent
+      (absent_later c.args.fields.now c.loop-field.field-index c.field-item.result c.args.label.now c.loop-field-test.true c.field-item.is
+      (is_not_label c.eq.result _ c.args.label.now (c.eq.ensures ∙ ap (λ k. bytes_eq k c.args.label.now) c.as_str.ensures.value) c.if-eq.false) absent);
+}
+
+pub returns-then-eq-clause-found : goal.returns-then-eq-clause-found
+returns-then-eq-clause-found c =
+    c.loop-field.invariant.has _
+    (has_here c.args.fields.now c.loop-field.field-index c.field-item.result c.args.label.now c.loop-field-test.true c.field-item.is
+    (is_label c.eq.result _ c.args.label.now (c.eq.ensures ∙ ap (λ k. bytes_eq k c.args.label.now) c.as_str.ensures.value) c.if-eq.true))

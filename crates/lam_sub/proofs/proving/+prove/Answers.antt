@@ -1,0 +1,203 @@
+use Rattle.std.proofs.Common.{rules, ◌≡◌, ◌∙◌, ap, sym, refl, subst, arith, string_bytes, append-nil, [], true, false, Some}
+use Rattle.std.proofs.lemmas.List.{drop_all}
+use Rattle.std.proofs.lemmas.Result.{IfOk-weaker}
+use Rattle.lam_rules.specs.Types.{Has, IsAbsent, record_of, IsWellFormed, AreWellFormed}
+use Rattle.lam_rules.specs.TypeViews.{typ_of, fields_of}
+use Rattle.lam_rules.specs.Subtyping.{IsBelow, IsRuleOf}
+use Rattle.lam_rules.specs.declared.rules.SubRule.{SubRule}
+use Rattle.lam_rules.proofs.TypeShapes.{typ_of-Top, typ_of-Arrow}
+use Rattle.lam_rules.proofs.ByShape.{below_wf}
+use Rattle.lam_sub.specs.Arranging.{picked}
+use Rattle.lam_sub.specs.Steps.{LeadsTo}
+use Rattle.lam_sub.proofs.LookUps.{item_has}
+use Rattle.lam_sub.proofs.Below.{no_field, field_iff, nodes_of_field, record_inside}
+use Rattle.lam_sub.proofs.Arranging.{arranged, type_at_is, below_labels, picked_wf, arranged_wf}
+use Rattle.lam_sub.proofs.Verdicts.{not_arrow, not_record, two_arrows, record_seen, nodes_of_record, nodes_of_arrow, only_bool_and_nat, field_first}
+use Rattle.lam_sub.proofs.Steps.{concluded, concluded_arrow, claim_is, arranged_is, picked_is, permutation_by, width_by, no_premises, proofs_more, claims_more}
+use Rattle.lam_sub.proofs.proving.+prove.Goals as goal
+
+-- the fields that are asked for, one after the other
+
+pub prove_fields-unreachable-requires : goal.prove_fields-unreachable-requires
+prove_fields-unreachable-requires t c =
+    no_field (fields_of c.args.lower.now) c.args.dialect (string_bytes c.index-upper-i.result.0) (typ_of c.index-upper-i.result.1)
+    (subst (λ l. IsAbsent l (fields_of c.args.lower.now)) c.deref.ensures c.in_default.ensures.absent)
+    ((field_first (fields_of c.args.lower.now) c.args.upper.now c.loop-i.i c.index-upper-i.result c.args.dialect c.loop-i-test.true c.index-upper-i.is).1 c.loop-i.invariant.below).0
+
+pub prove_fields-prove-requires : goal.prove_fields-prove-requires
+prove_fields-prove-requires t c =
+    let below = subst (λ l. Has l (typ_of c.in-Some.ty.now) (fields_of c.args.lower.now)) c.deref.ensures c.in-Some.ensures.found in
+    let above = item_has c.args.upper.now c.loop-i.i c.index-upper-i.result c.loop-i-test.true c.index-upper-i.is in (
+      omega (arith, c.decreases, nodes_of_field _ _ _ below, nodes_of_field _ _ _ above),
+      (field_iff (fields_of c.args.lower.now) c.args.dialect (string_bytes c.index-upper-i.result.0) (typ_of c.in-Some.ty.now) (typ_of c.index-upper-i.result.1) c.requires.lower below).0
+          ((field_first (fields_of c.args.lower.now) c.args.upper.now c.loop-i.i c.index-upper-i.result c.args.dialect c.loop-i-test.true c.index-upper-i.is).1 c.loop-i.invariant.below).0,
+    )
+
+pub prove_fields-loop-i-preserved : goal.prove_fields-loop-i-preserved
+prove_fields-loop-i-preserved t c =
+    let below = subst (λ l. Has l (typ_of c.in-Some.ty.now) (fields_of c.args.lower.now)) c.deref.ensures c.in-Some.ensures.found in
+    let claim = claim_is c.in_ok-proof.proof (typ_of c.in-Some.ty.now) (typ_of c.index-upper-i.result.1) c.args.dialect c.in_ok-proof.ensures in
+    record {
+      below = ((field_first (fields_of c.args.lower.now) c.args.upper.now c.loop-i.i c.index-upper-i.result c.args.dialect c.loop-i-test.true c.index-upper-i.is).1 c.loop-i.invariant.below).1;
+      proofs = proofs_more c.loop-i.proofs.items c.push.new.self.items c.in_ok-proof.proof c.args.dialect c.in_ok-push.ensures.items c.in_ok-proof.ensures.0 c.loop-i.invariant.proofs;
+      claims = claims_more c.loop-i.proofs.items c.push.new.self.items c.in_ok-proof.proof (fields_of c.args.lower.now) _ _ c.args.upper.now c.loop-i.i c.index-upper-i.result
+          c.loop-i-test.true c.index-upper-i.is c.in_ok-push.ensures.items
+          (claim.0 ∙ sym (type_at_is (string_bytes c.index-upper-i.result.0) (typ_of c.in-Some.ty.now) (fields_of c.args.lower.now) c.requires.lower below))
+          claim.1 c.loop-i.invariant.claims;
+    }
+
+pub prove_fields-returns-clause-proofs : goal.prove_fields-returns-clause-proofs
+prove_fields-returns-clause-proofs t c = rw append-nil at (c.loop-i.invariant.proofs [] tt)
+
+pub prove_fields-returns-clause-claims : goal.prove_fields-returns-clause-claims
+prove_fields-returns-clause-claims t c =
+    rw append-nil at (c.loop-i.invariant.claims [] (rw (drop_all c.loop-i.i c.args.upper.now c.loop-i-test.false) tt))
+
+-- the steps between two record types
+
+pub prove_record-picked_fields-requires-clause-labels : goal.prove_record-picked_fields-requires-clause-labels
+prove_record-picked_fields-requires-clause-labels t c = below_labels (fields_of c.args.lower.now) (fields_of c.args.upper.now) c.args.dialect c.requires.below
+
+pub prove_record-record_step-requires-clause-upper : goal.prove_record-record_step-requires-clause-upper
+prove_record-record_step-requires-clause-upper t c =
+    subst (λ hs. AreWellFormed hs)
+    (sym (arranged_is _ _ _ _ _ (fields_of c.args.lower.now) (fields_of c.args.upper.now) c.in_ok-picked.ensures c.deref.ensures.value c.in_ok-arranged.ensures c.in_ok-append_others.ensures c.deref-2.ensures.value))
+    (arranged_wf (fields_of c.args.lower.now) (fields_of c.args.upper.now) c.requires.lower c.requires.upper (below_labels _ _ _ c.requires.below))
+
+pub prove_record-record_step-requires-clause-by_rule : goal.prove_record-record_step-requires-clause-by_rule
+prove_record-record_step-requires-clause-by_rule t c =
+    permutation_by (fields_of c.args.lower.now) (fields_of c.args.upper.now) _ _ c.new.ensures.items
+    (arranged_is _ _ _ _ _ (fields_of c.args.lower.now) (fields_of c.args.upper.now) c.in_ok-picked.ensures c.deref.ensures.value c.in_ok-arranged.ensures c.in_ok-append_others.ensures c.deref-2.ensures.value)
+    c.requires.lower c.requires.upper (below_labels _ _ _ c.requires.below)
+
+pub prove_record-record_step-requires-2-clause-lower : goal.prove_record-record_step-requires-2-clause-lower
+prove_record-record_step-requires-2-clause-lower t c =
+    subst (λ hs. AreWellFormed hs)
+    (sym (arranged_is _ _ _ _ _ (fields_of c.args.lower.now) (fields_of c.args.upper.now) c.in_ok-picked.ensures c.deref.ensures.value c.in_ok-arranged.ensures c.in_ok-append_others.ensures c.deref-3.ensures.value))
+    (arranged_wf (fields_of c.args.lower.now) (fields_of c.args.upper.now) c.requires.lower c.requires.upper (below_labels _ _ _ c.requires.below))
+
+pub prove_record-record_step-requires-2-clause-upper : goal.prove_record-record_step-requires-2-clause-upper
+prove_record-record_step-requires-2-clause-upper t c =
+    subst (λ hs. AreWellFormed hs)
+    (sym (picked_is _ _ (fields_of c.args.lower.now) (fields_of c.args.upper.now) c.in_ok-picked.ensures c.deref-4.ensures.value))
+    (picked_wf (fields_of c.args.lower.now) (fields_of c.args.upper.now) c.requires.lower c.requires.upper (below_labels _ _ _ c.requires.below))
+
+pub prove_record-record_step-requires-2-clause-by_rule : goal.prove_record-record_step-requires-2-clause-by_rule
+prove_record-record_step-requires-2-clause-by_rule t c =
+    width_by (fields_of c.args.lower.now) (fields_of c.args.upper.now) _ _ _ c.new-2.ensures.items
+    (arranged_is _ _ _ _ _ (fields_of c.args.lower.now) (fields_of c.args.upper.now) c.in_ok-picked.ensures c.deref.ensures.value c.in_ok-arranged.ensures c.in_ok-append_others.ensures c.deref-3.ensures.value)
+    (picked_is _ _ (fields_of c.args.lower.now) (fields_of c.args.upper.now) c.in_ok-picked.ensures c.deref-4.ensures.value)
+
+pub prove_record-record_step-requires-3-clause-lower : goal.prove_record-record_step-requires-3-clause-lower
+prove_record-record_step-requires-3-clause-lower t c =
+    subst (λ hs. AreWellFormed hs)
+    (sym (picked_is _ _ (fields_of c.args.lower.now) (fields_of c.args.upper.now) c.in_ok-picked.ensures c.deref-5.ensures.value))
+    (picked_wf (fields_of c.args.lower.now) (fields_of c.args.upper.now) c.requires.lower c.requires.upper (below_labels _ _ _ c.requires.below))
+
+pub prove_record-returns : goal.prove_record-returns
+prove_record-returns t c =
+    let fs = fields_of c.args.lower.now in
+    let gs = fields_of c.args.upper.now in
+    let d = c.args.dialect in
+    let permuted = subst (λ hs. LeadsTo c.in_ok-permuted.permuted (record_of fs) (record_of hs) d)
+    (arranged_is _ _ _ _ _ fs gs c.in_ok-picked.ensures c.deref.ensures.value c.in_ok-arranged.ensures c.in_ok-append_others.ensures c.deref-2.ensures.value)
+    (c.in_ok-permuted.ensures d tt (no_premises _ d c.new.ensures.items)) in
+    let cut_from = subst (λ hs. LeadsTo c.in_ok-cut.cut (record_of hs) (record_of (fields_of c.deref-4.result.now)) d)
+    (arranged_is _ _ _ _ _ fs gs c.in_ok-picked.ensures c.deref.ensures.value c.in_ok-arranged.ensures c.in_ok-append_others.ensures c.deref-3.ensures.value)
+    (c.in_ok-cut.ensures d tt (no_premises _ d c.new-2.ensures.items)) in
+    let cut = subst (λ hs. LeadsTo c.in_ok-cut.cut (record_of (arranged fs gs)) (record_of hs) d)
+    (picked_is _ _ fs gs c.in_ok-picked.ensures c.deref-4.ensures.value) cut_from in
+    let widened = subst (λ hs. LeadsTo c.in_ok-widened.widened (record_of hs) (record_of gs) d)
+    (picked_is _ _ fs gs c.in_ok-picked.ensures c.deref-5.ensures.value)
+    (c.in_ok-widened.ensures d tt c.in_ok-premises.ensures.proofs) in
+    let first = c.in_ok-permuted_and_cut.ensures (record_of fs) (record_of (arranged fs gs)) (record_of (picked fs gs)) d permuted cut in
+    IfOk-weaker c.chain-2.result _ (λ made. LeadsTo made (record_of fs) (record_of gs) d)
+    (λ made leads. leads (record_of fs) (record_of (picked fs gs)) (record_of gs) d first widened) c.chain-2.ensures
+
+-- the last step, by the shape of the two types
+
+pub prove-unreachable-requires : goal.prove-unreachable-requires
+prove-unreachable-requires t c =
+    let e : false ≡ true = (not_arrow c.args.lower.now c.args.upper.now _ _ c.args.dialect c.in-Arrow.is c.in_default-lower.not-Arrow).1 c.requires in cc
+
+pub prove-unreachable-requires-in_default-lower-2 : goal.prove-unreachable-requires-in_default-lower-2
+prove-unreachable-requires-in_default-lower-2 t c =
+    let e : false ≡ true = (not_record c.args.lower.now c.args.upper.now _ c.args.dialect c.in-Record.is c.in_default-lower-2.not-Record).1 c.requires in cc
+
+pub prove-prove-requires : goal.prove-prove-requires
+prove-prove-requires t c =
+    let parts = (two_arrows c.args.lower.now c.args.upper.now _ _ _ _ c.args.dialect c.in-Arrow-lower.is c.in-Arrow.is).1 c.requires in (
+      omega (
+        arith,
+        c.decreases,
+        nodes_of_arrow c.args.lower.now c.deref-in-Arrow.result.now _ _ _ c.in-Arrow-lower.is c.deref-in-Arrow.ensures refl,
+        nodes_of_arrow c.args.upper.now c.deref.result.now _ _ _ c.in-Arrow.is c.deref.ensures refl,
+      ),
+      rw (c.deref.ensures, c.deref-in-Arrow.ensures) parts.0,
+    )
+
+pub prove-prove-requires-in-Arrow : goal.prove-prove-requires-in-Arrow
+prove-prove-requires-in-Arrow t c =
+    let parts = (two_arrows c.args.lower.now c.args.upper.now _ _ _ _ c.args.dialect c.in-Arrow-lower.is c.in-Arrow.is).1 c.requires in (
+      omega (
+        arith,
+        c.decreases,
+        nodes_of_arrow c.args.lower.now _ c.deref-in-Arrow-2.result.now _ _ c.in-Arrow-lower.is refl c.deref-in-Arrow-2.ensures,
+        nodes_of_arrow c.args.upper.now _ c.deref-in-Arrow-3.result.now _ _ c.in-Arrow.is refl c.deref-in-Arrow-3.ensures,
+      ),
+      rw (c.deref-in-Arrow-2.ensures, c.deref-in-Arrow-3.ensures) parts.1,
+    )
+
+pub prove-prove_record-requires : goal.prove-prove_record-requires
+prove-prove_record-requires t c =
+    let lower = record_seen c.args.lower.now _ c.deref-in-Record.result.now c.in-Record-lower.is c.deref-in-Record.ensures.value in
+    let upper = record_seen c.args.upper.now _ c.deref-in-Record-2.result.now c.in-Record.is c.deref-in-Record-2.ensures.value in
+    let wf = below_wf (typ_of c.args.lower.now) (typ_of c.args.upper.now) c.args.dialect c.requires in (
+      omega (arith, c.decreases, nodes_of_record c.args.lower.now c.deref-in-Record.result.now lower, nodes_of_record c.args.upper.now c.deref-in-Record-2.result.now upper),
+      (
+        subst (λ s. IsWellFormed s) (sym lower) wf.0,
+        (
+          subst (λ s. IsWellFormed s) (sym upper) wf.1,
+          record_inside (fields_of c.deref-in-Record.result.now) (fields_of c.deref-in-Record-2.result.now) c.args.dialect
+              (subst (λ s. IsBelow s (record_of (fields_of c.deref-in-Record-2.result.now)) c.args.dialect) (sym lower)
+              (subst (λ s. IsBelow (typ_of c.args.lower.now) s c.args.dialect) (sym upper) c.requires)),
+        ),
+      ),
+    )
+
+pub prove-unreachable-requires-in_default-2 : goal.prove-unreachable-requires-in_default-2
+prove-unreachable-requires-in_default-2 t c =
+    let lower = record_seen c.args.lower.now _ c.deref-in-Record.result.now c.in-Record-lower.is c.deref-in-Record.ensures.value in
+    let upper = record_seen c.args.upper.now _ c.deref-in-Record-2.result.now c.in-Record.is c.deref-in-Record-2.ensures.value in
+    let alike = subst (λ p. LeadsTo p (record_of (fields_of c.deref-in-Record.result.now)) (record_of (fields_of c.deref-in-Record-2.result.now)) c.args.dialect) c.in_default-2.is c.in_ok-proof-in-Record.ensures in
+    let e : c.same.result ≡ true = c.same.ensures.1 (sym lower ∙ alike ∙ upper) in cc
+
+pub prove-returns-in-Top : goal.prove-returns-in-Top
+prove-returns-in-Top t c =
+    concluded SubRule.Top (typ_of c.args.lower.now) (typ_of c.args.upper.now) c.new-in-Top.result.items c.args.dialect c.conclude-in-Top.result c.new-in-Top.ensures.items
+    (below_wf _ _ _ c.requires) tt (ap typ_of c.in-Top.is ∙ typ_of-Top) c.conclude-in-Top.ensures
+
+pub prove-returns-in_ok-push-in-Arrow-2 : goal.prove-returns-in_ok-push-in-Arrow-2
+prove-returns-in_ok-push-in-Arrow-2 t c =
+    rw (c.in-Arrow-lower.is, c.in-Arrow.is, typ_of-Arrow c.in-Arrow-lower.lower_parameter c.in-Arrow-lower.lower_outcome, typ_of-Arrow c.in-Arrow.upper_parameter c.in-Arrow.upper_outcome)
+    (concluded_arrow (typ_of c.in-Arrow-lower.lower_parameter.value) (typ_of c.in-Arrow-lower.lower_outcome.value) (typ_of c.in-Arrow.upper_parameter.value) (typ_of c.in-Arrow.upper_outcome.value)
+    c.in_ok-prove-in-Arrow.field-0 c.in_ok-prove-in-Arrow-2.field-0 c.new-premises.result.items c.push.new.self.items c.push-in-Arrow.new.self.items c.args.dialect c.conclude-in-Arrow.result
+    c.new-premises.ensures.items c.in_ok-push-in-Arrow.ensures.items c.in_ok-push-in-Arrow-2.ensures.items
+    (rw (sym c.deref.ensures, sym c.deref-in-Arrow.ensures) c.in_ok-prove-in-Arrow.ensures)
+    (rw (sym c.deref-in-Arrow-2.ensures, sym c.deref-in-Arrow-3.ensures) c.in_ok-prove-in-Arrow-2.ensures)
+    (rw (sym (typ_of-Arrow c.in-Arrow-lower.lower_parameter c.in-Arrow-lower.lower_outcome), sym (typ_of-Arrow c.in-Arrow.upper_parameter c.in-Arrow.upper_outcome), sym c.in-Arrow-lower.is, sym c.in-Arrow.is) c.conclude-in-Arrow.ensures))
+
+pub prove-returns-in-Some : goal.prove-returns-in-Some
+prove-returns-in-Some t c =
+    let lower = record_seen c.args.lower.now _ c.deref-in-Record.result.now c.in-Record-lower.is c.deref-in-Record.ensures.value in
+    let upper = record_seen c.args.upper.now _ c.deref-in-Record-2.result.now c.in-Record.is c.deref-in-Record-2.ensures.value in
+    subst (λ s. LeadsTo (Some c.in-Some.proof) s (typ_of c.args.upper.now) c.args.dialect) lower
+    (subst (λ s. LeadsTo (Some c.in-Some.proof) (record_of (fields_of c.deref-in-Record.result.now)) s c.args.dialect) upper
+    (subst (λ p. LeadsTo p (record_of (fields_of c.deref-in-Record.result.now)) (record_of (fields_of c.deref-in-Record-2.result.now)) c.args.dialect) c.in-Some.is c.in_ok-proof-in-Record.ensures))
+
+pub prove-returns-in_default : goal.prove-returns-in_default
+prove-returns-in_default t c =
+    let are = only_bool_and_nat c.args.lower.now c.args.upper.now c.args.dialect c.in_default.not-Top c.in_default.not-Arrow c.in_default.not-Record
+    (λ e. let s : c.same.result ≡ true = c.same.ensures.1 e in cc) c.requires in
+    concluded SubRule.BoolNat (typ_of c.args.lower.now) (typ_of c.args.upper.now) c.new-in_default.result.items c.args.dialect c.conclude-in_default.result c.new-in_default.ensures.items
+    (below_wf _ _ _ c.requires) (subst (λ d. IsRuleOf SubRule.BoolNat d) (sym are.2) tt) (are.0, are.1) c.conclude-in_default.ensures

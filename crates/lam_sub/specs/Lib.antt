@@ -1,0 +1,4 @@
+pub mod Arranging
+pub mod FieldsBelow
+pub mod OtherFields
+pub mod Steps

@@ -1,0 +1,71 @@
+//! Whether one type is below another.
+
+ghost use Rattle.std.specs.Prelude.{◌↔◌, IsTrue};
+ghost use Rattle.lam_rules.specs.Types.{IsWellFormed, AreWellFormed};
+ghost use Rattle.lam_rules.specs.TypeViews.{typ_of, fields_of};
+ghost use Rattle.lam_rules.specs.Subtyping.{IsBelow};
+ghost use Rattle.lam_sub.specs.FieldsBelow.{AreBelow};
+
+use crate::fields::field_type;
+use lam_rules::{Dialect, Ty};
+
+/// Whether the first type is below the second.
+#[cycle(is_sub)]
+#[tactic(auto, using(lam_rules::proofs::TypeShapes::shapes, crate::proofs::Below::shapes_below))]
+pub fn is_sub(lower: &Ty, upper: &Ty, dialect: Dialect) -> bool
+    requires lower { IsWellFormed (typ_of lower.now) }
+    requires upper { IsWellFormed (typ_of upper.now) }
+    ensures { IsTrue result ↔ IsBelow (typ_of lower.now) (typ_of upper.now) dialect }
+{
+    match upper {
+        Ty::Top => true,
+        Ty::Bool => match lower {
+            Ty::Bool => true,
+            _ => false,
+        },
+        Ty::Nat => match lower {
+            Ty::Nat => true,
+            Ty::Bool => dialect == Dialect::Two,
+            _ => false,
+        },
+        Ty::Unit => match lower {
+            Ty::Unit => true,
+            _ => false,
+        },
+        Ty::Arrow(upper_parameter, upper_outcome) => match lower {
+            Ty::Arrow(lower_parameter, lower_outcome) => {
+                if !is_sub(upper_parameter, lower_parameter, dialect) {
+                    return false;
+                }
+                is_sub(lower_outcome, upper_outcome, dialect)
+            }
+            _ => false,
+        },
+        Ty::Record(upper_fields) => match lower {
+            Ty::Record(lower_fields) => {
+                are_fields_sub(&lower_fields.items, &upper_fields.items, dialect)
+            }
+            _ => false,
+        },
+    }
+}
+
+/// Whether each field above has a field below with its label.
+#[cycle(is_sub)]
+#[tactic(auto, using(lam_rules::proofs::TypeShapes::shapes, crate::proofs::Below::fields_one_by_one))]
+fn are_fields_sub(lower: &[(String, Ty)], upper: &[(String, Ty)], dialect: Dialect) -> bool
+    requires lower { AreWellFormed (fields_of lower.now) }
+    requires upper { AreWellFormed (fields_of upper.now) }
+    ensures { IsTrue result ↔ AreBelow (fields_of lower.now) (fields_of upper.now) dialect }
+{
+    for i in 0..upper.len() {
+        let field = &upper[i];
+        let Some(ty) = field_type(&field.0, lower, i) else {
+            return false;
+        };
+        if !is_sub(ty, &field.1, dialect) {
+            return false;
+        }
+    }
+    true
+}

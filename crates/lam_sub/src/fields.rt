@@ -1,0 +1,58 @@
+//! Fields looked up by their labels.
+
+ghost use Rattle.std.specs.Prelude.{◌≡◌, IfSome, IfNone, OnOk};
+ghost use Rattle.lam_rules.specs.Types.{Has, IsAbsent, joined};
+ghost use Rattle.lam_rules.specs.TypeViews.{typ_of, fields_of};
+ghost use Rattle.lam_sub.specs.OtherFields.{other_fields};
+
+use lam_rules::{Ty, copy_of};
+use std::alloc::{AllocError, Global};
+
+/// The type at a label. The look-up begins at the place `near`, so it is quick where the label is
+/// thought to stand there, and goes on from the front.
+#[tactic(auto, using(crate::proofs::LookUps::look_ups))]
+pub fn field_type<'a>(label: &str, fields: &'a [(String, Ty)], near: usize) -> Option<&'a Ty>
+    ensures found { IfSome result (λ ty. Has label.now (typ_of ty.now) (fields_of fields.now)) }
+    ensures absent { IfNone result (IsAbsent label.now (fields_of fields.now)) }
+{
+    let (front, back) = fields.split_at(near.min(fields.len()));
+    if let Some(ty) = first_type(label, back) {
+        return Some(ty);
+    }
+    first_type(label, front)
+}
+
+#[tactic(auto, using(lam_rules::proofs::TypeShapes::shapes))]
+fn first_type<'a>(label: &str, fields: &'a [(String, Ty)]) -> Option<&'a Ty>
+    ensures found { IfSome result (λ ty. Has label.now (typ_of ty.now) (fields_of fields.now)) }
+    ensures absent { IfNone result (IsAbsent label.now (fields_of fields.now)) }
+{
+    for field in fields {
+        if field.0.as_str() == label {
+            return Some(&field.1);
+        }
+    }
+    None
+}
+
+/// Appends copies of those of `more` whose labels `known` has not.
+#[tactic(auto, using(crate::proofs::LookUps::look_ups))]
+pub fn append_others(
+    alloc: Global,
+    fields: &mut Vec<(String, Ty)>,
+    more: &[(String, Ty)],
+    known: &[(String, Ty)],
+) -> Result<(), AllocError>
+    ensures { OnOk result (fields_of fields.new.items ≡ joined (fields_of fields.old.items) (other_fields (fields_of more.now) (fields_of known.now))) }
+{
+    for i in 0..more.len() {
+        let field = &more[i];
+        if field_type(&field.0, known, i).is_some() {
+            continue;
+        }
+        let label = field.0.clone()?;
+        let ty = copy_of(alloc, &field.1)?;
+        fields.push((label, ty))?;
+    }
+    Ok(())
+}

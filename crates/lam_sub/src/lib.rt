@@ -1,0 +1,15 @@
+//! Subtyping decided: whether one type is below another by the book's declarative rules (TAPL 15.2),
+//! and a proof by those rules where it is. The way goes by the shape of the two types, with neither
+//! reflexivity nor transitivity as a rule (TAPL 16.1).
+#![tactic(auto)]
+
+mod deciding;
+mod fields;
+mod proving;
+
+pub use deciding::is_sub;
+pub use fields::{append_others, field_type};
+pub use proving::prove_sub;
+
+#[cfg(test)]
+mod tests;

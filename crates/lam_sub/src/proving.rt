@@ -1,0 +1,230 @@
+//! Proofs that one type is below another.
+
+ghost use Rattle.std.specs.Prelude.{◌≡◌, [], IfOk, IfSome, IfNone};
+ghost use Rattle.lam_rules.specs.Types.{Typ, record_of, AreWellFormed, IsWellFormed};
+ghost use Rattle.lam_rules.specs.TypeViews.{typ_of, fields_of};
+ghost use Rattle.lam_rules.specs.Subtyping.{BySubRule, IsRuleOf, GoesFieldByField, AreSubProofs, ProvesBelow, IsBelow, sub_step};
+ghost use Rattle.lam_rules.specs.SubViews.{sub_tree_of, sub_trees_of, claims_of};
+ghost use Rattle.lam_rules.specs.declared.rules.Dialect.{Dialect};
+ghost use Rattle.lam_sub.specs.Arranging.{HasLabelsOf, picked};
+ghost use Rattle.lam_sub.specs.FieldsBelow.{AreBelow};
+ghost use Rattle.lam_sub.specs.Steps.{LeadsTo};
+
+use crate::deciding::is_sub;
+use crate::fields::{append_others, field_type};
+use lam_rules::{
+    Dialect, SubProof, SubRule, Ty, copy_of, copy_of_fields, make_record, same, same_fields,
+};
+use std::alloc::{AllocError, Global};
+
+/// A proof that the first type is below the second, or none where there is no proof. Equal types
+/// take one step of reflexivity; records at most a permutation, then a step of width, then one of
+/// depth.
+pub fn prove_sub(
+    alloc: Global,
+    lower: &Ty,
+    upper: &Ty,
+    dialect: Dialect,
+) -> Result<Option<SubProof>, AllocError>
+    requires lower { IsWellFormed (typ_of lower.now) }
+    requires upper { IsWellFormed (typ_of upper.now) }
+    ensures some { IfOk result (λ found. IfSome found (λ proof. ProvesBelow (sub_tree_of proof) (typ_of lower.now) (typ_of upper.now) dialect)) }
+    ensures none { IfOk result (λ found. IfNone found (IsBelow (typ_of lower.now) (typ_of upper.now) dialect → ⊥)) }
+{
+    if !is_sub(lower, upper, dialect) {
+        return Ok(None);
+    }
+    let proof = prove(alloc, lower, upper, dialect)?;
+    Ok(Some(proof))
+}
+
+/// The proof of what is known to hold.
+#[cycle(prove)]
+fn prove(alloc: Global, lower: &Ty, upper: &Ty, dialect: Dialect) -> Result<SubProof, AllocError>
+    requires { IsBelow (typ_of lower.now) (typ_of upper.now) dialect }
+    ensures { IfOk result (λ proof. ProvesBelow (sub_tree_of proof) (typ_of lower.now) (typ_of upper.now) dialect) }
+{
+    if same(lower, upper) {
+        return conclude(alloc, SubRule::Refl, Vec::new(alloc), lower, upper);
+    }
+    match upper {
+        Ty::Top => conclude(alloc, SubRule::Top, Vec::new(alloc), lower, upper),
+        Ty::Arrow(upper_parameter, upper_outcome) => {
+            let Ty::Arrow(lower_parameter, lower_outcome) = lower else {
+                unreachable!();
+            };
+            let mut premises = Vec::new(alloc);
+            premises.push(prove(alloc, upper_parameter, lower_parameter, dialect)?)?;
+            premises.push(prove(alloc, lower_outcome, upper_outcome, dialect)?)?;
+            conclude(alloc, SubRule::Arrow, premises, lower, upper)
+        }
+        Ty::Record(upper_fields) => {
+            let Ty::Record(lower_fields) = lower else {
+                unreachable!();
+            };
+            let Some(proof) = prove_record(
+                alloc,
+                &lower_fields.items,
+                &upper_fields.items,
+                dialect,
+            )?
+            else {
+                unreachable!();
+            };
+            Ok(proof)
+        }
+        _ => conclude(alloc, SubRule::BoolNat, Vec::new(alloc), lower, upper),
+    }
+}
+
+/// The steps from one record type to another, as few as will do: the fields that are asked for put
+/// in front, the others cut off, each type made wider.
+#[cycle(prove)]
+fn prove_record(
+    alloc: Global,
+    lower: &[(String, Ty)],
+    upper: &[(String, Ty)],
+    dialect: Dialect,
+) -> Result<Option<SubProof>, AllocError>
+    requires lower { AreWellFormed (fields_of lower.now) }
+    requires upper { AreWellFormed (fields_of upper.now) }
+    requires below { AreBelow (fields_of lower.now) (fields_of upper.now) dialect }
+    ensures { IfOk result (λ proof. LeadsTo proof (record_of (fields_of lower.now)) (record_of (fields_of upper.now)) dialect) }
+{
+    let picked = picked_fields(alloc, lower, upper)?;
+    let mut arranged = copy_of_fields(alloc, &picked)?;
+    append_others(alloc, &mut arranged, lower, upper)?;
+    let permuted = record_step(alloc, SubRule::RcdPerm, Vec::new(alloc), lower, &arranged)?;
+    let cut = record_step(
+        alloc,
+        SubRule::RcdWidth,
+        Vec::new(alloc),
+        &arranged,
+        &picked,
+    )?;
+    let premises = prove_fields(alloc, lower, upper, dialect)?;
+    let widened = record_step(alloc, SubRule::RcdDepth, premises, &picked, upper)?;
+    let permuted_and_cut = chain(alloc, permuted, cut)?;
+    chain(alloc, permuted_and_cut, widened)
+}
+
+/// For each field above, the proof that its type is above that of the field below.
+#[cycle(prove)]
+fn prove_fields(
+    alloc: Global,
+    lower: &[(String, Ty)],
+    upper: &[(String, Ty)],
+    dialect: Dialect,
+) -> Result<Vec<SubProof>, AllocError>
+    requires lower { AreWellFormed (fields_of lower.now) }
+    requires below { AreBelow (fields_of lower.now) (fields_of upper.now) dialect }
+    ensures proofs { IfOk result (λ made. AreSubProofs (sub_trees_of made.items) dialect) }
+    ensures claims { IfOk result (λ made. GoesFieldByField (picked (fields_of lower.now) (fields_of upper.now)) (fields_of upper.now) (claims_of made.items)) }
+{
+    let mut proofs = Vec::new(alloc);
+    for i in 0..upper.len() {
+        let field = &upper[i];
+        let Some(ty) = field_type(&field.0, lower, i) else {
+            unreachable!();
+        };
+        let proof = prove(alloc, ty, &field.1, dialect)?;
+        proofs.push(proof)?;
+    }
+    Ok(proofs)
+}
+
+/// Copies of the fields whose labels are asked for, in the order in which they are.
+fn picked_fields(
+    alloc: Global,
+    fields: &[(String, Ty)],
+    asked: &[(String, Ty)],
+) -> Result<Vec<(String, Ty)>, AllocError>
+    requires wf { AreWellFormed (fields_of fields.now) }
+    requires labels { HasLabelsOf (fields_of fields.now) (fields_of asked.now) }
+    ensures { IfOk result (λ made. fields_of made.items ≡ picked (fields_of fields.now) (fields_of asked.now)) }
+{
+    let mut copies = Vec::new(alloc);
+    for i in 0..asked.len() {
+        let field = &asked[i];
+        let Some(ty) = field_type(&field.0, fields, i) else {
+            unreachable!();
+        };
+        let label = field.0.clone()?;
+        let copy = copy_of(alloc, ty)?;
+        copies.push((label, copy))?;
+    }
+    Ok(copies)
+}
+
+/// A tree with this last step.
+fn conclude(
+    alloc: Global,
+    rule: SubRule,
+    premises: Vec<SubProof>,
+    lower: &Ty,
+    upper: &Ty,
+) -> Result<SubProof, AllocError>
+    ensures { IfOk result (λ made. sub_tree_of made ≡ sub_step rule (typ_of lower.now) (typ_of upper.now) (sub_trees_of premises.items)) }
+{
+    let lower = copy_of(alloc, lower)?;
+    let upper = copy_of(alloc, upper)?;
+    Ok(SubProof {
+        rule,
+        lower,
+        upper,
+        premises,
+    })
+}
+
+/// A proof whose last step goes from one record type to another, or none where they are one type.
+fn record_step(
+    alloc: Global,
+    rule: SubRule,
+    premises: Vec<SubProof>,
+    lower: &[(String, Ty)],
+    upper: &[(String, Ty)],
+) -> Result<Option<SubProof>, AllocError>
+    requires lower { AreWellFormed (fields_of lower.now) }
+    requires upper { AreWellFormed (fields_of upper.now) }
+    requires by_rule { BySubRule rule (claims_of premises.items) (record_of (fields_of lower.now)) (record_of (fields_of upper.now)) }
+    ensures { IfOk result (λ made. (d : Dialect) → IsRuleOf rule d → AreSubProofs (sub_trees_of premises.items) d → LeadsTo made (record_of (fields_of lower.now)) (record_of (fields_of upper.now)) d) }
+{
+    if same_fields(lower, upper) {
+        return Ok(None);
+    }
+    let lower = make_record(copy_of_fields(alloc, lower)?);
+    let upper = make_record(copy_of_fields(alloc, upper)?);
+    Ok(Some(SubProof {
+        rule,
+        lower,
+        upper,
+        premises,
+    }))
+}
+
+/// The first proof and then the second, by transitivity where there are both.
+fn chain(
+    alloc: Global,
+    first: Option<SubProof>,
+    second: Option<SubProof>,
+) -> Result<Option<SubProof>, AllocError>
+    ensures { IfOk result (λ made. (s u t : Typ) (d : Dialect) → LeadsTo first s u d → LeadsTo second u t d → LeadsTo made s t d) }
+{
+    let Some(first_proof) = first else {
+        return Ok(second);
+    };
+    let Some(second_proof) = second else {
+        return Ok(Some(first_proof));
+    };
+    let lower = copy_of(alloc, &first_proof.lower)?;
+    let upper = copy_of(alloc, &second_proof.upper)?;
+    let mut premises = Vec::new(alloc);
+    premises.push(first_proof)?;
+    premises.push(second_proof)?;
+    Ok(Some(SubProof {
+        rule: SubRule::Trans,
+        lower,
+        upper,
+        premises,
+    }))
+}
