@@ -10,9 +10,10 @@ use Rattle.lam_typing.specs.WellFormed.{IsWellFormedTerm, AreWellFormedTerms, Is
 use Rattle.lam_typing.specs.LeastTypes.{IsTyped, IsLeastAt}
 use Rattle.lam_rules.proofs.Permutations.{absent_not}
 use Rattle.lam_typing.proofs.Derivations.{FieldsDerive, none_derive, more_derive, derives_wf}
-use Rattle.lam_typing.specs.Walk.{IsLowest}
+use Rattle.lam_typing.specs.Progress.{IsLowest}
 use Rattle.lam_typing.proofs.LeastIn.{LeastIn, LeastContext, lowest, least_at, least_wf}
-use Rattle.lam_typing.proofs.Steps.{NatRule, LambdaRule, ArrowRule, ApplyRule, AscribeRule, LetRule, JoinRule, IfRule, FixRule, FieldRule, ProjectRule, LeastFields, MoreRule, RecordRule, entry_at, true_least, false_least, unit_least, num_least, free_least, variable_least, succ_least, pred_least, is_zero_least, lambda_least, apply_least, ascribe_least, let_least, if_least, fix_least, project_least, none_least, more_least, record_least}
+use Rattle.lam_typing.specs.Steps.{entry_at, NatRule, LambdaRule, ArrowRule, ApplyRule, AscribeRule, LetRule, JoinRule, IfRule, FixRule, FieldRule, ProjectRule, MoreRule, RecordRule}
+use Rattle.lam_typing.proofs.Steps.{LeastFields, true_least, false_least, unit_least, num_least, free_least, variable_least, succ_least, pred_least, is_zero_least, lambda_least, apply_least, ascribe_least, let_least, if_least, fix_least, project_least, none_least, more_least, record_least}
 
 -- whether one type is below another is decided, every two types have a join, and whether labels are distinct is decided
 pub record Decides (d : Dialect) : Type 0 where

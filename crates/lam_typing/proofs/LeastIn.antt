@@ -10,7 +10,7 @@ use Rattle.lam_typing.specs.Places.{Binding, written, of_term, Scope}
 use Rattle.lam_typing.specs.Contexts.{Fits, IsContext}
 use Rattle.lam_typing.specs.LeastTypes.{IsTypeAt, IsTyped, IsLeastAt}
 use Rattle.lam_typing.specs.WellFormed.{IsWellFormedBinding, IsWellFormedScope}
-use Rattle.lam_typing.specs.Walk.{IsLowest}
+use Rattle.lam_typing.specs.Progress.{IsLowest}
 use Rattle.lam_typing.specs.Narrowing.{IsNarrowerEntry, IsNarrower}
 use Rattle.lam_typing.proofs.Derivations.{Derives, derives, has_type, derives_wf}
 use Rattle.lam_typing.proofs.Narrows.{narrow}

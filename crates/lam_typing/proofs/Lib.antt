@@ -9,3 +9,4 @@ pub mod NeverBlamed
 pub mod Documents
 pub mod Deciding
 pub mod Walking
+pub mod Forms

@@ -11,7 +11,7 @@ use Rattle.lam_typing.specs.Blaming.{IsBlamed}
 use Rattle.lam_typing.specs.WellFormed.{IsWellFormedTerm, IsWellFormedScope}
 use Rattle.lam_typing.proofs.Derivations.{Derives, t_true, t_false, t_num, t_unit, t_abs, t_let, t_if, t_sub, derives, has_type, derives_wf}
 use Rattle.lam_typing.proofs.Narrows.{narrow}
-use Rattle.lam_typing.specs.Walk.{IsLowest}
+use Rattle.lam_typing.specs.Progress.{IsLowest}
 use Rattle.lam_typing.proofs.LeastIn.{LeastIn, lowest_some, typed_in, typed_at}
 use Rattle.lam_typing.proofs.Existing.{Decides, exists_in, lowest_exists}
 
@@ -30,6 +30,13 @@ lambda_unblamed s (Some w) e d blamed = blamed.untyped (typed blamed.parts)
     typed : IsTyped (written (Some w) ∷ s) e d → IsTyped s (lambda (Some w) e) d
     typed (t, is) = in_context t is.0 is.1 (derives is.0 e t d is.2)
 
+-- a let has a type where both its terms have one
+pub let_typed : (d : Dialect) (s : Scope) (g : Context) (a b : Term) (o : Option Typ) → IsLowest s g d → LeastIn g a o d → IsTyped s a d → IsTyped (of_term a ∷ s) b d → IsTyped s (let_in a b) d
+let_typed d s g a b None low least ta tb = let x = typed_in s g a d low ta in absurd (least x.0 x.1)
+let_typed d s g a b (Some t) low least ta tb =
+    let y = typed_in (of_term a ∷ s) (Some t ∷ g) b d (lowest_some a s t g d least low) tb in
+    typed_at s g (let_in a b) y.0 d low (t_let least.0 y.1)
+
 module _ (d : Dialect) (decides : Decides d) where
   pub true_unblamed : (s : Scope) → IsWellFormedScope s → IsBlamed s true_term d → ⊥
   true_unblamed s ws blamed = let g = lowest_exists d decides s ws in blamed.untyped (typed_at s g.0 true_term bool d g.1 (t_true g.1.wf))
@@ -43,18 +50,11 @@ module _ (d : Dialect) (decides : Decides d) where
   pub numeral_unblamed : (s : Scope) (digits : List ℕ) → IsWellFormedScope s → IsBlamed s (numeral digits) d → ⊥
   numeral_unblamed s digits ws blamed = let g = lowest_exists d decides s ws in blamed.untyped (typed_at s g.0 (numeral digits) nat d g.1 (t_num g.1.wf))
 
-  -- a let has a type where both its terms have one
-  let_typed : (s : Scope) (g : Context) (a b : Term) (o : Option Typ) → IsLowest s g d → LeastIn g a o d → IsTyped s a d → IsTyped (of_term a ∷ s) b d → IsTyped s (let_in a b) d
-  let_typed s g a b None low least ta tb = let x = typed_in s g a d low ta in absurd (least x.0 x.1)
-  let_typed s g a b (Some t) low least ta tb =
-      let y = typed_in (of_term a ∷ s) (Some t ∷ g) b d (lowest_some a s t g d least low) tb in
-      typed_at s g (let_in a b) y.0 d low (t_let least.0 y.1)
-
   pub let_unblamed : (s : Scope) (a b : Term) → IsWellFormedScope s → IsWellFormedTerm (let_in a b) → IsBlamed s (let_in a b) d → ⊥
   let_unblamed s a b ws we blamed =
       let g = lowest_exists d decides s ws in
       let x = exists_in d decides a g.0 g.1.wf we.0 in
-      blamed.untyped (let_typed s g.0 a b x.0 g.1 x.1 blamed.parts.0 blamed.parts.1)
+      blamed.untyped (let_typed d s g.0 a b x.0 g.1 x.1 blamed.parts.0 blamed.parts.1)
 
   -- an if has a type where its condition has Bool and both branches have one
   pub if_unblamed : (s : Scope) (c a b : Term) → IsWellFormedScope s → IsTypeAt s c bool d → IsBlamed s (if_then_else c a b) d → ⊥

@@ -1,4 +1,4 @@
--- What each rule makes of the least types of the parts, said of types alone, and that it is the least type of the whole.
+-- What each rule makes of the least types of the parts is the least type of the whole.
 use Rattle.std.proofs.Common.{◌≡◌, ◌⊎◌, ℕ, List, [], ◌∷◌, Option, Some, None, zero, suc, Bool, true, false, if◌then◌else◌, ap, refl, sym, subst, ◌∙◌, inl, inr}
 use Rattle.lam_rules.specs.Types.{Label, Typ, bool, nat, unit, top, arrow, record_of, Fields, no_fields, field, Has, IsAbsent, IsWellFormed, AreWellFormed}
 use Rattle.lam_rules.specs.Terms.{Term, true_term, false_term, if_then_else, numeral, succ, pred, is_zero, variable, free, lambda, apply, unit_term, ascribe, let_in, record_term, project, fix, TermFields, no_terms, term_field}
@@ -9,6 +9,7 @@ use Rattle.lam_rules.proofs.ByShape.{below_wf}
 use Rattle.lam_rules.proofs.Composing.{below_refl, below_trans, below_arrow, below_depth, EachBelow}
 use Rattle.lam_rules.proofs.Permutations.{absent_not}
 use Rattle.lam_rules.proofs.SharedTexts.{one_type}
+use Rattle.lam_typing.specs.Steps.{entry_at, NatRule, LambdaRule, ArrowRule, ApplyRule, AscribeRule, LetRule, JoinRule, IfRule, FixRule, FieldRule, ProjectRule, MoreRule, RecordRule}
 use Rattle.lam_typing.proofs.Derivations.{Derives, FieldsDerive, t_true, t_false, t_if, t_num, t_succ, t_pred, t_is_zero, t_var, t_abs, t_app, t_unit, t_ascribe, t_let, t_rcd, t_proj, t_fix, t_sub, none_derive, more_derive, derives_wf}
 use Rattle.lam_typing.proofs.Narrows.{narrow, narrower_self}
 use Rattle.lam_typing.proofs.LeastIn.{LeastIn}
@@ -31,12 +32,6 @@ num_least g digits d wf = (t_num wf, λ u x. of_num g digits u d x)
 
 pub free_least : (g : Context) (name : List ℕ) (d : Dialect) → LeastIn g (free name) None d
 free_least g name d u x = of_free g name u d x
-
--- a variable has its entry
-abbrev pub entry_at : ℕ → Context → Option Typ
-entry_at n [] = None
-entry_at zero (entry ∷ g) = entry
-entry_at (suc n) (entry ∷ g) = entry_at n g
 
 pub entry_is : (n : ℕ) (g : Context) (t : Typ) → entry_at n g ≡ Some t → IsEntry n g t
 entry_is n [] t e = cc
@@ -62,12 +57,6 @@ variable_least g n None d wf e = λ u x.
     let wrong : Some h.entry ≡ None = sym (is_entry_at n g h.entry h.is_entry) ∙ sym e in
     absurd (cc)
 
--- an operand below Nat, and the type of the whole
-abbrev pub NatRule : Typ → Option Typ → Option Typ → Dialect → Type 0
-NatRule outcome None o d = o ≡ None
-NatRule outcome (Some s) (Some t) d = (t ≡ outcome) × IsBelow s nat d
-NatRule outcome (Some s) None d = IsBelow s nat d → ⊥
-
 pub succ_least : (g : Context) (e : Term) (x o : Option Typ) (d : Dialect) → LeastIn g e x d → NatRule nat x o d → LeastIn g (succ e) o d
 succ_least g e None o d least rule = subst (λ z. LeastIn g (succ e) z d) (sym rule) (λ u y. least nat (of_succ g e u d y).0)
 succ_least g e (Some s) (Some t) d least rule =
@@ -86,12 +75,6 @@ is_zero_least g e (Some s) (Some t) d least rule =
     subst (λ z. LeastIn g (is_zero e) (Some z) d) (sym rule.0) (t_is_zero (t_sub least.0 rule.1), λ u y. (of_is_zero g e u d y).1)
 is_zero_least g e (Some s) None d least rule = λ u y. rule (least.1 nat (of_is_zero g e u d y).0)
 
--- a lambda with its written type
-abbrev pub LambdaRule : Option Typ → Option Typ → Option Typ → Type 0
-LambdaRule (Some w) (Some t) o = o ≡ Some (arrow w t)
-LambdaRule (Some w) None o = o ≡ None
-LambdaRule None y o = o ≡ None
-
 pub lambda_least : (g : Context) (w : Option Typ) (e : Term) (y o : Option Typ) (d : Dialect) → LeastIn (w ∷ g) e y d → LambdaRule w y o → LeastIn g (lambda w e) o d
 lambda_least g (Some w) e (Some t) o d least rule = subst (λ z. LeastIn g (lambda (Some w) e) z d) (sym rule) (t_abs least.0, above)
   where
@@ -103,17 +86,6 @@ lambda_least g (Some w) e (Some t) o d least rule = subst (λ z. LeastIn g (lamb
 lambda_least g (Some w) e None o d least rule =
     subst (λ z. LeastIn g (lambda (Some w) e) z d) (sym rule) (λ u x. let h = of_lambda g w e u d x in least h.outcome h.body)
 lambda_least g None e y o d least rule = subst (λ z. LeastIn g (lambda None e) z d) (sym rule) (λ u x. of_faulty_lambda g e u d x)
-
--- an argument below the parameter
-abbrev pub ArrowRule : Typ → Typ → Option Typ → Dialect → Type 0
-ArrowRule (arrow p r) s (Some t) d = (t ≡ r) × IsBelow s p d
-ArrowRule (arrow p r) s None d = IsBelow s p d → ⊥
-ArrowRule _ s o d = o ≡ None
-
-abbrev pub ApplyRule : Option Typ → Option Typ → Option Typ → Dialect → Type 0
-ApplyRule None y o d = o ≡ None
-ApplyRule (Some f) None o d = o ≡ None
-ApplyRule (Some f) (Some s) o d = ArrowRule f s o d
 
 module _ (g : Context) (f a : Term) (d : Dialect) where
   apply_arrow : (p r s : Typ) (o : Option Typ) → LeastIn g f (Some (arrow p r)) d → LeastIn g a (Some s) d → ArrowRule (arrow p r) s o d → LeastIn g (apply f a) o d
@@ -143,24 +115,12 @@ module _ (g : Context) (f a : Term) (d : Dialect) where
   apply_least (Some top) (Some s) o lf la rule = apply_other top o (λ p r e. cc) lf rule
   apply_least (Some (record_of fs)) (Some s) o lf la rule = apply_other (record_of fs) o (λ p r e. cc) lf rule
 
--- a term below the type that is ascribed
-abbrev pub AscribeRule : Option Typ → Option Typ → Option Typ → Dialect → Type 0
-AscribeRule (Some w) (Some s) (Some t) d = (t ≡ w) × IsBelow s w d
-AscribeRule (Some w) (Some s) None d = IsBelow s w d → ⊥
-AscribeRule (Some w) None o d = o ≡ None
-AscribeRule None x o d = o ≡ None
-
 pub ascribe_least : (g : Context) (e : Term) (w x o : Option Typ) (d : Dialect) → LeastIn g e x d → AscribeRule w x o d → LeastIn g (ascribe e w) o d
 ascribe_least g e (Some w) (Some s) (Some t) d least rule =
     subst (λ z. LeastIn g (ascribe e (Some w)) (Some z) d) (sym rule.0) (t_ascribe (t_sub least.0 rule.1), λ u y. (of_ascribe g e w u d y).1)
 ascribe_least g e (Some w) (Some s) None d least rule = λ u y. rule (least.1 w (of_ascribe g e w u d y).0)
 ascribe_least g e (Some w) None o d least rule = subst (λ z. LeastIn g (ascribe e (Some w)) z d) (sym rule) (λ u y. least w (of_ascribe g e w u d y).0)
 ascribe_least g e None x o d least rule = subst (λ z. LeastIn g (ascribe e None) z d) (sym rule) (λ u y. of_faulty_ascribe g e u d y)
-
--- a let has the type of its second term where its first has one
-abbrev pub LetRule : Option Typ → Option Typ → Option Typ → Type 0
-LetRule (Some s) y o = o ≡ y
-LetRule None y o = o ≡ None
 
 pub let_least : (g : Context) (a b : Term) (x y o : Option Typ) (d : Dialect)
     → IsWellFormedContext g → LeastIn g a x d → LeastIn (x ∷ g) b y d → LetRule x y o → LeastIn g (let_in a b) o d
@@ -175,17 +135,6 @@ let_least g a b (Some s) None o d wf la lb rule = subst (λ z. LeastIn g (let_in
     let h = of_let g a b u d x in
     lb u (narrow (Some s ∷ g) (Some h.type_of_bound ∷ g) b u d ((derives_wf g a s d la.0).1, wf) (la.1 h.type_of_bound h.bound, narrower_self g d wf) h.body))
 
--- the branches have a join, whatever they are
-abbrev pub JoinRule : Typ → Typ → Typ → Dialect → Type 0
-JoinRule a b j d = IsBelow a j d × IsBelow b j d × ((u : Typ) → IsBelow a u d → IsBelow b u d → IsBelow j u d)
-
-abbrev pub IfRule : Option Typ → Option Typ → Option Typ → Option Typ → Dialect → Type 0
-IfRule None y z o d = o ≡ None
-IfRule (Some c) None z o d = o ≡ None
-IfRule (Some c) (Some a) None o d = o ≡ None
-IfRule (Some c) (Some a) (Some b) (Some j) d = IsBelow c bool d × JoinRule a b j d
-IfRule (Some c) (Some a) (Some b) None d = IsBelow c bool d → ⊥
-
 pub if_least : (g : Context) (e1 e2 e3 : Term) (x y z o : Option Typ) (d : Dialect)
     → LeastIn g e1 x d → LeastIn g e2 y d → LeastIn g e3 z d → IfRule x y z o d → LeastIn g (if_then_else e1 e2 e3) o d
 if_least g e1 e2 e3 None y z o d l1 l2 l3 rule = subst (λ v. LeastIn g (if_then_else e1 e2 e3) v d) (sym rule) (λ u x. l1 bool (of_if g e1 e2 e3 u d x).condition)
@@ -196,13 +145,6 @@ if_least g e1 e2 e3 (Some c) (Some a) (Some b) (Some j) d l1 l2 l3 rule = (
   λ u x. let h = of_if g e1 e2 e3 u d x in rule.1.2 u (l2.1 u h.then_term) (l3.1 u h.else_term),
 )
 if_least g e1 e2 e3 (Some c) (Some a) (Some b) None d l1 l2 l3 rule = λ u x. rule (l1.1 bool (of_if g e1 e2 e3 u d x).condition)
-
--- a function whose result fits its parameter
-abbrev pub FixRule : Option Typ → Option Typ → Dialect → Type 0
-FixRule None o d = o ≡ None
-FixRule (Some (arrow p r)) (Some t) d = (t ≡ r) × IsBelow r p d
-FixRule (Some (arrow p r)) None d = IsBelow r p d → ⊥
-FixRule (Some _) o d = o ≡ None
 
 fix_other : (g : Context) (e : Term) (q : Typ) (o : Option Typ) (d : Dialect) → ((p r : Typ) → q ≡ arrow p r → ⊥) → LeastIn g e (Some q) d → o ≡ None → LeastIn g (fix e) o d
 fix_other g e q o d other least rule = subst (λ z. LeastIn g (fix e) z d) (sym rule) (λ u x.
@@ -230,16 +172,6 @@ fix_least g e (Some nat) o d least rule = fix_other g e nat o d (λ p r e. cc) l
 fix_least g e (Some unit) o d least rule = fix_other g e unit o d (λ p r e. cc) least rule
 fix_least g e (Some top) o d least rule = fix_other g e top o d (λ p r e. cc) least rule
 fix_least g e (Some (record_of fs)) o d least rule = fix_other g e (record_of fs) o d (λ p r e. cc) least rule
-
--- a field of a record type
-abbrev pub FieldRule : Label → Typ → Option Typ → Type 0
-FieldRule l (record_of fs) (Some t) = Has l t fs
-FieldRule l (record_of fs) None = IsAbsent l fs
-FieldRule l _ o = o ≡ None
-
-abbrev pub ProjectRule : Label → Option Typ → Option Typ → Type 0
-ProjectRule l None o = o ≡ None
-ProjectRule l (Some t) o = FieldRule l t o
 
 project_other : (g : Context) (e : Term) (l : Label) (q : Typ) (o : Option Typ) (d : Dialect)
     → ((fs : Fields) → q ≡ record_of fs → ⊥) → LeastIn g e (Some q) d → o ≡ None → LeastIn g (project e l) o d
@@ -273,12 +205,6 @@ abbrev pub LeastFields : Context → TermFields → Option Fields → Dialect �
 LeastFields g es (Some fs) d = FieldsDerive g es fs d × ((gs : Fields) → FieldsDerive g es gs d → EachBelow fs gs d)
 LeastFields g es None d = (gs : Fields) → FieldsDerive g es gs d → ⊥
 
--- one more field before the others
-abbrev pub MoreRule : Label → Option Typ → Option Fields → Option Fields → Type 0
-MoreRule l None y o = o ≡ None
-MoreRule l (Some t) None o = o ≡ None
-MoreRule l (Some t) (Some fs) o = o ≡ Some (field l t fs)
-
 pub none_least : (g : Context) (d : Dialect) → IsWellFormedContext g → LeastFields g no_terms (Some no_fields) d
 none_least g d wf = (none_derive wf, λ gs x. subst (λ z. EachBelow no_fields z d) (sym (of_no_more g gs d x)) tt)
 
@@ -295,12 +221,6 @@ more_least g l e es (Some t) (Some fs) o d le les rule =
     above gs h =
         let k = of_more g l e es gs d h in
         subst (λ z. EachBelow (field l t fs) z d) (sym k.2) (refl, le.1 k.0 k.3, les.1 k.1 k.4)
-
--- a record of them, where no label is repeated
-abbrev pub RecordRule : Option Fields → Option Typ → Type 0
-RecordRule None o = o ≡ None
-RecordRule (Some fs) (Some t) = (t ≡ record_of fs) × AreWellFormed fs
-RecordRule (Some fs) None = AreWellFormed fs → ⊥
 
 -- fields that go label by label with others have distinct labels as they do
 absent_each : (l : Label) (fs gs : Fields) (d : Dialect) → EachBelow fs gs d → IsAbsent l gs → IsAbsent l fs

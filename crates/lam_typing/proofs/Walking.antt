@@ -10,7 +10,7 @@ use Rattle.lam_typing.specs.Places.{Binding, Scope, Place}
 use Rattle.lam_typing.specs.LeastTypes.{IsLeastAt}
 use Rattle.lam_typing.specs.Blaming.{ArePartsTyped, IsExcused, IsBlamed, IsBlamedFor, Blamed, AreBlamed}
 use Rattle.lam_typing.specs.Analysis.{AreLeast, IsSmall, AreSmall, IsTooLarge}
-use Rattle.lam_typing.specs.Walk.{IsLowest, Progress, Shown, Went, WentOver, Cause, next_is_too_large, enough, NextIs, ShownFront, StoppedIn}
+use Rattle.lam_typing.specs.Progress.{IsLowest, Progress, Shown, Went, WentOver, Cause, next_is_too_large, enough, NextIs, ShownFront, StoppedIn, blame_step}
 
 -- lists side by side
 
@@ -50,9 +50,9 @@ shown_both ps qs n m os vs bs cs d e a b = record {
   least = least_both ps qs os vs d a.least b.least;
   small = small_both os vs a.small b.small;
   blamed = blamed_both n ps qs bs cs d a.blamed
-    (let same = least_length ps os d a.least in
-    let number : m ≡ n + length ps = omega (arith, e, same) in
-    subst (λ k. AreBlamed k qs cs d) number b.blamed)
+      (let same = least_length ps os d a.least in
+      let number : m ≡ n + length ps = omega (arith, e, same) in
+      subst (λ k. AreBlamed k qs cs d) number b.blamed);
 }
 
 pub shown_none : (n : ℕ) (d : Dialect) → Shown [] n [] [] d
@@ -65,7 +65,7 @@ went_none g now d = record {
   blames = [];
   found_is = sym (append-nil now.found);
   blames_are = sym (append-nil now.blames);
-  shown = λ s low. shown_none (length now.found) d
+  shown = λ s low. shown_none (length now.found) d;
 }
 
 -- one part, then another
@@ -77,7 +77,7 @@ went_both g ps qs old mid now d a b = record {
   found_is = b.found_is ∙ ap (λ xs. xs ++ b.found) a.found_is ∙ append_assoc old.found a.found b.found;
   blames_are = b.blames_are ∙ ap (λ xs. xs ++ b.blames) a.blames_are ∙ append_assoc old.blames a.blames b.blames;
   shown = λ s low. shown_both (ps s) (qs s) (length old.found) (length mid.found) a.found b.found a.blames b.blames d
-    (ap length a.found_is ∙ length-append old.found a.found) (a.shown s low) (b.shown s low)
+      (ap length a.found_is ∙ length-append old.found a.found) (a.shown s low) (b.shown s low);
 }
 
 -- a part under a binder
@@ -88,7 +88,7 @@ went_under b entry g ps old now d lower a = record {
   blames = a.blames;
   found_is = a.found_is;
   blames_are = a.blames_are;
-  shown = λ s low. a.shown (b ∷ s) (lower s low)
+  shown = λ s low. a.shown (b ∷ s) (lower s low);
 }
 
 -- stopped in a part, or in one behind it
@@ -106,14 +106,14 @@ stopped_front g ps qs old now cause d a = record {
   found_is = a.found_is;
   blames_are = a.blames_are;
   shown = λ s low.
-    let h = a.shown s low in
-    record {
-      front = h.front;
-      rest = h.rest ++ qs s;
-      are = ap (λ xs. xs ++ qs s) h.are ∙ append_assoc h.front h.rest (qs s);
-      shown = h.shown;
-      next = next_more cause h.rest (qs s) d h.next
-    }
+      let h = a.shown s low in
+      record {
+        front = h.front;
+        rest = h.rest ++ qs s;
+        are = ap (λ xs. xs ++ qs s) h.are ∙ append_assoc h.front h.rest (qs s);
+        shown = h.shown;
+        next = next_more cause h.rest (qs s) d h.next;
+      };
 }
 
 pub stopped_behind : (g : Context) (ps qs : Scope → List Place) (old mid now : Progress) (cause : Cause) (d : Dialect)
@@ -124,15 +124,15 @@ stopped_behind g ps qs old mid now cause d a b = record {
   found_is = b.found_is ∙ ap (λ xs. xs ++ b.found) a.found_is ∙ append_assoc old.found a.found b.found;
   blames_are = b.blames_are ∙ ap (λ xs. xs ++ b.blames) a.blames_are ∙ append_assoc old.blames a.blames b.blames;
   shown = λ s low.
-    let h = b.shown s low in
-    record {
-      front = ps s ++ h.front;
-      rest = h.rest;
-      are = ap (λ xs. ps s ++ xs) h.are ∙ sym (append_assoc (ps s) h.front h.rest);
-      shown = shown_both (ps s) h.front (length old.found) (length mid.found) a.found b.found a.blames b.blames d
-        (ap length a.found_is ∙ length-append old.found a.found) (a.shown s low) h.shown;
-      next = h.next
-    }
+      let h = b.shown s low in
+      record {
+        front = ps s ++ h.front;
+        rest = h.rest;
+        are = ap (λ xs. ps s ++ xs) h.are ∙ sym (append_assoc (ps s) h.front h.rest);
+        shown = shown_both (ps s) h.front (length old.found) (length mid.found) a.found b.found a.blames b.blames d
+            (ap length a.found_is ∙ length-append old.found a.found) (a.shown s low) h.shown;
+        next = h.next;
+      };
 }
 
 pub stopped_under : (b : Binding) (entry : Option Typ) (g : Context) (ps : Scope → List Place) (old now : Progress) (cause : Cause) (d : Dialect)
@@ -142,16 +142,10 @@ stopped_under b entry g ps old now cause d lower a = record {
   blames = a.blames;
   found_is = a.found_is;
   blames_are = a.blames_are;
-  shown = λ s low. a.shown (b ∷ s) (lower s low)
+  shown = λ s low. a.shown (b ∷ s) (lower s low);
 }
 
 -- the term itself
-
--- the blame that a step gives: where nothing was found though the parts have types and nothing excuses it
-abbrev pub blame_step : ℕ → Bool → Option Typ → Text → List Blamed
-blame_step n true None code = record { number = n; code = code } ∷ []
-blame_step n true (Some t) code = []
-blame_step n false o code = []
 
 pub here_blamed : (n : ℕ) (s : Scope) (e : Term) (parts : Bool) (o : Option Typ) (code : Text) (d : Dialect)
     → IsLeastAt s e o d
@@ -176,7 +170,7 @@ went_here g e o blames old now d found_is blames_are small least blamed = record
   blames = blames;
   found_is = found_is;
   blames_are = blames_are;
-  shown = λ s low. record { least = (least s low, tt); small = (small, tt); blamed = blamed s low }
+  shown = λ s low. record { least = (least s low, tt); small = (small, tt); blamed = blamed s low };
 }
 
 -- its type is too large
@@ -193,8 +187,8 @@ stopped_here g e t now d large least = record {
     rest = record { scope = s; here = e } ∷ [];
     are = refl;
     shown = shown_none (length now.found) d;
-    next = (t, least s low, large)
-  }
+    next = (t, least s low, large);
+  };
 }
 
 -- what was asked for is found
@@ -204,5 +198,28 @@ stopped_enough g ps old now d a = record {
   blames = a.blames;
   found_is = a.found_is;
   blames_are = a.blames_are;
-  shown = λ s low. record { front = ps s; rest = []; are = sym (append-nil (ps s)); shown = a.shown s low; next = tt }
+  shown = λ s low. record { front = ps s; rest = []; are = sym (append-nil (ps s)); shown = a.shown s low; next = tt };
 }
+
+-- a term that is not to blame
+pub unblamed_here : (n : ℕ) (s : Scope) (e : Term) (d : Dialect) → (IsBlamed s e d → ⊥) → AreBlamed n (record { scope = s; here = e } ∷ []) [] d
+unblamed_here n s e d unblamed = inl (unblamed, refl)
+
+-- A term whose parts the walk went over: what is left is to take down its own place.
+pub record IsReady (g : Context) (e : Term) (ps : Scope → List Place) (old mid : Progress) (o : Option Typ) (blames : List Blamed) (d : Dialect) : Type 0 where
+  pub went : Went g ps old mid d
+  pub least : (s : Scope) → IsLowest s g d → IsLeastAt s e o d
+  pub blamed : (s : Scope) → IsLowest s g d → AreBlamed (length mid.found) (record { scope = s; here = e } ∷ []) blames d
+
+pub ready_went : (g : Context) (e : Term) (ps : Scope → List Place) (old mid now : Progress) (o : Option Typ) (blames : List Blamed) (d : Dialect)
+    → IsReady g e ps old mid o blames d → now.found ≡ mid.found ++ o ∷ [] → now.blames ≡ mid.blames ++ blames → IsSmall o
+    → Went g (λ s. ps s ++ record { scope = s; here = e } ∷ []) old now d
+ready_went g e ps old mid now o blames d ready found_is blames_are small =
+    went_both g ps (λ s. record { scope = s; here = e } ∷ []) old mid now d ready.went
+    (went_here g e o blames mid now d found_is blames_are small ready.least ready.blamed)
+
+pub ready_too_large : (g : Context) (e : Term) (ps : Scope → List Place) (old mid : Progress) (t : Typ) (blames : List Blamed) (d : Dialect)
+    → IsReady g e ps old mid (Some t) blames d → 4096 < nodes t
+    → StoppedIn g (λ s. ps s ++ record { scope = s; here = e } ∷ []) old mid next_is_too_large d
+ready_too_large g e ps old mid t blames d ready large =
+    stopped_behind g ps (λ s. record { scope = s; here = e } ∷ []) old mid mid next_is_too_large d ready.went (stopped_here g e t mid d large ready.least)

@@ -6,4 +6,5 @@ pub mod Narrowing
 pub mod WellFormed
 pub mod WellTyped
 pub mod Analysis
-pub mod Walk
+pub mod Progress
+pub mod Steps

@@ -1,15 +1,17 @@
--- How far a walk over the places of a term has come: what the contracts of its steps say to one another.
-use Rattle.std.specs.Prelude.{◌≡◌, ◌<◌, ℕ, List, [], ◌∷◌, ◌++◌, length, Option, Some, None}
-use Rattle.lam_rules.specs.Types.{Typ}
-use Rattle.lam_rules.specs.Terms.{Term}
+-- How far a walk over the places of terms has come, said of types alone: what the contracts of its steps say to one another.
+use Rattle.std.specs.Prelude.{◌≡◌, ◌<◌, ℕ, List, [], ◌∷◌, ◌++◌, length, Bool, true, false, Option, Some, None}
+use Rattle.lam_rules.specs.Types.{Typ, nodes, Fields, no_fields}
+use Rattle.lam_rules.specs.Terms.{Term, TermFields, no_terms, term_field}
+use Rattle.lam_rules.specs.Texts.{Text}
 use Rattle.lam_rules.specs.Typing.{Context, IsWellFormedContext}
 use Rattle.lam_rules.specs.declared.rules.Dialect.{Dialect}
 use Rattle.lam_typing.specs.Places.{Scope, Place, places}
 use Rattle.lam_typing.specs.Contexts.{IsContext}
 use Rattle.lam_typing.specs.LeastTypes.{IsLeastAt}
 use Rattle.lam_typing.specs.Narrowing.{IsNarrower}
-use Rattle.lam_typing.specs.Blaming.{Blamed, AreBlamed}
+use Rattle.lam_typing.specs.Blaming.{Blamed, AreBlamed, application_code}
 use Rattle.lam_typing.specs.Analysis.{AreLeast, AreSmall, IsTooLarge}
+use Rattle.lam_typing.specs.Steps.{MoreRule}
 
 -- a context of a scope that is narrower than each other one
 pub record IsLowest (s : Scope) (g : Context) (d : Dialect) : Type 0 where
@@ -66,3 +68,28 @@ pub record StoppedIn (g : Context) (ps : Scope → List Place) (old now : Progre
   pub found_is : now.found ≡ old.found ++ found
   pub blames_are : now.blames ≡ old.blames ++ blames
   pub shown : (s : Scope) → IsLowest s g d → ShownFront (ps s) (length old.found) found blames cause d
+
+-- the least types of the terms of a record, label by label; none where one of them has none
+abbrev pub AreFieldsAt : Scope → TermFields → Option Fields → Dialect → Type 0
+AreFieldsAt s no_terms o d = o ≡ Some no_fields
+AreFieldsAt s (term_field l e es) o d = (x : Option Typ) × (y : Option Fields) × IsLeastAt s e x d × AreFieldsAt s es y d × MoreRule l x y o
+
+-- all the fields, or none
+abbrev pub if_all : Bool → Fields → Option Fields
+if_all true fs = Some fs
+if_all false fs = None
+
+-- the blame that a step gives: where nothing was found though the parts have types and nothing excuses it
+abbrev pub blame_step : ℕ → Bool → Option Typ → Text → List Blamed
+blame_step n parts (Some t) code = []
+blame_step n true None code = record { number = n; code = code } ∷ []
+blame_step n false None code = []
+
+-- what an application is blamed for, where its first term has a type
+abbrev pub IsApplicationCode : Text → Option Typ → Type 0
+IsApplicationCode code None = Unit {0}
+IsApplicationCode code (Some t) = code ≡ application_code t
+
+abbrev pub IsLarge : Option Typ → Type 0
+IsLarge None = ⊥
+IsLarge (Some t) = 4096 < nodes t

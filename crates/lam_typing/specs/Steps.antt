@@ -1,0 +1,87 @@
+-- What each rule of typing makes of the least types of a term's parts, said of types alone. A part or a term without a type has none.
+use Rattle.std.specs.Prelude.{◌≡◌, ℕ, zero, suc, [], ◌∷◌, Option, Some, None}
+use Rattle.lam_rules.specs.Types.{Label, Typ, bool, nat, arrow, record_of, Fields, field, Has, IsAbsent, AreWellFormed}
+use Rattle.lam_rules.specs.Subtyping.{IsBelow}
+use Rattle.lam_rules.specs.Typing.{Context}
+use Rattle.lam_rules.specs.declared.rules.Dialect.{Dialect}
+
+-- a variable has its entry
+abbrev pub entry_at : ℕ → Context → Option Typ
+entry_at n [] = None
+entry_at zero (entry ∷ g) = entry
+entry_at (suc n) (entry ∷ g) = entry_at n g
+
+-- an operand below Nat, and the type of the whole
+abbrev pub NatRule : Typ → Option Typ → Option Typ → Dialect → Type 0
+NatRule outcome None o d = o ≡ None
+NatRule outcome (Some s) (Some t) d = (t ≡ outcome) × IsBelow s nat d
+NatRule outcome (Some s) None d = IsBelow s nat d → ⊥
+
+-- a lambda with its written type
+abbrev pub LambdaRule : Option Typ → Option Typ → Option Typ → Type 0
+LambdaRule (Some w) (Some t) o = o ≡ Some (arrow w t)
+LambdaRule (Some w) None o = o ≡ None
+LambdaRule None y o = o ≡ None
+
+-- an argument below the parameter
+abbrev pub ArrowRule : Typ → Typ → Option Typ → Dialect → Type 0
+ArrowRule (arrow p r) s (Some t) d = (t ≡ r) × IsBelow s p d
+ArrowRule (arrow p r) s None d = IsBelow s p d → ⊥
+ArrowRule _ s o d = o ≡ None
+
+abbrev pub ApplyRule : Option Typ → Option Typ → Option Typ → Dialect → Type 0
+ApplyRule None y o d = o ≡ None
+ApplyRule (Some f) None o d = o ≡ None
+ApplyRule (Some f) (Some s) o d = ArrowRule f s o d
+
+-- a term below the type that is ascribed
+abbrev pub AscribeRule : Option Typ → Option Typ → Option Typ → Dialect → Type 0
+AscribeRule (Some w) (Some s) (Some t) d = (t ≡ w) × IsBelow s w d
+AscribeRule (Some w) (Some s) None d = IsBelow s w d → ⊥
+AscribeRule (Some w) None o d = o ≡ None
+AscribeRule None x o d = o ≡ None
+
+-- a let has the type of its second term where its first has one
+abbrev pub LetRule : Option Typ → Option Typ → Option Typ → Type 0
+LetRule (Some s) y o = o ≡ y
+LetRule None y o = o ≡ None
+
+-- the branches have a join, whatever they are
+abbrev pub JoinRule : Typ → Typ → Typ → Dialect → Type 0
+JoinRule a b j d = IsBelow a j d × IsBelow b j d × ((u : Typ) → IsBelow a u d → IsBelow b u d → IsBelow j u d)
+
+abbrev pub IfRule : Option Typ → Option Typ → Option Typ → Option Typ → Dialect → Type 0
+IfRule None y z o d = o ≡ None
+IfRule (Some c) None z o d = o ≡ None
+IfRule (Some c) (Some a) None o d = o ≡ None
+IfRule (Some c) (Some a) (Some b) (Some j) d = IsBelow c bool d × JoinRule a b j d
+IfRule (Some c) (Some a) (Some b) None d = IsBelow c bool d → ⊥
+
+-- a function whose result fits its parameter
+abbrev pub FixRule : Option Typ → Option Typ → Dialect → Type 0
+FixRule None o d = o ≡ None
+FixRule (Some (arrow p r)) (Some t) d = (t ≡ r) × IsBelow r p d
+FixRule (Some (arrow p r)) None d = IsBelow r p d → ⊥
+FixRule (Some _) o d = o ≡ None
+
+-- a field of a record type
+abbrev pub FieldRule : Label → Typ → Option Typ → Type 0
+FieldRule l (record_of fs) (Some t) = Has l t fs
+FieldRule l (record_of fs) None = IsAbsent l fs
+FieldRule l _ o = o ≡ None
+
+abbrev pub ProjectRule : Label → Option Typ → Option Typ → Type 0
+ProjectRule l None o = o ≡ None
+ProjectRule l (Some t) o = FieldRule l t o
+
+-- one more field before the others
+abbrev pub MoreRule : Label → Option Typ → Option Fields → Option Fields → Type 0
+MoreRule l None y o = o ≡ None
+MoreRule l (Some t) None o = o ≡ None
+MoreRule l (Some t) (Some fs) o = o ≡ Some (field l t fs)
+
+-- a record of them, where no label is repeated
+abbrev pub RecordRule : Option Fields → Option Typ → Type 0
+RecordRule None o = o ≡ None
+RecordRule (Some fs) (Some t) = (t ≡ record_of fs) × AreWellFormed fs
+RecordRule (Some fs) None = AreWellFormed fs → ⊥
