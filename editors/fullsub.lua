@@ -3,7 +3,7 @@
 
 local command = { "lam_server" }
 
--- The one client before Neovim 0.8, where there is no vim.lsp.start yet.
+-- The number of the one client, kept here since Neovim before 0.8 has no vim.lsp.start.
 local client
 
 local function start(buffer)
@@ -13,13 +13,13 @@ local function start(buffer)
     root_dir = vim.fn.fnamemodify(vim.api.nvim_buf_get_name(buffer), ":p:h"),
   }
   if vim.lsp.start then
-    vim.lsp.start(config)
-    return
-  end
-  client = client or vim.lsp.start_client(config)
-  if client then
+    client = vim.lsp.start(config)
+  else
+    client = client or vim.lsp.start_client(config)
     vim.lsp.buf_attach_client(buffer, client)
   end
+  -- Faults are shown while a line is typed: the server keeps up with every key.
+  vim.diagnostic.config({ update_in_insert = true }, vim.lsp.diagnostic.get_namespace(client))
 end
 
 -- Comments nest, so a comment's region may hold another one.

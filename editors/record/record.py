@@ -7,18 +7,11 @@ byte, and the file as it was saved.
 """
 
 import os
-import pty
 import re
-import select
 import shutil
-import subprocess
 import sys
-import time
 
-HERE = os.path.dirname(os.path.abspath(__file__))
-ROOM = "/tmp/fullsub"
-FILE = f"{ROOM}/a.fsub"
-SENT = f"{ROOM}/sent"
+from terminal import FILE, ROOM, SENT, Terminal, prepare
 
 START = """/* Grüße an 😀 */
 T = {a:Nat, b:Bool};
@@ -68,60 +61,12 @@ SESSIONS = [
 ]
 
 
-def prepare(server, ends):
-    """An empty home with both configurations, the file, and a server that is listened to."""
-    shutil.rmtree(ROOM, ignore_errors=True)
-    os.makedirs(f"{ROOM}/home/.config/nvim/plugin")
-    os.makedirs(f"{ROOM}/home/.emacs.d")
-    os.makedirs(f"{ROOM}/bin")
-    shutil.copy(f"{HERE}/../fullsub.lua", f"{ROOM}/home/.config/nvim/plugin")
-    with open(f"{ROOM}/home/.emacs.d/init.el", "w") as init:
-        init.write(f'(setq inhibit-startup-screen t make-backup-files nil)\n(load "{HERE}/../fullsub-mode.el")\n')
-    program = f"{ROOM}/bin/lam_server"
-    with open(program, "w") as script:
-        script.write(f'#!/bin/sh\nexec {sys.executable} {HERE}/tee.py {SENT} {server} "$@"\n')
-    os.chmod(program, 0o755)
-    with open(FILE, "w", newline="") as file:
-        file.write(START.replace("\n", ends))
-
-
-def drain(terminal, seconds):
-    """Reads what the editor draws, so that it never waits for us. False once it has ended."""
-    until = time.time() + seconds
-    while (left := until - time.time()) > 0:
-        if select.select([terminal], [], [], left)[0]:
-            try:
-                if not os.read(terminal, 65536):
-                    return False
-            except OSError:
-                return False
-    return True
-
-
 def drive(command, keys):
-    environment = {
-        "PATH": f"{ROOM}/bin:{os.environ['PATH']}",
-        "HOME": f"{ROOM}/home",
-        "LANG": "C.UTF-8",
-        "TERM": "xterm-256color",
-    }
-    child, terminal = pty.fork()
-    if child == 0:
-        os.chdir(ROOM)
-        os.execvpe(command[0], command, environment)
-    drain(terminal, 4)
+    editor = Terminal(command)
     for piece in keys:
-        # A terminal's own sequence and a command go in one write, letters one by one.
-        whole = piece.startswith("\x1b[") or len(piece) < 4
-        for part in [piece] if whole else piece:
-            os.write(terminal, part.encode())
-            if not drain(terminal, 0.06):
-                break
-        if not drain(terminal, 0.9):
+        if not editor.type(piece) or not editor.wait(0.9):
             break
-    drain(terminal, 3)
-    os.close(terminal)
-    return os.waitpid(child, 0)[1]
+    return editor.close()
 
 
 def bodies(sent):
@@ -168,7 +113,7 @@ def main():
     server = os.path.abspath(sys.argv[1])
     print(HEAD, end="")
     for name, ends, command, keys, end in SESSIONS:
-        prepare(server, ends)
+        prepare(server, START.replace("\n", ends))
         status = drive(command, keys + end)
         with open(SENT, "rb") as file:
             messages = bodies(file.read())

@@ -1,0 +1,78 @@
+"""An editor in a terminal of its own, with an empty home and a server that is listened to."""
+
+import os
+import pty
+import select
+import shutil
+import sys
+import time
+
+HERE = os.path.dirname(os.path.abspath(__file__))
+ROOM = "/tmp/fullsub"
+FILE = f"{ROOM}/a.fsub"
+SENT = f"{ROOM}/sent"
+
+ENVIRONMENT = {
+    "PATH": f"{ROOM}/bin:{os.environ['PATH']}",
+    "HOME": f"{ROOM}/home",
+    "LANG": "C.UTF-8",
+    "TERM": "xterm-256color",
+}
+
+
+def prepare(server, text, init=""):
+    """The home with both configurations, the file, and a server whose input is kept in SENT."""
+    shutil.rmtree(ROOM, ignore_errors=True)
+    os.makedirs(f"{ROOM}/home/.config/nvim/plugin")
+    os.makedirs(f"{ROOM}/home/.emacs.d")
+    os.makedirs(f"{ROOM}/bin")
+    # Emacs takes no requests in a folder that others may read.
+    os.chmod(f"{ROOM}/home", 0o700)
+    shutil.copy(f"{HERE}/../fullsub.lua", f"{ROOM}/home/.config/nvim/plugin")
+    with open(f"{ROOM}/home/.emacs.d/init.el", "w") as file:
+        file.write(f"(setq inhibit-startup-screen t make-backup-files nil)\n{init}\n")
+        file.write(f'(load "{HERE}/../fullsub-mode.el")\n')
+    program = f"{ROOM}/bin/lam_server"
+    with open(program, "w") as script:
+        script.write(f'#!/bin/sh\nexec {sys.executable} {HERE}/tee.py {SENT} {server} "$@"\n')
+    os.chmod(program, 0o755)
+    with open(FILE, "w", newline="") as file:
+        file.write(text)
+
+
+class Terminal:
+    """A running editor, and the keyboard in front of it."""
+
+    def __init__(self, command):
+        self.child, self.end = pty.fork()
+        if self.child == 0:
+            os.chdir(ROOM)
+            os.execvpe(command[0], command, ENVIRONMENT)
+        self.wait(4)
+
+    def wait(self, seconds):
+        """Reads what is drawn, so that the editor never waits for us. False once it has ended."""
+        until = time.time() + seconds
+        while (left := until - time.time()) > 0:
+            if select.select([self.end], [], [], left)[0]:
+                try:
+                    if not os.read(self.end, 65536):
+                        return False
+                except OSError:
+                    return False
+        return True
+
+    def type(self, keys):
+        """Types letters one by one, but a terminal's own sequence or a command in one write."""
+        whole = keys.startswith("\x1b[") or len(keys) < 4
+        for part in [keys] if whole else keys:
+            os.write(self.end, part.encode())
+            if not self.wait(0.06):
+                return False
+        return True
+
+    def close(self):
+        """The editor's status."""
+        self.wait(3)
+        os.close(self.end)
+        return os.waitpid(self.child, 0)[1]
