@@ -12,14 +12,12 @@ local function start(buffer)
     cmd = command,
     root_dir = vim.fn.fnamemodify(vim.api.nvim_buf_get_name(buffer), ":p:h"),
   }
-  if vim.lsp.start then
-    client = vim.lsp.start(config)
-  else
-    client = client or vim.lsp.start_client(config)
+  client = vim.lsp.start and vim.lsp.start(config) or client or vim.lsp.start_client(config)
+  if client then
     vim.lsp.buf_attach_client(buffer, client)
+    -- Faults are shown while a line is typed: the server keeps up with every key.
+    vim.diagnostic.config({ update_in_insert = true }, vim.lsp.diagnostic.get_namespace(client))
   end
-  -- Faults are shown while a line is typed: the server keeps up with every key.
-  vim.diagnostic.config({ update_in_insert = true }, vim.lsp.diagnostic.get_namespace(client))
 end
 
 -- Comments nest, so a comment's region may hold another one.
