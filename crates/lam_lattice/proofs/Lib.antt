@@ -1,0 +1,4 @@
+pub mod Unlike
+pub mod Arrows
+pub mod FieldBounds
+pub mod Existing

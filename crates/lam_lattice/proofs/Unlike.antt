@@ -1,0 +1,106 @@
+-- Bounds of types that are not of one shape.
+use Rattle.std.proofs.Common.{◌≡◌, ◌∙◌, ap, sym, refl, subst, Box}
+use Rattle.std.specs.declared.alloc.Global.{Global}
+use Rattle.lam_rules.specs.Types.{Typ, bool, nat, unit, top, arrow, record_of, Fields, IsWellFormed}
+use Rattle.lam_rules.specs.TypeViews.{typ_of, fields_of}
+use Rattle.lam_rules.specs.Subtyping.{IsBelow}
+use Rattle.lam_rules.specs.declared.rules.Dialect.{Dialect}
+use Rattle.lam_rules.specs.declared.types.Ty.{Ty}
+use Rattle.lam_rules.specs.declared.types.Ty.TheVariants.{Arrow, Record}
+use Rattle.lam_rules.specs.declared.types.Fields.{Fields as RustFields, out-Fields}
+use Rattle.lam_rules.proofs.ByShape.{Under, under_bool, under_nat, under_unit, under_top, under_arrow, under_record, under_bool_nat, below_under, below_wf}
+use Rattle.lam_rules.proofs.TypeShapes.{ty_cases, typ_of-Bool, typ_of-Nat, typ_of-Unit, typ_of-Top, typ_of-Arrow, typ_of-Record}
+use Rattle.lam_rules.proofs.Composing.{below_refl, below_top}
+use Rattle.lam_sub.proofs.Below.{under_below, bool_below_nat}
+use Rattle.lam_lattice.specs.Bounds.{IsJoin, IsMeet, HaveNoMeet}
+use Rattle.lam_lattice.specs.Records.{AreUnlike}
+
+-- one type above another is their join, and the other their meet
+
+pub join_above : (s t : Typ) (d : Dialect) → IsBelow s t d → IsJoin s t t d
+join_above s t d below = record { left = below; right = below_refl t d (below_wf s t d below).1; least = λ u a b. b }
+
+pub join_below : (s t : Typ) (d : Dialect) → IsBelow t s d → IsJoin s t s d
+join_below s t d below = record { left = below_refl s d (below_wf t s d below).1; right = below; least = λ u a b. a }
+
+pub meet_above : (s t : Typ) (d : Dialect) → IsBelow s t d → IsMeet s t s d
+meet_above s t d below = record { left = below_refl s d (below_wf s t d below).0; right = below; greatest = λ u a b. a }
+
+pub meet_below : (s t : Typ) (d : Dialect) → IsBelow t s d → IsMeet s t t d
+meet_below s t d below = record { left = below; right = below_refl t d (below_wf t s d below).0; greatest = λ u a b. b }
+
+-- with neither above the other, types that are not of one shape have nothing but Top above them ..
+
+above_is_top : (d : Dialect) (s t u : Typ) → AreUnlike s t → Under d s u → Under d t u → (Under d s t → ⊥) → (Under d t s → ⊥) → u ≡ top
+above_is_top d s t _ unlike (under_top _) b n m = refl
+above_is_top d _ t _ unlike under_bool b n m = absurd (m b)
+above_is_top d _ t _ unlike under_nat b n m = absurd (m b)
+above_is_top d _ t _ unlike under_unit b n m = absurd (m b)
+above_is_top d _ _ _ unlike (under_arrow a1 a2) (under_arrow b1 b2) n m = absurd unlike
+above_is_top d _ _ _ unlike (under_record a) (under_record b) n m = absurd unlike
+above_is_top _ _ _ _ unlike under_bool_nat under_nat n m = absurd (n under_bool_nat)
+above_is_top _ _ _ _ unlike under_bool_nat under_bool_nat n m = absurd (n under_bool)
+
+pub join_unlike_top : (s t : Typ) (d : Dialect) → IsWellFormed s → IsWellFormed t → AreUnlike s t → (IsBelow s t d → ⊥) → (IsBelow t s d → ⊥) → IsJoin s t top d
+join_unlike_top s t d ws wt unlike n m = record {
+  left = below_top s d ws;
+  right = below_top t d wt;
+  least = λ u a b.
+      subst (λ v. IsBelow top v d)
+      (sym (above_is_top d s t u unlike (below_under s u d a) (below_under t u d b) (λ under. n (under_below d s t under ws wt)) (λ under. m (under_below d t s under wt ws))))
+      (below_refl top d tt);
+}
+
+-- .. and nothing below them
+
+nothing_below : (d : Dialect) (s t u : Typ) → AreUnlike s t → Under d u s → Under d u t → (Under d s t → ⊥) → (Under d t s → ⊥) → ⊥
+nothing_below d _ t u unlike (under_top _) b n m = m (under_top t)
+nothing_below d s _ u unlike a (under_top _) n m = n (under_top s)
+nothing_below d _ t _ unlike under_bool b n m = n b
+nothing_below d _ t _ unlike under_nat b n m = n b
+nothing_below d _ t _ unlike under_unit b n m = n b
+nothing_below d _ _ _ unlike (under_arrow a1 a2) (under_arrow b1 b2) n m = unlike
+nothing_below d _ _ _ unlike (under_record a) (under_record b) n m = unlike
+nothing_below _ _ _ _ unlike under_bool_nat under_bool n m = m under_bool_nat
+nothing_below _ _ _ _ unlike under_bool_nat under_bool_nat n m = n under_nat
+
+pub no_meet_unlike : (s t : Typ) (d : Dialect) → IsWellFormed s → IsWellFormed t → AreUnlike s t → (IsBelow s t d → ⊥) → (IsBelow t s d → ⊥) → HaveNoMeet s t d
+no_meet_unlike s t d ws wt unlike n m = λ u a b.
+    nothing_below d s t u unlike (below_under u s d a) (below_under u t d b) (λ under. n (under_below d s t under ws wt)) (λ under. m (under_below d t s under wt ws))
+
+-- variants that are not of one shape
+
+pub unlike_arrow : (a b : Typ) (t : Ty) → ((x y : Box Ty Global) → t ≡ Arrow x y → ⊥) → AreUnlike (arrow a b) (typ_of t)
+unlike_arrow a b = ty_cases (λ t. ((x y : Box Ty Global) → t ≡ Arrow x y → ⊥) → AreUnlike (arrow a b) (typ_of t))
+    (λ n. rw typ_of-Bool tt) (λ n. rw typ_of-Nat tt) (λ n. rw typ_of-Unit tt) (λ n. rw typ_of-Top tt)
+    (λ x y n. absurd (n x y refl)) (λ fs n. rw (typ_of-Record fs) tt)
+
+pub unlike_record : (fs : Fields) (t : Ty) → ((gs : RustFields) → t ≡ Record gs → ⊥) → AreUnlike (record_of fs) (typ_of t)
+unlike_record fs = ty_cases (λ t. ((gs : RustFields) → t ≡ Record gs → ⊥) → AreUnlike (record_of fs) (typ_of t))
+    (λ n. rw typ_of-Bool tt) (λ n. rw typ_of-Nat tt) (λ n. rw typ_of-Unit tt) (λ n. rw typ_of-Top tt)
+    (λ x y n. rw (typ_of-Arrow x y) tt) (λ gs n. absurd (n gs refl))
+
+pub unlike_other : (s : Ty) (t : Typ) → ((x y : Box Ty Global) → s ≡ Arrow x y → ⊥) → ((fs : RustFields) → s ≡ Record fs → ⊥) → AreUnlike (typ_of s) t
+unlike_other s t = ty_cases (λ u. ((x y : Box Ty Global) → u ≡ Arrow x y → ⊥) → ((fs : RustFields) → u ≡ Record fs → ⊥) → AreUnlike (typ_of u) t)
+    (λ n m. rw typ_of-Bool tt) (λ n m. rw typ_of-Nat tt) (λ n m. rw typ_of-Unit tt) (λ n m. rw typ_of-Top tt)
+    (λ x y n m. absurd (n x y refl)) (λ fs n m. absurd (m fs refl)) s
+
+pub arrow_unlike : (s t : Ty) (a b : Box Ty Global) → s ≡ Arrow a b → ((x y : Box Ty Global) → t ≡ Arrow x y → ⊥) → AreUnlike (typ_of s) (typ_of t)
+arrow_unlike s t a b is n = subst (λ u. AreUnlike u (typ_of t)) (sym (ap typ_of is ∙ typ_of-Arrow a b)) (unlike_arrow (typ_of a.value) (typ_of b.value) t n)
+
+pub record_unlike : (s t : Ty) (fs : RustFields) → s ≡ Record fs → ((gs : RustFields) → t ≡ Record gs → ⊥) → AreUnlike (typ_of s) (typ_of t)
+record_unlike s t fs is n =
+    subst (λ u. AreUnlike u (typ_of t)) (sym (ap typ_of is ∙ typ_of-Record fs)) (unlike_record (fields_of (out-Fields fs).items.items) t n)
+
+-- the same bounds of types that are told otherwise
+
+pub join_seen : (s t j x y z : Typ) (d : Dialect) → x ≡ s → y ≡ t → z ≡ j → IsJoin x y z d → IsJoin s t j d
+join_seen s t j x y z d is_s is_t is_j join =
+    subst (λ u. IsJoin u t j d) is_s (subst (λ u. IsJoin x u j d) is_t (subst (λ u. IsJoin x y u d) is_j join))
+
+pub meet_seen : (s t m x y z : Typ) (d : Dialect) → x ≡ s → y ≡ t → z ≡ m → IsMeet x y z d → IsMeet s t m d
+meet_seen s t m x y z d is_s is_t is_m meet =
+    subst (λ u. IsMeet u t m d) is_s (subst (λ u. IsMeet x u m d) is_t (subst (λ u. IsMeet x y u d) is_m meet))
+
+pub no_meet_seen : (s t x y : Typ) (d : Dialect) → x ≡ s → y ≡ t → HaveNoMeet x y d → HaveNoMeet s t d
+no_meet_seen s t x y d is_s is_t none = subst (λ u. HaveNoMeet u t d) is_s (subst (λ u. HaveNoMeet x u d) is_t none)

@@ -1,0 +1,10 @@
+//! The least type above two types and the greatest one below them (TAPL 16.3): each pair has a join,
+//! since Top is above all; a pair has a meet exactly where some type is below both.
+#![tactic(auto)]
+
+mod bounds;
+
+pub use bounds::{join, meet};
+
+#[cfg(test)]
+mod tests;

@@ -1,0 +1,168 @@
+use crate::{join, meet};
+use lam_rules::{Dialect, Ty, make_arrow, make_record, plain_text_of, wf};
+use lam_sub::is_sub;
+use std::alloc::{AllocError, Global};
+use std::process::Abort;
+use std::test::Fail;
+
+/// A type as it is written down in a table.
+#[derive(Clone, Copy)]
+enum Shape {
+    Bool,
+    Nat,
+    Unit,
+    Top,
+    Arrow(&'static Shape, &'static Shape),
+    Record(&'static [(&'static str, Shape)]),
+}
+
+use Shape::{Arrow, Bool, Nat, Record, Top, Unit};
+
+fn made(alloc: Global, shape: &Shape) -> Result<Ty, AllocError> {
+    match shape {
+        Shape::Bool => Ok(Ty::Bool),
+        Shape::Nat => Ok(Ty::Nat),
+        Shape::Unit => Ok(Ty::Unit),
+        Shape::Top => Ok(Ty::Top),
+        Shape::Arrow(parameter, outcome) => {
+            let parameter = made(alloc, parameter)?;
+            let outcome = made(alloc, outcome)?;
+            make_arrow(alloc, parameter, outcome)
+        }
+        Shape::Record(fields) => {
+            let mut items = Vec::new(alloc);
+            for field in *fields {
+                let label = String::from_str(alloc, field.0)?;
+                let ty = made(alloc, &field.1)?;
+                items.push((label, ty))?;
+            }
+            Ok(make_record(items))
+        }
+    }
+}
+
+const A_NAT: Shape = Record(&[("a", Nat)]);
+
+const A_BOOL: Shape = Record(&[("a", Bool)]);
+
+const AB: Shape = Record(&[("a", Nat), ("b", Bool)]);
+
+const BC: Shape = Record(&[("b", Bool), ("c", Unit)]);
+
+/// The dialect, two types, the text of their join, and that of their meet where there is one, both
+/// with the fields in the order of the first type's.
+const ROWS: [(Dialect, Shape, Shape, &str, Option<&str>); 22] = [
+    (
+        Dialect::One,
+        AB,
+        BC,
+        "{b:Bool}",
+        Some("{a:Nat, b:Bool, c:Unit}"),
+    ),
+    (
+        Dialect::One,
+        BC,
+        AB,
+        "{b:Bool}",
+        Some("{b:Bool, c:Unit, a:Nat}"),
+    ),
+    (Dialect::One, A_NAT, A_BOOL, "{a:Top}", None),
+    (Dialect::Two, A_NAT, A_BOOL, "{a:Nat}", Some("{a:Bool}")),
+    (
+        Dialect::One,
+        Arrow(&Nat, &Nat),
+        Arrow(&Bool, &Nat),
+        "Top",
+        Some("Top->Nat"),
+    ),
+    (
+        Dialect::Two,
+        Arrow(&Nat, &Nat),
+        Arrow(&Bool, &Nat),
+        "Bool->Nat",
+        Some("Nat->Nat"),
+    ),
+    (
+        Dialect::One,
+        Arrow(&Nat, &Nat),
+        Arrow(&Nat, &Bool),
+        "Nat->Top",
+        None,
+    ),
+    (
+        Dialect::Two,
+        Arrow(&Nat, &Nat),
+        Arrow(&Nat, &Bool),
+        "Nat->Nat",
+        Some("Nat->Bool"),
+    ),
+    (
+        Dialect::One,
+        Arrow(&A_NAT, &Bool),
+        Arrow(&Record(&[("b", Nat)]), &Nat),
+        "{a:Nat, b:Nat}->Top",
+        None,
+    ),
+    (Dialect::One, Record(&[]), Nat, "Top", None),
+    (Dialect::One, Top, Record(&[]), "Top", Some("{}")),
+    (Dialect::One, Record(&[]), Top, "Top", Some("{}")),
+    (Dialect::One, Bool, Nat, "Top", None),
+    (Dialect::One, Nat, Bool, "Top", None),
+    (Dialect::Two, Bool, Nat, "Nat", Some("Bool")),
+    (Dialect::Two, Nat, Bool, "Nat", Some("Bool")),
+    (Dialect::Two, Nat, Unit, "Top", None),
+    (Dialect::One, Unit, Unit, "Unit", Some("Unit")),
+    (Dialect::One, Arrow(&Nat, &Nat), AB, "Top", None),
+    (Dialect::One, AB, Arrow(&Nat, &Nat), "Top", None),
+    (
+        Dialect::One,
+        AB,
+        Record(&[("b", Bool), ("a", Nat)]),
+        "{a:Nat, b:Bool}",
+        Some("{a:Nat, b:Bool}"),
+    ),
+    (Dialect::One, Record(&[]), AB, "{}", Some("{a:Nat, b:Bool}")),
+];
+
+/// Checks the bounds of two types by their plain texts.
+fn check(
+    rt: &impl Abort,
+    alloc: Global,
+    left: &Ty,
+    right: &Ty,
+    dialect: Dialect,
+    wanted_join: &str,
+    wanted_meet: Option<&str>,
+) -> Result<(), AllocError> {
+    assert!(rt; wf(left));
+    assert!(rt; wf(right));
+    let joined = join(alloc, left, right, dialect)?;
+    assert_eq!(rt; plain_text_of(alloc, &joined)?.as_str(), wanted_join);
+    match meet(alloc, left, right, dialect)? {
+        Some(met) => {
+            let text = plain_text_of(alloc, &met)?;
+            assert_eq!(rt; Some(text.as_str()), wanted_meet);
+        }
+        None => assert!(rt; wanted_meet.is_none()),
+    }
+    Ok(())
+}
+
+#[test]
+fn joins_and_meets_each_row(rt: HostRuntime) -> Result<(), Fail> {
+    let alloc = rt.alloc();
+    for (dialect, left, right, wanted_join, wanted_meet) in ROWS {
+        let left_type = made(alloc, &left)?;
+        let right_type = made(alloc, &right)?;
+        check(
+            &rt,
+            alloc,
+            &left_type,
+            &right_type,
+            dialect,
+            wanted_join,
+            wanted_meet,
+        )?;
+    }
+    Ok(())
+}
