@@ -27,4 +27,6 @@ pub use types::{
 pub use typing::{TypeProof, check_type};
 
 #[cfg(test)]
+mod table_tests;
+#[cfg(test)]
 mod tests;

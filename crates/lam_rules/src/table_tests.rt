@@ -1,0 +1,139 @@
+ghost use Rattle.std.specs.Prelude.{IfOk};
+ghost use Rattle.lam_rules.specs.TypeViews.{typ_of};
+ghost use Rattle.lam_rules.specs.Numbers.{IsNumberOf, Keeps};
+
+use crate::{
+    Shape, Ty, TyNo, TyTable, labels_differ, make_arrow, make_record, number_under, same, wf,
+};
+use std::alloc::{AllocError, Global};
+use std::process::Abort;
+use std::test::Fail;
+
+/// The record type of two labels.
+fn pair(
+    alloc: Global,
+    label: &str,
+    ty: Ty,
+    other_label: &str,
+    other: Ty,
+) -> Result<Ty, AllocError> {
+    let mut items = Vec::new(alloc);
+    items.push((String::from_str(alloc, label)?, ty))?;
+    items.push((String::from_str(alloc, other_label)?, other))?;
+    Ok(make_record(items))
+}
+
+/// The number of a type, whose labels are distinct.
+fn number_of(rt: &impl Abort, table: &mut TyTable, ty: &Ty) -> Result<TyNo, AllocError>
+    ensures keeps { Keeps table.old table.new }
+    ensures number { IfOk result (λ number. IsNumberOf table.new number (typ_of ty.now)) }
+{
+    assert!(rt; wf(ty), "a label stands twice");
+    table.add(ty)
+}
+
+#[test]
+#[tactic(auto, using(crate::proofs::Tables::numbers))]
+fn gives_types_back(rt: HostRuntime) -> Result<(), Fail> {
+    let alloc = rt.alloc();
+    let mut table = TyTable::new(alloc);
+    let inner = pair(alloc, "y", Ty::Bool, "x", Ty::Unit)?;
+    let left = make_arrow(alloc, make_arrow(alloc, Ty::Nat, Ty::Top)?, Ty::Bool)?;
+    for (ty, text) in [
+        (Ty::Nat, "Nat"),
+        (Ty::Top, "Top"),
+        (make_record(Vec::new(alloc)), "{}"),
+        (left, "(Nat->Top)->Bool"),
+        (
+            pair(alloc, "b", inner, "a", Ty::Nat)?,
+            "{a:Nat, b:{x:Unit, y:Bool}}",
+        ),
+    ] {
+        let number = number_of(&rt, &mut table, &ty)?;
+        let again = number_of(&rt, &mut table, &ty)?;
+        assert_eq!(rt; number, again, "a type has one number");
+        assert_eq!(rt; table.text(number)?.as_str(), text);
+        let tree = table.tree(number)?;
+        assert!(rt; same(&tree, &ty), "the tree of {text}");
+    }
+    Ok(())
+}
+
+#[test]
+#[tactic(auto, using(crate::proofs::Tables::numbers))]
+fn doubles_a_type_forty_times(rt: HostRuntime) -> Result<(), Fail> {
+    let alloc = rt.alloc();
+    let mut table = TyTable::new(alloc);
+    let nat = table.intern(Shape::Nat)?;
+    let mut double = table.record(&[("a", nat), ("b", nat)])?;
+    let mut turned = table.record(&[("b", nat), ("a", nat)])?;
+    let sizes = [7, 15, 31, 63, 127, 255, 511, 1_023, 2_047, 4_095];
+    for step in 0..40 {
+        double = table.record(&[("a", double), ("b", double)])?;
+        turned = table.record(&[("b", turned), ("a", turned)])?;
+        assert!(rt; double != turned, "at step {step}");
+        assert!(rt; table.same(double, turned), "at step {step}");
+        assert!(rt; !table.same(double, nat), "at step {step}");
+        assert_eq!(rt; table.sorted(turned), double, "at step {step}");
+        let size = table.size(double);
+        if step < 10 {
+            assert_eq!(rt; size, sizes[step], "at step {step}");
+            assert_eq!(rt; table.text(turned)?.as_str(), table.text(double)?.as_str());
+        } else {
+            assert_eq!(rt; size, 4_097, "at step {step}");
+        }
+    }
+    Ok(())
+}
+
+#[test]
+#[tactic(auto, using(crate::proofs::Tables::numbers))]
+fn reads_the_outermost_form(rt: HostRuntime) -> Result<(), Fail> {
+    let alloc = rt.alloc();
+    let mut table = TyTable::new(alloc);
+    let nat = table.intern(Shape::Nat)?;
+    let bool_type = table.intern(Shape::Bool)?;
+    let arrow = table.arrow(nat, bool_type)?;
+    let record = table.record(&[("f", arrow), ("n", nat)])?;
+    assert_eq!(rt; table.field(record, "f"), Some(arrow));
+    assert_eq!(rt; table.field(record, "n"), Some(nat));
+    assert_eq!(rt; table.field(record, "g"), None);
+    assert_eq!(rt; table.field(arrow, "f"), None);
+    match table.shape(arrow) {
+        Shape::Arrow(parameter, outcome) => {
+            assert_eq!(rt; *parameter, nat);
+            assert_eq!(rt; *outcome, bool_type);
+        }
+        _ => assert!(rt; false, "an arrow"),
+    }
+    match table.shape(record) {
+        Shape::Record(fields) => {
+            assert_eq!(rt; number_under("n", fields), Some(nat));
+            assert!(rt; labels_differ(fields));
+        }
+        _ => assert!(rt; false, "a record"),
+    }
+    Ok(())
+}
+
+#[test]
+#[tactic(auto, using(crate::proofs::Tables::numbers))]
+fn tells_types_apart(rt: HostRuntime) -> Result<(), Fail> {
+    let alloc = rt.alloc();
+    let mut table = TyTable::new(alloc);
+    let nat = table.intern(Shape::Nat)?;
+    let bool_type = table.intern(Shape::Bool)?;
+    let top = table.intern(Shape::Top)?;
+    let narrow = table.record(&[("a", nat)])?;
+    let wide = table.record(&[("a", nat), ("b", bool_type)])?;
+    let turned = table.record(&[("b", bool_type), ("a", nat)])?;
+    let from_wide = table.arrow(wide, top)?;
+    let from_turned = table.arrow(turned, top)?;
+    let from_narrow = table.arrow(narrow, top)?;
+    assert!(rt; table.same(wide, turned));
+    assert!(rt; table.same(from_wide, from_turned));
+    assert!(rt; !table.same(bool_type, nat));
+    assert!(rt; !table.same(wide, narrow));
+    assert!(rt; !table.same(from_wide, from_narrow));
+    Ok(())
+}
