@@ -146,8 +146,8 @@ fn meet_fields(
         let field = &left[i];
         let label = field.0.clone()?;
         let Some(other) = field_type(&field.0, right, i) else {
-            let ty = copy_of(alloc, &field.1)?;
-            made.push((label, ty))?;
+            let copy = copy_of(alloc, &field.1)?;
+            made.push((label, copy))?;
             continue;
         };
         let Some(ty) = meet(alloc, &field.1, other, dialect)? else {
@@ -161,22 +161,22 @@ fn meet_fields(
 /// The meet of two types that are not of one shape: the one that is below the other.
 fn meet_unlike(
     alloc: Global,
-    left: &Ty,
-    right: &Ty,
+    one: &Ty,
+    other: &Ty,
     dialect: Dialect,
 ) -> Result<Option<Ty>, AllocError>
-    requires left { IsWellFormed (typ_of left.now) }
-    requires right { IsWellFormed (typ_of right.now) }
-    requires unlike { AreUnlike (typ_of left.now) (typ_of right.now) }
-    ensures some { IfOk result (λ found. IfSome found (λ made. IsMeet (typ_of left.now) (typ_of right.now) (typ_of made) dialect)) }
-    ensures none { IfOk result (λ found. IfNone found (HaveNoMeet (typ_of left.now) (typ_of right.now) dialect)) }
+    requires one { IsWellFormed (typ_of one.now) }
+    requires other { IsWellFormed (typ_of other.now) }
+    requires unlike { AreUnlike (typ_of one.now) (typ_of other.now) }
+    ensures some { IfOk result (λ found. IfSome found (λ made. IsMeet (typ_of one.now) (typ_of other.now) (typ_of made) dialect)) }
+    ensures none { IfOk result (λ found. IfNone found (HaveNoMeet (typ_of one.now) (typ_of other.now) dialect)) }
 {
-    if is_sub(left, right, dialect) {
-        let made = copy_of(alloc, left)?;
+    if is_sub(one, other, dialect) {
+        let made = copy_of(alloc, one)?;
         return Ok(Some(made));
     }
-    if is_sub(right, left, dialect) {
-        let made = copy_of(alloc, right)?;
+    if is_sub(other, one, dialect) {
+        let made = copy_of(alloc, other)?;
         return Ok(Some(made));
     }
     Ok(None)

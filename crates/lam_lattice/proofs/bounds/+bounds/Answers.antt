@@ -89,13 +89,13 @@ pub join-join_unlike-requires-in_default : goal.join-join_unlike-requires-in_def
 join-join_unlike-requires-in_default t c = record { left = c.requires.left; right = c.requires.right; unlike = unlike_other c.args.left.now (typ_of c.args.right.now) c.in_default.not-Arrow c.in_default.not-Record }
 
 pub meet-meet_unlike-requires : goal.meet-meet_unlike-requires
-meet-meet_unlike-requires t c = record { left = c.requires.left; right = c.requires.right; unlike = arrow_unlike c.args.left.now c.args.right.now _ _ c.in-Arrow.is c.in_default-right.not-Arrow }
+meet-meet_unlike-requires t c = record { one = c.requires.left; other = c.requires.right; unlike = arrow_unlike c.args.left.now c.args.right.now _ _ c.in-Arrow.is c.in_default-right.not-Arrow }
 
 pub meet-meet_unlike-requires-in_default-right-2 : goal.meet-meet_unlike-requires-in_default-right-2
-meet-meet_unlike-requires-in_default-right-2 t c = record { left = c.requires.left; right = c.requires.right; unlike = record_unlike c.args.left.now c.args.right.now _ c.in-Record.is c.in_default-right-2.not-Record }
+meet-meet_unlike-requires-in_default-right-2 t c = record { one = c.requires.left; other = c.requires.right; unlike = record_unlike c.args.left.now c.args.right.now _ c.in-Record.is c.in_default-right-2.not-Record }
 
 pub meet-meet_unlike-requires-in_default : goal.meet-meet_unlike-requires-in_default
-meet-meet_unlike-requires-in_default t c = record { left = c.requires.left; right = c.requires.right; unlike = unlike_other c.args.left.now (typ_of c.args.right.now) c.in_default.not-Arrow c.in_default.not-Record }
+meet-meet_unlike-requires-in_default t c = record { one = c.requires.left; other = c.requires.right; unlike = unlike_other c.args.left.now (typ_of c.args.right.now) c.in_default.not-Arrow c.in_default.not-Record }
 
 -- two record types
 
@@ -178,15 +178,15 @@ join_fields-returns t c = join_all c.args.dialect (fields_of c.args.right.now) (
 
 pub meet_fields-loop-i-preserved-in_default : goal.meet_fields-loop-i-preserved-in_default
 meet_fields-loop-i-preserved-in_default t c =
-    meet_alone c.args.dialect (fields_of c.args.right.now) (fields_of c.args.left.now) c.args.left.now c.loop-i.i c.index-left-i.result c.loop-i.made.items c.push.new.self.items (c.in_ok-label.label, c.in_ok-ty.ty)
-    c.loop-i-test.true c.index-left-i.is c.in_ok-push.ensures.items c.in_ok-label.ensures.cases c.in_ok-ty.ensures
+    meet_alone c.args.dialect (fields_of c.args.right.now) (fields_of c.args.left.now) c.args.left.now c.loop-i.i c.index-left-i.result c.loop-i.made.items c.push.new.self.items (c.in_ok-label.label, c.in_ok-copy.copy)
+    c.loop-i-test.true c.index-left-i.is c.in_ok-push.ensures.items c.in_ok-label.ensures.cases c.in_ok-copy.ensures
     (subst (λ l. IsAbsent l (fields_of c.args.right.now)) c.deref.ensures c.in_default.ensures.absent)
     c.loop-i.invariant
 
 pub meet_fields-loop-i-preserved : goal.meet_fields-loop-i-preserved
 meet_fields-loop-i-preserved t c =
     let meet : IsMeet (typ_of c.index-left-i.result.1) (typ_of c.in-Some.other.now) (typ_of c.in-Some-2.ty) c.args.dialect =
-    subst (λ o. IfSome o (λ made. IsMeet (typ_of c.index-left-i.result.1) (typ_of c.in-Some.other.now) (typ_of made) c.args.dialect)) c.in-Some-2.is c.in_ok-ty-2.ensures.some in
+    subst (λ o. IfSome o (λ made. IsMeet (typ_of c.index-left-i.result.1) (typ_of c.in-Some.other.now) (typ_of made) c.args.dialect)) c.in-Some-2.is c.in_ok-ty.ensures.some in
     meet_more c.args.dialect (fields_of c.args.right.now) (fields_of c.args.left.now) c.args.left.now c.loop-i.i c.index-left-i.result c.loop-i.made.items c.push-in-loop-i.new.self.items (c.in_ok-label.label, c.in-Some-2.ty) (typ_of c.in-Some.other.now)
     c.loop-i-test.true c.index-left-i.is c.in_ok-push-2.ensures.items c.in_ok-label.ensures.cases
     (subst (λ l. Has l (typ_of c.in-Some.other.now) (fields_of c.args.right.now)) c.deref.ensures c.in-Some.ensures.found)
@@ -198,7 +198,7 @@ meet_fields-returns-clause-some t c = meet_all c.args.dialect (fields_of c.args.
 pub meet_fields-returns-in_default-2-clause-none : goal.meet_fields-returns-in_default-2-clause-none
 meet_fields-returns-in_default-2-clause-none t c =
     let none : HaveNoMeet (typ_of c.index-left-i.result.1) (typ_of c.in-Some.other.now) c.args.dialect =
-    subst (λ o. IfNone o (HaveNoMeet (typ_of c.index-left-i.result.1) (typ_of c.in-Some.other.now) c.args.dialect)) c.in_default-2.is c.in_ok-ty-2.ensures.none in
+    subst (λ o. IfNone o (HaveNoMeet (typ_of c.index-left-i.result.1) (typ_of c.in-Some.other.now) c.args.dialect)) c.in_default-2.is c.in_ok-ty.ensures.none in
     records_no_meet c.args.dialect (fields_of c.args.left.now) (fields_of c.args.right.now) (string_bytes c.index-left-i.result.0) (typ_of c.index-left-i.result.1) (typ_of c.in-Some.other.now)
     (item_has c.args.left.now c.loop-i.i c.index-left-i.result c.loop-i-test.true c.index-left-i.is)
     (subst (λ l. Has l (typ_of c.in-Some.other.now) (fields_of c.args.right.now)) c.deref.ensures c.in-Some.ensures.found)

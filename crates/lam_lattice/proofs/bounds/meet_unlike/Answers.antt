@@ -6,16 +6,16 @@ use Rattle.lam_lattice.proofs.bounds.meet_unlike.Goals as goal
 
 pub returns-then-is_sub-clause-some : goal.returns-then-is_sub-clause-some
 returns-then-is_sub-clause-some c =
-    subst (λ m. IsMeet (typ_of c.args.left.now) (typ_of c.args.right.now) m c.args.dialect) (sym c.in_ok-made.ensures)
-    (meet_above (typ_of c.args.left.now) (typ_of c.args.right.now) c.args.dialect (c.is_sub.ensures.0 c.if-is_sub.true))
+    subst (λ m. IsMeet (typ_of c.args.one.now) (typ_of c.args.other.now) m c.args.dialect) (sym c.in_ok-made.ensures)
+    (meet_above (typ_of c.args.one.now) (typ_of c.args.other.now) c.args.dialect (c.is_sub.ensures.0 c.if-is_sub.true))
 
 pub returns-then-is_sub-2-clause-some : goal.returns-then-is_sub-2-clause-some
 returns-then-is_sub-2-clause-some c =
-    subst (λ m. IsMeet (typ_of c.args.left.now) (typ_of c.args.right.now) m c.args.dialect) (sym c.in_ok-made-2.ensures)
-    (meet_below (typ_of c.args.left.now) (typ_of c.args.right.now) c.args.dialect (c.is_sub-2.ensures.0 c.if-is_sub-2.true))
+    subst (λ m. IsMeet (typ_of c.args.one.now) (typ_of c.args.other.now) m c.args.dialect) (sym c.in_ok-made-2.ensures)
+    (meet_below (typ_of c.args.one.now) (typ_of c.args.other.now) c.args.dialect (c.is_sub-2.ensures.0 c.if-is_sub-2.true))
 
 pub returns-clause-none : goal.returns-clause-none
 returns-clause-none c =
-    no_meet_unlike (typ_of c.args.left.now) (typ_of c.args.right.now) c.args.dialect c.requires.left c.requires.right c.requires.unlike
+    no_meet_unlike (typ_of c.args.one.now) (typ_of c.args.other.now) c.args.dialect c.requires.one c.requires.other c.requires.unlike
     (λ below. let e : c.is_sub.result ≡ true = c.is_sub.ensures.1 below in cc)
     (λ below. let e : c.is_sub-2.result ≡ true = c.is_sub-2.ensures.1 below in cc)
