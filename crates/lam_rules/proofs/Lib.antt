@@ -15,3 +15,4 @@ pub mod SortedBelow
 pub mod Tables
 pub mod TableEntries
 pub mod TableFields
+pub mod ShapeKeys

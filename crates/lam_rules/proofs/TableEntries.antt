@@ -3,12 +3,12 @@ use Rattle.std.proofs.Common.{◌≡◌, ◌↔◌, ◌⊎◌, inl, inr, zero, s
 use Rattle.std.specs.Prelude.{min, IsTrue, eqb}
 use borrow.Author.Tests.{eqb-true}
 use Rattle.std.specs.declared.alloc.Global.{Global}
-use Rattle.std.proofs.lemmas.List.{get_or_append_left, get_or_push, get_or_default, drop_more, drop_all, get_or_read}
+use Rattle.std.proofs.lemmas.List.{get_or_append_left, get_or_push, get_or_default, drop_more}
 use Rattle.std.proofs.lemmas.Bool.{cases_lt}
 use Rattle.lam_rules.specs.Types.{Typ, top, record_of, field, nodes, IsAbsent, IsWellFormed, AreWellFormed}
 use Rattle.lam_rules.specs.Texts.{sorted}
 use Rattle.lam_rules.specs.Numbers.{type_at, type_of, IsNumberOf, Keeps, fields_over, shaped, AreBelow, IsOver, IsNotAmong, HaveDistinctLabels, HasDistinctLabels}
-use Rattle.lam_rules.specs.Entries.{types_from, types_of, IsEntryOf, IsTable, IsSameField, AreSame, IsSame, IsAt, IsNowhere}
+use Rattle.lam_rules.specs.Entries.{types_from, types_of, IsEntryOf, IsTable, AreSame, IsSame, IsAt, IsNowhere}
 use Rattle.lam_rules.specs.declared.table.TyNo.{TyNo}
 use Rattle.lam_rules.specs.declared.table.Shape.{Shape}
 use Rattle.lam_rules.specs.declared.table.Entry.{Entry}
@@ -195,26 +195,10 @@ table_push es e table next = record { each = each; distinct = distinct }
         let longer = length-append es (e ∷ []) in
         apart i j (cases_lt i (length es)) (cases_lt j (length es)) (omega arith) (omega arith) (rw (types_of-push es e) at same)
 
--- fields that are compared from their front
+-- a list from its front
 
 pub drop_more_read : {X : Type 0} (xs : List X) (i : ℕ) (x : X) → i < length xs → x ≡ get_or xs i x → drop i xs ≡ x ∷ drop (i + 1) xs
 drop_more_read xs i x lt is = drop_more xs i x lt ∙ ap (λ y. y ∷ drop (i + 1) xs) (sym is)
-
-pub are_same_more : (fs gs : List (String Global × TyNo)) (i : ℕ) (f g : String Global × TyNo)
-    → i < length fs → i < length gs → f ≡ get_or fs i f → g ≡ get_or gs i g
-    → AreSame (drop i fs) (drop i gs) ↔ (IsSameField f g × AreSame (drop (i + 1) fs) (drop (i + 1) gs))
-are_same_more fs gs i f g lf lg isf isg = rw (drop_more_read fs i f lf isf, drop_more_read gs i g lg isg) ((λ h. h), (λ h. h))
-
-pub are_same_length : (fs gs : List (String Global × TyNo)) → AreSame fs gs → length fs ≡ length gs
-are_same_length [] [] same = refl
-are_same_length (f ∷ fs) (g ∷ gs) same = ap suc (are_same_length fs gs same.1)
-are_same_length [] (g ∷ gs) same = absurd same
-are_same_length (f ∷ fs) [] same = absurd same
-
-pub are_same_end : (fs gs : List (String Global × TyNo)) (i : ℕ) → length fs ≤ i → length gs ≤ i → AreSame (drop i fs) (drop i gs)
-are_same_end fs gs i lf lg = rw (drop_all i fs lf, drop_all i gs lg) tt
-
-pub ruleset same_lists = (are_same_more, are_same_length, are_same_end)
 
 -- a table by the value that contracts see
 

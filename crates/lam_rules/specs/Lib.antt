@@ -13,3 +13,4 @@ pub mod SharedTexts
 pub mod TypeCodes
 pub mod Numbers
 pub mod Entries
+pub mod ShapeIndex

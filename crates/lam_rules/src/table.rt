@@ -1,18 +1,20 @@
 //! Types in one table: numbers that stand for types, so that a type which is used twice is kept once.
 
-ghost use Rattle.std.specs.Prelude.{◌≡◌, ◌↔◌, ◌<◌, ◌≤◌, ◌++◌, ℕ, List, [], ◌∷◌, length, min, string_bytes, IsTrue, IfOk, OnOk, IfSome, IfNone};
+ghost use Rattle.std.specs.Prelude.{◌≡◌, ◌↔◌, ◌<◌, ◌≤◌, ◌++◌, ℕ, List, [], ◌∷◌, length, min, string_bytes, IsTrue, IfOk, OnOk, OnErr, IfSome, IfNone};
 ghost use Rattle.lam_rules.specs.Types.{Typ, arrow, record_of, Has, IsAbsent, IsWellFormed, AreWellFormed, nodes, nodes_in};
 ghost use Rattle.lam_rules.specs.TypeViews.{typ_of, fields_of};
 ghost use Rattle.lam_rules.specs.Texts.{sorted as sorted_form, sorted_fields, placed, place_in, text};
 ghost use Rattle.lam_rules.specs.Subtyping.{IsBelow};
 ghost use Rattle.lam_rules.specs.Typing.{HasField};
 ghost use Rattle.lam_rules.specs.Numbers.{type_at, type_of, Stands, IsNumberOf, Keeps, fields_over, shaped, AreBelow, IsOver, IsNotAmong, HaveDistinctLabels, HasDistinctLabels, fields_given, AllStand, AreGivenApart};
-ghost use Rattle.lam_rules.specs.Entries.{IsEntryOf, IsSameField, AreSame, IsSame, IsAt, IsNowhere, AreCopies};
+ghost use Rattle.lam_rules.specs.Entries.{IsEntryOf, AreSame, IsSame, AreCopies};
+ghost use Rattle.lam_rules.specs.ShapeIndex.{IsIndexOf};
 ghost use Rattle.lam_rules.specs.declared.rules.Dialect.{Dialect};
 
 use crate::texts::text_of;
 use crate::types::{SIZE_CAP, Ty, make_arrow, make_record};
 use std::alloc::{AllocError, Global};
+use std::collections::HashMap;
 use std::marker::Model;
 
 /// The number of a type in a table.
@@ -22,7 +24,7 @@ pub struct TyNo {
 }
 
 /// The outermost form of a type, over numbers of a table.
-#[derive(Drop)]
+#[derive(Drop, PartialEq, Eq, Hash)]
 pub enum Shape {
     Bool,
     Nat,
@@ -46,6 +48,8 @@ struct Entry {
 pub struct TyTable {
     alloc: Global,
     entries: Vec<Entry>,
+    /// The number of each shape that an entry has.
+    index: HashMap<Shape, TyNo>,
 }
 
 impl Model for TyTable {
@@ -58,10 +62,11 @@ impl Model for TyTable {
     ghost coded = { coded_types };
 
     ghost use Rattle.lam_rules.specs.Entries.{types_of, IsTable};
+    ghost use Rattle.lam_rules.specs.ShapeIndex.{IsIndexOf};
 
     ghost view = { λ t. types_of t.entries.items };
 
-    ghost invariant = { λ t. IsTable t.entries.items };
+    ghost invariant = { λ t. IsTable t.entries.items × IsIndexOf t.index t.entries.items };
 }
 
 impl TyTable {
@@ -73,6 +78,7 @@ impl TyTable {
         TyTable {
             alloc,
             entries: Vec::new(alloc),
+            index: HashMap::new(alloc),
         }
     }
 
@@ -282,8 +288,8 @@ impl TyTable {
         ensures some { IfSome result (λ number. IsNumberOf self.now number (shaped self.now shape.now)) }
         ensures none { IfNone result ((i : ℕ) → i < length self.now → type_at self.now i ≡ shaped self.now shape.now → ⊥) }
     {
-        match position(&self.entries, shape) {
-            Some(index) => Some(TyNo { index }),
+        match self.index.get(shape) {
+            Some(number) => Some(*number),
             None => None,
         }
     }
@@ -299,14 +305,14 @@ impl TyTable {
         ensures number { IfOk result (λ number. IsNumberOf self.new number (shaped self.old shape)) }
     {
         let size = self.size_of(&shape);
-        let number = TyNo {
-            index: self.entries.len(),
-        };
-        self.entries.push(Entry {
+        let number = self.next();
+        let key = copy_of_shape(self.alloc, &shape)?;
+        let entry = Entry {
             shape,
             size,
             sorted,
-        })?;
+        };
+        add_entry(&mut self.entries, &mut self.index, key, entry)?;
         Ok(number)
     }
 
@@ -498,80 +504,57 @@ fn place_of(label: &str, fields: &[(String, TyNo)]) -> usize
     fields.len()
 }
 
-/// Where a shape stands among the entries.
-fn position(entries: &[Entry], shape: &Shape) -> Option<usize>
-    ensures some { IfSome result (λ i. IsAt entries.now i shape.now) }
-    ensures none { IfNone result (IsNowhere entries.now shape.now) }
+/// Puts an entry at the end, and under its shape.
+fn add_entry(
+    entries: &mut Vec<Entry>,
+    index: &mut HashMap<Shape, TyNo>,
+    key: Shape,
+    entry: Entry,
+) -> Result<(), AllocError>
+    requires index { IsIndexOf index.old entries.old.items }
+    requires key { IsSame key entry.shape }
+    ensures pushed { OnOk result (entries.new.items ≡ entries.old.items ++ entry ∷ []) }
+    ensures unchanged { OnErr result (entries.new.items ≡ entries.old.items) }
+    ensures index { IsIndexOf index.new entries.new.items }
 {
-    for i in 0..entries.len() {
-        let entry = &entries[i];
-        if same_shape(&entry.shape, shape) {
-            return Some(i);
+    let number = TyNo {
+        index: entries.len(),
+    };
+    // With room for the entry there is no way back to find once the index has it.
+    entries.reserve(1)?;
+    index.insert(key, number)?;
+    entries.push(entry)?;
+    Ok(())
+}
+
+/// The same shape in memory of its own.
+fn copy_of_shape(alloc: Global, shape: &Shape) -> Result<Shape, AllocError>
+    ensures { IfOk result (λ copy. IsSame copy shape.now) }
+{
+    match shape {
+        Shape::Bool => Ok(Shape::Bool),
+        Shape::Nat => Ok(Shape::Nat),
+        Shape::Unit => Ok(Shape::Unit),
+        Shape::Top => Ok(Shape::Top),
+        Shape::Arrow(parameter, outcome) => Ok(Shape::Arrow(*parameter, *outcome)),
+        Shape::Record(fields) => {
+            let items = copy_of_numbers(alloc, fields)?;
+            Ok(Shape::Record(items))
         }
     }
-    None
 }
 
-/// Whether two shapes are one over the same numbers.
-fn same_shape(left: &Shape, right: &Shape) -> bool
-    ensures { IsTrue result ↔ IsSame left.now right.now }
+fn copy_of_numbers(
+    alloc: Global,
+    fields: &[(String, TyNo)],
+) -> Result<Vec<(String, TyNo)>, AllocError>
+    ensures { IfOk result (λ copies. AreSame copies.items fields.now) }
 {
-    match left {
-        Shape::Bool => match right {
-            Shape::Bool => true,
-            _ => false,
-        },
-        Shape::Nat => match right {
-            Shape::Nat => true,
-            _ => false,
-        },
-        Shape::Unit => match right {
-            Shape::Unit => true,
-            _ => false,
-        },
-        Shape::Top => match right {
-            Shape::Top => true,
-            _ => false,
-        },
-        Shape::Arrow(parameter, outcome) => match right {
-            Shape::Arrow(other_parameter, other_outcome) => {
-                if parameter.index != other_parameter.index {
-                    return false;
-                }
-                outcome.index == other_outcome.index
-            }
-            _ => false,
-        },
-        Shape::Record(fields) => match right {
-            Shape::Record(others) => same_numbers(fields, others),
-            _ => false,
-        },
+    let mut copies = Vec::new(alloc);
+    for i in 0..fields.len() {
+        let field = &fields[i];
+        let label = field.0.clone()?;
+        copies.push((label, field.1))?;
     }
-}
-
-/// Whether two lists of fields have the same labels and numbers in the same order.
-#[tactic(auto, using(crate::proofs::TableEntries::same_lists))]
-fn same_numbers(left: &[(String, TyNo)], right: &[(String, TyNo)]) -> bool
-    ensures { IsTrue result ↔ AreSame left.now right.now }
-{
-    if left.len() != right.len() {
-        return false;
-    }
-    for i in 0..left.len() {
-        let field = &left[i];
-        let other = &right[i];
-        if !same_field(field, other) {
-            return false;
-        }
-    }
-    true
-}
-
-fn same_field(left: &(String, TyNo), right: &(String, TyNo)) -> bool
-    ensures { IsTrue result ↔ IsSameField left.now right.now }
-{
-    if left.0.as_str() != right.0.as_str() {
-        return false;
-    }
-    left.1.index == right.1.index
+    Ok(copies)
 }

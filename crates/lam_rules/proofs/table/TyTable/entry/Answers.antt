@@ -10,4 +10,4 @@ index-requires c =
     omega (arith, c.self.inside.entries.ok.0)
 
 pub returns : goal.returns
-returns c = entry_at _ _ _ _ c.self.view_is c.self.invariant c.requires c.index.ensures
+returns c = entry_at _ _ _ _ c.self.view_is c.self.invariant.0 c.requires c.index.ensures

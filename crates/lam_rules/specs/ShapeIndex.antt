@@ -1,0 +1,18 @@
+-- The index of a table of types, from shapes to the numbers that have them.
+use Rattle.std.specs.Prelude.{◌≡◌, Bool, List, MatchOption}
+use Rattle.std.specs.HashMap.{HashMap, get}
+use Rattle.std.specs.declared.hash.FoldHasher.{FoldHasher}
+use Rattle.std.specs.declared.hash.BuildHasherDefault.{BuildHasherDefault}
+use Rattle.lam_rules.specs.Entries.{IsAt, IsNowhere}
+use Rattle.lam_rules.specs.declared.table.TyNo.{TyNo}
+use Rattle.lam_rules.specs.declared.table.Shape.{Shape}
+use Rattle.lam_rules.specs.declared.table.Entry.{Entry}
+use Rattle.lam_rules.specs.contracts.table.ShapePartialEq.TheImpl as shape_eq
+
+-- what `==` answers of two shapes
+abbrev pub equal_shapes : Shape → Shape → Bool
+equal_shapes = (shape_eq.ghosts).eq
+
+-- under each shape stands the number of its entry, and nothing where no entry has it
+abbrev pub IsIndexOf : HashMap Shape TyNo (BuildHasherDefault FoldHasher) → List Entry → Type 0
+IsIndexOf index es = (s : Shape) → MatchOption (get equal_shapes index s) (IsNowhere es s) (λ number. IsAt es number.index s)
