@@ -1,5 +1,6 @@
 pub mod LookUps
 pub mod Arranging
 pub mod Below
-pub mod Verdicts
+pub mod ByVariant
 pub mod Steps
+pub mod TableVerdicts

@@ -5,10 +5,12 @@
 
 mod deciding;
 mod fields;
+mod numbers;
 mod proving;
 
 pub use deciding::is_sub;
 pub use fields::{append_others, field_type};
+pub use numbers::{Verdict, Verdicts, field_number, is_sub_no};
 pub use proving::prove_sub;
 
 #[cfg(test)]

@@ -1,5 +1,8 @@
-use crate::{is_sub, prove_sub};
-use lam_rules::{Dialect, SubProof, Ty, check_sub, make_arrow, make_record, same, wf};
+use crate::{Verdicts, is_sub, is_sub_no, prove_sub};
+use lam_rules::{
+    Dialect, Shape as OuterForm, SubProof, Ty, TyTable, check_sub, make_arrow, make_record, same,
+    wf,
+};
 use std::alloc::{AllocError, Global};
 use std::process::Abort;
 use std::test::Fail;
@@ -132,6 +135,80 @@ fn proves_exactly_what_holds(rt: HostRuntime) -> Result<(), Fail> {
         check(&rt, alloc, &lower_type, &upper_type, Dialect::One, in_one)?;
         check(&rt, alloc, &lower_type, &upper_type, Dialect::Two, in_two)?;
     }
+    Ok(())
+}
+
+/// Checks the verdict on the numbers of two types, given anew and remembered, and that the numbers
+/// give the types back.
+#[tactic(auto, using(lam_rules::proofs::Tables::numbers))]
+fn check_numbers(
+    rt: &impl Abort,
+    alloc: Global,
+    lower: &Ty,
+    upper: &Ty,
+    dialect: Dialect,
+    wanted: bool,
+) -> Result<(), AllocError> {
+    assert!(rt; wf(lower));
+    assert!(rt; wf(upper));
+    let mut table = TyTable::new(alloc);
+    let mut verdicts = Verdicts::new(alloc, dialect);
+    let lower_number = table.add(lower)?;
+    let upper_number = table.add(upper)?;
+    assert_eq!(rt;
+        is_sub_no(&table, &mut verdicts, lower_number, upper_number)?,
+        wanted
+    );
+    assert_eq!(rt;
+        is_sub_no(&table, &mut verdicts, lower_number, upper_number)?,
+        wanted
+    );
+    assert!(rt; same(&table.tree(lower_number)?, lower));
+    assert!(rt; same(&table.tree(upper_number)?, upper));
+    Ok(())
+}
+
+#[test]
+fn decides_the_same_by_numbers(rt: HostRuntime) -> Result<(), Fail> {
+    let alloc = rt.alloc();
+    for (lower, upper, in_one, in_two) in ROWS {
+        let lower_type = made(alloc, &lower)?;
+        let upper_type = made(alloc, &upper)?;
+        check_numbers(
+            &rt,
+            alloc,
+            &lower_type,
+            &upper_type,
+            Dialect::One,
+            in_one.is_some(),
+        )?;
+        check_numbers(
+            &rt,
+            alloc,
+            &lower_type,
+            &upper_type,
+            Dialect::Two,
+            in_two.is_some(),
+        )?;
+    }
+    Ok(())
+}
+
+#[test]
+#[tactic(auto, using(lam_rules::proofs::Tables::numbers))]
+fn doubles_types_forty_times(rt: HostRuntime) -> Result<(), Fail> {
+    let alloc = rt.alloc();
+    let mut table = TyTable::new(alloc);
+    let nat = table.intern(OuterForm::Nat)?;
+    let mut narrow = table.record(&[("a", nat)])?;
+    let mut wide = table.record(&[("b", nat), ("a", nat)])?;
+    for _ in 0..40 {
+        narrow = table.record(&[("a", narrow), ("b", narrow)])?;
+        wide = table.record(&[("b", wide), ("a", wide)])?;
+    }
+    let mut verdicts = Verdicts::new(alloc, Dialect::One);
+    assert!(rt; is_sub_no(&table, &mut verdicts, wide, narrow)?);
+    assert!(rt; !is_sub_no(&table, &mut verdicts, narrow, wide)?);
     Ok(())
 }
 

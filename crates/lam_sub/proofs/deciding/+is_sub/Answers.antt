@@ -5,7 +5,7 @@ use Rattle.lam_rules.specs.Subtyping.{IsBelow}
 use Rattle.lam_sub.proofs.Below.{no_field, nodes_of_field}
 use Rattle.lam_rules.proofs.SharedTexts.{has_wf}
 use Rattle.lam_sub.proofs.LookUps.{item_has}
-use Rattle.lam_sub.proofs.Verdicts.{at_top, at_same, not_bool, not_nat, not_unit, bool_and_nat, not_arrow, not_record, two_arrows, arrows_fail, arrows_rest, field_first, field_fails, field_holds, found_field, not_true}
+use Rattle.lam_sub.proofs.ByVariant.{at_top, at_same, not_bool, not_nat, not_unit, bool_and_nat, not_arrow, not_record, two_arrows, arrows_fail, arrows_rest, field_first, field_fails, field_holds, found_field, not_true}
 use Rattle.lam_sub.proofs.deciding.+is_sub.Goals as goal
 
 pub is_sub-returns-in-Top : goal.is_sub-returns-in-Top

@@ -12,7 +12,7 @@ use Rattle.lam_sub.specs.Steps.{LeadsTo}
 use Rattle.lam_sub.proofs.LookUps.{item_has}
 use Rattle.lam_sub.proofs.Below.{no_field, field_iff, nodes_of_field, record_inside}
 use Rattle.lam_sub.proofs.Arranging.{arranged, type_at_is, below_labels, picked_wf, arranged_wf}
-use Rattle.lam_sub.proofs.Verdicts.{not_arrow, not_record, two_arrows, record_seen, nodes_of_record, nodes_of_arrow, only_bool_and_nat, field_first}
+use Rattle.lam_sub.proofs.ByVariant.{not_arrow, not_record, two_arrows, record_seen, nodes_of_record, nodes_of_arrow, only_bool_and_nat, field_first}
 use Rattle.lam_sub.proofs.Steps.{concluded, concluded_arrow, claim_is, arranged_is, picked_is, permutation_by, width_by, no_premises, proofs_more, claims_more}
 use Rattle.lam_sub.proofs.proving.+prove.Goals as goal
 

@@ -1,0 +1,236 @@
+-- Verdicts on numbers of a table.
+use Rattle.std.proofs.Common.{◌≡◌, ◌⊎◌, ◌↔◌, ℕ, ◌+◌, ◌<◌, ◌≤◌, ◌++◌, List, [], ◌∷◌, Bool, true, false, if◌then◌else◌, IsTrue, String, string_bytes, length, get_or, take, drop, drop-cons, add-one, suc, ap, sym, ◌∙◌, refl, inl, inr, subst, arith, Option, Some, None, IfSome, IfNone, Vec, zero}
+use Rattle.std.proofs.lemmas.List.{take-append-drop}
+use Rattle.std.specs.declared.alloc.Global.{Global}
+use Rattle.lam_rules.specs.Types.{Label, Typ, bool, nat, unit, top, arrow, record_of, Fields, no_fields, field, joined, Has, IsAbsent, nodes, nodes_in, IsWellFormed, AreWellFormed}
+use Rattle.lam_rules.specs.Texts.{is_not_after, placed, sorted, sorted_fields}
+use Rattle.lam_rules.specs.Subtyping.{IsBelow}
+use Rattle.lam_rules.specs.Numbers.{type_at, type_of, Stands, Keeps, fields_over, shaped, IsOver, AreBelow as AreNumbersBelow}
+use Rattle.lam_rules.specs.declared.rules.Dialect.{Dialect}
+use Rattle.lam_rules.specs.declared.table.TyNo.{TyNo}
+use Rattle.lam_rules.specs.declared.table.Shape.{Shape}
+use Rattle.lam_rules.proofs.Tables.{kept_type, keeps_length, below_more}
+use Rattle.lam_rules.proofs.SortedBelow.{below_sorted, sorted_below}
+use Rattle.lam_rules.proofs.ByShape.{below_wf}
+use Rattle.lam_rules.proofs.Composing.{below_refl, below_top, below_trans}
+use Rattle.lam_sub.specs.FieldsBelow.{AreBelow}
+use Rattle.lam_sub.specs.Remembered.{IsRight, AreRight, IsConstant}
+use Rattle.lam_sub.specs.declared.numbers.Verdict.{Verdict}
+use Rattle.lam_sub.proofs.LookUps.{has_in_first, has_in_second, absent_in_both}
+use Rattle.lam_sub.proofs.Below.{bool_below_nat, below_bool, below_nat, below_unit, below_arrow_is, below_record_is, arrow_iff, record_iff}
+use Rattle.lam_sub.proofs.ByVariant.{true_here, false_here}
+
+-- a sorted type has as many nodes, and is below what the type is
+
+nodes_placed : (l : Label) (t : Typ) (fs : Fields) → nodes_in (placed l t fs) ≡ nodes t + nodes_in fs
+nodes_placed l t no_fields = refl
+nodes_placed l t (field k u fs) = by (is_not_after l k) (nodes_placed l t fs)
+  where
+    by : (b : Bool) → nodes_in (placed l t fs) ≡ nodes t + nodes_in fs
+        → nodes_in (if b then field l t (field k u fs) else field k u (placed l t fs)) ≡ nodes t + (nodes u + nodes_in fs)
+    by true e = refl
+    by false e = omega (arith, e)
+
+mutual
+  pub nodes_sorted : (t : Typ) → nodes (sorted t) ≡ nodes t
+  nodes_sorted bool = refl
+  nodes_sorted nat = refl
+  nodes_sorted unit = refl
+  nodes_sorted top = refl
+  nodes_sorted (arrow s t) = let a = nodes_sorted s in let b = nodes_sorted t in omega (arith, a, b)
+  nodes_sorted (record_of fs) = let a = nodes_sorted_fields fs in omega (arith, a)
+
+  nodes_sorted_fields : (fs : Fields) → nodes_in (sorted_fields fs) ≡ nodes_in fs
+  nodes_sorted_fields no_fields = refl
+  nodes_sorted_fields (field l t fs) =
+      let a = nodes_placed l (sorted t) (sorted_fields fs) in
+      let b = nodes_sorted t in
+      let c = nodes_sorted_fields fs in
+      omega (arith, a, b, c)
+
+pub sorted_iff : (s t : Typ) (d : Dialect) → IsWellFormed s → IsWellFormed t → IsBelow (sorted s) (sorted t) d ↔ IsBelow s t d
+sorted_iff s t d ws wt = (
+  λ h. below_trans s (sorted s) t d (below_sorted s d ws) (below_trans (sorted s) (sorted t) t d h (sorted_below t d wt)),
+  λ h. below_trans (sorted s) s (sorted t) d (sorted_below s d ws) (below_trans s t (sorted t) d h (below_sorted t d wt)),
+)
+
+-- verdicts that are kept
+
+pub right_at : (ts : List Typ) (vs : List Verdict) (i : ℕ) (v : Verdict) (d : Dialect) → AreRight ts vs d → i < length vs → v ≡ get_or vs i v → IsRight ts v d
+right_at ts [] i v d right lt is = absurd (omega arith)
+right_at ts (w ∷ vs) zero v d right lt is = subst (λ x. IsRight ts x d) (sym is) right.0
+right_at ts (w ∷ vs) (suc i) v d right lt is = right_at ts vs i v d right.1 (omega arith) is
+
+pub right_push : (ts : List Typ) (vs : List Verdict) (v : Verdict) (d : Dialect) → AreRight ts vs d → IsRight ts v d → AreRight ts (vs ++ v ∷ []) d
+right_push ts [] v d right here = (here, tt)
+right_push ts (w ∷ vs) v d right here = (right.0, right_push ts vs v d right.1 here)
+
+pub right_kept : (old now : List Typ) (vs : List Verdict) (d : Dialect) → Keeps old now → AreRight old vs d → AreRight now vs d
+right_kept old now [] d keeps right = tt
+right_kept old now (v ∷ vs) d keeps right = (one, right_kept old now vs d keeps right.1)
+  where
+    one : IsRight now v d
+    one =
+        let longer = keeps_length old now keeps in
+        let first = right.0.lower in
+        let second = right.0.upper in
+        record {
+          lower = omega arith;
+          upper = omega arith;
+          verdict = subst (λ s. IsTrue v.is_below ↔ IsBelow s (type_of now v.upper) d) (sym (kept_type old now v.lower.index keeps first))
+              (subst (λ t. IsTrue v.is_below ↔ IsBelow (type_of old v.lower) t d) (sym (kept_type old now v.upper.index keeps second)) right.0.verdict);
+        }
+
+-- shapes
+
+pub constant : (s : Shape) → ((p q : TyNo) → s ≡ Shape.Arrow p q → ⊥) → ((fs : Vec (String Global × TyNo) Global) → s ≡ Shape.Record fs → ⊥) → IsConstant s
+constant Shape.Bool n m = tt
+constant Shape.Nat n m = tt
+constant Shape.Unit n m = tt
+constant Shape.Top n m = tt
+constant (Shape.Arrow p q) n m = n p q refl
+constant (Shape.Record fs) n m = m fs refl
+
+shape_bool : (ts : List Typ) (s : Shape) → shaped ts s ≡ bool → s ≡ Shape.Bool
+shape_bool ts Shape.Bool e = refl
+shape_bool ts _ e = cc
+
+shape_nat : (ts : List Typ) (s : Shape) → shaped ts s ≡ nat → s ≡ Shape.Nat
+shape_nat ts Shape.Nat e = refl
+shape_nat ts _ e = cc
+
+shape_unit : (ts : List Typ) (s : Shape) → shaped ts s ≡ unit → s ≡ Shape.Unit
+shape_unit ts Shape.Unit e = refl
+shape_unit ts _ e = cc
+
+pub shape_no_bool : (ts : List Typ) (s : Shape) (d : Dialect) → (s ≡ Shape.Bool → ⊥) → IsTrue false ↔ IsBelow (shaped ts s) bool d
+shape_no_bool ts s d n = false_here (λ below. n (shape_bool ts s (below_bool (shaped ts s) d below)))
+
+pub shape_no_unit : (ts : List Typ) (s : Shape) (d : Dialect) → (s ≡ Shape.Unit → ⊥) → IsTrue false ↔ IsBelow (shaped ts s) unit d
+shape_no_unit ts s d n = false_here (λ below. n (shape_unit ts s (below_unit (shaped ts s) d below)))
+
+pub shape_no_nat : (ts : List Typ) (s : Shape) (d : Dialect) → (s ≡ Shape.Nat → ⊥) → (s ≡ Shape.Bool → ⊥) → IsTrue false ↔ IsBelow (shaped ts s) nat d
+shape_no_nat ts s d n m = false_here (λ below. by (below_nat (shaped ts s) d below))
+  where
+    by : (shaped ts s ≡ nat) ⊎ ((shaped ts s ≡ bool) × (d ≡ Dialect.Two)) → ⊥
+    by (inl e) = n (shape_nat ts s e)
+    by (inr e) = m (shape_bool ts s e.0)
+
+pub bool_nat_iff : (d : Dialect) (r : Bool) → (IsTrue r ↔ (d ≡ Dialect.Two)) → IsTrue r ↔ IsBelow bool nat d
+bool_nat_iff d r decides = ((λ h. rw (decides.0 h) bool_below_nat), (λ below. by (below_nat bool d below)))
+  where
+    by : (bool ≡ nat) ⊎ ((bool ≡ bool) × (d ≡ Dialect.Two)) → IsTrue r
+    by (inl e) = cc
+    by (inr e) = decides.1 e.1
+
+pub shape_no_arrow : (ts : List Typ) (s : Shape) (t1 t2 : Typ) (d : Dialect) → ((p q : TyNo) → s ≡ Shape.Arrow p q → ⊥) → IsTrue false ↔ IsBelow (shaped ts s) (arrow t1 t2) d
+shape_no_arrow ts s t1 t2 d n = false_here (λ below. by s n (below_arrow_is (shaped ts s) t1 t2 d below).2)
+  where
+    by : (u : Shape) → ((p q : TyNo) → u ≡ Shape.Arrow p q → ⊥) → {s1 s2 : Typ} → shaped ts u ≡ arrow s1 s2 → ⊥
+    by (Shape.Arrow p q) m e = m p q refl
+    by _ m e = cc
+
+pub shape_no_record : (ts : List Typ) (s : Shape) (gs : Fields) (d : Dialect) → ((fs : Vec (String Global × TyNo) Global) → s ≡ Shape.Record fs → ⊥) → IsTrue false ↔ IsBelow (shaped ts s) (record_of gs) d
+shape_no_record ts s gs d n = false_here (λ below. by s n (below_record_is (shaped ts s) gs d below).1)
+  where
+    by : (u : Shape) → ((fs : Vec (String Global × TyNo) Global) → u ≡ Shape.Record fs → ⊥) → {hs : Fields} → shaped ts u ≡ record_of hs → ⊥
+    by (Shape.Record fs) m e = m fs refl
+    by _ m e = cc
+
+-- labelled numbers
+
+pub fields_over-drop : (ts : List Typ) (fs : List (String Global × TyNo)) (i : ℕ) (f : String Global × TyNo)
+    → i < length fs → f ≡ get_or fs i f → fields_over ts (drop i fs) ≡ field (string_bytes f.0) (type_of ts f.1) (fields_over ts (drop (i + 1) fs))
+fields_over-drop ts fs i f lt is =
+    rw add-one (rw (drop-cons fs i f lt) (ap (λ g. field (string_bytes g.0) (type_of ts g.1) (fields_over ts (drop (suc i) fs))) (sym is)))
+
+fields_over-append : (ts : List Typ) (fs gs : List (String Global × TyNo)) → fields_over ts (fs ++ gs) ≡ joined (fields_over ts fs) (fields_over ts gs)
+fields_over-append ts [] gs = refl
+fields_over-append ts (f ∷ fs) gs = ap (λ rest. field (string_bytes f.0) (type_of ts f.1) rest) (fields_over-append ts fs gs)
+
+fields_over-cut : (ts : List Typ) (fs : List (String Global × TyNo)) (n : ℕ) → joined (fields_over ts (take n fs)) (fields_over ts (drop n fs)) ≡ fields_over ts fs
+fields_over-cut ts fs n = sym (fields_over-append ts (take n fs) (drop n fs)) ∙ ap (λ gs. fields_over ts gs) (take-append-drop n fs)
+
+pub number_in_front : (ts : List Typ) (fs : List (String Global × TyNo)) (n : ℕ) (l : Label) (t : Typ) → Has l t (fields_over ts (take n fs)) → Has l t (fields_over ts fs)
+number_in_front ts fs n l t has = subst (λ r. Has l t r) (fields_over-cut ts fs n) (has_in_first (fields_over ts (take n fs)) (fields_over ts (drop n fs)) l t has)
+
+pub number_in_back : (ts : List Typ) (fs : List (String Global × TyNo)) (n : ℕ) (l : Label) (t : Typ) → Has l t (fields_over ts (drop n fs)) → Has l t (fields_over ts fs)
+number_in_back ts fs n l t has = subst (λ r. Has l t r) (fields_over-cut ts fs n) (has_in_second (fields_over ts (take n fs)) (fields_over ts (drop n fs)) l t has)
+
+pub number_in_neither : (ts : List Typ) (fs : List (String Global × TyNo)) (n : ℕ) (l : Label)
+    → IsAbsent l (fields_over ts (take n fs)) → IsAbsent l (fields_over ts (drop n fs)) → IsAbsent l (fields_over ts fs)
+number_in_neither ts fs n l a b = subst (λ r. IsAbsent l r) (fields_over-cut ts fs n) (absent_in_both (fields_over ts (take n fs)) (fields_over ts (drop n fs)) l a b)
+
+numbers_split : (n : ℕ) (fs gs : List (String Global × TyNo)) → AreNumbersBelow n (fs ++ gs) → AreNumbersBelow n fs × AreNumbersBelow n gs
+numbers_split n [] gs below = (tt, below)
+numbers_split n (f ∷ fs) gs below = let rest = numbers_split n fs gs below.1 in ((below.0, rest.0), rest.1)
+
+pub numbers_cut : (n : ℕ) (fs : List (String Global × TyNo)) (k : ℕ) → AreNumbersBelow n fs → AreNumbersBelow n (take k fs) × AreNumbersBelow n (drop k fs)
+numbers_cut n fs k below = numbers_split n (take k fs) (drop k fs) (subst (λ gs. AreNumbersBelow n gs) (sym (take-append-drop k fs)) below)
+
+pub number_item : (n : ℕ) (fs : List (String Global × TyNo)) (i : ℕ) (f : String Global × TyNo) → AreNumbersBelow n fs → i < length fs → f ≡ get_or fs i f → f.1.index < n
+number_item n [] i f below lt is = absurd (omega arith)
+number_item n (g ∷ fs) zero f below lt is = subst (λ x. x.1.index < n) (sym is) below.0
+number_item n (g ∷ fs) (suc i) f below lt is = number_item n fs i f below.1 (omega arith) is
+
+pub number_has : (ts : List Typ) (fs : List (String Global × TyNo)) (i : ℕ) (f : String Global × TyNo) → i < length fs → f ≡ get_or fs i f
+    → Has (string_bytes f.0) (type_of ts f.1) (fields_over ts fs)
+number_has ts fs i f lt is =
+    number_in_back ts fs i (string_bytes f.0) (type_of ts f.1) (rw (fields_over-drop ts fs i f lt is) (inl (refl, refl)))
+
+-- the fields above, one after the other
+pub number_first : (ts : List Typ) (fs : Fields) (gs : List (String Global × TyNo)) (i : ℕ) (g : String Global × TyNo) (d : Dialect) → i < length gs → g ≡ get_or gs i g
+    → (((s : Typ) × Has (string_bytes g.0) s fs × IsBelow s (type_of ts g.1) d) × AreBelow fs (fields_over ts (drop (i + 1) gs)) d) ↔ AreBelow fs (fields_over ts (drop i gs)) d
+number_first ts fs gs i g d lt is = rw (fields_over-drop ts gs i g lt is) ((λ h. h), (λ h. h))
+
+-- a verdict on sorted forms is one on the types
+pub sorted_verdict : (s t x y : Typ) (d : Dialect) (r : Bool) → IsWellFormed s → IsWellFormed t → x ≡ sorted s → y ≡ sorted t
+    → IsTrue r ↔ IsBelow x y d → IsTrue r ↔ IsBelow s t d
+sorted_verdict s t x y d r ws wt is_x is_y verdict =
+    let iff = sorted_iff s t d ws wt in
+    let here = subst (λ u. IsTrue r ↔ IsBelow u (sorted t) d) is_x (subst (λ u. IsTrue r ↔ IsBelow x u d) is_y verdict) in
+    ((λ h. iff.0 (here.0 h)), (λ h. here.1 (iff.1 h)))
+
+pub found_right : (ts : List Typ) (vs : List Verdict) (i : ℕ) (v : Verdict) (lower upper : TyNo) (d : Dialect) → i < length vs → v ≡ get_or vs i v
+    → v.lower.index ≡ lower.index → v.upper.index ≡ upper.index → AreRight ts vs d → IsTrue v.is_below ↔ IsBelow (type_of ts lower) (type_of ts upper) d
+found_right ts vs i v lower upper d lt is is_lower is_upper right =
+    subst (λ n. IsTrue v.is_below ↔ IsBelow (type_at ts n) (type_of ts upper) d) is_lower
+    (subst (λ n. IsTrue v.is_below ↔ IsBelow (type_of ts v.lower) (type_at ts n) d) is_upper (right_at ts vs i v d right lt is).verdict)
+
+pub none_then : {X : Type 0} {A B : Type 0} (r : Option X) → IfNone r A → (A → B) → IfNone r B
+none_then (Some x) a f = tt
+none_then None a f = f a
+
+-- types by the shapes of their numbers
+
+pub arrow_numbers : (ts : List Typ) (s t : Typ) (x y : Shape) (p o q r : TyNo) (d : Dialect) → s ≡ shaped ts x → t ≡ shaped ts y → x ≡ Shape.Arrow p o → y ≡ Shape.Arrow q r
+    → (IsBelow (type_of ts q) (type_of ts p) d × IsBelow (type_of ts o) (type_of ts r) d) ↔ IsBelow s t d
+arrow_numbers ts s t x y p o q r d is_s is_t is_x is_y =
+    subst (λ u. (IsBelow (type_of ts q) (type_of ts p) d × IsBelow (type_of ts o) (type_of ts r) d) ↔ IsBelow u t d) (sym (is_s ∙ ap (shaped ts) is_x))
+    (subst (λ u. (IsBelow (type_of ts q) (type_of ts p) d × IsBelow (type_of ts o) (type_of ts r) d) ↔ IsBelow (arrow (type_of ts p) (type_of ts o)) u d) (sym (is_t ∙ ap (shaped ts) is_y))
+    (arrow_iff (type_of ts p) (type_of ts o) (type_of ts q) (type_of ts r) d))
+
+pub nodes_of_numbers : (ts : List Typ) (s : Typ) (x : Shape) (p o : TyNo) → s ≡ shaped ts x → x ≡ Shape.Arrow p o → nodes s ≡ 1 + nodes (type_of ts p) + nodes (type_of ts o)
+nodes_of_numbers ts s x p o is_s is_x = ap nodes (is_s ∙ ap (shaped ts) is_x)
+
+pub record_of_numbers : (ts : List Typ) (s : Typ) (x : Shape) (fs : Vec (String Global × TyNo) Global) (xs : List (String Global × TyNo))
+    → s ≡ shaped ts x → x ≡ Shape.Record fs → xs ≡ fs.items → s ≡ record_of (fields_over ts xs)
+record_of_numbers ts s x fs xs is_s is_x is_xs = is_s ∙ ap (shaped ts) is_x ∙ ap (λ ys. record_of (fields_over ts ys)) (sym is_xs)
+
+pub not_arrow_numbers : (ts : List Typ) (s t : Typ) (x y : Shape) (q r : TyNo) (d : Dialect) → s ≡ shaped ts x → t ≡ shaped ts y → y ≡ Shape.Arrow q r
+    → ((p o : TyNo) → x ≡ Shape.Arrow p o → ⊥) → IsTrue false ↔ IsBelow s t d
+not_arrow_numbers ts s t x y q r d is_s is_t is_y n =
+    subst (λ u. IsTrue false ↔ IsBelow u t d) (sym is_s)
+    (subst (λ u. IsTrue false ↔ IsBelow (shaped ts x) u d) (sym (is_t ∙ ap (shaped ts) is_y)) (shape_no_arrow ts x (type_of ts q) (type_of ts r) d n))
+
+pub not_record_numbers : (ts : List Typ) (s t : Typ) (x y : Shape) (gs : Vec (String Global × TyNo) Global) (d : Dialect) → s ≡ shaped ts x → t ≡ shaped ts y → y ≡ Shape.Record gs
+    → ((fs : Vec (String Global × TyNo) Global) → x ≡ Shape.Record fs → ⊥) → IsTrue false ↔ IsBelow s t d
+not_record_numbers ts s t x y gs d is_s is_t is_y n =
+    subst (λ u. IsTrue false ↔ IsBelow u t d) (sym is_s)
+    (subst (λ u. IsTrue false ↔ IsBelow (shaped ts x) u d) (sym (is_t ∙ ap (shaped ts) is_y)) (shape_no_record ts x (fields_over ts gs.items) d n))
+
+pub stand_in : (n m : ℕ) (x : Shape) (fs : Vec (String Global × TyNo) Global) (xs : List (String Global × TyNo)) → IsOver n x → n < m → x ≡ Shape.Record fs → xs ≡ fs.items → AreNumbersBelow m xs
+stand_in n m x fs xs over lt is_x is_xs =
+    subst (λ ys. AreNumbersBelow m ys) (sym is_xs) (below_more n m fs.items (subst (λ s. IsOver n s) is_x over) (omega arith))
+
+pub ruleset kept_verdicts = (right_kept)
