@@ -1,0 +1,9 @@
+pub mod WrittenTypes
+pub mod NameStacks
+pub mod Walks
+pub mod Forms
+pub mod Resolving
+pub mod SeenStacks
+pub mod Finding
+pub mod WellFormedForms
+pub mod PlaceTerms

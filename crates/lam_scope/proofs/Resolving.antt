@@ -1,0 +1,52 @@
+-- How commands are resolved one after the other.
+use Rattle.std.proofs.Common.{◌≡◌, ℕ, ◌+◌, ◌<◌, min, ltb, List, [], ◌∷◌, ◌++◌, length, drop, get_or, suc, refl, ap, sym, ◌∙◌, drop-cons, add-one, append_assoc, map, Bor, Bool, true, false, Option, Some, None, arith}
+use Rattle.std.proofs.lemmas.List.{append-nil, drop_all}
+use Rattle.std.proofs.lemmas.Bool.Decides.{nat_tests}
+use Rattle.lam_rules.specs.Types.{Typ, nodes}
+use Rattle.lam_syntax.specs.declared.types.WrittenTy.{WrittenTy}
+use Rattle.lam_token.specs.declared.span.Span.{Span}
+use Rattle.lam_syntax.specs.declared.terms.Command.{Command}
+use Rattle.lam_syntax.specs.Trees.{TypeTree, CommandTree}
+use Rattle.lam_syntax.specs.Views.{type_of, command_of}
+use Rattle.lam_scope.specs.declared.statement.Statement.{Statement as RustStatement}
+use Rattle.lam_scope.specs.Expansions.{Abbreviation, expansion, is_over_limit, capped_nodes, is_capped}
+use Rattle.lam_scope.specs.Nameless.{faults_in, first_over_limit, first_too_large, abbreviations_after, written_in_command}
+use Rattle.lam_scope.specs.declared.rows.BinderRow.{BinderRow}
+use Rattle.lam_scope.specs.TableViews.{text_binder}
+use Rattle.lam_scope.specs.Views.{statement_of, written_trees}
+use Rattle.lam_scope.proofs.WrittenTypes.{abbreviations_of-push}
+
+pub written_trees-drop : (us : List (Bor WrittenTy)) (i : ℕ) (u : Bor WrittenTy) → i < length us → u ≡ get_or us i u
+    → written_trees (drop i us) ≡ type_of u.now ∷ written_trees (drop (i + 1) us)
+written_trees-drop us i u lt is = rw add-one (rw (drop-cons us i u lt) (ap (λ v. type_of v.now ∷ written_trees (drop (suc i) us)) (sym is)))
+
+ltb-capped : (n : ℕ) → ltb 4096 (min n 4097) ≡ ltb 4096 n
+ltb-capped n = grind (arith, nat_tests)
+
+pub is_capped-nodes : (o : Option Typ) → is_capped (capped_nodes o) ≡ is_over_limit o
+is_capped-nodes None = refl
+is_capped-nodes (Some t) = ltb-capped (nodes t)
+
+pub statements-push : (ss : List RustStatement) (s : RustStatement) → map statement_of (ss ++ s ∷ []) ≡ map statement_of ss ++ statement_of s ∷ []
+statements-push [] s = refl
+statements-push (r ∷ ss) s = ap (λ rs. statement_of r ∷ rs) (statements-push ss s)
+
+pub ruleset resolving = (written_trees-drop, is_capped-nodes, statements-push, abbreviations_of-push, append-nil, append_assoc)
+
+pub commands-drop : (cs : List Command) (i : ℕ) (c : Command) → i < length cs → c ≡ get_or cs i c
+    → map command_of (drop i cs) ≡ command_of c ∷ map command_of (drop (i + 1) cs)
+commands-drop cs i c lt is = rw add-one (rw (drop-cons cs i c lt) (ap (λ d. command_of d ∷ map command_of (drop (suc i) cs)) (sym is)))
+
+pub first_large : (bs : List Abbreviation) (c : CommandTree) (cs : List CommandTree) → first_over_limit bs (written_in_command c) ≡ None
+    → first_too_large bs (c ∷ cs) ≡ first_too_large (abbreviations_after bs c) cs
+first_large bs c cs none = rw none refl
+
+pub first_is_large : (bs : List Abbreviation) (c : CommandTree) (cs : List CommandTree) (s : Span) → first_over_limit bs (written_in_command c) ≡ Some s
+    → first_too_large bs (c ∷ cs) ≡ Some s
+first_is_large bs c cs s some = rw some refl
+
+pub ruleset commands = (commands-drop, first_large, first_is_large, append-nil, append_assoc, drop_all)
+
+pub origins-rows : (rows : List BinderRow) → map (λ b. b.origin) (map text_binder rows) ≡ map (λ r. r.origin) rows
+origins-rows [] = refl
+origins-rows (r ∷ rows) = ap (λ os. r.origin ∷ os) (origins-rows rows)

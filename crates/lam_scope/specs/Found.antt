@@ -1,0 +1,56 @@
+-- The search for the place of a number.
+use Rattle.std.specs.Prelude.{ℕ, zero, suc, List, [], ◌∷◌, ◌++◌}
+use Rattle.lam_rules.specs.Terms.{Term, true_term, false_term, if_then_else, numeral, succ, pred, is_zero, variable, free, lambda, apply, unit_term, ascribe, let_in, record_term, project, fix, TermFields, no_terms, term_field}
+use Rattle.lam_rules.specs.TermViews.{term_of}
+use Rattle.lam_scope.specs.declared.search.Found.{Found}
+use Rattle.lam_scope.specs.declared.search.Found.TheVariants.{Here, Behind}
+use Rattle.lam_scope.specs.Places.{Statement, defines, declares, abbreviates, states}
+
+-- the terms at the places of a term, in the order of places
+abbrev mutual
+  pub terms_at : Term → List Term
+  terms_at (if_then_else c a b) = terms_at c ++ terms_at a ++ terms_at b ++ if_then_else c a b ∷ []
+  terms_at (succ e) = terms_at e ++ succ e ∷ []
+  terms_at (pred e) = terms_at e ++ pred e ∷ []
+  terms_at (is_zero e) = terms_at e ++ is_zero e ∷ []
+  terms_at (lambda w e) = terms_at e ++ lambda w e ∷ []
+  terms_at (apply f a) = terms_at f ++ terms_at a ++ apply f a ∷ []
+  terms_at (ascribe e w) = terms_at e ++ ascribe e w ∷ []
+  terms_at (let_in a b) = terms_at a ++ terms_at b ++ let_in a b ∷ []
+  terms_at (record_term es) = terms_at_fields es ++ record_term es ∷ []
+  terms_at (project e l) = terms_at e ++ project e l ∷ []
+  terms_at (fix e) = terms_at e ++ fix e ∷ []
+  terms_at e = e ∷ []
+
+  pub terms_at_fields : TermFields → List Term
+  terms_at_fields no_terms = []
+  terms_at_fields (term_field l e es) = terms_at e ++ terms_at_fields es
+
+abbrev pub terms_stated : Statement → List Term
+terms_stated (defines e) = terms_at e
+terms_stated (declares w) = []
+terms_stated (abbreviates w) = []
+terms_stated (states e) = terms_at e
+
+abbrev pub terms_in : List Statement → List Term
+terms_in [] = []
+terms_in (s ∷ ss) = terms_stated s ++ terms_in ss
+
+-- what a search among terms comes to: the term of the number that was sought, or how far behind them it is
+pub data Sought : Type 0 where
+  here : Term → Sought
+  behind : ℕ → Sought
+
+abbrev pub seek : List Term → ℕ → Sought
+seek [] n = behind n
+seek (t ∷ ts) zero = here t
+seek (t ∷ ts) (suc n) = seek ts n
+
+-- the search goes on among more terms
+abbrev pub seek_on : Sought → List Term → Sought
+seek_on (here t) ts = here t
+seek_on (behind n) ts = seek ts n
+
+abbrev pub sought_of : Found → Sought
+sought_of (Here c) = here (term_of c.now)
+sought_of (Behind n) = behind n

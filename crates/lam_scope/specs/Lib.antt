@@ -1,0 +1,10 @@
+pub mod Places
+pub mod Sights
+pub mod Names
+pub mod Expansions
+pub mod Nameless
+pub mod Tables
+pub mod TableViews
+pub mod WellFormed
+pub mod Found
+pub mod Views

@@ -1,0 +1,45 @@
+-- How the rows of the tables and the binders that are seen stand for those of the definitions.
+use Rattle.std.specs.Prelude.{List, [], ◌∷◌, ℕ, map, Option, Vec, String, string_bytes}
+use Rattle.std.specs.Option.{option_map}
+use Rattle.lam_scope.specs.declared.numbers.Binder.{Binder}
+use Rattle.lam_scope.specs.declared.numbers.Place.{Place}
+use Rattle.lam_scope.specs.declared.rows.BinderRow.{BinderRow}
+use Rattle.lam_scope.specs.declared.rows.UseRow.{UseRow}
+use Rattle.lam_scope.specs.declared.rows.PlaceRow.{PlaceRow}
+use Rattle.lam_scope.specs.declared.seen.SeenBinder.{SeenBinder}
+use Rattle.lam_scope.specs.Tables.{Entry, entry, TextBinder, TextUse, TextPlace, Table}
+
+abbrev pub binder_number : Binder → ℕ
+binder_number b = b.0
+
+abbrev pub place_number : Place → ℕ
+place_number p = p.0
+
+abbrev pub entry_of : SeenBinder → Entry
+entry_of b = entry (option_map (λ x. x.now) b.name) b.number.0 b.answer.0
+
+-- the binders of a stack on top of others
+abbrev pub stacked_entries : List Entry → List SeenBinder → List Entry
+stacked_entries es [] = es
+stacked_entries es (b ∷ more) = stacked_entries (entry_of b ∷ es) more
+
+-- the binders of a stack, the innermost first
+abbrev pub entries_of : List SeenBinder → List Entry
+entries_of stack = stacked_entries [] stack
+
+-- all but the innermost
+abbrev pub outside_of : List Entry → List Entry
+outside_of [] = []
+outside_of (e ∷ es) = es
+
+abbrev pub text_binder : BinderRow → TextBinder
+text_binder r = record { name = option_map (λ s. string_bytes s) r.name; token = r.token; outer = option_map binder_number r.outer; answer = r.answer.0; origin = r.origin }
+
+abbrev pub text_use : UseRow → TextUse
+text_use r = record { name = string_bytes r.name; token = r.token; sees = option_map binder_number r.sees; binder = option_map binder_number r.binder }
+
+abbrev pub text_place : PlaceRow → TextPlace
+text_place r = record { span = r.span; derived = r.derived; terms = map place_number r.terms.items; inner = option_map binder_number r.inner }
+
+abbrev pub rows_table : List BinderRow → List UseRow → List PlaceRow → Table
+rows_table bs us ps = record { binders = map text_binder bs; uses = map text_use us; places = map text_place ps }

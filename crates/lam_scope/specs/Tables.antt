@@ -1,0 +1,296 @@
+-- What the names of a document are bound to: its binders, uses and places by number, each kind in its order.
+use Rattle.std.specs.Prelude.{ℕ, zero, suc, ◌+◌, ◌≡◌, List, [], ◌∷◌, ◌++◌, map, Bool, true, false, not, ◌&&◌, ◌==◌, Option, Some, None, if◌then◌else◌, length, get_or, reverse, filter, position, codes}
+use Rattle.std.proofs.Math.Dec.{ltb, leb}
+use Rattle.lam_token.specs.declared.span.Span.{Span}
+use Rattle.lam_syntax.specs.Trees.{word, Bound, bound, TypeTree, type_tree, TypeNode, named, arrow, record_type, TypeFields, no_type_fields, type_field, TermTree, term_tree, TermNode, true_term, false_term, unit_term, variable, numeral, lambda, if_term, let_term, letrec_term, prefixed, apply, project, ascribe, record_term, TermFields, no_fields, field, CommandTree, definition, declaration, abbreviation, evaluation, term_span}
+use Rattle.lam_scope.specs.declared.numbers.Origin.{Origin}
+use Rattle.lam_scope.specs.declared.numbers.Origin.TheVariants.{Lambda, Term, Declaration, TypeName}
+use Rattle.lam_scope.specs.Names.{Name, binds}
+
+-- A binder of names or of type names, in the order of the text. A letrec's token is two: the derived lambda's, and the let's behind it.
+pub record TextBinder : Type 0 where
+  -- an underscore has none
+  pub name : Option Name
+  pub token : Span
+  -- the binder of its kind just outside of it
+  pub outer : Option ℕ
+  -- the binder that its uses, and its token, are told as: itself, or for a letrec's lambda the let's
+  pub answer : ℕ
+  pub origin : Origin
+
+-- a use of a name or of a type name, in the order of the text
+pub record TextUse : Type 0 where
+  pub name : Name
+  pub token : Span
+  -- the innermost binder of its kind that it sees
+  pub sees : Option ℕ
+  -- its own, or none where it is unbound
+  pub binder : Option ℕ
+
+-- a term of a command, in the order of places
+pub record TextPlace : Type 0 where
+  pub span : Span
+  -- whether it stands for a letrec's lambda or fix, which are not written
+  pub derived : Bool
+  -- its immediate terms
+  pub terms : List ℕ
+  -- the innermost of the binders of names that it sees
+  pub inner : Option ℕ
+
+pub record Table : Type 0 where
+  pub binders : List TextBinder
+  pub uses : List TextUse
+  pub places : List TextPlace
+
+-- one table, and another behind it
+infixl 60 ◌⊕◌
+abbrev pub ◌⊕◌ : Table → Table → Table
+s ⊕ t = record { binders = s.binders ++ t.binders; uses = s.uses ++ t.uses; places = s.places ++ t.places }
+
+abbrev pub empty_table : Table
+empty_table = record { binders = []; uses = []; places = [] }
+
+-- a binder as the terms under it see it: its name, its number, and the binder that its uses are told as
+pub record Entry : Type 0 where
+  pub name : Option Name
+  pub number : ℕ
+  pub answer : ℕ
+
+abbrev pub entry : Option Name → (number answer : ℕ) → Entry
+entry x n a = record { name = x; number = n; answer = a }
+
+-- the innermost of the binders that are seen
+abbrev pub innermost : List Entry → Option ℕ
+innermost [] = None
+innermost (e ∷ es) = Some e.number
+
+-- the binder of a use: the innermost one of its name
+abbrev pub bound_to : Name → List Entry → Option ℕ
+bound_to x [] = None
+bound_to x (e ∷ es) = if binds e.name x then Some e.answer else bound_to x es
+
+abbrev pub binder_row : Option Name → Span → List Entry → (answer : ℕ) → Origin → Table
+binder_row x s seen a o = record { binders = record { name = x; token = s; outer = innermost seen; answer = a; origin = o } ∷ []; uses = []; places = [] }
+
+abbrev pub use_row : Name → Span → List Entry → Table
+use_row x s seen = record { binders = []; uses = record { name = x; token = s; sees = innermost seen; binder = bound_to x seen } ∷ []; places = [] }
+
+abbrev pub place_row : Span → (derived : Bool) → (terms : List ℕ) → List Entry → Table
+place_row s d ts seen = record { binders = []; uses = []; places = record { span = s; derived = d; terms = ts; inner = innermost seen } ∷ [] }
+
+abbrev pub has_name : Option Name → Bool
+has_name None = false
+has_name (Some x) = true
+
+abbrev pub is_number : ℕ → Option ℕ → Bool
+is_number n None = false
+is_number n (Some m) = m == n
+
+-- how many binders a term has
+abbrev mutual
+  pub binders_in : TermTree → ℕ
+  binders_in (term_tree s n) = binders_in_node n
+
+  pub binders_in_node : TermNode → ℕ
+  binders_in_node (lambda b u t) = 1 + binders_in t
+  binders_in_node (if_term c t u) = binders_in c + binders_in t + binders_in u
+  binders_in_node (let_term b t u) = 1 + binders_in t + binders_in u
+  binders_in_node (letrec_term b w t u) = 2 + binders_in t + binders_in u
+  binders_in_node (prefixed p t) = binders_in t
+  binders_in_node (apply t u) = binders_in t + binders_in u
+  binders_in_node (project t l) = binders_in t
+  binders_in_node (ascribe t u) = binders_in t
+  binders_in_node (record_term fs) = binders_in_fields fs
+  binders_in_node n = 0
+
+  pub binders_in_fields : TermFields → ℕ
+  binders_in_fields no_fields = 0
+  binders_in_fields (field l t fs) = binders_in t + binders_in_fields fs
+
+-- how many places a term has besides its own, which is behind them
+abbrev mutual
+  pub below : TermTree → ℕ
+  below (term_tree s n) = below_node n
+
+  pub below_node : TermNode → ℕ
+  below_node (lambda b u t) = below t + 1
+  below_node (if_term c t u) = below c + 1 + below t + 1 + below u + 1
+  below_node (let_term b t u) = below t + 1 + below u + 1
+  below_node (letrec_term b w t u) = below t + 3 + below u + 1
+  below_node (prefixed p t) = below t + 1
+  below_node (apply t u) = below t + 1 + below u + 1
+  below_node (project t l) = below t + 1
+  below_node (ascribe t u) = below t + 1
+  below_node (record_term fs) = below_fields fs
+  below_node n = 0
+
+  pub below_fields : TermFields → ℕ
+  below_fields no_fields = 0
+  below_fields (field l t fs) = below t + 1 + below_fields fs
+
+-- the place of a term whose first place is k, and the place behind it
+abbrev pub root : ℕ → TermTree → ℕ
+root k t = k + below t
+
+abbrev pub behind : ℕ → TermTree → ℕ
+behind k t = root k t + 1
+
+-- the uses of type names in a written type
+abbrev mutual
+  pub type_uses : List Entry → TypeTree → Table
+  type_uses types (type_tree s n) = node_uses types n
+
+  pub node_uses : List Entry → TypeNode → Table
+  node_uses types (named (word x s)) = use_row x s types
+  node_uses types (arrow a b) = type_uses types a ⊕ type_uses types b
+  node_uses types (record_type fs) = field_uses types fs
+  node_uses types n = empty_table
+
+  pub field_uses : List Entry → TypeFields → Table
+  field_uses types no_type_fields = empty_table
+  field_uses types (type_field l t fs) = type_uses types t ⊕ field_uses types fs
+
+-- the places of the immediate terms of a term whose first place is k
+abbrev pub roots_of_fields : (k : ℕ) → TermFields → List ℕ
+roots_of_fields k no_fields = []
+roots_of_fields k (field l t fs) = root k t ∷ roots_of_fields (behind k t) fs
+
+abbrev pub roots : (k : ℕ) → TermNode → List ℕ
+roots k (lambda b u t) = root k t ∷ []
+roots k (if_term c t u) = root k c ∷ root (behind k c) t ∷ root (behind (behind k c) t) u ∷ []
+roots k (let_term b t u) = root k t ∷ root (behind k t) u ∷ []
+roots k (letrec_term b w t u) = (root k t + 2) ∷ root (root k t + 3) u ∷ []
+roots k (prefixed p t) = root k t ∷ []
+roots k (apply t u) = root k t ∷ root (behind k t) u ∷ []
+roots k (project t l) = root k t ∷ []
+roots k (ascribe t u) = root k t ∷ []
+roots k (record_term fs) = roots_of_fields k fs
+roots k node = []
+
+abbrev pub lambda_at : ℕ → Origin
+lambda_at k = Lambda (record { 0 = k })
+
+abbrev pub term_at : ℕ → Origin
+term_at k = Term (record { 0 = k })
+
+-- The table of a term that sees these binders of type names and of names, where its first binder has the number n and its first place the number k.
+abbrev mutual
+  pub term_table : (types names : List Entry) → (n k : ℕ) → TermTree → Table
+  term_table types names n k (term_tree s node) = node_table types names n k node ⊕ place_row s false (roots k node) names
+
+  -- all of a term but its own place
+  pub node_table : (types names : List Entry) → (n k : ℕ) → TermNode → Table
+  node_table types names n k (variable (word x r)) = use_row x r names
+  node_table types names n k (lambda (bound b r) u t) =
+      binder_row b r names n (lambda_at (behind k t))
+      ⊕ type_uses types u
+      ⊕ term_table types (entry b n n ∷ names) (n + 1) k t
+  node_table types names n k (if_term c t u) =
+      term_table types names n k c
+      ⊕ term_table types names (n + binders_in c) (behind k c) t
+      ⊕ term_table types names (n + binders_in c + binders_in t) (behind (behind k c) t) u
+  node_table types names n k (let_term (bound b r) t u) =
+      binder_row b r names n (term_at (root k t))
+      ⊕ term_table types names (n + 1) k t
+      ⊕ term_table types (entry b n n ∷ names) (n + 1 + binders_in t) (behind k t) u
+  node_table types names n k (letrec_term (bound b r) w t u) =
+      binder_row b r names (n + 1) (lambda_at (root k t + 1))
+      ⊕ binder_row b r names (n + 1) (term_at (root k t + 2))
+      ⊕ type_uses types w
+      ⊕ term_table types (entry b n (n + 1) ∷ names) (n + 2) k t
+      ⊕ place_row (term_span t) true (root k t ∷ []) names
+      ⊕ place_row (term_span t) true ((root k t + 1) ∷ []) names
+      ⊕ term_table types (entry b (n + 1) (n + 1) ∷ names) (n + 2 + binders_in t) (root k t + 3) u
+  node_table types names n k (prefixed p t) = term_table types names n k t
+  node_table types names n k (apply t u) =
+      term_table types names n k t ⊕ term_table types names (n + binders_in t) (behind k t) u
+  node_table types names n k (project t l) = term_table types names n k t
+  node_table types names n k (ascribe t u) = term_table types names n k t ⊕ type_uses types u
+  node_table types names n k (record_term fs) = fields_table types names n k fs
+  node_table types names n k node = empty_table
+
+  pub fields_table : (types names : List Entry) → (n k : ℕ) → TermFields → Table
+  fields_table types names n k no_fields = empty_table
+  fields_table types names n k (field l t fs) =
+      term_table types names n k t ⊕ fields_table types names (n + binders_in t) (behind k t) fs
+
+-- The table of the commands of a document behind those that it sees: n binders, k places and i commands are before them.
+abbrev pub commands_table : (types names : List Entry) → (n k i : ℕ) → List CommandTree → Table
+commands_table types names n k i [] = empty_table
+commands_table types names n k i (definition (word x s) t ∷ cs) =
+    binder_row (Some x) s names n (term_at (root k t))
+    ⊕ term_table types names (n + 1) k t
+    ⊕ commands_table types (entry (Some x) n n ∷ names) (n + 1 + binders_in t) (behind k t) (i + 1) cs
+commands_table types names n k i (declaration (word x s) u ∷ cs) =
+    binder_row (Some x) s names n (Declaration i)
+    ⊕ type_uses types u
+    ⊕ commands_table types (entry (Some x) n n ∷ names) (n + 1) k (i + 1) cs
+commands_table types names n k i (abbreviation (word x s) u ∷ cs) =
+    binder_row (Some x) s types n TypeName
+    ⊕ type_uses types u
+    ⊕ commands_table (entry (Some x) n n ∷ types) names (n + 1) k (i + 1) cs
+commands_table types names n k i (evaluation t ∷ cs) =
+    term_table types names n k t
+    ⊕ commands_table types names (n + binders_in t) (behind k t) (i + 1) cs
+
+abbrev pub table : List CommandTree → Table
+table cs = commands_table [] [] 0 0 0 cs
+
+-- What is read off a table.
+
+abbrev pub no_span : Span
+no_span = record { start = 0; end = 0 }
+
+abbrev pub binder_numbered : Table → ℕ → TextBinder
+binder_numbered t n = get_or t.binders n (record { name = None; token = no_span; outer = None; answer = n; origin = TypeName })
+
+abbrev pub place_row_numbered : Table → ℕ → TextPlace
+place_row_numbered t n = get_or t.places n (record { span = no_span; derived = true; terms = []; inner = None })
+
+-- The binders that are seen from one on, the innermost first: itself, the one just outside of it, and so on. They are no more than n.
+abbrev pub seen_from : Table → (n : ℕ) → Option ℕ → List ℕ
+seen_from t n None = []
+seen_from t zero (Some b) = []
+seen_from t (suc n) (Some b) = b ∷ seen_from t n (binder_numbered t b).outer
+
+-- the binders of names that a place sees, the outermost first
+abbrev pub visible_at : Table → ℕ → List ℕ
+visible_at t p = reverse (seen_from t (length t.binders) (place_row_numbered t p).inner)
+
+-- a name's token there is the binder's
+abbrev pub is_token_at : ℕ → TextBinder → Bool
+is_token_at o b = has_name b.name && (b.token.start == o)
+
+-- the binder that the name token there binds or uses, if it is bound
+abbrev pub binder_used_at : ℕ → List TextUse → Option ℕ
+binder_used_at o [] = None
+binder_used_at o (u ∷ us) = if u.token.start == o then u.binder else binder_used_at o us
+
+abbrev pub binder_told_at : ℕ → List TextUse → List TextBinder → Option ℕ
+binder_told_at o us [] = binder_used_at o us
+binder_told_at o us (b ∷ bs) = if is_token_at o b then Some b.answer else binder_told_at o us bs
+
+abbrev pub binder_at : Table → ℕ → Option ℕ
+binder_at t o = binder_told_at o t.uses t.binders
+
+-- the tokens of the uses of a binder
+abbrev pub is_use_of : ℕ → TextUse → Bool
+is_use_of n u = is_number n u.binder
+
+abbrev pub tokens_of : ℕ → List TextUse → List Span
+tokens_of n us = map (λ u. u.token) (filter (is_use_of n) us)
+
+abbrev pub uses_of : Table → ℕ → List Span
+uses_of t n = tokens_of (binder_numbered t n).answer t.uses
+
+-- The innermost place of an offset. Each term stands behind those in it in the order of places, so it is the first that has it.
+abbrev pub is_over : ℕ → TextPlace → Bool
+is_over o p = not p.derived && (leb p.span.start o && ltb o p.span.end)
+
+abbrev pub place_at : Table → ℕ → Option ℕ
+place_at t o = position (is_over o) t.places
+
+-- what is shown for the name of a binder
+abbrev pub shown_name : Option Name → Name
+shown_name None = codes "_"
+shown_name (Some x) = x

@@ -1,0 +1,87 @@
+-- What the values of this crate stand for.
+use Rattle.std.specs.Prelude.{List, [], ◌∷◌, ℕ, map, Option, Some, None, Result, Ok, Err, ◌≡◌, Vec, String}
+use Rattle.std.specs.Borrow.{Bor}
+use Rattle.std.specs.Option.{option_map}
+use Rattle.std.specs.declared.alloc.Global.{Global}
+use Rattle.lam_rules.specs.Types.{Fields}
+use Rattle.lam_rules.specs.TypeViews.{fields_of}
+use Rattle.lam_rules.specs.declared.types.Ty.{Ty}
+use Rattle.lam_rules.specs.TermViews.{term_of, written_of}
+use Rattle.lam_scope.specs.declared.statement.Statement.{Statement as RustStatement}
+use Rattle.lam_scope.specs.declared.statement.Statement.TheVariants as rust
+use Rattle.lam_scope.specs.declared.abbreviations.Abbreviation.{Abbreviation as RustAbbreviation}
+use Rattle.lam_syntax.specs.Trees.{TypeTree}
+use Rattle.lam_syntax.specs.Views.{type_of}
+use Rattle.lam_syntax.specs.declared.types.WrittenTy.{WrittenTy}
+use Rattle.lam_token.specs.declared.span.Span.{Span}
+use Rattle.lam_scope.specs.declared.fault.ScopeFault.{ScopeFault}
+use Rattle.lam_scope.specs.declared.fault.ScopeFault.TheVariants as faults
+use Rattle.lam_scope.specs.declared.fault.TypeFault.{TypeFault}
+use Rattle.lam_scope.specs.declared.numbers.Origin.{Origin}
+use Rattle.lam_scope.specs.declared.resolved.Resolved.{Resolved}
+use Rattle.lam_scope.specs.declared.scopes.Scopes.{Scopes}
+use Rattle.lam_scope.specs.Tables.{Table}
+use Rattle.lam_scope.specs.TableViews.{rows_table}
+use Rattle.lam_scope.specs.Names.{Name}
+use Rattle.lam_scope.specs.Expansions.{Abbreviation, abbreviation}
+use Rattle.lam_scope.specs.Places.{Statement, defines, declares, abbreviates, states}
+
+abbrev pub statement_of : RustStatement → Statement
+statement_of (rust.Definition e) = defines (term_of e)
+statement_of (rust.Declaration w) = declares (written_of w)
+statement_of (rust.Abbreviation w) = abbreviates (written_of w)
+statement_of (rust.Evaluation e) = states (term_of e)
+
+abbrev pub abbreviation_of : RustAbbreviation → Abbreviation
+abbreviation_of a = abbreviation a.name.now (written_of a.expansion)
+
+-- what a nameless document states, where its binders take their types from, and its faults
+
+abbrev pub statements_of : Resolved → List Statement
+statements_of r = map statement_of r.statements.items
+
+abbrev pub origins_of : Resolved → List Origin
+origins_of r = r.origins.items
+
+abbrev pub faults_of : Resolved → List TypeFault
+faults_of r = r.faults.items
+
+-- the table that scopes are
+abbrev pub table_of : Scopes → Table
+table_of s = rows_table s.binders.items s.uses.items s.places.items
+
+-- a stack of abbreviations on top of others
+abbrev pub stacked : List Abbreviation → List RustAbbreviation → List Abbreviation
+stacked bs [] = bs
+stacked bs (a ∷ more) = stacked (abbreviation_of a ∷ bs) more
+
+-- the abbreviations of a stack, the innermost first
+abbrev pub abbreviations_of : List RustAbbreviation → List Abbreviation
+abbreviations_of stack = stacked [] stack
+
+-- the fields of a record type, if it is not faulty
+abbrev pub expanded_fields_of : Option (Vec (String Global × Ty) Global) → Option Fields
+expanded_fields_of = option_map (λ v. fields_of v.items)
+
+-- the names on top of others
+abbrev pub stacked_names : List (Option Name) → List (Option (Bor (List ℕ))) → List (Option Name)
+stacked_names bs [] = bs
+stacked_names bs (b ∷ more) = stacked_names (option_map (λ x. x.now) b ∷ bs) more
+
+-- the names of a stack, the innermost first
+abbrev pub names_of : List (Option (Bor (List ℕ))) → List (Option Name)
+names_of stack = stacked_names [] stack
+
+-- all but the innermost
+abbrev pub outside : List (Option Name) → List (Option Name)
+outside [] = []
+outside (b ∷ bs) = bs
+
+abbrev pub written_trees : List (Bor WrittenTy) → List TypeTree
+written_trees = map (λ t. type_of t.now)
+
+-- what an answer says of the first written type that is too large: a fault names it, a value says that there is none
+abbrev pub IsLimit : {T : Type 0} → Option Span → Result T ScopeFault → Type 0
+IsLimit o (Ok x) = o ≡ None
+IsLimit o (Err (faults.TooLarge s)) = o ≡ Some s
+IsLimit o (Err faults.Memory) = Unit {0}

@@ -1,0 +1,58 @@
+//! From commands to their nameless forms.
+ghost use Rattle.std.specs.Prelude.{◌≡◌, ◌++◌, [], map, IfOk};
+ghost use Rattle.lam_syntax.specs.Views.{command_of};
+ghost use Rattle.lam_scope.specs.Nameless.{statements, faults, first_too_large};
+ghost use Rattle.lam_scope.specs.Tables.{table};
+ghost use Rattle.lam_scope.specs.WellFormed.{AreWellFormedStatements};
+ghost use Rattle.lam_scope.specs.Views.{statement_of, statements_of, origins_of, faults_of, table_of, IsLimit};
+
+use crate::fault::ScopeFault;
+use crate::numbers::Origin;
+use crate::resolved::Resolved;
+use crate::resolver::Resolver;
+use crate::rows::BinderRow;
+use crate::scopes::Scopes;
+use lam_syntax::Command;
+use std::alloc::{AllocError, Global};
+
+/// The nameless form of a document's commands, of which the scopes are. Written types stand for their expansions,
+/// which are copied at each use; the first that is too large is refused before any of it is built.
+#[tactic(auto, using(crate::proofs::WellFormedForms::well_formed))]
+pub fn resolve(alloc: Global, commands: &[Command], scopes: &Scopes) -> Result<Resolved, ScopeFault>
+    requires { table_of scopes.now ≡ table (map command_of commands.now) }
+    ensures statements { IfOk result (λ r. statements_of r ≡ statements [] [] (map command_of commands.now)) }
+    ensures origins { IfOk result (λ r. origins_of r ≡ map (λ b. b.origin) (table (map command_of commands.now)).binders) }
+    ensures faults { IfOk result (λ r. faults_of r ≡ faults [] (map command_of commands.now)) }
+    ensures well_formed { IfOk result (λ r. AreWellFormedStatements (statements_of r)) }
+    ensures limit { IsLimit (first_too_large [] (map command_of commands.now)) result }
+{
+    let resolver = resolve_all(alloc, commands)?;
+    let Ok(origins) = origins_in(alloc, &scopes.binders) else {
+        return Err(ScopeFault::Memory);
+    };
+    Ok(Resolved {
+        statements: resolver.statements,
+        origins,
+        faults: resolver.faults,
+    })
+}
+
+#[tactic(auto, using(crate::proofs::Resolving::commands))]
+fn resolve_all<'a>(alloc: Global, commands: &'a [Command]) -> Result<Resolver<'a>, ScopeFault>
+    ensures statements { IfOk result (λ r. map statement_of r.statements.items ≡ statements [] [] (map command_of commands.now)) }
+    ensures faults { IfOk result (λ r. r.faults.items ≡ faults [] (map command_of commands.now)) }
+    ensures limit { IsLimit (first_too_large [] (map command_of commands.now)) result }
+{
+    let mut resolver = Resolver::new(alloc);
+    for i in 0..commands.len() {
+        let command = &commands[i];
+        resolver.add(alloc, command)?;
+    }
+    Ok(resolver)
+}
+
+fn origins_in(alloc: Global, binders: &[BinderRow]) -> Result<Vec<Origin>, AllocError>
+    ensures { IfOk result (λ origins. origins.items ≡ map (λ b. b.origin) binders.now) }
+{
+    binders.iter().map(|b| b.origin).collect(alloc)
+}

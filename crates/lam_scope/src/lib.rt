@@ -1,0 +1,28 @@
+//! Who binds what: the binders of names and of type names, the uses of each, what each place sees, the nameless form
+//! of a document's commands and the expansions of its written types.
+//!
+//! `bind` reads the commands once and keeps no part of them. `resolve` gives the terms that typing speaks of.
+#![tactic(auto)]
+
+mod abbreviations;
+mod document;
+mod expansion;
+mod fault;
+mod nameless;
+mod names;
+mod numbers;
+mod resolved;
+mod resolver;
+mod rows;
+mod scopes;
+mod search;
+mod seen;
+mod statement;
+mod written;
+
+pub use document::resolve;
+pub use fault::{ScopeFault, TypeFault};
+pub use numbers::{Binder, Origin, Place};
+pub use resolved::Resolved;
+pub use scopes::Scopes;
+pub use statement::Statement;

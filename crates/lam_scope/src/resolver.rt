@@ -1,0 +1,134 @@
+//! The commands of a document, one after the other.
+ghost use Rattle.std.specs.Prelude.{◌≡◌, ◌++◌, ◌∷◌, [], map, IfOk, OnOk};
+ghost use Rattle.lam_syntax.specs.Views.{command_of};
+ghost use Rattle.lam_scope.specs.Nameless.{statement, abbreviations_after, names_after, written_in_command, faults_in, first_over_limit};
+ghost use Rattle.lam_scope.specs.Expansions.{is_capped};
+ghost use Rattle.lam_scope.specs.Views.{statement_of, abbreviations_of, written_trees, IsLimit};
+
+use crate::abbreviations::Abbreviation;
+use crate::expansion::{collect_faults, copy_of_written, expand, expanded_size};
+use crate::fault::{ScopeFault, TypeFault};
+use crate::nameless::nameless;
+use crate::names::Names;
+use crate::statement::Statement;
+use crate::written::collect_written;
+use lam_syntax::{Command, WrittenTy};
+use std::alloc::{AllocError, Global};
+
+/// What the commands so far state, and what those behind them see.
+#[derive(Drop)]
+pub(crate) struct Resolver<'a> {
+    /// The innermost last.
+    pub(crate) abbreviations: Vec<Abbreviation<'a>>,
+    pub(crate) names: Names<'a>,
+    pub(crate) faults: Vec<TypeFault>,
+    pub(crate) statements: Vec<Statement>,
+}
+
+impl<'a> Resolver<'a> {
+    /// No command stands before.
+    pub(crate) fn new(alloc: Global) -> Resolver<'a>
+        ensures abbreviations { abbreviations_of result.abbreviations.items ≡ [] }
+        ensures names { result.names ≡ [] }
+        ensures faults { result.faults.items ≡ [] }
+        ensures statements { map statement_of result.statements.items ≡ [] }
+    {
+        Resolver {
+            abbreviations: Vec::new(alloc),
+            names: Names::new(alloc),
+            faults: Vec::new(alloc),
+            statements: Vec::new(alloc),
+        }
+    }
+
+    /// One more command.
+    #[tactic(auto, using(crate::proofs::Resolving::resolving))]
+    pub(crate) fn add(&mut self, alloc: Global, command: &'a Command) -> Result<(), ScopeFault>
+        ensures statement { OnOk result (map statement_of self.new.statements.items ≡ map statement_of self.old.statements.items ++ statement (abbreviations_of self.old.abbreviations.items) self.old.names (command_of command.now) ∷ []) }
+        ensures abbreviations { OnOk result (abbreviations_of self.new.abbreviations.items ≡ abbreviations_after (abbreviations_of self.old.abbreviations.items) (command_of command.now)) }
+        ensures names { OnOk result (self.new.names ≡ names_after self.old.names (command_of command.now)) }
+        ensures faults { OnOk result (self.new.faults.items ≡ self.old.faults.items ++ faults_in (abbreviations_of self.old.abbreviations.items) (written_in_command (command_of command.now))) }
+        ensures limit { IsLimit (first_over_limit (abbreviations_of self.old.abbreviations.items) (written_in_command (command_of command.now))) result }
+    {
+        let mut written = Vec::new(alloc);
+        let Ok(()) = collect_written(command, &mut written) else {
+            return Err(ScopeFault::Memory);
+        };
+        check_written(&self.abbreviations, &written, &mut self.faults)?;
+        let Ok(statement) = self.state(alloc, command) else {
+            return Err(ScopeFault::Memory);
+        };
+        let Ok(()) = self.statements.push(statement) else {
+            return Err(ScopeFault::Memory);
+        };
+        Ok(())
+    }
+
+    /// What a command states. Those behind it then see what it binds.
+    #[tactic(auto, using(crate::proofs::Resolving::resolving))]
+    fn state(&mut self, alloc: Global, command: &'a Command) -> Result<Statement, AllocError>
+        ensures statement { IfOk result (λ s. statement_of s ≡ statement (abbreviations_of self.old.abbreviations.items) self.old.names (command_of command.now)) }
+        ensures abbreviations { OnOk result (abbreviations_of self.new.abbreviations.items ≡ abbreviations_after (abbreviations_of self.old.abbreviations.items) (command_of command.now)) }
+        ensures names { OnOk result (self.new.names ≡ names_after self.old.names (command_of command.now)) }
+        ensures faults { self.new.faults ≡ self.old.faults }
+        ensures statements { self.new.statements ≡ self.old.statements }
+    {
+        match command {
+            Command::Definition(name, term) => {
+                let form = nameless(alloc, &self.abbreviations, &mut self.names, term)?;
+                self.names.enter(Some(name.text.as_str()))?;
+                Ok(Statement::Definition(form))
+            }
+            Command::Declaration(name, ty) => {
+                let expansion = expand(alloc, &self.abbreviations, ty)?;
+                self.names.enter(Some(name.text.as_str()))?;
+                Ok(Statement::Declaration(expansion))
+            }
+            Command::Abbreviation(name, ty) => {
+                let expansion = expand(alloc, &self.abbreviations, ty)?;
+                let copy = copy_of_written(alloc, &expansion)?;
+                let name = name.text.as_str();
+                self.abbreviations.push(Abbreviation { name, expansion })?;
+                Ok(Statement::Abbreviation(copy))
+            }
+            Command::Evaluation(term) => {
+                let form = nameless(alloc, &self.abbreviations, &mut self.names, term)?;
+                Ok(Statement::Evaluation(form))
+            }
+        }
+    }
+}
+
+/// How many nodes the expansion of a written type may have.
+const NODE_LIMIT: u64 = 4_096;
+
+/// The faults of written types, unless one of them is too large: its size is known before anything is built.
+#[tactic(auto, using(crate::proofs::Resolving::resolving))]
+fn check_written(
+    seen: &[Abbreviation<'_>],
+    written: &[&WrittenTy],
+    faults: &mut Vec<TypeFault>,
+) -> Result<(), ScopeFault>
+    ensures faults { OnOk result (faults.new.items ≡ faults.old.items ++ faults_in (abbreviations_of seen.now) (written_trees written.now)) }
+    ensures limit { IsLimit (first_over_limit (abbreviations_of seen.now) (written_trees written.now)) result }
+{
+    for i in 0..written.len() {
+        let ty = written[i];
+        if is_over_limit(expanded_size(seen, ty)) {
+            return Err(ScopeFault::TooLarge(ty.span));
+        }
+        let Ok(()) = collect_faults(seen, ty, faults) else {
+            return Err(ScopeFault::Memory);
+        };
+    }
+    Ok(())
+}
+
+fn is_over_limit(size: Option<u64>) -> bool
+    ensures { result ≡ is_capped size }
+{
+    match size {
+        None => false,
+        Some(nodes) => nodes > NODE_LIMIT,
+    }
+}

@@ -1,0 +1,87 @@
+//! The search for the place of a number.
+ghost use Rattle.std.specs.Prelude.{◌≡◌, ◌∷◌, []};
+ghost use Rattle.lam_rules.specs.TermViews.{term_of, terms_of};
+ghost use Rattle.lam_scope.specs.Found.{seek, seek_on, sought_of, terms_at, terms_at_fields};
+
+use lam_rules::Core;
+
+/// A place of a term, or how many places behind the term's own it is.
+#[derive(Clone, Copy)]
+pub(crate) enum Found<'t> {
+    Here(&'t Core),
+    Behind(usize),
+}
+
+/// The place of a number, counted from the first place of the term.
+#[cycle(search)]
+#[tactic(auto, using(crate::proofs::Finding::finding))]
+pub(crate) fn find_place<'t>(core: &'t Core, number: usize) -> Found<'t>
+    ensures { sought_of result ≡ seek (terms_at (term_of core.now)) number }
+{
+    match core {
+        Core::True => at_end(Found::Behind(number), core),
+        Core::False => at_end(Found::Behind(number), core),
+        Core::Unit => at_end(Found::Behind(number), core),
+        Core::Num(_) => at_end(Found::Behind(number), core),
+        Core::Var(_) => at_end(Found::Behind(number), core),
+        Core::Free(_) => at_end(Found::Behind(number), core),
+        Core::Succ(operand) => at_end(find_place(operand, number), core),
+        Core::Pred(operand) => at_end(find_place(operand, number), core),
+        Core::IsZero(operand) => at_end(find_place(operand, number), core),
+        Core::Abs(_, body) => at_end(find_place(body, number), core),
+        Core::Ascribe(operand, _) => at_end(find_place(operand, number), core),
+        Core::Proj(operand, _) => at_end(find_place(operand, number), core),
+        Core::Fix(operand) => at_end(find_place(operand, number), core),
+        Core::App(function, argument) => {
+            let first = find_place(function, number);
+            at_end(find_behind(first, argument), core)
+        }
+        Core::Let(bound, body) => {
+            let first = find_place(bound, number);
+            at_end(find_behind(first, body), core)
+        }
+        Core::If(condition, one, other) => {
+            let first = find_place(condition, number);
+            let second = find_behind(first, one);
+            at_end(find_behind(second, other), core)
+        }
+        Core::Record(fields) => at_end(find_in_fields(fields, number), core),
+    }
+}
+
+/// The search goes on in a term behind those where it was.
+#[cycle(search)]
+#[tactic(auto, using(crate::proofs::Finding::finding))]
+fn find_behind<'t>(found: Found<'t>, core: &'t Core) -> Found<'t>
+    ensures { sought_of result ≡ seek_on (sought_of found.entry) (terms_at (term_of core.now)) }
+{
+    match found {
+        Found::Here(place) => Found::Here(place),
+        Found::Behind(number) => find_place(core, number),
+    }
+}
+
+#[cycle(search)]
+#[tactic(auto, using(crate::proofs::Finding::finding))]
+fn find_in_fields<'t>(fields: &'t [(String, Core)], number: usize) -> Found<'t>
+    ensures { sought_of result ≡ seek (terms_at_fields (terms_of fields.now)) number }
+{
+    let mut found = Found::Behind(number);
+    for i in 0..fields.len() {
+        let field = &fields[i];
+        found = find_behind(found, &field.1);
+    }
+    found
+}
+
+/// The search ends in the term's own place, behind those in it.
+#[tactic(auto, using(crate::proofs::Finding::finding))]
+fn at_end<'t>(found: Found<'t>, core: &'t Core) -> Found<'t>
+    ensures { sought_of result ≡ seek_on (sought_of found.entry) (term_of core.now ∷ []) }
+{
+    match found {
+        Found::Here(place) => Found::Here(place),
+        Found::Behind(0) => Found::Here(core),
+        Found::Behind(number) => Found::Behind(number - 1),
+    }
+}

@@ -1,0 +1,15 @@
+//! Commands without names.
+
+use lam_rules::{Core, Ty};
+
+/// A command without names. Its types are the expansions of the written ones, or none where those are faulty.
+#[derive(Drop)]
+pub enum Statement {
+    /// `name = term`
+    Definition(Core),
+    /// `name : type`
+    Declaration(Option<Ty>),
+    /// `TypeName = type`
+    Abbreviation(Option<Ty>),
+    Evaluation(Core),
+}
