@@ -3,9 +3,11 @@ use Rattle.std.proofs.Common.{◌≡◌, ◌⊎◌, inl, inr, refl, sym, subst}
 use Rattle.lam_rules.specs.Types.{Label, Typ, bool, nat, unit, top, arrow, record_of, Fields, no_fields, field, Has, IsAbsent, IsWellFormed, AreWellFormed}
 use Rattle.lam_rules.specs.Subtyping.{IsBelow}
 use Rattle.lam_rules.specs.declared.rules.Dialect.{Dialect}
-use Rattle.lam_rules.proofs.ByShape.{Under, under_bool, under_nat, under_unit, under_top, under_arrow, under_record, under_bool_nat, FieldsUnder, fields_none, fields_more, field_under, fields_under}
+use Rattle.lam_rules.proofs.ByShape.{Under, under_bool, under_nat, under_unit, under_top, under_arrow, under_record, under_bool_nat, FieldsUnder, fields_none, fields_more, below_under}
 use Rattle.lam_rules.proofs.SharedTexts.{has_wf, one_type}
 use Rattle.lam_rules.proofs.Permutations.{absent_not}
+use Rattle.lam_sub.proofs.LookUps.{label_or}
+use Rattle.lam_sub.proofs.Below.{under_below}
 
 abbrev pub Decided : Dialect → Typ → Typ → Type 0
 Decided d s t = Under d s t ⊎ (Under d s t → ⊥)
@@ -36,9 +38,6 @@ bool_not_nat u = elim u [ ]
 -- an arrow turns its left sides round, so both ways are decided at once
 abbrev BothWays : Dialect → Typ → Type 0
 BothWays d s = (t : Typ) → IsWellFormed t → Decided d s t × Decided d t s
-
-abbrev Finds : Type 0
-Finds = (l : Label) (fs : Fields) → ((t : Typ) × Has l t fs) ⊎ IsAbsent l fs
 
 bool_nat : (d : Dialect) → Decided d bool nat
 bool_nat Dialect.One = inr bool_not_nat
@@ -91,55 +90,61 @@ first_under (fields_more s has down more) = ((s, has, down), more)
 abbrev BothWaysEach : Dialect → Fields → Type 0
 BothWaysEach d fs = (l : Label) (s : Typ) → Has l s fs → BothWays d s
 
-module _ (finds : Finds) where
-  fields_down : (d : Dialect) (fs gs : Fields) → AreWellFormed fs → AreWellFormed gs → BothWaysEach d fs → FieldsUnder d fs gs ⊎ (FieldsUnder d fs gs → ⊥)
-  fields_down d fs no_fields wf wg each = inl (fields_none fs)
-  fields_down d fs (field l t gs) wf wg each = by (finds l fs) (fields_down d fs gs wf wg.2 each)
-    where
-      by : ((s : Typ) × Has l s fs) ⊎ IsAbsent l fs → FieldsUnder d fs gs ⊎ (FieldsUnder d fs gs → ⊥) → FieldsUnder d fs (field l t gs) ⊎ (FieldsUnder d fs (field l t gs) → ⊥)
-      by (inr absent) rest = inr (λ u. let first = (first_under u).0 in absent_not l fs first.0 absent first.1)
-      by (inl found) (inr n) = inr (λ u. n (first_under u).1)
-      by (inl (s, has)) (inl rest) = compare (each l s has t wg.0).0
-        where
-          compare : Decided d s t → FieldsUnder d fs (field l t gs) ⊎ (FieldsUnder d fs (field l t gs) → ⊥)
-          compare (inl down) = inl (fields_more s has down rest)
-          compare (inr n) = inr (λ u. let first = (first_under u).0 in n (subst (λ x. Under d x t) (one_type fs wf l first.0 s first.1 has) first.2))
+fields_down : (d : Dialect) (fs gs : Fields) → AreWellFormed fs → AreWellFormed gs → BothWaysEach d fs → FieldsUnder d fs gs ⊎ (FieldsUnder d fs gs → ⊥)
+fields_down d fs no_fields wf wg each = inl (fields_none fs)
+fields_down d fs (field l t gs) wf wg each = by (label_or l fs) (fields_down d fs gs wf wg.2 each)
+  where
+    by : ((s : Typ) × Has l s fs) ⊎ IsAbsent l fs → FieldsUnder d fs gs ⊎ (FieldsUnder d fs gs → ⊥) → FieldsUnder d fs (field l t gs) ⊎ (FieldsUnder d fs (field l t gs) → ⊥)
+    by (inr absent) rest = inr (λ u. let first = (first_under u).0 in absent_not l fs first.0 absent first.1)
+    by (inl found) (inr n) = inr (λ u. n (first_under u).1)
+    by (inl (s, has)) (inl rest) = compare (each l s has t wg.0).0
+      where
+        compare : Decided d s t → FieldsUnder d fs (field l t gs) ⊎ (FieldsUnder d fs (field l t gs) → ⊥)
+        compare (inl down) = inl (fields_more s has down rest)
+        compare (inr n) = inr (λ u. let first = (first_under u).0 in n (subst (λ x. Under d x t) (one_type fs wf l first.0 s first.1 has) first.2))
 
-  fields_up : (d : Dialect) (fs gs : Fields) → AreWellFormed fs → AreWellFormed gs → BothWaysEach d fs → FieldsUnder d gs fs ⊎ (FieldsUnder d gs fs → ⊥)
-  fields_up d no_fields gs wf wg each = inl (fields_none gs)
-  fields_up d (field l s fs) gs wf wg each = by (finds l gs) (fields_up d fs gs wf.2 wg (λ k t has. each k t (inr has)))
-    where
-      by : ((t : Typ) × Has l t gs) ⊎ IsAbsent l gs → FieldsUnder d gs fs ⊎ (FieldsUnder d gs fs → ⊥) → FieldsUnder d gs (field l s fs) ⊎ (FieldsUnder d gs (field l s fs) → ⊥)
-      by (inr absent) rest = inr (λ u. let first = (first_under u).0 in absent_not l gs first.0 absent first.1)
-      by (inl found) (inr n) = inr (λ u. n (first_under u).1)
-      by (inl (t, has)) (inl rest) = compare (each l s (inl (refl, refl)) t (has_wf gs wg l t has)).1
-        where
-          compare : Decided d t s → FieldsUnder d gs (field l s fs) ⊎ (FieldsUnder d gs (field l s fs) → ⊥)
-          compare (inl down) = inl (fields_more t has down rest)
-          compare (inr n) = inr (λ u. let first = (first_under u).0 in n (subst (λ x. Under d x s) (one_type gs wg l first.0 t first.1 has) first.2))
+fields_up : (d : Dialect) (fs gs : Fields) → AreWellFormed fs → AreWellFormed gs → BothWaysEach d fs → FieldsUnder d gs fs ⊎ (FieldsUnder d gs fs → ⊥)
+fields_up d no_fields gs wf wg each = inl (fields_none gs)
+fields_up d (field l s fs) gs wf wg each = by (label_or l gs) (fields_up d fs gs wf.2 wg (λ k t has. each k t (inr has)))
+  where
+    by : ((t : Typ) × Has l t gs) ⊎ IsAbsent l gs → FieldsUnder d gs fs ⊎ (FieldsUnder d gs fs → ⊥) → FieldsUnder d gs (field l s fs) ⊎ (FieldsUnder d gs (field l s fs) → ⊥)
+    by (inr absent) rest = inr (λ u. let first = (first_under u).0 in absent_not l gs first.0 absent first.1)
+    by (inl found) (inr n) = inr (λ u. n (first_under u).1)
+    by (inl (t, has)) (inl rest) = compare (each l s (inl (refl, refl)) t (has_wf gs wg l t has)).1
+      where
+        compare : Decided d t s → FieldsUnder d gs (field l s fs) ⊎ (FieldsUnder d gs (field l s fs) → ⊥)
+        compare (inl down) = inl (fields_more t has down rest)
+        compare (inr n) = inr (λ u. let first = (first_under u).0 in n (subst (λ x. Under d x s) (one_type gs wg l first.0 t first.1 has) first.2))
 
-  records : (d : Dialect) (fs gs : Fields) → FieldsUnder d fs gs ⊎ (FieldsUnder d fs gs → ⊥) → Decided d (record_of fs) (record_of gs)
-  records d fs gs (inl u) = inl (under_record u)
-  records d fs gs (inr n) = inr (λ u. n (record_parts u))
+records : (d : Dialect) (fs gs : Fields) → FieldsUnder d fs gs ⊎ (FieldsUnder d fs gs → ⊥) → Decided d (record_of fs) (record_of gs)
+records d fs gs (inl u) = inl (under_record u)
+records d fs gs (inr n) = inr (λ u. n (record_parts u))
 
-  record_ways : (d : Dialect) (fs : Fields) → AreWellFormed fs → BothWaysEach d fs → BothWays d (record_of fs)
-  record_ways d fs wf each (record_of gs) wg = (records d fs gs (fields_down d fs gs wf wg each), records d gs fs (fields_up d fs gs wf wg each))
-  record_ways d fs wf each top wg = (inl (under_top (record_of fs)), inr (λ u. may_be u))
-  record_ways d fs wf each _ wg = (inr (λ u. may_be u), inr (λ u. may_be u))
+record_ways : (d : Dialect) (fs : Fields) → AreWellFormed fs → BothWaysEach d fs → BothWays d (record_of fs)
+record_ways d fs wf each (record_of gs) wg = (records d fs gs (fields_down d fs gs wf wg each), records d gs fs (fields_up d fs gs wf wg each))
+record_ways d fs wf each top wg = (inl (under_top (record_of fs)), inr (λ u. may_be u))
+record_ways d fs wf each _ wg = (inr (λ u. may_be u), inr (λ u. may_be u))
 
-  mutual
-    both_ways : (d : Dialect) (s : Typ) → IsWellFormed s → BothWays d s
-    both_ways d bool wf = bool_ways d
-    both_ways d nat wf = nat_ways d
-    both_ways d unit wf = unit_ways d
-    both_ways d top wf = top_ways d
-    both_ways d (arrow s t) wf = arrow_ways d s t (both_ways d s wf.0) (both_ways d t wf.1)
-    both_ways d (record_of fs) wf = record_ways d fs wf (both_ways_each d fs wf)
+mutual
+  both_ways : (d : Dialect) (s : Typ) → IsWellFormed s → BothWays d s
+  both_ways d bool wf = bool_ways d
+  both_ways d nat wf = nat_ways d
+  both_ways d unit wf = unit_ways d
+  both_ways d top wf = top_ways d
+  both_ways d (arrow s t) wf = arrow_ways d s t (both_ways d s wf.0) (both_ways d t wf.1)
+  both_ways d (record_of fs) wf = record_ways d fs wf (both_ways_each d fs wf)
 
-    both_ways_each : (d : Dialect) (fs : Fields) → AreWellFormed fs → BothWaysEach d fs
-    both_ways_each d no_fields wf l s has = absurd has
-    both_ways_each d (field k t fs) wf l s (inl e) = subst (BothWays d) e.1 (both_ways d t wf.0)
-    both_ways_each d (field k t fs) wf l s (inr has) = both_ways_each d fs wf.2 l s has
+  both_ways_each : (d : Dialect) (fs : Fields) → AreWellFormed fs → BothWaysEach d fs
+  both_ways_each d no_fields wf l s has = absurd has
+  both_ways_each d (field k t fs) wf l s (inl e) = subst (BothWays d) e.1 (both_ways d t wf.0)
+  both_ways_each d (field k t fs) wf l s (inr has) = both_ways_each d fs wf.2 l s has
 
-  pub decide_under : (d : Dialect) (s t : Typ) → IsWellFormed s → IsWellFormed t → Decided d s t
-  decide_under d s t ws wt = (both_ways d s ws t wt).0
+decide_under : (d : Dialect) (s t : Typ) → IsWellFormed s → IsWellFormed t → Decided d s t
+decide_under d s t ws wt = (both_ways d s ws t wt).0
+
+pub decide_below : (d : Dialect) (s t : Typ) → IsWellFormed s → IsWellFormed t → IsBelow s t d ⊎ (IsBelow s t d → ⊥)
+decide_below d s t ws wt = by (decide_under d s t ws wt)
+  where
+    by : Decided d s t → IsBelow s t d ⊎ (IsBelow s t d → ⊥)
+    by (inl under) = inl (under_below d s t under ws wt)
+    by (inr n) = inr (λ below. n (below_under s t d below))

@@ -12,7 +12,7 @@ use Rattle.lam_typing.specs.WellFormed.{IsWellFormedTerm, AreWellFormedTerms, Is
 use Rattle.lam_typing.specs.WellTyped.{HasExpansion, HasExpansions, HaveExpansions, IsExpanded, AreTyped, AreUnblamed, IsTypedWhereUnblamed}
 use Rattle.lam_typing.proofs.Derivations.{Derives, FieldsDerive, derives, has_type, none_derive, more_derive}
 use Rattle.lam_typing.proofs.Inversions.{of_succ, of_pred, of_is_zero, of_if, of_lambda, of_faulty_lambda, of_apply, of_ascribe, of_faulty_ascribe, of_let, of_record, of_project, of_fix, of_more}
-use Rattle.lam_typing.proofs.Existing.{Decides, typed_or_not}
+use Rattle.lam_typing.proofs.Existing.{typed_or_not}
 
 -- lists of places
 
@@ -51,10 +51,10 @@ no_gap zero (of_term e ∷ outside) (None ∷ g) d typed is none = is.0 typed.0.
 no_gap (suc n) (written w ∷ outside) (entry ∷ g) d typed is none = no_gap n outside g d typed.1 is.1 none
 no_gap (suc n) (of_term e ∷ outside) (entry ∷ g) d typed is none = no_gap n outside g d typed.1 is.1 none
 
-module _ (d : Dialect) (decides : Decides d) where
+module _ (d : Dialect) where
   -- where the parts have types and the term is neither excused nor to blame, it has one
   by_parts : (s : Scope) (e : Term) → IsWellFormedScope s → IsWellFormedTerm e → ArePartsTyped s e d → (IsExcused s e d → ⊥) → (IsBlamed s e d → ⊥) → IsTyped s e d
-  by_parts s e ws we parts unexcused unblamed = by (typed_or_not d decides s e ws we)
+  by_parts s e ws we parts unexcused unblamed = by (typed_or_not d s e ws we)
     where
       by : IsTyped s e d ⊎ (IsTyped s e d → ⊥) → IsTyped s e d
       by (inl typed) = typed
@@ -192,17 +192,17 @@ commands_unblamed s (abbreviates w ∷ rest) d typed = commands_unblamed s rest 
 commands_unblamed s (states e ∷ rest) d typed =
     unblamed_both (places s e) (places_of s rest) d (typed_unblamed s e d typed.0) (commands_unblamed s rest d typed.1)
 
-module _ (d : Dialect) (decides : Decides d) where
+module _ (d : Dialect) where
   commands_typed : (s : Scope) (statements : List Statement) → IsTypedScope s d → IsWellFormedScope s → AreWellFormedStatements statements → IsExpanded statements
       → AreUnblamed (places_of s statements) d → AreTyped s statements d
   commands_typed s [] ts ws wss expanded u = tt
   commands_typed s (defines e ∷ rest) ts ws wss expanded u =
-      let typed = unblamed_typed d decides e s ts ws wss.0 expanded.0 (unblamed_front (places s e) (places_of (of_term e ∷ s) rest) d u) in
+      let typed = unblamed_typed d e s ts ws wss.0 expanded.0 (unblamed_front (places s e) (places_of (of_term e ∷ s) rest) d u) in
       (typed, commands_typed (of_term e ∷ s) rest (typed, ts) (wss.0, ws) wss.1 expanded.1 (unblamed_back (places s e) (places_of (of_term e ∷ s) rest) d u))
   commands_typed s (declares w ∷ rest) ts ws wss expanded u = commands_typed (written w ∷ s) rest (expanded.0, ts) (wss.0, ws) wss.1 expanded.1 u
   commands_typed s (abbreviates w ∷ rest) ts ws wss expanded u = commands_typed s rest ts ws wss.1 expanded.1 u
   commands_typed s (states e ∷ rest) ts ws wss expanded u =
-      let typed = unblamed_typed d decides e s ts ws wss.0 expanded.0 (unblamed_front (places s e) (places_of s rest) d u) in
+      let typed = unblamed_typed d e s ts ws wss.0 expanded.0 (unblamed_front (places s e) (places_of s rest) d u) in
       (typed, commands_typed s rest ts ws wss.1 expanded.1 (unblamed_back (places s e) (places_of s rest) d u))
 
   pub typed_where_unblamed : (statements : List Statement) → AreWellFormedStatements statements → IsTypedWhereUnblamed statements d

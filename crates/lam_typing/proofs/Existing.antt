@@ -9,17 +9,14 @@ use Rattle.lam_typing.specs.Places.{Binding, written, of_term, Scope}
 use Rattle.lam_typing.specs.WellFormed.{IsWellFormedTerm, AreWellFormedTerms, IsWellFormedBinding, IsWellFormedScope}
 use Rattle.lam_typing.specs.LeastTypes.{IsTyped, IsLeastAt}
 use Rattle.lam_rules.proofs.Permutations.{absent_not}
+use Rattle.lam_sub.proofs.LookUps.{label_or}
+use Rattle.lam_lattice.proofs.Existing.{joins_exist}
+use Rattle.lam_typing.proofs.Deciding.{decide_below}
 use Rattle.lam_typing.proofs.Derivations.{FieldsDerive, none_derive, more_derive, derives_wf}
 use Rattle.lam_typing.specs.Progress.{IsLowest}
 use Rattle.lam_typing.proofs.LeastIn.{LeastIn, LeastContext, lowest, least_at, least_wf}
-use Rattle.lam_typing.specs.Steps.{entry_at, NatRule, LambdaRule, ArrowRule, ApplyRule, AscribeRule, LetRule, JoinRule, IfRule, FixRule, FieldRule, ProjectRule, MoreRule, RecordRule}
-use Rattle.lam_typing.proofs.Steps.{LeastFields, true_least, false_least, unit_least, num_least, free_least, variable_least, succ_least, pred_least, is_zero_least, lambda_least, apply_least, ascribe_least, let_least, if_least, fix_least, project_least, none_least, more_least, record_least}
-
--- whether one type is below another is decided, every two types have a join, and whether labels are distinct is decided
-pub record Decides (d : Dialect) : Type 0 where
-  pub below : (s t : Typ) → IsWellFormed s → IsWellFormed t → IsBelow s t d ⊎ (IsBelow s t d → ⊥)
-  pub join : (s t : Typ) → IsWellFormed s → IsWellFormed t → (j : Typ) × JoinRule s t j d
-  pub label : (l : Label) (fs : Fields) → ((t : Typ) × Has l t fs) ⊎ IsAbsent l fs
+use Rattle.lam_typing.specs.Steps.{entry_at, NatRule, LambdaRule, ArrowRule, ApplyRule, AscribeRule, LetRule, IfRule, FixRule, FieldRule, ProjectRule, MoreRule, RecordRule}
+use Rattle.lam_typing.proofs.LeastSteps.{LeastFields, true_least, false_least, unit_least, num_least, free_least, variable_least, succ_least, pred_least, is_zero_least, lambda_least, apply_least, ascribe_least, let_least, if_least, fix_least, project_least, none_least, more_least, record_least}
 
 -- each type has distinct labels, and the fields may repeat one
 abbrev pub AreEachWellFormed : Fields → Type 0
@@ -38,10 +35,10 @@ least_fields_wf : (g : Context) (es : TermFields) (y : Option Fields) (d : Diale
 least_fields_wf g es None d least = tt
 least_fields_wf g es (Some fs) d least = types_wf g es fs d least.0
 
-module _ (d : Dialect) (decides : Decides d) where
+module _ (d : Dialect) where
   nat_step : (outcome : Typ) (x : Option Typ) → IsWellFormedEntry x → (o : Option Typ) × NatRule outcome x o d
   nat_step outcome None wf = (None, refl)
-  nat_step outcome (Some s) wf = by (decides.below s nat wf tt)
+  nat_step outcome (Some s) wf = by (decide_below d s nat wf tt)
     where
       by : IsBelow s nat d ⊎ (IsBelow s nat d → ⊥) → (o : Option Typ) × NatRule outcome (Some s) o d
       by (inl below) = (Some outcome, (refl, below))
@@ -55,7 +52,7 @@ module _ (d : Dialect) (decides : Decides d) where
   apply_step : (x y : Option Typ) → IsWellFormedEntry x → IsWellFormedEntry y → (o : Option Typ) × ApplyRule x y o d
   apply_step None y wx wy = (None, refl)
   apply_step (Some f) None wx wy = (None, refl)
-  apply_step (Some (arrow p r)) (Some s) wx wy = by (decides.below s p wy wx.0)
+  apply_step (Some (arrow p r)) (Some s) wx wy = by (decide_below d s p wy wx.0)
     where
       by : IsBelow s p d ⊎ (IsBelow s p d → ⊥) → (o : Option Typ) × ArrowRule (arrow p r) s o d
       by (inl below) = (Some r, (refl, below))
@@ -67,7 +64,7 @@ module _ (d : Dialect) (decides : Decides d) where
   apply_step (Some (record_of fs)) (Some s) wx wy = (None, refl)
 
   ascribe_step : (w x : Option Typ) → IsWellFormedEntry w → IsWellFormedEntry x → (o : Option Typ) × AscribeRule w x o d
-  ascribe_step (Some w) (Some s) ww wx = by (decides.below s w wx ww)
+  ascribe_step (Some w) (Some s) ww wx = by (decide_below d s w wx ww)
     where
       by : IsBelow s w d ⊎ (IsBelow s w d → ⊥) → (o : Option Typ) × AscribeRule (Some w) (Some s) o d
       by (inl below) = (Some w, (refl, below))
@@ -83,15 +80,15 @@ module _ (d : Dialect) (decides : Decides d) where
   if_step None y z wx wy wz = (None, refl)
   if_step (Some c) None z wx wy wz = (None, refl)
   if_step (Some c) (Some a) None wx wy wz = (None, refl)
-  if_step (Some c) (Some a) (Some b) wx wy wz = by (decides.below c bool wx tt)
+  if_step (Some c) (Some a) (Some b) wx wy wz = by (decide_below d c bool wx tt)
     where
       by : IsBelow c bool d ⊎ (IsBelow c bool d → ⊥) → (o : Option Typ) × IfRule (Some c) (Some a) (Some b) o d
-      by (inl below) = let j = decides.join a b wy wz in (Some j.0, (below, j.1))
+      by (inl below) = let j = joins_exist a b d wy wz in (Some j.0, (below, j.1))
       by (inr n) = (None, n)
 
   fix_step : (x : Option Typ) → IsWellFormedEntry x → (o : Option Typ) × FixRule x o d
   fix_step None wx = (None, refl)
-  fix_step (Some (arrow p r)) wx = by (decides.below r p wx.1 wx.0)
+  fix_step (Some (arrow p r)) wx = by (decide_below d r p wx.1 wx.0)
     where
       by : IsBelow r p d ⊎ (IsBelow r p d → ⊥) → (o : Option Typ) × FixRule (Some (arrow p r)) o d
       by (inl below) = (Some r, (refl, below))
@@ -104,7 +101,7 @@ module _ (d : Dialect) (decides : Decides d) where
 
   project_step : (l : Label) (x : Option Typ) → (o : Option Typ) × ProjectRule l x o
   project_step l None = (None, refl)
-  project_step l (Some (record_of fs)) = by (decides.label l fs)
+  project_step l (Some (record_of fs)) = by (label_or l fs)
     where
       by : ((t : Typ) × Has l t fs) ⊎ IsAbsent l fs → (o : Option Typ) × FieldRule l (record_of fs) o
       by (inl (t, has)) = (Some t, has)
@@ -122,7 +119,7 @@ module _ (d : Dialect) (decides : Decides d) where
 
   distinct : (fs : Fields) → AreEachWellFormed fs → AreWellFormed fs ⊎ (AreWellFormed fs → ⊥)
   distinct no_fields wf = inl tt
-  distinct (field l t fs) wf = by (decides.label l fs) (distinct fs wf.1)
+  distinct (field l t fs) wf = by (label_or l fs) (distinct fs wf.1)
     where
       by : ((u : Typ) × Has l u fs) ⊎ IsAbsent l fs → AreWellFormed fs ⊎ (AreWellFormed fs → ⊥) → AreWellFormed (field l t fs) ⊎ (AreWellFormed (field l t fs) → ⊥)
       by (inr absent) (inl rest) = inl (wf.0, absent, rest)

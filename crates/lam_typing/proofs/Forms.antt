@@ -12,9 +12,9 @@ use Rattle.lam_typing.specs.Blaming.{ArePartsTyped, AreFieldsTyped, IsExcused, H
 use Rattle.lam_typing.specs.Progress.{IsLowest, Progress, Went, WentOver, blame_step, IsApplicationCode, AreFieldsAt, if_all}
 use Rattle.lam_typing.specs.Steps.{entry_at, NatRule, LambdaRule, ApplyRule, AscribeRule, LetRule, IfRule, FixRule, ProjectRule, MoreRule, RecordRule}
 use Rattle.lam_typing.proofs.LeastIn.{LeastIn, lowest_written, lowest_some, lowest_none, least_at, least_in}
-use Rattle.lam_typing.proofs.Steps.{true_least, false_least, unit_least, num_least, free_least, variable_least, succ_least, pred_least, is_zero_least, lambda_least, apply_least, ascribe_least, let_least, if_least, fix_least, project_least, LeastFields, none_least, more_least, record_least}
+use Rattle.lam_typing.proofs.LeastSteps.{true_least, false_least, unit_least, num_least, free_least, variable_least, succ_least, pred_least, is_zero_least, lambda_least, apply_least, ascribe_least, let_least, if_least, fix_least, project_least, LeastFields, none_least, more_least, record_least}
 use Rattle.lam_typing.proofs.NeverBlamed.{lambda_unblamed, let_typed}
-use Rattle.lam_typing.proofs.Walking.{IsReady, went_none, went_both, went_under, here_blamed, unblamed_here}
+use Rattle.lam_typing.proofs.Together.{IsReady, went_none, went_both, went_under, here_blamed, unblamed_here}
 
 -- a part has a type exactly where one was found
 found_typed : (s : Scope) (e : Term) (x : Option Typ) (d : Dialect) → IsLeastAt s e x d → IsTrue (is_some x) → IsTyped s e d

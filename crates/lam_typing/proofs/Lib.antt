@@ -3,10 +3,10 @@ pub mod Narrows
 pub mod Inversions
 pub mod Shapes
 pub mod LeastIn
-pub mod Steps
+pub mod LeastSteps
 pub mod Existing
 pub mod NeverBlamed
 pub mod Documents
 pub mod Deciding
-pub mod Walking
+pub mod Together
 pub mod Forms

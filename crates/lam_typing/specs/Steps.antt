@@ -4,6 +4,7 @@ use Rattle.lam_rules.specs.Types.{Label, Typ, bool, nat, arrow, record_of, Field
 use Rattle.lam_rules.specs.Subtyping.{IsBelow}
 use Rattle.lam_rules.specs.Typing.{Context}
 use Rattle.lam_rules.specs.declared.rules.Dialect.{Dialect}
+use Rattle.lam_lattice.specs.Bounds.{IsJoin}
 
 -- a variable has its entry
 abbrev pub entry_at : ℕ → Context → Option Typ
@@ -46,15 +47,12 @@ abbrev pub LetRule : Option Typ → Option Typ → Option Typ → Type 0
 LetRule (Some s) y o = o ≡ y
 LetRule None y o = o ≡ None
 
--- the branches have a join, whatever they are
-abbrev pub JoinRule : Typ → Typ → Typ → Dialect → Type 0
-JoinRule a b j d = IsBelow a j d × IsBelow b j d × ((u : Typ) → IsBelow a u d → IsBelow b u d → IsBelow j u d)
-
+-- a condition below Bool, and branches, which have a join whatever they are
 abbrev pub IfRule : Option Typ → Option Typ → Option Typ → Option Typ → Dialect → Type 0
 IfRule None y z o d = o ≡ None
 IfRule (Some c) None z o d = o ≡ None
 IfRule (Some c) (Some a) None o d = o ≡ None
-IfRule (Some c) (Some a) (Some b) (Some j) d = IsBelow c bool d × JoinRule a b j d
+IfRule (Some c) (Some a) (Some b) (Some j) d = IsBelow c bool d × IsJoin a b j d
 IfRule (Some c) (Some a) (Some b) None d = IsBelow c bool d → ⊥
 
 -- a function whose result fits its parameter

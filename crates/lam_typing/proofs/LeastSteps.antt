@@ -9,7 +9,7 @@ use Rattle.lam_rules.proofs.ByShape.{below_wf}
 use Rattle.lam_rules.proofs.Composing.{below_refl, below_trans, below_arrow, below_depth, EachBelow}
 use Rattle.lam_rules.proofs.Permutations.{absent_not}
 use Rattle.lam_rules.proofs.SharedTexts.{one_type}
-use Rattle.lam_typing.specs.Steps.{entry_at, NatRule, LambdaRule, ArrowRule, ApplyRule, AscribeRule, LetRule, JoinRule, IfRule, FixRule, FieldRule, ProjectRule, MoreRule, RecordRule}
+use Rattle.lam_typing.specs.Steps.{entry_at, NatRule, LambdaRule, ArrowRule, ApplyRule, AscribeRule, LetRule, IfRule, FixRule, FieldRule, ProjectRule, MoreRule, RecordRule}
 use Rattle.lam_typing.proofs.Derivations.{Derives, FieldsDerive, t_true, t_false, t_if, t_num, t_succ, t_pred, t_is_zero, t_var, t_abs, t_app, t_unit, t_ascribe, t_let, t_rcd, t_proj, t_fix, t_sub, none_derive, more_derive, derives_wf}
 use Rattle.lam_typing.proofs.Narrows.{narrow, narrower_self}
 use Rattle.lam_typing.proofs.LeastIn.{LeastIn}
@@ -141,8 +141,8 @@ if_least g e1 e2 e3 None y z o d l1 l2 l3 rule = subst (λ v. LeastIn g (if_then
 if_least g e1 e2 e3 (Some c) None z o d l1 l2 l3 rule = subst (λ v. LeastIn g (if_then_else e1 e2 e3) v d) (sym rule) (λ u x. l2 u (of_if g e1 e2 e3 u d x).then_term)
 if_least g e1 e2 e3 (Some c) (Some a) None o d l1 l2 l3 rule = subst (λ v. LeastIn g (if_then_else e1 e2 e3) v d) (sym rule) (λ u x. l3 u (of_if g e1 e2 e3 u d x).else_term)
 if_least g e1 e2 e3 (Some c) (Some a) (Some b) (Some j) d l1 l2 l3 rule = (
-  t_if (t_sub l1.0 rule.0) (t_sub l2.0 rule.1.0) (t_sub l3.0 rule.1.1),
-  λ u x. let h = of_if g e1 e2 e3 u d x in rule.1.2 u (l2.1 u h.then_term) (l3.1 u h.else_term),
+  t_if (t_sub l1.0 rule.0) (t_sub l2.0 rule.1.left) (t_sub l3.0 rule.1.right),
+  λ u x. let h = of_if g e1 e2 e3 u d x in rule.1.least u (l2.1 u h.then_term) (l3.1 u h.else_term),
 )
 if_least g e1 e2 e3 (Some c) (Some a) (Some b) None d l1 l2 l3 rule = λ u x. rule (l1.1 bool (of_if g e1 e2 e3 u d x).condition)
 
