@@ -5,8 +5,9 @@
 //! with which, whatever comes and in whatever pieces. Nothing here knows what a message means.
 #![tactic(auto)]
 
-ghost use Rattle.std.specs.Prelude.{◌≡◌};
+ghost use Rattle.std.specs.Prelude.{◌≡◌, map, string_bytes};
 ghost use Rattle.lam_server.specs.Program.{status_of};
+ghost use Rattle.lam_server.specs.Words.{ReadsWords};
 
 mod answer;
 mod args;
@@ -60,7 +61,9 @@ fn started<R: AllocGlobal + Input + Print + Eprint>(rt: &R, words: &[String]) ->
     }
 }
 
-fn read_words(alloc: Global, words: &[String]) -> Result<Config, ArgsFault> {
+fn read_words(alloc: Global, words: &[String]) -> Result<Config, ArgsFault>
+    ensures { ReadsWords (map string_bytes words.now) result }
+{
     let slices: Result<Vec<&str>, AllocError> = words.iter().map(String::as_str).collect(alloc);
     let Ok(slices) = slices else {
         return Err(ArgsFault::Memory);
