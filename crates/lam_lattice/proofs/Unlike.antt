@@ -104,3 +104,5 @@ meet_seen s t m x y z d is_s is_t is_m meet =
 
 pub no_meet_seen : (s t x y : Typ) (d : Dialect) → x ≡ s → y ≡ t → HaveNoMeet x y d → HaveNoMeet s t d
 no_meet_seen s t x y d is_s is_t none = subst (λ u. HaveNoMeet u t d) is_s (subst (λ u. HaveNoMeet x u d) is_t none)
+
+pub ruleset ordered = (join_above, join_below, meet_above, meet_below)

@@ -3,8 +3,10 @@
 #![tactic(auto)]
 
 mod bounds;
+mod numbers;
 
 pub use bounds::{join, meet};
+pub use numbers::{join_no, meet_no};
 
 #[cfg(test)]
 mod tests;

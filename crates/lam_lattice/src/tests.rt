@@ -1,6 +1,8 @@
-use crate::{join, meet};
-use lam_rules::{Dialect, Ty, make_arrow, make_record, plain_text_of, wf};
-use lam_sub::is_sub;
+use crate::{join, join_no, meet, meet_no};
+use lam_rules::{
+    Dialect, Shape as OuterForm, Ty, TyTable, make_arrow, make_record, plain_text_of, text_of, wf,
+};
+use lam_sub::Verdicts;
 use std::alloc::{AllocError, Global};
 use std::process::Abort;
 use std::test::Fail;
@@ -145,6 +147,75 @@ fn check(
         }
         None => assert!(rt; wanted_meet.is_none()),
     }
+    Ok(())
+}
+
+/// Checks that the bounds of two numbers have the texts of those of the trees.
+#[tactic(auto, using(lam_rules::proofs::Tables::numbers))]
+fn check_numbers(
+    rt: &impl Abort,
+    alloc: Global,
+    left: &Ty,
+    right: &Ty,
+    dialect: Dialect,
+) -> Result<(), AllocError> {
+    assert!(rt; wf(left));
+    assert!(rt; wf(right));
+    let joined = join(alloc, left, right, dialect)?;
+    let met = meet(alloc, left, right, dialect)?;
+    let mut table = TyTable::new(alloc);
+    let mut verdicts = Verdicts::new(alloc, dialect);
+    let left_number = table.add(left)?;
+    let right_number = table.add(right)?;
+    let joined_number = join_no(&mut table, &mut verdicts, left_number, right_number)?;
+    assert_eq!(rt;
+        table.text(joined_number)?.as_str(),
+        text_of(alloc, &joined)?.as_str()
+    );
+    let met_number = meet_no(&mut table, &mut verdicts, left_number, right_number)?;
+    match met {
+        Some(met_tree) => match met_number {
+            Some(number) => assert_eq!(rt;
+                table.text(number)?.as_str(),
+                text_of(alloc, &met_tree)?.as_str()
+            ),
+            None => assert!(rt; false, "a meet is missing"),
+        },
+        None => assert!(rt; met_number.is_none()),
+    }
+    Ok(())
+}
+
+#[test]
+fn joins_and_meets_numbers_as_trees(rt: HostRuntime) -> Result<(), Fail> {
+    let alloc = rt.alloc();
+    for (dialect, left, right, _, _) in ROWS {
+        let left_type = made(alloc, &left)?;
+        let right_type = made(alloc, &right)?;
+        check_numbers(&rt, alloc, &left_type, &right_type, dialect)?;
+    }
+    Ok(())
+}
+
+#[test]
+#[tactic(auto, using(lam_rules::proofs::Tables::numbers, lam_sub::proofs::TableVerdicts::kept_verdicts))]
+fn bounds_types_doubled_forty_times(rt: HostRuntime) -> Result<(), Fail> {
+    let alloc = rt.alloc();
+    let mut table = TyTable::new(alloc);
+    let nat = table.intern(OuterForm::Nat)?;
+    let mut narrow = table.record(&[("a", nat)])?;
+    let mut wide = table.record(&[("b", nat), ("a", nat)])?;
+    for _ in 0..40 {
+        narrow = table.record(&[("a", narrow), ("b", narrow)])?;
+        wide = table.record(&[("b", wide), ("a", wide)])?;
+    }
+    let mut verdicts = Verdicts::new(alloc, Dialect::One);
+    assert_eq!(rt; join_no(&mut table, &mut verdicts, wide, narrow)?, narrow);
+    assert_eq!(rt;
+        meet_no(&mut table, &mut verdicts, wide, narrow)?,
+        Some(wide)
+    );
+    assert_eq!(rt; table.size(narrow), 4_097);
     Ok(())
 }
 

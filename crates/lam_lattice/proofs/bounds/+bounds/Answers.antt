@@ -8,7 +8,7 @@ use Rattle.lam_rules.proofs.SharedTexts.{has_wf}
 use Rattle.lam_sub.specs.OtherFields.{other_fields}
 use Rattle.lam_sub.proofs.LookUps.{item_has}
 use Rattle.lam_sub.proofs.Below.{nodes_of_field}
-use Rattle.lam_sub.proofs.Verdicts.{record_seen, nodes_of_arrow, nodes_of_record}
+use Rattle.lam_sub.proofs.ByVariant.{record_seen, nodes_of_arrow, nodes_of_record}
 use Rattle.lam_lattice.specs.Bounds.{IsJoin, IsMeet, HaveNoMeet}
 use Rattle.lam_lattice.specs.Records.{AreMet}
 use Rattle.lam_lattice.proofs.Unlike.{arrow_unlike, record_unlike, unlike_other, join_seen, meet_seen, no_meet_seen}
