@@ -10,3 +10,7 @@ pub mod Documents
 pub mod Deciding
 pub mod Together
 pub mod Forms
+pub mod Growing
+pub mod Glue
+pub mod StepRules
+pub mod Sizes

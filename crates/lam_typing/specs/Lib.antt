@@ -8,3 +8,5 @@ pub mod WellTyped
 pub mod Analysis
 pub mod Progress
 pub mod Steps
+pub mod Answers
+pub mod Walk

@@ -1,12 +1,14 @@
-//! The least type of each place of a document, over all contexts that the place may have, and which
-//! places are to blame for having none.
-//!
-//! What stands so far are the definitions (`specs/Contexts.antt`, `LeastTypes.antt`, `Blaming.antt`)
-//! and the laws on them, over the book's declarative rules alone and for both dialects.
+//! The least type of each place of a document.
 #![tactic(auto)]
 
+mod blame;
 mod laws;
+mod numbers;
+mod steps;
+mod walking;
 
+pub use blame::Blame;
 pub use laws::{
     least_types_exist, least_types_have_one_text, narrowing, never_blamed, typed_where_unblamed,
 };
+pub use walking::{Walk, walk_term};

@@ -1,0 +1,497 @@
+-- From what the steps of a walk say of it to what they say of types, and back.
+use Rattle.std.proofs.Common.{◌≡◌, ◌&&◌, ℕ, ◌<◌, ◌≤◌, List, [], ◌∷◌, ◌++◌, ◌⊎◌, Vec, vec_len, take, length, string_bytes, String, Option, Some, None, is_some, Bool, true, false, Result, Ok, Err, IfOk, IfErr, ap, refl, sym, subst, ◌∙◌, codes, ◌-◌, arith, if◌then◌else◌, inl, inr, suc, zero, append_assoc}
+use Rattle.std.specs.Result.{IsErrAnd}
+use Rattle.std.proofs.lemmas.List.{append-nil, length-append}
+use Rattle.std.specs.declared.alloc.Global.{Global}
+use denote.Ref.{Bor}
+use Rattle.lam_rules.specs.Types.{Label, Typ, bool, nat, unit, Fields, field}
+use Rattle.lam_rules.specs.Terms.{Term, variable, free, if_then_else, succ, pred, is_zero, lambda, apply, ascribe, let_in, record_term, project, fix, TermFields, no_terms, term_field}
+use Rattle.lam_rules.specs.Texts.{Text}
+use Rattle.lam_rules.specs.Typing.{Context, IsWellFormedEntry}
+use Rattle.lam_rules.specs.Numbers.{Keeps, IsNumberOf, AreBelow, type_of, fields_over}
+use Rattle.lam_rules.specs.declared.rules.Dialect.{Dialect}
+use Rattle.lam_rules.specs.declared.terms.Core.{Core}
+use Rattle.lam_rules.specs.TermViews.{terms_of}
+use Rattle.lam_rules.specs.declared.table.TyNo.{TyNo}
+use Rattle.lam_rules.proofs.Tables.{keeps_same, keeps_trans, keeps_length, kept_number, below_more}
+use Rattle.lam_typing.specs.Places.{Binding, written, of_term, Scope, Place, places, places_in}
+use Rattle.lam_typing.specs.LeastTypes.{IsLeastAt}
+use Rattle.lam_typing.specs.Blaming.{Blamed}
+use Rattle.lam_typing.specs.Answers.{answer, answers, StandsIn, AllStandIn, context_under}
+use Rattle.lam_typing.specs.Progress.{IsLowest, Progress, Went, WentOver, Cause, next_is_too_large, enough, StoppedIn, blame_step, IsApplicationCode, if_all, AreFieldsAt}
+use Rattle.lam_typing.specs.Walk.{blamed_of, blames_of, progress_of, entries_of, IsSoundWalk, Grows, WalkedOver, HasStoppedAmong, HasStopped, HasStoppedInFields, FieldsWalked, blame_at, Settles, StopsAt}
+use Rattle.lam_typing.specs.Steps.{entry_at, NatRule, LambdaRule, ApplyRule, AscribeRule, LetRule, IfRule, FixRule, ProjectRule, MoreRule, RecordRule}
+use Rattle.lam_typing.specs.declared.walking.Walk.{Walk}
+use Rattle.lam_typing.specs.declared.blame.Blame.{Blame}
+use Rattle.lam_typing.specs.declared.walking.Stop.{Stop}
+use Rattle.lam_typing.proofs.Growing.{answer_keep, answers_keep, context_keep, answers-push, length-answers, length-context, context-push, stands_keep, all_stand_keep, all_stand_push, some_answer}
+use Rattle.lam_typing.proofs.Together.{went_none, went_both, stopped_front, stopped_behind, stopped_under, stopped_enough, IsReady, ready_went, ready_too_large}
+use Rattle.lam_typing.proofs.Forms.{free_ready, unbound_ready, variable_ready, succ_ready, pred_ready, is_zero_ready, fix_ready, project_ready, ascribe_ready, lambda_ready, let_ready, apply_ready, if_ready, record_ready, lowest_let}
+
+-- the same places, told otherwise
+
+went_as : (g : Context) (ps qs : Scope → List Place) (old now : Progress) (d : Dialect) → ((s : Scope) → ps s ≡ qs s) → Went g ps old now d → Went g qs old now d
+went_as g ps qs old now d same a = record {
+  found = a.found;
+  blames = a.blames;
+  found_is = a.found_is;
+  blames_are = a.blames_are;
+  shown = λ s low. rw (sym (same s)) (a.shown s low);
+}
+
+stopped_as : (g : Context) (ps qs : Scope → List Place) (old now : Progress) (cause : Cause) (d : Dialect) → ((s : Scope) → ps s ≡ qs s) → StoppedIn g ps old now cause d → StoppedIn g qs old now cause d
+stopped_as g ps qs old now cause d same a = record {
+  found = a.found;
+  blames = a.blames;
+  found_is = a.found_is;
+  blames_are = a.blames_are;
+  shown = λ s low. rw (sym (same s)) (a.shown s low);
+}
+
+-- growth
+
+pub grows_trans : (a b c : Walk) → Grows a b → Grows b c → Grows a c
+grows_trans a b c p q = record { sound = q.sound; keeps = keeps_trans a.table b.table c.table p.keeps q.keeps; asked = q.asked ∙ p.asked }
+
+pub entries_same : (old now : Walk) → IsSoundWalk old → Keeps old.table now.table → now.entries.items ≡ old.entries.items → entries_of now ≡ entries_of old
+entries_same old now sound keeps same = ap (λ os. context_under now.table os) same ∙ context_keep old.table now.table old.entries.items keeps sound.entries
+
+pub progress_same : (old now : Walk) → IsSoundWalk old → Keeps old.table now.table → now.found.items ≡ old.found.items → now.blames.items ≡ old.blames.items → progress_of now ≡ progress_of old
+progress_same old now sound keeps found blames =
+    let f : answers now.table now.found.items ≡ answers old.table old.found.items = ap (λ os. answers now.table os) found ∙ answers_keep old.table now.table old.found.items keeps sound.found in
+    let b : blames_of now.blames.items ≡ blames_of old.blames.items = ap blames_of blames in
+    rw (f, b)
+
+-- what was found under the entries of an earlier walk, by a later table
+pub over_at : (w0 w1 : Walk) (t : List Typ) (g : Context) (e : Term) (x : Option TyNo) (d : Dialect)
+    → WalkedOver w0 w1 e x d → entries_of w0 ≡ g → Keeps w1.table t → WentOver g e (progress_of w0) (progress_of w1) (answer t x) d
+over_at w0 w1 t g e x d over same keeps =
+    subst (λ h. WentOver h e (progress_of w0) (progress_of w1) (answer t x) d) same
+    (subst (λ o. WentOver (entries_of w0) e (progress_of w0) (progress_of w1) o d) (sym (answer_keep w1.table t x keeps over.stands)) over.over)
+
+-- a stop in a part
+
+pub among_front : (stop : Stop) (g : Context) (ps qs : Scope → List Place) (old now : Walk) (d : Dialect)
+    → HasStoppedAmong stop g ps old now d → HasStoppedAmong stop g (λ s. ps s ++ qs s) old now d
+among_front Stop.TooLarge g ps qs old now d h = stopped_front g ps qs (progress_of old) (progress_of now) next_is_too_large d h
+among_front Stop.Enough g ps qs old now d h = (stopped_front g ps qs (progress_of old) (progress_of now) enough d h.0, h.1)
+among_front Stop.Memory g ps qs old now d h = tt
+
+pub among_behind : (stop : Stop) (g : Context) (ps qs : Scope → List Place) (old mid now : Walk) (d : Dialect)
+    → Went g ps (progress_of old) (progress_of mid) d → HasStoppedAmong stop g qs mid now d → HasStoppedAmong stop g (λ s. ps s ++ qs s) old now d
+among_behind Stop.TooLarge g ps qs old mid now d went h = stopped_behind g ps qs (progress_of old) (progress_of mid) (progress_of now) next_is_too_large d went h
+among_behind Stop.Enough g ps qs old mid now d went h = (stopped_behind g ps qs (progress_of old) (progress_of mid) (progress_of now) enough d went h.0, h.1)
+among_behind Stop.Memory g ps qs old mid now d went h = tt
+
+pub among_under : (stop : Stop) (b : Binding) (entry : Option Typ) (g : Context) (ps : Scope → List Place) (old now : Walk) (d : Dialect)
+    → ((s : Scope) → IsLowest s g d → IsLowest (b ∷ s) (entry ∷ g) d) → HasStoppedAmong stop (entry ∷ g) ps old now d → HasStoppedAmong stop g (λ s. ps (b ∷ s)) old now d
+among_under Stop.TooLarge b entry g ps old now d lower h = stopped_under b entry g ps (progress_of old) (progress_of now) next_is_too_large d lower h
+among_under Stop.Enough b entry g ps old now d lower h = (stopped_under b entry g ps (progress_of old) (progress_of now) enough d lower h.0, h.1)
+among_under Stop.Memory b entry g ps old now d lower h = tt
+
+pub among_from : (stop : Stop) (g h : Context) (ps : Scope → List Place) (old other now : Walk) (d : Dialect)
+    → g ≡ h → progress_of old ≡ progress_of other → HasStoppedAmong stop g ps old now d → HasStoppedAmong stop h ps other now d
+among_from Stop.TooLarge g h ps old other now d same from stopped = rw (sym same, sym from) stopped
+among_from Stop.Enough g h ps old other now d same from stopped = (rw (sym same, sym from) stopped.0, stopped.1)
+among_from Stop.Memory g h ps old other now d same from stopped = tt
+
+-- the table, the entries and what was found may change one by one
+
+abbrev pub retabled : Walk → List Typ → Walk
+retabled w t = record w { table = t }
+
+sound_with : (w now : Walk) → IsSoundWalk w → Keeps w.table now.table → AllStandIn now.table now.entries.items → AllStandIn now.table now.found.items → now.leaves ≡ w.leaves → IsSoundWalk now
+sound_with w now sound keeps entries found same = record {
+  entries = entries;
+  found = found;
+  boolean = subst (λ l. IsNumberOf now.table l.boolean bool) (sym same) (kept_number w.table now.table w.leaves.boolean bool keeps sound.boolean);
+  natural = subst (λ l. IsNumberOf now.table l.natural nat) (sym same) (kept_number w.table now.table w.leaves.natural nat keeps sound.natural);
+  unit = subst (λ l. IsNumberOf now.table l.unit unit) (sym same) (kept_number w.table now.table w.leaves.unit unit keeps sound.unit);
+}
+
+pub grows_same : (w : Walk) → IsSoundWalk w → Grows w w
+grows_same w sound = record { sound = sound; keeps = keeps_same w.table; asked = refl }
+
+pub retabled_grows : (w0 w : Walk) (t : List Typ) → Grows w0 w → Keeps w.table t → Grows w0 (record w { table = t })
+retabled_grows w0 w t grows keeps = record {
+  sound = sound_with w (record w { table = t }) grows.sound keeps
+      (all_stand_keep w.table t w.entries.items keeps grows.sound.entries) (all_stand_keep w.table t w.found.items keeps grows.sound.found) refl;
+  keeps = keeps_trans w0.table w.table t grows.keeps keeps;
+  asked = grows.asked;
+}
+
+pub put_or_not : {A : Type 0} (b : Bool) (v xs ys : A) → v ≡ (if b then xs else ys) → (v ≡ xs) ⊎ (v ≡ ys)
+put_or_not true v xs ys e = inl e
+put_or_not false v xs ys e = inr e
+
+pub pushed_grows : (w : Walk) (t : List Typ) (v : Vec (Option TyNo) Global) (o : Option TyNo) → IsSoundWalk w → Keeps w.table t
+    → (v.items ≡ w.entries.items ++ o ∷ []) ⊎ (v.items ≡ w.entries.items) → StandsIn t o → Grows w (record w { table = t; entries = v })
+pushed_grows w t v o sound keeps put stands = record {
+  sound = sound_with w (record w { table = t; entries = v }) sound keeps (stand put) (all_stand_keep w.table t w.found.items keeps sound.found) refl;
+  keeps = keeps;
+  asked = refl;
+}
+  where
+    before : AllStandIn t w.entries.items
+    before = all_stand_keep w.table t w.entries.items keeps sound.entries
+
+    stand : (v.items ≡ w.entries.items ++ o ∷ []) ⊎ (v.items ≡ w.entries.items) → AllStandIn t v.items
+    stand (inl e) = subst (λ os. AllStandIn t os) (sym e) (all_stand_push t w.entries.items o before stands)
+    stand (inr e) = subst (λ os. AllStandIn t os) (sym e) before
+
+pub popped_grows : (w0 wp w : Walk) (t : List Typ) (v : Vec (Option TyNo) Global) → Grows w0 wp → Grows wp w → Keeps w.table t → v.items ≡ w0.entries.items → IsSoundWalk w0
+    → Grows w0 (record w { table = t; entries = v })
+popped_grows w0 wp w t v first second keeps same sound =
+    let all = keeps_trans w0.table w.table t (keeps_trans w0.table wp.table w.table first.keeps second.keeps) keeps in
+    record {
+      sound = sound_with w (record w { table = t; entries = v }) second.sound keeps
+          (subst (λ os. AllStandIn t os) (sym same) (all_stand_keep w0.table t w0.entries.items all sound.entries))
+          (all_stand_keep w.table t w.found.items keeps second.sound.found) refl;
+      keeps = all;
+      asked = second.asked ∙ first.asked;
+    }
+
+pub settle_grows : (w : Walk) (fs : Vec (Option TyNo) Global) (bs : Vec Blame Global) (found : Option TyNo) → IsSoundWalk w → StandsIn w.table found
+    → fs.items ≡ w.found.items ++ found ∷ [] → Grows w (record w { found = fs; blames = bs })
+settle_grows w fs bs found sound stands put = record {
+  sound = sound_with w (record w { found = fs; blames = bs }) sound (keeps_same w.table) sound.entries
+      (subst (λ os. AllStandIn w.table os) (sym put) (all_stand_push w.table w.found.items found sound.found stands)) refl;
+  keeps = keeps_same w.table;
+  asked = refl;
+}
+
+pub blames_push : (bs : List Blame) (b : Blame) → blames_of (bs ++ b ∷ []) ≡ blames_of bs ++ blamed_of b ∷ []
+blames_push [] b = refl
+blames_push (a ∷ bs) b = ap (λ rest. blamed_of a ∷ rest) (blames_push bs b)
+
+pub under_entry : (w : Walk) (t : List Typ) (v : Vec (Option TyNo) Global) (o : Option TyNo) (x : Option Typ) → IsSoundWalk w → Keeps w.table t
+    → v.items ≡ w.entries.items ++ o ∷ [] → answer t o ≡ x → entries_of (record w { table = t; entries = v }) ≡ x ∷ entries_of w
+under_entry w t v o x sound keeps put is =
+    ap (λ os. context_under t os) put ∙ context-push t w.entries.items o
+    ∙ ap (λ y. y ∷ context_under t w.entries.items) is ∙ ap (λ g. x ∷ g) (context_keep w.table t w.entries.items keeps sound.entries)
+
+take_front : (os : List (Option TyNo)) (o : Option TyNo) (n : ℕ) → n ≡ length os → take n (os ++ o ∷ []) ≡ os
+take_front [] o n e = rw e
+take_front (p ∷ os) o zero e = absurd (omega arith)
+take_front (p ∷ os) o (suc n) e = ap (λ rest. p ∷ rest) (take_front os o n (omega arith))
+
+pub popped_is : (pushed : Vec (Option TyNo) Global) (w : Walk) (popped : Vec (Option TyNo) Global) (os : List (Option TyNo)) (o : Option TyNo)
+    → pushed.items ≡ os ++ o ∷ [] → w.entries.items ≡ pushed.items → popped.items ≡ take (vec_len w.entries - 1) w.entries.items → popped.items ≡ os
+popped_is pushed w popped os o put same rest =
+    let all : w.entries.items ≡ os ++ o ∷ [] = same ∙ put in
+    let whole = w.entries.ok.0 in
+    let longer = ap length all in
+    let count = length-append os (o ∷ []) in
+    let n : vec_len w.entries - 1 ≡ length os = omega (arith, whole, longer, count) in
+    rest ∙ ap (λ xs. take (vec_len w.entries - 1) xs) all ∙ take_front os o (vec_len w.entries - 1) n
+
+pub parts_empty : (after before parts : List (String Global × TyNo)) → after ≡ before ++ parts → before ≡ [] → after ≡ parts
+parts_empty after before parts are none = are ∙ ap (λ xs. xs ++ parts) none
+
+pub err_stopped : (r : Result (Option TyNo) Stop) (stop : Stop) (w0 now : Walk) (e : Term) (d : Dialect)
+    → IsErrAnd r (λ y. y ≡ stop) → HasStopped stop w0 now e d → IfErr r (λ s. HasStopped s w0 now e d)
+err_stopped (Ok x) stop w0 now e d is stopped = absurd is
+err_stopped (Err s) stop w0 now e d is stopped = subst (λ x. HasStopped x w0 now e d) (sym is) stopped
+
+pub err_stopped_in_fields : (r : Result Bool Stop) (stop : Stop) (w0 now : Walk) (es : TermFields) (d : Dialect)
+    → IsErrAnd r (λ y. y ≡ stop) → HasStoppedInFields stop w0 now es d → IfErr r (λ s. HasStoppedInFields s w0 now es d)
+err_stopped_in_fields (Ok x) stop w0 now es d is stopped = absurd is
+err_stopped_in_fields (Err s) stop w0 now es d is stopped = subst (λ x. HasStoppedInFields x w0 now es d) (sym is) stopped
+
+-- the terms of a record, one after the other
+
+fields_none : (w : Walk) (items : List (String Global × TyNo)) (d : Dialect) → FieldsWalked w w no_terms items items true d
+fields_none w items d = record {
+  entries = refl;
+  parts = [];
+  parts_are = sym (append-nil items);
+  stand = tt;
+  went = went_none (entries_of w) (progress_of w) d;
+  fields = λ s low. refl;
+}
+
+pub no_fields_walked : (w : Walk) (fs : List (String Global × Core)) (items : List (String Global × TyNo)) (d : Dialect) → length fs ≡ 0 → FieldsWalked w w (terms_of fs) items items true d
+no_fields_walked w [] items d e = fields_none w items d
+no_fields_walked w (f ∷ fs) items d e = absurd (omega arith)
+
+fields_went : (w0 w1 w2 : Walk) (l : Label) (e : Term) (es : TermFields) (found : Option TyNo) (before after : List (String Global × TyNo)) (all : Bool) (d : Dialect)
+    → entries_of w1 ≡ entries_of w0 → WalkedOver w0 w1 e found d → FieldsWalked w1 w2 es before after all d
+    → Went (entries_of w0) (λ s. places_in s (term_field l e es)) (progress_of w0) (progress_of w2) d
+fields_went w0 w1 w2 l e es found before after all d same first rest =
+    went_both (entries_of w0) (λ s. places s e) (λ s. places_in s es) (progress_of w0) (progress_of w1) (progress_of w2) d first.over.went
+    (subst (λ g. Went g (λ s. places_in s es) (progress_of w1) (progress_of w2) d) same rest.went)
+
+pub fields_unfound : (w0 w1 w2 : Walk) (l : Label) (e : Term) (es : TermFields) (found : Option TyNo) (before after : List (String Global × TyNo)) (all : Bool) (d : Dialect)
+    → IsSoundWalk w0 → Grows w0 w1 → WalkedOver w0 w1 e found d → found ≡ None → FieldsWalked w1 w2 es before after all d
+    → FieldsWalked w0 w2 (term_field l e es) before after false d
+fields_unfound w0 w1 w2 l e es found before after all d sound grows first none rest =
+    let same = entries_same w0 w1 sound grows.keeps first.entries in
+    record {
+      entries = rest.entries ∙ first.entries;
+      parts = rest.parts;
+      parts_are = rest.parts_are;
+      stand = rest.stand;
+      went = fields_went w0 w1 w2 l e es found before after all d same first rest;
+      fields = λ s low. (
+        answer w1.table found,
+        if_all all (fields_over w2.table rest.parts),
+        first.over.least s low,
+        rest.fields s (subst (λ g. IsLowest s g d) (sym same) low),
+        subst (λ o. MoreRule l (answer w1.table o) (if_all all (fields_over w2.table rest.parts)) None) (sym none) refl,
+      );
+    }
+
+more_rule : (l k : Label) (t u : Typ) (all : Bool) (fs : Fields) → k ≡ l → u ≡ t → MoreRule l (Some t) (if_all all fs) (if_all all (field k u fs))
+more_rule l k t u true fs same_label same_type = rw (same_label, same_type)
+more_rule l k t u false fs same_label same_type = refl
+
+pub fields_found : (w0 w1 w2 : Walk) (l : Label) (e : Term) (es : TermFields) (found : Option TyNo) (label : String Global) (number : TyNo) (before pushed after : List (String Global × TyNo)) (all : Bool) (d : Dialect)
+    → IsSoundWalk w0 → Grows w0 w1 → WalkedOver w0 w1 e found d → found ≡ Some number → Grows w1 w2 → pushed ≡ before ++ (label, number) ∷ [] → string_bytes label ≡ l
+    → FieldsWalked w1 w2 es pushed after all d → FieldsWalked w0 w2 (term_field l e es) before after all d
+fields_found w0 w1 w2 l e es found label number before pushed after all d sound grows first is more put same_label rest =
+    let same = entries_same w0 w1 sound grows.keeps first.entries in
+    let stands = subst (λ o. StandsIn w1.table o) is first.stands in
+    let longer = keeps_length w1.table w2.table more.keeps in
+    let kept : Some (type_of w2.table number) ≡ Some (type_of w1.table number) = answer_keep w1.table w2.table (Some number) more.keeps stands in
+    let same_type : type_of w2.table number ≡ type_of w1.table number = (cc) in
+    record {
+      entries = rest.entries ∙ first.entries;
+      parts = (label, number) ∷ rest.parts;
+      parts_are = rest.parts_are ∙ ap (λ xs. xs ++ rest.parts) put ∙ append_assoc before ((label, number) ∷ []) rest.parts;
+      stand = (omega arith, rest.stand);
+      went = fields_went w0 w1 w2 l e es found pushed after all d same first rest;
+      fields = λ s low. (
+        Some (type_of w1.table number),
+        if_all all (fields_over w2.table rest.parts),
+        subst (λ o. IsLeastAt s e (answer w1.table o) d) is (first.over.least s low),
+        rest.fields s (subst (λ g. IsLowest s g d) (sym same) low),
+        more_rule l (string_bytes label) (type_of w1.table number) (type_of w2.table number) all (fields_over w2.table rest.parts) same_label same_type,
+      );
+    }
+
+pub fields_found_ok : (r : Result Bool Stop) (w0 w1 w2 : Walk) (l : Label) (e : Term) (es : TermFields) (found : Option TyNo) (label : String Global) (number : TyNo) (before pushed after : List (String Global × TyNo)) (d : Dialect)
+    → IsSoundWalk w0 → Grows w0 w1 → WalkedOver w0 w1 e found d → found ≡ Some number → Grows w1 w2 → pushed ≡ before ++ (label, number) ∷ [] → string_bytes label ≡ l
+    → IfOk r (λ all. FieldsWalked w1 w2 es pushed after all d) → IfOk r (λ all. FieldsWalked w0 w2 (term_field l e es) before after all d)
+fields_found_ok (Ok all) w0 w1 w2 l e es found label number before pushed after d sound grows first is more put same_label rest =
+    fields_found w0 w1 w2 l e es found label number before pushed after all d sound grows first is more put same_label rest
+fields_found_ok (Err stop) w0 w1 w2 l e es found label number before pushed after d sound grows first is more put same_label rest = tt
+
+pub fields_front : (stop : Stop) (w0 w1 : Walk) (l : Label) (e : Term) (es : TermFields) (d : Dialect) → HasStopped stop w0 w1 e d → HasStoppedInFields stop w0 w1 (term_field l e es) d
+fields_front stop w0 w1 l e es d stopped = among_front stop (entries_of w0) (λ s. places s e) (λ s. places_in s es) w0 w1 d stopped
+
+pub fields_behind : (stop : Stop) (w0 w1 w2 : Walk) (l : Label) (e : Term) (es : TermFields) (found : Option TyNo) (d : Dialect)
+    → IsSoundWalk w0 → Grows w0 w1 → WalkedOver w0 w1 e found d → HasStoppedInFields stop w1 w2 es d → HasStoppedInFields stop w0 w2 (term_field l e es) d
+fields_behind stop w0 w1 w2 l e es found d sound grows first stopped =
+    among_behind stop (entries_of w0) (λ s. places s e) (λ s. places_in s es) w0 w1 w2 d first.over.went
+    (among_from stop (entries_of w1) (entries_of w0) (λ s. places_in s es) w1 w1 w2 d (entries_same w0 w1 sound grows.keeps first.entries) refl stopped)
+
+pub fields_behind_err : (r : Result Bool Stop) (w0 w1 w2 : Walk) (l : Label) (e : Term) (es : TermFields) (found : Option TyNo) (d : Dialect)
+    → IsSoundWalk w0 → Grows w0 w1 → WalkedOver w0 w1 e found d → IfErr r (λ stop. HasStoppedInFields stop w1 w2 es d) → IfErr r (λ stop. HasStoppedInFields stop w0 w2 (term_field l e es) d)
+fields_behind_err (Ok all) w0 w1 w2 l e es found d sound grows first stopped = tt
+fields_behind_err (Err stop) w0 w1 w2 l e es found d sound grows first stopped = fields_behind stop w0 w1 w2 l e es found d sound grows first stopped
+
+-- the term itself is taken down
+
+pub settled_over : (w0 mid now : Walk) (e : Term) (ps : Scope → List Place) (found : Option TyNo) (blame : Option (Bor Text)) (d : Dialect)
+    → ((s : Scope) → ps s ++ record { scope = s; here = e } ∷ [] ≡ places s e)
+    → mid.entries.items ≡ w0.entries.items → StandsIn mid.table found
+    → IsReady (entries_of w0) e ps (progress_of w0) (progress_of mid) (answer mid.table found) (blame_at (length mid.found.items) blame) d
+    → Settles mid now found blame → WalkedOver w0 now e found d
+settled_over w0 mid now e ps found blame d split same stands ready settles = record {
+  entries = settles.entries ∙ same;
+  stands = subst (λ t. StandsIn t found) (sym settles.table) stands;
+  over = subst (λ o. WentOver (entries_of w0) e (progress_of w0) (progress_of now) o d) (ap (λ t. answer t found) (sym settles.table))
+      record {
+        went = went_as (entries_of w0) (λ s. ps s ++ record { scope = s; here = e } ∷ []) (λ s. places s e) (progress_of w0) (progress_of now) d split
+            (ready_went (entries_of w0) e ps (progress_of w0) (progress_of mid) (progress_of now) (answer mid.table found) (blame_at (length mid.found.items) blame) d ready
+            (ap (λ t. answers t now.found.items) settles.table ∙ ap (λ os. answers mid.table os) settles.found_is ∙ answers-push mid.table mid.found.items found)
+            settles.blames_are
+            settles.small);
+        least = ready.least;
+      };
+}
+
+pub settled_stop : (stop : Stop) (w0 mid now : Walk) (e : Term) (ps : Scope → List Place) (found : Option TyNo) (blame : Option (Bor Text)) (d : Dialect)
+    → ((s : Scope) → ps s ++ record { scope = s; here = e } ∷ [] ≡ places s e)
+    → mid.entries.items ≡ w0.entries.items → StandsIn mid.table found
+    → IsReady (entries_of w0) e ps (progress_of w0) (progress_of mid) (answer mid.table found) (blame_at (length mid.found.items) blame) d
+    → StopsAt stop mid now found blame → HasStopped stop w0 now e d
+settled_stop Stop.Memory w0 mid now e ps found blame d split same stands ready stops = tt
+settled_stop Stop.Enough w0 mid now e ps found blame d split same stands ready stops =
+    (stopped_enough (entries_of w0) (λ s. places s e) (progress_of w0) (progress_of now) d (settled_over w0 mid now e ps found blame d split same stands ready stops.0).over.went, stops.1)
+settled_stop Stop.TooLarge w0 mid now e ps None blame d split same stands ready stops = absurd stops.1
+settled_stop Stop.TooLarge w0 mid now e ps (Some number) blame d split same stands ready stops =
+    stopped_as (entries_of w0) (λ s. ps s ++ record { scope = s; here = e } ∷ []) (λ s. places s e) (progress_of w0) (progress_of now) next_is_too_large d split
+    (subst (λ w. StoppedIn (entries_of w0) (λ s. ps s ++ record { scope = s; here = e } ∷ []) (progress_of w0) (progress_of w) next_is_too_large d) (sym stops.0)
+    (ready_too_large (entries_of w0) e ps (progress_of w0) (progress_of mid) _ (blame_at (length mid.found.items) blame) d ready stops.1))
+
+-- what a step blames a term for, by the numbers
+abbrev pub Blames : Bool → Option TyNo → Text → Option (Bor Text) → Type 0
+Blames parts found code blame = (ts : List Typ) (n : ℕ) → blame_at n blame ≡ blame_step n parts (answer ts found) code
+
+ready_at : (mid : Walk) (g : Context) (e : Term) (ps : Scope → List Place) (old : Progress) (found : Option TyNo) (parts seen : Bool) (code : Text) (blame : Option (Bor Text)) (d : Dialect)
+    → IsReady g e ps old (progress_of mid) (answer mid.table found) (blame_step (length (answers mid.table mid.found.items)) seen (answer mid.table found) code) d
+    → seen ≡ parts → Blames parts found code blame
+    → IsReady g e ps old (progress_of mid) (answer mid.table found) (blame_at (length mid.found.items) blame) d
+ready_at mid g e ps old found parts seen code blame d ready same blames =
+    let is : blame_step (length (answers mid.table mid.found.items)) seen (answer mid.table found) code ≡ blame_at (length mid.found.items) blame =
+    rw (length-answers mid.table mid.found.items, same) (sym (blames mid.table (length mid.found.items))) in
+    subst (λ bs. IsReady g e ps old (progress_of mid) (answer mid.table found) bs d) is ready
+
+-- the same of what a step answers
+
+pub settled_ok : (r : Result (Option TyNo) Stop) (w0 mid now : Walk) (e : Term) (ps : Scope → List Place) (found : Option TyNo) (blame : Option (Bor Text)) (d : Dialect)
+    → ((s : Scope) → ps s ++ record { scope = s; here = e } ∷ [] ≡ places s e)
+    → mid.entries.items ≡ w0.entries.items → StandsIn mid.table found
+    → IsReady (entries_of w0) e ps (progress_of w0) (progress_of mid) (answer mid.table found) (blame_at (length mid.found.items) blame) d
+    → IfOk r (λ number. (number ≡ found) × Settles mid now found blame) → IfOk r (λ number. WalkedOver w0 now e number d)
+settled_ok (Ok number) w0 mid now e ps found blame d split same stands ready h =
+    subst (λ o. WalkedOver w0 now e o d) (sym h.0) (settled_over w0 mid now e ps found blame d split same stands ready h.1)
+settled_ok (Err stop) w0 mid now e ps found blame d split same stands ready h = tt
+
+pub settled_err : (r : Result (Option TyNo) Stop) (w0 mid now : Walk) (e : Term) (ps : Scope → List Place) (found : Option TyNo) (blame : Option (Bor Text)) (d : Dialect)
+    → ((s : Scope) → ps s ++ record { scope = s; here = e } ∷ [] ≡ places s e)
+    → mid.entries.items ≡ w0.entries.items → StandsIn mid.table found
+    → IsReady (entries_of w0) e ps (progress_of w0) (progress_of mid) (answer mid.table found) (blame_at (length mid.found.items) blame) d
+    → IfErr r (λ stop. StopsAt stop mid now found blame) → IfErr r (λ stop. HasStopped stop w0 now e d)
+settled_err (Ok number) w0 mid now e ps found blame d split same stands ready h = tt
+settled_err (Err stop) w0 mid now e ps found blame d split same stands ready h = settled_stop stop w0 mid now e ps found blame d split same stands ready h
+
+-- terms without parts
+
+pub leaf_parts : (w : Walk) (e : Term) (number : TyNo) (t : Typ) (d : Dialect) → IsNumberOf w.table number t
+    → IsReady (entries_of w) e (λ s. []) (progress_of w) (progress_of w) (Some t) [] d
+    → IsReady (entries_of w) e (λ s. []) (progress_of w) (progress_of w) (answer w.table (Some number)) (blame_at (length w.found.items) None) d
+leaf_parts w e number t d is ready = subst (λ o. IsReady (entries_of w) e (λ s. []) (progress_of w) (progress_of w) o [] d) (ap Some (sym is.type)) ready
+
+pub free_parts : (w : Walk) (x : List ℕ) (blame : Option (Bor Text)) (d : Dialect) → Blames true None (codes "E1") blame
+    → IsReady (entries_of w) (free x) (λ s. []) (progress_of w) (progress_of w) (answer w.table None) (blame_at (length w.found.items) blame) d
+free_parts w x blame d blames =
+    ready_at w (entries_of w) (free x) (λ s. []) (progress_of w) None true true (codes "E1") blame d (free_ready (entries_of w) x (progress_of w) d) refl blames
+
+pub unbound_parts : (w : Walk) (n : ℕ) (blame : Option (Bor Text)) (d : Dialect) → length w.entries.items ≤ n → Blames true None (codes "E1") blame
+    → IsReady (entries_of w) (variable n) (λ s. []) (progress_of w) (progress_of w) (answer w.table None) (blame_at (length w.found.items) blame) d
+unbound_parts w n blame d le blames =
+    ready_at w (entries_of w) (variable n) (λ s. []) (progress_of w) None true true (codes "E1") blame d
+    (unbound_ready (entries_of w) n (progress_of w) d (let e = length-context w.table w.entries.items in omega arith)) refl blames
+
+pub variable_parts : (w : Walk) (n : ℕ) (found : Option TyNo) (d : Dialect) → n < length w.entries.items → answer w.table found ≡ entry_at n (entries_of w)
+    → IsReady (entries_of w) (variable n) (λ s. []) (progress_of w) (progress_of w) (answer w.table found) (blame_at (length w.found.items) None) d
+variable_parts w n found d lt is =
+    variable_ready (entries_of w) n (answer w.table found) (progress_of w) d (let e = length-context w.table w.entries.items in omega arith) is
+
+-- terms with one part
+
+module _ (w0 w1 : Walk) (e : Term) (x found : Option TyNo) (blame : Option (Bor Text)) (d : Dialect) (over : WalkedOver w0 w1 e x d) where
+  pub succ_parts : NatRule nat (answer w1.table x) (answer w1.table found) d → Blames (is_some x) found (codes "E6") blame
+      → IsReady (entries_of w0) (succ e) (λ s. places s e) (progress_of w0) (progress_of w1) (answer w1.table found) (blame_at (length w1.found.items) blame) d
+  succ_parts rule blames = ready_at w1 (entries_of w0) (succ e) (λ s. places s e) (progress_of w0) found (is_some x) (is_some (answer w1.table x)) (codes "E6") blame d
+      (succ_ready (entries_of w0) e (progress_of w0) (progress_of w1) (answer w1.table x) (answer w1.table found) d over.over rule) (some_answer w1.table x) blames
+
+  pub pred_parts : NatRule nat (answer w1.table x) (answer w1.table found) d → Blames (is_some x) found (codes "E6") blame
+      → IsReady (entries_of w0) (pred e) (λ s. places s e) (progress_of w0) (progress_of w1) (answer w1.table found) (blame_at (length w1.found.items) blame) d
+  pred_parts rule blames = ready_at w1 (entries_of w0) (pred e) (λ s. places s e) (progress_of w0) found (is_some x) (is_some (answer w1.table x)) (codes "E6") blame d
+      (pred_ready (entries_of w0) e (progress_of w0) (progress_of w1) (answer w1.table x) (answer w1.table found) d over.over rule) (some_answer w1.table x) blames
+
+  pub is_zero_parts : NatRule bool (answer w1.table x) (answer w1.table found) d → Blames (is_some x) found (codes "E6") blame
+      → IsReady (entries_of w0) (is_zero e) (λ s. places s e) (progress_of w0) (progress_of w1) (answer w1.table found) (blame_at (length w1.found.items) blame) d
+  is_zero_parts rule blames = ready_at w1 (entries_of w0) (is_zero e) (λ s. places s e) (progress_of w0) found (is_some x) (is_some (answer w1.table x)) (codes "E6") blame d
+      (is_zero_ready (entries_of w0) e (progress_of w0) (progress_of w1) (answer w1.table x) (answer w1.table found) d over.over rule) (some_answer w1.table x) blames
+
+  pub fix_parts : FixRule (answer w1.table x) (answer w1.table found) d → Blames (is_some x) found (codes "E8") blame
+      → IsReady (entries_of w0) (fix e) (λ s. places s e) (progress_of w0) (progress_of w1) (answer w1.table found) (blame_at (length w1.found.items) blame) d
+  fix_parts rule blames = ready_at w1 (entries_of w0) (fix e) (λ s. places s e) (progress_of w0) found (is_some x) (is_some (answer w1.table x)) (codes "E8") blame d
+      (fix_ready (entries_of w0) e (progress_of w0) (progress_of w1) (answer w1.table x) (answer w1.table found) d over.over rule) (some_answer w1.table x) blames
+
+  pub project_parts : (l : Label) → ProjectRule l (answer w1.table x) (answer w1.table found) → Blames (is_some x) found (codes "E4") blame
+      → IsReady (entries_of w0) (project e l) (λ s. places s e) (progress_of w0) (progress_of w1) (answer w1.table found) (blame_at (length w1.found.items) blame) d
+  project_parts l rule blames = ready_at w1 (entries_of w0) (project e l) (λ s. places s e) (progress_of w0) found (is_some x) (is_some (answer w1.table x)) (codes "E4") blame d
+      (project_ready (entries_of w0) e (progress_of w0) (progress_of w1) (answer w1.table x) (answer w1.table found) d over.over l rule) (some_answer w1.table x) blames
+
+-- what was found, with its parts told otherwise
+over_as : (g h : Context) (e : Term) (p p' q q' : Progress) (o o' : Option Typ) (d : Dialect)
+    → g ≡ h → p ≡ p' → q ≡ q' → o ≡ o' → WentOver g e p q o d → WentOver h e p' q' o' d
+over_as g h e p p' q q' o o' d a b c f over = rw (sym a, sym b, sym c, sym f) over
+
+-- an ascription: the walk over its term, then what is written is put into the table
+pub ascribe_parts : (w0 w1 w2 : Walk) (e : Term) (w : Option Typ) (entry x found : Option TyNo) (blame : Option (Bor Text)) (d : Dialect)
+    → WalkedOver w0 w1 e x d → Keeps w1.table w2.table → progress_of w2 ≡ progress_of w1
+    → answer w2.table entry ≡ w → AscribeRule (answer w2.table entry) (answer w2.table x) (answer w2.table found) d → Blames (is_some x && is_some entry) found (codes "E7") blame
+    → IsReady (entries_of w0) (ascribe e w) (λ s. places s e) (progress_of w0) (progress_of w2) (answer w2.table found) (blame_at (length w2.found.items) blame) d
+ascribe_parts w0 w1 w2 e w entry x found blame d over keeps same is rule blames =
+    let here = over_as (entries_of w0) (entries_of w0) e (progress_of w0) (progress_of w0) (progress_of w1) (progress_of w2) (answer w2.table x) (answer w2.table x) d refl refl (sym same) refl
+    (over_at w0 w1 w2.table (entries_of w0) e x d over refl keeps) in
+    let seen : (is_some (answer w2.table x) && is_some w) ≡ (is_some x && is_some entry) = rw (sym is, some_answer w2.table x, some_answer w2.table entry) in
+    ready_at w2 (entries_of w0) (ascribe e w) (λ s. places s e) (progress_of w0) found (is_some x && is_some entry) (is_some (answer w2.table x) && is_some w) (codes "E7") blame d
+    (ascribe_ready (entries_of w0) e (progress_of w0) (progress_of w2) (answer w2.table x) (answer w2.table found) d here w
+    (subst (λ v. AscribeRule v (answer w2.table x) (answer w2.table found) d) is rule))
+    seen blames
+
+-- a lambda: the walk over its body under one more entry
+pub lambda_parts : (w0 w2 w3 w5 : Walk) (e : Term) (w : Option Typ) (outcome found : Option TyNo) (d : Dialect)
+    → IsWellFormedEntry w → entries_of w2 ≡ w ∷ entries_of w0 → progress_of w2 ≡ progress_of w0 → WalkedOver w2 w3 e outcome d → progress_of w5 ≡ progress_of w3
+    → LambdaRule w (answer w3.table outcome) (answer w5.table found)
+    → IsReady (entries_of w0) (lambda w e) (λ s. places (written w ∷ s) e) (progress_of w0) (progress_of w5) (answer w5.table found) (blame_at (length w5.found.items) None) d
+lambda_parts w0 w2 w3 w5 e w outcome found d wf under from over to rule =
+    lambda_ready (entries_of w0) w e (progress_of w0) (progress_of w5) (answer w3.table outcome) (answer w5.table found) d wf
+    (over_as (entries_of w2) (w ∷ entries_of w0) e (progress_of w2) (progress_of w0) (progress_of w3) (progress_of w5) (answer w3.table outcome) (answer w3.table outcome) d under from (sym to) refl over.over)
+    rule
+
+-- a let: the walk over its first term, and over its second one under one more entry
+pub let_parts : (w0 w1 w2 w3 w4 : Walk) (a b : Term) (bound outcome found : Option TyNo) (d : Dialect)
+    → IsSoundWalk w0 → Keeps w0.table w1.table → WalkedOver w0 w1 a bound d
+    → entries_of w2 ≡ answer w1.table bound ∷ entries_of w1 → progress_of w2 ≡ progress_of w1 → WalkedOver w2 w3 b outcome d → progress_of w4 ≡ progress_of w3
+    → LetRule (answer w1.table bound) (answer w3.table outcome) (answer w4.table found)
+    → IsReady (entries_of w0) (let_in a b) (λ s. places s a ++ places (of_term a ∷ s) b) (progress_of w0) (progress_of w4) (answer w4.table found) (blame_at (length w4.found.items) None) d
+let_parts w0 w1 w2 w3 w4 a b bound outcome found d sound keeps over_a under from over_b to rule =
+    let same = entries_same w0 w1 sound keeps over_a.entries in
+    let_ready (entries_of w0) a b (progress_of w0) (progress_of w1) (progress_of w4) (answer w1.table bound) (answer w3.table outcome) (answer w4.table found) d over_a.over
+    (over_as (entries_of w2) (answer w1.table bound ∷ entries_of w0) b (progress_of w2) (progress_of w1) (progress_of w3) (progress_of w4) (answer w3.table outcome) (answer w3.table outcome) d
+    (under ∙ ap (λ g. answer w1.table bound ∷ g) same) from (sym to) refl over_b.over)
+    rule
+
+-- terms with several parts in one scope
+
+pub apply_parts : (w0 w1 w2 : Walk) (f a : Term) (x y found : Option TyNo) (code : Text) (blame : Option (Bor Text)) (d : Dialect)
+    → IsSoundWalk w0 → Grows w0 w1 → WalkedOver w0 w1 f x d → Grows w1 w2 → WalkedOver w1 w2 a y d
+    → ApplyRule (answer w2.table x) (answer w2.table y) (answer w2.table found) d → IsApplicationCode code (answer w2.table x) → Blames (is_some x && is_some y) found code blame
+    → IsReady (entries_of w0) (apply f a) (λ s. places s f ++ places s a) (progress_of w0) (progress_of w2) (answer w2.table found) (blame_at (length w2.found.items) blame) d
+apply_parts w0 w1 w2 f a x y found code blame d sound grows_f over_f grows_a over_a rule is_code blames =
+    let same = entries_same w0 w1 sound grows_f.keeps over_f.entries in
+    let seen : (is_some (answer w2.table x) && is_some (answer w2.table y)) ≡ (is_some x && is_some y) = rw (some_answer w2.table x, some_answer w2.table y) in
+    ready_at w2 (entries_of w0) (apply f a) (λ s. places s f ++ places s a) (progress_of w0) found (is_some x && is_some y) (is_some (answer w2.table x) && is_some (answer w2.table y)) code blame d
+    (apply_ready (entries_of w0) f a (progress_of w0) (progress_of w1) (progress_of w2) (answer w2.table x) (answer w2.table y) (answer w2.table found) code d
+    (over_at w0 w1 w2.table (entries_of w0) f x d over_f refl grows_a.keeps)
+    (subst (λ g. WentOver g a (progress_of w1) (progress_of w2) (answer w2.table y) d) same over_a.over)
+    rule is_code)
+    seen blames
+
+-- the table grows once more, by the join
+pub if_parts : (w0 w1 w2 w3 w4 : Walk) (e1 e2 e3 : Term) (x y z found : Option TyNo) (blame : Option (Bor Text)) (d : Dialect)
+    → IsSoundWalk w0 → Grows w0 w1 → WalkedOver w0 w1 e1 x d → Grows w1 w2 → WalkedOver w1 w2 e2 y d → Grows w2 w3 → WalkedOver w2 w3 e3 z d → progress_of w4 ≡ progress_of w3
+    → IfRule (answer w3.table x) (answer w3.table y) (answer w3.table z) (answer w4.table found) d → Blames (is_some x && (is_some y && is_some z)) found (codes "E5") blame
+    → IsReady (entries_of w0) (if_then_else e1 e2 e3) (λ s. (places s e1 ++ places s e2) ++ places s e3) (progress_of w0) (progress_of w4) (answer w4.table found) (blame_at (length w4.found.items) blame) d
+if_parts w0 w1 w2 w3 w4 e1 e2 e3 x y z found blame d sound r1 o1 r2 o2 r3 o3 to rule blames =
+    let t = w3.table in
+    let same1 = entries_same w0 w1 sound r1.keeps o1.entries in
+    let same2 = entries_same w1 w2 r1.sound r2.keeps o2.entries ∙ same1 in
+    let seen : (is_some (answer t x) && (is_some (answer t y) && is_some (answer t z))) ≡ (is_some x && (is_some y && is_some z)) = rw (some_answer t x, some_answer t y, some_answer t z) in
+    ready_at w4 (entries_of w0) (if_then_else e1 e2 e3) (λ s. (places s e1 ++ places s e2) ++ places s e3) (progress_of w0) found (is_some x && (is_some y && is_some z))
+    (is_some (answer t x) && (is_some (answer t y) && is_some (answer t z))) (codes "E5") blame d
+    (if_ready (entries_of w0) e1 e2 e3 (progress_of w0) (progress_of w1) (progress_of w2) (progress_of w4) (answer t x) (answer t y) (answer t z) (answer w4.table found) d
+    (over_at w0 w1 t (entries_of w0) e1 x d o1 refl (keeps_trans w1.table w2.table w3.table r2.keeps r3.keeps))
+    (over_at w1 w2 t (entries_of w0) e2 y d o2 same1 r3.keeps)
+    (over_as (entries_of w2) (entries_of w0) e3 (progress_of w2) (progress_of w2) (progress_of w3) (progress_of w4) (answer t z) (answer t z) d same2 refl (sym to) refl o3.over)
+    rule)
+    seen blames
+
+-- a record
+pub record_parts : (w0 w1 w2 : Walk) (es : TermFields) (before after : List (String Global × TyNo)) (all : Bool) (found : Option TyNo) (blame : Option (Bor Text)) (d : Dialect)
+    → (over : FieldsWalked w0 w1 es before after all d) → progress_of w2 ≡ progress_of w1
+    → RecordRule (if_all all (fields_over w1.table over.parts)) (answer w2.table found) → Blames all found (codes "E9") blame
+    → IsReady (entries_of w0) (record_term es) (λ s. places_in s es) (progress_of w0) (progress_of w2) (answer w2.table found) (blame_at (length w2.found.items) blame) d
+record_parts w0 w1 w2 es before after all found blame d over to rule blames =
+    ready_at w2 (entries_of w0) (record_term es) (λ s. places_in s es) (progress_of w0) found all all (codes "E9") blame d
+    (record_ready (entries_of w0) es (progress_of w0) (progress_of w2) all (fields_over w1.table over.parts) (answer w2.table found) d
+    (subst (λ p. Went (entries_of w0) (λ s. places_in s es) (progress_of w0) p d) (sym to) over.went) over.fields rule)
+    refl blames

@@ -1,0 +1,32 @@
+-- Numbers of a table that answer for places and binders: each stands for a type, or there is none.
+use Rattle.std.specs.Prelude.{◌≡◌, ℕ, List, [], ◌∷◌, Option, Some, None, map, length}
+use Rattle.lam_rules.specs.Types.{Typ, bool, nat, unit}
+use Rattle.lam_rules.specs.Typing.{Context}
+use Rattle.lam_rules.specs.Numbers.{type_of, Stands, IsNumberOf, Keeps}
+use Rattle.lam_rules.specs.declared.table.TyNo.{TyNo}
+
+-- the type that a number stands for, if there is one
+abbrev pub answer : List Typ → Option TyNo → Option Typ
+answer ts None = None
+answer ts (Some number) = Some (type_of ts number)
+
+abbrev pub answers : List Typ → List (Option TyNo) → List (Option Typ)
+answers ts [] = []
+answers ts (o ∷ os) = answer ts o ∷ answers ts os
+
+-- each number is one of the table
+abbrev pub StandsIn : List Typ → Option TyNo → Type 0
+StandsIn ts None = Unit {0}
+StandsIn ts (Some number) = Stands ts number
+
+abbrev pub AllStandIn : List Typ → List (Option TyNo) → Type 0
+AllStandIn ts [] = Unit {0}
+AllStandIn ts (o ∷ os) = StandsIn ts o × AllStandIn ts os
+
+-- entries that were put onto a context one by one, the outermost first
+abbrev pub under_entries : List Typ → Context → List (Option TyNo) → Context
+under_entries ts g [] = g
+under_entries ts g (o ∷ os) = under_entries ts (answer ts o ∷ g) os
+
+abbrev pub context_under : List Typ → List (Option TyNo) → Context
+context_under ts os = under_entries ts [] os

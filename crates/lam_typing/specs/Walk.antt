@@ -1,0 +1,93 @@
+-- What a `Walk` holds, and what the contracts of its steps say of it.
+use Rattle.std.specs.Prelude.{◌≡◌, ◌≤◌, ℕ, List, [], ◌∷◌, ◌++◌, length, Bool, Option, Some, None, String}
+use Rattle.std.specs.declared.alloc.Global.{Global}
+use denote.Ref.{Bor}
+use Rattle.lam_rules.specs.Types.{bool, nat, unit}
+use Rattle.lam_rules.specs.Terms.{Term, TermFields}
+use Rattle.lam_rules.specs.Texts.{Text}
+use Rattle.lam_rules.specs.Typing.{Context}
+use Rattle.lam_rules.specs.Numbers.{IsNumberOf, Keeps, AreBelow, fields_over}
+use Rattle.lam_rules.specs.declared.rules.Dialect.{Dialect}
+use Rattle.lam_rules.specs.declared.table.TyNo.{TyNo}
+use Rattle.lam_typing.specs.Places.{Scope, Place, places, places_in}
+use Rattle.lam_typing.specs.Blaming.{Blamed}
+use Rattle.lam_typing.specs.Analysis.{IsSmall}
+use Rattle.lam_typing.specs.Answers.{answer, answers, StandsIn, AllStandIn, context_under}
+use Rattle.lam_typing.specs.Progress.{IsLowest, Progress, Went, WentOver, next_is_too_large, enough, StoppedIn, AreFieldsAt, if_all, IsLarge}
+use Rattle.lam_typing.specs.declared.blame.Blame.{Blame}
+use Rattle.lam_typing.specs.declared.walking.Walk.{Walk}
+use Rattle.lam_typing.specs.declared.walking.Stop.{Stop}
+
+abbrev pub blamed_of : Blame → Blamed
+blamed_of b = record { number = b.place.0; code = b.code.now }
+
+abbrev pub blames_of : List Blame → List Blamed
+blames_of [] = []
+blames_of (b ∷ bs) = blamed_of b ∷ blames_of bs
+
+abbrev pub progress_of : Walk → Progress
+progress_of w = record { found = answers w.table w.found.items; blames = blames_of w.blames.items }
+
+-- the entries of the binders that it is under, the innermost first
+abbrev pub entries_of : Walk → Context
+entries_of w = context_under w.table w.entries.items
+
+-- its numbers are of its table
+pub record IsSoundWalk (w : Walk) : Type 0 where
+  pub entries : AllStandIn w.table w.entries.items
+  pub found : AllStandIn w.table w.found.items
+  pub boolean : IsNumberOf w.table w.leaves.boolean bool
+  pub natural : IsNumberOf w.table w.leaves.natural nat
+  pub unit : IsNumberOf w.table w.leaves.unit unit
+
+-- its table only grows, and it stays sound
+pub record Grows (old now : Walk) : Type 0 where
+  pub sound : IsSoundWalk now
+  pub keeps : Keeps old.table now.table
+  pub asked : now.asked ≡ old.asked
+
+-- it went over a term of this type, and is under the same binders as before
+pub record WalkedOver (old now : Walk) (e : Term) (found : Option TyNo) (d : Dialect) : Type 0 where
+  pub entries : now.entries.items ≡ old.entries.items
+  pub stands : StandsIn now.table found
+  pub over : WentOver (entries_of old) e (progress_of old) (progress_of now) (answer now.table found) d
+
+-- it stopped for want of memory, or as said above
+abbrev pub HasStoppedAmong : Stop → Context → (Scope → List Place) → Walk → Walk → Dialect → Type 0
+HasStoppedAmong Stop.TooLarge g ps old now d = StoppedIn g ps (progress_of old) (progress_of now) next_is_too_large d
+HasStoppedAmong Stop.Enough g ps old now d = StoppedIn g ps (progress_of old) (progress_of now) enough d × (now.asked ≤ length now.found.items)
+HasStoppedAmong Stop.Memory g ps old now d = Unit {0}
+
+abbrev pub HasStopped : Stop → Walk → Walk → Term → Dialect → Type 0
+HasStopped stop old now e d = HasStoppedAmong stop (entries_of old) (λ s. places s e) old now d
+
+abbrev pub HasStoppedInFields : Stop → Walk → Walk → TermFields → Dialect → Type 0
+HasStoppedInFields stop old now es d = HasStoppedAmong stop (entries_of old) (λ s. places_in s es) old now d
+
+-- it went over the terms of a record, and put what has a type behind the parts that were there
+pub record FieldsWalked (old now : Walk) (es : TermFields) (before after : List (String Global × TyNo)) (all : Bool) (d : Dialect) : Type 0 where
+  pub entries : now.entries.items ≡ old.entries.items
+  pub parts : List (String Global × TyNo)
+  pub parts_are : after ≡ before ++ parts
+  pub stand : AreBelow (length now.table) parts
+  pub went : Went (entries_of old) (λ s. places_in s es) (progress_of old) (progress_of now) d
+  pub fields : (s : Scope) → IsLowest s (entries_of old) d → AreFieldsAt s es (if_all all (fields_over now.table parts)) d
+
+-- the blame of the place of a number, if there is a code
+abbrev pub blame_at : ℕ → Option (Bor Text) → List Blamed
+blame_at n None = []
+blame_at n (Some code) = record { number = n; code = code.now } ∷ []
+
+-- it took down the next place, with what it is blamed for
+pub record Settles (old now : Walk) (found : Option TyNo) (blame : Option (Bor Text)) : Type 0 where
+  pub table : now.table ≡ old.table
+  pub entries : now.entries.items ≡ old.entries.items
+  pub found_is : now.found.items ≡ old.found.items ++ found ∷ []
+  pub blames_are : blames_of now.blames.items ≡ blames_of old.blames.items ++ blame_at (length old.found.items) blame
+  pub small : IsSmall (answer old.table found)
+
+-- it stopped at the next place
+abbrev pub StopsAt : Stop → Walk → Walk → Option TyNo → Option (Bor Text) → Type 0
+StopsAt Stop.TooLarge old now found blame = (now ≡ old) × IsLarge (answer old.table found)
+StopsAt Stop.Enough old now found blame = Settles old now found blame × (now.asked ≤ length now.found.items)
+StopsAt Stop.Memory old now found blame = Unit {0}

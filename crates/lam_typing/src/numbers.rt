@@ -1,0 +1,4 @@
+//! Stand-in.
+
+#[derive(Clone, Copy, Debug, PartialEq, Eq)]
+pub struct Place(pub usize);

@@ -1,0 +1,283 @@
+//! What each rule of typing makes of the types of a term's parts, by the numbers of a table (TAPL chapter 16: no rule
+//! of subsumption, a join at `if`). A part without a type has no number, and no more has a term whose rule fails.
+
+ghost use Rattle.std.specs.Prelude.{◌≡◌, ◌↔◌, IfOk, IfSome, IfNone, IsTrue, List, length};
+ghost use Rattle.lam_rules.specs.Types.{Typ, arrow, bool, nat, IsWellFormed};
+ghost use Rattle.lam_rules.specs.TermViews.{written_of};
+ghost use Rattle.lam_rules.specs.Typing.{IsWellFormedEntry};
+ghost use Rattle.lam_rules.specs.Subtyping.{IsBelow};
+ghost use Rattle.lam_rules.specs.Numbers.{type_of, Stands, IsNumberOf, Keeps, AreBelow, fields_over};
+ghost use Rattle.lam_lattice.specs.Bounds.{IsJoin};
+ghost use Rattle.lam_typing.specs.Answers.{answer, StandsIn};
+ghost use Rattle.lam_typing.specs.Progress.{if_all};
+ghost use Rattle.lam_typing.specs.Steps.{NatRule, LambdaRule, ApplyRule, AscribeRule, LetRule, IfRule, FixRule, ProjectRule, RecordRule};
+
+use lam_lattice::join;
+use lam_rules::{Dialect, Shape, Ty, TyNo, TyTable, labels_differ};
+use lam_sub::is_sub;
+use std::alloc::{AllocError, Global};
+
+/// Whether one type is below another.
+fn is_below(table: &TyTable, lower: TyNo, upper: TyNo, dialect: Dialect) -> Result<bool, AllocError>
+    requires lower { Stands table.now lower }
+    requires upper { Stands table.now upper }
+    ensures { IfOk result (λ below. IsTrue below ↔ IsBelow (type_of table.now lower) (type_of table.now upper) dialect) }
+{
+    table.types_differ();
+    let lower_type = table.tree(lower)?;
+    let upper_type = table.tree(upper)?;
+    Ok(is_sub(&lower_type, &upper_type, dialect))
+}
+
+/// The join of two types.
+fn joined(
+    alloc: Global,
+    table: &mut TyTable,
+    left: TyNo,
+    right: TyNo,
+    dialect: Dialect,
+) -> Result<TyNo, AllocError>
+    requires left { Stands table.old left }
+    requires right { Stands table.old right }
+    ensures keeps { Keeps table.old table.new }
+    ensures stands { IfOk result (λ made. Stands table.new made) }
+    ensures join { IfOk result (λ made. IsJoin (type_of table.old left) (type_of table.old right) (type_of table.new made) dialect) }
+{
+    table.types_differ();
+    let left_type = table.tree(left)?;
+    let right_type = table.tree(right)?;
+    let made = join(alloc, &left_type, &right_type, dialect)?;
+    table.add(&made)
+}
+
+/// The two sides of an arrow.
+fn sides(table: &TyTable, number: TyNo) -> Option<(TyNo, TyNo)>
+    requires { Stands table.now number }
+    ensures stand { IfSome result (λ found. Stands table.now found.0 × Stands table.now found.1) }
+    ensures some { IfSome result (λ found. type_of table.now number ≡ arrow (type_of table.now found.0) (type_of table.now found.1)) }
+    ensures none { IfNone result ((s t : Typ) → type_of table.now number ≡ arrow s t → ⊥) }
+{
+    match table.shape(number) {
+        Shape::Arrow(parameter, outcome) => Some((*parameter, *outcome)),
+        _ => None,
+    }
+}
+
+/// What is written, if it stands for a type.
+pub fn added(table: &mut TyTable, written: &Option<Ty>) -> Result<Option<TyNo>, AllocError>
+    requires wf { IsWellFormedEntry (written_of written.now) }
+    ensures keeps { Keeps table.old table.new }
+    ensures stands { IfOk result (λ entry. StandsIn table.new entry) }
+    ensures entry { IfOk result (λ entry. answer table.new entry ≡ written_of written.now) }
+{
+    match written {
+        Some(ty) => {
+            let number = table.add(ty)?;
+            Ok(Some(number))
+        }
+        None => Ok(None),
+    }
+}
+
+/// T-Succ, T-Pred and T-IsZero: an operand below Nat.
+pub fn of_number(
+    table: &TyTable,
+    operand: Option<TyNo>,
+    nat_number: TyNo,
+    outcome: TyNo,
+    dialect: Dialect,
+) -> Result<Option<TyNo>, AllocError>
+    requires operand { StandsIn table.now operand }
+    requires nat_number { IsNumberOf table.now nat_number nat }
+    requires outcome { Stands table.now outcome }
+    ensures stands { IfOk result (λ found. StandsIn table.now found) }
+    ensures rule { IfOk result (λ found. NatRule (type_of table.now outcome) (answer table.now operand) (answer table.now found) dialect) }
+{
+    let Some(number) = operand else {
+        return Ok(None);
+    };
+    if is_below(table, number, nat_number, dialect)? {
+        Ok(Some(outcome))
+    } else {
+        Ok(None)
+    }
+}
+
+/// T-Abs.
+pub fn abstracted(
+    table: &mut TyTable,
+    written: Option<TyNo>,
+    body: Option<TyNo>,
+) -> Result<Option<TyNo>, AllocError>
+    requires written { StandsIn table.old written }
+    requires body { StandsIn table.old body }
+    ensures keeps { Keeps table.old table.new }
+    ensures stands { IfOk result (λ found. StandsIn table.new found) }
+    ensures rule { IfOk result (λ found. LambdaRule (answer table.old written) (answer table.old body) (answer table.new found)) }
+{
+    let Some(parameter) = written else {
+        return Ok(None);
+    };
+    let Some(outcome) = body else {
+        return Ok(None);
+    };
+    let number = table.arrow(parameter, outcome)?;
+    Ok(Some(number))
+}
+
+/// T-App: an argument below the parameter.
+pub fn applied(
+    table: &TyTable,
+    function: Option<TyNo>,
+    argument: Option<TyNo>,
+    dialect: Dialect,
+) -> Result<Option<TyNo>, AllocError>
+    requires function { StandsIn table.now function }
+    requires argument { StandsIn table.now argument }
+    ensures stands { IfOk result (λ found. StandsIn table.now found) }
+    ensures rule { IfOk result (λ found. ApplyRule (answer table.now function) (answer table.now argument) (answer table.now found) dialect) }
+{
+    let Some(function_number) = function else {
+        return Ok(None);
+    };
+    let Some(argument_number) = argument else {
+        return Ok(None);
+    };
+    let Some((parameter, outcome)) = sides(table, function_number) else {
+        return Ok(None);
+    };
+    if is_below(table, argument_number, parameter, dialect)? {
+        Ok(Some(outcome))
+    } else {
+        Ok(None)
+    }
+}
+
+/// T-Ascribe: a term below the type that is written.
+pub fn ascribed(
+    table: &TyTable,
+    written: Option<TyNo>,
+    operand: Option<TyNo>,
+    dialect: Dialect,
+) -> Result<Option<TyNo>, AllocError>
+    requires written { StandsIn table.now written }
+    requires operand { StandsIn table.now operand }
+    ensures stands { IfOk result (λ found. StandsIn table.now found) }
+    ensures rule { IfOk result (λ found. AscribeRule (answer table.now written) (answer table.now operand) (answer table.now found) dialect) }
+{
+    let Some(written_number) = written else {
+        return Ok(None);
+    };
+    let Some(number) = operand else {
+        return Ok(None);
+    };
+    if is_below(table, number, written_number, dialect)? {
+        Ok(Some(written_number))
+    } else {
+        Ok(None)
+    }
+}
+
+/// T-Let.
+pub fn bound_in(bound: Option<TyNo>, body: Option<TyNo>) -> Option<TyNo>
+    ensures { (ts : List Typ) → (StandsIn ts body → StandsIn ts result) × LetRule (answer ts bound) (answer ts body) (answer ts result) }
+{
+    match bound {
+        Some(_) => body,
+        None => None,
+    }
+}
+
+/// T-If: a condition below Bool, and the join of the branches.
+pub fn chosen(
+    alloc: Global,
+    table: &mut TyTable,
+    condition: Option<TyNo>,
+    then_branch: Option<TyNo>,
+    else_branch: Option<TyNo>,
+    bool_number: TyNo,
+    dialect: Dialect,
+) -> Result<Option<TyNo>, AllocError>
+    requires condition { StandsIn table.old condition }
+    requires then_branch { StandsIn table.old then_branch }
+    requires else_branch { StandsIn table.old else_branch }
+    requires bool_number { IsNumberOf table.old bool_number bool }
+    ensures keeps { Keeps table.old table.new }
+    ensures stands { IfOk result (λ found. StandsIn table.new found) }
+    ensures rule { IfOk result (λ found. IfRule (answer table.old condition) (answer table.old then_branch) (answer table.old else_branch) (answer table.new found) dialect) }
+{
+    let Some(condition_number) = condition else {
+        return Ok(None);
+    };
+    let Some(then_number) = then_branch else {
+        return Ok(None);
+    };
+    let Some(else_number) = else_branch else {
+        return Ok(None);
+    };
+    if !is_below(table, condition_number, bool_number, dialect)? {
+        return Ok(None);
+    }
+    let number = joined(alloc, table, then_number, else_number, dialect)?;
+    Ok(Some(number))
+}
+
+/// T-Fix: a function whose result is below its parameter.
+pub fn fixed(
+    table: &TyTable,
+    operand: Option<TyNo>,
+    dialect: Dialect,
+) -> Result<Option<TyNo>, AllocError>
+    requires { StandsIn table.now operand }
+    ensures stands { IfOk result (λ found. StandsIn table.now found) }
+    ensures rule { IfOk result (λ found. FixRule (answer table.now operand) (answer table.now found) dialect) }
+{
+    let Some(number) = operand else {
+        return Ok(None);
+    };
+    let Some((parameter, outcome)) = sides(table, number) else {
+        return Ok(None);
+    };
+    if is_below(table, outcome, parameter, dialect)? {
+        Ok(Some(outcome))
+    } else {
+        Ok(None)
+    }
+}
+
+/// T-Proj.
+pub fn projected(table: &TyTable, operand: Option<TyNo>, label: &str) -> Option<TyNo>
+    requires { StandsIn table.now operand }
+    ensures stands { StandsIn table.now result }
+    ensures rule { ProjectRule label.now (answer table.now operand) (answer table.now result) }
+{
+    let Some(number) = operand else {
+        return None;
+    };
+    let Some(found) = table.field(number, label) else {
+        return None;
+    };
+    Some(found)
+}
+
+/// T-Rcd: all the terms have types, and no label is there twice.
+pub fn recorded(
+    table: &mut TyTable,
+    all: bool,
+    fields: Vec<(String, TyNo)>,
+) -> Result<Option<TyNo>, AllocError>
+    requires { AreBelow (length table.old) fields.items }
+    ensures keeps { Keeps table.old table.new }
+    ensures stands { IfOk result (λ found. StandsIn table.new found) }
+    ensures rule { IfOk result (λ found. RecordRule (if_all all (fields_over table.old fields.items)) (answer table.new found)) }
+{
+    if !all {
+        return Ok(None);
+    }
+    if !labels_differ(&fields) {
+        return Ok(None);
+    }
+    let number = table.intern(Shape::Record(fields))?;
+    table.types_differ();
+    Ok(Some(number))
+}

@@ -1,0 +1,491 @@
+//! The walk over the places of a term, each after its immediate terms: one type for each, found from those of its parts.
+
+ghost use Rattle.std.specs.Prelude.{◌≡◌, ◌&&◌, ◌++◌, ◌<◌, length, IfOk, IfErr, IsTrue, IsFalse, ℕ, List, is_some};
+ghost use Rattle.lam_rules.specs.Types.{Typ};
+ghost use Rattle.lam_rules.specs.Terms.{if_then_else, succ, pred, is_zero, variable, lambda, apply, ascribe, let_in, record_term, project, fix};
+ghost use Rattle.lam_rules.specs.TermViews.{term_of, terms_of, written_of};
+ghost use Rattle.lam_rules.specs.Typing.{IsWellFormedEntry};
+ghost use Rattle.lam_typing.specs.WellFormed.{IsWellFormedTerm, AreWellFormedTerms};
+ghost use Rattle.lam_typing.specs.Answers.{answer, StandsIn, AllStandIn, context_under};
+ghost use Rattle.lam_typing.specs.Steps.{entry_at};
+ghost use Rattle.lam_typing.specs.Analysis.{IsSmall};
+ghost use Rattle.lam_typing.specs.Progress.{blame_step, IsApplicationCode, IsLarge};
+ghost use Rattle.lam_typing.specs.Walk.{Grows, WalkedOver, FieldsWalked, HasStopped, HasStoppedInFields, Settles, StopsAt, blame_at, blames_of, IsSoundWalk};
+ghost use Rattle.lam_typing.specs.declared.walking.Stop.TheVariants.{Memory};
+
+use crate::blame::Blame;
+use crate::numbers::Place;
+use crate::steps::{
+    abstracted, added, applied, ascribed, bound_in, chosen, fixed, of_number, projected, recorded,
+};
+use lam_rules::{Core, Dialect, Shape, Ty, TyNo, TyTable};
+use std::alloc::{AllocError, AllocFailed, Global};
+
+/// The most nodes that the type of a place may have.
+const LARGEST: u64 = 4096;
+
+/// Why a walk ends before its last place.
+pub enum Stop {
+    /// The next place has a type of more nodes than may be.
+    TooLarge,
+    /// As many places are found as were asked for.
+    Enough,
+    Memory,
+}
+
+impl From<AllocError> for Stop {
+    ghost from_gives = { λ _ stop. stop ≡ Memory };
+
+    fn from(_refused: AllocError) -> Stop {
+        Stop::Memory
+    }
+}
+
+impl<T: Drop> From<AllocFailed<T>> for Stop {
+    ghost from_gives = { λ _ stop. stop ≡ Memory };
+
+    fn from(_refused: AllocFailed<T>) -> Stop {
+        Stop::Memory
+    }
+}
+
+/// The types without parts.
+#[derive(Clone, Copy)]
+pub struct Leaves {
+    pub boolean: TyNo,
+    pub natural: TyNo,
+    pub unit: TyNo,
+}
+
+/// What a walk has found so far.
+#[derive(Drop)]
+pub struct Walk {
+    pub table: TyTable,
+    pub leaves: Leaves,
+    /// The entries of the binders that it is under, the outermost first.
+    pub entries: Vec<Option<TyNo>>,
+    /// The type of each place, in the order of places.
+    pub found: Vec<Option<TyNo>>,
+    pub blames: Vec<Blame>,
+    /// How many places are asked for.
+    pub asked: usize,
+}
+
+/// The type of a term, whose places all come behind those that were found.
+#[cycle(walk_term)]
+#[tactic(auto, using(lam_rules::proofs::TermShapes::term_shapes))]
+pub fn walk_term(
+    alloc: Global,
+    w: &mut Walk,
+    term: &Core,
+    dialect: Dialect,
+) -> Result<Option<TyNo>, Stop>
+    requires sound { IsSoundWalk w.old }
+    requires wf { IsWellFormedTerm (term_of term.now) }
+    ensures grows { Grows w.old w.new }
+    ensures walked { IfOk result (λ found. WalkedOver w.old w.new (term_of term.now) found dialect) }
+    ensures stopped { IfErr result (λ stop. HasStopped stop w.old w.new (term_of term.now) dialect) }
+{
+    match term {
+        Core::True => settle(w, Some(w.leaves.boolean), None),
+        Core::False => settle(w, Some(w.leaves.boolean), None),
+        Core::If(condition, then_term, else_term) => {
+            walk_if(alloc, w, condition, then_term, else_term, dialect)
+        }
+        Core::Num(_) => settle(w, Some(w.leaves.natural), None),
+        Core::Succ(operand) => walk_succ(alloc, w, operand, dialect),
+        Core::Pred(operand) => walk_pred(alloc, w, operand, dialect),
+        Core::IsZero(operand) => walk_is_zero(alloc, w, operand, dialect),
+        Core::Var(count) => walk_variable(w, *count, dialect),
+        Core::Free(_) => {
+            let blame = blame_if(true, None, "E1");
+            settle(w, None, blame)
+        }
+        Core::Abs(written, body) => walk_lambda(alloc, w, written, body, dialect),
+        Core::App(function, argument) => walk_apply(alloc, w, function, argument, dialect),
+        Core::Unit => settle(w, Some(w.leaves.unit), None),
+        Core::Ascribe(operand, written) => walk_ascribe(alloc, w, operand, written, dialect),
+        Core::Let(bound, body) => walk_let(alloc, w, bound, body, dialect),
+        Core::Record(fields) => walk_record(alloc, w, fields, dialect),
+        Core::Proj(operand, label) => walk_project(alloc, w, operand, label, dialect),
+        Core::Fix(operand) => walk_fix(alloc, w, operand, dialect),
+    }
+}
+
+#[cycle(walk_term)]
+fn walk_if(
+    alloc: Global,
+    w: &mut Walk,
+    condition: &Core,
+    then_term: &Core,
+    else_term: &Core,
+    dialect: Dialect,
+) -> Result<Option<TyNo>, Stop>
+    requires sound { IsSoundWalk w.old }
+    requires condition { IsWellFormedTerm (term_of condition.now) }
+    requires then_term { IsWellFormedTerm (term_of then_term.now) }
+    requires else_term { IsWellFormedTerm (term_of else_term.now) }
+    ensures grows { Grows w.old w.new }
+    ensures walked { IfOk result (λ found. WalkedOver w.old w.new (if_then_else (term_of condition.now) (term_of then_term.now) (term_of else_term.now)) found dialect) }
+    ensures stopped { IfErr result (λ stop. HasStopped stop w.old w.new (if_then_else (term_of condition.now) (term_of then_term.now) (term_of else_term.now)) dialect) }
+{
+    let first = walk_term(alloc, w, condition, dialect)?;
+    let second = walk_term(alloc, w, then_term, dialect)?;
+    let third = walk_term(alloc, w, else_term, dialect)?;
+    let boolean = w.leaves.boolean;
+    let found = chosen(alloc, &mut w.table, first, second, third, boolean, dialect)?;
+    let blame = blame_if(are_all_found(first, second, third), found, "E5");
+    settle(w, found, blame)
+}
+
+#[cycle(walk_term)]
+fn walk_succ(
+    alloc: Global,
+    w: &mut Walk,
+    operand: &Core,
+    dialect: Dialect,
+) -> Result<Option<TyNo>, Stop>
+    requires sound { IsSoundWalk w.old }
+    requires operand { IsWellFormedTerm (term_of operand.now) }
+    ensures grows { Grows w.old w.new }
+    ensures walked { IfOk result (λ found. WalkedOver w.old w.new (succ (term_of operand.now)) found dialect) }
+    ensures stopped { IfErr result (λ stop. HasStopped stop w.old w.new (succ (term_of operand.now)) dialect) }
+{
+    let part = walk_term(alloc, w, operand, dialect)?;
+    let found = of_number(&w.table, part, w.leaves.natural, w.leaves.natural, dialect)?;
+    let blame = blame_if(part.is_some(), found, "E6");
+    settle(w, found, blame)
+}
+
+#[cycle(walk_term)]
+fn walk_pred(
+    alloc: Global,
+    w: &mut Walk,
+    operand: &Core,
+    dialect: Dialect,
+) -> Result<Option<TyNo>, Stop>
+    requires sound { IsSoundWalk w.old }
+    requires operand { IsWellFormedTerm (term_of operand.now) }
+    ensures grows { Grows w.old w.new }
+    ensures walked { IfOk result (λ found. WalkedOver w.old w.new (pred (term_of operand.now)) found dialect) }
+    ensures stopped { IfErr result (λ stop. HasStopped stop w.old w.new (pred (term_of operand.now)) dialect) }
+{
+    let part = walk_term(alloc, w, operand, dialect)?;
+    let found = of_number(&w.table, part, w.leaves.natural, w.leaves.natural, dialect)?;
+    let blame = blame_if(part.is_some(), found, "E6");
+    settle(w, found, blame)
+}
+
+#[cycle(walk_term)]
+fn walk_is_zero(
+    alloc: Global,
+    w: &mut Walk,
+    operand: &Core,
+    dialect: Dialect,
+) -> Result<Option<TyNo>, Stop>
+    requires sound { IsSoundWalk w.old }
+    requires operand { IsWellFormedTerm (term_of operand.now) }
+    ensures grows { Grows w.old w.new }
+    ensures walked { IfOk result (λ found. WalkedOver w.old w.new (is_zero (term_of operand.now)) found dialect) }
+    ensures stopped { IfErr result (λ stop. HasStopped stop w.old w.new (is_zero (term_of operand.now)) dialect) }
+{
+    let part = walk_term(alloc, w, operand, dialect)?;
+    let found = of_number(&w.table, part, w.leaves.natural, w.leaves.boolean, dialect)?;
+    let blame = blame_if(part.is_some(), found, "E6");
+    settle(w, found, blame)
+}
+
+#[cycle(walk_term)]
+fn walk_lambda(
+    alloc: Global,
+    w: &mut Walk,
+    written: &Option<Ty>,
+    body: &Core,
+    dialect: Dialect,
+) -> Result<Option<TyNo>, Stop>
+    requires sound { IsSoundWalk w.old }
+    requires written { IsWellFormedEntry (written_of written.now) }
+    requires body { IsWellFormedTerm (term_of body.now) }
+    ensures grows { Grows w.old w.new }
+    ensures walked { IfOk result (λ found. WalkedOver w.old w.new (lambda (written_of written.now) (term_of body.now)) found dialect) }
+    ensures stopped { IfErr result (λ stop. HasStopped stop w.old w.new (lambda (written_of written.now) (term_of body.now)) dialect) }
+{
+    let parameter = added(&mut w.table, written)?;
+    w.entries.push(parameter)?;
+    let outcome = walk_term(alloc, w, body, dialect)?;
+    w.entries.pop();
+    let found = abstracted(&mut w.table, parameter, outcome)?;
+    settle(w, found, None)
+}
+
+#[cycle(walk_term)]
+fn walk_apply(
+    alloc: Global,
+    w: &mut Walk,
+    function: &Core,
+    argument: &Core,
+    dialect: Dialect,
+) -> Result<Option<TyNo>, Stop>
+    requires sound { IsSoundWalk w.old }
+    requires function { IsWellFormedTerm (term_of function.now) }
+    requires argument { IsWellFormedTerm (term_of argument.now) }
+    ensures grows { Grows w.old w.new }
+    ensures walked { IfOk result (λ found. WalkedOver w.old w.new (apply (term_of function.now) (term_of argument.now)) found dialect) }
+    ensures stopped { IfErr result (λ stop. HasStopped stop w.old w.new (apply (term_of function.now) (term_of argument.now)) dialect) }
+{
+    let first = walk_term(alloc, w, function, dialect)?;
+    let second = walk_term(alloc, w, argument, dialect)?;
+    let found = applied(&w.table, first, second, dialect)?;
+    let code = application_code(&w.table, first);
+    let blame = blame_if(are_both_found(first, second), found, code);
+    settle(w, found, blame)
+}
+
+#[cycle(walk_term)]
+fn walk_ascribe(
+    alloc: Global,
+    w: &mut Walk,
+    operand: &Core,
+    written: &Option<Ty>,
+    dialect: Dialect,
+) -> Result<Option<TyNo>, Stop>
+    requires sound { IsSoundWalk w.old }
+    requires operand { IsWellFormedTerm (term_of operand.now) }
+    requires written { IsWellFormedEntry (written_of written.now) }
+    ensures grows { Grows w.old w.new }
+    ensures walked { IfOk result (λ found. WalkedOver w.old w.new (ascribe (term_of operand.now) (written_of written.now)) found dialect) }
+    ensures stopped { IfErr result (λ stop. HasStopped stop w.old w.new (ascribe (term_of operand.now) (written_of written.now)) dialect) }
+{
+    let part = walk_term(alloc, w, operand, dialect)?;
+    let entry = added(&mut w.table, written)?;
+    let found = ascribed(&w.table, entry, part, dialect)?;
+    let blame = blame_if(are_both_found(part, entry), found, "E7");
+    settle(w, found, blame)
+}
+
+#[cycle(walk_term)]
+fn walk_let(
+    alloc: Global,
+    w: &mut Walk,
+    bound: &Core,
+    body: &Core,
+    dialect: Dialect,
+) -> Result<Option<TyNo>, Stop>
+    requires sound { IsSoundWalk w.old }
+    requires bound { IsWellFormedTerm (term_of bound.now) }
+    requires body { IsWellFormedTerm (term_of body.now) }
+    ensures grows { Grows w.old w.new }
+    ensures walked { IfOk result (λ found. WalkedOver w.old w.new (let_in (term_of bound.now) (term_of body.now)) found dialect) }
+    ensures stopped { IfErr result (λ stop. HasStopped stop w.old w.new (let_in (term_of bound.now) (term_of body.now)) dialect) }
+{
+    let entry = walk_term(alloc, w, bound, dialect)?;
+    w.entries.push(entry)?;
+    let outcome = walk_term(alloc, w, body, dialect)?;
+    w.entries.pop();
+    settle(w, bound_in(entry, outcome), None)
+}
+
+#[cycle(walk_term)]
+fn walk_record(
+    alloc: Global,
+    w: &mut Walk,
+    fields: &[(String, Core)],
+    dialect: Dialect,
+) -> Result<Option<TyNo>, Stop>
+    requires sound { IsSoundWalk w.old }
+    requires fields { AreWellFormedTerms (terms_of fields.now) }
+    ensures grows { Grows w.old w.new }
+    ensures walked { IfOk result (λ found. WalkedOver w.old w.new (record_term (terms_of fields.now)) found dialect) }
+    ensures stopped { IfErr result (λ stop. HasStopped stop w.old w.new (record_term (terms_of fields.now)) dialect) }
+{
+    let mut parts = Vec::new(alloc);
+    let all = walk_fields(alloc, w, fields, &mut parts, dialect)?;
+    let found = recorded(&mut w.table, all, parts)?;
+    let blame = blame_if(all, found, "E9");
+    settle(w, found, blame)
+}
+
+#[cycle(walk_term)]
+fn walk_project(
+    alloc: Global,
+    w: &mut Walk,
+    operand: &Core,
+    label: &str,
+    dialect: Dialect,
+) -> Result<Option<TyNo>, Stop>
+    requires sound { IsSoundWalk w.old }
+    requires operand { IsWellFormedTerm (term_of operand.now) }
+    ensures grows { Grows w.old w.new }
+    ensures walked { IfOk result (λ found. WalkedOver w.old w.new (project (term_of operand.now) label.now) found dialect) }
+    ensures stopped { IfErr result (λ stop. HasStopped stop w.old w.new (project (term_of operand.now) label.now) dialect) }
+{
+    let part = walk_term(alloc, w, operand, dialect)?;
+    let found = projected(&w.table, part, label);
+    let blame = blame_if(part.is_some(), found, "E4");
+    settle(w, found, blame)
+}
+
+#[cycle(walk_term)]
+fn walk_fix(
+    alloc: Global,
+    w: &mut Walk,
+    operand: &Core,
+    dialect: Dialect,
+) -> Result<Option<TyNo>, Stop>
+    requires sound { IsSoundWalk w.old }
+    requires operand { IsWellFormedTerm (term_of operand.now) }
+    ensures grows { Grows w.old w.new }
+    ensures walked { IfOk result (λ found. WalkedOver w.old w.new (fix (term_of operand.now)) found dialect) }
+    ensures stopped { IfErr result (λ stop. HasStopped stop w.old w.new (fix (term_of operand.now)) dialect) }
+{
+    let part = walk_term(alloc, w, operand, dialect)?;
+    let found = fixed(&w.table, part, dialect)?;
+    let blame = blame_if(part.is_some(), found, "E8");
+    settle(w, found, blame)
+}
+
+/// The terms of a record from the first to the last, with the labels and the types of those that have one; whether all
+/// of them have.
+#[cycle(walk_term)]
+fn walk_fields(
+    alloc: Global,
+    w: &mut Walk,
+    fields: &[(String, Core)],
+    parts: &mut Vec<(String, TyNo)>,
+    dialect: Dialect,
+) -> Result<bool, Stop>
+    requires sound { IsSoundWalk w.old }
+    requires wf { AreWellFormedTerms (terms_of fields.now) }
+    ensures grows { Grows w.old w.new }
+    ensures walked { IfOk result (λ all. FieldsWalked w.old w.new (terms_of fields.now) parts.old.items parts.new.items all dialect) }
+    ensures stopped { IfErr result (λ stop. HasStoppedInFields stop w.old w.new (terms_of fields.now) dialect) }
+{
+    let Some((field, others)) = fields.split_first() else {
+        return Ok(true);
+    };
+    let found = walk_term(alloc, w, &field.1, dialect)?;
+    let Some(number) = found else {
+        walk_fields(alloc, w, others, parts, dialect)?;
+        return Ok(false);
+    };
+    parts.push((field.0.clone()?, number))?;
+    walk_fields(alloc, w, others, parts, dialect)
+}
+
+/// A variable has the entry of its binder, which is none to blame for; a count past all binders is an unbound name.
+fn walk_variable(w: &mut Walk, count: usize, dialect: Dialect) -> Result<Option<TyNo>, Stop>
+    requires sound { IsSoundWalk w.old }
+    ensures grows { Grows w.old w.new }
+    ensures walked { IfOk result (λ found. WalkedOver w.old w.new (variable count) found dialect) }
+    ensures stopped { IfErr result (λ stop. HasStopped stop w.old w.new (variable count) dialect) }
+{
+    let depth = w.entries.len();
+    if count >= depth {
+        let blame = blame_if(true, None, "E1");
+        return settle(w, None, blame);
+    }
+    let entry = entry_of(&w.entries, count);
+    settle(w, entry, None)
+}
+
+/// The entry of the binder that a count finds, counted from the innermost one.
+fn entry_of(entries: &[Option<TyNo>], count: usize) -> Option<TyNo>
+    requires { count < length entries.now }
+    ensures entry { (ts : List Typ) → answer ts result ≡ entry_at count (context_under ts entries.now) }
+    ensures stands { (ts : List Typ) → AllStandIn ts entries.now → StandsIn ts result }
+{
+    entries[entries.len() - 1 - count]
+}
+
+/// What an application is blamed for, by the type of its first term.
+fn application_code(table: &TyTable, function: Option<TyNo>) -> &'static str
+    requires { StandsIn table.now function }
+    ensures { IsApplicationCode result.now (answer table.now function) }
+{
+    let Some(number) = function else {
+        return "E2";
+    };
+    match table.shape(number) {
+        Shape::Arrow(_, _) => "E3",
+        _ => "E2",
+    }
+}
+
+fn are_both_found(first: Option<TyNo>, second: Option<TyNo>) -> bool
+    ensures { result ≡ is_some first && is_some second }
+{
+    if first.is_none() {
+        return false;
+    }
+    second.is_some()
+}
+
+fn are_all_found(first: Option<TyNo>, second: Option<TyNo>, third: Option<TyNo>) -> bool
+    ensures { result ≡ is_some first && (is_some second && is_some third) }
+{
+    if first.is_none() {
+        return false;
+    }
+    are_both_found(second, third)
+}
+
+/// The code, where the parts of a term have types and the term has none.
+fn blame_if(parts: bool, found: Option<TyNo>, code: &'static str) -> Option<&'static str>
+    ensures { (ts : List Typ) (n : ℕ) → blame_at n result ≡ blame_step n parts (answer ts found) code.now }
+{
+    if found.is_some() {
+        return None;
+    }
+    if parts { Some(code) } else { None }
+}
+
+/// Takes down the type of the next place, and what it is blamed for.
+fn settle(
+    w: &mut Walk,
+    found: Option<TyNo>,
+    blame: Option<&'static str>,
+) -> Result<Option<TyNo>, Stop>
+    requires sound { IsSoundWalk w.old }
+    requires stands { StandsIn w.old.table found }
+    ensures grows { Grows w.old w.new }
+    ensures settled { IfOk result (λ number. (number ≡ found) × Settles w.old w.new found blame.entry) }
+    ensures stopped { IfErr result (λ stop. StopsAt stop w.old w.new found blame.entry) }
+{
+    if is_large(&w.table, found) {
+        return Err(Stop::TooLarge);
+    }
+    let place = Place(w.found.len());
+    put_blame(&mut w.blames, place, blame)?;
+    w.found.push(found)?;
+    if w.found.len() >= w.asked {
+        return Err(Stop::Enough);
+    }
+    Ok(found)
+}
+
+/// Puts what a place is blamed for, if anything, behind the others.
+fn put_blame(
+    blames: &mut Vec<Blame>,
+    place: Place,
+    blame: Option<&'static str>,
+) -> Result<(), AllocError>
+    ensures { IfOk result (λ _. blames_of blames.new.items ≡ blames_of blames.old.items ++ blame_at place.0 blame.entry) }
+{
+    let Some(code) = blame else {
+        return Ok(());
+    };
+    blames.push(Blame { place, code })?;
+    Ok(())
+}
+
+/// Whether a type has more nodes than a place may show.
+fn is_large(table: &TyTable, found: Option<TyNo>) -> bool
+    requires { StandsIn table.now found }
+    ensures small { IsFalse result → IsSmall (answer table.now found) }
+    ensures large { IsTrue result → IsLarge (answer table.now found) }
+{
+    let Some(number) = found else {
+        return false;
+    };
+    table.size(number) > LARGEST
+}
