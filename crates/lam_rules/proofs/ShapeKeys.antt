@@ -3,11 +3,10 @@ use Rattle.std.proofs.Common.{◌≡◌, ◌⊎◌, inl, inr, ℕ, ◌+◌, ◌<
 use Rattle.std.specs.Prelude.{MatchOption, eqb}
 use Rattle.std.specs.Option.{option_copied}
 use Rattle.std.specs.declared.alloc.Global.{Global}
-use Rattle.std.specs.HashMap.{HashMap, get, IsEmpty, IsUnchanged, Updates}
+use Rattle.std.specs.HashMap.{HashMap, get, Updates}
 use Rattle.std.specs.declared.hash.FoldHasher.{FoldHasher}
 use Rattle.std.specs.declared.hash.BuildHasherDefault.{BuildHasherDefault}
 use Rattle.std.proofs.lemmas.List.{get_or_append_left, get_or_push, take_more}
-use Rattle.std.specs.Map.{lookup}
 use Rattle.std.specs.Str.{bytes_eq}
 use Rattle.std.specs.Cmp.Lexicographic.{pointwise}
 use Rattle.std.proofs.lemmas.Bool.{cases_lt}
@@ -124,15 +123,6 @@ same_equal _ _ h = absurd h
 abbrev Index : Type 0
 Index = HashMap Shape TyNo (BuildHasherDefault FoldHasher)
 
-pub index_none : (m : Index) → IsEmpty m → IsIndexOf m []
-index_none m e s =
-    subst (λ es. MatchOption (lookup (equal_shapes s) es) (IsNowhere [] s) (λ number. IsAt [] number.index s)) (sym e) (λ i x lt is same. omega arith)
-
-pub index_same : (m n : Index) (es fs : List Entry) → IsIndexOf m es → IsUnchanged m n → fs ≡ es → IsIndexOf n fs
-index_same m n es fs index e same s =
-    subst (λ x. MatchOption (lookup (equal_shapes s) n.entries) (IsNowhere x s) (λ number. IsAt x number.index s)) (sym same)
-    (subst (λ x. MatchOption (lookup (equal_shapes s) x) (IsNowhere es s) (λ number. IsAt es number.index s)) (sym e) (index s))
-
 pub index_push : (m n : Index) (es more : List Entry) (e : Entry) (key : Shape) (number : TyNo) → IsIndexOf m es → Updates equal_shapes m n key (Some number)
     → IsSame key e.shape → number.index ≡ length es → more ≡ es ++ e ∷ [] → IsIndexOf n more
 index_push m n es more e key number index updates same at pushed s =
@@ -191,5 +181,3 @@ pub copied_number : (copies more fs : List (String Global × TyNo)) (i : ℕ) (f
 copied_number copies more fs i f label so_far lt is pushed same =
     let longer : take (i + 1) fs ≡ take i fs ++ f ∷ [] = take_more fs i f lt ∙ ap (λ x. take i fs ++ x ∷ []) (sym is) in
     rw (pushed, longer) (numbers_push copies (take i fs) (label, f.1) f so_far (same, refl))
-
-pub ruleset shape_keys = (index_none, index_same, index_push)

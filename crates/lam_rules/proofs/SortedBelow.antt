@@ -1,6 +1,5 @@
 -- A sorted type has distinct labels where the type has, is sorted already, and lies below and above the type.
 use Rattle.std.proofs.Common.{◌≡◌, ◌≢◌, ◌↔◌, Bool, true, false, if◌then◌else◌, ap, sym, ◌∙◌, refl, subst}
-use Rattle.std.specs.Prelude.{IsTrue}
 use Rattle.lam_rules.specs.Types.{Label, Typ, bool, nat, unit, top, arrow, record_of, Fields, no_fields, field, joined, IsAbsent, IsWellFormed, AreWellFormed}
 use Rattle.lam_rules.specs.Texts.{is_not_after, placed, sorted, sorted_fields}
 use Rattle.lam_rules.specs.Sorting.{ComesFirst, IsAscending}
@@ -167,7 +166,5 @@ alike_below s t ws wt d = (
   ),
   λ both. sorted_same s t d both.0 both.1,
 )
-
-pub ruleset alike = (alike_below)
 
 pub ruleset sorting_again = (sorted_again, sorted_wf)

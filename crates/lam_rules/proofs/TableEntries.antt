@@ -1,5 +1,5 @@
 -- The entries of a table: their types, what it is that two shapes are one type, and that a new entry at the end leaves a table.
-use Rattle.std.proofs.Common.{◌≡◌, ◌↔◌, ◌⊎◌, inl, inr, zero, suc, drop, ℕ, ◌+◌, ◌<◌, ◌≤◌, List, [], ◌∷◌, ◌++◌, length, get_or, ap, sym, Bool, eq-eqb, ◌∙◌, refl, subst, append_assoc, arith, length-append, String, string_bytes}
+use Rattle.std.proofs.Common.{◌≡◌, ◌↔◌, ◌⊎◌, inl, inr, zero, suc, drop, ℕ, ◌+◌, ◌<◌, ◌≤◌, List, [], ◌∷◌, ◌++◌, length, get_or, ap, sym, Bool, eq-eqb, ◌∙◌, refl, subst, arith, length-append, String, string_bytes}
 use Rattle.std.specs.Prelude.{min, IsTrue, eqb}
 use borrow.Author.Tests.{eqb-true}
 use Rattle.std.specs.declared.alloc.Global.{Global}

@@ -2,7 +2,7 @@
 use Rattle.std.proofs.Common.{◌≡◌, ◌↔◌, inl, inr, ℕ, ◌+◌, ◌<◌, ◌≤◌, List, [], ◌∷◌, ◌++◌, Bool, true, false, if◌then◌else◌, length, take, drop, get_or, ap, sym, ◌∙◌, refl, subst, zero, suc, arith, max, String, string_bytes}
 use Rattle.std.specs.List.{insert}
 use Rattle.std.specs.declared.alloc.Global.{Global}
-use Rattle.std.proofs.lemmas.List.{drop_more, drop_all, take_more}
+use Rattle.std.proofs.lemmas.List.{drop_all, take_more}
 use denote.Ref.{Bor}
 use Rattle.lam_rules.specs.Types.{Label, Typ, Fields, field, joined, Has, IsAbsent, IsWellFormed, AreWellFormed, nodes, nodes_in}
 use Rattle.lam_rules.specs.TypeViews.{typ_of, fields_of}
@@ -14,7 +14,7 @@ use Rattle.lam_rules.specs.declared.types.Ty.{Ty}
 use Rattle.lam_rules.specs.declared.table.TyNo.{TyNo}
 use Rattle.lam_rules.proofs.Permutations.{absent_not}
 use Rattle.lam_rules.proofs.TypeShapes.{fields_of-drop, joined-none, joined-push}
-use Rattle.lam_rules.proofs.Tables.{keeps_same, keeps_trans, keeps_length, kept_fields, below_more}
+use Rattle.lam_rules.proofs.Tables.{keeps_trans, keeps_length, kept_fields, below_more}
 use Rattle.lam_rules.proofs.TableEntries.{drop_more_read, fields_over-drop, below_read}
 
 -- copies of fields that a caller gives
@@ -146,9 +146,6 @@ pub record AreAdded (old now : List Typ) (items : List (String Global × TyNo)) 
   pub keeps : Keeps old now
   pub below : AreBelow (length now) items
   pub fields : joined (fields_over now items) rest ≡ all
-
-pub added_none : (ts : List Typ) (items : List (String Global × TyNo)) (all : Fields) → items ≡ [] → AreAdded ts ts items all all
-added_none ts items all none = record { keeps = keeps_same ts; below = rw none tt; fields = rw none }
 
 pub added_more : (old before now : List Typ) (items more : List (String Global × TyNo)) (fs : List (String Global × Ty)) (i : ℕ) (f : String Global × Ty) (label : String Global) (number : TyNo) (all : Fields)
     → AreAdded old before items (fields_of (drop i fs)) all

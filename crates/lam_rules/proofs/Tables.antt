@@ -1,11 +1,9 @@
 -- Numbers keep their types while a table grows.
-use Rattle.std.proofs.Common.{◌≡◌, ℕ, ◌+◌, ◌<◌, ◌≤◌, List, [], ◌∷◌, ◌++◌, length, get_or, ap, sym, ◌∙◌, refl, append_assoc, arith, length-append, String, string_bytes, Result, Ok, Err}
-use Rattle.std.specs.Prelude.{IfOk}
+use Rattle.std.proofs.Common.{◌≡◌, ℕ, ◌<◌, ◌≤◌, List, [], ◌∷◌, ◌++◌, length, ap, sym, ◌∙◌, refl, append_assoc, arith, length-append, String}
 use Rattle.std.specs.declared.alloc.Global.{Global}
-use Rattle.std.specs.declared.alloc.AllocError.{AllocError}
-use Rattle.std.proofs.lemmas.List.{append-nil, get_or_append_left, get_or_push}
-use Rattle.lam_rules.specs.Types.{Typ, top, arrow, record_of, field}
-use Rattle.lam_rules.specs.Numbers.{type_at, type_of, Stands, IsNumberOf, Keeps, fields_over, shaped, AreBelow, IsOver}
+use Rattle.std.proofs.lemmas.List.{append-nil, get_or_append_left}
+use Rattle.lam_rules.specs.Types.{Typ, top, record_of}
+use Rattle.lam_rules.specs.Numbers.{type_at, IsNumberOf, Keeps, fields_over, shaped, AreBelow, IsOver}
 use Rattle.lam_rules.specs.declared.table.TyNo.{TyNo}
 use Rattle.lam_rules.specs.declared.table.Shape.{Shape}
 

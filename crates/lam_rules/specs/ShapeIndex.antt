@@ -1,5 +1,5 @@
 -- The index of a table of types, from shapes to the numbers that have them.
-use Rattle.std.specs.Prelude.{◌≡◌, Bool, List, MatchOption}
+use Rattle.std.specs.Prelude.{Bool, List, MatchOption}
 use Rattle.std.specs.HashMap.{HashMap, get}
 use Rattle.std.specs.declared.hash.FoldHasher.{FoldHasher}
 use Rattle.std.specs.declared.hash.BuildHasherDefault.{BuildHasherDefault}

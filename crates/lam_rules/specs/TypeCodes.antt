@@ -1,5 +1,5 @@
 -- How the value of a model may hold types: a type is told apart from others by a code of numbers.
-use Rattle.std.specs.Prelude.{◌≡◌, ℕ, List}
+use Rattle.std.specs.Prelude.{◌≡◌, List}
 use Rattle.std.specs.Coded.{Coded, coded_ℕ, coded_list}
 use Rattle.std.proofs.Common.{ap, refl}
 use base.Stored.{Gv, gnil, gnum, gcons}

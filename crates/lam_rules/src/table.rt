@@ -520,7 +520,7 @@ fn add_entry(
     let number = TyNo {
         index: entries.len(),
     };
-    // With room for the entry there is no way back to find once the index has it.
+    // With its room made first the push cannot fail, and leave the index with a number that stands for nothing.
     entries.reserve(1)?;
     index.insert(key, number)?;
     entries.push(entry)?;

@@ -1,4 +1,4 @@
-use Rattle.std.proofs.Common.{◌≤◌, subst, sym, arith, length}
+use Rattle.std.proofs.Common.{subst, sym, arith}
 use Rattle.lam_rules.specs.Numbers.{AreBelow, IsOver}
 use Rattle.lam_rules.proofs.Tables.{below_more}
 use Rattle.lam_rules.proofs.TableEntries.{below_read}
