@@ -2,7 +2,7 @@
 use Rattle.std.proofs.Common.{◌≡◌, ◌⊎◌, Bool, true, false, if◌then◌else◌, sym, refl, inl, inr, subst}
 use Rattle.std.specs.Str.{bytes_eq}
 use Rattle.std.proofs.lemmas.Slice.Eq.{bytes_eq-Decides}
-use Rattle.lam_rules.specs.Types.{Label, Typ, top, record_of, Fields, no_fields, field, joined, Has, IsAbsent, AreWellFormed}
+use Rattle.lam_rules.specs.Types.{Label, Typ, record_of, Fields, no_fields, field, joined, Has, IsAbsent, AreWellFormed}
 use Rattle.lam_rules.specs.Subtyping.{IsBelow, IsPermutation}
 use Rattle.lam_rules.specs.declared.rules.Dialect.{Dialect}
 use Rattle.lam_rules.proofs.Permutations.{absent_not, includes_from, permutation_iff}

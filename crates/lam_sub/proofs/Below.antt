@@ -1,16 +1,15 @@
 -- What it means that one type is below another, shape by shape.
-use Rattle.std.proofs.Common.{◌≡◌, ◌⊎◌, ◌↔◌, refl, inl, inr, subst, ap, ◌+◌, ◌≤◌, arith}
-use Rattle.std.specs.declared.alloc.Global.{Global}
+use Rattle.std.proofs.Common.{◌≡◌, ◌⊎◌, ◌↔◌, refl, inl, inr, subst, ap, ◌≤◌, arith}
 use Rattle.lam_rules.specs.Types.{Label, Typ, bool, nat, unit, top, arrow, record_of, Fields, no_fields, field, Has, IsAbsent, nodes, nodes_in, IsWellFormed, AreWellFormed}
 use Rattle.lam_rules.specs.Subtyping.{IsBelow, sub_step, no_subs}
 use Rattle.lam_rules.specs.declared.rules.Dialect.{Dialect}
 use Rattle.lam_rules.specs.declared.rules.SubRule.{SubRule}
-use Rattle.lam_rules.proofs.ByShape.{Under, under_bool, under_nat, under_unit, under_top, under_arrow, under_record, under_bool_nat, FieldsUnder, fields_none, fields_more, field_under, below_under, below_wf}
+use Rattle.lam_rules.proofs.ByShape.{Under, under_bool, under_nat, under_unit, under_top, under_arrow, under_record, under_bool_nat, FieldsUnder, fields_none, fields_more, below_under, below_wf}
 use Rattle.lam_rules.proofs.SharedTexts.{has_wf, one_type}
 use Rattle.lam_rules.proofs.Permutations.{absent_not}
 use Rattle.lam_rules.proofs.Composing.{below_refl, below_top, below_arrow}
 use Rattle.lam_sub.specs.FieldsBelow.{AreBelow}
-use Rattle.lam_sub.proofs.Arranging.{fields_below, field_below, record_below}
+use Rattle.lam_sub.proofs.Arranging.{record_below}
 
 pub bool_below_nat : IsBelow bool nat Dialect.Two
 bool_below_nat = (sub_step SubRule.BoolNat bool nat no_subs, ((tt, tt, tt, (refl, refl), tt), refl))

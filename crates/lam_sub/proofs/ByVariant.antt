@@ -1,7 +1,7 @@
 -- What a test of two types says, at each pair of variants.
 use Rattle.std.proofs.Common.{◌≡◌, ◌⊎◌, ◌↔◌, ◌+◌, ◌<◌, List, Bool, true, false, IsTrue, ap, sym, ◌∙◌, refl, inl, inr, subst, Box, Vec, String, string_bytes, drop, length, get_or, ℕ}
 use Rattle.std.specs.declared.alloc.Global.{Global}
-use Rattle.lam_rules.specs.Types.{Label, Typ, bool, nat, unit, top, arrow, record_of, Fields, field, Has, IsAbsent, nodes, nodes_in, IsWellFormed, AreWellFormed}
+use Rattle.lam_rules.specs.Types.{Label, Typ, bool, nat, record_of, Fields, Has, nodes, nodes_in, IsWellFormed, AreWellFormed}
 use Rattle.lam_rules.specs.TypeViews.{typ_of, fields_of}
 use Rattle.lam_rules.specs.Subtyping.{IsBelow}
 use Rattle.lam_rules.specs.declared.rules.Dialect.{Dialect}
@@ -11,7 +11,7 @@ use Rattle.lam_rules.specs.declared.types.Fields.{Fields as RustFields, out-Fiel
 use Rattle.lam_rules.proofs.TypeShapes.{ty_cases, typ_of-made, typ_of-Bool, typ_of-Nat, typ_of-Unit, typ_of-Top, typ_of-Arrow, typ_of-Record, is-Bool, is-Nat, is-Unit, no_arrow, no_record, fields_of-drop}
 use Rattle.lam_rules.proofs.Composing.{below_refl, below_top}
 use Rattle.lam_sub.specs.FieldsBelow.{AreBelow}
-use Rattle.lam_sub.proofs.Below.{bool_below_nat, arrow_iff, record_iff, below_bool, below_nat, below_unit, below_arrow_is, below_record_is, field_iff, no_field}
+use Rattle.lam_sub.proofs.Below.{bool_below_nat, arrow_iff, below_bool, below_nat, below_unit, below_arrow_is, below_record_is, field_iff}
 
 pub true_here : {A : Type 0} → A → IsTrue true ↔ A
 true_here a = ((λ t. a), (λ h. refl))

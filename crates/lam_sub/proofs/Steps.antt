@@ -1,11 +1,11 @@
 -- Trees of subtyping put together in code.
-use Rattle.std.proofs.Common.{◌≡◌, ℕ, ◌+◌, ◌<◌, ◌++◌, List, [], ◌∷◌, Option, Some, None, ap, sym, ◌∙◌, refl, subst, Vec, length, get_or, drop, String, string_bytes, append_assoc, Result, IfOk}
+use Rattle.std.proofs.Common.{◌≡◌, ℕ, ◌+◌, ◌<◌, ◌++◌, List, [], ◌∷◌, Option, ap, sym, ◌∙◌, refl, subst, Vec, length, get_or, drop, String, string_bytes, append_assoc, Result, IfOk}
 use Rattle.std.specs.declared.alloc.Global.{Global}
 use Rattle.std.specs.declared.alloc.AllocError.{AllocError}
 use Rattle.std.proofs.lemmas.Result.{IfOk-weaker}
-use Rattle.lam_rules.specs.Types.{Label, Typ, arrow, record_of, Fields, no_fields, field, joined, Has, IsAbsent, IsWellFormed, AreWellFormed}
+use Rattle.lam_rules.specs.Types.{Typ, arrow, record_of, Fields, joined, IsWellFormed, AreWellFormed}
 use Rattle.lam_rules.specs.TypeViews.{typ_of, fields_of}
-use Rattle.lam_rules.specs.Subtyping.{Claim, BySubRule, IsRuleOf, GoesFieldByField, SubTree, sub_step, no_subs, sub_first, conclusion, conclusions, IsSubProof, AreSubProofs, ProvesBelow, IsBelow}
+use Rattle.lam_rules.specs.Subtyping.{BySubRule, IsRuleOf, GoesFieldByField, SubTree, sub_step, no_subs, sub_first, IsSubProof, AreSubProofs, ProvesBelow}
 use Rattle.lam_rules.specs.SubViews.{sub_tree_of, sub_trees_of, claim_of, claims_of}
 use Rattle.lam_rules.specs.declared.rules.Dialect.{Dialect}
 use Rattle.lam_rules.specs.declared.rules.SubRule.{SubRule}
@@ -18,7 +18,7 @@ use Rattle.lam_sub.specs.Arranging.{HasLabelsOf, type_at, picked}
 use Rattle.lam_sub.specs.OtherFields.{other_fields}
 use Rattle.lam_sub.specs.Steps.{LeadsTo}
 use Rattle.lam_sub.proofs.LookUps.{begins_with_first}
-use Rattle.lam_sub.proofs.Arranging.{arranged, arranged_permutes, type_at_is}
+use Rattle.lam_sub.proofs.Arranging.{arranged, arranged_permutes}
 
 -- the tree of a step that was made
 pub sub_tree_of-made : (rule : SubRule) (lower upper : Ty) (premises : Vec SubProof Global)

@@ -1,23 +1,23 @@
 -- Verdicts on numbers of a table.
-use Rattle.std.proofs.Common.{◌≡◌, ◌⊎◌, ◌↔◌, ℕ, ◌+◌, ◌<◌, ◌≤◌, ◌++◌, List, [], ◌∷◌, Bool, true, false, if◌then◌else◌, IsTrue, String, string_bytes, length, get_or, take, drop, drop-cons, add-one, suc, ap, sym, ◌∙◌, refl, inl, inr, subst, arith, Option, Some, None, IfSome, IfNone, Vec, zero}
+use Rattle.std.proofs.Common.{◌≡◌, ◌⊎◌, ◌↔◌, ℕ, ◌+◌, ◌<◌, ◌++◌, List, [], ◌∷◌, Bool, true, false, if◌then◌else◌, IsTrue, String, string_bytes, length, get_or, take, drop, drop-cons, add-one, suc, ap, sym, ◌∙◌, refl, inl, inr, subst, arith, Option, Some, None, IfNone, Vec, zero}
 use Rattle.std.proofs.lemmas.List.{take-append-drop}
 use Rattle.std.specs.declared.alloc.Global.{Global}
-use Rattle.lam_rules.specs.Types.{Label, Typ, bool, nat, unit, top, arrow, record_of, Fields, no_fields, field, joined, Has, IsAbsent, nodes, nodes_in, IsWellFormed, AreWellFormed}
+use Rattle.lam_rules.specs.Types.{Label, Typ, bool, nat, unit, top, arrow, record_of, Fields, no_fields, field, joined, Has, IsAbsent, nodes, nodes_in, IsWellFormed}
 use Rattle.lam_rules.specs.Texts.{is_not_after, placed, sorted, sorted_fields}
 use Rattle.lam_rules.specs.Subtyping.{IsBelow}
-use Rattle.lam_rules.specs.Numbers.{type_at, type_of, Stands, Keeps, fields_over, shaped, IsOver, AreBelow as AreNumbersBelow}
+use Rattle.lam_rules.specs.Numbers.{type_at, type_of, Keeps, fields_over, shaped, IsOver, AreBelow as AreNumbersBelow}
 use Rattle.lam_rules.specs.declared.rules.Dialect.{Dialect}
 use Rattle.lam_rules.specs.declared.table.TyNo.{TyNo}
 use Rattle.lam_rules.specs.declared.table.Shape.{Shape}
 use Rattle.lam_rules.proofs.Tables.{kept_type, keeps_length, below_more}
 use Rattle.lam_rules.proofs.SortedBelow.{below_sorted, sorted_below}
 use Rattle.lam_rules.proofs.ByShape.{below_wf}
-use Rattle.lam_rules.proofs.Composing.{below_refl, below_top, below_trans}
+use Rattle.lam_rules.proofs.Composing.{below_refl, below_trans}
 use Rattle.lam_sub.specs.FieldsBelow.{AreBelow}
 use Rattle.lam_sub.specs.Remembered.{IsRight, AreRight, IsConstant}
 use Rattle.lam_sub.specs.declared.numbers.Verdict.{Verdict}
 use Rattle.lam_sub.proofs.LookUps.{has_in_first, has_in_second, absent_in_both}
-use Rattle.lam_sub.proofs.Below.{bool_below_nat, below_bool, below_nat, below_unit, below_arrow_is, below_record_is, arrow_iff, record_iff}
+use Rattle.lam_sub.proofs.Below.{bool_below_nat, below_bool, below_nat, below_unit, below_arrow_is, below_record_is, arrow_iff}
 use Rattle.lam_sub.proofs.ByVariant.{true_here, false_here}
 
 -- a sorted type has as many nodes, and is below what the type is
@@ -232,5 +232,11 @@ not_record_numbers ts s t x y gs d is_s is_t is_y n =
 pub stand_in : (n m : ℕ) (x : Shape) (fs : Vec (String Global × TyNo) Global) (xs : List (String Global × TyNo)) → IsOver n x → n < m → x ≡ Shape.Record fs → xs ≡ fs.items → AreNumbersBelow m xs
 stand_in n m x fs xs over lt is_x is_xs =
     subst (λ ys. AreNumbersBelow m ys) (sym is_xs) (below_more n m fs.items (subst (λ s. IsOver n s) is_x over) (omega arith))
+
+-- types with one sorted form are below each other
+pub equal_sorted : (s t x y : Typ) (d : Dialect) → IsWellFormed s → IsWellFormed t → x ≡ sorted s → y ≡ sorted t → x ≡ y → IsTrue true ↔ IsBelow s t d
+equal_sorted s t x y d ws wt is_x is_y same =
+    true_here ((sorted_iff s t d ws wt).0
+    (subst (λ u. IsBelow (sorted s) u d) (sym is_x ∙ same ∙ is_y) (below_refl (sorted s) d (below_wf s (sorted s) d (below_sorted s d ws)).1)))
 
 pub ruleset kept_verdicts = (right_kept)

@@ -58,7 +58,8 @@ impl Verdicts {
 }
 
 /// Whether the type of the first number is below that of the second. What is found of their sorted
-/// forms, and of those inside, is kept in `verdicts`.
+/// forms, and of those inside, is kept in `verdicts`, so that types which share cost by their
+/// distinct numbers.
 #[cycle(is_sub_no)]
 pub fn is_sub_no(
     table: &TyTable,
@@ -77,6 +78,9 @@ pub fn is_sub_no(
     table.types_differ();
     let lower_sorted = table.sorted(lower);
     let upper_sorted = table.sorted(upper);
+    if lower_sorted.index == upper_sorted.index {
+        return Ok(true);
+    }
     if let Some(known) = verdicts.find(lower_sorted, upper_sorted) {
         return Ok(known);
     }

@@ -1,7 +1,6 @@
-use Rattle.std.proofs.Common.{rules, ◌≡◌, ◌↔◌, IsTrue, sym, refl, string_bytes, ap, subst, arith}
+use Rattle.std.proofs.Common.{rules, sym, string_bytes, subst, arith}
 use Rattle.lam_rules.specs.Types.{IsAbsent, Has}
 use Rattle.lam_rules.specs.TypeViews.{typ_of, fields_of}
-use Rattle.lam_rules.specs.Subtyping.{IsBelow}
 use Rattle.lam_sub.proofs.Below.{no_field, nodes_of_field}
 use Rattle.lam_rules.proofs.SharedTexts.{has_wf}
 use Rattle.lam_sub.proofs.LookUps.{item_has}

@@ -1,9 +1,8 @@
-use Rattle.std.proofs.Common.{◌≡◌, sym, subst, string_bytes, drop, ◌+◌, refl}
+use Rattle.std.proofs.Common.{subst, string_bytes, drop, ◌+◌}
 use Rattle.std.proofs.lemmas.List.{drop_all}
-use Rattle.lam_rules.specs.Types.{Has, IsAbsent, joined}
+use Rattle.lam_rules.specs.Types.{Has, IsAbsent}
 use Rattle.lam_rules.specs.TypeViews.{typ_of, fields_of}
 use Rattle.lam_rules.proofs.TypeShapes.{fields_of-drop, joined-none}
-use Rattle.lam_sub.specs.OtherFields.{other_fields}
 use Rattle.lam_sub.proofs.LookUps.{some_there, none_there, append_known, append_new}
 use Rattle.lam_sub.proofs.fields.append_others.Goals as goal
 

@@ -1,4 +1,4 @@
-use Rattle.std.proofs.Common.{◌≡◌, sym, subst}
+use Rattle.std.proofs.Common.{subst}
 use Rattle.std.proofs.lemmas.Option.{IfSome_then}
 use Rattle.lam_rules.specs.Types.{Has}
 use Rattle.lam_rules.specs.TypeViews.{typ_of, fields_of}

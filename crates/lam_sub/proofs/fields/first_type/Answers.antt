@@ -1,4 +1,4 @@
-use Rattle.std.proofs.Common.{◌≡◌, sym, ◌∙◌, ap}
+use Rattle.std.proofs.Common.{◌∙◌, ap}
 use Rattle.std.specs.Str.{bytes_eq}
 use Rattle.lam_sub.proofs.LookUps.{is_label, is_not_label, has_here, has_later, absent_later}
 use Rattle.lam_sub.proofs.fields.first_type.Goals as goal

@@ -1,4 +1,4 @@
-use Rattle.std.proofs.Common.{◌↔◌, drop}
+use Rattle.std.proofs.Common.{drop}
 use Rattle.lam_rules.specs.Types.{Typ, Has, IsAbsent}
 use Rattle.lam_rules.specs.TypeViews.{fields_of}
 use Rattle.lam_sub.proofs.fields.first_type.Given as goal

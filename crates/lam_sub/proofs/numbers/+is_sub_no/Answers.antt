@@ -1,13 +1,12 @@
-use Rattle.std.proofs.Common.{◌≡◌, ◌↔◌, ◌∙◌, IsTrue, ap, sym, refl, subst, arith, string_bytes}
+use Rattle.std.proofs.Common.{◌↔◌, ◌∙◌, IsTrue, ap, sym, refl, subst, arith, string_bytes}
 use Rattle.std.proofs.lemmas.Result.{IfOk-weaker}
 use Rattle.lam_rules.specs.Types.{Has, IsAbsent, IsWellFormed, record_of, nodes}
-use Rattle.lam_rules.specs.Numbers.{type_of, fields_over}
+use Rattle.lam_rules.specs.Numbers.{type_at, type_of, fields_over}
 use Rattle.lam_rules.specs.Subtyping.{IsBelow}
-use Rattle.lam_sub.specs.FieldsBelow.{AreBelow}
 use Rattle.lam_sub.specs.Remembered.{AreRight}
 use Rattle.lam_sub.proofs.Below.{no_field, nodes_of_field, record_iff}
 use Rattle.lam_sub.proofs.ByVariant.{field_fails, field_holds, found_field, not_true, arrows_fail, arrows_rest}
-use Rattle.lam_sub.proofs.TableVerdicts.{nodes_sorted, sorted_verdict, right_push, arrow_numbers, nodes_of_numbers, record_of_numbers, not_arrow_numbers, not_record_numbers, stand_in, number_first, number_item, number_has}
+use Rattle.lam_sub.proofs.TableVerdicts.{nodes_sorted, sorted_verdict, equal_sorted, right_push, arrow_numbers, record_of_numbers, not_arrow_numbers, not_record_numbers, stand_in, number_first, number_item, number_has}
 use Rattle.lam_sub.proofs.numbers.+is_sub_no.Goals as goal
 
 -- by the sorted forms
@@ -16,6 +15,11 @@ pub is_sub_no-returns-in-Some-clause-verdict : goal.is_sub_no-returns-in-Some-cl
 is_sub_no-returns-in-Some-clause-verdict t c =
     sorted_verdict (type_of c.args.table.now c.args.lower) (type_of c.args.table.now c.args.upper) _ _ c.args.verdicts.now.dialect c.in-Some.known (c.types_differ.ensures.wf c.args.lower.index c.requires.lower) (c.types_differ.ensures.wf c.args.upper.index c.requires.upper)
     c.sorted-lower_sorted.ensures.sorted c.sorted-upper_sorted.ensures.sorted (c.in-Some.ensures c.args.table.now c.args.verdicts.now.dialect c.requires.right)
+
+pub is_sub_no-returns-then-lower_sorted-upper_sorted-clause-verdict : goal.is_sub_no-returns-then-lower_sorted-upper_sorted-clause-verdict
+is_sub_no-returns-then-lower_sorted-upper_sorted-clause-verdict t c =
+    equal_sorted (type_of c.args.table.now c.args.lower) (type_of c.args.table.now c.args.upper) _ _ c.args.verdicts.now.dialect (c.types_differ.ensures.wf c.args.lower.index c.requires.lower) (c.types_differ.ensures.wf c.args.upper.index c.requires.upper)
+    c.sorted-lower_sorted.ensures.sorted c.sorted-upper_sorted.ensures.sorted (ap (λ n. type_at c.args.table.now n) c.if-lower_sorted-upper_sorted.true)
 
 pub is_sub_no-compare-requires : goal.is_sub_no-compare-requires
 is_sub_no-compare-requires t c =

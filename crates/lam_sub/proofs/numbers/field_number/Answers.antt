@@ -1,4 +1,4 @@
-use Rattle.std.proofs.Common.{◌≡◌, sym, subst}
+use Rattle.std.proofs.Common.{sym, subst}
 use Rattle.std.proofs.lemmas.Option.{IfSome_then}
 use Rattle.lam_rules.specs.Types.{Has, IsAbsent}
 use Rattle.lam_rules.specs.Numbers.{type_of, fields_over, AreBelow as AreNumbersBelow}

@@ -1,4 +1,4 @@
-use Rattle.std.proofs.Common.{◌≡◌, ◌↔◌, ◌∙◌, IsTrue, true, false, sym, subst, rules}
+use Rattle.std.proofs.Common.{◌↔◌, ◌∙◌, IsTrue, false, sym, subst, rules}
 use Rattle.lam_rules.specs.Types.{nat}
 use Rattle.lam_rules.specs.Numbers.{shaped}
 use Rattle.lam_rules.specs.Subtyping.{IsBelow}

@@ -1,5 +1,4 @@
-use Rattle.std.proofs.Common.{◌≡◌, Some, subst}
-use Rattle.lam_rules.specs.SubViews.{sub_tree_of}
+use Rattle.std.proofs.Common.{subst}
 use Rattle.lam_sub.specs.Steps.{LeadsTo}
 use Rattle.lam_sub.proofs.Steps.{chained, chain_made}
 use Rattle.lam_sub.proofs.proving.chain.Goals as goal

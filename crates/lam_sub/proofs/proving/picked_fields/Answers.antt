@@ -1,4 +1,4 @@
-use Rattle.std.proofs.Common.{◌≡◌, ◌∙◌, sym, subst, string_bytes}
+use Rattle.std.proofs.Common.{◌∙◌, sym, subst, string_bytes}
 use Rattle.std.proofs.lemmas.List.{drop_all}
 use Rattle.lam_rules.specs.Types.{Has, IsAbsent}
 use Rattle.lam_rules.specs.TypeViews.{typ_of, fields_of}
