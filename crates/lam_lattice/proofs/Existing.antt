@@ -1,5 +1,5 @@
 -- Each two types have a join, and a meet or nothing below both.
-use Rattle.std.proofs.Common.{◌≡◌, ◌⊎◌, sym, refl, inl, inr, subst}
+use Rattle.std.proofs.Common.{◌≡◌, ◌⊎◌, refl, inl, inr, subst}
 use Rattle.lam_rules.specs.Types.{Label, Typ, bool, nat, unit, top, arrow, record_of, Fields, no_fields, field, Has, IsAbsent, joined, IsWellFormed, AreWellFormed}
 use Rattle.lam_rules.specs.Subtyping.{IsBelow}
 use Rattle.lam_rules.specs.declared.rules.Dialect.{Dialect}
@@ -7,7 +7,7 @@ use Rattle.lam_rules.proofs.SharedTexts.{has_wf}
 use Rattle.lam_rules.proofs.Composing.{below_refl, below_top}
 use Rattle.lam_sub.specs.OtherFields.{other_fields}
 use Rattle.lam_sub.proofs.LookUps.{label_or}
-use Rattle.lam_sub.proofs.Below.{below_bool, below_nat, below_unit, bool_below_nat, above_top, below_arrow_is, below_record_is}
+use Rattle.lam_sub.proofs.Below.{below_bool, below_nat, below_unit, bool_below_nat, below_arrow_is, below_record_is}
 use Rattle.lam_lattice.specs.Bounds.{IsJoin, IsMeet, HaveNoMeet}
 use Rattle.lam_lattice.specs.Records.{AreUnlike, AreJoined, joined_none, joined_both, joined_left_out, AreMet, met_none, met_both, met_alone}
 use Rattle.lam_lattice.proofs.Unlike.{join_above, join_below, meet_above, meet_below, join_unlike_top, no_meet_unlike}

@@ -1,6 +1,6 @@
-use Rattle.std.proofs.Common.{◌≡◌, ◌∙◌, Some, None, IfSome, IfNone, ap, sym, refl, subst, string_bytes, arith}
+use Rattle.std.proofs.Common.{◌∙◌, IfSome, IfNone, ap, sym, refl, subst, string_bytes, arith}
 use Rattle.std.proofs.lemmas.Result.{IfOk-weaker}
-use Rattle.lam_rules.specs.Types.{Has, IsAbsent, IsWellFormed, Fields, arrow, record_of, joined}
+use Rattle.lam_rules.specs.Types.{Has, IsAbsent, IsWellFormed, record_of, joined}
 use Rattle.lam_rules.specs.TypeViews.{typ_of, fields_of}
 use Rattle.lam_rules.specs.declared.types.Ty.TheVariants.{Top}
 use Rattle.lam_rules.proofs.TypeShapes.{typ_of-Top}

@@ -1,7 +1,6 @@
-use Rattle.std.proofs.Common.{◌≡◌, true, false, sym, subst, IfOk}
+use Rattle.std.proofs.Common.{◌≡◌, true, sym, subst}
 use Rattle.std.proofs.lemmas.Result.{IfOk-weaker}
 use Rattle.lam_rules.specs.TypeViews.{typ_of}
-use Rattle.lam_rules.specs.declared.types.Ty.{Ty}
 use Rattle.lam_rules.proofs.TypeShapes.{typ_of-Top}
 use Rattle.lam_lattice.specs.Bounds.{IsJoin}
 use Rattle.lam_lattice.proofs.Unlike.{join_above, join_below, join_unlike_top}

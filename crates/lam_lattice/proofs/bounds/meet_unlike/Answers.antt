@@ -1,4 +1,4 @@
-use Rattle.std.proofs.Common.{◌≡◌, true, false, sym, subst}
+use Rattle.std.proofs.Common.{◌≡◌, true, sym, subst}
 use Rattle.lam_rules.specs.TypeViews.{typ_of}
 use Rattle.lam_lattice.specs.Bounds.{IsMeet}
 use Rattle.lam_lattice.proofs.Unlike.{meet_above, meet_below, no_meet_unlike}

@@ -1,4 +1,4 @@
-use Rattle.std.proofs.Common.{◌≡◌, ◌∙◌, IfNone, subst}
+use Rattle.std.proofs.Common.{◌∙◌, IfNone, subst}
 use Rattle.lam_rules.specs.TypeViews.{typ_of}
 use Rattle.lam_rules.specs.Numbers.{type_of}
 use Rattle.lam_rules.specs.Subtyping.{IsBelow}
