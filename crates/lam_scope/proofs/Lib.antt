@@ -7,3 +7,6 @@ pub mod SeenStacks
 pub mod Finding
 pub mod WellFormedForms
 pub mod PlaceTerms
+pub mod TableRows
+pub mod Grouping
+pub mod Reading

@@ -1,10 +1,14 @@
 -- How the rows of the tables and the binders that are seen stand for those of the definitions.
-use Rattle.std.specs.Prelude.{List, [], ◌∷◌, ℕ, map, Option, Vec, String, string_bytes}
+use Rattle.std.specs.Prelude.{List, [], ◌∷◌, ◌++◌, ℕ, zero, suc, map, Option, None, Some, Vec, String, string_bytes}
 use Rattle.std.specs.Option.{option_map}
 use Rattle.lam_scope.specs.declared.numbers.Binder.{Binder}
 use Rattle.lam_scope.specs.declared.numbers.Place.{Place}
 use Rattle.lam_scope.specs.declared.rows.BinderRow.{BinderRow}
 use Rattle.lam_scope.specs.declared.rows.UseRow.{UseRow}
+use Rattle.lam_token.specs.declared.span.Span.{Span}
+use Rattle.lam_scope.specs.declared.numbers.Origin.{Origin}
+use Rattle.lam_scope.specs.declared.rows.Rows.{Rows}
+use Rattle.lam_scope.specs.declared.rows.Spans.{Spans}
 use Rattle.lam_scope.specs.declared.rows.PlaceRow.{PlaceRow}
 use Rattle.lam_scope.specs.declared.seen.SeenBinder.{SeenBinder}
 use Rattle.lam_scope.specs.Tables.{Entry, entry, TextBinder, TextUse, TextPlace, Table}
@@ -43,3 +47,38 @@ text_place r = record { span = r.span; derived = r.derived; terms = map place_nu
 
 abbrev pub rows_table : List BinderRow → List UseRow → List PlaceRow → Table
 rows_table bs us ps = record { binders = map text_binder bs; uses = map text_use us; places = map text_place ps }
+
+abbrev pub rows_of : Rows → Table
+rows_of r = rows_table r.binders.items r.uses.items r.places.items
+
+-- binders of which one, by its number, takes its type from there
+
+abbrev pub originated : ℕ → Origin → List TextBinder → List TextBinder
+originated n o [] = []
+originated zero o (b ∷ bs) = record b { origin = o } ∷ bs
+originated (suc n) o (b ∷ bs) = b ∷ originated n o bs
+
+abbrev pub with_origin : ℕ → Origin → Table → Table
+with_origin n o t = record { binders = originated n o t.binders; uses = t.uses; places = t.places }
+
+-- the tokens of the uses of each binder
+abbrev pub span_lists : List Spans → List (List Span)
+span_lists = map (λ l. l.items.items)
+
+-- the token of a use behind those of its binder, if that is among these
+
+abbrev pub noted_at : ℕ → Span → List (List Span) → List (List Span)
+noted_at n s [] = []
+noted_at zero s (l ∷ ls) = (l ++ s ∷ []) ∷ ls
+noted_at (suc n) s (l ∷ ls) = l ∷ noted_at n s ls
+
+abbrev pub noted_for : Option ℕ → Span → List (List Span) → List (List Span)
+noted_for None s ls = ls
+noted_for (Some n) s ls = noted_at n s ls
+
+abbrev pub noted : TextUse → List (List Span) → List (List Span)
+noted u ls = noted_for u.binder u.token ls
+
+abbrev pub empty_lists : ℕ → List (List Span)
+empty_lists zero = []
+empty_lists (suc n) = [] ∷ empty_lists n

@@ -1,6 +1,6 @@
 -- What the names of a document are bound to: its binders, uses and places by number, each kind in its order.
-use Rattle.std.specs.Prelude.{ℕ, zero, suc, ◌+◌, ◌≡◌, List, [], ◌∷◌, ◌++◌, map, Bool, true, false, not, ◌&&◌, ◌==◌, Option, Some, None, if◌then◌else◌, length, get_or, reverse, filter, position, codes}
-use Rattle.std.proofs.Math.Dec.{ltb, leb}
+use Rattle.std.specs.Prelude.{ℕ, zero, suc, ◌+◌, ◌≡◌, List, [], ◌∷◌, ◌++◌, map, Bool, true, false, ◌==◌, Option, Some, None, if◌then◌else◌, length, get_or, reverse, filter, position, codes}
+use Rattle.std.proofs.Math.Dec.{ltb}
 use Rattle.lam_token.specs.declared.span.Span.{Span}
 use Rattle.lam_syntax.specs.Trees.{word, Bound, bound, TypeTree, type_tree, TypeNode, named, arrow, record_type, TypeFields, no_type_fields, type_field, TermTree, term_tree, TermNode, true_term, false_term, unit_term, variable, numeral, lambda, if_term, let_term, letrec_term, prefixed, apply, project, ascribe, record_term, TermFields, no_fields, field, CommandTree, definition, declaration, abbreviation, evaluation, term_span}
 use Rattle.lam_scope.specs.declared.numbers.Origin.{Origin}
@@ -44,7 +44,7 @@ pub record Table : Type 0 where
 
 -- one table, and another behind it
 infixl 60 ◌⊕◌
-abbrev pub ◌⊕◌ : Table → Table → Table
+unfoldable pub ◌⊕◌ : Table → Table → Table
 s ⊕ t = record { binders = s.binders ++ t.binders; uses = s.uses ++ t.uses; places = s.places ++ t.places }
 
 abbrev pub empty_table : Table
@@ -173,6 +173,16 @@ lambda_at k = Lambda (record { 0 = k })
 abbrev pub term_at : ℕ → Origin
 term_at k = Term (record { 0 = k })
 
+-- what stands before the body of a letrec: its two binders, its type, its first term, whose place is p, and the places of its lambda and fix
+abbrev pub letrec_rows : Option Name → Span → (names : List Entry) → (n p : ℕ) → Span → (type term : Table) → Table
+letrec_rows x r names n p s u t =
+    binder_row x r names (n + 1) (lambda_at (p + 1))
+    ⊕ binder_row x r names (n + 1) (term_at (p + 2))
+    ⊕ u
+    ⊕ t
+    ⊕ place_row s true (p ∷ []) names
+    ⊕ place_row s true ((p + 1) ∷ []) names
+
 -- The table of a term that sees these binders of type names and of names, where its first binder has the number n and its first place the number k.
 abbrev mutual
   pub term_table : (types names : List Entry) → (n k : ℕ) → TermTree → Table
@@ -194,12 +204,7 @@ abbrev mutual
       ⊕ term_table types names (n + 1) k t
       ⊕ term_table types (entry b n n ∷ names) (n + 1 + binders_in t) (behind k t) u
   node_table types names n k (letrec_term (bound b r) w t u) =
-      binder_row b r names (n + 1) (lambda_at (root k t + 1))
-      ⊕ binder_row b r names (n + 1) (term_at (root k t + 2))
-      ⊕ type_uses types w
-      ⊕ term_table types (entry b n (n + 1) ∷ names) (n + 2) k t
-      ⊕ place_row (term_span t) true (root k t ∷ []) names
-      ⊕ place_row (term_span t) true ((root k t + 1) ∷ []) names
+      letrec_rows b r names n (root k t) (term_span t) (type_uses types w) (term_table types (entry b n (n + 1) ∷ names) (n + 2) k t)
       ⊕ term_table types (entry b (n + 1) (n + 1) ∷ names) (n + 2 + binders_in t) (root k t + 3) u
   node_table types names n k (prefixed p t) = term_table types names n k t
   node_table types names n k (apply t u) =
@@ -214,24 +219,42 @@ abbrev mutual
   fields_table types names n k (field l t fs) =
       term_table types names n k t ⊕ fields_table types names (n + binders_in t) (behind k t) fs
 
--- The table of the commands of a document behind those that it sees: n binders, k places and i commands are before them.
+-- The table of a command that sees these binders, where n binders, k places and i commands are before it.
+abbrev pub command_table : (types names : List Entry) → (n k i : ℕ) → CommandTree → Table
+command_table types names n k i (definition (word x s) t) = binder_row (Some x) s names n (term_at (root k t)) ⊕ term_table types names (n + 1) k t
+command_table types names n k i (declaration (word x s) u) = binder_row (Some x) s names n (Declaration i) ⊕ type_uses types u
+command_table types names n k i (abbreviation (word x s) u) = binder_row (Some x) s types n TypeName ⊕ type_uses types u
+command_table types names n k i (evaluation t) = term_table types names n k t
+
+-- the binders of type names, and of names, that the commands behind one see
+
+abbrev pub types_seen_after : (n : ℕ) → List Entry → CommandTree → List Entry
+types_seen_after n types (abbreviation (word x s) u) = entry (Some x) n n ∷ types
+types_seen_after n types c = types
+
+abbrev pub names_seen_after : (n : ℕ) → List Entry → CommandTree → List Entry
+names_seen_after n names (definition (word x s) t) = entry (Some x) n n ∷ names
+names_seen_after n names (declaration (word x s) u) = entry (Some x) n n ∷ names
+names_seen_after n names c = names
+
+abbrev pub binders_in_command : CommandTree → ℕ
+binders_in_command (definition w t) = 1 + binders_in t
+binders_in_command (declaration w u) = 1
+binders_in_command (abbreviation w u) = 1
+binders_in_command (evaluation t) = binders_in t
+
+abbrev pub places_in_command : CommandTree → ℕ
+places_in_command (definition w t) = below t + 1
+places_in_command (declaration w u) = 0
+places_in_command (abbreviation w u) = 0
+places_in_command (evaluation t) = below t + 1
+
+-- the table of the commands of a document, each of which sees the binders of those before it
 abbrev pub commands_table : (types names : List Entry) → (n k i : ℕ) → List CommandTree → Table
 commands_table types names n k i [] = empty_table
-commands_table types names n k i (definition (word x s) t ∷ cs) =
-    binder_row (Some x) s names n (term_at (root k t))
-    ⊕ term_table types names (n + 1) k t
-    ⊕ commands_table types (entry (Some x) n n ∷ names) (n + 1 + binders_in t) (behind k t) (i + 1) cs
-commands_table types names n k i (declaration (word x s) u ∷ cs) =
-    binder_row (Some x) s names n (Declaration i)
-    ⊕ type_uses types u
-    ⊕ commands_table types (entry (Some x) n n ∷ names) (n + 1) k (i + 1) cs
-commands_table types names n k i (abbreviation (word x s) u ∷ cs) =
-    binder_row (Some x) s types n TypeName
-    ⊕ type_uses types u
-    ⊕ commands_table (entry (Some x) n n ∷ types) names (n + 1) k (i + 1) cs
-commands_table types names n k i (evaluation t ∷ cs) =
-    term_table types names n k t
-    ⊕ commands_table types names (n + binders_in t) (behind k t) (i + 1) cs
+commands_table types names n k i (c ∷ cs) =
+    command_table types names n k i c
+    ⊕ commands_table (types_seen_after n types c) (names_seen_after n names c) (n + binders_in_command c) (k + places_in_command c) (i + 1) cs
 
 abbrev pub table : List CommandTree → Table
 table cs = commands_table [] [] 0 0 0 cs
@@ -241,37 +264,50 @@ table cs = commands_table [] [] 0 0 0 cs
 abbrev pub no_span : Span
 no_span = record { start = 0; end = 0 }
 
+-- the binder, and the place, of a number
+
+abbrev pub binder_in : List TextBinder → ℕ → TextBinder
+binder_in bs n = get_or bs n (record { name = None; token = no_span; outer = None; answer = n; origin = TypeName })
+
+abbrev pub place_in : List TextPlace → ℕ → TextPlace
+place_in ps n = get_or ps n (record { span = no_span; derived = true; terms = []; inner = None })
+
 abbrev pub binder_numbered : Table → ℕ → TextBinder
-binder_numbered t n = get_or t.binders n (record { name = None; token = no_span; outer = None; answer = n; origin = TypeName })
+binder_numbered t n = binder_in t.binders n
 
 abbrev pub place_row_numbered : Table → ℕ → TextPlace
-place_row_numbered t n = get_or t.places n (record { span = no_span; derived = true; terms = []; inner = None })
+place_row_numbered t n = place_in t.places n
 
--- The binders that are seen from one on, the innermost first: itself, the one just outside of it, and so on. They are no more than n.
-abbrev pub seen_from : Table → (n : ℕ) → Option ℕ → List ℕ
-seen_from t n None = []
-seen_from t zero (Some b) = []
-seen_from t (suc n) (Some b) = b ∷ seen_from t n (binder_numbered t b).outer
+-- Those of the binders that are seen from one on, the innermost first: itself, the one just outside of it, and so on. They are no more than n.
+abbrev pub seen_in : List TextBinder → (n : ℕ) → Option ℕ → List ℕ
+seen_in bs n None = []
+seen_in bs zero (Some b) = []
+seen_in bs (suc n) (Some b) = b ∷ seen_in bs n (binder_in bs b).outer
 
 -- the binders of names that a place sees, the outermost first
 abbrev pub visible_at : Table → ℕ → List ℕ
-visible_at t p = reverse (seen_from t (length t.binders) (place_row_numbered t p).inner)
+visible_at t p = reverse (seen_in t.binders (length t.binders) (place_row_numbered t p).inner)
 
--- a name's token there is the binder's
+-- the binder whose name has its token there
 abbrev pub is_token_at : ℕ → TextBinder → Bool
-is_token_at o b = has_name b.name && (b.token.start == o)
+is_token_at o b = if has_name b.name then b.token.start == o else false
 
--- the binder that the name token there binds or uses, if it is bound
+abbrev pub binder_token_at : ℕ → List TextBinder → Option ℕ
+binder_token_at o [] = None
+binder_token_at o (b ∷ bs) = if is_token_at o b then Some b.answer else binder_token_at o bs
+
+-- the binder of the use whose token is there
 abbrev pub binder_used_at : ℕ → List TextUse → Option ℕ
 binder_used_at o [] = None
 binder_used_at o (u ∷ us) = if u.token.start == o then u.binder else binder_used_at o us
 
-abbrev pub binder_told_at : ℕ → List TextUse → List TextBinder → Option ℕ
-binder_told_at o us [] = binder_used_at o us
-binder_told_at o us (b ∷ bs) = if is_token_at o b then Some b.answer else binder_told_at o us bs
+abbrev pub first_of : Option ℕ → Option ℕ → Option ℕ
+first_of None b = b
+first_of (Some a) b = Some a
 
+-- the binder that the name or type name there is or uses
 abbrev pub binder_at : Table → ℕ → Option ℕ
-binder_at t o = binder_told_at o t.uses t.binders
+binder_at t o = first_of (binder_token_at o t.binders) (binder_used_at o t.uses)
 
 -- the tokens of the uses of a binder
 abbrev pub is_use_of : ℕ → TextUse → Bool
@@ -280,12 +316,14 @@ is_use_of n u = is_number n u.binder
 abbrev pub tokens_of : ℕ → List TextUse → List Span
 tokens_of n us = map (λ u. u.token) (filter (is_use_of n) us)
 
-abbrev pub uses_of : Table → ℕ → List Span
-uses_of t n = tokens_of (binder_numbered t n).answer t.uses
+-- the same for each of some binders, from the n-th on
+abbrev pub tokens_by : (n count : ℕ) → List TextUse → List (List Span)
+tokens_by n zero us = []
+tokens_by n (suc count) us = tokens_of n us ∷ tokens_by (n + 1) count us
 
 -- The innermost place of an offset. Each term stands behind those in it in the order of places, so it is the first that has it.
 abbrev pub is_over : ℕ → TextPlace → Bool
-is_over o p = not p.derived && (leb p.span.start o && ltb o p.span.end)
+is_over o p = if p.derived then false else if ltb o p.span.start then false else ltb o p.span.end
 
 abbrev pub place_at : Table → ℕ → Option ℕ
 place_at t o = position (is_over o) t.places

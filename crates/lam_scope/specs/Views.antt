@@ -1,5 +1,5 @@
 -- What the values of this crate stand for.
-use Rattle.std.specs.Prelude.{List, [], ◌∷◌, ℕ, map, Option, Some, None, Result, Ok, Err, ◌≡◌, Vec, String}
+use Rattle.std.specs.Prelude.{List, length, [], ◌∷◌, ℕ, map, Option, Some, None, Result, Ok, Err, ◌≡◌, Vec, String}
 use Rattle.std.specs.Borrow.{Bor}
 use Rattle.std.specs.Option.{option_map}
 use Rattle.std.specs.declared.alloc.Global.{Global}
@@ -10,7 +10,7 @@ use Rattle.lam_rules.specs.TermViews.{term_of, written_of}
 use Rattle.lam_scope.specs.declared.statement.Statement.{Statement as RustStatement}
 use Rattle.lam_scope.specs.declared.statement.Statement.TheVariants as rust
 use Rattle.lam_scope.specs.declared.abbreviations.Abbreviation.{Abbreviation as RustAbbreviation}
-use Rattle.lam_syntax.specs.Trees.{TypeTree}
+use Rattle.lam_syntax.specs.Trees.{TypeTree, CommandTree}
 use Rattle.lam_syntax.specs.Views.{type_of}
 use Rattle.lam_syntax.specs.declared.types.WrittenTy.{WrittenTy}
 use Rattle.lam_token.specs.declared.span.Span.{Span}
@@ -20,8 +20,8 @@ use Rattle.lam_scope.specs.declared.fault.TypeFault.{TypeFault}
 use Rattle.lam_scope.specs.declared.numbers.Origin.{Origin}
 use Rattle.lam_scope.specs.declared.resolved.Resolved.{Resolved}
 use Rattle.lam_scope.specs.declared.scopes.Scopes.{Scopes}
-use Rattle.lam_scope.specs.Tables.{Table}
-use Rattle.lam_scope.specs.TableViews.{rows_table}
+use Rattle.lam_scope.specs.Tables.{Table, table, tokens_by}
+use Rattle.lam_scope.specs.TableViews.{rows_of, span_lists}
 use Rattle.lam_scope.specs.Names.{Name}
 use Rattle.lam_scope.specs.Expansions.{Abbreviation, abbreviation}
 use Rattle.lam_scope.specs.Places.{Statement, defines, declares, abbreviates, states}
@@ -46,9 +46,18 @@ origins_of r = r.origins.items
 abbrev pub faults_of : Resolved → List TypeFault
 faults_of r = r.faults.items
 
--- the table that scopes are
+-- the table that scopes are, and the tokens of the uses of each binder
+
 abbrev pub table_of : Scopes → Table
-table_of s = rows_table s.binders.items s.uses.items s.places.items
+table_of s = rows_of s.rows
+
+abbrev pub uses_in : Scopes → List (List Span)
+uses_in s = span_lists s.tokens.items
+
+-- scopes are of these commands
+pub record AreScopesOf (s : Scopes) (cs : List CommandTree) : Type 0 where
+  pub same_table : table_of s ≡ table cs
+  pub same_uses : uses_in s ≡ tokens_by 0 (length (table cs).binders) (table cs).uses
 
 -- a stack of abbreviations on top of others
 abbrev pub stacked : List Abbreviation → List RustAbbreviation → List Abbreviation

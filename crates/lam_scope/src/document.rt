@@ -4,7 +4,7 @@ ghost use Rattle.lam_syntax.specs.Views.{command_of};
 ghost use Rattle.lam_scope.specs.Nameless.{statements, faults, first_too_large};
 ghost use Rattle.lam_scope.specs.Tables.{table};
 ghost use Rattle.lam_scope.specs.WellFormed.{AreWellFormedStatements};
-ghost use Rattle.lam_scope.specs.Views.{statement_of, statements_of, origins_of, faults_of, table_of, IsLimit};
+ghost use Rattle.lam_scope.specs.Views.{statement_of, statements_of, origins_of, faults_of, AreScopesOf, IsLimit};
 
 use crate::fault::ScopeFault;
 use crate::numbers::Origin;
@@ -19,7 +19,7 @@ use std::alloc::{AllocError, Global};
 /// which are copied at each use; the first that is too large is refused before any of it is built.
 #[tactic(auto, using(crate::proofs::WellFormedForms::well_formed))]
 pub fn resolve(alloc: Global, commands: &[Command], scopes: &Scopes) -> Result<Resolved, ScopeFault>
-    requires { table_of scopes.now ≡ table (map command_of commands.now) }
+    requires { AreScopesOf scopes.now (map command_of commands.now) }
     ensures statements { IfOk result (λ r. statements_of r ≡ statements [] [] (map command_of commands.now)) }
     ensures origins { IfOk result (λ r. origins_of r ≡ map (λ b. b.origin) (table (map command_of commands.now)).binders) }
     ensures faults { IfOk result (λ r. faults_of r ≡ faults [] (map command_of commands.now)) }
@@ -27,7 +27,7 @@ pub fn resolve(alloc: Global, commands: &[Command], scopes: &Scopes) -> Result<R
     ensures limit { IsLimit (first_too_large [] (map command_of commands.now)) result }
 {
     let resolver = resolve_all(alloc, commands)?;
-    let Ok(origins) = origins_in(alloc, &scopes.binders) else {
+    let Ok(origins) = origins_in(alloc, &scopes.rows.binders) else {
         return Err(ScopeFault::Memory);
     };
     Ok(Resolved {

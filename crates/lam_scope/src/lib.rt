@@ -5,6 +5,7 @@
 #![tactic(auto)]
 
 mod abbreviations;
+mod binding;
 mod document;
 mod expansion;
 mod fault;
@@ -18,8 +19,12 @@ mod scopes;
 mod search;
 mod seen;
 mod statement;
+#[cfg(test)]
+mod tests;
+mod walk;
 mod written;
 
+pub use binding::bind;
 pub use document::resolve;
 pub use fault::{ScopeFault, TypeFault};
 pub use numbers::{Binder, Origin, Place};

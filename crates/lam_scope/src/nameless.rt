@@ -10,7 +10,7 @@ ghost use Rattle.lam_scope.specs.Views.{abbreviations_of};
 
 use crate::abbreviations::Abbreviation;
 use crate::expansion::expand;
-use crate::names::Names;
+use crate::names::{Names, name_of};
 use lam_rules::{Core, make_letrec};
 use lam_syntax::{Binder, Identifier, Prefix, Tm, TmField, TmNode};
 use std::alloc::{AllocError, Global};
@@ -121,16 +121,6 @@ fn nameless_fields<'a>(
         forms.push((label, form))?;
     }
     Ok(forms)
-}
-
-/// The name of a binder, if it is no underscore.
-fn name_of<'a>(binder: &'a Binder) -> Option<&'a str>
-    ensures { option_map (λ x. x.now) result ≡ option_map (λ s. string_bytes s) binder.now.name }
-{
-    match &binder.name {
-        None => None,
-        Some(name) => Some(name.as_str()),
-    }
 }
 
 /// The count of a use, or its name where it is unbound.

@@ -1,9 +1,10 @@
 //! The binders of names that a term sees.
-ghost use Rattle.std.specs.Prelude.{◌≡◌, ◌∷◌, [], OnOk};
+ghost use Rattle.std.specs.Prelude.{◌≡◌, ◌∷◌, [], OnOk, string_bytes};
 ghost use Rattle.std.specs.Option.{option_map};
 ghost use Rattle.lam_scope.specs.Names.{count, binds};
 ghost use Rattle.lam_scope.specs.Views.{outside, names_of};
 
+use lam_syntax::Binder;
 use std::alloc::{AllocError, Global};
 use std::marker::Model;
 
@@ -78,5 +79,15 @@ pub(crate) fn binds(bound: Option<&str>, name: &str) -> bool
     match bound {
         None => false,
         Some(other) => other == name,
+    }
+}
+
+/// The name of a binder, if it is no underscore.
+pub(crate) fn name_of<'a>(binder: &'a Binder) -> Option<&'a str>
+    ensures { option_map (λ x. x.now) result ≡ option_map (λ s. string_bytes s) binder.now.name }
+{
+    match &binder.name {
+        None => None,
+        Some(name) => Some(name.as_str()),
     }
 }

@@ -1,6 +1,14 @@
 //! The rows of the tables that binding fills.
+ghost use Rattle.std.specs.Prelude.{◌≡◌, ◌+◌, ◌<◌, length, map, IfOk, OnOk, string_bytes};
+ghost use Rattle.std.specs.Option.{option_map};
+ghost use Rattle.lam_scope.specs.Tables.{◌⊕◌, empty_table, binder_row, use_row, place_row};
+ghost use Rattle.lam_scope.specs.TableViews.{place_number, rows_of, with_origin};
+
 use crate::numbers::{Binder, Origin, Place};
+use crate::seen::Seen;
+use lam_syntax::Identifier;
 use lam_token::Span;
+use std::alloc::{AllocError, Global};
 
 /// A binder of a name or of a type name.
 #[derive(Drop)]
@@ -35,4 +43,139 @@ pub(crate) struct PlaceRow {
     pub(crate) terms: Vec<Place>,
     /// The innermost of the binders of names that it sees.
     pub(crate) inner: Option<Binder>,
+}
+
+/// Places in the text, one behind the other.
+#[derive(Drop)]
+pub(crate) struct Spans {
+    pub(crate) items: Vec<Span>,
+}
+
+/// The tables of what was walked so far.
+#[derive(Drop)]
+pub(crate) struct Rows {
+    pub(crate) binders: Vec<BinderRow>,
+    pub(crate) uses: Vec<UseRow>,
+    pub(crate) places: Vec<PlaceRow>,
+}
+
+impl Rows {
+    /// Nothing was walked.
+    pub(crate) fn new(alloc: Global) -> Rows
+        ensures { rows_of result ≡ empty_table }
+    {
+        Rows {
+            binders: Vec::new(alloc),
+            uses: Vec::new(alloc),
+            places: Vec::new(alloc),
+        }
+    }
+
+    /// How many binders there are.
+    pub(crate) fn binder_count(&self) -> usize
+        ensures { result ≡ length self.now.binders.items }
+    {
+        self.binders.len()
+    }
+
+    /// How many places there are.
+    pub(crate) fn place_count(&self) -> usize
+        ensures { result ≡ length self.now.places.items }
+    {
+        self.places.len()
+    }
+
+    /// One more binder, inside of those that are seen.
+    pub(crate) fn add_binder(
+        &mut self,
+        alloc: Global,
+        name: Option<&str>,
+        token: Span,
+        seen: &Seen<'_>,
+        answer: Binder,
+        origin: Origin,
+    ) -> Result<(), AllocError>
+        ensures table { OnOk result (rows_of self.new ≡ rows_of self.old ⊕ binder_row (option_map (λ x. x.now) name.entry) token seen.now answer.0 origin) }
+        ensures binders { OnOk result (length self.new.binders.items ≡ length self.old.binders.items + 1) }
+        ensures places { self.new.places ≡ self.old.places }
+    {
+        let copy = copy_of_name(alloc, name)?;
+        let outer = seen.innermost();
+        let row = BinderRow {
+            name: copy,
+            token,
+            outer,
+            answer,
+            origin,
+        };
+        self.binders.push(row)?;
+        Ok(())
+    }
+
+    /// A use of a name or of a type name that sees these binders of its kind.
+    pub(crate) fn add_use(&mut self, used: &Identifier, seen: &Seen<'_>) -> Result<(), AllocError>
+        ensures table { OnOk result (rows_of self.new ≡ rows_of self.old ⊕ use_row (string_bytes used.now.text) used.now.span seen.now) }
+        ensures binders { self.new.binders ≡ self.old.binders }
+        ensures places { self.new.places ≡ self.old.places }
+    {
+        let name = used.text.clone()?;
+        let binder = seen.find(&used.text);
+        let sees = seen.innermost();
+        let row = UseRow {
+            name,
+            token: used.span,
+            sees,
+            binder,
+        };
+        self.uses.push(row)?;
+        Ok(())
+    }
+
+    /// The place behind those so far.
+    pub(crate) fn add_place(
+        &mut self,
+        span: Span,
+        derived: bool,
+        terms: Vec<Place>,
+        seen: &Seen<'_>,
+    ) -> Result<Place, AllocError>
+        ensures table { OnOk result (rows_of self.new ≡ rows_of self.old ⊕ place_row span derived (map place_number terms.items) seen.now) }
+        ensures number { IfOk result (λ p. p.0 ≡ length self.old.places.items) }
+        ensures binders { self.new.binders ≡ self.old.binders }
+        ensures places { OnOk result (length self.new.places.items ≡ length self.old.places.items + 1) }
+    {
+        let number = Place(self.places.len());
+        let inner = seen.innermost();
+        let row = PlaceRow {
+            span,
+            derived,
+            terms,
+            inner,
+        };
+        self.places.push(row)?;
+        Ok(number)
+    }
+
+    /// Tells where a binder takes its type from.
+    pub(crate) fn set_origin(&mut self, binder: Binder, origin: Origin)
+        requires { binder.0 < length self.old.binders.items }
+        ensures table { rows_of self.new ≡ with_origin binder.0 origin (rows_of self.old) }
+        ensures binders { length self.new.binders.items ≡ length self.old.binders.items }
+        ensures places { self.new.places ≡ self.old.places }
+    {
+        self.binders[binder.0].origin = origin;
+    }
+}
+
+/// The same name in memory of its own.
+fn copy_of_name(alloc: Global, name: Option<&str>) -> Result<Option<String>, AllocError>
+    ensures { IfOk result (λ copy. option_map (λ s. string_bytes s) copy ≡ option_map (λ x. x.now) name.entry) }
+{
+    match name {
+        None => Ok(None),
+        Some(text) => {
+            let copy = String::from_str(alloc, text)?;
+            Ok(Some(copy))
+        }
+    }
 }

@@ -1,10 +1,239 @@
 //! The binders of a document, the uses of each, and what each place sees.
-use crate::rows::{BinderRow, PlaceRow, UseRow};
+ghost use Rattle.std.specs.Prelude.{◌≡◌, [], length, slice_index_or, map, position, IfOk, string_bytes};
+ghost use Rattle.std.specs.Option.{option_map};
+ghost use Rattle.lam_scope.specs.Tables.{binder_numbered, place_row_numbered, binder_at, binder_token_at, binder_used_at, visible_at, seen_in, binder_in, place_in, place_at, is_over, shown_name};
+ghost use Rattle.lam_scope.specs.TableViews.{binder_number, place_number, text_binder, text_use, text_place, span_lists};
+ghost use Rattle.lam_scope.specs.Views.{table_of, uses_in};
+
+use crate::numbers::{Binder, Place};
+use crate::rows::{BinderRow, PlaceRow, Rows, Spans, UseRow};
+use lam_token::Span;
+use std::alloc::{AllocError, Global};
 
 /// What the names and type names of a document's commands are bound to. It keeps no part of the commands.
 #[derive(Drop)]
 pub struct Scopes {
-    pub(crate) binders: Vec<BinderRow>,
-    pub(crate) uses: Vec<UseRow>,
-    pub(crate) places: Vec<PlaceRow>,
+    pub(crate) rows: Rows,
+    /// The tokens of the uses of each binder, by its number.
+    pub(crate) tokens: Vec<Spans>,
+}
+
+impl Scopes {
+    /// The binder of the name or type name whose token starts at that byte: the one that it is, or the one that it
+    /// uses. An underscore is no name; a letrec's token is the let's binder, and so are its uses.
+    #[tactic(auto, using(crate::proofs::Reading::reading))]
+    pub fn binder_at(&self, offset: usize) -> Option<Binder>
+        ensures { option_map binder_number result ≡ binder_at (table_of self.now) offset }
+    {
+        match binder_token_at(&self.rows.binders, offset) {
+            Some(binder) => Some(binder),
+            None => binder_used_at(&self.rows.uses, offset),
+        }
+    }
+
+    /// The tokens of the uses of a binder, in the order of the text. A letrec's two binders have the same.
+    #[tactic(auto, using(crate::proofs::Reading::reading))]
+    pub fn uses_of(&self, binder: Binder) -> &[Span]
+        ensures { result.now ≡ slice_index_or (uses_in self.now) (binder_numbered (table_of self.now) binder.0).answer [] }
+    {
+        let answer = answer_of(&self.rows.binders, binder);
+        tokens_at(&self.tokens, answer)
+    }
+
+    /// The binders of names that a place sees, shadowed ones and underscores too, the outermost first.
+    #[tactic(auto, using(crate::proofs::Reading::reading))]
+    pub fn visible_at(&self, alloc: Global, place: Place) -> Result<Vec<Binder>, AllocError>
+        ensures { IfOk result (λ bs. map binder_number bs.items ≡ visible_at (table_of self.now) place.0) }
+    {
+        let places = self.rows.places.as_slice();
+        let inner = innermost_at(places, place);
+        let binders = self.rows.binders.as_slice();
+        let mut found = chain(alloc, binders, inner)?;
+        found.reverse();
+        Ok(found)
+    }
+
+    /// The innermost place of a byte of the text. None of those that stand for a letrec's lambda and fix is.
+    #[tactic(auto, using(crate::proofs::Reading::reading))]
+    pub fn place_at(&self, offset: usize) -> Option<Place>
+        ensures { option_map place_number result ≡ place_at (table_of self.now) offset }
+    {
+        first_over(&self.rows.places, offset)
+    }
+
+    /// From the first byte of a place to the one behind its last. The lambda and the fix of a letrec have that of its
+    /// first term.
+    #[tactic(auto, using(crate::proofs::Reading::reading))]
+    pub fn span_of(&self, place: Place) -> Span
+        ensures { result ≡ (place_row_numbered (table_of self.now) place.0).span }
+    {
+        match self.rows.places.get(place.0) {
+            Some(row) => row.span,
+            None => NO_SPAN,
+        }
+    }
+
+    /// The places of the immediate terms of a place, from left to right.
+    #[tactic(auto, using(crate::proofs::Reading::reading))]
+    pub fn terms_of(&self, place: Place) -> &[Place]
+        ensures { map place_number result.now ≡ (place_row_numbered (table_of self.now) place.0).terms }
+    {
+        match self.rows.places.get(place.0) {
+            Some(row) => &row.terms,
+            None => &[],
+        }
+    }
+
+    /// The name of a binder; `_` where it is an underscore.
+    #[tactic(auto, using(crate::proofs::Reading::reading))]
+    pub fn name_of(&self, binder: Binder) -> &str
+        ensures { result.now ≡ shown_name (binder_numbered (table_of self.now) binder.0).name }
+    {
+        match self.rows.binders.get(binder.0) {
+            Some(row) => shown_name(&row.name),
+            None => "_",
+        }
+    }
+
+    /// The token of a binder. A letrec's two binders have the same.
+    #[tactic(auto, using(crate::proofs::Reading::reading))]
+    pub fn token_of(&self, binder: Binder) -> Span
+        ensures { result ≡ (binder_numbered (table_of self.now) binder.0).token }
+    {
+        match self.rows.binders.get(binder.0) {
+            Some(row) => row.token,
+            None => NO_SPAN,
+        }
+    }
+}
+
+/// The place of no term.
+const NO_SPAN: Span = Span { start: 0, end: 0 };
+
+fn shown_name(name: &Option<String>) -> &str
+    ensures { result.now ≡ shown_name (option_map (λ s. string_bytes s) name.now) }
+{
+    match name {
+        Some(text) => text.as_str(),
+        None => "_",
+    }
+}
+
+/// The binder that a binder's uses are told as.
+#[tactic(auto, using(crate::proofs::Reading::reading))]
+fn answer_of(binders: &[BinderRow], binder: Binder) -> Binder
+    ensures { result.0 ≡ (binder_in (map text_binder binders.now) binder.0).answer }
+{
+    match binders.get(binder.0) {
+        Some(row) => row.answer,
+        None => binder,
+    }
+}
+
+#[tactic(auto, using(crate::proofs::Reading::reading))]
+fn tokens_at(lists: &[Spans], binder: Binder) -> &[Span]
+    ensures { result.now ≡ slice_index_or (span_lists lists.now) binder.0 [] }
+{
+    match lists.get(binder.0) {
+        Some(list) => &list.items,
+        None => &[],
+    }
+}
+
+/// The innermost binder of a name that a place sees.
+#[tactic(auto, using(crate::proofs::Reading::reading))]
+fn innermost_at(places: &[PlaceRow], place: Place) -> Option<Binder>
+    ensures { option_map binder_number result ≡ (place_in (map text_place places.now) place.0).inner }
+{
+    match places.get(place.0) {
+        Some(row) => row.inner,
+        None => None,
+    }
+}
+
+/// The binder whose name has its token there.
+#[tactic(auto, using(crate::proofs::Reading::reading))]
+fn binder_token_at(binders: &[BinderRow], offset: usize) -> Option<Binder>
+    ensures { option_map binder_number result ≡ binder_token_at offset (map text_binder binders.now) }
+{
+    for i in 0..binders.len() {
+        let row = &binders[i];
+        if row.name.is_some() {
+            if row.token.start == offset {
+                return Some(row.answer);
+            }
+        }
+    }
+    None
+}
+
+/// The binder of the first use whose token starts there.
+#[tactic(auto, using(crate::proofs::Reading::reading))]
+fn binder_used_at(uses: &[UseRow], offset: usize) -> Option<Binder>
+    ensures { option_map binder_number result ≡ binder_used_at offset (map text_use uses.now) }
+{
+    for i in 0..uses.len() {
+        let row = &uses[i];
+        if row.token.start == offset {
+            return row.binder;
+        }
+    }
+    None
+}
+
+/// A binder, the one just outside of it, and so on.
+#[tactic(auto, using(crate::proofs::Reading::reading))]
+fn chain(
+    alloc: Global,
+    binders: &[BinderRow],
+    first: Option<Binder>,
+) -> Result<Vec<Binder>, AllocError>
+    ensures { IfOk result (λ bs. map binder_number bs.items ≡ seen_in (map text_binder binders.now) (length binders.now) (option_map binder_number first)) }
+{
+    let mut found = Vec::new(alloc);
+    let mut next = first;
+    for i in 0..binders.len() {
+        let Some(binder) = next else {
+            return Ok(found);
+        };
+        found.push(binder)?;
+        next = outer_of(binders, binder);
+    }
+    Ok(found)
+}
+
+#[tactic(auto, using(crate::proofs::Reading::reading))]
+fn outer_of(binders: &[BinderRow], binder: Binder) -> Option<Binder>
+    ensures { option_map binder_number result ≡ (binder_in (map text_binder binders.now) binder.0).outer }
+{
+    match binders.get(binder.0) {
+        Some(row) => row.outer,
+        None => None,
+    }
+}
+
+/// The first place that has this byte and is written.
+#[tactic(auto, using(crate::proofs::Reading::reading))]
+fn first_over(places: &[PlaceRow], offset: usize) -> Option<Place>
+    ensures { option_map place_number result ≡ position (is_over offset) (map text_place places.now) }
+{
+    for i in 0..places.len() {
+        let row = &places[i];
+        if is_over(row, offset) {
+            return Some(Place(i));
+        }
+    }
+    None
+}
+
+fn is_over(row: &PlaceRow, offset: usize) -> bool
+    ensures { result ≡ is_over offset (text_place row.now) }
+{
+    if row.derived {
+        return false;
+    }
+    if offset < row.span.start {
+        return false;
+    }
+    offset < row.span.end
 }

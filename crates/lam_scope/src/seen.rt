@@ -1,8 +1,8 @@
 //! The binders of one kind that a term sees.
 ghost use Rattle.std.specs.Prelude.{◌≡◌, ◌∷◌, [], OnOk};
 ghost use Rattle.std.specs.Option.{option_map};
-ghost use Rattle.lam_scope.specs.Tables.{entry, innermost, bound_to};
-ghost use Rattle.lam_scope.specs.TableViews.{entries_of, outside_of, binder_number};
+ghost use Rattle.lam_scope.specs.Tables.{innermost, bound_to};
+ghost use Rattle.lam_scope.specs.TableViews.{entry_of, entries_of, outside_of, binder_number};
 
 use crate::names::binds;
 use crate::numbers::Binder;
@@ -46,19 +46,10 @@ impl<'a> Seen<'a> {
 
     /// One more binder is seen, inside of the others.
     #[tactic(auto, using(crate::proofs::SeenStacks::seen_stacks))]
-    pub(crate) fn enter(
-        &mut self,
-        name: Option<&'a str>,
-        number: Binder,
-        answer: Binder,
-    ) -> Result<(), AllocError>
-        ensures { OnOk result (self.new ≡ entry (option_map (λ x. x.now) name.entry) number.0 answer.0 ∷ self.old) }
+    pub(crate) fn enter(&mut self, binder: SeenBinder<'a>) -> Result<(), AllocError>
+        ensures { OnOk result (self.new ≡ entry_of binder.entry ∷ self.old) }
     {
-        self.stack.push(SeenBinder {
-            name,
-            number,
-            answer,
-        })?;
+        self.stack.push(binder)?;
         Ok(())
     }
 

@@ -1,0 +1,5 @@
+use Rattle.lam_scope.proofs.TableRows.{new_place}
+use Rattle.lam_scope.proofs.rows.Rows.add_place.Goals as goal
+
+pub returns-clause-table : goal.returns-clause-table
+returns-clause-table c = new_place _ _ _ _ _ _ c.in_ok-push.ensures.items c.innermost-inner.ensures

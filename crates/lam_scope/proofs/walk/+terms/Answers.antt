@@ -1,0 +1,79 @@
+use Rattle.std.proofs.Common.{sym, ◌∙◌, ap, length, ◌≡◌, ◌+◌, ◌∷◌, arith, string_bytes}
+use Rattle.std.specs.Option.{option_map}
+use Rattle.lam_syntax.specs.Views.{term_of}
+use Rattle.lam_scope.specs.declared.numbers.Origin.TheVariants.{TypeName}
+use Rattle.lam_scope.specs.Tables.{◌⊕◌, entry, root, behind, lambda_at, term_at, binder_row, term_table}
+use Rattle.std.proofs.lemmas.List.{length-map}
+use Rattle.lam_scope.specs.TableViews.{rows_of, text_binder}
+use Rattle.lam_scope.proofs.TableRows.{fields_more, roots_more, binders_more, places_more, fields_walked, bound_rows, lambda_rows, letrec_walked}
+use Rattle.lam_scope.proofs.walk.+terms.Goals as goal
+
+pub walk_fields-loop-i-preserved : goal.walk_fields-loop-i-preserved
+walk_fields-loop-i-preserved t c =
+    let fs = c.args.fields.now in
+    let i = c.loop-i.i in
+    let f = c.index-fields-i.result in
+    let lt = c.loop-i-test.true in
+    let is = c.index-fields-i.is in
+    let e = c.in_ok-place.ensures in
+    record {
+      table = fields_more (rows_of c.loop-i.rows) _ _ _ _ _ _ _ _ _ fs i f lt is e.table e.names e.binders e.places c.loop-i.invariant.table;
+      terms = roots_more c.loop-i.terms.items _ c.in_ok-place.place _ _ fs i f _ lt is c.in_ok-push.ensures.items e.place e.places c.loop-i.invariant.terms;
+      binders = binders_more (length c.loop-i.rows.binders.items) _ _ fs i f lt is e.binders c.loop-i.invariant.binders;
+      places = places_more (length c.loop-i.rows.places.items) _ _ fs i f lt is e.places c.loop-i.invariant.places;
+      names = e.names ∙ c.loop-i.invariant.names;
+    }
+
+pub walk_fields-returns-clause-table : goal.walk_fields-returns-clause-table
+walk_fields-returns-clause-table t c = fields_walked (rows_of c.loop-i.rows) _ c.args.types.now _ _ _ c.args.fields.now c.loop-i.i c.loop-i-test.false c.loop-i.invariant.table
+
+pub walk_bound-returns-clause-table : goal.walk_bound-returns-clause-table
+walk_bound-returns-clause-table t c =
+    let old = c.args.rows.now in
+    let added = c.in_ok-add_binder.ensures in
+    let walked = c.in_ok-place.ensures in
+    let tree = term_of c.args.bound.now in
+    bound_rows (rows_of old) _ _ _ _ _ _ _ _ _ _ _ _ _
+    (added.table ∙ ap (λ a. rows_of old ⊕ binder_row (option_map (λ x. x.now) c.args.name) c.args.token c.args.names.now a TypeName) c.binder_count.ensures)
+    walked.table c.set_origin.ensures.table (c.binder_count.ensures ∙ sym (length-map old.binders.items text_binder))
+    (λ i. term_table c.args.types.now c.args.names.now (added.binders i) (length (added.places i).items) tree)
+    (ap (λ m. term_at m) (walked.place ∙ ap (λ v. root (length v.items) tree) added.places))
+
+pub walk_lambda-returns-clause-table : goal.walk_lambda-returns-clause-table
+walk_lambda-returns-clause-table t c =
+    let old = c.args.rows.now in
+    let nm = c.args.names.now in
+    let added = c.in_ok-add_binder.ensures in
+    let typed = c.in_ok-walk_type.ensures in
+    let walked = c.in_ok-place.ensures in
+    let named = c.seen_as-seen.ensures in
+    let tree = term_of c.args.body.now in
+    let same_places = typed.places ∙ added.places in
+    lambda_rows (rows_of old) _ _ _ _ _ _ _ _ _ _ _ _ _ _ _
+    (added.table ∙ (λ i. rows_of old ⊕ binder_row (named.name i) c.args.binder.now.span nm (c.binder_count.ensures i) TypeName))
+    typed.table walked.table c.set_origin.ensures.table (c.binder_count.ensures ∙ sym (length-map old.binders.items text_binder))
+    (λ i. term_table c.args.types.now
+    ((named.entry ∙ ap (λ m. entry (option_map (λ s. string_bytes s) c.args.binder.now.name) m m) c.binder_count.ensures) i ∷ nm)
+    ((ap (λ v. length v.items) typed.binders ∙ added.binders) i) (length (same_places i).items) tree)
+    (ap (λ m. lambda_at m) (c.place_count.ensures ∙ walked.places ∙ ap (λ v. behind (length v.items) tree) same_places))
+
+pub walk_letrec-returns-clause-table : goal.walk_letrec-returns-clause-table
+walk_letrec-returns-clause-table t c =
+    let old = c.args.rows.now in
+    let first = c.in_ok-add_binder.ensures in
+    let second = c.in_ok-add_binder-2.ensures in
+    let typed = c.in_ok-walk_type.ensures in
+    let walked = c.in_ok-place.ensures in
+    let tree = term_of c.args.bound.now in
+    let n = length old.binders.items in
+    let two_more : n + 1 + 1 ≡ n + 2 = omega arith in
+    let same_places = ap (λ v. length v.items) (typed.places ∙ second.places ∙ first.places) in
+    letrec_walked c.args.types.now c.args.names.now c.walk_under.new.names (rows_of old) (rows_of c.add_binder.new.self) (rows_of c.add_binder-2.new.self) (rows_of c.walk_type.new.rows)
+    (rows_of c.walk_under.new.rows) (rows_of c.add_derived.new.rows) _ _ _ _ c.args.bound.now.span c.binder_count.result n
+    (length c.walk_type.new.rows.binders.items) (length old.places.items) (length c.walk_type.new.rows.places.items) (length c.walk_under.new.rows.places.items) c.in_ok-place.place.0 tree
+    c.name_of.ensures c.binder_count.ensures first.table second.table typed.table walked.table c.in_ok-fixed.ensures.table walked.names
+    (ap (λ v. length v.items) typed.binders ∙ second.binders ∙ ap (λ m. m + 1) first.binders ∙ two_more)
+    same_places
+    (walked.places ∙ ap (λ m. behind m tree) same_places)
+    (walked.place ∙ ap (λ m. root m tree) same_places)
+    (sym (length-map old.binders.items text_binder))

@@ -1,0 +1,75 @@
+//! From commands to scopes.
+ghost use Rattle.std.specs.Prelude.{◌≡◌, map, IfOk, OnOk};
+ghost use Rattle.lam_syntax.specs.Views.{command_of};
+ghost use Rattle.lam_scope.specs.Tables.{table, tokens_by};
+ghost use Rattle.lam_scope.specs.TableViews.{text_use, rows_of, span_lists, noted, empty_lists};
+ghost use Rattle.lam_scope.specs.Views.{AreScopesOf};
+
+use crate::rows::{Rows, Spans, UseRow};
+use crate::scopes::Scopes;
+use crate::seen::Seen;
+use crate::walk::walk_command;
+use lam_syntax::Command;
+use std::alloc::{AllocError, Global};
+
+/// What the names and type names of these commands are bound to.
+pub fn bind(alloc: Global, commands: &[Command]) -> Result<Scopes, AllocError>
+    ensures { IfOk result (λ s. AreScopesOf s (map command_of commands.now)) }
+{
+    let rows = walk_commands(alloc, commands)?;
+    let tokens = group_tokens(alloc, rows.binders.len(), &rows.uses)?;
+    Ok(Scopes { rows, tokens })
+}
+
+#[tactic(auto, using(crate::proofs::TableRows::walks))]
+fn walk_commands(alloc: Global, commands: &[Command]) -> Result<Rows, AllocError>
+    ensures { IfOk result (λ rows. rows_of rows ≡ table (map command_of commands.now)) }
+{
+    let mut rows = Rows::new(alloc);
+    let mut types = Seen::new(alloc);
+    let mut names = Seen::new(alloc);
+    for i in 0..commands.len() {
+        let command = &commands[i];
+        walk_command(alloc, &mut rows, &mut types, &mut names, i, command)?;
+    }
+    Ok(rows)
+}
+
+/// The tokens of the uses of each of so many binders, in the order of the text.
+#[tactic(auto, using(crate::proofs::Grouping::grouping))]
+fn group_tokens(alloc: Global, binders: usize, uses: &[UseRow]) -> Result<Vec<Spans>, AllocError>
+    ensures { IfOk result (λ lists. span_lists lists.items ≡ tokens_by 0 binders (map text_use uses.now)) }
+{
+    let mut lists = empty_lists(alloc, binders)?;
+    for i in 0..uses.len() {
+        let used = &uses[i];
+        note_use(&mut lists, used)?;
+    }
+    Ok(lists)
+}
+
+#[tactic(auto, using(crate::proofs::Grouping::grouping))]
+fn empty_lists(alloc: Global, count: usize) -> Result<Vec<Spans>, AllocError>
+    ensures { IfOk result (λ lists. span_lists lists.items ≡ empty_lists count) }
+{
+    let mut lists = Vec::new(alloc);
+    for _ in 0..count {
+        let items = Vec::new(alloc);
+        lists.push(Spans { items })?;
+    }
+    Ok(lists)
+}
+
+/// Puts the token of a use behind those of its binder.
+#[tactic(auto, using(crate::proofs::Grouping::grouping))]
+fn note_use(lists: &mut Vec<Spans>, used: &UseRow) -> Result<(), AllocError>
+    ensures { OnOk result (span_lists lists.new.items ≡ noted (text_use used.now) (span_lists lists.old.items)) }
+{
+    let Some(binder) = used.binder else {
+        return Ok(());
+    };
+    if binder.0 < lists.len() {
+        lists[binder.0].items.push(used.token)?;
+    }
+    Ok(())
+}

@@ -1,0 +1,413 @@
+//! The walk over terms that binding makes: the binders and the uses in the order of the text, the places each behind
+//! its immediate terms.
+ghost use Rattle.std.specs.Prelude.{◌≡◌, ◌∷◌, [], ◌+◌, ◌<◌, length, map, true, Some, IfOk, OnOk, string_bytes};
+ghost use Rattle.std.specs.Option.{option_map};
+ghost use Rattle.lam_syntax.specs.Trees.{lambda};
+ghost use Rattle.lam_syntax.specs.Views.{bound_of, type_of, type_fields_of, term_of, term_node_of, fields_of, command_of};
+ghost use Rattle.lam_scope.specs.Tables.{◌⊕◌, entry, binder_row, place_row, lambda_at, term_at, root, behind, roots, roots_of_fields, binders_in, binders_in_node, binders_in_fields, below_node, below_fields, type_uses, field_uses, term_table, node_table, letrec_rows, fields_table, command_table, types_seen_after, names_seen_after, binders_in_command, places_in_command};
+ghost use Rattle.lam_scope.specs.TableViews.{place_number, rows_of, entry_of, with_origin};
+
+use crate::names::name_of;
+use crate::numbers::{Binder, Origin, Place};
+use crate::rows::Rows;
+use crate::seen::{Seen, SeenBinder};
+use lam_syntax::{
+    Binder as BoundName, Command, Identifier, Tm, TmField, TmNode, TyField, TyNode, WrittenTy,
+};
+use lam_token::Span;
+use std::alloc::{AllocError, Global};
+
+/// Adds the uses of type names in a written type.
+#[cycle(types)]
+#[tactic(auto, using(crate::proofs::TableRows::walks))]
+pub(crate) fn walk_type(
+    alloc: Global,
+    rows: &mut Rows,
+    types: &Seen<'_>,
+    ty: &WrittenTy,
+) -> Result<(), AllocError>
+    ensures table { OnOk result (rows_of rows.new ≡ rows_of rows.old ⊕ type_uses types.now (type_of ty.now)) }
+    ensures binders { rows.new.binders ≡ rows.old.binders }
+    ensures places { rows.new.places ≡ rows.old.places }
+{
+    match &*ty.node {
+        TyNode::Bool => Ok(()),
+        TyNode::Nat => Ok(()),
+        TyNode::Unit => Ok(()),
+        TyNode::Top => Ok(()),
+        TyNode::Named(name) => rows.add_use(name, types),
+        TyNode::Arrow(parameter, outcome) => {
+            walk_type(alloc, rows, types, parameter)?;
+            walk_type(alloc, rows, types, outcome)
+        }
+        TyNode::Record(fields) => walk_type_fields(alloc, rows, types, fields),
+    }
+}
+
+#[cycle(types)]
+#[tactic(auto, using(crate::proofs::TableRows::walks))]
+fn walk_type_fields(
+    alloc: Global,
+    rows: &mut Rows,
+    types: &Seen<'_>,
+    fields: &[TyField],
+) -> Result<(), AllocError>
+    ensures table { OnOk result (rows_of rows.new ≡ rows_of rows.old ⊕ field_uses types.now (type_fields_of fields.now)) }
+    ensures binders { rows.new.binders ≡ rows.old.binders }
+    ensures places { rows.new.places ≡ rows.old.places }
+{
+    for i in 0..fields.len() {
+        let field = &fields[i];
+        walk_type(alloc, rows, types, &field.ty)?;
+    }
+    Ok(())
+}
+
+/// Adds the rows of a term, and answers its place.
+#[cycle(terms)]
+#[tactic(auto, using(crate::proofs::TableRows::walks))]
+pub(crate) fn walk_term<'a>(
+    alloc: Global,
+    rows: &mut Rows,
+    types: &Seen<'_>,
+    names: &mut Seen<'a>,
+    term: &'a Tm,
+) -> Result<Place, AllocError>
+    ensures table { OnOk result (rows_of rows.new ≡ rows_of rows.old ⊕ term_table types.now names.old (length rows.old.binders.items) (length rows.old.places.items) (term_of term.now)) }
+    ensures place { IfOk result (λ p. p.0 ≡ root (length rows.old.places.items) (term_of term.now)) }
+    ensures binders { OnOk result (length rows.new.binders.items ≡ length rows.old.binders.items + binders_in (term_of term.now)) }
+    ensures places { OnOk result (length rows.new.places.items ≡ behind (length rows.old.places.items) (term_of term.now)) }
+    ensures names { OnOk result (names.new ≡ names.old) }
+{
+    let terms = walk_node(alloc, rows, types, names, &term.node)?;
+    rows.add_place(term.span, false, terms, names)
+}
+
+/// Adds the rows of a term but for its own place, and answers the places of its immediate terms.
+#[cycle(terms)]
+#[tactic(auto, using(crate::proofs::TableRows::walks))]
+fn walk_node<'a>(
+    alloc: Global,
+    rows: &mut Rows,
+    types: &Seen<'_>,
+    names: &mut Seen<'a>,
+    node: &'a TmNode,
+) -> Result<Vec<Place>, AllocError>
+    ensures table { OnOk result (rows_of rows.new ≡ rows_of rows.old ⊕ node_table types.now names.old (length rows.old.binders.items) (length rows.old.places.items) (term_node_of node.now)) }
+    ensures terms { IfOk result (λ ps. map place_number ps.items ≡ roots (length rows.old.places.items) (term_node_of node.now)) }
+    ensures binders { OnOk result (length rows.new.binders.items ≡ length rows.old.binders.items + binders_in_node (term_node_of node.now)) }
+    ensures places { OnOk result (length rows.new.places.items ≡ length rows.old.places.items + below_node (term_node_of node.now)) }
+    ensures names { OnOk result (names.new ≡ names.old) }
+{
+    match node {
+        TmNode::True => Ok(Vec::new(alloc)),
+        TmNode::False => Ok(Vec::new(alloc)),
+        TmNode::Unit => Ok(Vec::new(alloc)),
+        TmNode::Numeral(_) => Ok(Vec::new(alloc)),
+        TmNode::Variable(name) => {
+            rows.add_use(name, names)?;
+            Ok(Vec::new(alloc))
+        }
+        TmNode::Lambda(binder, ty, body) => {
+            let place = walk_lambda(alloc, rows, types, names, body, binder, ty)?;
+            listed(alloc, &[place])
+        }
+        TmNode::If(condition, one, other) => {
+            let first = walk_term(alloc, rows, types, names, condition)?;
+            let second = walk_term(alloc, rows, types, names, one)?;
+            let third = walk_term(alloc, rows, types, names, other)?;
+            listed(alloc, &[first, second, third])
+        }
+        TmNode::Let(binder, bound, body) => {
+            let seen = seen_as(binder, rows.binder_count());
+            let first = walk_bound(alloc, rows, types, names, bound, seen.name, binder.span)?;
+            let second = walk_under(alloc, rows, types, names, body, seen)?;
+            listed(alloc, &[first, second])
+        }
+        TmNode::Letrec(binder, ty, bound, body) => {
+            let seen = seen_as(binder, rows.binder_count() + 1);
+            let first = walk_letrec(alloc, rows, types, names, bound, binder, ty)?;
+            let second = walk_under(alloc, rows, types, names, body, seen)?;
+            listed(alloc, &[first, second])
+        }
+        TmNode::Prefixed(_, operand) => {
+            let place = walk_term(alloc, rows, types, names, operand)?;
+            listed(alloc, &[place])
+        }
+        TmNode::Apply(function, argument) => {
+            let first = walk_term(alloc, rows, types, names, function)?;
+            let second = walk_term(alloc, rows, types, names, argument)?;
+            listed(alloc, &[first, second])
+        }
+        TmNode::Project(operand, _) => {
+            let place = walk_term(alloc, rows, types, names, operand)?;
+            listed(alloc, &[place])
+        }
+        TmNode::Ascribe(operand, ty) => {
+            let place = walk_term(alloc, rows, types, names, operand)?;
+            walk_type(alloc, rows, types, ty)?;
+            listed(alloc, &[place])
+        }
+        TmNode::Record(fields) => walk_fields(alloc, rows, types, names, fields),
+    }
+}
+
+#[cycle(terms)]
+#[tactic(auto, using(crate::proofs::TableRows::walks))]
+fn walk_fields<'a>(
+    alloc: Global,
+    rows: &mut Rows,
+    types: &Seen<'_>,
+    names: &mut Seen<'a>,
+    fields: &'a [TmField],
+) -> Result<Vec<Place>, AllocError>
+    ensures table { OnOk result (rows_of rows.new ≡ rows_of rows.old ⊕ fields_table types.now names.old (length rows.old.binders.items) (length rows.old.places.items) (fields_of fields.now)) }
+    ensures terms { IfOk result (λ ps. map place_number ps.items ≡ roots_of_fields (length rows.old.places.items) (fields_of fields.now)) }
+    ensures binders { OnOk result (length rows.new.binders.items ≡ length rows.old.binders.items + binders_in_fields (fields_of fields.now)) }
+    ensures places { OnOk result (length rows.new.places.items ≡ length rows.old.places.items + below_fields (fields_of fields.now)) }
+    ensures names { OnOk result (names.new ≡ names.old) }
+{
+    let mut terms = Vec::new(alloc);
+    for i in 0..fields.len() {
+        let field = &fields[i];
+        let place = walk_term(alloc, rows, types, names, &field.term)?;
+        terms.push(place)?;
+    }
+    Ok(terms)
+}
+
+/// The term under one more binder.
+#[cycle(terms)]
+#[tactic(auto, using(crate::proofs::TableRows::walks))]
+fn walk_under<'a>(
+    alloc: Global,
+    rows: &mut Rows,
+    types: &Seen<'_>,
+    names: &mut Seen<'a>,
+    body: &'a Tm,
+    seen: SeenBinder<'a>,
+) -> Result<Place, AllocError>
+    ensures table { OnOk result (rows_of rows.new ≡ rows_of rows.old ⊕ term_table types.now (entry_of seen.entry ∷ names.old) (length rows.old.binders.items) (length rows.old.places.items) (term_of body.now)) }
+    ensures place { IfOk result (λ p. p.0 ≡ root (length rows.old.places.items) (term_of body.now)) }
+    ensures binders { OnOk result (length rows.new.binders.items ≡ length rows.old.binders.items + binders_in (term_of body.now)) }
+    ensures places { OnOk result (length rows.new.places.items ≡ behind (length rows.old.places.items) (term_of body.now)) }
+    ensures names { OnOk result (names.new ≡ names.old) }
+{
+    names.enter(seen)?;
+    let place = walk_term(alloc, rows, types, names, body)?;
+    names.leave();
+    Ok(place)
+}
+
+/// A binder of the name, and the term that it takes its type from.
+#[cycle(terms)]
+#[tactic(auto, using(crate::proofs::TableRows::walks))]
+fn walk_bound<'a>(
+    alloc: Global,
+    rows: &mut Rows,
+    types: &Seen<'_>,
+    names: &mut Seen<'a>,
+    bound: &'a Tm,
+    name: Option<&str>,
+    token: Span,
+) -> Result<Place, AllocError>
+    ensures table { OnOk result (rows_of rows.new ≡ rows_of rows.old ⊕ (binder_row (option_map (λ x. x.now) name.entry) token names.old (length rows.old.binders.items) (term_at (root (length rows.old.places.items) (term_of bound.now))) ⊕ term_table types.now names.old (length rows.old.binders.items + 1) (length rows.old.places.items) (term_of bound.now))) }
+    ensures place { IfOk result (λ p. p.0 ≡ root (length rows.old.places.items) (term_of bound.now)) }
+    ensures binders { OnOk result (length rows.new.binders.items ≡ length rows.old.binders.items + 1 + binders_in (term_of bound.now)) }
+    ensures places { OnOk result (length rows.new.places.items ≡ behind (length rows.old.places.items) (term_of bound.now)) }
+    ensures names { OnOk result (names.new ≡ names.old) }
+{
+    let number = Binder(rows.binder_count());
+    rows.add_binder(alloc, name, token, names, number, Origin::TypeName)?;
+    let place = walk_term(alloc, rows, types, names, bound)?;
+    rows.set_origin(number, Origin::Term(place));
+    Ok(place)
+}
+
+/// A lambda's binder, its type and its body.
+#[cycle(terms)]
+#[tactic(auto, using(crate::proofs::TableRows::walks))]
+fn walk_lambda<'a>(
+    alloc: Global,
+    rows: &mut Rows,
+    types: &Seen<'_>,
+    names: &mut Seen<'a>,
+    body: &'a Tm,
+    binder: &'a BoundName,
+    ty: &'a WrittenTy,
+) -> Result<Place, AllocError>
+    ensures table { OnOk result (rows_of rows.new ≡ rows_of rows.old ⊕ node_table types.now names.old (length rows.old.binders.items) (length rows.old.places.items) (lambda (bound_of binder.now) (type_of ty.now) (term_of body.now))) }
+    ensures place { IfOk result (λ p. p.0 ≡ root (length rows.old.places.items) (term_of body.now)) }
+    ensures binders { OnOk result (length rows.new.binders.items ≡ length rows.old.binders.items + (1 + binders_in (term_of body.now))) }
+    ensures places { OnOk result (length rows.new.places.items ≡ behind (length rows.old.places.items) (term_of body.now)) }
+    ensures names { OnOk result (names.new ≡ names.old) }
+{
+    let number = Binder(rows.binder_count());
+    let seen = seen_as(binder, number.0);
+    rows.add_binder(
+        alloc,
+        seen.name,
+        binder.span,
+        names,
+        number,
+        Origin::TypeName,
+    )?;
+    walk_type(alloc, rows, types, ty)?;
+    let place = walk_under(alloc, rows, types, names, body, seen)?;
+    rows.set_origin(number, Origin::Lambda(Place(rows.place_count())));
+    Ok(place)
+}
+
+/// The token of a letrec is the binder of the derived lambda, and then of the let. The lambda and its fix are places of
+/// their own, behind those of the first term.
+#[cycle(terms)]
+#[tactic(auto, using(crate::proofs::TableRows::walks))]
+fn walk_letrec<'a>(
+    alloc: Global,
+    rows: &mut Rows,
+    types: &Seen<'_>,
+    names: &mut Seen<'a>,
+    bound: &'a Tm,
+    binder: &'a BoundName,
+    ty: &'a WrittenTy,
+) -> Result<Place, AllocError>
+    ensures table { OnOk result (rows_of rows.new ≡ rows_of rows.old ⊕ letrec_rows (option_map (λ s. string_bytes s) binder.now.name) binder.now.span names.old (length rows.old.binders.items) (root (length rows.old.places.items) (term_of bound.now)) bound.now.span (type_uses types.now (type_of ty.now)) (term_table types.now (entry (option_map (λ s. string_bytes s) binder.now.name) (length rows.old.binders.items) (length rows.old.binders.items + 1) ∷ names.old) (length rows.old.binders.items + 2) (length rows.old.places.items) (term_of bound.now))) }
+    ensures place { IfOk result (λ p. p.0 ≡ root (length rows.old.places.items) (term_of bound.now) + 2) }
+    ensures binders { OnOk result (length rows.new.binders.items ≡ length rows.old.binders.items + 2 + binders_in (term_of bound.now)) }
+    ensures places { OnOk result (length rows.new.places.items ≡ root (length rows.old.places.items) (term_of bound.now) + 3) }
+    ensures names { OnOk result (names.new ≡ names.old) }
+{
+    let of_lambda = Binder(rows.binder_count());
+    let of_let = Binder(of_lambda.0 + 1);
+    let seen = SeenBinder {
+        name: name_of(binder),
+        number: of_lambda,
+        answer: of_let,
+    };
+    rows.add_binder(
+        alloc,
+        seen.name,
+        binder.span,
+        names,
+        of_let,
+        Origin::TypeName,
+    )?;
+    rows.add_binder(
+        alloc,
+        seen.name,
+        binder.span,
+        names,
+        of_let,
+        Origin::TypeName,
+    )?;
+    walk_type(alloc, rows, types, ty)?;
+    let place = walk_under(alloc, rows, types, names, bound, seen)?;
+    let fixed = add_derived(alloc, rows, names, bound.span, place, of_lambda, of_let)?;
+    Ok(fixed)
+}
+
+/// The derived lambda and fix of a letrec, whose first term is at that place.
+#[tactic(auto, using(crate::proofs::TableRows::walks))]
+fn add_derived(
+    alloc: Global,
+    rows: &mut Rows,
+    names: &Seen<'_>,
+    span: Span,
+    bound: Place,
+    of_lambda: Binder,
+    of_let: Binder,
+) -> Result<Place, AllocError>
+    requires lambda { of_lambda.0 < length rows.old.binders.items }
+    requires own { of_let.0 < length rows.old.binders.items }
+    ensures table { OnOk result (rows_of rows.new ≡ with_origin of_let.0 (term_at (length rows.old.places.items + 1)) (with_origin of_lambda.0 (lambda_at (length rows.old.places.items)) (rows_of rows.old ⊕ place_row span true (bound.0 ∷ []) names.now ⊕ place_row span true (length rows.old.places.items ∷ []) names.now))) }
+    ensures place { IfOk result (λ p. p.0 ≡ length rows.old.places.items + 1) }
+    ensures binders { OnOk result (length rows.new.binders.items ≡ length rows.old.binders.items) }
+    ensures places { OnOk result (length rows.new.places.items ≡ length rows.old.places.items + 2) }
+{
+    let terms_of_lambda = listed(alloc, &[bound])?;
+    let function = rows.add_place(span, true, terms_of_lambda, names)?;
+    let terms_of_fix = listed(alloc, &[function])?;
+    let fixed = rows.add_place(span, true, terms_of_fix, names)?;
+    rows.set_origin(of_lambda, Origin::Lambda(function));
+    rows.set_origin(of_let, Origin::Term(fixed));
+    Ok(fixed)
+}
+
+/// A binder as the terms under it see it.
+fn seen_as<'a>(binder: &'a BoundName, number: usize) -> SeenBinder<'a>
+    ensures entry { entry_of result ≡ entry (option_map (λ s. string_bytes s) binder.now.name) number number }
+    ensures name { option_map (λ x. x.now) result.name ≡ option_map (λ s. string_bytes s) binder.now.name }
+{
+    SeenBinder {
+        name: name_of(binder),
+        number: Binder(number),
+        answer: Binder(number),
+    }
+}
+
+fn listed(alloc: Global, places: &[Place]) -> Result<Vec<Place>, AllocError>
+    ensures { IfOk result (λ ps. ps.items ≡ places.now) }
+{
+    Vec::from_slice(alloc, places)
+}
+
+/// Adds the rows of a command, of that number. Those behind it then see what it binds.
+#[tactic(auto, using(crate::proofs::TableRows::walks))]
+pub(crate) fn walk_command<'a>(
+    alloc: Global,
+    rows: &mut Rows,
+    types: &mut Seen<'a>,
+    names: &mut Seen<'a>,
+    number: usize,
+    command: &'a Command,
+) -> Result<(), AllocError>
+    ensures table { OnOk result (rows_of rows.new ≡ rows_of rows.old ⊕ command_table types.old names.old (length rows.old.binders.items) (length rows.old.places.items) number (command_of command.now)) }
+    ensures types { OnOk result (types.new ≡ types_seen_after (length rows.old.binders.items) types.old (command_of command.now)) }
+    ensures names { OnOk result (names.new ≡ names_seen_after (length rows.old.binders.items) names.old (command_of command.now)) }
+    ensures binders { OnOk result (length rows.new.binders.items ≡ length rows.old.binders.items + binders_in_command (command_of command.now)) }
+    ensures places { OnOk result (length rows.new.places.items ≡ length rows.old.places.items + places_in_command (command_of command.now)) }
+{
+    let own = Binder(rows.binder_count());
+    match command {
+        Command::Definition(name, term) => {
+            let seen = named(name, own);
+            walk_bound(alloc, rows, types, names, term, seen.name, name.span)?;
+            names.enter(seen)
+        }
+        Command::Declaration(name, ty) => {
+            let seen = named(name, own);
+            rows.add_binder(
+                alloc,
+                seen.name,
+                name.span,
+                names,
+                own,
+                Origin::Declaration(number),
+            )?;
+            walk_type(alloc, rows, types, ty)?;
+            names.enter(seen)
+        }
+        Command::Abbreviation(name, ty) => {
+            let seen = named(name, own);
+            rows.add_binder(alloc, seen.name, name.span, types, own, Origin::TypeName)?;
+            walk_type(alloc, rows, types, ty)?;
+            types.enter(seen)
+        }
+        Command::Evaluation(term) => {
+            walk_term(alloc, rows, types, names, term)?;
+            Ok(())
+        }
+    }
+}
+
+/// The binder of a command, as those behind it see it.
+fn named<'a>(name: &'a Identifier, own: Binder) -> SeenBinder<'a>
+    ensures entry { entry_of result ≡ entry (Some (string_bytes name.now.text)) own.0 own.0 }
+    ensures name { option_map (λ x. x.now) result.name ≡ Some (string_bytes name.now.text) }
+{
+    SeenBinder {
+        name: Some(name.text.as_str()),
+        number: own,
+        answer: own,
+    }
+}
