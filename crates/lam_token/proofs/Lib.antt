@@ -2,3 +2,4 @@ pub mod Reading
 pub mod Shapes
 pub mod Segments
 pub mod Cuts
+pub mod Comments

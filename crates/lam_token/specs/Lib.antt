@@ -1,4 +1,5 @@
 pub mod Lexeme
 pub mod Shape
+pub mod Comment
 pub mod Cut
 pub mod Reading

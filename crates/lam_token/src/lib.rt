@@ -8,6 +8,7 @@
 
 mod characters;
 mod kind;
+mod laws;
 mod lexer;
 mod scan;
 mod span;
@@ -16,6 +17,7 @@ mod tests;
 mod token;
 
 pub use kind::Kind;
+pub use laws::comments_nest;
 pub use lexer::{is_name, is_type_name, lex};
 pub use span::Span;
 pub use token::Token;
