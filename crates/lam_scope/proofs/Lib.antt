@@ -10,3 +10,4 @@ pub mod PlaceTerms
 pub mod TableRows
 pub mod Grouping
 pub mod Reading
+pub mod PlaceCounts

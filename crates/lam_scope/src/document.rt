@@ -1,7 +1,8 @@
 //! From commands to their nameless forms.
-ghost use Rattle.std.specs.Prelude.{◌≡◌, ◌++◌, [], map, IfOk};
+ghost use Rattle.std.specs.Prelude.{◌≡◌, [], length, map, IfOk};
 ghost use Rattle.lam_syntax.specs.Views.{command_of};
 ghost use Rattle.lam_scope.specs.Nameless.{statements, faults, first_too_large};
+ghost use Rattle.lam_scope.specs.Places.{places_of};
 ghost use Rattle.lam_scope.specs.Tables.{table};
 ghost use Rattle.lam_scope.specs.WellFormed.{AreWellFormedStatements};
 ghost use Rattle.lam_scope.specs.Views.{statement_of, statements_of, origins_of, faults_of, AreScopesOf, IsLimit};
@@ -23,6 +24,7 @@ pub fn resolve(alloc: Global, commands: &[Command], scopes: &Scopes) -> Result<R
     ensures statements { IfOk result (λ r. statements_of r ≡ statements [] [] (map command_of commands.now)) }
     ensures origins { IfOk result (λ r. origins_of r ≡ map (λ b. b.origin) (table (map command_of commands.now)).binders) }
     ensures faults { IfOk result (λ r. faults_of r ≡ faults [] (map command_of commands.now)) }
+    ensures places { IfOk result (λ r. length (places_of [] (statements_of r)) ≡ length (table (map command_of commands.now)).places) }
     ensures well_formed { IfOk result (λ r. AreWellFormedStatements (statements_of r)) }
     ensures limit { IsLimit (first_too_large [] (map command_of commands.now)) result }
 {

@@ -1,4 +1,7 @@
-use Rattle.std.proofs.Common.{sym, ◌∙◌, ap, map}
+use Rattle.std.proofs.Common.{sym, ◌∙◌, ap, map, length, []}
+use Rattle.lam_syntax.specs.Views.{command_of}
+use Rattle.lam_scope.specs.Places.{places_of}
+use Rattle.lam_scope.proofs.PlaceCounts.{as_many_places}
 use Rattle.lam_scope.proofs.Resolving.{origins-rows}
 use Rattle.lam_scope.proofs.document.resolve.Goals as goal
 
@@ -8,3 +11,7 @@ returns-clause-origins c =
     ∙ ap (map (λ r. r.origin)) c.deref.ensures.value
     ∙ sym (origins-rows c.args.scopes.now.rows.binders.items)
     ∙ ap (λ t. map (λ b. b.origin) t.binders) c.requires.same_table
+
+pub returns-clause-places : goal.returns-clause-places
+returns-clause-places c =
+    ap (λ ss. length (places_of [] ss)) c.in_ok-resolver.ensures.statements ∙ as_many_places (map command_of c.args.commands.now)
