@@ -4,11 +4,11 @@ use Rattle.lam_rules.specs.Types.{Label, Typ, bool, nat, arrow, record_of, Field
 use Rattle.lam_rules.specs.Terms.{Term, true_term, false_term, if_then_else, numeral, succ, pred, is_zero, variable, free, lambda, apply, unit_term, ascribe, let_in, record_term, project, fix, TermFields, no_terms, term_field}
 use Rattle.lam_rules.specs.Typing.{Context}
 use Rattle.lam_rules.specs.declared.rules.Dialect.{Dialect}
-use Rattle.lam_typing.specs.Places.{Binding, written, of_term, Scope, Place, places, places_in, Statement, defines, declares, abbreviates, states, places_of}
+use Rattle.lam_scope.specs.Places.{Binding, written, of_term, Scope, Place, places, places_in, Statement, defines, declares, abbreviates, states, places_of}
 use Rattle.lam_typing.specs.Contexts.{Fits, IsContext}
 use Rattle.lam_typing.specs.LeastTypes.{IsTyped}
 use Rattle.lam_typing.specs.Blaming.{ArePartsTyped, AreFieldsTyped, IsExcused, HasNoType, IsBlamed}
-use Rattle.lam_typing.specs.WellFormed.{IsWellFormedTerm, AreWellFormedTerms, IsWellFormedScope, AreWellFormedStatements}
+use Rattle.lam_scope.specs.WellFormed.{IsWellFormedTerm, AreWellFormedTerms, IsWellFormedScope, AreWellFormedStatements}
 use Rattle.lam_typing.specs.WellTyped.{HasExpansion, HasExpansions, HaveExpansions, IsExpanded, AreTyped, AreUnblamed, IsTypedWhereUnblamed}
 use Rattle.lam_typing.proofs.Derivations.{Derives, FieldsDerive, derives, has_type, none_derive, more_derive}
 use Rattle.lam_typing.proofs.Inversions.{of_succ, of_pred, of_is_zero, of_if, of_lambda, of_faulty_lambda, of_apply, of_ascribe, of_faulty_ascribe, of_let, of_record, of_project, of_fix, of_more}

@@ -5,8 +5,8 @@ use Rattle.lam_rules.specs.Terms.{Term, true_term, false_term, if_then_else, num
 use Rattle.lam_rules.specs.Subtyping.{IsBelow}
 use Rattle.lam_rules.specs.Typing.{Context, IsWellFormedEntry, IsWellFormedContext}
 use Rattle.lam_rules.specs.declared.rules.Dialect.{Dialect}
-use Rattle.lam_typing.specs.Places.{Binding, written, of_term, Scope}
-use Rattle.lam_typing.specs.WellFormed.{IsWellFormedTerm, AreWellFormedTerms, IsWellFormedBinding, IsWellFormedScope}
+use Rattle.lam_scope.specs.Places.{Binding, written, of_term, Scope}
+use Rattle.lam_scope.specs.WellFormed.{IsWellFormedTerm, AreWellFormedTerms, IsWellFormedBinding, IsWellFormedScope}
 use Rattle.lam_typing.specs.LeastTypes.{IsTyped, IsLeastAt}
 use Rattle.lam_rules.proofs.Permutations.{absent_not}
 use Rattle.lam_sub.proofs.LookUps.{label_or}

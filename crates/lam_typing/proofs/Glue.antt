@@ -14,18 +14,19 @@ use Rattle.lam_rules.specs.declared.terms.Core.{Core}
 use Rattle.lam_rules.specs.TermViews.{terms_of}
 use Rattle.lam_rules.specs.declared.table.TyNo.{TyNo}
 use Rattle.lam_rules.proofs.Tables.{keeps_same, keeps_trans, keeps_length, kept_number, below_more}
-use Rattle.lam_typing.specs.Places.{Binding, written, of_term, Scope, Place, places, places_in}
+use Rattle.lam_scope.specs.Places.{Binding, written, of_term, Scope, Place, places, places_in}
+use Rattle.lam_scope.specs.declared.numbers.Place.{Place as PlaceNumber}
 use Rattle.lam_typing.specs.LeastTypes.{IsLeastAt}
 use Rattle.lam_typing.specs.Blaming.{Blamed}
 use Rattle.lam_typing.specs.Answers.{answer, answers, StandsIn, AllStandIn, context_under}
 use Rattle.lam_typing.specs.Progress.{IsLowest, Progress, Went, WentOver, Cause, next_is_too_large, enough, StoppedIn, blame_step, IsApplicationCode, if_all, AreFieldsAt}
-use Rattle.lam_typing.specs.Walk.{blamed_of, blames_of, progress_of, entries_of, IsSoundWalk, Grows, WalkedOver, HasStoppedAmong, HasStopped, HasStoppedInFields, FieldsWalked, blame_at, Settles, StopsAt}
+use Rattle.lam_typing.specs.Walk.{blamed_of, blames_of, progress_of, entries_of, IsSoundWalk, Grows, WalkedOver, HasStoppedAmong, HasStopped, HasStoppedInFields, FieldsWalked, blame_at, Settles, StopsAt, IsUpTo, IsWithin}
 use Rattle.lam_typing.specs.Steps.{entry_at, NatRule, LambdaRule, ApplyRule, AscribeRule, LetRule, IfRule, FixRule, ProjectRule, MoreRule, RecordRule}
 use Rattle.lam_typing.specs.declared.walking.Walk.{Walk}
 use Rattle.lam_typing.specs.declared.blame.Blame.{Blame}
 use Rattle.lam_typing.specs.declared.walking.Stop.{Stop}
 use Rattle.lam_typing.proofs.Growing.{answer_keep, answers_keep, context_keep, answers-push, length-answers, length-context, context-push, stands_keep, all_stand_keep, all_stand_push, some_answer}
-use Rattle.lam_typing.proofs.Together.{went_none, went_both, stopped_front, stopped_behind, stopped_under, stopped_enough, IsReady, ready_went, ready_too_large}
+use Rattle.lam_typing.proofs.Together.{went_none, went_both, stopped_front, stopped_behind, stopped_under, IsReady, ready_went, ready_too_large, ready_enough}
 use Rattle.lam_typing.proofs.Forms.{free_ready, unbound_ready, variable_ready, succ_ready, pred_ready, is_zero_ready, fix_ready, project_ready, ascribe_ready, lambda_ready, let_ready, apply_ready, if_ready, record_ready, lowest_let}
 
 -- the same places, told otherwise
@@ -51,7 +52,7 @@ stopped_as g ps qs old now cause d same a = record {
 -- growth
 
 pub grows_trans : (a b c : Walk) → Grows a b → Grows b c → Grows a c
-grows_trans a b c p q = record { sound = q.sound; keeps = keeps_trans a.table b.table c.table p.keeps q.keeps; asked = q.asked ∙ p.asked }
+grows_trans a b c p q = record { sound = q.sound; keeps = keeps_trans a.table b.table c.table p.keeps q.keeps; last = q.last ∙ p.last }
 
 pub entries_same : (old now : Walk) → IsSoundWalk old → Keeps old.table now.table → now.entries.items ≡ old.entries.items → entries_of now ≡ entries_of old
 entries_same old now sound keeps same = ap (λ os. context_under now.table os) same ∙ context_keep old.table now.table old.entries.items keeps sound.entries
@@ -73,25 +74,25 @@ over_at w0 w1 t g e x d over same keeps =
 
 pub among_front : (stop : Stop) (g : Context) (ps qs : Scope → List Place) (old now : Walk) (d : Dialect)
     → HasStoppedAmong stop g ps old now d → HasStoppedAmong stop g (λ s. ps s ++ qs s) old now d
-among_front Stop.TooLarge g ps qs old now d h = stopped_front g ps qs (progress_of old) (progress_of now) next_is_too_large d h
+among_front Stop.TooLarge g ps qs old now d h = (stopped_front g ps qs (progress_of old) (progress_of now) next_is_too_large d h.0, h.1)
 among_front Stop.Enough g ps qs old now d h = (stopped_front g ps qs (progress_of old) (progress_of now) enough d h.0, h.1)
 among_front Stop.Memory g ps qs old now d h = tt
 
 pub among_behind : (stop : Stop) (g : Context) (ps qs : Scope → List Place) (old mid now : Walk) (d : Dialect)
     → Went g ps (progress_of old) (progress_of mid) d → HasStoppedAmong stop g qs mid now d → HasStoppedAmong stop g (λ s. ps s ++ qs s) old now d
-among_behind Stop.TooLarge g ps qs old mid now d went h = stopped_behind g ps qs (progress_of old) (progress_of mid) (progress_of now) next_is_too_large d went h
+among_behind Stop.TooLarge g ps qs old mid now d went h = (stopped_behind g ps qs (progress_of old) (progress_of mid) (progress_of now) next_is_too_large d went h.0, h.1)
 among_behind Stop.Enough g ps qs old mid now d went h = (stopped_behind g ps qs (progress_of old) (progress_of mid) (progress_of now) enough d went h.0, h.1)
 among_behind Stop.Memory g ps qs old mid now d went h = tt
 
 pub among_under : (stop : Stop) (b : Binding) (entry : Option Typ) (g : Context) (ps : Scope → List Place) (old now : Walk) (d : Dialect)
     → ((s : Scope) → IsLowest s g d → IsLowest (b ∷ s) (entry ∷ g) d) → HasStoppedAmong stop (entry ∷ g) ps old now d → HasStoppedAmong stop g (λ s. ps (b ∷ s)) old now d
-among_under Stop.TooLarge b entry g ps old now d lower h = stopped_under b entry g ps (progress_of old) (progress_of now) next_is_too_large d lower h
+among_under Stop.TooLarge b entry g ps old now d lower h = (stopped_under b entry g ps (progress_of old) (progress_of now) next_is_too_large d lower h.0, h.1)
 among_under Stop.Enough b entry g ps old now d lower h = (stopped_under b entry g ps (progress_of old) (progress_of now) enough d lower h.0, h.1)
 among_under Stop.Memory b entry g ps old now d lower h = tt
 
 pub among_from : (stop : Stop) (g h : Context) (ps : Scope → List Place) (old other now : Walk) (d : Dialect)
     → g ≡ h → progress_of old ≡ progress_of other → HasStoppedAmong stop g ps old now d → HasStoppedAmong stop h ps other now d
-among_from Stop.TooLarge g h ps old other now d same from stopped = rw (sym same, sym from) stopped
+among_from Stop.TooLarge g h ps old other now d same from stopped = (rw (sym same, sym from) stopped.0, stopped.1)
 among_from Stop.Enough g h ps old other now d same from stopped = (rw (sym same, sym from) stopped.0, stopped.1)
 among_from Stop.Memory g h ps old other now d same from stopped = tt
 
@@ -100,24 +101,25 @@ among_from Stop.Memory g h ps old other now d same from stopped = tt
 abbrev pub retabled : Walk → List Typ → Walk
 retabled w t = record w { table = t }
 
-sound_with : (w now : Walk) → IsSoundWalk w → Keeps w.table now.table → AllStandIn now.table now.entries.items → AllStandIn now.table now.found.items → now.leaves ≡ w.leaves → IsSoundWalk now
-sound_with w now sound keeps entries found same = record {
+sound_with : (w now : Walk) → IsSoundWalk w → Keeps w.table now.table → AllStandIn now.table now.entries.items → AllStandIn now.table now.found.items → IsWithin now.last (length now.found.items) → now.leaves ≡ w.leaves → IsSoundWalk now
+sound_with w now sound keeps entries found room same = record {
   entries = entries;
   found = found;
   boolean = subst (λ l. IsNumberOf now.table l.boolean bool) (sym same) (kept_number w.table now.table w.leaves.boolean bool keeps sound.boolean);
   natural = subst (λ l. IsNumberOf now.table l.natural nat) (sym same) (kept_number w.table now.table w.leaves.natural nat keeps sound.natural);
   unit = subst (λ l. IsNumberOf now.table l.unit unit) (sym same) (kept_number w.table now.table w.leaves.unit unit keeps sound.unit);
+  room = room;
 }
 
 pub grows_same : (w : Walk) → IsSoundWalk w → Grows w w
-grows_same w sound = record { sound = sound; keeps = keeps_same w.table; asked = refl }
+grows_same w sound = record { sound = sound; keeps = keeps_same w.table; last = refl }
 
 pub retabled_grows : (w0 w : Walk) (t : List Typ) → Grows w0 w → Keeps w.table t → Grows w0 (record w { table = t })
 retabled_grows w0 w t grows keeps = record {
   sound = sound_with w (record w { table = t }) grows.sound keeps
-      (all_stand_keep w.table t w.entries.items keeps grows.sound.entries) (all_stand_keep w.table t w.found.items keeps grows.sound.found) refl;
+      (all_stand_keep w.table t w.entries.items keeps grows.sound.entries) (all_stand_keep w.table t w.found.items keeps grows.sound.found) grows.sound.room refl;
   keeps = keeps_trans w0.table w.table t grows.keeps keeps;
-  asked = grows.asked;
+  last = grows.last;
 }
 
 pub put_or_not : {A : Type 0} (b : Bool) (v xs ys : A) → v ≡ (if b then xs else ys) → (v ≡ xs) ⊎ (v ≡ ys)
@@ -127,9 +129,9 @@ put_or_not false v xs ys e = inr e
 pub pushed_grows : (w : Walk) (t : List Typ) (v : Vec (Option TyNo) Global) (o : Option TyNo) → IsSoundWalk w → Keeps w.table t
     → (v.items ≡ w.entries.items ++ o ∷ []) ⊎ (v.items ≡ w.entries.items) → StandsIn t o → Grows w (record w { table = t; entries = v })
 pushed_grows w t v o sound keeps put stands = record {
-  sound = sound_with w (record w { table = t; entries = v }) sound keeps (stand put) (all_stand_keep w.table t w.found.items keeps sound.found) refl;
+  sound = sound_with w (record w { table = t; entries = v }) sound keeps (stand put) (all_stand_keep w.table t w.found.items keeps sound.found) sound.room refl;
   keeps = keeps;
-  asked = refl;
+  last = refl;
 }
   where
     before : AllStandIn t w.entries.items
@@ -146,18 +148,28 @@ popped_grows w0 wp w t v first second keeps same sound =
     record {
       sound = sound_with w (record w { table = t; entries = v }) second.sound keeps
           (subst (λ os. AllStandIn t os) (sym same) (all_stand_keep w0.table t w0.entries.items all sound.entries))
-          (all_stand_keep w.table t w.found.items keeps second.sound.found) refl;
+          (all_stand_keep w.table t w.found.items keeps second.sound.found) second.sound.room refl;
       keeps = all;
-      asked = second.asked ∙ first.asked;
+      last = second.last ∙ first.last;
     }
 
+pub up_to_same : (last : Option PlaceNumber) (n m : ℕ) → n ≡ m → IsUpTo last n → IsUpTo last m
+up_to_same last n m same h = subst (λ k. IsUpTo last k) same h
+
+within_more : (last : Option PlaceNumber) (os : List (Option TyNo)) (o : Option TyNo) (now : List (Option TyNo)) → IsUpTo last (length os) → now ≡ os ++ o ∷ [] → IsWithin last (length now)
+within_more None os o now up_to put = tt
+within_more (Some last) os o now up_to put =
+    let longer = ap length put in
+    let count = length-append os (o ∷ []) in
+    omega (arith, longer, count, up_to)
+
 pub settle_grows : (w : Walk) (fs : Vec (Option TyNo) Global) (bs : Vec Blame Global) (found : Option TyNo) → IsSoundWalk w → StandsIn w.table found
-    → fs.items ≡ w.found.items ++ found ∷ [] → Grows w (record w { found = fs; blames = bs })
-settle_grows w fs bs found sound stands put = record {
+    → fs.items ≡ w.found.items ++ found ∷ [] → IsUpTo w.last (length w.found.items) → Grows w (record w { found = fs; blames = bs })
+settle_grows w fs bs found sound stands put up_to = record {
   sound = sound_with w (record w { found = fs; blames = bs }) sound (keeps_same w.table) sound.entries
-      (subst (λ os. AllStandIn w.table os) (sym put) (all_stand_push w.table w.found.items found sound.found stands)) refl;
+      (subst (λ os. AllStandIn w.table os) (sym put) (all_stand_push w.table w.found.items found sound.found stands)) (within_more w.last w.found.items found fs.items up_to put) refl;
   keeps = keeps_same w.table;
-  asked = refl;
+  last = refl;
 }
 
 pub blames_push : (bs : List Blame) (b : Blame) → blames_of (bs ++ b ∷ []) ≡ blames_of bs ++ blamed_of b ∷ []
@@ -318,12 +330,18 @@ pub settled_stop : (stop : Stop) (w0 mid now : Walk) (e : Term) (ps : Scope → 
     → StopsAt stop mid now found blame → HasStopped stop w0 now e d
 settled_stop Stop.Memory w0 mid now e ps found blame d split same stands ready stops = tt
 settled_stop Stop.Enough w0 mid now e ps found blame d split same stands ready stops =
-    (stopped_enough (entries_of w0) (λ s. places s e) (progress_of w0) (progress_of now) d (settled_over w0 mid now e ps found blame d split same stands ready stops.0).over.went, stops.1)
+    subst (λ w. HasStopped Stop.Enough w0 w e d) (sym stops.0) (
+      stopped_as (entries_of w0) (λ s. ps s ++ record { scope = s; here = e } ∷ []) (λ s. places s e) (progress_of w0) (progress_of mid) enough d split
+          (ready_enough (entries_of w0) e ps (progress_of w0) (progress_of mid) (answer mid.table found) (blame_at (length mid.found.items) blame) d ready),
+      stops.1,
+    )
 settled_stop Stop.TooLarge w0 mid now e ps None blame d split same stands ready stops = absurd stops.1
 settled_stop Stop.TooLarge w0 mid now e ps (Some number) blame d split same stands ready stops =
-    stopped_as (entries_of w0) (λ s. ps s ++ record { scope = s; here = e } ∷ []) (λ s. places s e) (progress_of w0) (progress_of now) next_is_too_large d split
-    (subst (λ w. StoppedIn (entries_of w0) (λ s. ps s ++ record { scope = s; here = e } ∷ []) (progress_of w0) (progress_of w) next_is_too_large d) (sym stops.0)
-    (ready_too_large (entries_of w0) e ps (progress_of w0) (progress_of mid) _ (blame_at (length mid.found.items) blame) d ready stops.1))
+    subst (λ w. HasStopped Stop.TooLarge w0 w e d) (sym stops.0) (
+      stopped_as (entries_of w0) (λ s. ps s ++ record { scope = s; here = e } ∷ []) (λ s. places s e) (progress_of w0) (progress_of mid) next_is_too_large d split
+          (ready_too_large (entries_of w0) e ps (progress_of w0) (progress_of mid) _ (blame_at (length mid.found.items) blame) d ready stops.1),
+      stops.2,
+    )
 
 -- what a step blames a term for, by the numbers
 abbrev pub Blames : Bool → Option TyNo → Text → Option (Bor Text) → Type 0

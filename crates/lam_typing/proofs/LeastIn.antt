@@ -6,10 +6,10 @@ use Rattle.lam_rules.specs.Subtyping.{IsBelow}
 use Rattle.lam_rules.specs.Typing.{Context, IsWellFormedEntry, IsWellFormedContext, HasType}
 use Rattle.lam_rules.specs.declared.rules.Dialect.{Dialect}
 use Rattle.lam_rules.proofs.Composing.{below_refl}
-use Rattle.lam_typing.specs.Places.{Binding, written, of_term, Scope}
+use Rattle.lam_scope.specs.Places.{Binding, written, of_term, Scope}
 use Rattle.lam_typing.specs.Contexts.{Fits, IsContext}
 use Rattle.lam_typing.specs.LeastTypes.{IsTypeAt, IsTyped, IsLeastAt}
-use Rattle.lam_typing.specs.WellFormed.{IsWellFormedBinding, IsWellFormedScope}
+use Rattle.lam_scope.specs.WellFormed.{IsWellFormedBinding, IsWellFormedScope}
 use Rattle.lam_typing.specs.Progress.{IsLowest}
 use Rattle.lam_typing.specs.Narrowing.{IsNarrowerEntry, IsNarrower}
 use Rattle.lam_typing.proofs.Derivations.{Derives, derives, has_type, derives_wf}

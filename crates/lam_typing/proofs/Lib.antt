@@ -14,3 +14,5 @@ pub mod Growing
 pub mod Glue
 pub mod StepRules
 pub mod Sizes
+pub mod Statements
+pub mod Finishing

@@ -4,11 +4,11 @@ use Rattle.lam_rules.specs.Types.{Typ, bool, nat, unit}
 use Rattle.lam_rules.specs.Terms.{Term, true_term, false_term, if_then_else, numeral, lambda, unit_term, let_in}
 use Rattle.lam_rules.specs.Typing.{Context}
 use Rattle.lam_rules.specs.declared.rules.Dialect.{Dialect}
-use Rattle.lam_typing.specs.Places.{written, of_term, Scope}
+use Rattle.lam_scope.specs.Places.{written, of_term, Scope}
 use Rattle.lam_typing.specs.Contexts.{IsContext}
 use Rattle.lam_typing.specs.LeastTypes.{IsTypeAt, IsTyped}
 use Rattle.lam_typing.specs.Blaming.{IsBlamed}
-use Rattle.lam_typing.specs.WellFormed.{IsWellFormedTerm, IsWellFormedScope}
+use Rattle.lam_scope.specs.WellFormed.{IsWellFormedTerm, IsWellFormedScope}
 use Rattle.lam_lattice.proofs.Existing.{joins_exist}
 use Rattle.lam_typing.proofs.Derivations.{Derives, t_true, t_false, t_num, t_unit, t_abs, t_let, t_if, t_sub, derives, has_type, derives_wf}
 use Rattle.lam_typing.proofs.Narrows.{narrow}

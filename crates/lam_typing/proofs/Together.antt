@@ -6,7 +6,7 @@ use Rattle.lam_rules.specs.Terms.{Term}
 use Rattle.lam_rules.specs.Texts.{Text}
 use Rattle.lam_rules.specs.Typing.{Context}
 use Rattle.lam_rules.specs.declared.rules.Dialect.{Dialect}
-use Rattle.lam_typing.specs.Places.{Binding, Scope, Place}
+use Rattle.lam_scope.specs.Places.{Binding, Scope, Place}
 use Rattle.lam_typing.specs.LeastTypes.{IsLeastAt}
 use Rattle.lam_typing.specs.Blaming.{ArePartsTyped, IsExcused, IsBlamed, IsBlamedFor, Blamed, AreBlamed}
 use Rattle.lam_typing.specs.Analysis.{AreLeast, IsSmall, AreSmall, IsTooLarge}
@@ -191,14 +191,20 @@ stopped_here g e t now d large least = record {
   };
 }
 
--- what was asked for is found
-pub stopped_enough : (g : Context) (ps : Scope → List Place) (old now : Progress) (d : Dialect) → Went g ps old now d → StoppedIn g ps old now enough d
-stopped_enough g ps old now d a = record {
-  found = a.found;
-  blames = a.blames;
-  found_is = a.found_is;
-  blames_are = a.blames_are;
-  shown = λ s low. record { front = ps s; rest = []; are = sym (append-nil (ps s)); shown = a.shown s low; next = tt };
+-- it lies behind what is asked for
+pub stopped_before : (g : Context) (e : Term) (now : Progress) (d : Dialect) → StoppedIn g (λ s. record { scope = s; here = e } ∷ []) now now enough d
+stopped_before g e now d = record {
+  found = [];
+  blames = [];
+  found_is = sym (append-nil now.found);
+  blames_are = sym (append-nil now.blames);
+  shown = λ s low. record {
+    front = [];
+    rest = record { scope = s; here = e } ∷ [];
+    are = refl;
+    shown = shown_none (length now.found) d;
+    next = tt;
+  };
 }
 
 -- a term that is not to blame
@@ -223,3 +229,8 @@ pub ready_too_large : (g : Context) (e : Term) (ps : Scope → List Place) (old 
     → StoppedIn g (λ s. ps s ++ record { scope = s; here = e } ∷ []) old mid next_is_too_large d
 ready_too_large g e ps old mid t blames d ready large =
     stopped_behind g ps (λ s. record { scope = s; here = e } ∷ []) old mid mid next_is_too_large d ready.went (stopped_here g e t mid d large ready.least)
+
+pub ready_enough : (g : Context) (e : Term) (ps : Scope → List Place) (old mid : Progress) (o : Option Typ) (blames : List Blamed) (d : Dialect)
+    → IsReady g e ps old mid o blames d → StoppedIn g (λ s. ps s ++ record { scope = s; here = e } ∷ []) old mid enough d
+ready_enough g e ps old mid o blames d ready =
+    stopped_behind g ps (λ s. record { scope = s; here = e } ∷ []) old mid mid enough d ready.went (stopped_before g e mid d)

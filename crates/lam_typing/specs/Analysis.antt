@@ -2,7 +2,7 @@
 use Rattle.std.specs.Prelude.{◌<◌, ◌≤◌, ℕ, zero, suc, List, [], ◌∷◌, Option, Some, None}
 use Rattle.lam_rules.specs.Types.{Typ, nodes}
 use Rattle.lam_rules.specs.declared.rules.Dialect.{Dialect}
-use Rattle.lam_typing.specs.Places.{Place}
+use Rattle.lam_scope.specs.Places.{Place}
 use Rattle.lam_typing.specs.LeastTypes.{IsLeastAt}
 
 -- for each place its least type, or none

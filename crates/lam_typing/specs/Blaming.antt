@@ -5,7 +5,7 @@ use Rattle.lam_rules.specs.Terms.{Term, true_term, false_term, if_then_else, num
 use Rattle.lam_rules.specs.Texts.{Text}
 use Rattle.lam_rules.specs.Typing.{Context}
 use Rattle.lam_rules.specs.declared.rules.Dialect.{Dialect}
-use Rattle.lam_typing.specs.Places.{written, of_term, Scope, Place}
+use Rattle.lam_scope.specs.Places.{written, of_term, Scope, Place}
 use Rattle.lam_typing.specs.Contexts.{IsContext}
 use Rattle.lam_typing.specs.LeastTypes.{IsTyped, IsLeastAt}
 

@@ -3,7 +3,7 @@ use Rattle.std.specs.Prelude.{◌≡◌, List, [], ◌∷◌, Option, Some, None
 use Rattle.lam_rules.specs.Types.{Typ}
 use Rattle.lam_rules.specs.Typing.{Context, HasType}
 use Rattle.lam_rules.specs.declared.rules.Dialect.{Dialect}
-use Rattle.lam_typing.specs.Places.{Binding, written, of_term, Scope}
+use Rattle.lam_scope.specs.Places.{Binding, written, of_term, Scope}
 
 -- An entry fits a binder: that of a written type is the type that this stands for, or none. That of a term is any type that
 -- the rules derive for the term in some context of the scope outside the binder, or none where they derive no type in any.

@@ -5,7 +5,7 @@ use Rattle.lam_rules.specs.Terms.{Term}
 use Rattle.lam_rules.specs.Subtyping.{IsBelow}
 use Rattle.lam_rules.specs.Typing.{Context, HasType}
 use Rattle.lam_rules.specs.declared.rules.Dialect.{Dialect}
-use Rattle.lam_typing.specs.Places.{Binding, written, of_term, Scope}
+use Rattle.lam_scope.specs.Places.{Binding, written, of_term, Scope}
 use Rattle.lam_typing.specs.Contexts.{IsContext}
 
 -- the rules derive the type for the term in some context of the scope

@@ -1,12 +1,11 @@
-pub mod Places
 pub mod Contexts
 pub mod LeastTypes
 pub mod Blaming
 pub mod Narrowing
-pub mod WellFormed
 pub mod WellTyped
 pub mod Analysis
 pub mod Progress
 pub mod Steps
 pub mod Answers
 pub mod Walk
+pub mod Typings

@@ -5,7 +5,7 @@ use Rattle.lam_rules.specs.Terms.{Term, TermFields, no_terms, term_field}
 use Rattle.lam_rules.specs.Texts.{Text}
 use Rattle.lam_rules.specs.Typing.{Context, IsWellFormedContext}
 use Rattle.lam_rules.specs.declared.rules.Dialect.{Dialect}
-use Rattle.lam_typing.specs.Places.{Scope, Place, places}
+use Rattle.lam_scope.specs.Places.{Scope, Place, places}
 use Rattle.lam_typing.specs.Contexts.{IsContext}
 use Rattle.lam_typing.specs.LeastTypes.{IsLeastAt}
 use Rattle.lam_typing.specs.Narrowing.{IsNarrower}

@@ -1,5 +1,5 @@
 -- What a `Walk` holds, and what the contracts of its steps say of it.
-use Rattle.std.specs.Prelude.{◌≡◌, ◌≤◌, ℕ, List, [], ◌∷◌, ◌++◌, length, Bool, Option, Some, None, String}
+use Rattle.std.specs.Prelude.{◌≡◌, ◌<◌, ◌≤◌, ℕ, ◌+◌, List, [], ◌∷◌, ◌++◌, length, Bool, Option, Some, None, String}
 use Rattle.std.specs.declared.alloc.Global.{Global}
 use denote.Ref.{Bor}
 use Rattle.lam_rules.specs.Types.{bool, nat, unit}
@@ -9,11 +9,12 @@ use Rattle.lam_rules.specs.Typing.{Context}
 use Rattle.lam_rules.specs.Numbers.{IsNumberOf, Keeps, AreBelow, fields_over}
 use Rattle.lam_rules.specs.declared.rules.Dialect.{Dialect}
 use Rattle.lam_rules.specs.declared.table.TyNo.{TyNo}
-use Rattle.lam_typing.specs.Places.{Scope, Place, places, places_in}
+use Rattle.lam_scope.specs.Places.{Scope, Place, places, places_in, Statement, places_of}
 use Rattle.lam_typing.specs.Blaming.{Blamed}
 use Rattle.lam_typing.specs.Analysis.{IsSmall}
 use Rattle.lam_typing.specs.Answers.{answer, answers, StandsIn, AllStandIn, context_under}
 use Rattle.lam_typing.specs.Progress.{IsLowest, Progress, Went, WentOver, next_is_too_large, enough, StoppedIn, AreFieldsAt, if_all, IsLarge}
+use Rattle.lam_scope.specs.declared.numbers.Place.{Place as PlaceNumber}
 use Rattle.lam_typing.specs.declared.blame.Blame.{Blame}
 use Rattle.lam_typing.specs.declared.walking.Walk.{Walk}
 use Rattle.lam_typing.specs.declared.walking.Stop.{Stop}
@@ -32,19 +33,34 @@ progress_of w = record { found = answers w.table w.found.items; blames = blames_
 abbrev pub entries_of : Walk → Context
 entries_of w = context_under w.table w.entries.items
 
--- its numbers are of its table
+-- a number of a place lies behind the last one that is asked for, or up to it
+abbrev pub IsBehind : Option PlaceNumber → ℕ → Type 0
+IsBehind None n = ⊥
+IsBehind (Some last) n = last.0 < n
+
+abbrev pub IsUpTo : Option PlaceNumber → ℕ → Type 0
+IsUpTo None n = Unit {0}
+IsUpTo (Some last) n = n ≤ last.0
+
+-- so many places may have been found
+abbrev pub IsWithin : Option PlaceNumber → ℕ → Type 0
+IsWithin None n = Unit {0}
+IsWithin (Some last) n = n ≤ last.0 + 1
+
+-- its numbers are of its table, and no more was found than was asked for
 pub record IsSoundWalk (w : Walk) : Type 0 where
   pub entries : AllStandIn w.table w.entries.items
   pub found : AllStandIn w.table w.found.items
   pub boolean : IsNumberOf w.table w.leaves.boolean bool
   pub natural : IsNumberOf w.table w.leaves.natural nat
   pub unit : IsNumberOf w.table w.leaves.unit unit
+  pub room : IsWithin w.last (length w.found.items)
 
 -- its table only grows, and it stays sound
 pub record Grows (old now : Walk) : Type 0 where
   pub sound : IsSoundWalk now
   pub keeps : Keeps old.table now.table
-  pub asked : now.asked ≡ old.asked
+  pub last : now.last ≡ old.last
 
 -- it went over a term of this type, and is under the same binders as before
 pub record WalkedOver (old now : Walk) (e : Term) (found : Option TyNo) (d : Dialect) : Type 0 where
@@ -54,8 +70,8 @@ pub record WalkedOver (old now : Walk) (e : Term) (found : Option TyNo) (d : Dia
 
 -- it stopped for want of memory, or as said above
 abbrev pub HasStoppedAmong : Stop → Context → (Scope → List Place) → Walk → Walk → Dialect → Type 0
-HasStoppedAmong Stop.TooLarge g ps old now d = StoppedIn g ps (progress_of old) (progress_of now) next_is_too_large d
-HasStoppedAmong Stop.Enough g ps old now d = StoppedIn g ps (progress_of old) (progress_of now) enough d × (now.asked ≤ length now.found.items)
+HasStoppedAmong Stop.TooLarge g ps old now d = StoppedIn g ps (progress_of old) (progress_of now) next_is_too_large d × IsUpTo now.last (length now.found.items)
+HasStoppedAmong Stop.Enough g ps old now d = StoppedIn g ps (progress_of old) (progress_of now) enough d × IsBehind now.last (length now.found.items)
 HasStoppedAmong Stop.Memory g ps old now d = Unit {0}
 
 abbrev pub HasStopped : Stop → Walk → Walk → Term → Dialect → Type 0
@@ -88,6 +104,17 @@ pub record Settles (old now : Walk) (found : Option TyNo) (blame : Option (Bor T
 
 -- it stopped at the next place
 abbrev pub StopsAt : Stop → Walk → Walk → Option TyNo → Option (Bor Text) → Type 0
-StopsAt Stop.TooLarge old now found blame = (now ≡ old) × IsLarge (answer old.table found)
-StopsAt Stop.Enough old now found blame = Settles old now found blame × (now.asked ≤ length now.found.items)
+StopsAt Stop.TooLarge old now found blame = (now ≡ old) × IsLarge (answer old.table found) × IsUpTo old.last (length old.found.items)
+StopsAt Stop.Enough old now found blame = (now ≡ old) × IsBehind old.last (length old.found.items)
 StopsAt Stop.Memory old now found blame = Unit {0}
+
+-- a statement is done: what is found of those that follow, or where the walk stops among them, is so of all
+pub record GoesOn (old now : Walk) (statement : Statement) (d : Dialect) : Type 0 where
+  pub went : (rest : List Statement) (end : Walk)
+      → Went (entries_of now) (λ s. places_of s rest) (progress_of now) (progress_of end) d → Went (entries_of old) (λ s. places_of s (statement ∷ rest)) (progress_of old) (progress_of end) d
+  pub stopped : (rest : List Statement) (stop : Stop) (end : Walk)
+      → HasStoppedAmong stop (entries_of now) (λ s. places_of s rest) now end d → HasStoppedAmong stop (entries_of old) (λ s. places_of s (statement ∷ rest)) old end d
+
+-- it stopped in a statement, whatever follows
+abbrev pub HasStoppedAt : Stop → Walk → Walk → Statement → Dialect → Type 0
+HasStoppedAt stop old now statement d = (rest : List Statement) → HasStoppedAmong stop (entries_of old) (λ s. places_of s (statement ∷ rest)) old now d

@@ -3,7 +3,7 @@ use Rattle.std.specs.Prelude.{◌↔◌, List, [], ◌∷◌, Option, Some, None
 use Rattle.lam_rules.specs.Types.{Typ}
 use Rattle.lam_rules.specs.Terms.{Term, true_term, false_term, if_then_else, numeral, succ, pred, is_zero, variable, free, lambda, apply, unit_term, ascribe, let_in, record_term, project, fix, TermFields, no_terms, term_field}
 use Rattle.lam_rules.specs.declared.rules.Dialect.{Dialect}
-use Rattle.lam_typing.specs.Places.{written, of_term, Scope, Place, Statement, defines, declares, abbreviates, states, places_of}
+use Rattle.lam_scope.specs.Places.{written, of_term, Scope, Place, Statement, defines, declares, abbreviates, states, places_of}
 use Rattle.lam_typing.specs.LeastTypes.{IsTyped}
 use Rattle.lam_typing.specs.Blaming.{IsBlamed}
 

@@ -6,11 +6,11 @@ ghost use Rattle.lam_rules.specs.Terms.{Term, true_term, false_term, unit_term, 
 ghost use Rattle.lam_rules.specs.Texts.{text};
 ghost use Rattle.lam_rules.specs.Typing.{Context};
 ghost use Rattle.lam_rules.specs.declared.rules.Dialect.{Dialect};
-ghost use Rattle.lam_typing.specs.Places.{Scope, Statement};
+ghost use Rattle.lam_scope.specs.Places.{Scope, Statement};
 ghost use Rattle.lam_typing.specs.LeastTypes.{IsTypeAt, IsLeastAt};
 ghost use Rattle.lam_typing.specs.Blaming.{IsBlamed};
 ghost use Rattle.lam_typing.specs.Narrowing.{Narrows};
-ghost use Rattle.lam_typing.specs.WellFormed.{IsWellFormedScope, IsWellFormedTerm, AreWellFormedStatements};
+ghost use Rattle.lam_scope.specs.WellFormed.{IsWellFormedScope, IsWellFormedTerm, AreWellFormedStatements};
 ghost use Rattle.lam_typing.specs.WellTyped.{IsTypedWhereUnblamed};
 
 /// A term has, in a context whose entries are below those of another, each type that it has in the

@@ -1,14 +1,21 @@
-//! The least type of each place of a document.
+//! The least type of each place of a document, over all contexts that the place may have, and which
+//! places are to blame for having none.
+//!
+//! What is promised stands in `specs/Contexts.antt`, `LeastTypes.antt`, `Blaming.antt` and
+//! `Analysis.antt`, over the declarative rules alone. The walk behind it has no rule of subsumption
+//! (TAPL chapter 16) and keeps one type for each binder.
 #![tactic(auto)]
 
 mod blame;
+mod fault;
 mod laws;
-mod numbers;
 mod steps;
+mod typing;
 mod walking;
 
 pub use blame::Blame;
+pub use fault::TypingFault;
 pub use laws::{
     least_types_exist, least_types_have_one_text, narrowing, never_blamed, typed_where_unblamed,
 };
-pub use walking::{Walk, walk_term};
+pub use typing::{Typing, analyse, analyse_to};

@@ -64,7 +64,7 @@ fn sides(table: &TyTable, number: TyNo) -> Option<(TyNo, TyNo)>
 }
 
 /// What is written, if it stands for a type.
-pub fn added(table: &mut TyTable, written: &Option<Ty>) -> Result<Option<TyNo>, AllocError>
+pub(crate) fn added(table: &mut TyTable, written: &Option<Ty>) -> Result<Option<TyNo>, AllocError>
     requires wf { IsWellFormedEntry (written_of written.now) }
     ensures keeps { Keeps table.old table.new }
     ensures stands { IfOk result (λ entry. StandsIn table.new entry) }
@@ -80,7 +80,7 @@ pub fn added(table: &mut TyTable, written: &Option<Ty>) -> Result<Option<TyNo>, 
 }
 
 /// T-Succ, T-Pred and T-IsZero: an operand below Nat.
-pub fn of_number(
+pub(crate) fn of_number(
     table: &TyTable,
     operand: Option<TyNo>,
     nat_number: TyNo,
@@ -104,7 +104,7 @@ pub fn of_number(
 }
 
 /// T-Abs.
-pub fn abstracted(
+pub(crate) fn abstracted(
     table: &mut TyTable,
     written: Option<TyNo>,
     body: Option<TyNo>,
@@ -126,7 +126,7 @@ pub fn abstracted(
 }
 
 /// T-App: an argument below the parameter.
-pub fn applied(
+pub(crate) fn applied(
     table: &TyTable,
     function: Option<TyNo>,
     argument: Option<TyNo>,
@@ -154,7 +154,7 @@ pub fn applied(
 }
 
 /// T-Ascribe: a term below the type that is written.
-pub fn ascribed(
+pub(crate) fn ascribed(
     table: &TyTable,
     written: Option<TyNo>,
     operand: Option<TyNo>,
@@ -179,7 +179,7 @@ pub fn ascribed(
 }
 
 /// T-Let.
-pub fn bound_in(bound: Option<TyNo>, body: Option<TyNo>) -> Option<TyNo>
+pub(crate) fn bound_in(bound: Option<TyNo>, body: Option<TyNo>) -> Option<TyNo>
     ensures { (ts : List Typ) → (StandsIn ts body → StandsIn ts result) × LetRule (answer ts bound) (answer ts body) (answer ts result) }
 {
     match bound {
@@ -189,7 +189,7 @@ pub fn bound_in(bound: Option<TyNo>, body: Option<TyNo>) -> Option<TyNo>
 }
 
 /// T-If: a condition below Bool, and the join of the branches.
-pub fn chosen(
+pub(crate) fn chosen(
     alloc: Global,
     table: &mut TyTable,
     condition: Option<TyNo>,
@@ -223,7 +223,7 @@ pub fn chosen(
 }
 
 /// T-Fix: a function whose result is below its parameter.
-pub fn fixed(
+pub(crate) fn fixed(
     table: &TyTable,
     operand: Option<TyNo>,
     dialect: Dialect,
@@ -246,7 +246,7 @@ pub fn fixed(
 }
 
 /// T-Proj.
-pub fn projected(table: &TyTable, operand: Option<TyNo>, label: &str) -> Option<TyNo>
+pub(crate) fn projected(table: &TyTable, operand: Option<TyNo>, label: &str) -> Option<TyNo>
     requires { StandsIn table.now operand }
     ensures stands { StandsIn table.now result }
     ensures rule { ProjectRule label.now (answer table.now operand) (answer table.now result) }
@@ -261,7 +261,7 @@ pub fn projected(table: &TyTable, operand: Option<TyNo>, label: &str) -> Option<
 }
 
 /// T-Rcd: all the terms have types, and no label is there twice.
-pub fn recorded(
+pub(crate) fn recorded(
     table: &mut TyTable,
     all: bool,
     fields: Vec<(String, TyNo)>,

@@ -1,34 +1,36 @@
 //! The walk over the places of a term, each after its immediate terms: one type for each, found from those of its parts.
 
-ghost use Rattle.std.specs.Prelude.{◌≡◌, ◌&&◌, ◌++◌, ◌<◌, length, IfOk, IfErr, IsTrue, IsFalse, ℕ, List, is_some};
+ghost use Rattle.std.specs.Prelude.{◌≡◌, ◌&&◌, ◌++◌, ◌<◌, length, map, IfOk, IfErr, OnOk, IsTrue, IsFalse, ℕ, List, is_some};
 ghost use Rattle.lam_rules.specs.Types.{Typ};
 ghost use Rattle.lam_rules.specs.Terms.{if_then_else, succ, pred, is_zero, variable, lambda, apply, ascribe, let_in, record_term, project, fix};
 ghost use Rattle.lam_rules.specs.TermViews.{term_of, terms_of, written_of};
 ghost use Rattle.lam_rules.specs.Typing.{IsWellFormedEntry};
-ghost use Rattle.lam_typing.specs.WellFormed.{IsWellFormedTerm, AreWellFormedTerms};
+ghost use Rattle.lam_scope.specs.WellFormed.{IsWellFormedTerm, AreWellFormedTerms, IsWellFormedStatement, AreWellFormedStatements};
+ghost use Rattle.lam_scope.specs.Places.{places_of};
+ghost use Rattle.lam_scope.specs.Views.{statement_of};
 ghost use Rattle.lam_typing.specs.Answers.{answer, StandsIn, AllStandIn, context_under};
 ghost use Rattle.lam_typing.specs.Steps.{entry_at};
 ghost use Rattle.lam_typing.specs.Analysis.{IsSmall};
-ghost use Rattle.lam_typing.specs.Progress.{blame_step, IsApplicationCode, IsLarge};
-ghost use Rattle.lam_typing.specs.Walk.{Grows, WalkedOver, FieldsWalked, HasStopped, HasStoppedInFields, Settles, StopsAt, blame_at, blames_of, IsSoundWalk};
+ghost use Rattle.lam_typing.specs.Progress.{Went, blame_step, IsApplicationCode, IsLarge};
+ghost use Rattle.lam_typing.specs.Walk.{Grows, WalkedOver, FieldsWalked, HasStopped, HasStoppedInFields, Settles, StopsAt, blame_at, blames_of, IsSoundWalk, IsBehind, IsUpTo, GoesOn, HasStoppedAt, HasStoppedAmong, entries_of, progress_of};
 ghost use Rattle.lam_typing.specs.declared.walking.Stop.TheVariants.{Memory};
 
 use crate::blame::Blame;
-use crate::numbers::Place;
 use crate::steps::{
     abstracted, added, applied, ascribed, bound_in, chosen, fixed, of_number, projected, recorded,
 };
 use lam_rules::{Core, Dialect, Shape, Ty, TyNo, TyTable};
+use lam_scope::{Place, Statement};
 use std::alloc::{AllocError, AllocFailed, Global};
 
 /// The most nodes that the type of a place may have.
 const LARGEST: u64 = 4096;
 
 /// Why a walk ends before its last place.
-pub enum Stop {
+pub(crate) enum Stop {
     /// The next place has a type of more nodes than may be.
     TooLarge,
-    /// As many places are found as were asked for.
+    /// The next place lies behind the last one that was asked for.
     Enough,
     Memory,
 }
@@ -51,7 +53,7 @@ impl<T: Drop> From<AllocFailed<T>> for Stop {
 
 /// The types without parts.
 #[derive(Clone, Copy)]
-pub struct Leaves {
+pub(crate) struct Leaves {
     pub boolean: TyNo,
     pub natural: TyNo,
     pub unit: TyNo,
@@ -59,7 +61,7 @@ pub struct Leaves {
 
 /// What a walk has found so far.
 #[derive(Drop)]
-pub struct Walk {
+pub(crate) struct Walk {
     pub table: TyTable,
     pub leaves: Leaves,
     /// The entries of the binders that it is under, the outermost first.
@@ -67,14 +69,65 @@ pub struct Walk {
     /// The type of each place, in the order of places.
     pub found: Vec<Option<TyNo>>,
     pub blames: Vec<Blame>,
-    /// How many places are asked for.
-    pub asked: usize,
+    /// The last place that is asked for, if not all are.
+    pub last: Option<Place>,
+}
+
+/// All that a document states, from the first statement to the last.
+pub(crate) fn walk_statements(
+    alloc: Global,
+    w: &mut Walk,
+    statements: &[Statement],
+    dialect: Dialect,
+) -> Result<(), Stop>
+    requires sound { IsSoundWalk w.old }
+    requires wf { AreWellFormedStatements (map statement_of statements.now) }
+    ensures grows { Grows w.old w.new }
+    ensures went { OnOk result (Went (entries_of w.old) (λ s. places_of s (map statement_of statements.now)) (progress_of w.old) (progress_of w.new) dialect) }
+    ensures stopped { IfErr result (λ stop. HasStoppedAmong stop (entries_of w.old) (λ s. places_of s (map statement_of statements.now)) w.old w.new dialect) }
+{
+    for i in 0..statements.len() {
+        walk_statement(alloc, w, &statements[i], dialect)?;
+    }
+    Ok(())
+}
+
+/// What a command states, and the entry that it puts onto the others.
+pub(crate) fn walk_statement(
+    alloc: Global,
+    w: &mut Walk,
+    statement: &Statement,
+    dialect: Dialect,
+) -> Result<(), Stop>
+    requires sound { IsSoundWalk w.old }
+    requires wf { IsWellFormedStatement (statement_of statement.now) }
+    ensures grows { Grows w.old w.new }
+    ensures goes_on { OnOk result (GoesOn w.old w.new (statement_of statement.now) dialect) }
+    ensures stopped { IfErr result (λ stop. HasStoppedAt stop w.old w.new (statement_of statement.now) dialect) }
+{
+    match statement {
+        Statement::Definition(core) => {
+            let found = walk_term(alloc, w, core, dialect)?;
+            w.entries.push(found)?;
+            Ok(())
+        }
+        Statement::Declaration(written) => {
+            let entry = added(&mut w.table, written)?;
+            w.entries.push(entry)?;
+            Ok(())
+        }
+        Statement::Abbreviation(_) => Ok(()),
+        Statement::Evaluation(core) => {
+            walk_term(alloc, w, core, dialect)?;
+            Ok(())
+        }
+    }
 }
 
 /// The type of a term, whose places all come behind those that were found.
 #[cycle(walk_term)]
 #[tactic(auto, using(lam_rules::proofs::TermShapes::term_shapes))]
-pub fn walk_term(
+pub(crate) fn walk_term(
     alloc: Global,
     w: &mut Walk,
     term: &Core,
@@ -451,16 +504,27 @@ fn settle(
     ensures settled { IfOk result (λ number. (number ≡ found) × Settles w.old w.new found blame.entry) }
     ensures stopped { IfErr result (λ stop. StopsAt stop w.old w.new found blame.entry) }
 {
+    let place = Place(w.found.len());
+    if is_behind(place, w.last) {
+        return Err(Stop::Enough);
+    }
     if is_large(&w.table, found) {
         return Err(Stop::TooLarge);
     }
-    let place = Place(w.found.len());
     put_blame(&mut w.blames, place, blame)?;
     w.found.push(found)?;
-    if w.found.len() >= w.asked {
-        return Err(Stop::Enough);
-    }
     Ok(found)
+}
+
+/// Whether a place lies behind the last one that is asked for.
+fn is_behind(place: Place, last: Option<Place>) -> bool
+    ensures behind { IsTrue result → IsBehind last place.0 }
+    ensures within { IsFalse result → IsUpTo last place.0 }
+{
+    let Some(last_place) = last else {
+        return false;
+    };
+    place.0 > last_place.0
 }
 
 /// Puts what a place is blamed for, if anything, behind the others.

@@ -5,7 +5,7 @@ use Rattle.lam_rules.specs.TermViews.{term_of, terms_of, written_of}
 use Rattle.lam_rules.specs.Numbers.{fields_over, AreBelow}
 use Rattle.lam_rules.proofs.TermShapes.{term_of-True, term_of-False, term_of-Num, term_of-Free, term_of-Unit}
 use Rattle.lam_rules.proofs.Tables.{keeps_same}
-use Rattle.lam_typing.specs.Places.{written, of_term, places, places_in}
+use Rattle.lam_scope.specs.Places.{written, of_term, places, places_in}
 use Rattle.lam_typing.specs.Answers.{answer}
 use Rattle.lam_typing.specs.Steps.{NatRule, LambdaRule, LetRule, RecordRule}
 use Rattle.lam_typing.specs.Progress.{Went, if_all}

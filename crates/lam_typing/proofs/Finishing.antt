@@ -1,0 +1,138 @@
+-- What a walk over a whole document has found, where it went through or stopped, is the analysis that was asked for.
+use Rattle.std.proofs.Common.{◌≡◌, ℕ, ◌+◌, ◌<◌, ◌≤◌, List, [], ◌∷◌, ◌++◌, length, take, get_or, slice_index_or, Option, Some, None, Result, Ok, Err, IfOk, IfErr, zero, suc, ap, refl, sym, subst, ◌∙◌, arith}
+use Rattle.lam_rules.specs.Types.{Typ}
+use Rattle.lam_rules.specs.declared.rules.Dialect.{Dialect}
+use Rattle.lam_rules.specs.declared.table.TyNo.{TyNo}
+use Rattle.lam_scope.specs.Places.{Scope, Place, Statement, places_of}
+use Rattle.lam_scope.specs.declared.numbers.Place.{Place as PlaceNumber}
+use Rattle.lam_typing.specs.Blaming.{Blamed, AreBlamed}
+use Rattle.lam_typing.specs.Analysis.{AreLeast, AreSmall, IsTooLarge, IsFirstTooLarge}
+use Rattle.lam_typing.specs.Answers.{answer, answers, AllStandIn}
+use Rattle.lam_typing.specs.Progress.{IsLowest, Progress, Shown, Went, next_is_too_large, enough, NextIs, ShownFront, StoppedIn}
+use Rattle.lam_typing.specs.Walk.{entries_of, progress_of, IsSoundWalk, Grows, IsBehind, IsUpTo, IsWithin, HasStoppedAmong}
+use Rattle.lam_typing.specs.Typings.{IsAnalysis, IsFaultOf, up_to, IsPlaceOf, Begins, IsEndOf}
+use Rattle.lam_typing.specs.declared.fault.TypingFault.{TypingFault}
+use Rattle.lam_typing.specs.declared.typing.Typing.{Typing}
+use Rattle.lam_typing.specs.declared.walking.Walk.{Walk}
+use Rattle.lam_typing.specs.declared.walking.Stop.{Stop}
+use Rattle.lam_typing.proofs.LeastIn.{lowest}
+use Rattle.lam_typing.proofs.Growing.{length-answers}
+use Rattle.lam_typing.proofs.Together.{least_length}
+
+take_whole : (ps : List Place) (n : ℕ) → length ps ≤ n → take n ps ≡ ps
+take_whole [] zero le = refl
+take_whole [] (suc n) le = refl
+take_whole (p ∷ ps) zero le = absurd (omega arith)
+take_whole (p ∷ ps) (suc n) le = ap (λ rest. p ∷ rest) (take_whole ps n (omega arith))
+
+take_front : (ps qs : List Place) (n : ℕ) → n ≡ length ps → take n (ps ++ qs) ≡ ps
+take_front [] qs n e = rw e
+take_front (p ∷ ps) qs zero e = absurd (omega arith)
+take_front (p ∷ ps) qs (suc n) e = ap (λ rest. p ∷ rest) (take_front ps qs n (omega arith))
+
+first_behind : (ps qs : List Place) (os : List (Option Typ)) (q : Place) (d : Dialect) → AreLeast ps os d → AreSmall os → IsTooLarge q d → IsFirstTooLarge (ps ++ q ∷ qs) (length os) d
+first_behind [] qs [] q d least small large = large
+first_behind (p ∷ ps) qs (o ∷ os) q d least small large = (o, least.0, small.0, first_behind ps qs os q d least.1 small.1 large)
+first_behind [] qs (o ∷ os) q d least small large = absurd least
+first_behind (p ∷ ps) qs [] q d least small large = absurd least
+
+first_in_front : (ps : List Place) (n m : ℕ) (d : Dialect) → n < m → IsFirstTooLarge ps n d → IsFirstTooLarge (take m ps) n d
+first_in_front [] n zero d lt first = absurd (omega arith)
+first_in_front [] n (suc m) d lt first = first
+first_in_front (p ∷ ps) n zero d lt first = absurd (omega arith)
+first_in_front (p ∷ ps) zero (suc m) d lt first = first
+first_in_front (p ∷ ps) (suc n) (suc m) d lt first = (first.0, first.1, first.2, first_in_front ps n m d (omega arith) first.3)
+
+-- at the beginning there is one scope and one context, of no binders
+no_entries : (w : Walk) (last : Option PlaceNumber) → Begins w last → entries_of w ≡ []
+no_entries w last begins = rw begins.entries
+
+no_progress : (w : Walk) (last : Option PlaceNumber) → Begins w last → progress_of w ≡ record { found = []; blames = [] }
+no_progress w last begins = rw (begins.found, begins.blames)
+
+outermost : (w : Walk) (last : Option PlaceNumber) (d : Dialect) → Begins w last → IsLowest [] (entries_of w) d
+outermost w last d begins = subst (λ g. IsLowest [] g d) (sym (no_entries w last begins)) (lowest [] [] d tt tt)
+
+-- what is shown of these places, all in all
+Shows : List Place → Walk → Dialect → Type 0
+Shows ps w d = Shown ps 0 (progress_of w).found (progress_of w).blames d
+
+shows_all : (w0 w : Walk) (last : Option PlaceNumber) (ps : List Place) (found : List (Option Typ)) (blames : List Blamed) (d : Dialect) → Begins w0 last
+    → (progress_of w).found ≡ (progress_of w0).found ++ found → (progress_of w).blames ≡ (progress_of w0).blames ++ blames
+    → Shown ps (length (progress_of w0).found) found blames d → Shows ps w d
+unfolding Shows
+shows_all w0 w last ps found blames d begins found_is blames_are shown =
+    let none = no_progress w0 last begins in
+    let f : (progress_of w).found ≡ found = found_is ∙ ap (λ p. p.found ++ found) none in
+    let b : (progress_of w).blames ≡ blames = blames_are ∙ ap (λ p. p.blames ++ blames) none in
+    let n : length (progress_of w0).found ≡ 0 = ap (λ p. length p.found) none in
+    rw (f, b) (subst (λ m. Shown ps m found blames d) n shown)
+
+analysis : (ps : List Place) (t : Typing) (d : Dialect) → IsSoundWalk t.walk → Shows ps t.walk d → IsAnalysis ps t d
+unfolding Shows
+analysis ps t d sound shows = record { stand = sound.found; least = shows.least; small = shows.small; blames = shows.blamed }
+
+found_length : (ps : List Place) (w : Walk) (d : Dialect) → Shows ps w d → length ps ≡ length w.found.items
+unfolding Shows
+found_length ps w d shows = least_length ps (progress_of w).found d shows.least ∙ length-answers w.table w.found.items
+
+whole : (last : Option PlaceNumber) (ps : List Place) (n : ℕ) → length ps ≡ n → IsWithin last n → IsPlaceOf last ps → up_to last ps ≡ ps
+whole None ps n count within is = refl
+whole (Some last) ps n count within is = take_whole ps (last.0 + 1) (omega arith)
+
+front_of : (last : Option PlaceNumber) (ps qs : List Place) (n : ℕ) → length ps ≡ n → IsWithin last n → IsBehind last n → up_to last (ps ++ qs) ≡ ps
+front_of None ps qs n count within behind = absurd behind
+front_of (Some last) ps qs n count within behind = take_front ps qs (last.0 + 1) (omega arith)
+
+next_first : (front rest : List Place) (w : Walk) (d : Dialect) → Shows front w d → NextIs next_is_too_large rest d → IsFirstTooLarge (front ++ rest) (length w.found.items) d
+unfolding Shows
+next_first front [] w d shows next = absurd next
+next_first front (q ∷ rest) w d shows next =
+    subst (λ n. IsFirstTooLarge (front ++ q ∷ rest) n d) (length-answers w.table w.found.items) (first_behind front rest (progress_of w).found q d shows.least shows.small next)
+
+-- it went through
+pub analysed : (w0 w : Walk) (last : Option PlaceNumber) (statements : List Statement) (t : Typing) (d : Dialect) → Begins w0 last → Grows w0 w
+    → Went (entries_of w0) (λ s. places_of s statements) (progress_of w0) (progress_of w) d → t.walk ≡ w → IsPlaceOf last (places_of [] statements)
+    → IsAnalysis (up_to last (places_of [] statements)) t d
+analysed w0 w last statements t d begins grows went is place =
+    let ps = places_of [] statements in
+    let shows : Shows ps w d = shows_all w0 w last ps went.found went.blames d begins went.found_is went.blames_are (went.shown [] (outermost w0 last d begins)) in
+    let same : w.last ≡ last = grows.last ∙ begins.last in
+    let within : IsWithin last (length w.found.items) = subst (λ l. IsWithin l (length w.found.items)) same grows.sound.room in
+    subst (λ qs. IsAnalysis qs t d) (sym (whole last ps (length w.found.items) (found_length ps w d shows) within place))
+    (analysis ps t d (subst (λ v. IsSoundWalk v) (sym is) grows.sound) (subst (λ v. Shows ps v d) (sym is) shows))
+
+-- it stopped
+pub ended : (stop : Stop) (w0 w : Walk) (last : Option PlaceNumber) (statements : List Statement) (r : Result Typing TypingFault) (d : Dialect) → Begins w0 last → Grows w0 w
+    → HasStoppedAmong stop (entries_of w0) (λ s. places_of s statements) w0 w d → IsEndOf stop w r
+    → IfOk r (λ t. IsAnalysis (up_to last (places_of [] statements)) t d) × IfErr r (λ fault. IsFaultOf fault (up_to last (places_of [] statements)) d)
+ended Stop.Enough w0 w last statements (Ok t) d begins grows stopped end =
+    let h = stopped.0.shown [] (outermost w0 last d begins) in
+    let shows : Shows h.front w d = shows_all w0 w last h.front stopped.0.found stopped.0.blames d begins stopped.0.found_is stopped.0.blames_are h.shown in
+    let same : w.last ≡ last = grows.last ∙ begins.last in
+    let within : IsWithin last (length w.found.items) = subst (λ l. IsWithin l (length w.found.items)) same grows.sound.room in
+    let behind : IsBehind last (length w.found.items) = subst (λ l. IsBehind l (length w.found.items)) same stopped.1 in
+    let asked : up_to last (places_of [] statements) ≡ h.front = ap (λ ps. up_to last ps) h.are ∙ front_of last h.front h.rest (length w.found.items) (found_length h.front w d shows) within behind in (
+      subst (λ qs. IsAnalysis qs t d) (sym asked) (analysis h.front t d (subst (λ v. IsSoundWalk v) (sym end) grows.sound) (subst (λ v. Shows h.front v d) (sym end) shows)),
+      tt,
+    )
+ended Stop.TooLarge w0 w last statements (Err (TypingFault.TooLarge p)) d begins grows stopped end =
+    let h = stopped.0.shown [] (outermost w0 last d begins) in
+    let shows : Shows h.front w d = shows_all w0 w last h.front stopped.0.found stopped.0.blames d begins stopped.0.found_is stopped.0.blames_are h.shown in
+    let same : w.last ≡ last = grows.last ∙ begins.last in
+    let here : IsUpTo last (length w.found.items) = subst (λ l. IsUpTo l (length w.found.items)) same stopped.1 in (
+      tt,
+      subst (λ n. IsFirstTooLarge (up_to last (places_of [] statements)) n d) (sym end)
+          (asked_first last (length w.found.items) here (subst (λ ps. IsFirstTooLarge ps (length w.found.items) d) (sym h.are) (next_first h.front h.rest w d shows h.next))),
+    )
+  where
+    asked_first : (last : Option PlaceNumber) (n : ℕ) → IsUpTo last n → IsFirstTooLarge (places_of [] statements) n d → IsFirstTooLarge (up_to last (places_of [] statements)) n d
+    asked_first None n here first = first
+    asked_first (Some p) n here first = first_in_front (places_of [] statements) n (p.0 + 1) d (omega arith) first
+ended Stop.Memory w0 w last statements (Err TypingFault.Memory) d begins grows stopped end = (tt, tt)
+ended _ w0 w last statements _ d begins grows stopped end = absurd end
+
+pub answers_at : (ts : List Typ) (os : List (Option TyNo)) (k : ℕ) → k < length os → answer ts (slice_index_or os k None) ≡ get_or (answers ts os) k None
+answers_at ts [] k lt = absurd (omega arith)
+answers_at ts (o ∷ os) zero lt = refl
+answers_at ts (o ∷ os) (suc k) lt = answers_at ts os k (omega arith)

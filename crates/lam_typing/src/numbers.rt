@@ -1,4 +1,0 @@
-//! Stand-in.
-
-#[derive(Clone, Copy, Debug, PartialEq, Eq)]
-pub struct Place(pub usize);
