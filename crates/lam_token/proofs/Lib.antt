@@ -3,3 +3,4 @@ pub mod Shapes
 pub mod Segments
 pub mod Cuts
 pub mod Comments
+pub mod SomeCut

@@ -17,7 +17,7 @@ mod tests;
 mod token;
 
 pub use kind::Kind;
-pub use laws::comments_nest;
+pub use laws::{comments_nest, some_cut};
 pub use lexer::{is_name, is_type_name, lex};
 pub use span::Span;
 pub use token::Token;

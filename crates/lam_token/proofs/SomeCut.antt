@@ -1,0 +1,88 @@
+-- Each text has a cut.
+use Rattle.std.proofs.Common.{◌≡◌, ℕ, zero, suc, ◌+◌, ◌≤◌, ◌<◌, Bool, true, false, Option, Some, None, List, [], ◌∷◌, ◌++◌, length, take, drop, ⊎_elim, sym, refl, ap, ◌∙◌, subst, arith, length-append}
+use Rattle.std.proofs.lemmas.Bool.{cases_order}
+use Rattle.std.proofs.lemmas.List.{append-nil}
+use Rattle.std.proofs.Math.Seq.{take-append_seam}
+use Rattle.lam_token.specs.declared.kind.Kind.TheVariants.{BadCharacter, BadComment}
+use Rattle.lam_token.specs.declared.kind.Segment.{Segment}
+use Rattle.lam_token.specs.declared.kind.Segment.TheVariants.{Token}
+use Rattle.lam_token.specs.Shape.{shape_of, opens_comment}
+use Rattle.lam_token.specs.Cut.{NothingBegins, NothingLonger, IsFirst, longest, unclosed, stray, Part, IsCut}
+
+-- a text begins with a first segment that has characters
+record Begun (text : List ℕ) : Type 0 where
+  sort : Segment
+  segment : List ℕ
+  rest : List ℕ
+  cut : text ≡ segment ++ rest
+  is_first : IsFirst sort segment rest
+  some : 0 < length segment
+
+-- no front of more characters than these has a shape
+abbrev NoneOver : ℕ → List ℕ → Type 0
+NoneOver n text = (front after : List ℕ) → text ≡ front ++ after → n < length front → shape_of front ≡ None
+
+front_is : (text front after : List ℕ) (n : ℕ) → text ≡ front ++ after → n ≡ length front → take n text ≡ front
+front_is text front after n cut is = ap (λ m. take m text) is ∙ ap (take (length front)) cut ∙ take-append_seam front after
+
+nothing : (text : List ℕ) → NoneOver 0 text → NothingBegins text
+nothing text none [] after cut = refl
+nothing text none (c ∷ front) after cut = none (c ∷ front) after cut (omega arith)
+
+none_begins : (b : Bool) (c : ℕ) (cs : List ℕ) → opens_comment (c ∷ cs) ≡ b → NothingBegins (c ∷ cs) → Begun (c ∷ cs)
+none_begins true c cs opens none =
+    let whole : (c ∷ cs) ++ [] ≡ c ∷ cs = append-nil (c ∷ cs) in
+    record {
+      sort = Token BadComment;
+      segment = c ∷ cs;
+      rest = [];
+      cut = sym whole;
+      some = omega arith;
+      is_first = unclosed (subst NothingBegins (sym whole) none) (ap opens_comment whole ∙ opens) refl;
+    }
+none_begins false c cs opens none = record { sort = Token BadCharacter; segment = c ∷ []; rest = cs; cut = refl; some = omega arith; is_first = stray none opens refl }
+
+split : (n : ℕ) (text : List ℕ) → take n text ++ drop n text ≡ text
+split zero text = refl
+split (suc n) [] = refl
+split (suc n) (c ∷ text) = ap (λ l. c ∷ l) (split n text)
+
+length_taken : (n : ℕ) (text : List ℕ) → n ≤ length text → length (take n text) ≡ n
+length_taken zero text le = refl
+length_taken (suc n) [] le = absurd (omega arith)
+length_taken (suc n) (c ∷ text) le = ap suc (length_taken n text (omega arith))
+
+fewer : (n : ℕ) (text : List ℕ) → shape_of (take (suc n) text) ≡ None → NoneOver (suc n) text → NoneOver n text
+fewer n text here none front after cut more =
+    ⊎_elim (λ same. ap shape_of (sym (front_is text front after (suc n) cut same)) ∙ here)
+    (λ other. ⊎_elim (λ over. none front after cut over) (λ under. absurd (omega (arith, under, more))) other)
+    (cases_order (suc n) (length front))
+
+found_at : (o : Option Segment) (n c : ℕ) (cs : List ℕ) → suc n ≤ length (c ∷ cs) → NoneOver (suc n) (c ∷ cs) → shape_of (take (suc n) (c ∷ cs)) ≡ o
+    → (NoneOver n (c ∷ cs) → Begun (c ∷ cs)) → Begun (c ∷ cs)
+found_at None n c cs le none is shorter = shorter (fewer n (c ∷ cs) is none)
+found_at (Some s) n c cs le none is shorter =
+    let counted = length_taken (suc n) (c ∷ cs) le in
+    record {
+      sort = s;
+      segment = take (suc n) (c ∷ cs);
+      rest = drop (suc n) (c ∷ cs);
+      cut = sym (split (suc n) (c ∷ cs));
+      some = omega (arith, counted);
+      is_first = longest is (λ front after cut more. none front after (sym (split (suc n) (c ∷ cs)) ∙ cut) (omega (arith, counted, more)));
+    }
+
+longest_from : (n c : ℕ) (cs : List ℕ) → n ≤ length (c ∷ cs) → NoneOver n (c ∷ cs) → Begun (c ∷ cs)
+longest_from zero c cs le none = none_begins (opens_comment (c ∷ cs)) c cs refl (nothing (c ∷ cs) none)
+longest_from (suc n) c cs le none = found_at (shape_of (take (suc n) (c ∷ cs))) n c cs le none refl (longest_from n c cs (omega (arith, le)))
+
+cut_within : (n : ℕ) (text : List ℕ) → length text ≤ n → (ps : List Part) × IsCut text ps
+cut_within n [] le = ([], refl)
+cut_within zero (c ∷ cs) le = absurd (omega arith)
+cut_within (suc n) (c ∷ cs) le =
+    let first = longest_from (length (c ∷ cs)) c cs (omega arith) (λ front after cut more. absurd (omega (arith, more, ap length cut, length-append front after))) in
+    let others = cut_within n first.rest (omega (arith, le, first.some, ap length first.cut, length-append first.segment first.rest)) in
+    (record { sort = first.sort; characters = first.segment } ∷ others.0, (first.rest, first.cut, first.is_first, others.1))
+
+pub some_cut : (text : List ℕ) → (ps : List Part) × IsCut text ps
+some_cut text = cut_within (length text) text (omega arith)
