@@ -6,3 +6,4 @@ pub mod Shapes
 pub mod Answer
 pub mod Runs
 pub mod Steps
+pub mod AnswerLaws

@@ -7,6 +7,7 @@
 
 mod fault;
 mod identifier;
+mod laws;
 mod parse_terms;
 mod parse_types;
 mod parser;
@@ -21,6 +22,7 @@ mod types;
 
 pub use fault::ParseFault;
 pub use identifier::{Binder, Identifier};
+pub use laws::one_answer;
 pub use parser::parse;
 pub use splitting::pieces;
 pub use terms::{Command, Prefix, Tm, TmField, TmNode};
