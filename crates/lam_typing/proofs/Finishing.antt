@@ -1,5 +1,5 @@
 -- What a walk over a whole document has found, where it went through or stopped, is the analysis that was asked for.
-use Rattle.std.proofs.Common.{◌≡◌, ℕ, ◌+◌, ◌<◌, ◌≤◌, List, [], ◌∷◌, ◌++◌, length, take, get_or, slice_index_or, Option, Some, None, Result, Ok, Err, IfOk, IfErr, zero, suc, ap, refl, sym, subst, ◌∙◌, arith}
+use Rattle.std.proofs.Common.{◌≡◌, ℕ, ◌+◌, ◌<◌, ◌≤◌, List, [], ◌∷◌, ◌++◌, length, take, get_or, Option, Some, None, Result, Ok, Err, IfOk, IfErr, zero, suc, ap, refl, sym, subst, ◌∙◌, arith}
 use Rattle.lam_rules.specs.Types.{Typ}
 use Rattle.lam_rules.specs.declared.rules.Dialect.{Dialect}
 use Rattle.lam_rules.specs.declared.table.TyNo.{TyNo}
@@ -7,10 +7,10 @@ use Rattle.lam_scope.specs.Places.{Scope, Place, Statement, places_of}
 use Rattle.lam_scope.specs.declared.numbers.Place.{Place as PlaceNumber}
 use Rattle.lam_typing.specs.Blaming.{Blamed, AreBlamed}
 use Rattle.lam_typing.specs.Analysis.{AreLeast, AreSmall, IsTooLarge, IsFirstTooLarge}
-use Rattle.lam_typing.specs.Answers.{answer, answers, AllStandIn}
+use Rattle.lam_typing.specs.Answers.{answer, answers, StandsIn, AllStandIn}
 use Rattle.lam_typing.specs.Progress.{IsLowest, Progress, Shown, Went, next_is_too_large, enough, NextIs, ShownFront, StoppedIn}
 use Rattle.lam_typing.specs.Walk.{entries_of, progress_of, IsSoundWalk, Grows, IsBehind, IsUpTo, IsWithin, HasStoppedAmong}
-use Rattle.lam_typing.specs.Typings.{IsAnalysis, IsFaultOf, up_to, IsPlaceOf, Begins, IsEndOf}
+use Rattle.lam_typing.specs.Typings.{IsAnalysis, IsFaultOf, up_to, Begins, IsEndOf}
 use Rattle.lam_typing.specs.declared.fault.TypingFault.{TypingFault}
 use Rattle.lam_typing.specs.declared.typing.Typing.{Typing}
 use Rattle.lam_typing.specs.declared.walking.Walk.{Walk}
@@ -76,9 +76,9 @@ found_length : (ps : List Place) (w : Walk) (d : Dialect) → Shows ps w d → l
 unfolding Shows
 found_length ps w d shows = least_length ps (progress_of w).found d shows.least ∙ length-answers w.table w.found.items
 
-whole : (last : Option PlaceNumber) (ps : List Place) (n : ℕ) → length ps ≡ n → IsWithin last n → IsPlaceOf last ps → up_to last ps ≡ ps
-whole None ps n count within is = refl
-whole (Some last) ps n count within is = take_whole ps (last.0 + 1) (omega arith)
+whole : (last : Option PlaceNumber) (ps : List Place) (n : ℕ) → length ps ≡ n → IsWithin last n → up_to last ps ≡ ps
+whole None ps n count within = refl
+whole (Some last) ps n count within = take_whole ps (last.0 + 1) (omega arith)
 
 front_of : (last : Option PlaceNumber) (ps qs : List Place) (n : ℕ) → length ps ≡ n → IsWithin last n → IsBehind last n → up_to last (ps ++ qs) ≡ ps
 front_of None ps qs n count within behind = absurd behind
@@ -92,14 +92,14 @@ next_first front (q ∷ rest) w d shows next =
 
 -- it went through
 pub analysed : (w0 w : Walk) (last : Option PlaceNumber) (statements : List Statement) (t : Typing) (d : Dialect) → Begins w0 last → Grows w0 w
-    → Went (entries_of w0) (λ s. places_of s statements) (progress_of w0) (progress_of w) d → t.walk ≡ w → IsPlaceOf last (places_of [] statements)
+    → Went (entries_of w0) (λ s. places_of s statements) (progress_of w0) (progress_of w) d → t.walk ≡ w
     → IsAnalysis (up_to last (places_of [] statements)) t d
-analysed w0 w last statements t d begins grows went is place =
+analysed w0 w last statements t d begins grows went is =
     let ps = places_of [] statements in
     let shows : Shows ps w d = shows_all w0 w last ps went.found went.blames d begins went.found_is went.blames_are (went.shown [] (outermost w0 last d begins)) in
     let same : w.last ≡ last = grows.last ∙ begins.last in
     let within : IsWithin last (length w.found.items) = subst (λ l. IsWithin l (length w.found.items)) same grows.sound.room in
-    subst (λ qs. IsAnalysis qs t d) (sym (whole last ps (length w.found.items) (found_length ps w d shows) within place))
+    subst (λ qs. IsAnalysis qs t d) (sym (whole last ps (length w.found.items) (found_length ps w d shows) within))
     (analysis ps t d (subst (λ v. IsSoundWalk v) (sym is) grows.sound) (subst (λ v. Shows ps v d) (sym is) shows))
 
 -- it stopped
@@ -132,7 +132,16 @@ ended Stop.TooLarge w0 w last statements (Err (TypingFault.TooLarge p)) d begins
 ended Stop.Memory w0 w last statements (Err TypingFault.Memory) d begins grows stopped end = (tt, tt)
 ended _ w0 w last statements _ d begins grows stopped end = absurd end
 
-pub answers_at : (ts : List Typ) (os : List (Option TyNo)) (k : ℕ) → k < length os → answer ts (slice_index_or os k None) ≡ get_or (answers ts os) k None
-answers_at ts [] k lt = absurd (omega arith)
-answers_at ts (o ∷ os) zero lt = refl
-answers_at ts (o ∷ os) (suc k) lt = answers_at ts os k (omega arith)
+pub answers_at : (ts : List Typ) (os : List (Option TyNo)) (k : ℕ) → answer ts (get_or os k None) ≡ get_or (answers ts os) k None
+answers_at ts [] k = refl
+answers_at ts (o ∷ os) zero = refl
+answers_at ts (o ∷ os) (suc k) = answers_at ts os k
+
+pub each_stands : (ts : List Typ) (os : List (Option TyNo)) → AllStandIn ts os → (i : ℕ) (number : TyNo) → get_or os i None ≡ Some number → number.index < length ts
+each_stands ts [] stand i number is = absurd (let wrong : None ≡ Some number = is in cc)
+each_stands ts (o ∷ os) stand zero number is = subst (λ p. StandsIn ts p) is stand.0
+each_stands ts (o ∷ os) stand (suc i) number is = each_stands ts os stand.1 i number is
+
+pub stands_where : (ts : List Typ) (o : Option TyNo) → ((number : TyNo) → o ≡ Some number → number.index < length ts) → StandsIn ts o
+stands_where ts None each = tt
+stands_where ts (Some number) each = each number refl

@@ -1,5 +1,5 @@
 -- What a `Typing` holds, and what an analysis promises of it.
-use Rattle.std.specs.Prelude.{◌≡◌, ◌<◌, ℕ, ◌+◌, List, [], length, take, Option, Some, None, Result, Ok, Err}
+use Rattle.std.specs.Prelude.{◌≡◌, ℕ, ◌+◌, List, [], length, take, Option, Some, None, Result, Ok, Err}
 use Rattle.lam_rules.specs.Types.{Typ}
 use Rattle.lam_rules.specs.declared.rules.Dialect.{Dialect}
 use Rattle.lam_scope.specs.Places.{Place}
@@ -42,11 +42,6 @@ IsFaultOf TypingFault.Memory ps d = Unit {0}
 abbrev pub up_to : Option PlaceNumber → List Place → List Place
 up_to None ps = ps
 up_to (Some last) ps = take (last.0 + 1) ps
-
--- it is one of the places
-abbrev pub IsPlaceOf : Option PlaceNumber → List Place → Type 0
-IsPlaceOf None ps = Unit {0}
-IsPlaceOf (Some last) ps = last.0 < length ps
 
 -- a walk that has found nothing yet
 pub record Begins (w : Walk) (asked : Option PlaceNumber) : Type 0 where

@@ -6,16 +6,22 @@
 //! (TAPL chapter 16) and keeps one type for each binder.
 #![tactic(auto)]
 
+mod analysing;
 mod blame;
 mod fault;
 mod laws;
+mod reading;
 mod steps;
 mod typing;
 mod walking;
 
+pub use analysing::{analyse, analyse_to};
 pub use blame::Blame;
 pub use fault::TypingFault;
 pub use laws::{
     least_types_exist, least_types_have_one_text, narrowing, never_blamed, typed_where_unblamed,
 };
-pub use typing::{Typing, analyse, analyse_to};
+pub use typing::Typing;
+
+#[cfg(test)]
+mod tests;

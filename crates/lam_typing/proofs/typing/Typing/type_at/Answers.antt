@@ -1,15 +1,14 @@
-use Rattle.std.proofs.Common.{length, ap, sym, subst, arith}
-use Rattle.lam_typing.specs.Answers.{AllStandIn}
-use Rattle.lam_typing.proofs.Growing.{length-answers}
+use Rattle.std.proofs.Common.{◌≡◌, get_or, List, Option, None, Some, ap, ◌∙◌, sym, subst}
+use Rattle.lam_typing.specs.Answers.{answer}
+use Rattle.lam_typing.proofs.Finishing.{answers_at, stands_where}
 use Rattle.lam_typing.proofs.typing.Typing.type_at.Goals as goal
 
-pub type_of_place-requires : goal.type_of_place-requires
-type_of_place-requires c =
-    let count = length-answers c.args.self.now.walk.table c.args.self.now.walk.found.items in
-    let items = ap length c.deref.ensures.value in
-    let within = c.requires in
-    omega arith
+pub returns-clause-found : goal.returns-clause-found
+returns-clause-found c =
+    ap (λ o. answer c.args.self.now.walk.table o) (c.type_of_place.ensures ∙ ap (λ os. get_or os c.args.place.0 None) c.deref.ensures.value)
+    ∙ answers_at c.args.self.now.walk.table c.args.self.now.walk.found.items c.args.place.0
 
 pub returns-clause-stands : goal.returns-clause-stands
-returns-clause-stands c = λ stand.
-    c.type_of_place.ensures.stands c.args.self.now.walk.table (subst (λ os. AllStandIn c.args.self.now.walk.table os) (sym c.deref.ensures.value) stand)
+returns-clause-stands c =
+    stands_where c.args.self.now.walk.table c.type_of_place.result
+    (λ number is. c.args.self.now.stand c.args.place.0 number (sym (c.type_of_place.ensures ∙ ap (λ os. get_or os c.args.place.0 None) c.deref.ensures.value) ∙ is))

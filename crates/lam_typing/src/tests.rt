@@ -1,0 +1,213 @@
+//! Rows: documents, the types of their places, and what is to blame.
+use crate::{Typing, TypingFault, analyse, analyse_to};
+use lam_rules::Dialect;
+use lam_scope::{Place, Resolved, Scopes, bind, resolve};
+use lam_syntax::{Command, parse, pieces};
+use lam_token::lex;
+use std::alloc::Global;
+use std::process::Abort;
+use std::test::Fail;
+
+/// The commands of a text each of whose pieces is one.
+fn commands_of(rt: &impl Abort, alloc: Global, text: &str) -> Result<Vec<Command>, Fail> {
+    let tokens = lex(alloc, text)?;
+    let parts = pieces(alloc, tokens.as_slice())?;
+    let mut commands = Vec::new(alloc);
+    for piece in &parts {
+        let command = parse(alloc, piece).ok().expect(rt, "a command");
+        commands.push(command)?;
+    }
+    Ok(commands)
+}
+
+/// The text of the type of the innermost place around an offset.
+fn shown_at(
+    rt: &impl Abort,
+    scopes: &Scopes,
+    typing: &Typing,
+    offset: usize,
+) -> Result<Option<String>, Fail> {
+    let place = scopes.place_at(offset).expect(rt, "a place");
+    match typing.type_at(place) {
+        Some(number) => Ok(Some(typing.table().text(number)?)),
+        None => Ok(None),
+    }
+}
+
+#[test]
+fn each_place_has_its_least_type(rt: HostRuntime) -> Result<(), Fail> {
+    let one = Dialect::One;
+    let two = Dialect::Two;
+    let rows = [
+        ("if true then {a=0} else {b=0}", one, 0, Some("{}")),
+        ("fix (lambda x:Top. 0)", one, 0, Some("Nat")),
+        ("fix (lambda x:Top. 0)", one, 4, Some("Top->Nat")),
+        (
+            "lambda c:Bool. if c then (lambda x:Nat. x) else (lambda x:Bool. 0)",
+            one,
+            0,
+            Some("Bool->Top"),
+        ),
+        (
+            "lambda c:Bool. if c then (lambda x:Nat. x) else (lambda x:Bool. 0)",
+            two,
+            0,
+            Some("Bool->Bool->Nat"),
+        ),
+        (
+            "(lambda r:{x:Nat}. r.x) {y=true, x=0}",
+            one,
+            23,
+            Some("Nat"),
+        ),
+        ("lambda x:Q. x", one, 12, None),
+        ("lambda x:Q. x", one, 0, None),
+        (
+            "f : {a:Nat}->Nat; f {a=0, b=true}; f {}",
+            one,
+            18,
+            Some("{a:Nat}->Nat"),
+        ),
+        (
+            "let y = {b=0, a=true} in if y.a then y else {a=false}",
+            one,
+            25,
+            Some("{a:Bool}"),
+        ),
+        (
+            "let y = {b=0, a=true} in if y.a then y else {a=false}",
+            one,
+            28,
+            Some("{a:Bool, b:Nat}"),
+        ),
+        (
+            "let y = {a=0, b=true} in lambda c:Bool. if c then y else {b=false}",
+            one,
+            0,
+            Some("Bool->{b:Bool}"),
+        ),
+        ("lambda f:Nat->Nat. f", one, 0, Some("(Nat->Nat)->Nat->Nat")),
+        ("(lambda x:Top. x) 0", one, 17, Some("Top")),
+        ("if true then 0 else false", one, 0, Some("Top")),
+        ("if true then 0 else false", two, 0, Some("Nat")),
+        ("fix (lambda x:Nat. true)", two, 0, Some("Bool")),
+        ("y = succ true; z = y", two, 19, Some("Nat")),
+        (
+            "letrec f:Nat->Top = lambda n:Nat. n in f",
+            one,
+            39,
+            Some("Nat->Nat"),
+        ),
+        ("letrec x:Nat = true in x", one, 23, None),
+    ];
+    let alloc = rt.alloc();
+    for (text, dialect, offset, expected) in rows {
+        let commands = commands_of(&rt, alloc, text)?;
+        let scopes = bind(alloc, &commands)?;
+        let resolved = resolve(alloc, &commands, &scopes)
+            .ok()
+            .expect(&rt, "expansions within the limit");
+        let typing = analyse(alloc, &resolved, dialect)
+            .ok()
+            .expect(&rt, "types within the limit");
+        let shown = shown_at(&rt, &scopes, &typing, offset)?;
+        assert_eq!(rt; shown.as_deref(), expected, "{offset} in {text:?}");
+    }
+    Ok(())
+}
+
+#[test]
+fn the_first_wrong_term_is_to_blame_and_no_term_around_it(rt: HostRuntime) -> Result<(), Fail> {
+    let one = Dialect::One;
+    let two = Dialect::Two;
+    let rows: [(&str, Dialect, Option<(&str, usize, usize)>); 16] = [
+        ("0 as Nat; succ 0", one, None),
+        ("z", one, Some(("E1", 0, 1))),
+        ("lambda x:Nat. x 0", one, Some(("E2", 14, 17))),
+        (
+            "f : {a:Nat}->Nat; f {a=0, b=true}; f {}",
+            one,
+            Some(("E3", 35, 39)),
+        ),
+        ("{a=0}.b", one, Some(("E4", 0, 7))),
+        ("if 0 then 1 else 2", one, Some(("E5", 0, 18))),
+        ("if 0 then 1 else 2", two, Some(("E5", 0, 18))),
+        ("y = succ true; z = y", one, Some(("E6", 4, 13))),
+        ("y = succ true; z = y", two, None),
+        ("0 as Bool", one, Some(("E7", 0, 9))),
+        ("{a=true} as {a:Nat}", one, Some(("E7", 0, 19))),
+        ("{a=true} as {a:Nat}", two, None),
+        ("fix (lambda x:Nat. true)", one, Some(("E8", 0, 24))),
+        ("letrec x:Nat = true in x", one, Some(("E8", 15, 19))),
+        ("{a=0, a=1}", one, Some(("E9", 0, 10))),
+        ("lambda x:Q. x", one, None),
+    ];
+    let alloc = rt.alloc();
+    for (text, dialect, expected) in rows {
+        let commands = commands_of(&rt, alloc, text)?;
+        let scopes = bind(alloc, &commands)?;
+        let resolved = resolve(alloc, &commands, &scopes)
+            .ok()
+            .expect(&rt, "expansions within the limit");
+        let typing = analyse(alloc, &resolved, dialect)
+            .ok()
+            .expect(&rt, "types within the limit");
+        let found = match typing.blamed() {
+            [] => None,
+            [blame] => {
+                let span = scopes.span_of(blame.place);
+                Some((blame.code, span.start, span.end))
+            }
+            _ => Some(("several", 0, 0)),
+        };
+        assert_eq!(rt; found, expected, "{text:?}");
+    }
+    Ok(())
+}
+
+/// x0 = {a=0, b=0}; and so on to x10, whose type has 4,095 nodes.
+fn doubled(alloc: Global) -> Result<String, Fail> {
+    let mut text = String::from_str(alloc, "x0 = {a=0, b=0}; ")?;
+    for before in 0..10 {
+        let i = before + 1;
+        text.push_str(&format!(in alloc; "x{i} = {{a=x{before}, b=x{before}}}; ")?)?;
+    }
+    Ok(text)
+}
+
+fn first_too_large(
+    rt: &impl Abort,
+    alloc: Global,
+    text: &str,
+    last: Option<Place>,
+) -> Result<Option<usize>, Fail> {
+    let commands = commands_of(rt, alloc, text)?;
+    let scopes = bind(alloc, &commands)?;
+    let resolved: Resolved = resolve(alloc, &commands, &scopes)
+        .ok()
+        .expect(rt, "expansions within the limit");
+    let typing = match last {
+        Some(place) => analyse_to(alloc, &resolved, place, Dialect::One),
+        None => analyse(alloc, &resolved, Dialect::One),
+    };
+    match typing {
+        Ok(_) => Ok(None),
+        Err(TypingFault::TooLarge(place)) => Ok(Some(scopes.span_of(place).start)),
+        Err(TypingFault::Memory) => Ok(Some(usize::MAX)),
+    }
+}
+
+#[test]
+fn the_first_type_that_is_too_large_is_refused(rt: HostRuntime) -> Result<(), Fail> {
+    let alloc = rt.alloc();
+    let mut text = doubled(alloc)?;
+    let start = text.len();
+    assert_eq!(rt; first_too_large(&rt, alloc, &text, None)?, None);
+    text.push_str("y = {a=x10};")?;
+    assert_eq!(rt; first_too_large(&rt, alloc, &text, None)?, None);
+    text.push_str(" z = {a=x10, b=0}")?;
+    let too_large = Some(start + 17);
+    assert_eq!(rt; first_too_large(&rt, alloc, &text, None)?, too_large);
+    assert_eq!(rt; first_too_large(&rt, alloc, &text, Some(Place(2)))?, None);
+    Ok(())
+}
