@@ -2,7 +2,7 @@
 use Rattle.std.proofs.Common.{not, option_and_then, ◌≡◌, ℕ, ℤ, List, [], ◌∷◌, filter, codes, Bool, true, false, cond, ◌||◌, Option, None, Some, refl, sym, ap, ◌∙◌, subst, true≢false}
 use Rattle.std.proofs.lemmas.Slice.Eq.{bytes_eq-Decides}
 use Rattle.std.specs.Str.{bytes_eq}
-use Rattle.serde_json.specs.Data.{Data, null, string, no_items}
+use Rattle.serde_json.specs.Data.{Data, Items, null, string, no_items}
 use Rattle.serde_json.specs.Find.{get}
 use Rattle.lam_rpc.specs.Reply.{result_reply}
 use Rattle.lam_rpc.specs.Fields.{named_uri, listed_changes}
@@ -24,21 +24,11 @@ use Rattle.lam_session.specs.Methods.{request_method, notice_method}
 use Rattle.lam_session.specs.Runs.{Exchange, Runs, is_lifecycle, is_named, concerns, IsAlone, SaysNothing}
 use Rattle.lam_session.specs.State.{State, fresh}
 use Rattle.lam_session.specs.Step.{exit_status, Serves, Awaits, Requested, Heeds, Passes, Noticed, Receives, ReceivesIn, Steps}
-use Rattle.lam_session.specs.Sync.{published, opened_text, given_version, Holds, OpensAs, ChangesText, ChangesAs, ClosesOpen, ClosesAs}
+use Rattle.lam_session.specs.Sync.{published, opened_text, given_version, Tells, Holds, OpensAs, ChangesText, ChangesAs, ClosesOpen, ClosesAs}
+use Rattle.lam_session.specs.Diagnostics.{diagnostics}
+use Rattle.lam_session.proofs.EntryLemmas.{same_text, found_set}
 
 -- ---- the documents
-
-same_text : (uri : List ℕ) → bytes_eq uri uri ≡ true
-same_text uri = (bytes_eq-Decides uri uri).1 refl
-
--- a document that is set is found
-set_found : (b : Bool) (d e : OpenDocument) (ds es : List OpenDocument) → bytes_eq d.uri e.uri ≡ b → open_text d.uri es ≡ Some d.text → open_text d.uri (cond b (d ∷ ds) (e ∷ es)) ≡ Some d.text
-set_found true d e ds es is later = rw same_text refl
-set_found false d e ds es is later = rw is later
-
-found_set : (d : OpenDocument) (ds : List OpenDocument) → open_text d.uri (with_document d ds) ≡ Some d.text
-found_set d [] = rw same_text refl
-found_set d (e ∷ es) = set_found (bytes_eq d.uri e.uri) d e es (with_document d es) refl (found_set d es)
 
 -- another document stays
 other_set : (uri : List ℕ) (b : Bool) (d e : OpenDocument) (es rest : List OpenDocument) → bytes_eq uri d.uri ≡ false → bytes_eq d.uri e.uri ≡ b → open_text uri rest ≡ open_text uri es
@@ -121,8 +111,8 @@ requested_same uri (Over status) s docs id method params sent next agree d = doe
 holds_same : (uri : List ℕ) (s : State) (docs : List OpenDocument) (document : OpenDocument) (sent : List Data) (next : State)
     → open_text uri s.documents ≡ open_text uri docs → Holds s document sent next → Goes uri (Holds (beside s docs) document) sent next
 holds_same uri s docs document sent next agree d =
-    does_same uri (published document.uri document.version no_items ∷ []) (beside s (with_document document s.documents)) (with_document document docs) sent next
-    (agree_set uri document s.documents docs agree) d
+    let does = does_same uri sent (beside s (with_document document s.documents)) (with_document document docs) sent next (agree_set uri document s.documents docs agree) (refl, d.1) in
+    (does.0, (d.0, does.1.1), does.2)
 
 opens_same : (uri : List ℕ) (s : State) (docs : List OpenDocument) (named text : Option (List ℕ)) (version : Option ℤ) (sent : List Data) (next : State)
     → open_text uri s.documents ≡ open_text uri docs → OpensAs s named text version sent next → Goes uri (OpensAs (beside s docs) named text version) sent next
@@ -234,8 +224,8 @@ does_quiet uri s values docs sent next agree says d =
 refused_says : (uri : List ℕ) (id : Data) (refusal : Refusal) → SaysNothing uri (refused id refusal ∷ [])
 refused_says uri id refusal = (λ about. let clash : None ≡ Some (string (codes "textDocument/publishDiagnostics")) = ap (get (codes "method")) about.2 in cc, tt)
 
-published_says : (uri other : List ℕ) (version : Option ℤ) → bytes_eq uri other ≡ false → SaysNothing uri (published other version no_items ∷ [])
-published_says uri other version apart = (
+published_says : (uri other : List ℕ) (version : Option ℤ) (faults : Items) → bytes_eq uri other ≡ false → SaysNothing uri (published other version faults ∷ [])
+published_says uri other version faults apart = (
   λ about.
       let found : Some (string other) ≡ Some (string uri) = ap (λ (d : Data). option_and_then (get (codes "uri")) (get (codes "params") d)) about.2 in
       let same : other ≡ uri = cc in
@@ -259,8 +249,8 @@ unknown_request name is = unknown_at (bytes_eq name (codes "initialize")) (bytes
 
 holds_quiet : (uri : List ℕ) (s : State) (document : OpenDocument) (sent : List Data) (next : State) → bytes_eq uri document.uri ≡ false → Holds s document sent next → Quiet uri s sent next
 holds_quiet uri s document sent next apart d =
-    does_quiet uri s (published document.uri document.version no_items ∷ []) (with_document document s.documents) sent next
-    (kept_set uri document s.documents apart) (published_says uri document.uri document.version apart) d
+    does_quiet uri s (published document.uri document.version (diagnostics s.encoding document.text d.0.faults) ∷ []) (with_document document s.documents) sent next
+    (kept_set uri document s.documents apart) (published_says uri document.uri document.version _ apart) (d.0.told, d.1)
 
 opens_quiet : (uri : List ℕ) (s : State) (named text : Option (List ℕ)) (version : Option ℤ) (sent : List Data) (next : State) → is_named uri named ≡ false → OpensAs s named text version sent next → Quiet uri s sent next
 opens_quiet uri s None text version sent next apart d = does_quiet uri s [] s.documents sent next refl tt d
@@ -282,7 +272,7 @@ closes_open_quiet : (uri : List ℕ) (s : State) (other : List ℕ) (found : Opt
 closes_open_quiet uri s other None sent next apart d = does_quiet uri s [] s.documents sent next refl tt d
 closes_open_quiet uri s other (Some text) sent next apart d =
     does_quiet uri s (published other None no_items ∷ []) (without_document other s.documents) sent next
-    (kept_close uri other s.documents apart) (published_says uri other None apart) d
+    (kept_close uri other s.documents apart) (published_says uri other None no_items apart) d
 
 closes_quiet : (uri : List ℕ) (s : State) (named : Option (List ℕ)) (sent : List Data) (next : State) → is_named uri named ≡ false → ClosesAs s named sent next → Quiet uri s sent next
 closes_quiet uri s None sent next apart d = does_quiet uri s [] s.documents sent next refl tt d

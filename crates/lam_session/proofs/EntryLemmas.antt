@@ -151,3 +151,17 @@ text_found uri es o text is told =
 pub no_text : (uri : List ℕ) (es : List Entry) (text : List ℕ) → lookup (is_uri uri) es ≡ None → open_text uri (documents_of es) ≡ Some text → ⊥
 no_text uri es text is told =
     let clash : None ≡ Some text = sym (open_text-lookup uri es ∙ ap (option_map (λ w. w.doc.text)) is) ∙ told in cc
+
+-- ---- the list of documents
+
+pub same_text : (uri : List ℕ) → bytes_eq uri uri ≡ true
+same_text uri = (bytes_eq-Decides uri uri).1 refl
+
+-- a document that is set is found
+set_found : (b : Bool) (d e : OpenDocument) (ds es : List OpenDocument) → bytes_eq d.uri e.uri ≡ b → open_text d.uri es ≡ Some d.text → open_text d.uri (cond b (d ∷ ds) (e ∷ es)) ≡ Some d.text
+set_found true d e ds es is later = rw same_text refl
+set_found false d e ds es is later = rw is later
+
+pub found_set : (d : OpenDocument) (ds : List OpenDocument) → open_text d.uri (with_document d ds) ≡ Some d.text
+found_set d [] = rw same_text refl
+found_set d (e ∷ es) = set_found (bytes_eq d.uri e.uri) d e es (with_document d es) refl (found_set d es)

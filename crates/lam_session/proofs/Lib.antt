@@ -3,3 +3,7 @@ pub mod EntryLemmas
 pub mod ChangeSteps
 pub mod AloneRuns
 pub mod OneAnswer
+pub mod FaultLists
+pub mod PieceFaultLaws
+pub mod SortedFaults
+pub mod OneFaultList

@@ -1,5 +1,5 @@
 -- Each message has an answer, and one alone.
-use Rattle.std.proofs.Common.{◌≡◌, ℕ, ℤ, List, [], Option, None, Some, refl}
+use Rattle.std.proofs.Common.{◌≡◌, ℕ, ℤ, List, [], ◌∷◌, Option, None, Some, refl, ap, ◌∙◌}
 use Rattle.serde_json.specs.Data.{Data}
 use Rattle.lam_rpc.specs.Fields.{named_uri, listed_changes}
 use Rattle.lam_rpc.specs.Kind.{Message, request, notice, reply, unreadable, invalid}
@@ -10,13 +10,15 @@ use Rattle.lam_session.specs.declared.methods.RequestMethod.{RequestMethod}
 use Rattle.lam_session.specs.declared.methods.RequestMethod.TheVariants.{Initialize, Shutdown, UnknownRequest}
 use Rattle.lam_session.specs.declared.methods.NoticeMethod.{NoticeMethod}
 use Rattle.lam_session.specs.declared.methods.NoticeMethod.TheVariants.{Exit, DidOpen, DidChange, DidClose, UnknownNotice}
-use Rattle.lam_session.specs.Documents.{OpenDocument, open_text}
+use Rattle.lam_session.specs.Diagnostics.{diagnostics}
+use Rattle.lam_session.specs.Documents.{OpenDocument, open_text, with_document}
 use Rattle.lam_session.specs.Does.{Does, Ignores}
 use Rattle.lam_session.specs.Methods.{request_method, notice_method}
 use Rattle.lam_session.specs.OneAnswer.{HasOneAnswer}
 use Rattle.lam_session.specs.State.{State}
 use Rattle.lam_session.specs.Step.{Serves, Awaits, Requested, Heeds, Passes, Noticed, Receives, ReceivesIn, Steps}
-use Rattle.lam_session.specs.Sync.{Holds, OpensAs, ChangesText, ChangesAs, ClosesOpen, ClosesAs, opened_text, given_version}
+use Rattle.lam_session.proofs.OneFaultList.{some_fault_list, one_fault_list}
+use Rattle.lam_session.specs.Sync.{Holds, published, OpensAs, ChangesText, ChangesAs, ClosesOpen, ClosesAs, opened_text, given_version}
 
 -- a case of a step holds of these values and this state, and of no others
 record IsOne (says : List Data → State → Type 0) : Type 0 where
@@ -51,7 +53,15 @@ requested_one (Over status) s id method params = ignores_one s
 -- ---- notices
 
 holds_one : (s : State) (document : OpenDocument) → IsOne (Holds s document)
-holds_one s document = does_one _ _
+holds_one s document =
+    let found = some_fault_list document.text in
+    record {
+      values = published document.uri document.version (diagnostics s.encoding document.text found.0) ∷ [];
+      next = record s { documents = with_document document s.documents };
+      holds = (record { faults = found.0; are = found.1; told = refl }, refl);
+      alone = λ sent after h.
+        (h.0.told ∙ ap (λ fs. published document.uri document.version (diagnostics s.encoding document.text fs) ∷ []) (one_fault_list document.text found.0 h.0.faults found.1 h.0.are), h.1);
+    }
 
 opens_one : (s : State) (uri text : Option (List ℕ)) (version : Option ℤ) → IsOne (OpensAs s uri text version)
 opens_one s (Some uri) (Some text) version = holds_one s (record { uri = uri; text = text; version = version })

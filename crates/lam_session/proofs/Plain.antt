@@ -1,9 +1,9 @@
 -- What a step sends holds no float where the request's id holds none: so its text is known.
 use Rattle.std.proofs.Common.{ℕ, ℤ, pos, negsuc, Option, None, Some, ◌≡◌, zero, suc, List, [], ◌∷◌, map, false, refl, subst, sym, arith}
 use Rattle.std.specs.List.{All}
-use Rattle.serde_json.specs.Data.{Data, null, no_items}
+use Rattle.serde_json.specs.Data.{Data, Items, null, no_items}
 use Rattle.serde_json.specs.View.{view}
-use Rattle.serde_json.specs.Written.{has_float}
+use Rattle.serde_json.specs.Written.{has_float, items_have_float}
 use Rattle.serde_json.specs.declared.value.Value.{Value}
 use Rattle.lam_rpc.specs.Kind.{Message, request, notice, reply, unreadable, invalid, HasPlainId}
 use Rattle.lam_rpc.specs.Reply.{result_reply}
@@ -11,7 +11,7 @@ use Rattle.lam_session.specs.declared.states.Life.{Life}
 use Rattle.lam_session.specs.declared.states.Life.TheVariants.{Fresh, Running, Down, Over}
 use Rattle.lam_text.specs.declared.units.Encoding.{Encoding}
 use Rattle.lam_text.specs.declared.units.Encoding.TheVariants.{Utf8, Utf16, Utf32}
-use Rattle.lam_text.specs.Edits.{Edit}
+use Rattle.lam_text.specs.Edits.{Edit, text_after}
 use Rattle.lam_session.specs.declared.methods.RequestMethod.{RequestMethod}
 use Rattle.lam_session.specs.declared.methods.RequestMethod.TheVariants.{Initialize, Shutdown, UnknownRequest}
 use Rattle.lam_session.specs.declared.methods.NoticeMethod.{NoticeMethod}
@@ -24,8 +24,10 @@ use Rattle.lam_session.specs.Refusals.{refused}
 use Rattle.lam_session.specs.State.{State}
 use Rattle.lam_rpc.specs.Fields.{named_uri, listed_changes}
 use Rattle.lam_session.specs.Does.{Does}
-use Rattle.lam_session.specs.Documents.{open_text}
-use Rattle.lam_session.specs.Sync.{published, opened_text, given_version, OpensAs, ChangesText, ChangesAs, ClosesOpen, ClosesAs}
+use Rattle.lam_session.specs.Documents.{OpenDocument, open_text}
+use Rattle.lam_session.specs.declared.faults.Fault.{Fault}
+use Rattle.lam_session.specs.Diagnostics.{diagnostics}
+use Rattle.lam_session.specs.Sync.{published, opened_text, given_version, Holds, OpensAs, ChangesText, ChangesAs, ClosesOpen, ClosesAs}
 use Rattle.lam_session.specs.Step.{Heeds, Passes, Serves, Awaits, Requested, Noticed, Receives, ReceivesIn, Steps}
 
 -- no value of the list holds a float
@@ -64,19 +66,28 @@ requested_plain Running s id method params sent next h d = serves_plain s id met
 requested_plain Down s id method params sent next h d = does_plain _ _ sent next (refused_plain id ShutDown h) d
 requested_plain (Over status) s id method params sent next h d = does_plain _ _ sent next tt d
 
-published_plain : (uri : List ℕ) (version : Option ℤ) → NoFloats (published uri version no_items ∷ [])
-published_plain uri None = (refl, tt)
-published_plain uri (Some (pos n)) = (refl, tt)
-published_plain uri (Some (negsuc n)) = (refl, tt)
+-- no fault's value holds a float
+diagnostics_plain : (encoding : Encoding) (text : List ℕ) (faults : List Fault) → items_have_float (diagnostics encoding text faults) ≡ false
+diagnostics_plain encoding text [] = refl
+diagnostics_plain encoding text (f ∷ fs) = diagnostics_plain encoding text fs
+
+published_plain : (uri : List ℕ) (version : Option ℤ) (faults : Items) → items_have_float faults ≡ false → NoFloats (published uri version faults ∷ [])
+published_plain uri None faults h = (rw h refl, tt)
+published_plain uri (Some (pos n)) faults h = (rw h refl, tt)
+published_plain uri (Some (negsuc n)) faults h = (rw h refl, tt)
+
+holds_plain : (s : State) (document : OpenDocument) (sent : List Data) (next : State) → Holds s document sent next → NoFloats sent
+holds_plain s document sent next d =
+    subst NoFloats (sym d.0.told) (published_plain document.uri document.version (diagnostics s.encoding document.text d.0.faults) (diagnostics_plain s.encoding document.text d.0.faults))
 
 opens_plain : (s : State) (uri text : Option (List ℕ)) (version : Option ℤ) (sent : List Data) (next : State) → OpensAs s uri text version sent next → NoFloats sent
 opens_plain s None text version sent next d = does_plain _ _ sent next tt d
 opens_plain s (Some uri) None version sent next d = does_plain _ _ sent next tt d
-opens_plain s (Some uri) (Some text) version sent next d = does_plain _ _ sent next (published_plain uri version) d
+opens_plain s (Some uri) (Some text) version sent next d = holds_plain s (record { uri = uri; text = text; version = version }) sent next d
 
 changes_text_plain : (s : State) (uri : List ℕ) (text : Option (List ℕ)) (edits : List Edit) (version : Option ℤ) (sent : List Data) (next : State) → ChangesText s uri text edits version sent next → NoFloats sent
 changes_text_plain s uri None edits version sent next d = does_plain _ _ sent next tt d
-changes_text_plain s uri (Some text) edits version sent next d = does_plain _ _ sent next (published_plain uri version) d
+changes_text_plain s uri (Some text) edits version sent next d = holds_plain s (record { uri = uri; text = text_after s.encoding text edits; version = version }) sent next d
 
 changes_plain : (s : State) (uri : Option (List ℕ)) (edits : Option (List Edit)) (version : Option ℤ) (sent : List Data) (next : State) → ChangesAs s uri edits version sent next → NoFloats sent
 changes_plain s None edits version sent next d = does_plain _ _ sent next tt d
@@ -85,7 +96,7 @@ changes_plain s (Some uri) (Some edits) version sent next d = changes_text_plain
 
 closes_open_plain : (s : State) (uri : List ℕ) (text : Option (List ℕ)) (sent : List Data) (next : State) → ClosesOpen s uri text sent next → NoFloats sent
 closes_open_plain s uri None sent next d = does_plain _ _ sent next tt d
-closes_open_plain s uri (Some text) sent next d = does_plain _ _ sent next (published_plain uri None) d
+closes_open_plain s uri (Some text) sent next d = does_plain _ _ sent next (published_plain uri None no_items refl) d
 
 closes_plain : (s : State) (uri : Option (List ℕ)) (sent : List Data) (next : State) → ClosesAs s uri sent next → NoFloats sent
 closes_plain s None sent next d = does_plain _ _ sent next tt d

@@ -1,5 +1,7 @@
 pub mod Methods
 pub mod Refusals
+pub mod Faults
+pub mod Diagnostics
 pub mod Documents
 pub mod Entries
 pub mod State

@@ -1,11 +1,15 @@
 -- What the notices about documents do (LSP 3.17, "Text Document Synchronization"): each that has its shape and means
--- a document is followed by one notice with that document's faults, of which none are known yet.
-use Rattle.std.specs.Prelude.{ℕ, ℤ, List, [], ◌∷◌, codes, Option, None, Some, option_and_then}
+-- a document is followed by one notice with the faults of that document's text as it then is.
+use Rattle.std.specs.Prelude.{◌≡◌, ℕ, ℤ, List, [], ◌∷◌, codes, Option, None, Some, option_and_then}
 use Rattle.serde_json.specs.Data.{Data, number, string, array, object, Items, no_items, Members, member, no_members}
 use Rattle.serde_json.specs.Find.{get, as_number, as_i64, of_integer}
 use Rattle.lam_rpc.specs.Fields.{text_at, named_uri, listed_changes}
 use Rattle.lam_rpc.specs.Reply.{sent_notice}
+use Rattle.lam_text.specs.declared.units.Encoding.{Encoding}
 use Rattle.lam_text.specs.Edits.{Edit, text_after}
+use Rattle.lam_session.specs.declared.faults.Fault.{Fault}
+use Rattle.lam_session.specs.Faults.{AreFaultsOf}
+use Rattle.lam_session.specs.Diagnostics.{diagnostics}
 use Rattle.lam_session.specs.Documents.{OpenDocument, open_text, with_document, without_document}
 use Rattle.lam_session.specs.State.{State}
 use Rattle.lam_session.specs.Does.{Does, Ignores}
@@ -31,10 +35,16 @@ published uri version faults =
     sent_notice (codes "textDocument/publishDiagnostics")
     (object (member (codes "diagnostics") (array faults) (member (codes "uri") (string uri) (version_member version))))
 
+-- one value is sent: all faults of the document's text
+pub record Tells (encoding : Encoding) (document : OpenDocument) (sent : List Data) : Type 0 where
+  pub faults : List Fault
+  pub are : AreFaultsOf document.text faults
+  pub told : sent ≡ published document.uri document.version (diagnostics encoding document.text faults) ∷ []
+
 -- the document is open as it now stands, and its faults are told
 abbrev pub Holds : State → OpenDocument → List Data → State → Type 0
-Holds s document =
-    Does (published document.uri document.version no_items ∷ []) (record s { documents = with_document document s.documents })
+Holds s document sent next =
+    Tells s.encoding document sent × (next ≡ record s { documents = with_document document s.documents })
 
 -- a document is opened, anew where one of its uri is open
 abbrev pub OpensAs : State → Option (List ℕ) → Option (List ℕ) → Option ℤ → List Data → State → Type 0

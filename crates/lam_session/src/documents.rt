@@ -1,5 +1,5 @@
 //! The open documents of a session.
-ghost use Rattle.std.specs.Prelude.{◌≡◌, ℕ, List, [], Some, is_some, OnOk, OnErr, IsSome};
+ghost use Rattle.std.specs.Prelude.{◌≡◌, ℕ, List, [], Some, option_map, OnOk, OnErr, IsSome, IfSome};
 ghost use Rattle.lam_text.specs.Edits.{text_after};
 ghost use Rattle.lam_session.specs.Documents.{open_text, with_document, without_document};
 
@@ -47,17 +47,13 @@ impl Documents {
         }
     }
 
-    pub fn is_open(&self, uri: &str) -> bool
-        ensures { result ≡ is_some (open_text uri.now self.now.documents) }
+    /// An open document.
+    pub fn document(&self, uri: &str) -> Option<&Doc>
+        ensures text { option_map (λ d. d.now.text) result ≡ open_text uri.now self.now.documents }
+        ensures encoding { IfSome result (λ d. d.now.encoding ≡ self.now.encoding) }
     {
-        self.by_uri.contains_key(uri)
-    }
-
-    /// The text of an open document.
-    #[cfg(test)]
-    pub fn text(&self, uri: &str) -> Option<&str> {
         match self.by_uri.get(uri) {
-            Some(held) => Some(held.doc.text()),
+            Some(held) => Some(&held.doc),
             None => None,
         }
     }

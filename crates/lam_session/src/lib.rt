@@ -6,7 +6,9 @@
 
 #[cfg(test)]
 mod column_tests;
+mod diagnostics;
 mod documents;
+mod faults;
 mod initialize;
 mod laws;
 mod methods;

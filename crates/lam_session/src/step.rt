@@ -1,5 +1,5 @@
 //! One message, answered in full.
-ghost use Rattle.std.specs.Prelude.{◌≡◌, ◌∷◌, [], map, false, IfOk, OnErr, None};
+ghost use Rattle.std.specs.Prelude.{◌≡◌, ℕ, List, ◌∷◌, [], map, false, IfOk, OnErr, None, Some};
 ghost use Rattle.serde_json.specs.View.{view};
 ghost use Rattle.serde_json.specs.Written.{has_float};
 ghost use Rattle.std.specs.List.{All};
@@ -8,10 +8,13 @@ ghost use Rattle.lam_rpc.specs.Reply.{result_reply};
 ghost use Rattle.lam_session.specs.OneAnswer.{HasOneAnswer};
 ghost use Rattle.lam_session.specs.Refusals.{refused};
 ghost use Rattle.lam_session.specs.State.{fresh, ended_status};
-ghost use Rattle.lam_session.specs.Sync.{Opens, Changes, Closes};
+ghost use Rattle.lam_session.specs.Documents.{open_text};
+ghost use Rattle.lam_session.specs.Sync.{Tells, Opens, Changes, Closes};
 ghost use Rattle.lam_session.specs.Step.{Answers, GivesUp, Steps, Requested, Awaits, Noticed, Heeds, Passes, Serves, Ends, Initializes, ShutsDown, exit_status};
 
+use crate::diagnostics::diagnostics;
 use crate::documents::Documents;
+use crate::faults::faults;
 use crate::initialize::{chosen, initialize_answer};
 use crate::methods::{NoticeMethod, RequestMethod, notice_method, request_method};
 use crate::refusals::{Refusal, refused};
@@ -101,14 +104,17 @@ impl Session {
     /// The text of an open document.
     #[cfg(test)]
     pub fn text(&self, uri: &str) -> Option<&str> {
-        self.documents.text(uri)
+        match self.documents.document(uri) {
+            Some(doc) => Some(doc.text()),
+            None => None,
+        }
     }
 
     fn receive(&mut self, incoming: Incoming) -> Result<Vec<Value>, AllocError>
         requires { self.old.gave_up ≡ false }
         ensures steps { IfOk result (λ values. Steps self.old.state (message_of incoming) (map view values.items) self.new.state) }
         ensures flag { self.new.gave_up ≡ self.old.gave_up }
-        ensures same { OnErr result (self.new ≡ self.old) }
+        ensures life { OnErr result (self.new.state.life ≡ self.old.state.life) }
         ensures lives { OnErr result (ended_status self.old.state.life ≡ None) }
     {
         if self.ended().is_some() {
@@ -206,7 +212,7 @@ impl Session {
         requires { self.old.gave_up ≡ false }
         ensures steps { IfOk result (λ values. Noticed self.old.state.life self.old.state method (view params.now) (map view values.items) self.new.state) }
         ensures flag { self.new.gave_up ≡ self.old.gave_up }
-        ensures same { OnErr result (self.new ≡ self.old) }
+        ensures life { OnErr result (self.new.state.life ≡ self.old.state.life) }
         ensures lives { OnErr result (ended_status self.old.state.life ≡ None) }
     {
         match self.life {
@@ -219,7 +225,7 @@ impl Session {
         requires { self.old.gave_up ≡ false }
         ensures steps { IfOk result (λ values. Heeds self.old.state method (view params.now) (map view values.items) self.new.state) }
         ensures flag { self.new.gave_up ≡ self.old.gave_up }
-        ensures same { OnErr result (self.new ≡ self.old) }
+        ensures life { OnErr result (self.new.state.life ≡ self.old.state.life) }
     {
         match method {
             NoticeMethod::Exit => Ok(self.exit()),
@@ -253,7 +259,7 @@ impl Session {
     fn open_document(&mut self, params: &Value) -> Result<Vec<Value>, AllocError>
         ensures steps { IfOk result (λ values. Opens self.old.state (view params.now) (map view values.items) self.new.state) }
         ensures flag { self.new.gave_up ≡ self.old.gave_up }
-        ensures same { OnErr result (self.new ≡ self.old) }
+        ensures life { OnErr result (self.new.state.life ≡ self.old.state.life) }
     {
         let Ok(uri) = read_uri(params) else {
             return Ok(Vec::new(self.alloc));
@@ -262,20 +268,19 @@ impl Session {
             return Ok(Vec::new(self.alloc));
         };
         let version = given_version(params);
-        let values = published(self.alloc, uri, version)?;
         self.documents.open(uri, text, version)?;
-        Ok(values)
+        self.tell(uri, version)
     }
 
     fn change_document(&mut self, params: &Value) -> Result<Vec<Value>, AllocError>
         ensures steps { IfOk result (λ values. Changes self.old.state (view params.now) (map view values.items) self.new.state) }
         ensures flag { self.new.gave_up ≡ self.old.gave_up }
-        ensures same { OnErr result (self.new ≡ self.old) }
+        ensures life { OnErr result (self.new.state.life ≡ self.old.state.life) }
     {
         let Ok(uri) = read_uri(params) else {
             return Ok(Vec::new(self.alloc));
         };
-        if !self.documents.is_open(uri) {
+        if self.documents.document(uri).is_none() {
             return Ok(Vec::new(self.alloc));
         }
         let changes = match read_changes(self.alloc, params) {
@@ -284,9 +289,8 @@ impl Session {
             Err(ChangesFault::Memory) => return Err(AllocError),
         };
         let version = given_version(params);
-        let values = published(self.alloc, uri, version)?;
         self.documents.change(uri, &changes, version)?;
-        Ok(values)
+        self.tell(uri, version)
     }
 
     fn close_document(&mut self, params: &Value) -> Result<Vec<Value>, AllocError>
@@ -297,12 +301,25 @@ impl Session {
         let Ok(uri) = read_uri(params) else {
             return Ok(Vec::new(self.alloc));
         };
-        if !self.documents.is_open(uri) {
+        if self.documents.document(uri).is_none() {
             return Ok(Vec::new(self.alloc));
         }
-        let values = published(self.alloc, uri, None)?;
+        let values = published(self.alloc, uri, None, Vec::new(self.alloc))?;
         self.documents.close(uri);
         Ok(values)
+    }
+
+    /// The notice with all faults of an open document.
+    fn tell(&self, uri: &str, version: Option<i64>) -> Result<Vec<Value>, AllocError>
+        ensures { IfOk result (λ values. (text : List ℕ) → open_text uri.now self.now.state.documents ≡ Some text
+            → Tells self.now.state.encoding (record { uri = uri.now; text = text; version = version }) (map view values.items)) }
+    {
+        let Some(doc) = self.documents.document(uri) else {
+            return Ok(Vec::new(self.alloc));
+        };
+        let faults = faults(self.alloc, doc.text())?;
+        let diagnostics = diagnostics(self.alloc, doc, faults.as_slice())?;
+        published(self.alloc, uri, version, diagnostics)
     }
 }
 

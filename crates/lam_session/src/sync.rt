@@ -1,7 +1,6 @@
 //! What the notices about documents hold and what follows them.
 ghost use Rattle.std.specs.Prelude.{◌≡◌, ◌∷◌, [], map, IfOk, option_map};
-ghost use Rattle.serde_json.specs.Data.{no_items};
-ghost use Rattle.serde_json.specs.View.{view};
+ghost use Rattle.serde_json.specs.View.{view, items_view};
 ghost use Rattle.lam_session.specs.Sync.{opened_text, given_version, published};
 
 use lam_rpc::notice;
@@ -22,14 +21,20 @@ pub fn given_version(params: &Value) -> Option<i64>
     params.get("textDocument")?.get("version")?.as_i64()
 }
 
-/// The notice with the faults of a document, of which none are known yet
-/// (LSP 3.17, `PublishDiagnosticsParams`).
-pub fn published(alloc: Global, uri: &str, version: Option<i64>) -> Result<Vec<Value>, AllocError>
-    ensures { IfOk result (λ values. map view values.items ≡ published uri.now version no_items ∷ []) }
+/// The notice with what is to be told of a document (LSP 3.17, `PublishDiagnosticsParams`).
+pub fn published(
+    alloc: Global,
+    uri: &str,
+    version: Option<i64>,
+    diagnostics: Vec<Value>,
+) -> Result<Vec<Value>, AllocError>
+    ensures { IfOk result (λ values. map view values.items ≡ published uri.now version (items_view diagnostics.items) ∷ []) }
 {
     let params = match version {
-        Some(version) => json!(in alloc; {"diagnostics": [], "uri": uri, "version": version})?,
-        None => json!(in alloc; {"diagnostics": [], "uri": uri})?,
+        Some(version) => {
+            json!(in alloc; {"diagnostics": diagnostics, "uri": uri, "version": version})?
+        }
+        None => json!(in alloc; {"diagnostics": diagnostics, "uri": uri})?,
     };
     let value = notice(alloc, "textDocument/publishDiagnostics", params)?;
     Ok(vec![in alloc; value]?)

@@ -281,3 +281,130 @@ fn edited_texts(rt: HostRuntime) -> Result<(), Fail> {
     }
     Ok(())
 }
+
+/// The text of a fault on the first line, as a client reads it.
+fn diagnostic(alloc: Global, code: &str, start: u64, end: u64) -> Result<String, AllocError> {
+    let message = match code {
+        "B1" => "character not allowed",
+        "B2" => "comment not closed",
+        "L2" => "command of more than 2000 tokens",
+        "P1" => "unexpected token",
+        _ => "command ends too early",
+    };
+    format!(in alloc;
+        "{{\"code\":\"{code}\",\"message\":\"{message}\",\"range\":{{\"end\":{{\"character\":{end},\"line\":0}},\"start\":{{\"character\":{start},\"line\":0}}}},\"severity\":1,\"source\":\"fullsub\"}}"
+    )
+}
+
+/// What is told when this text, as it stands in JSON, is opened.
+fn told_of(alloc: Global, session: &mut Session, text: &str) -> Result<String, AllocError> {
+    let open = format!(in alloc;
+        "{{\"method\":\"textDocument/didOpen\",\"params\":{{\"textDocument\":{{\"uri\":\"file:///a\",\"version\":1,\"text\":\"{text}\"}}}}}}"
+    )?;
+    told(alloc, session, open.as_str())
+}
+
+fn published(alloc: Global, diagnostics: &str) -> Result<String, AllocError> {
+    format!(in alloc;
+        "{{\"jsonrpc\":\"2.0\",\"method\":\"textDocument/publishDiagnostics\",\"params\":{{\"diagnostics\":[{diagnostics}],\"uri\":\"file:///a\",\"version\":1}}}}\n"
+    )
+}
+
+#[test]
+fn one_fault_at_its_place(rt: HostRuntime) -> Result<(), Fail> {
+    let alloc = rt.alloc();
+    let mut session = Session::new(alloc, Config::new());
+    drop(told(alloc, &mut session, INITIALIZE)?);
+    let rows = [
+        ("x = if true then 0", "P2", 17, 18),
+        ("lambda X:Nat. 0", "P1", 7, 8),
+        ("X = 0", "P1", 4, 5),
+        ("x y = 0", "P1", 4, 5),
+        ("Nat = Bool", "P1", 0, 3),
+        ("/*/", "B2", 0, 3),
+        ("-", "B1", 0, 1),
+        ("x = # 0; y = 1", "B1", 4, 5),
+        ("/* a", "B2", 0, 4),
+        ("succ 0 )", "P1", 7, 8),
+        ("r = {b=true, a=0}; r.", "P2", 20, 21),
+        ("x = 0; (; y = x;", "P2", 7, 8),
+        ("lambda x:Nat 0", "P1", 13, 14),
+        ("{a=0, }", "P1", 6, 7),
+        ("0.1", "P1", 2, 3),
+        ("x : Nat = 0", "P1", 8, 9),
+        ("letrec x:Nat = 0", "P2", 15, 16),
+        ("/*😀*/ )", "P1", 7, 8),
+    ];
+    for (text, code, start, end) in rows {
+        let found = told_of(alloc, &mut session, text)?;
+        let fault = diagnostic(alloc, code, start, end)?;
+        let expected = published(alloc, fault.as_str())?;
+        assert_eq!(rt; found.as_str(), expected.as_str(), "in {text}");
+    }
+    Ok(())
+}
+
+#[test]
+fn no_fault(rt: HostRuntime) -> Result<(), Fail> {
+    let alloc = rt.alloc();
+    let mut session = Session::new(alloc, Config::new());
+    drop(told(alloc, &mut session, INITIALIZE)?);
+    for text in ["letrec x:Nat = 0 in x", "/* a /* b */ */ 0", "", " ; ;; "] {
+        let found = told_of(alloc, &mut session, text)?;
+        let expected = published(alloc, "")?;
+        assert_eq!(rt; found.as_str(), expected.as_str(), "in {text}");
+    }
+    Ok(())
+}
+
+#[test]
+fn faults_by_their_places(rt: HostRuntime) -> Result<(), Fail> {
+    let alloc = rt.alloc();
+    let mut session = Session::new(alloc, Config::new());
+    drop(told(alloc, &mut session, INITIALIZE)?);
+    let found = told_of(alloc, &mut session, "(; # x; ) /* y")?;
+    let first = diagnostic(alloc, "P2", 0, 1)?;
+    let second = diagnostic(alloc, "B1", 3, 4)?;
+    let third = diagnostic(alloc, "B2", 10, 14)?;
+    let expected = published(
+        alloc,
+        format!(in alloc; "{first},{second},{third}")?.as_str(),
+    )?;
+    assert_eq!(rt; found.as_str(), expected.as_str());
+    Ok(())
+}
+
+#[test]
+fn commands_at_the_limit(rt: HostRuntime) -> Result<(), Fail> {
+    let alloc = rt.alloc();
+    let mut session = Session::new(alloc, Config::new());
+    drop(told(alloc, &mut session, INITIALIZE)?);
+    let mut text = String::from_str(alloc, "0")?;
+    for _ in 0..1_999 {
+        text.push_str(" 0")?;
+    }
+    let found = told_of(alloc, &mut session, text.as_str())?;
+    assert_eq!(rt; found.as_str(), published(alloc, "")?.as_str());
+    text.push_str(" 0")?;
+    let found = told_of(alloc, &mut session, text.as_str())?;
+    let fault = diagnostic(alloc, "L2", 0, 4_001)?;
+    assert_eq!(rt; found.as_str(), published(alloc, fault.as_str())?.as_str());
+    Ok(())
+}
+
+#[test]
+fn columns_in_each_encoding(rt: HostRuntime) -> Result<(), Fail> {
+    let alloc = rt.alloc();
+    for (encoding, start, end) in [("utf-8", 9, 10), ("utf-16", 7, 8), ("utf-32", 6, 7)] {
+        let initialize = format!(in alloc;
+            "{{\"id\":0,\"method\":\"initialize\",\"params\":{{\"capabilities\":{{\"general\":{{\"positionEncodings\":[\"{encoding}\"]}}}}}}}}"
+        )?;
+        let mut session = Session::new(alloc, Config::new());
+        drop(told(alloc, &mut session, initialize.as_str())?);
+        let found = told_of(alloc, &mut session, "/*😀*/ #")?;
+        let fault = diagnostic(alloc, "B1", start, end)?;
+        let expected = published(alloc, fault.as_str())?;
+        assert_eq!(rt; found.as_str(), expected.as_str(), "in {encoding}");
+    }
+    Ok(())
+}
