@@ -11,6 +11,8 @@ ghost use Rattle.lam_server.specs.Words.{ReadsWords};
 
 mod answer;
 mod args;
+#[cfg(test)]
+mod column_tests;
 mod faults;
 mod run;
 mod server;
