@@ -60,7 +60,7 @@ holds_one s document =
       next = record s { documents = with_document document s.documents };
       holds = (record { faults = found.0; are = found.1; told = refl }, refl);
       alone = λ sent after h.
-        (h.0.told ∙ ap (λ fs. published document.uri document.version (diagnostics s.encoding document.text fs) ∷ []) (one_fault_list document.text found.0 h.0.faults found.1 h.0.are), h.1);
+          (h.0.told ∙ ap (λ fs. published document.uri document.version (diagnostics s.encoding document.text fs) ∷ []) (one_fault_list document.text found.0 h.0.faults found.1 h.0.are), h.1);
     }
 
 opens_one : (s : State) (uri text : Option (List ℕ)) (version : Option ℤ) → IsOne (OpensAs s uri text version)

@@ -25,7 +25,7 @@ same_order ts us ps qs fs gs same of_pieces others permutes permutes_others sort
     let pieces_same = one_piece_faults (pieces_of ts) qs ps others_here of_pieces in
     let all_same = ap (λ vs. filter_map fault_of_token vs ++ qs) same ∙ ap (λ rs. filter_map fault_of_token ts ++ rs) pieces_same in
     one_order (filter_map fault_of_token ts ++ ps) gs fs
-        (subst (λ (all : List Fault). IsPermutation all gs) all_same permutes_others) permutes sorted_others sorted
+    (subst (λ (all : List Fault). IsPermutation all gs) all_same permutes_others) permutes sorted_others sorted
 
 pub some_fault_list : (text : List ℕ) → (faults : List Fault) × AreFaultsOf text faults
 some_fault_list text =
