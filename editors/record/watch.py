@@ -14,7 +14,7 @@ from terminal import ENVIRONMENT, FILE, ROOM, Terminal, prepare
 
 # The command is typed into the empty line.
 START = "x = {a=0, b=true};\n\nz = x.a;\n"
-PIECES = ["y = ", "/* 😀 ", "*/ ", "if x.b ", "then x.", "a ", "else 1", " )", "\x7f\x7f", "😀", "\x7f"]
+PIECES = ["y = ", "/* 😀 ", "*/ ", "if x.b ", "then x.", "a ", "else 1", " )", "\x7f\x7f", "😀", "\x7f", ".b"]
 
 NEOVIM = ["nvim", "-i", "NONE", "--listen", f"{ROOM}/socket", FILE]
 NEOVIM_KEYS = ["jI;", "\x1b[D"]

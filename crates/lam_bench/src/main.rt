@@ -3,10 +3,12 @@
 //! small size and writes nothing.
 #![tactic(auto)]
 
+mod documents;
 mod fault;
 mod frames;
 mod measure;
 mod texts;
+mod types;
 
 use fault::BenchFault;
 use measure::Measure;

@@ -1,8 +1,9 @@
 //! The measures, by their names.
 
+use crate::documents::{self, Uses};
 use crate::fault::BenchFault;
-use crate::frames;
 use crate::texts::{self, Letters};
+use crate::{frames, types};
 use std::alloc::Global;
 use std::fmt;
 use std::rt::Clock;
@@ -26,10 +27,20 @@ pub enum Measure {
     Offsets(Letters),
     /// Those offsets, and the positions of them.
     Positions(Letters),
+    /// Adding a record type of SIZE fields to a table.
+    AddType,
+    /// The bounds of two types that were doubled SIZE times.
+    Bounds,
+    /// Binding a document of SIZE commands.
+    Bind(Uses),
+    /// Its nameless form.
+    Resolve(Uses),
+    /// The places of a hundred thousand bytes of it.
+    Places,
 }
 
 impl Measure {
-    pub const ALL: [Measure; 11] = [
+    pub const ALL: [Measure; 19] = [
         Measure::WholeBody,
         Measure::BodyByBytes,
         Measure::SmallFrames,
@@ -41,8 +52,17 @@ impl Measure {
         Measure::Offsets(Letters::Umlauts),
         Measure::Positions(Letters::Ascii),
         Measure::Positions(Letters::Umlauts),
+        Measure::AddType,
+        Measure::Bounds,
+        Measure::Bind(Uses::Chain),
+        Measure::Bind(Uses::First),
+        Measure::Resolve(Uses::Chain),
+        Measure::Resolve(Uses::First),
+        Measure::Resolve(Uses::Abbreviation),
+        Measure::Places,
     ];
 
+    /// The measure that is called so on the command line.
     pub fn named(name: &str) -> Option<Measure> {
         Measure::ALL
             .into_iter()
@@ -62,6 +82,15 @@ impl Measure {
             Measure::Offsets(Letters::Umlauts) => "offsets-umlauts",
             Measure::Positions(Letters::Ascii) => "positions-ascii",
             Measure::Positions(Letters::Umlauts) => "positions-umlauts",
+            Measure::AddType => "add-type",
+            Measure::Bounds => "bounds",
+            Measure::Bind(Uses::Chain) => "bind-chain",
+            Measure::Bind(Uses::First) => "bind-first",
+            Measure::Bind(Uses::Abbreviation) => "bind-abbreviation",
+            Measure::Resolve(Uses::Chain) => "resolve-chain",
+            Measure::Resolve(Uses::First) => "resolve-first",
+            Measure::Resolve(Uses::Abbreviation) => "resolve-abbreviation",
+            Measure::Places => "places",
         }
     }
 
@@ -75,6 +104,11 @@ impl Measure {
             Measure::Edit(letters) => texts::editing(alloc, rt, letters, size),
             Measure::Offsets(letters) => texts::finding(alloc, rt, letters, size),
             Measure::Positions(letters) => texts::counting(alloc, rt, letters, size),
+            Measure::AddType => types::adding(alloc, rt, size),
+            Measure::Bounds => types::bounding(alloc, rt, size),
+            Measure::Bind(uses) => documents::binding(alloc, rt, uses, size),
+            Measure::Resolve(uses) => documents::resolving(alloc, rt, uses, size),
+            Measure::Places => documents::hovering(alloc, rt, size),
         }
     }
 }

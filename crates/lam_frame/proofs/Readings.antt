@@ -7,7 +7,7 @@ use Rattle.lam_frame.specs.declared.fault.FrameFault.{FrameFault}
 use Rattle.lam_frame.specs.declared.fault.FrameFault.TheVariants.{NoLength, BadLength, TooLong, BadHeader, Truncated, Device, Memory, TooManyTurns, Spent}
 use Rattle.lam_frame.specs.Header.{AreLines, IsBegunEnd, IsPlain, HasHeader, IsSpoiled, IsUnfinished, IsMisplaced, is_plain, ended_lines, header_text, body_length}
 use Rattle.lam_frame.specs.Frame.{HasFrame, HasFault, IsOpen, IsRest, IsReading}
-use Rattle.lam_frame.specs.Frame.HasFault.{Spoiled as SpoiledFault, TooLong as TooLongFault, BadFields}
+use Rattle.lam_frame.specs.Frame.HasFault.{Spoiled as SpoiledFault, Endless, BadFields}
 use Rattle.lam_frame.specs.Frame.IsOpen.{InHeader, InBody}
 use Rattle.lam_frame.specs.Laws.{HasReading, ReadsOneWay, Settles, OpenSettlesNothing}
 use Rattle.lam_frame.specs.Steps.{IsByteFault}
@@ -129,7 +129,7 @@ begins_header bytes a true s =
     begins_verdict bytes a.lines a.after (body_length a.lines) (record { are_lines = a.are_lines; text = a.text; fits = small }) refl
 begins_header bytes a false s =
     let large : 4096 < length (header_text a.lines) = grind (arith, nat_tests) in
-    WithFault BadHeader (TooLongFault (record {
+    WithFault BadHeader (Endless (record {
       long = omega (arith, large, ap length a.text, length-append (header_text a.lines) a.after);
       endless = λ lines after h.
           let e : Whole lines after ≡ Whole a.lines a.after = sym (kind-lines bytes lines after h.are_lines h.text) ∙ kind-lines bytes a.lines a.after a.are_lines a.text in
@@ -141,7 +141,7 @@ begins_unfinished : (bytes : List ℕ) → IsUnfinished bytes → (short : Bool)
 begins_unfinished bytes u true s = let less : length bytes < 4096 = grind (arith, nat_tests) in Nowhere (InHeader u less)
 begins_unfinished bytes u false s =
     let long : 4096 ≤ length bytes = grind (arith, nat_tests) in
-    WithFault BadHeader (TooLongFault (record { long = long; endless = λ lines after h. header_not_unfinished bytes lines after h u }) refl)
+    WithFault BadHeader (Endless (record { long = long; endless = λ lines after h. header_not_unfinished bytes lines after h u }) refl)
 
 begins_kind : (bytes : List ℕ) → Kind bytes → Begins bytes
 begins_kind bytes (Header a) = begins_header bytes a (nat_le (length (header_text a.lines)) 4096) refl
@@ -165,16 +165,16 @@ open_no_frame bytes body after (InBody lines part size h e less) f =
 
 open_no_fault : (bytes : List ℕ) (fault : FrameFault) → IsOpen bytes → HasFault bytes fault → ⊥
 open_no_fault bytes fault (InHeader u less) (SpoiledFault s e) = unfinished_not_spoiled bytes u s
-open_no_fault bytes fault (InHeader u less) (TooLongFault t e) = omega (arith, less, t.long)
+open_no_fault bytes fault (InHeader u less) (Endless t e) = omega (arith, less, t.long)
 open_no_fault bytes fault (InHeader u less) (BadFields lines after h e) = header_not_unfinished bytes lines after h u
 open_no_fault bytes fault (InBody lines part size h e less) (SpoiledFault s f) = header_not_spoiled bytes lines part h s
-open_no_fault bytes fault (InBody lines part size h e less) (TooLongFault t f) = t.endless lines part h
+open_no_fault bytes fault (InBody lines part size h e less) (Endless t f) = t.endless lines part h
 open_no_fault bytes fault (InBody lines part size h e less) (BadFields k after g f) =
     let same = same_verdict bytes lines k part after (Ok size) (Err fault) h g e f in cc same.0
 
 frame_no_fault : (bytes body after : List ℕ) (fault : FrameFault) → HasFrame bytes body after → HasFault bytes fault → ⊥
 frame_no_fault bytes body after fault f (SpoiledFault s e) = header_not_spoiled bytes f.lines (body ++ after) f.header s
-frame_no_fault bytes body after fault f (TooLongFault t e) = t.endless f.lines (body ++ after) f.header
+frame_no_fault bytes body after fault f (Endless t e) = t.endless f.lines (body ++ after) f.header
 frame_no_fault bytes body after fault f (BadFields lines rest h e) =
     let same = same_verdict bytes f.lines lines (body ++ after) rest (Ok (length body)) (Err fault) f.header h f.size e in cc same.0
 
@@ -196,13 +196,13 @@ frames_agree bytes b c a d f g =
 
 faults_agree : (bytes : List ℕ) (f g : FrameFault) → HasFault bytes f → HasFault bytes g → f ≡ g
 faults_agree bytes f g (SpoiledFault s e) (SpoiledFault t h) = e ∙ sym h
-faults_agree bytes f g (SpoiledFault s e) (TooLongFault t h) = e ∙ sym h
+faults_agree bytes f g (SpoiledFault s e) (Endless t h) = e ∙ sym h
 faults_agree bytes f g (SpoiledFault s e) (BadFields lines after h d) = absurd (header_not_spoiled bytes lines after h s)
-faults_agree bytes f g (TooLongFault s e) (SpoiledFault t h) = e ∙ sym h
-faults_agree bytes f g (TooLongFault s e) (TooLongFault t h) = e ∙ sym h
-faults_agree bytes f g (TooLongFault s e) (BadFields lines after h d) = absurd (s.endless lines after h)
+faults_agree bytes f g (Endless s e) (SpoiledFault t h) = e ∙ sym h
+faults_agree bytes f g (Endless s e) (Endless t h) = e ∙ sym h
+faults_agree bytes f g (Endless s e) (BadFields lines after h d) = absurd (s.endless lines after h)
 faults_agree bytes f g (BadFields lines after h e) (SpoiledFault t d) = absurd (header_not_spoiled bytes lines after h t)
-faults_agree bytes f g (BadFields lines after h e) (TooLongFault t d) = absurd (t.endless lines after h)
+faults_agree bytes f g (BadFields lines after h e) (Endless t d) = absurd (t.endless lines after h)
 faults_agree bytes f g (BadFields lines after h e) (BadFields k rest i d) = let same = same_verdict bytes lines k after rest (Err f) (Err g) h i e d in cc same.0
 
 -- ---- whole readings

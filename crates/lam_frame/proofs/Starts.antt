@@ -8,7 +8,7 @@ use Rattle.lam_frame.specs.declared.fault.FrameFault.{FrameFault}
 use Rattle.lam_frame.specs.declared.fault.FrameFault.TheVariants.{NoLength, BadLength, TooLong, BadHeader}
 use Rattle.lam_frame.specs.Header.{AreLines, IsPlain, HasHeader, IsSpoiled, IsUnfinished, IsTooLong, IsMisplaced, IsBegunEnd, is_plain, ended_lines, header_text, body_length, one_length, is_number, has_colon, names_length, is_colon, trim}
 use Rattle.lam_frame.specs.Frame.{HasFault}
-use Rattle.lam_frame.specs.Frame.HasFault.{Spoiled as SpoiledFault, TooLong as TooLongFault, BadFields}
+use Rattle.lam_frame.specs.Frame.HasFault.{Spoiled as SpoiledFault, Endless, BadFields}
 use Rattle.lam_frame.specs.Scan.{HasLines}
 use Rattle.lam_frame.specs.Steps.{IsByteFault, StartsBody}
 
@@ -216,7 +216,7 @@ body_length-small lines size e = verdict-small (list_any (λ (l : List ℕ). not
 
 pub HasFault-byte : (bytes : List ℕ) (fault : FrameFault) → HasFault bytes fault → IsByteFault fault
 HasFault-byte bytes fault (SpoiledFault s e) = subst IsByteFault (sym e) tt
-HasFault-byte bytes fault (TooLongFault l e) = subst IsByteFault (sym e) tt
+HasFault-byte bytes fault (Endless l e) = subst IsByteFault (sym e) tt
 HasFault-byte bytes fault (BadFields lines after h e) = body_length-fault lines fault e
 
 -- ---- what a scan of the first 4,096 bytes says of all
@@ -225,7 +225,7 @@ pub start_spoiled : (window rest bytes : List ℕ) → bytes ≡ window ++ rest 
 start_spoiled window rest bytes e s = (SpoiledFault (subst IsSpoiled (sym e) (IsSpoiled-more window rest s)) refl, tt)
 
 pub start_long : (window rest bytes : List ℕ) → bytes ≡ window ++ rest → IsUnfinished window → length window ≡ 4096 → HasFault bytes BadHeader × IsByteFault BadHeader
-start_long window rest bytes e u long = (TooLongFault (subst IsTooLong (sym e) (IsTooLong-window window rest u (omega (arith, long)))) refl, tt)
+start_long window rest bytes e u long = (Endless (subst IsTooLong (sym e) (IsTooLong-window window rest u (omega (arith, long)))) refl, tt)
 
 header_of_lines : (window rest bytes : List ℕ) (len : ℕ) (body : Result ℕ FrameFault) → bytes ≡ window ++ rest → length window ≤ 4096 → (w : HasLines window len body) → HasHeader bytes w.lines (drop len window ++ rest)
 header_of_lines window rest bytes len body e short w = record {

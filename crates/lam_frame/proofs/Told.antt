@@ -6,7 +6,7 @@ use Rattle.std.proofs.KnownBytes.{Consumes-kept, Keeps-refl}
 use Rattle.lam_frame.specs.declared.fault.FrameFault.{FrameFault}
 use Rattle.lam_frame.specs.declared.fault.FrameFault.TheVariants.{NoLength, BadLength, TooLong, BadHeader, Truncated, Device, Memory, TooManyTurns, Spent}
 use Rattle.lam_frame.specs.Frame.{HasFrame, HasFault, IsOpen}
-use Rattle.lam_frame.specs.Frame.HasFault.{Spoiled as SpoiledFault, TooLong as TooLongFault, BadFields}
+use Rattle.lam_frame.specs.Frame.HasFault.{Spoiled as SpoiledFault, Endless, BadFields}
 use Rattle.lam_frame.specs.Header.{HasHeader, IsTooLong, ended_lines, header_text}
 use Rattle.lam_frame.specs.Next.{Reads, After, EndsEmpty, PulledWhile, Says, Answers, AnswersWhereTold, failures_after, work_left}
 use Rattle.lam_frame.proofs.Pulls.{PulledWhile-bytes, PulledWhile-end, PulledWhile-failed, PulledWhile-short}
@@ -29,7 +29,7 @@ IsTooLong-more bytes more t = record {
 
 pub HasFault-more : (bytes more : List ℕ) (fault : FrameFault) → HasFault bytes fault → HasFault (bytes ++ more) fault
 HasFault-more bytes more fault (SpoiledFault s e) = SpoiledFault (IsSpoiled-more bytes more s) e
-HasFault-more bytes more fault (TooLongFault t e) = TooLongFault (IsTooLong-more bytes more t) e
+HasFault-more bytes more fault (Endless t e) = Endless (IsTooLong-more bytes more t) e
 HasFault-more bytes more fault (BadFields lines after h e) = BadFields lines (after ++ more) (HasHeader-more bytes more lines after h) e
 
 -- ---- all bytes

@@ -2,7 +2,7 @@
 use Rattle.std.specs.Prelude.{◌≡◌, ◌≢◌, ℕ, ◌<◌, List, [], ◌∷◌, ◌++◌, length, codes, decimal, Option, Some, None, Ok, Err}
 use Rattle.lam_frame.specs.declared.fault.FrameFault.{FrameFault}
 use Rattle.lam_frame.specs.declared.fault.FrameFault.TheVariants.{BadHeader, Truncated}
-use Rattle.lam_frame.specs.Header.{HasHeader, IsSpoiled, IsTooLong, IsUnfinished, body_length}
+use Rattle.lam_frame.specs.Header.{HasHeader, IsSpoiled, IsTooLong, IsUnfinished, body_length, header_limit}
 
 -- the bytes begin with a frame of this body, and these bytes follow it
 pub record HasFrame (bytes body after : List ℕ) : Type 0 where
@@ -13,12 +13,12 @@ pub record HasFrame (bytes body after : List ℕ) : Type 0 where
 -- no frame can stand there any more, whatever bytes follow
 pub data HasFault (bytes : List ℕ) (fault : FrameFault) : Type 0 where
   Spoiled : IsSpoiled bytes → fault ≡ BadHeader → HasFault bytes fault
-  TooLong : IsTooLong bytes → fault ≡ BadHeader → HasFault bytes fault
+  Endless : IsTooLong bytes → fault ≡ BadHeader → HasFault bytes fault
   BadFields : (lines : List (List ℕ)) (after : List ℕ) → HasHeader bytes lines after → body_length lines ≡ Err fault → HasFault bytes fault
 
 -- neither: the header part or the body is not over yet
 pub data IsOpen (bytes : List ℕ) : Type 0 where
-  InHeader : IsUnfinished bytes → length bytes < 4096 → IsOpen bytes
+  InHeader : IsUnfinished bytes → length bytes < header_limit → IsOpen bytes
   InBody : (lines : List (List ℕ)) (part : List ℕ) (size : ℕ) → HasHeader bytes lines part → body_length lines ≡ Ok size → length part < size → IsOpen bytes
 
 -- ---- a whole byte list

@@ -7,6 +7,14 @@ use Rattle.std.specs.Str.Parse.{digits_value}
 use Rattle.lam_frame.specs.declared.fault.FrameFault.{FrameFault}
 use Rattle.lam_frame.specs.declared.fault.FrameFault.TheVariants.{NoLength, BadLength, TooLong, BadHeader}
 
+-- how many bytes a header part may have
+abbrev pub header_limit : ℕ
+header_limit = 4096
+
+-- how many bytes a body may have: 64 MiB
+abbrev pub body_limit : ℕ
+body_limit = 67108864
+
 -- ---- the lines
 
 -- ASCII, and neither CR nor LF
@@ -38,7 +46,7 @@ header_text lines = ended_lines lines ++ (13 ∷ 10 ∷ [])
 pub record HasHeader (bytes : List ℕ) (lines : List (List ℕ)) (after : List ℕ) : Type 0 where
   pub are_lines : AreLines lines
   pub text : bytes ≡ header_text lines ++ after
-  pub fits : length (header_text lines) ≤ 4096
+  pub fits : length (header_text lines) ≤ header_limit
 
 -- ---- what is no header part, or none yet
 
@@ -77,7 +85,7 @@ pub record IsUnfinished (bytes : List ℕ) : Type 0 where
 
 -- 4,096 bytes, and no header part ends among them
 pub record IsTooLong (bytes : List ℕ) : Type 0 where
-  pub long : 4096 ≤ length bytes
+  pub long : header_limit ≤ length bytes
   pub endless : (lines : List (List ℕ)) (after : List ℕ) → HasHeader bytes lines after → ⊥
 
 -- ---- the fields
@@ -119,7 +127,7 @@ is_number ds = nat_lt 0 (length ds) && (nat_le (length ds) 19 && list_all is_asc
 -- the number that a value of `Content-Length` writes, at most 64 MiB
 abbrev pub length_in : List ℕ → Result ℕ FrameFault
 length_in value =
-    if is_number value then (if nat_lt 67108864 (digits_value 10 value) then Err TooLong else Ok (digits_value 10 value)) else Err BadLength
+    if is_number value then (if nat_lt body_limit (digits_value 10 value) then Err TooLong else Ok (digits_value 10 value)) else Err BadLength
 
 -- the value of the one line that names the length
 abbrev pub one_length : List (List ℕ) → Result ℕ FrameFault

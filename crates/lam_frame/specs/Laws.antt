@@ -1,6 +1,7 @@
 -- Laws of frames: every input splits into frames and a rest, and only one way; open bytes settle nothing; a frame that is written is read back.
 use Rattle.std.specs.Prelude.{◌≡◌, ◌≤◌, ◌⊎◌, ◌↔◌, ℕ, List, ◌++◌, Option, length}
 use Rattle.lam_frame.specs.declared.fault.FrameFault.{FrameFault}
+use Rattle.lam_frame.specs.Header.{body_limit}
 use Rattle.lam_frame.specs.Frame.{HasFault, HasFrame, IsOpen, IsReading, frame_text}
 
 -- there is a reading
@@ -29,4 +30,4 @@ OpenSettlesNothing bytes = IsOpen bytes ↔ (Settles bytes → ⊥)
 
 -- a frame that is written is the one that is read, whatever follows it
 abbrev pub IsReadBack : List ℕ → Type 0
-IsReadBack body = length body ≤ 67108864 → (more : List ℕ) → HasFrame (frame_text body ++ more) body more
+IsReadBack body = length body ≤ body_limit → (more : List ℕ) → HasFrame (frame_text body ++ more) body more

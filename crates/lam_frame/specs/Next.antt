@@ -16,7 +16,8 @@ pub record Progress : Type 0 where
 
 -- ---- the pulls
 
--- pulls gave these pieces, of at most 65,536 bytes each, and before each pull P held of the bytes that were there
+-- Pulls gave these pieces, and before each pull P held of the bytes that were there. A piece has at most 65,536 bytes, since a
+-- reader asks for no more; `work_left` counts on that.
 abbrev pub PulledWhile : {S : Type 0} → (S → Option (List ℕ)) → (S → ℕ) → (S → List ℕ → S → Type 0) → (List ℕ → Type 0) → List ℕ → S → List (List ℕ) → S → Type 0
 PulledWhile coming failed gave P held source [] last = source ≡ last
 PulledWhile {S} coming failed gave P held source (piece ∷ pieces) last =

@@ -3,7 +3,7 @@ use Rattle.std.specs.Prelude.{◌≡◌, ◌≢◌, ℕ, ◌+◌, ◌^◌, ◌<�
 use Rattle.std.specs.List.{AllByRecursion}
 use Rattle.lam_frame.specs.Device.{Gave, FailedPull}
 use Rattle.lam_frame.specs.Frame.{HasFault, IsOpen}
-use Rattle.lam_frame.specs.Header.{HasHeader, IsUnfinished, body_length}
+use Rattle.lam_frame.specs.Header.{HasHeader, IsUnfinished, body_length, header_limit}
 use Rattle.lam_frame.specs.Next.{EndsEmpty}
 use Rattle.lam_frame.specs.declared.device.DeviceFault.{DeviceFault}
 use Rattle.lam_frame.specs.declared.fault.FrameFault.{FrameFault}
@@ -28,7 +28,7 @@ pub record StartsBody (bytes : List ℕ) (len size : ℕ) : Type 0 where
 
 abbrev pub IsStart : List ℕ → Start → Type 0
 IsStart bytes (Whole len size) = StartsBody bytes len size
-IsStart bytes Open = IsUnfinished bytes × (length bytes < 4096)
+IsStart bytes Open = IsUnfinished bytes × (length bytes < header_limit)
 IsStart bytes (Faulty fault) = HasFault bytes fault × IsByteFault fault
 
 -- one pull behind the bytes held

@@ -11,7 +11,7 @@ mod device;
 mod fault;
 mod header;
 mod held;
-mod law;
+mod laws;
 mod reader;
 mod streams;
 #[cfg(test)]
@@ -21,7 +21,7 @@ mod writer;
 pub use bytes::{BytesIn, BytesOut};
 pub use device::{DeviceFault, Sink, Source};
 pub use fault::FrameFault;
-pub use law::{one_reading, open_settles_nothing, some_reading, written_is_read};
+pub use laws::{one_reading, open_settles_nothing, some_reading, written_is_read};
 pub use reader::{FrameReader, State};
 pub use streams::{FromRead, ToWrite};
 pub use writer::write_frame;

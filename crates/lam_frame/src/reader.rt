@@ -1,6 +1,7 @@
 //! Frames in, bodies out.
 
 ghost use Rattle.std.specs.Prelude.{◌≡◌, IfSome, OnOk, ◌+◌, ◌-◌, ◌^◌, ◌<◌, ◌≤◌, IfOk, [], length, Ok, Err, None, OnSome};
+ghost use Rattle.lam_frame.specs.Header.{body_limit};
 ghost use Rattle.lam_frame.specs.Frame.{IsOpen};
 ghost use Rattle.lam_frame.specs.Next.{AnswersWhereTold, Progress, Reads, Says, failures_after, state_after, work_left};
 ghost use Rattle.lam_frame.specs.Steps.{Moved, PullsMore, end_after, SaysBody, SaysHeader};
@@ -124,7 +125,7 @@ fn read_header<S: Source>(
     requires failures { S.failed source.old < 2 ^ 64 - 1 }
     ensures reads { Reads S.coming S.failed S.gave IsOpen SaysHeader
         held.old pulls.old source.old result held.new pulls.new source.new }
-    ensures size { IfOk result (λ o. IfSome o (λ size. size ≤ 67108864)) }
+    ensures size { IfOk result (λ o. IfSome o (λ size. size ≤ body_limit)) }
 {
     loop {
         match start_of(held.bytes()) {

@@ -1,6 +1,9 @@
-//! Devices over the readers and writers of `std`, which tell counts alone.
+//! Devices over the readers and writers of `std`. A source tells its bytes where its reader does; a sink tells
+//! counts alone, since a writer does not say what it has flushed.
 
-ghost use Rattle.std.specs.Prelude.{◌≡◌, ◌-◌, ◌<◌, ◌≤◌, IfOk, length, ⊤};
+ghost use Rattle.std.specs.Prelude.{◌≡◌, ◌↔◌, ◌-◌, ◌<◌, ◌≤◌, IfOk, IsOk, length, ⊤};
+ghost use Rattle.std.specs.IoError.{error_kind};
+ghost use Rattle.std.specs.Io.KnownBytes.{ReadConsumes};
 
 use crate::device::{DeviceFault, Sink, Source};
 use std::io;
@@ -20,13 +23,16 @@ pub struct FromRead<R> {
 impl<R: Read> FromRead<R> {
     /// A source whose pulls read from `inner`.
     pub fn new(inner: R) -> FromRead<R>
-        ensures { ⟦<FromRead<R> as Source>⟧.failed result ≡ 0 }
+        ensures coming { ⟦<FromRead<R> as Source>⟧.coming result ≡ R.remaining inner }
+        ensures failures { ⟦<FromRead<R> as Source>⟧.failed result ≡ 0 }
     {
         FromRead { inner, failures: 0 }
     }
 }
 
 impl<R: Read> Source for FromRead<R> {
+    ghost coming = { λ s. R.remaining s.inner };
+
     ghost failed = { λ s. s.failures };
 
     ghost gave = { λ _ _ _. ⊤ };
@@ -86,7 +92,8 @@ impl<W: Write> Sink for ToWrite<W> {
 }
 
 fn read_through<R: Read>(reader: &mut R, into: &mut [u8]) -> Result<usize, DeviceFault>
-    ensures { IfOk result (λ n. n ≤ length into.new) }
+    ensures within { IfOk result (λ n. n ≤ length into.new) }
+    ensures bytes { ReadConsumes (R.remaining reader.old) (R.remaining reader.new) result into.new }
 {
     for _ in 0..TRIES {
         match reader.read(into) {
@@ -121,7 +128,9 @@ fn flush_through<W: Write>(writer: &mut W) -> Result<(), DeviceFault> {
     Err(DeviceFault)
 }
 
-fn stop_unless_interrupted(error: &io::Error) -> Result<(), DeviceFault> {
+fn stop_unless_interrupted(error: &io::Error) -> Result<(), DeviceFault>
+    ensures { IsOk result ↔ (error_kind error.now ≡ ErrorKind.Interrupted) }
+{
     if error.kind() == ErrorKind::Interrupted {
         Ok(())
     } else {

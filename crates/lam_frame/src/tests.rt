@@ -222,6 +222,18 @@ fn a_header_part_has_at_most_4096_bytes(rt: HostRuntime) -> Result<(), Fail> {
 }
 
 #[test]
+fn a_long_body_comes_whole(rt: HostRuntime) -> Result<(), Fail> {
+    let mut input = Vec::from_slice(rt.alloc(), b"Content-Length: 2000000\r\n\r\n")?;
+    input.extend_from_slice(&vec![in rt.alloc(); b'x'; 2_000_000]?)?;
+    let mut source = BytesIn::new(&input);
+    let mut reader = FrameReader::new(rt.alloc())?;
+    let body = reader.next(&mut source)?;
+    assert_eq!(rt; body.map(|body| body.len()), Some(2_000_000));
+    assert_eq!(rt; reader.next(&mut source)?.is_none(), true);
+    Ok(())
+}
+
+#[test]
 fn the_last_answer_stays(rt: HostRuntime) -> Result<(), Fail> {
     let mut source = BytesIn::new(b"Content-Length: 1\r\n\r\nx");
     let mut reader = FrameReader::new(rt.alloc())?;

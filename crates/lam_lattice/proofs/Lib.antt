@@ -2,3 +2,6 @@ pub mod Unlike
 pub mod Arrows
 pub mod FieldBounds
 pub mod Existing
+pub mod SideBySide
+pub mod OnNumbers
+pub mod Answering

@@ -19,23 +19,23 @@ pub fn join(alloc: Global, left: &Ty, right: &Ty, dialect: Dialect) -> Result<Ty
     ensures { IfOk result (λ made. IsJoin (typ_of left.now) (typ_of right.now) (typ_of made) dialect) }
 {
     match left {
-        Ty::Arrow(left_parameter, left_outcome) => match right {
-            Ty::Arrow(right_parameter, right_outcome) => {
-                let Some(parameter) = meet(alloc, left_parameter, right_parameter, dialect)? else {
-                    return Ok(Ty::Top);
-                };
-                let outcome = join(alloc, left_outcome, right_outcome, dialect)?;
-                make_arrow(alloc, parameter, outcome)
-            }
-            _ => join_unlike(alloc, left, right, dialect),
-        },
-        Ty::Record(left_fields) => match right {
-            Ty::Record(right_fields) => {
-                let items = join_fields(alloc, &left_fields.items, &right_fields.items, dialect)?;
-                Ok(make_record(items))
-            }
-            _ => join_unlike(alloc, left, right, dialect),
-        },
+        Ty::Arrow(left_parameter, left_outcome) => {
+            let Ty::Arrow(right_parameter, right_outcome) = right else {
+                return join_unlike(alloc, left, right, dialect);
+            };
+            let Some(parameter) = meet(alloc, left_parameter, right_parameter, dialect)? else {
+                return Ok(Ty::Top);
+            };
+            let outcome = join(alloc, left_outcome, right_outcome, dialect)?;
+            make_arrow(alloc, parameter, outcome)
+        }
+        Ty::Record(left_fields) => {
+            let Ty::Record(right_fields) = right else {
+                return join_unlike(alloc, left, right, dialect);
+            };
+            let items = join_fields(alloc, &left_fields.items, &right_fields.items, dialect)?;
+            Ok(make_record(items))
+        }
         _ => join_unlike(alloc, left, right, dialect),
     }
 }
@@ -95,34 +95,29 @@ pub fn meet(
     ensures none { IfOk result (λ found. IfNone found (HaveNoMeet (typ_of left.now) (typ_of right.now) dialect)) }
 {
     match left {
-        Ty::Arrow(left_parameter, left_outcome) => match right {
-            Ty::Arrow(right_parameter, right_outcome) => {
-                let Some(outcome) = meet(alloc, left_outcome, right_outcome, dialect)? else {
-                    return Ok(None);
-                };
-                let parameter = join(alloc, left_parameter, right_parameter, dialect)?;
-                let made = make_arrow(alloc, parameter, outcome)?;
-                Ok(Some(made))
-            }
-            _ => meet_unlike(alloc, left, right, dialect),
-        },
-        Ty::Record(left_fields) => match right {
-            Ty::Record(right_fields) => {
-                let Some(met) = meet_fields(
-                    alloc,
-                    &left_fields.items,
-                    &right_fields.items,
-                    dialect,
-                )?
-                else {
-                    return Ok(None);
-                };
-                let mut items = met;
-                append_others(alloc, &mut items, &right_fields.items, &left_fields.items)?;
-                Ok(Some(make_record(items)))
-            }
-            _ => meet_unlike(alloc, left, right, dialect),
-        },
+        Ty::Arrow(left_parameter, left_outcome) => {
+            let Ty::Arrow(right_parameter, right_outcome) = right else {
+                return meet_unlike(alloc, left, right, dialect);
+            };
+            let Some(outcome) = meet(alloc, left_outcome, right_outcome, dialect)? else {
+                return Ok(None);
+            };
+            let parameter = join(alloc, left_parameter, right_parameter, dialect)?;
+            let made = make_arrow(alloc, parameter, outcome)?;
+            Ok(Some(made))
+        }
+        Ty::Record(left_fields) => {
+            let Ty::Record(right_fields) = right else {
+                return meet_unlike(alloc, left, right, dialect);
+            };
+            let Some(met) = meet_fields(alloc, &left_fields.items, &right_fields.items, dialect)?
+            else {
+                return Ok(None);
+            };
+            let mut items = met;
+            append_others(alloc, &mut items, &right_fields.items, &left_fields.items)?;
+            Ok(Some(make_record(items)))
+        }
         _ => meet_unlike(alloc, left, right, dialect),
     }
 }

@@ -1,18 +1,24 @@
-//! Joins and meets of types in a table.
+//! Joins and meets of types in a table, by recursion on both types at once. What is found of two
+//! numbers is kept, so that types which share cost by their distinct pairs of numbers.
 
-ghost use Rattle.std.specs.Prelude.{◌≡◌, IfOk, IfSome, IfNone};
-ghost use Rattle.lam_rules.specs.Numbers.{type_of, Stands, Keeps};
+ghost use Rattle.std.specs.Prelude.{◌≡◌, List, String, length, IfOk, IfSome, IfNone};
+ghost use Rattle.std.specs.declared.alloc.Global.{Global};
+ghost use Rattle.lam_rules.specs.Types.{record_of};
+ghost use Rattle.lam_rules.specs.Numbers.{type_of, Stands, Keeps, fields_over, AreBelow};
+ghost use Rattle.lam_rules.specs.declared.table.TyNo.{TyNo};
 ghost use Rattle.lam_sub.specs.Remembered.{AreRight};
 ghost use Rattle.lam_lattice.specs.Bounds.{IsJoin, IsMeet, HaveNoMeet};
+ghost use Rattle.lam_lattice.specs.Matches.{AreMatches, AreMatchesBelow};
+ghost use Rattle.lam_lattice.specs.Records.{AreUnlike, AreJoined, AreMet};
 
-use crate::bounds::{join, meet};
-use lam_rules::{TyNo, TyTable};
+use crate::matching::{Match, matched, others};
+use lam_rules::{Shape, TyNo, TyTable};
 use lam_sub::{Verdicts, is_sub_no};
 use std::alloc::AllocError;
 
-/// The number of the least type above both. Where one of them is above the other it is that one's,
-/// and so costs by the numbers inside; only types that are apart are joined as trees.
-#[tactic(auto, using(lam_rules::proofs::Tables::numbers, lam_sub::proofs::TableVerdicts::kept_verdicts, crate::proofs::Unlike::ordered))]
+/// The number of the least type above both.
+#[cycle(bounds)]
+#[tactic(auto, using(lam_rules::proofs::Tables::numbers))]
 pub fn join_no(
     table: &mut TyTable,
     verdicts: &mut Verdicts,
@@ -21,10 +27,110 @@ pub fn join_no(
 ) -> Result<TyNo, AllocError>
     requires left { Stands table.old left }
     requires right { Stands table.old right }
-    requires verdicts_right { AreRight table.old verdicts.old.kept.items verdicts.old.dialect }
+    requires verdicts_right { AreRight table.old verdicts.old }
     ensures keeps { Keeps table.old table.new }
     ensures dialect { verdicts.new.dialect ≡ verdicts.old.dialect }
-    ensures verdicts_right { AreRight table.new verdicts.new.kept.items verdicts.new.dialect }
+    ensures verdicts_right { AreRight table.new verdicts.new }
+    ensures stands { IfOk result (λ number. Stands table.new number) }
+    ensures join { IfOk result (λ number. IsJoin (type_of table.old left) (type_of table.old right) (type_of table.new number) verdicts.old.dialect) }
+{
+    // The types of a table have distinct labels, so each is below itself.
+    table.types_differ();
+    if left.index == right.index {
+        return Ok(left);
+    }
+    if let Some(known) = verdicts.known_join(left, right) {
+        return Ok(known);
+    }
+    let number = join_by_shape(table, verdicts, left, right)?;
+    verdicts.keep_join(left, right, number)?;
+    Ok(number)
+}
+
+#[cycle(bounds)]
+#[tactic(auto, using(lam_rules::proofs::Tables::numbers, lam_sub::proofs::Keeping::kept_verdicts))]
+fn join_by_shape(
+    table: &mut TyTable,
+    verdicts: &mut Verdicts,
+    left: TyNo,
+    right: TyNo,
+) -> Result<TyNo, AllocError>
+    requires left { Stands table.old left }
+    requires right { Stands table.old right }
+    requires verdicts_right { AreRight table.old verdicts.old }
+    ensures keeps { Keeps table.old table.new }
+    ensures dialect { verdicts.new.dialect ≡ verdicts.old.dialect }
+    ensures verdicts_right { AreRight table.new verdicts.new }
+    ensures stands { IfOk result (λ number. Stands table.new number) }
+    ensures join { IfOk result (λ number. IsJoin (type_of table.old left) (type_of table.old right) (type_of table.new number) verdicts.old.dialect) }
+{
+    match table.shape(left) {
+        &Shape::Arrow(left_parameter, left_outcome) => {
+            let &Shape::Arrow(right_parameter, right_outcome) = table.shape(right) else {
+                return join_unlike(table, verdicts, left, right);
+            };
+            let Some(parameter) = meet_no(table, verdicts, left_parameter, right_parameter)? else {
+                return table.intern(Shape::Top);
+            };
+            let outcome = join_no(table, verdicts, left_outcome, right_outcome)?;
+            table.arrow(parameter, outcome)
+        }
+        Shape::Record(left_fields) => {
+            let Shape::Record(right_fields) = table.shape(right) else {
+                return join_unlike(table, verdicts, left, right);
+            };
+            let matches = matched(verdicts.alloc, left_fields, right_fields)?;
+            let items = join_fields(table, verdicts, &matches)?;
+            table.intern(Shape::Record(items))
+        }
+        _ => join_unlike(table, verdicts, left, right),
+    }
+}
+
+/// The fields whose labels both have, with the joins of their types.
+#[cycle(bounds)]
+#[tactic(auto, using(lam_rules::proofs::Tables::numbers))]
+fn join_fields(
+    table: &mut TyTable,
+    verdicts: &mut Verdicts,
+    matches: &[Match],
+) -> Result<Vec<(String, TyNo)>, AllocError>
+    requires stand { AreMatchesBelow (length table.old) matches.now }
+    requires verdicts_right { AreRight table.old verdicts.old }
+    ensures keeps { Keeps table.old table.new }
+    ensures dialect { verdicts.new.dialect ≡ verdicts.old.dialect }
+    ensures verdicts_right { AreRight table.new verdicts.new }
+    ensures stand { IfOk result (λ made. AreBelow (length table.new) made.items) }
+    ensures joined { IfOk result (λ made. (left right : List (String Global × TyNo)) → AreMatches right left matches.now → AreJoined verdicts.old.dialect (fields_over table.old right) (fields_over table.old left) (fields_over table.new made.items)) }
+{
+    let mut made = Vec::new(verdicts.alloc);
+    for i in 0..matches.len() {
+        let field = &matches[i];
+        let Some(right) = field.right else {
+            continue;
+        };
+        let number = join_no(table, verdicts, field.left, right)?;
+        let label = field.label.clone()?;
+        made.push((label, number))?;
+    }
+    Ok(made)
+}
+
+/// The join of two types that are not of one shape: the one that is above the other, or else Top.
+#[tactic(auto, using(lam_rules::proofs::Tables::numbers, lam_sub::proofs::Keeping::kept_verdicts))]
+fn join_unlike(
+    table: &mut TyTable,
+    verdicts: &mut Verdicts,
+    left: TyNo,
+    right: TyNo,
+) -> Result<TyNo, AllocError>
+    requires left { Stands table.old left }
+    requires right { Stands table.old right }
+    requires verdicts_right { AreRight table.old verdicts.old }
+    requires unlike { AreUnlike (type_of table.old left) (type_of table.old right) }
+    ensures keeps { Keeps table.old table.new }
+    ensures dialect { verdicts.new.dialect ≡ verdicts.old.dialect }
+    ensures verdicts_right { AreRight table.new verdicts.new }
     ensures stands { IfOk result (λ number. Stands table.new number) }
     ensures join { IfOk result (λ number. IsJoin (type_of table.old left) (type_of table.old right) (type_of table.new number) verdicts.old.dialect) }
 {
@@ -34,16 +140,13 @@ pub fn join_no(
     if is_sub_no(table, verdicts, right, left)? {
         return Ok(left);
     }
-    // The types of a table have distinct labels, as those of a join must.
     table.types_differ();
-    let left_tree = table.tree(left)?;
-    let right_tree = table.tree(right)?;
-    let joined = join(verdicts.alloc, &left_tree, &right_tree, verdicts.dialect)?;
-    table.add(&joined)
+    table.intern(Shape::Top)
 }
 
 /// The number of the greatest type below both, or none where no type is below both.
-#[tactic(auto, using(lam_rules::proofs::Tables::numbers, lam_sub::proofs::TableVerdicts::kept_verdicts, crate::proofs::Unlike::ordered))]
+#[cycle(bounds)]
+#[tactic(auto, using(lam_rules::proofs::Tables::numbers))]
 pub fn meet_no(
     table: &mut TyTable,
     verdicts: &mut Verdicts,
@@ -52,26 +155,132 @@ pub fn meet_no(
 ) -> Result<Option<TyNo>, AllocError>
     requires left { Stands table.old left }
     requires right { Stands table.old right }
-    requires verdicts_right { AreRight table.old verdicts.old.kept.items verdicts.old.dialect }
+    requires verdicts_right { AreRight table.old verdicts.old }
     ensures keeps { Keeps table.old table.new }
     ensures dialect { verdicts.new.dialect ≡ verdicts.old.dialect }
-    ensures verdicts_right { AreRight table.new verdicts.new.kept.items verdicts.new.dialect }
+    ensures verdicts_right { AreRight table.new verdicts.new }
     ensures stands { IfOk result (λ found. IfSome found (λ number. Stands table.new number)) }
     ensures some { IfOk result (λ found. IfSome found (λ number. IsMeet (type_of table.old left) (type_of table.old right) (type_of table.new number) verdicts.old.dialect)) }
     ensures none { IfOk result (λ found. IfNone found (HaveNoMeet (type_of table.old left) (type_of table.old right) verdicts.old.dialect)) }
 {
+    table.types_differ();
+    if left.index == right.index {
+        return Ok(Some(left));
+    }
+    if let Some(known) = verdicts.known_meet(left, right) {
+        return Ok(known);
+    }
+    let found = meet_by_shape(table, verdicts, left, right)?;
+    verdicts.keep_meet(left, right, found)?;
+    Ok(found)
+}
+
+#[cycle(bounds)]
+#[tactic(auto, using(lam_rules::proofs::Tables::numbers, lam_sub::proofs::Keeping::kept_verdicts))]
+fn meet_by_shape(
+    table: &mut TyTable,
+    verdicts: &mut Verdicts,
+    left: TyNo,
+    right: TyNo,
+) -> Result<Option<TyNo>, AllocError>
+    requires left { Stands table.old left }
+    requires right { Stands table.old right }
+    requires verdicts_right { AreRight table.old verdicts.old }
+    ensures keeps { Keeps table.old table.new }
+    ensures dialect { verdicts.new.dialect ≡ verdicts.old.dialect }
+    ensures verdicts_right { AreRight table.new verdicts.new }
+    ensures stands { IfOk result (λ found. IfSome found (λ number. Stands table.new number)) }
+    ensures some { IfOk result (λ found. IfSome found (λ number. IsMeet (type_of table.old left) (type_of table.old right) (type_of table.new number) verdicts.old.dialect)) }
+    ensures none { IfOk result (λ found. IfNone found (HaveNoMeet (type_of table.old left) (type_of table.old right) verdicts.old.dialect)) }
+{
+    match table.shape(left) {
+        &Shape::Arrow(left_parameter, left_outcome) => {
+            let &Shape::Arrow(right_parameter, right_outcome) = table.shape(right) else {
+                return meet_unlike(table, verdicts, left, right);
+            };
+            let Some(outcome) = meet_no(table, verdicts, left_outcome, right_outcome)? else {
+                return Ok(None);
+            };
+            let parameter = join_no(table, verdicts, left_parameter, right_parameter)?;
+            let number = table.arrow(parameter, outcome)?;
+            Ok(Some(number))
+        }
+        Shape::Record(left_fields) => {
+            let Shape::Record(right_fields) = table.shape(right) else {
+                return meet_unlike(table, verdicts, left, right);
+            };
+            let matches = matched(verdicts.alloc, left_fields, right_fields)?;
+            let mut more = others(verdicts.alloc, left_fields, right_fields)?;
+            let Some(met) = meet_fields(table, verdicts, &matches)? else {
+                return Ok(None);
+            };
+            let mut items = met;
+            items.append(&mut more)?;
+            let number = table.intern(Shape::Record(items))?;
+            Ok(Some(number))
+        }
+        _ => meet_unlike(table, verdicts, left, right),
+    }
+}
+
+/// The fields of the first, those whose labels the second has too with the meets of their types, or
+/// none where such a meet is missing.
+#[cycle(bounds)]
+#[tactic(auto, using(lam_rules::proofs::Tables::numbers))]
+fn meet_fields(
+    table: &mut TyTable,
+    verdicts: &mut Verdicts,
+    matches: &[Match],
+) -> Result<Option<Vec<(String, TyNo)>>, AllocError>
+    requires stand { AreMatchesBelow (length table.old) matches.now }
+    requires verdicts_right { AreRight table.old verdicts.old }
+    ensures keeps { Keeps table.old table.new }
+    ensures dialect { verdicts.new.dialect ≡ verdicts.old.dialect }
+    ensures verdicts_right { AreRight table.new verdicts.new }
+    ensures stand { IfOk result (λ found. IfSome found (λ made. AreBelow (length table.new) made.items)) }
+    ensures some { IfOk result (λ found. IfSome found (λ made. (left right : List (String Global × TyNo)) → AreMatches right left matches.now → AreMet verdicts.old.dialect (fields_over table.old right) (fields_over table.old left) (fields_over table.new made.items))) }
+    ensures none { IfOk result (λ found. IfNone found ((left right : List (String Global × TyNo)) → AreMatches right left matches.now → HaveNoMeet (record_of (fields_over table.old left)) (record_of (fields_over table.old right)) verdicts.old.dialect)) }
+{
+    let mut made = Vec::new(verdicts.alloc);
+    for i in 0..matches.len() {
+        let field = &matches[i];
+        let label = field.label.clone()?;
+        let Some(right) = field.right else {
+            made.push((label, field.left))?;
+            continue;
+        };
+        let Some(number) = meet_no(table, verdicts, field.left, right)? else {
+            return Ok(None);
+        };
+        made.push((label, number))?;
+    }
+    Ok(Some(made))
+}
+
+/// The meet of two types that are not of one shape: the one that is below the other.
+#[tactic(auto, using(lam_rules::proofs::Tables::numbers, lam_sub::proofs::Keeping::kept_verdicts))]
+fn meet_unlike(
+    table: &TyTable,
+    verdicts: &mut Verdicts,
+    left: TyNo,
+    right: TyNo,
+) -> Result<Option<TyNo>, AllocError>
+    requires left { Stands table.now left }
+    requires right { Stands table.now right }
+    requires verdicts_right { AreRight table.now verdicts.old }
+    requires unlike { AreUnlike (type_of table.now left) (type_of table.now right) }
+    ensures dialect { verdicts.new.dialect ≡ verdicts.old.dialect }
+    ensures verdicts_right { AreRight table.now verdicts.new }
+    ensures stands { IfOk result (λ found. IfSome found (λ number. Stands table.now number)) }
+    ensures some { IfOk result (λ found. IfSome found (λ number. IsMeet (type_of table.now left) (type_of table.now right) (type_of table.now number) verdicts.old.dialect)) }
+    ensures none { IfOk result (λ found. IfNone found (HaveNoMeet (type_of table.now left) (type_of table.now right) verdicts.old.dialect)) }
+{
+    table.types_differ();
     if is_sub_no(table, verdicts, left, right)? {
         return Ok(Some(left));
     }
     if is_sub_no(table, verdicts, right, left)? {
         return Ok(Some(right));
     }
-    table.types_differ();
-    let left_tree = table.tree(left)?;
-    let right_tree = table.tree(right)?;
-    let Some(met) = meet(verdicts.alloc, &left_tree, &right_tree, verdicts.dialect)? else {
-        return Ok(None);
-    };
-    let number = table.add(&met)?;
-    Ok(Some(number))
+    Ok(None)
 }

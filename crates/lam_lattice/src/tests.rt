@@ -1,6 +1,11 @@
+//! Rows of joins and meets on trees and on numbers.
+
+ghost use Rattle.std.specs.Prelude.{IfOk};
+ghost use Rattle.lam_rules.specs.Numbers.{Stands, Keeps, AllStand, AreGivenApart};
+
 use crate::{join, join_no, meet, meet_no};
 use lam_rules::{
-    Dialect, Shape as OuterForm, Ty, TyTable, make_arrow, make_record, plain_text_of, text_of, wf,
+    Dialect, Shape, Ty, TyNo, TyTable, make_arrow, make_record, plain_text_of, text_of, wf,
 };
 use lam_sub::Verdicts;
 use std::alloc::{AllocError, Global};
@@ -9,29 +14,29 @@ use std::test::Fail;
 
 /// A type as it is written down in a table.
 #[derive(Clone, Copy)]
-enum Shape {
+enum Written {
     Bool,
     Nat,
     Unit,
     Top,
-    Arrow(&'static Shape, &'static Shape),
-    Record(&'static [(&'static str, Shape)]),
+    Arrow(&'static Written, &'static Written),
+    Record(&'static [(&'static str, Written)]),
 }
 
-use Shape::{Arrow, Bool, Nat, Record, Top, Unit};
+use Written::{Arrow, Bool, Nat, Record, Top, Unit};
 
-fn made(alloc: Global, shape: &Shape) -> Result<Ty, AllocError> {
+fn made(alloc: Global, shape: &Written) -> Result<Ty, AllocError> {
     match shape {
-        Shape::Bool => Ok(Ty::Bool),
-        Shape::Nat => Ok(Ty::Nat),
-        Shape::Unit => Ok(Ty::Unit),
-        Shape::Top => Ok(Ty::Top),
-        Shape::Arrow(parameter, outcome) => {
+        Written::Bool => Ok(Ty::Bool),
+        Written::Nat => Ok(Ty::Nat),
+        Written::Unit => Ok(Ty::Unit),
+        Written::Top => Ok(Ty::Top),
+        Written::Arrow(parameter, outcome) => {
             let parameter = made(alloc, parameter)?;
             let outcome = made(alloc, outcome)?;
             make_arrow(alloc, parameter, outcome)
         }
-        Shape::Record(fields) => {
+        Written::Record(fields) => {
             let mut items = Vec::new(alloc);
             for field in *fields {
                 let label = String::from_str(alloc, field.0)?;
@@ -43,17 +48,17 @@ fn made(alloc: Global, shape: &Shape) -> Result<Ty, AllocError> {
     }
 }
 
-const A_NAT: Shape = Record(&[("a", Nat)]);
+const A_NAT: Written = Record(&[("a", Nat)]);
 
-const A_BOOL: Shape = Record(&[("a", Bool)]);
+const A_BOOL: Written = Record(&[("a", Bool)]);
 
-const AB: Shape = Record(&[("a", Nat), ("b", Bool)]);
+const AB: Written = Record(&[("a", Nat), ("b", Bool)]);
 
-const BC: Shape = Record(&[("b", Bool), ("c", Unit)]);
+const BC: Written = Record(&[("b", Bool), ("c", Unit)]);
 
 /// The dialect, two types, the text of their join, and that of their meet where there is one, both
 /// with the fields in the order of the first type's.
-const ROWS: [(Dialect, Shape, Shape, &str, Option<&str>); 22] = [
+const ROWS: [(Dialect, Written, Written, &str, Option<&str>); 22] = [
     (
         Dialect::One,
         AB,
@@ -197,25 +202,41 @@ fn joins_and_meets_numbers_as_trees(rt: HostRuntime) -> Result<(), Fail> {
     Ok(())
 }
 
+/// The record of these labels, all of Nat, and then forty times `{a:t, b:t}` of what it was.
+#[tactic(auto, using(lam_rules::proofs::Tables::numbers))]
+fn doubled(table: &mut TyTable, labels: &[(&str, TyNo)]) -> Result<TyNo, AllocError>
+    requires stand { AllStand table.old labels.now }
+    requires apart { AreGivenApart labels.now }
+    ensures keeps { Keeps table.old table.new }
+    ensures stands { IfOk result (λ number. Stands table.new number) }
+{
+    let mut number = table.record(labels)?;
+    for _ in 0..40 {
+        number = table.record(&[("a", number), ("b", number)])?;
+    }
+    Ok(number)
+}
+
+/// Two types of a trillion nodes each, neither of which is below the other: their bounds are the
+/// same doublings of the empty record and of `{a:Nat, b:Nat}`.
 #[test]
-#[tactic(auto, using(lam_rules::proofs::Tables::numbers, lam_sub::proofs::TableVerdicts::kept_verdicts))]
+#[tactic(auto, using(lam_rules::proofs::Tables::numbers, lam_sub::proofs::Keeping::kept_verdicts))]
 fn bounds_types_doubled_forty_times(rt: HostRuntime) -> Result<(), Fail> {
     let alloc = rt.alloc();
     let mut table = TyTable::new(alloc);
-    let nat = table.intern(OuterForm::Nat)?;
-    let mut narrow = table.record(&[("a", nat)])?;
-    let mut wide = table.record(&[("b", nat), ("a", nat)])?;
-    for _ in 0..40 {
-        narrow = table.record(&[("a", narrow), ("b", narrow)])?;
-        wide = table.record(&[("b", wide), ("a", wide)])?;
-    }
+    let nat = table.intern(Shape::Nat)?;
+    let left = doubled(&mut table, &[("a", nat)])?;
+    let right = doubled(&mut table, &[("b", nat)])?;
+    let upper = doubled(&mut table, &[])?;
+    let lower = doubled(&mut table, &[("a", nat), ("b", nat)])?;
     let mut verdicts = Verdicts::new(alloc, Dialect::One);
-    assert_eq!(rt; join_no(&mut table, &mut verdicts, wide, narrow)?, narrow);
-    assert_eq!(rt;
-        meet_no(&mut table, &mut verdicts, wide, narrow)?,
-        Some(wide)
-    );
-    assert_eq!(rt; table.size(narrow), 4_097);
+    let joined = join_no(&mut table, &mut verdicts, left, right)?;
+    assert_eq!(rt; joined, upper);
+    let met = meet_no(&mut table, &mut verdicts, left, right)?;
+    assert_eq!(rt; met, Some(lower));
+    let again = join_no(&mut table, &mut verdicts, lower, right)?;
+    assert_eq!(rt; again, right);
+    assert_eq!(rt; table.size(left), 4_097);
     Ok(())
 }
 

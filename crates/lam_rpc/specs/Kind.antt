@@ -69,7 +69,7 @@ IsKindOf body (notice method params) = HasKind body (notice method params)
 IsKindOf body reply = HasKind body reply
 IsKindOf body invalid = HasKind body invalid
 
--- what a request has as its id can be written without a float
+-- what a request has as its id can be written without a float: so whoever answers it sends none back
 abbrev pub HasPlainId : Message → Type 0
 HasPlainId (request id method params) = has_float id ≡ false
 HasPlainId (notice method params) = Unit {0}

@@ -149,6 +149,12 @@ fn positions(rt: HostRuntime) -> Result<(), Fail> {
         let found = read_position(&params).map(|position| (position.line, position.character));
         assert_eq!(rt; found, expected);
     }
+    Ok(())
+}
+
+#[test]
+fn ranges(rt: HostRuntime) -> Result<(), Fail> {
+    let alloc = rt.alloc();
     let range = r#"{"end":{"line":1,"character":2},"start":{"line":3,"character":4}}"#;
     let expected = Range {
         start: Position {
@@ -203,6 +209,15 @@ fn changes(rt: HostRuntime) -> Result<(), Fail> {
     assert_eq!(rt; found[1].range.map(|range| range.end.character), Some(1));
     let none = read_changes(alloc, &Value::from_str(alloc, r#"{"contentChanges":[]}"#)?);
     assert_eq!(rt; none.map_err(|_| "refused")?.len(), 0);
+    let mut many = String::from_str(alloc, r#"{"contentChanges":[{"text":"0"}"#)?;
+    for i in 1..1_000 {
+        many.push_str(format!(in alloc; r#",{{"text":"{i}"}}"#)?.as_str())?;
+    }
+    many.push_str("]}")?;
+    let many = read_changes(alloc, &Value::from_str(alloc, many.as_str())?);
+    let many = many.map_err(|_| "refused")?;
+    assert_eq!(rt; many.len(), 1_000);
+    assert_eq!(rt; many[999].text.as_str(), "999");
     let refused = [
         r#"{}"#,
         r#"{"contentChanges":{}}"#,

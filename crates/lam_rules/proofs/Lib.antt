@@ -1,5 +1,4 @@
 pub mod TypeShapes
-pub mod Placing
 pub mod SubShapes
 pub mod Permutations
 pub mod TermShapes
@@ -9,9 +8,11 @@ pub mod Contexts
 pub mod RulesHere
 pub mod ByShape
 pub mod SortedForms
+pub mod LabelOrder
 pub mod SharedTexts
 pub mod Composing
 pub mod SortedBelow
+pub mod SortedSizes
 pub mod Tables
 pub mod TableEntries
 pub mod TableFields

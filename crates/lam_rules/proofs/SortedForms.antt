@@ -1,5 +1,5 @@
 -- Putting each field in its place sorts: what comes of it is the one sorted form.
-use Rattle.std.proofs.Common.{◌≡◌, List, ◌∷◌, Bool, true, false, if◌then◌else◌, ap, sym, ◌∙◌, refl}
+use Rattle.std.proofs.Common.{◌≡◌, List, ◌∷◌, Bool, true, false, if◌then◌else◌, ap, sym, ◌∙◌, refl, subst}
 use Rattle.std.specs.Prelude.{IsTrue}
 use Rattle.std.specs.Str.{bytes_eq}
 use Rattle.std.specs.Ordering.{is_le, is_gt, ordering_reverse, is_eq}
@@ -60,7 +60,7 @@ first_placed j l t (field k u fs) h first = by (is_not_after l k) (first_placed 
     by true rest = (h, first)
     by false rest = (first.0, rest)
 
-first_trans : (l k : Label) (fs : Fields) → IsTrue (is_not_after l k) → ComesFirst k fs → ComesFirst l fs
+pub first_trans : (l k : Label) (fs : Fields) → IsTrue (is_not_after l k) → ComesFirst k fs → ComesFirst l fs
 first_trans l k no_fields h first = tt
 first_trans l k (field j u fs) h first = (not_after_trans l k j h first.0, first_trans l k fs h first.1)
 
@@ -162,6 +162,10 @@ ascending_one (field l t fs) (field k u gs) uf ug same =
     let rest = ascending_one fs gs uf.1 ug.1 (λ j. rest_types (bytes_eq j k) t u (types_under j fs) (types_under j gs) (rw labels at (same j))) in
     rw (labels, types, rest)
 
+-- so fields whose types are sorted are sorted in one way
+pub one_sorting : (fs gs : Fields) → IsSorting (sorted_inside fs) gs → gs ≡ sorted_fields fs
+one_sorting fs gs h = ascending_one gs (sorted_fields fs) h.ascending (ascending_sorted fs) (λ l. h.same_fields l ∙ sym (types_sorted l fs))
+
 mutual
   pub one_sorted_form : (t u : Typ) → IsSortedForm t u → u ≡ sorted t
   one_sorted_form bool bool h = refl
@@ -171,8 +175,7 @@ mutual
   one_sorted_form (arrow s t) (arrow u v) h = rw (one_sorted_form s u h.0, one_sorted_form t v h.1)
   one_sorted_form (record_of fs) (record_of gs) h =
       let inside = inside_one fs h.0 h.1 in
-      ap record_of (ascending_one gs (sorted_fields fs) h.2.ascending (ascending_sorted fs)
-      (λ l. h.2.same_fields l ∙ ap (types_under l) inside ∙ sym (types_sorted l fs)))
+      ap record_of (one_sorting fs gs (subst (λ x. IsSorting x gs) inside h.2))
   one_sorted_form _ _ h = absurd h
 
   inside_one : (fs gs : Fields) → AreSortedForms fs gs → gs ≡ sorted_inside fs

@@ -1,12 +1,17 @@
--- Lists of labelled numbers: found by a label, given by a caller, put in their places.
-use Rattle.std.proofs.Common.{◌≡◌, ◌↔◌, inl, inr, ℕ, ◌+◌, ◌<◌, ◌≤◌, List, [], ◌∷◌, ◌++◌, Bool, true, false, if◌then◌else◌, length, take, drop, get_or, ap, sym, ◌∙◌, refl, subst, zero, suc, arith, max, String, string_bytes}
-use Rattle.std.specs.List.{insert}
+-- Lists of labelled numbers: found by a label, given by a caller, sorted.
+use Rattle.std.proofs.Common.{◌≡◌, ◌↔◌, inl, inr, ℕ, ◌+◌, ◌<◌, ◌≤◌, List, [], ◌∷◌, ◌++◌, length, take, drop, get_or, ap, sym, ◌∙◌, refl, subst, zero, suc, arith, max, String, string_bytes}
+use Rattle.std.specs.List.{All, AllByRecursion}
+use Rattle.std.specs.List.Sorted.{IsPermutation}
+use Rattle.std.proofs.lemmas.List.Elements.{All-from_recursion, All-head, All-tail}
+use Rattle.std.proofs.lemmas.List.Sorted.{All-permutation}
 use Rattle.std.specs.declared.alloc.Global.{Global}
 use Rattle.std.proofs.lemmas.List.{drop_all, take_more}
 use denote.Ref.{Bor}
 use Rattle.lam_rules.specs.Types.{Label, Typ, Fields, field, joined, Has, IsAbsent, IsWellFormed, AreWellFormed, nodes, nodes_in}
 use Rattle.lam_rules.specs.TypeViews.{typ_of, fields_of}
-use Rattle.lam_rules.specs.Texts.{is_not_after, placed, place_in, sorted, sorted_fields}
+use Rattle.lam_rules.specs.Texts.{sorted, sorted_fields}
+use Rattle.lam_rules.specs.Sorting.{IsSorting, fields_by}
+use Rattle.lam_rules.proofs.SortedForms.{sorted_inside, one_sorting}
 use Rattle.lam_rules.specs.Numbers.{type_of, IsNumberOf, Keeps, fields_over, AreBelow, IsNotAmong, HaveDistinctLabels, fields_given, AllStand, IsNotGiven, AreGivenApart}
 use Rattle.std.specs.Prelude.{IfSome, Option, Some, None}
 use Rattle.lam_rules.specs.Entries.{AreCopies}
@@ -184,24 +189,48 @@ pub made_all : (ts : List Typ) (items : List (String Global × Ty)) (fs : List (
     → joined (fields_of items) (fields_over ts (drop i fs)) ≡ fields_over ts fs → fields_of items ≡ fields_over ts fs
 made_all ts items fs i le so_far = sym (joined-none (fields_of items)) ∙ (rw (drop_all i fs le) at so_far)
 
--- what is sorted, from the back
+-- what is to be sorted: each number is that of a sorted form, and its label stands where it did
 
-pub sorted_more : (ts : List Typ) (made more fs : List (String Global × TyNo)) (i j : ℕ) (f : String Global × TyNo) (label : String Global) (number : TyNo)
-    → j + 1 ≡ i → j < length fs → f ≡ get_or fs j f → string_bytes label ≡ string_bytes f.0
+pub inside_more : (ts : List Typ) (made more fs : List (String Global × TyNo)) (i : ℕ) (f : String Global × TyNo) (label : String Global) (number : TyNo)
+    → i < length fs → f ≡ get_or fs i f → more ≡ made ++ (label, number) ∷ [] → string_bytes label ≡ string_bytes f.0
     → number.index ≤ f.1.index → type_of ts number ≡ sorted (type_of ts f.1) → AreBelow (length ts) fs
-    → ((n : ℕ) → AreBelow n made → number.index < n → AreBelow n more)
-    → ((us : List Typ) → fields_over us more ≡ placed (string_bytes label) (type_of us number) (fields_over us made))
-    → AreBelow (length ts) made × (fields_over ts made ≡ sorted_fields (fields_over ts (drop i fs)))
-    → AreBelow (length ts) more × (fields_over ts more ≡ sorted_fields (fields_over ts (drop j fs)))
-sorted_more ts made more fs i j f label number at lt is same_label le is_sorted below over fields so_far =
-    let here = below_read (length ts) fs j f below lt is in (
-      over (length ts) so_far.0 (omega arith),
-      fields ts
-          ∙ ap (λ x. placed x (type_of ts number) (fields_over ts made)) same_label
-          ∙ ap (λ x. placed (string_bytes f.0) x (fields_over ts made)) is_sorted
-          ∙ ap (placed (string_bytes f.0) (sorted (type_of ts f.1))) (so_far.1 ∙ ap (λ x. sorted_fields (fields_over ts (drop x fs))) (sym at))
-          ∙ ap sorted_fields (sym (fields_over-drop ts fs j f lt is)),
+    → AreBelow (length ts) made × (joined (fields_over ts made) (sorted_inside (fields_over ts (drop i fs))) ≡ sorted_inside (fields_over ts fs))
+    → AreBelow (length ts) more × (joined (fields_over ts more) (sorted_inside (fields_over ts (drop (i + 1) fs))) ≡ sorted_inside (fields_over ts fs))
+inside_more ts made more fs i f label number lt is pushed same_label le is_sorted below so_far =
+    let here = below_read (length ts) fs i f below lt is in (
+      subst (AreBelow (length ts)) (sym pushed) (below-push (length ts) made (label, number) so_far.0 (omega arith)),
+      rw (pushed, fields_over-push ts made (label, number) (sorted_inside (fields_over ts (drop (i + 1) fs))), same_label, is_sorted) (rw (fields_over-drop ts fs i f lt is) at so_far.1),
     )
+
+pub inside_all : (ts : List Typ) (made fs : List (String Global × TyNo)) (i : ℕ) → length fs ≤ i
+    → joined (fields_over ts made) (sorted_inside (fields_over ts (drop i fs))) ≡ sorted_inside (fields_over ts fs)
+    → fields_over ts made ≡ sorted_inside (fields_over ts fs)
+inside_all ts made fs i le so_far = sym (joined-none (fields_over ts made)) ∙ (rw (drop_all i fs le) at so_far)
+
+-- what is sorted
+
+pub sorted_numbers : (ts : List Typ) (made more fs : List (String Global × TyNo))
+    → ((typ : TyNo → Typ) → IsSorting (fields_by typ made) (fields_by typ more))
+    → fields_over ts made ≡ sorted_inside (fields_over ts fs) → fields_over ts more ≡ sorted_fields (fields_over ts fs)
+sorted_numbers ts made more fs sorting inside =
+    one_sorting (fields_over ts fs) (fields_over ts more)
+    (subst (λ x. IsSorting x (fields_over ts more)) (fields_by-over ts made ∙ inside) (subst (IsSorting (fields_by (type_of ts) made)) (fields_by-over ts more) (sorting (type_of ts))))
+  where
+    fields_by-over : (ts : List Typ) (gs : List (String Global × TyNo)) → fields_by (type_of ts) gs ≡ fields_over ts gs
+    fields_by-over ts [] = refl
+    fields_by-over ts (g ∷ gs) = ap (λ r. field (string_bytes g.0) (type_of ts g.1) r) (fields_by-over ts gs)
+
+below_each : (n : ℕ) (fs : List (String Global × TyNo)) → AreBelow n fs → AllByRecursion (λ f. f.1.index < n) fs
+below_each n [] below = tt
+below_each n (f ∷ fs) below = (below.0, below_each n fs below.1)
+
+each_below : (n : ℕ) (fs : List (String Global × TyNo)) → All (λ f. f.1.index < n) fs → AreBelow n fs
+each_below n [] each = tt
+each_below n (f ∷ fs) each = (All-head (λ f. f.1.index < n) f fs each, each_below n fs (All-tail (λ f. f.1.index < n) f fs each))
+
+pub below_permutation : (n : ℕ) (fs gs : List (String Global × TyNo)) → IsPermutation fs gs → AreBelow n fs → AreBelow n gs
+below_permutation n fs gs moved below =
+    each_below n gs (All-permutation (λ f. f.1.index < n) fs gs moved (All-from_recursion (λ f. f.1.index < n) fs (below_each n fs below)))
 
 -- labels that are distinct in a type are so in its shape
 not_among_of : (ts : List Typ) (l : Label) (fs : List (String Global × TyNo)) → IsAbsent l (fields_over ts fs) → IsNotAmong l fs
@@ -214,33 +243,3 @@ distinct_of ts (f ∷ fs) wf = (not_among_of ts (string_bytes f.0) fs wf.1, dist
 
 pub distinct_fields : (ts : List Typ) (fs : List (String Global × TyNo)) (gs : Fields) → fields_over ts fs ≡ gs → AreWellFormed gs → HaveDistinctLabels fs
 distinct_fields ts fs gs e wf = distinct_of ts fs (subst AreWellFormed (sym e) wf)
-
--- a field that is put in its place
-
-pub fields_over-insert : (ts : List Typ) (fs : List (String Global × TyNo)) (f : String Global × TyNo) (n : ℕ)
-    → n ≡ place_in (string_bytes f.0) (fields_over ts fs)
-    → fields_over ts (insert fs n f) ≡ placed (string_bytes f.0) (type_of ts f.1) (fields_over ts fs)
-fields_over-insert ts [] f n e = rw e
-fields_over-insert ts (g ∷ fs) f n e =
-    by (is_not_after (string_bytes f.0) (string_bytes g.0)) e (fields_over-insert ts fs f (place_in (string_bytes f.0) (fields_over ts fs)) refl)
-  where
-    by : (b : Bool) → n ≡ (if b then 0 else 1 + place_in (string_bytes f.0) (fields_over ts fs))
-        → fields_over ts (insert fs (place_in (string_bytes f.0) (fields_over ts fs)) f) ≡ placed (string_bytes f.0) (type_of ts f.1) (fields_over ts fs)
-        → fields_over ts (insert (g ∷ fs) n f)
-        ≡ (if b then field (string_bytes f.0) (type_of ts f.1) (field (string_bytes g.0) (type_of ts g.1) (fields_over ts fs))
-        else field (string_bytes g.0) (type_of ts g.1) (placed (string_bytes f.0) (type_of ts f.1) (fields_over ts fs)))
-    by true h rest = rw h
-    by false h rest =
-        let s : n ≡ suc (place_in (string_bytes f.0) (fields_over ts fs)) = omega arith in
-        rw s (ap (λ r. field (string_bytes g.0) (type_of ts g.1) r) rest)
-
-pub below-insert : (fs : List (String Global × TyNo)) (f : String Global × TyNo) (i n : ℕ) → AreBelow n fs → f.1.index < n → AreBelow n (insert fs i f)
-below-insert [] f i n below lt = nothing i
-  where
-    nothing : (i : ℕ) → AreBelow n (insert [] i f)
-    nothing zero = (lt, tt)
-    nothing (suc i) = (lt, tt)
-below-insert (g ∷ fs) f zero n below lt = (lt, below)
-below-insert (g ∷ fs) f (suc i) n below lt = (below.0, below-insert fs f i n below.1 lt)
-
-pub ruleset placed_numbers = (fields_over-insert, below-insert, fields_over-drop)

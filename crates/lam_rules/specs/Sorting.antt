@@ -1,5 +1,6 @@
 -- What it is to sort the labels of a type, whichever way that is done.
-use Rattle.std.specs.Prelude.{◌≡◌, if◌then◌else◌, List, [], ◌∷◌, IsTrue}
+use Rattle.std.specs.Prelude.{◌≡◌, if◌then◌else◌, List, [], ◌∷◌, IsTrue, String, string_bytes}
+use Rattle.std.specs.declared.alloc.Global.{Global}
 use Rattle.std.specs.Str.{bytes_eq}
 use Rattle.lam_rules.specs.Types.{Label, Typ, bool, nat, unit, top, arrow, record_of, Fields, no_fields, field}
 use Rattle.lam_rules.specs.Texts.{is_not_after}
@@ -23,6 +24,11 @@ types_under l (field k t rest) = if bytes_eq l k then t ∷ types_under l rest e
 pub record IsSorting (fs gs : Fields) : Type 0 where
   pub ascending : IsAscending gs
   pub same_fields : (l : Label) → types_under l gs ≡ types_under l fs
+
+-- labelled values as fields, each value seen as a type
+abbrev pub fields_by : {X : Type 0} → (X → Typ) → List (String Global × X) → Fields
+fields_by typ [] = no_fields
+fields_by typ (f ∷ fs) = field (string_bytes f.0) (typ f.1) (fields_by typ fs)
 
 -- the second type is the first with the fields of each record sorted, at every depth
 abbrev mutual

@@ -1,5 +1,5 @@
 -- The two texts of a type: one with the fields in their own order, one with the labels in ascending order.
-use Rattle.std.specs.Prelude.{ℕ, ◌+◌, List, [], ◌++◌, codes, Bool, if◌then◌else◌}
+use Rattle.std.specs.Prelude.{ℕ, List, [], ◌++◌, codes, Bool, if◌then◌else◌}
 use Rattle.std.specs.Ordering.{nat_cmp, is_le}
 use Rattle.std.specs.Cmp.Lexicographic.{slice_cmp}
 use Rattle.lam_rules.specs.Types.{Label, Typ, bool, nat, unit, top, arrow, record_of, Fields, no_fields, field}
@@ -44,11 +44,6 @@ is_not_after k l = is_le (slice_cmp nat_cmp k l)
 abbrev pub placed : Label → Typ → Fields → Fields
 placed l t no_fields = field l t no_fields
 placed l t (field k u rest) = if is_not_after l k then field l t (field k u rest) else field k u (placed l t rest)
-
--- how many fields that puts before it
-abbrev pub place_in : Label → Fields → ℕ
-place_in l no_fields = 0
-place_in l (field k u rest) = if is_not_after l k then 0 else 1 + place_in l rest
 
 -- the same type with the labels of each record ascending, equal ones in their own order: its one sorted form
 abbrev mutual

@@ -7,7 +7,9 @@
 //! that say which tree a value stands for.
 #![tactic(auto)]
 
+mod laws;
 mod rules;
+mod sorting;
 mod subtyping;
 mod table;
 mod terms;
@@ -15,6 +17,7 @@ mod texts;
 mod types;
 mod typing;
 
+pub use laws::types_below_each_other_have_one_size;
 pub use rules::{Dialect, SubRule, TypeRule};
 pub use subtyping::{SubProof, check_sub};
 pub use table::{Shape, TyNo, TyTable, labels_differ, number_under};

@@ -3,7 +3,7 @@
 ghost use Rattle.std.specs.Prelude.{◌≡◌, ◌↔◌, ◌<◌, ◌≤◌, ◌++◌, ℕ, List, [], ◌∷◌, length, min, string_bytes, IsTrue, IfOk, OnOk, OnErr, IfSome, IfNone};
 ghost use Rattle.lam_rules.specs.Types.{Typ, arrow, record_of, Has, IsAbsent, IsWellFormed, AreWellFormed, nodes, nodes_in};
 ghost use Rattle.lam_rules.specs.TypeViews.{typ_of, fields_of};
-ghost use Rattle.lam_rules.specs.Texts.{sorted as sorted_form, sorted_fields, placed, place_in, text};
+ghost use Rattle.lam_rules.specs.Texts.{sorted as sorted_form, sorted_fields, text};
 ghost use Rattle.lam_rules.specs.Subtyping.{IsBelow};
 ghost use Rattle.lam_rules.specs.Typing.{HasField};
 ghost use Rattle.lam_rules.specs.Numbers.{type_at, type_of, Stands, IsNumberOf, Keeps, fields_over, shaped, AreBelow, IsOver, IsNotAmong, HaveDistinctLabels, HasDistinctLabels, fields_given, AllStand, AreGivenApart};
@@ -11,6 +11,7 @@ ghost use Rattle.lam_rules.specs.Entries.{IsEntryOf, AreSame, IsSame, AreCopies}
 ghost use Rattle.lam_rules.specs.ShapeIndex.{IsIndexOf};
 ghost use Rattle.lam_rules.specs.declared.rules.Dialect.{Dialect};
 
+use crate::sorting::sort_by_label;
 use crate::texts::text_of;
 use crate::types::{SIZE_CAP, Ty, make_arrow, make_record};
 use std::alloc::{AllocError, Global};
@@ -35,11 +36,12 @@ pub enum Shape {
     Record(Vec<(String, TyNo)>),
 }
 
-/// A type of the table, how many nodes it has, at most 4,097, and the number of its sorted form.
+/// What the table keeps of a type. The size counts nodes up to the first one over the limit, and no further.
 #[derive(Drop)]
 struct Entry {
     shape: Shape,
     size: u64,
+    /// The type itself, where its labels ascend at every depth.
     sorted: TyNo,
 }
 
@@ -415,11 +417,12 @@ impl TyTable {
         ensures sorted { IfOk result (λ made. fields_over self.now made.items ≡ sorted_fields (fields_over self.now fields.now)) }
     {
         let mut made = Vec::new(self.alloc);
-        for i in (0..fields.len()).rev() {
+        for i in 0..fields.len() {
             let field = &fields[i];
             let label = field.0.clone()?;
-            place(&mut made, label, self.sorted(field.1))?;
+            made.push((label, self.sorted(field.1)))?;
         }
+        sort_by_label(&mut made)?;
         Ok(made)
     }
 }
@@ -476,32 +479,6 @@ fn owned_fields(alloc: Global, fields: &[(&str, TyNo)]) -> Result<Vec<(String, T
         items.push((label, field.1))?;
     }
     Ok(items)
-}
-
-/// Puts a field before the first one whose label its own is not after.
-#[tactic(auto, using(crate::proofs::TableFields::placed_numbers))]
-fn place(fields: &mut Vec<(String, TyNo)>, label: String, number: TyNo) -> Result<(), AllocError>
-    ensures over { OnOk result ((n : ℕ) → AreBelow n fields.old.items → number.index < n → AreBelow n fields.new.items) }
-    ensures fields { OnOk result ((ts : List Typ) → fields_over ts fields.new.items ≡ placed (string_bytes label) (type_of ts number) (fields_over ts fields.old.items)) }
-{
-    let at = place_of(&label, fields);
-    fields.insert(at, (label, number))?;
-    Ok(())
-}
-
-/// Where the first field stands whose label the given one is not after, or else the end.
-#[tactic(auto, using(crate::proofs::TableFields::placed_numbers))]
-fn place_of(label: &str, fields: &[(String, TyNo)]) -> usize
-    ensures within { result ≤ length fields.now }
-    ensures place { (ts : List Typ) → result ≡ place_in label.now (fields_over ts fields.now) }
-{
-    for i in 0..fields.len() {
-        let field = &fields[i];
-        if label <= field.0.as_str() {
-            return i;
-        }
-    }
-    fields.len()
 }
 
 /// Puts an entry at the end, and under its shape.

@@ -1,3 +1,4 @@
+//! Numbers for types: what stands under one number, and what is not kept twice.
 ghost use Rattle.std.specs.Prelude.{IfOk};
 ghost use Rattle.lam_rules.specs.TypeViews.{typ_of};
 ghost use Rattle.lam_rules.specs.Numbers.{IsNumberOf, Keeps};

@@ -7,7 +7,7 @@ ghost use Rattle.lam_rules.specs.TermViews.{term_of, written_of};
 use crate::types::Ty;
 use std::alloc::{AllocError, Global};
 
-/// A nameless term: without spans and without the names of binders.
+/// A term that tells a name by its binder and not by its letters (TAPL chapter 6).
 #[derive(Drop)]
 pub enum Core {
     True,
@@ -18,9 +18,9 @@ pub enum Core {
     Succ(Box<Core>),
     Pred(Box<Core>),
     IsZero(Box<Core>),
-    /// A bound name: how many binders of names stand between it and its own.
+    /// A use of a name: 0 where it means the last binder that it sees, 1 where it means the one before, and so on.
     Var(usize),
-    /// An unbound name.
+    /// A name that no binder in sight has, by its letters.
     Free(String),
     /// A lambda. The type is what the written one stands for, or none where it stands for no type.
     Abs(Option<Ty>, Box<Core>),

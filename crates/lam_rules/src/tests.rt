@@ -1,3 +1,4 @@
+//! Rows of types, their texts, and trees of the rules that are proofs or are none.
 use crate::{
     Core, Dialect, SubProof, SubRule, Ty, TypeProof, TypeRule, check_sub, check_type, copy_of,
     make_arrow, make_letrec, make_record, plain_text_of, same, size, text_of, wf,
@@ -80,6 +81,13 @@ fn writes_both_texts(rt: HostRuntime) -> Result<(), Fail> {
         text_of(alloc, &ty)?.as_str(),
         "{a:{}, ab:Bool, b:(Nat->Unit)->Top, b:Nat}"
     );
+    let broad = wide(alloc, 1_000)?;
+    // 1,000 labels of one to three digits behind an `l`, each with `:Nat`, and `, ` between.
+    assert_eq!(rt;
+        text_of(alloc, &broad)?.len(),
+        2 + 1_000 + 2_890 + 4_000 + 1_998
+    );
+    assert!(rt; same(&broad, &copy_of(alloc, &broad)?));
     assert!(rt; !wf(&ty));
     assert!(rt; wf(&deep));
     assert!(rt; same(&ty, &copy_of(alloc, &ty)?));

@@ -1,12 +1,13 @@
 //! The texts of types.
 
-ghost use Rattle.std.specs.Prelude.{◌≡◌, ◌++◌, ◌≤◌, length, IfOk, OnOk, string_bytes};
-ghost use Rattle.lam_rules.specs.Texts.{plain_text, plain_fields, left_of_arrow, separator_before, sorted, sorted_fields, placed, place_in, text};
+ghost use Rattle.std.specs.Prelude.{◌≡◌, ◌++◌, IfOk, OnOk, string_bytes};
+ghost use Rattle.lam_rules.specs.Texts.{plain_text, plain_fields, left_of_arrow, separator_before, sorted, sorted_fields, text};
 ghost use Rattle.lam_rules.specs.SharedTexts.{IsSharedText};
 ghost use Rattle.lam_rules.specs.Types.{Typ};
 ghost use Rattle.lam_rules.specs.Sorting.{IsSortedForm};
 ghost use Rattle.lam_rules.specs.TypeViews.{typ_of, fields_of};
 
+use crate::sorting::sort_by_label;
 use crate::types::{Fields, Ty};
 use std::alloc::{AllocError, Global};
 
@@ -126,12 +127,13 @@ fn sorted_fields_of(alloc: Global, fields: &[(String, Ty)]) -> Result<Vec<(Strin
     ensures { IfOk result (λ made. fields_of made.items ≡ sorted_fields (fields_of fields.now)) }
 {
     let mut made = Vec::new(alloc);
-    for i in (0..fields.len()).rev() {
+    for i in 0..fields.len() {
         let field = &fields[i];
         let label = field.0.clone()?;
         let ty = sorted_of(alloc, &field.1)?;
-        place(&mut made, label, ty)?;
+        made.push((label, ty))?;
     }
+    sort_by_label(&mut made)?;
     Ok(made)
 }
 
@@ -141,28 +143,3 @@ pub fn one_sorted_form()
     ensures some { (t : Typ) → IsSortedForm t (sorted t) }
     ensures one { (t u : Typ) → IsSortedForm t u → u ≡ sorted t }
 {}
-
-/// Puts a field before the first one whose label its own is not after.
-#[tactic(auto, using(crate::proofs::Placing::placing))]
-fn place(fields: &mut Vec<(String, Ty)>, label: String, ty: Ty) -> Result<(), AllocError>
-    ensures { OnOk result (fields_of fields.new.items ≡ placed (string_bytes label) (typ_of ty) (fields_of fields.old.items)) }
-{
-    let at = place_of(&label, fields);
-    fields.insert(at, (label, ty))?;
-    Ok(())
-}
-
-/// Where the first field stands whose label the given one is not after, or else the end.
-#[tactic(auto, using(crate::proofs::TypeShapes::shapes))]
-fn place_of(label: &str, fields: &[(String, Ty)]) -> usize
-    ensures within { result ≤ length fields.now }
-    ensures place { result ≡ place_in label.now (fields_of fields.now) }
-{
-    for i in 0..fields.len() {
-        let field = &fields[i];
-        if label <= field.0.as_str() {
-            return i;
-        }
-    }
-    fields.len()
-}

@@ -147,35 +147,25 @@ pub fn same(left: &Ty, right: &Ty) -> bool
     ensures { IsTrue result ↔ (typ_of left.now ≡ typ_of right.now) }
 {
     match left {
-        Ty::Bool => match right {
-            Ty::Bool => true,
-            _ => false,
-        },
-        Ty::Nat => match right {
-            Ty::Nat => true,
-            _ => false,
-        },
-        Ty::Unit => match right {
-            Ty::Unit => true,
-            _ => false,
-        },
-        Ty::Top => match right {
-            Ty::Top => true,
-            _ => false,
-        },
-        Ty::Arrow(parameter, outcome) => match right {
-            Ty::Arrow(other_parameter, other_outcome) => {
-                if !same(parameter, other_parameter) {
-                    return false;
-                }
-                same(outcome, other_outcome)
+        Ty::Bool => matches!(right, Ty::Bool),
+        Ty::Nat => matches!(right, Ty::Nat),
+        Ty::Unit => matches!(right, Ty::Unit),
+        Ty::Top => matches!(right, Ty::Top),
+        Ty::Arrow(parameter, outcome) => {
+            let Ty::Arrow(other_parameter, other_outcome) = right else {
+                return false;
+            };
+            if !same(parameter, other_parameter) {
+                return false;
             }
-            _ => false,
-        },
-        Ty::Record(fields) => match right {
-            Ty::Record(others) => same_fields(&fields.items, &others.items),
-            _ => false,
-        },
+            same(outcome, other_outcome)
+        }
+        Ty::Record(fields) => {
+            let Ty::Record(others) = right else {
+                return false;
+            };
+            same_fields(&fields.items, &others.items)
+        }
     }
 }
 

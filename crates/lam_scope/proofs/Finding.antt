@@ -1,8 +1,5 @@
 -- How the place of a number is found.
-use Rattle.std.proofs.Common.{◌≡◌, ◌≢◌, ℕ, ◌+◌, ◌-◌, ◌<◌, ◌≤◌, List, [], ◌∷◌, ◌++◌, length, drop, get_or, zero, suc, refl, ap, sym, ◌∙◌, subst, arith, add-one, add-zero, drop-cons, append_assoc, length-append, String, string_bytes}
-use Rattle.std.proofs.lemmas.List.{append-nil, drop_all, get_or-append-add}
-use Rattle.std.proofs.Math.ListN.{get_or-append}
-use Rattle.std.specs.Borrow.{Bor}
+use Rattle.std.proofs.Common.{◌≡◌, ◌≢◌, ℕ, ◌+◌, ◌-◌, ◌<◌, List, [], ◌∷◌, ◌++◌, length, drop, get_or, zero, suc, refl, ap, sym, ◌∙◌, arith, String}
 use Rattle.std.specs.declared.alloc.Global.{Global}
 use Rattle.lam_rules.specs.Terms.{Term}
 use Rattle.lam_rules.specs.TermViews.{term_of, terms_of}

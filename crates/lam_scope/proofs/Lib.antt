@@ -1,6 +1,10 @@
 pub mod WrittenTypes
+pub mod StackViews
 pub mod NameStacks
+pub mod Lookups
+pub mod AbbreviationStacks
 pub mod Walks
+pub mod TreeSizes
 pub mod Forms
 pub mod Resolving
 pub mod SeenStacks
@@ -11,3 +15,10 @@ pub mod TableRows
 pub mod Grouping
 pub mod Reading
 pub mod PlaceCounts
+pub mod SeenOrigins
+pub mod SpelledTerms
+pub mod NestedRows
+pub mod SameTerms
+pub mod Faultless
+pub mod StretchRuns
+pub mod StretchedRows

@@ -8,10 +8,10 @@ use Rattle.lam_syntax.specs.Trees.{word, bound, TypeTree, type_tree, TypeNode, b
 use Rattle.lam_scope.specs.declared.numbers.Origin.TheVariants.{Declaration, TypeName}
 use Rattle.lam_scope.specs.Names.{Name, count}
 use Rattle.lam_scope.specs.Expansions.{Abbreviation, expansion}
-use Rattle.lam_scope.specs.Nameless.{use_counted, prefixed, nameless, nameless_node, nameless_fields, statement, statements, abbreviations_after, names_after}
-use Rattle.lam_scope.specs.Places.{Binding, written, of_term, Scope, Place, places, places_in, Statement, places_of}
+use Rattle.lam_scope.specs.Nameless.{use_counted, prefixed, nameless, nameless_node, nameless_fields, statements, abbreviations_after, names_after}
+use Rattle.lam_scope.specs.Places.{written, of_term, Scope, Place, places, places_in, places_of}
 use Rattle.lam_scope.specs.Sights.{inside, inside_fields}
-use Rattle.lam_scope.specs.Tables.{Table, ◌⊕◌, Entry, entry, binder_row, place_row, root, behind, roots, below, below_node, below_fields, binders_in, type_uses, node_uses, field_uses, term_table, node_table, fields_table, letrec_rows, lambda_at, term_at, command_table, commands_table, table, types_seen_after, names_seen_after, binders_in_command, places_in_command}
+use Rattle.lam_scope.specs.Tables.{Table, ◌⊕◌, Entry, entry, binder_row, place_row, root, behind, roots, below, below_node, below_fields, binders_in, type_uses, node_uses, field_uses, term_table, node_table, fields_table, lambda_at, term_at, command_table, commands_table, table, types_seen_after, names_seen_after, binders_in_command, places_in_command}
 
 -- of tables behind one another
 
@@ -22,7 +22,7 @@ plus s t a b e f = length-append s.places t.places ∙ (λ i. e i + f i)
 -- of what stands in the text
 
 mutual
-  type_places : (types : List Entry) (u : TypeTree) → length (type_uses types u).places ≡ 0
+  pub type_places : (types : List Entry) (u : TypeTree) → length (type_uses types u).places ≡ 0
   type_places types (type_tree s n) = node_of_type types n
 
   node_of_type : (types : List Entry) (n : TypeNode) → length (node_uses types n).places ≡ 0

@@ -8,9 +8,8 @@ use Rattle.lam_scope.specs.declared.numbers.Origin.TheVariants.{TypeName}
 use Rattle.lam_scope.specs.declared.rows.Spans.{Spans}
 use Rattle.lam_scope.specs.Tables.{TextBinder, binder_in, place_in, seen_in, no_span}
 use Rattle.lam_scope.specs.declared.rows.BinderRow.{BinderRow}
-use Rattle.lam_scope.specs.declared.rows.UseRow.{UseRow}
 use Rattle.lam_scope.specs.declared.rows.PlaceRow.{PlaceRow}
-use Rattle.lam_scope.specs.TableViews.{binder_number, text_binder, text_use, text_place, span_lists}
+use Rattle.lam_scope.specs.TableViews.{binder_number, text_binder, text_place, span_lists}
 use Rattle.lam_scope.proofs.Grouping.{uses-drop}
 
 pub binders-drop : (bs : List BinderRow) (i : ℕ) (b : BinderRow) → i < length bs → b ≡ get_or bs i b

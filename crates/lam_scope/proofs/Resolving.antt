@@ -6,15 +6,14 @@ use Rattle.lam_rules.specs.Types.{Typ, nodes}
 use Rattle.lam_syntax.specs.declared.types.WrittenTy.{WrittenTy}
 use Rattle.lam_token.specs.declared.span.Span.{Span}
 use Rattle.lam_syntax.specs.declared.terms.Command.{Command}
-use Rattle.lam_syntax.specs.Trees.{TypeTree, CommandTree}
+use Rattle.lam_syntax.specs.Trees.{CommandTree}
 use Rattle.lam_syntax.specs.Views.{type_of, command_of}
 use Rattle.lam_scope.specs.declared.statement.Statement.{Statement as RustStatement}
-use Rattle.lam_scope.specs.Expansions.{Abbreviation, expansion, is_over_limit, capped_nodes, is_capped}
-use Rattle.lam_scope.specs.Nameless.{faults_in, first_over_limit, first_too_large, abbreviations_after, written_in_command}
+use Rattle.lam_scope.specs.Expansions.{Abbreviation, is_over_limit, capped_nodes, is_capped}
+use Rattle.lam_scope.specs.Nameless.{first_over_limit, first_too_large, abbreviations_after, written_in_command}
 use Rattle.lam_scope.specs.declared.rows.BinderRow.{BinderRow}
 use Rattle.lam_scope.specs.TableViews.{text_binder}
 use Rattle.lam_scope.specs.Views.{statement_of, written_trees}
-use Rattle.lam_scope.proofs.WrittenTypes.{abbreviations_of-push}
 
 pub written_trees-drop : (us : List (Bor WrittenTy)) (i : ℕ) (u : Bor WrittenTy) → i < length us → u ≡ get_or us i u
     → written_trees (drop i us) ≡ type_of u.now ∷ written_trees (drop (i + 1) us)
@@ -31,7 +30,7 @@ pub statements-push : (ss : List RustStatement) (s : RustStatement) → map stat
 statements-push [] s = refl
 statements-push (r ∷ ss) s = ap (λ rs. statement_of r ∷ rs) (statements-push ss s)
 
-pub ruleset resolving = (written_trees-drop, is_capped-nodes, statements-push, abbreviations_of-push, append-nil, append_assoc)
+pub ruleset resolving = (written_trees-drop, is_capped-nodes, statements-push, append-nil, append_assoc)
 
 pub commands-drop : (cs : List Command) (i : ℕ) (c : Command) → i < length cs → c ≡ get_or cs i c
     → map command_of (drop i cs) ≡ command_of c ∷ map command_of (drop (i + 1) cs)

@@ -16,7 +16,7 @@ use Rattle.lam_scope.specs.declared.rows.BinderRow.{BinderRow}
 use Rattle.lam_scope.specs.declared.rows.UseRow.{UseRow}
 use Rattle.lam_scope.specs.declared.rows.PlaceRow.{PlaceRow}
 use Rattle.lam_scope.specs.Names.{Name}
-use Rattle.lam_scope.specs.Tables.{TextBinder, TextUse, TextPlace, Table, ◌⊕◌, empty_table, Entry, entry, lambda_at, term_at, letrec_rows, innermost, bound_to, binder_row, use_row, place_row, root, behind, roots_of_fields, binders_in, binders_in_fields, below_fields, field_uses, term_table, fields_table, command_table, types_seen_after, names_seen_after, binders_in_command, places_in_command, commands_table}
+use Rattle.lam_scope.specs.Tables.{TextBinder, Table, ◌⊕◌, empty_table, Entry, entry, lambda_at, term_at, letrec_rows, innermost, bound_to, binder_row, use_row, place_row, root, behind, roots_of_fields, binders_in, binders_in_fields, below_fields, field_uses, term_table, fields_table, command_table, types_seen_after, names_seen_after, binders_in_command, places_in_command, commands_table}
 use Rattle.lam_scope.specs.TableViews.{binder_number, place_number, text_binder, text_use, text_place, rows_table, originated, with_origin}
 use Rattle.lam_scope.proofs.Resolving.{commands-drop}
 use Rattle.lam_scope.proofs.Walks.{fields_of-drop}

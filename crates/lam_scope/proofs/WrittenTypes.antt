@@ -14,22 +14,7 @@ use Rattle.lam_syntax.specs.declared.types.TyField.{TyField}
 use Rattle.lam_syntax.specs.Trees.{word, TypeTree, TypeFields, type_field, no_type_fields, joined_types}
 use Rattle.lam_syntax.specs.Views.{word_of, type_of, type_fields_of}
 use Rattle.lam_syntax.proofs.Shapes.{type_node_of-Bool, type_node_of-Nat, type_node_of-Unit, type_node_of-Top, type_node_of-Named, type_node_of-Arrow, type_node_of-Record, type_fields_of-push}
-use Rattle.lam_scope.specs.declared.abbreviations.Abbreviation.{Abbreviation as RustAbbreviation}
-use Rattle.lam_scope.specs.Expansions.{Abbreviation, both, has_label, expansion, expansion_of_fields, capped_nodes, capped_nodes_in}
-use Rattle.lam_scope.specs.Views.{abbreviation_of, stacked, abbreviations_of}
-
-stacked-push : (bs : List Abbreviation) (stack : List RustAbbreviation) (a : RustAbbreviation) → stacked bs (stack ++ a ∷ []) ≡ abbreviation_of a ∷ stacked bs stack
-stacked-push bs [] a = refl
-stacked-push bs (b ∷ stack) a = stacked-push (abbreviation_of b ∷ bs) stack a
-
-pub abbreviations_of-push : (stack : List RustAbbreviation) (a : RustAbbreviation) → abbreviations_of (stack ++ a ∷ []) ≡ abbreviation_of a ∷ abbreviations_of stack
-abbreviations_of-push stack a = stacked-push [] stack a
-
--- the last of some abbreviations is the innermost
-pub abbreviations_of-take : (stack : List RustAbbreviation) (i : ℕ) (a : RustAbbreviation) → i < length stack → a ≡ get_or stack i a
-    → abbreviations_of (take (i + 1) stack) ≡ abbreviation_of a ∷ abbreviations_of (take i stack)
-abbreviations_of-take stack i a lt is =
-    rw add-one (rw (take-suc stack i a lt) (abbreviations_of-push (take i stack) (get_or stack i a) ∙ ap (λ b. abbreviation_of b ∷ abbreviations_of (take i stack)) (sym is)))
+use Rattle.lam_scope.specs.Expansions.{Abbreviation, both, has_label, expansion, expansion_of_fields, capped_nodes_in}
 
 pub type_fields_of-drop : (fs : List TyField) (i : ℕ) (f : TyField) → i < length fs → f ≡ get_or fs i f
     → type_fields_of (drop i fs) ≡ type_field (word_of f.label) (type_of f.ty) (type_fields_of (drop (i + 1) fs))
@@ -81,8 +66,6 @@ expanded_more bs items more fs i f label t all lt is once pushed same_label same
 pub expanded_all : (bs : List Abbreviation) (items : List (String Global × Ty)) (fs : List TyField) (i : ℕ) (all : Option Fields) → length fs ≤ i
     → behind_fields (fields_of items) (expansion_of_fields bs (type_fields_of (drop i fs))) ≡ all → Some (fields_of items) ≡ all
 expanded_all bs items fs i all le so_far = ap (λ hs. Some hs) (sym (joined-none (fields_of items))) ∙ (rw (drop_all i fs le) at so_far)
-
-pub ruleset stacks = (abbreviations_of-take)
 
 pub ruleset written_types = (type_node_of-Bool, type_node_of-Nat, type_node_of-Unit, type_node_of-Top, type_node_of-Named, type_node_of-Arrow, type_node_of-Record, type_fields_of-drop, type_fields_of-take)
 

@@ -3,7 +3,6 @@ use Rattle.std.specs.Prelude.{ℕ, List, [], ◌∷◌, ◌++◌, Bool, true, fa
 use Rattle.std.specs.Option.{option_map}
 use Rattle.std.specs.Str.{bytes_eq}
 use Rattle.std.proofs.Math.Dec.{ltb}
-use Rattle.lam_token.specs.declared.span.Span.{Span}
 use Rattle.lam_rules.specs.Types as rules
 use Rattle.lam_rules.specs.Types.{Typ, Fields, Label, nodes, nodes_in}
 use Rattle.lam_syntax.specs.Trees.{Word, word, TypeTree, type_tree, TypeNode, bool, nat, unit, top, named, arrow, record_type, TypeFields, no_type_fields, type_field, joined_types}
@@ -33,8 +32,8 @@ abbrev pub both : {A B C : Type 0} → (A → B → C) → Option A → Option B
 both f None b = None
 both f (Some a) b = option_map (f a) b
 
--- The type that a written one stands for, with the fields in the order written. There is none where a type name in it is unbound
--- or stands for none, and where a record type in it has a label twice.
+-- The type that a written one stands for, with the fields in the order written. A type name that nothing binds, or
+-- that stands for none, and a record type with a label twice leave it without one.
 abbrev mutual
   pub expansion : List Abbreviation → TypeTree → Option Typ
   expansion bs (type_tree s n) = expansion_of_node bs n
@@ -53,7 +52,7 @@ abbrev mutual
   expansion_of_fields bs (type_field (word l s) t rest) =
       if has_label l rest then None else both (rules.field l) (expansion bs t) (expansion_of_fields bs rest)
 
--- a label that already stands earlier in its record type
+-- the label of a field, where a field before it has the same
 abbrev pub label_fault : Word → (earlier : TypeFields) → List TypeFault
 label_fault (word l s) earlier = if has_label l earlier then RepeatedLabel s ∷ [] else []
 

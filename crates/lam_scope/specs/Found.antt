@@ -1,6 +1,6 @@
 -- The search for the place of a number.
 use Rattle.std.specs.Prelude.{ℕ, zero, suc, List, [], ◌∷◌, ◌++◌}
-use Rattle.lam_rules.specs.Terms.{Term, true_term, false_term, if_then_else, numeral, succ, pred, is_zero, variable, free, lambda, apply, unit_term, ascribe, let_in, record_term, project, fix, TermFields, no_terms, term_field}
+use Rattle.lam_rules.specs.Terms.{Term, if_then_else, succ, pred, is_zero, lambda, apply, ascribe, let_in, record_term, project, fix, TermFields, no_terms, term_field}
 use Rattle.lam_rules.specs.TermViews.{term_of}
 use Rattle.lam_scope.specs.declared.search.Found.{Found}
 use Rattle.lam_scope.specs.declared.search.Found.TheVariants.{Here, Behind}

@@ -1,5 +1,5 @@
 -- The document without names: each use is a count of binders, each written type its expansion.
-use Rattle.std.specs.Prelude.{ℕ, List, [], ◌∷◌, ◌++◌, map, Option, Some, None, if◌then◌else◌}
+use Rattle.std.specs.Prelude.{ℕ, List, [], ◌∷◌, ◌++◌, Option, Some, None, if◌then◌else◌}
 use Rattle.lam_token.specs.declared.span.Span.{Span}
 use Rattle.lam_rules.specs.Terms.{Term, true_term, false_term, if_then_else, numeral, succ, pred, is_zero, variable, free, lambda, apply, unit_term, ascribe, let_in, record_term, project, fix, TermFields, no_terms, term_field, letrec_in}
 use Rattle.lam_syntax.specs.declared.terms.Prefix.{Prefix}
@@ -68,7 +68,7 @@ abbrev pub statements : List Abbreviation → List (Option Name) → List Comman
 statements bs xs [] = []
 statements bs xs (c ∷ cs) = statement bs xs c ∷ statements (abbreviations_after bs c) (names_after xs c) cs
 
--- the written types of a term, in the order of the text: a lambda's before its body, an ascription's after its term
+-- The written types of a term as they stand in the text: the type of a lambda comes before the body, the one of an ascription behind the term.
 abbrev mutual
   pub written_in : TermTree → List TypeTree
   written_in (term_tree s n) = written_in_node n

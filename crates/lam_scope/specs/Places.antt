@@ -1,7 +1,7 @@
 -- What a document says without its names: its statements, the places of their terms, and the binders that each place sees.
-use Rattle.std.specs.Prelude.{ℕ, List, [], ◌∷◌, ◌++◌, Option, Some, None, get_or}
+use Rattle.std.specs.Prelude.{ℕ, List, [], ◌∷◌, ◌++◌, Option, None, get_or}
 use Rattle.lam_rules.specs.Types.{Typ}
-use Rattle.lam_rules.specs.Terms.{Term, true_term, false_term, if_then_else, numeral, succ, pred, is_zero, variable, free, lambda, apply, unit_term, ascribe, let_in, record_term, project, fix, TermFields, no_terms, term_field}
+use Rattle.lam_rules.specs.Terms.{Term, if_then_else, succ, pred, is_zero, lambda, apply, unit_term, ascribe, let_in, record_term, project, fix, TermFields, no_terms, term_field}
 
 -- A binder of a name, by what it takes its type from: the expansion of a written type, or none where that is faulty; or a term.
 pub data Binding : Type 0 where
@@ -17,7 +17,7 @@ pub record Place : Type 0 where
   pub scope : Scope
   pub here : Term
 
--- the places of a term, from left to right, a term after its immediate terms
+-- the places of a term: those of its parts from left to right, and its own behind them
 abbrev mutual
   pub places : Scope → Term → List Place
   places s (if_then_else c a b) = places s c ++ places s a ++ places s b ++ record { scope = s; here = if_then_else c a b } ∷ []

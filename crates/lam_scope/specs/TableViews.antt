@@ -1,5 +1,5 @@
 -- How the rows of the tables and the binders that are seen stand for those of the definitions.
-use Rattle.std.specs.Prelude.{List, [], ◌∷◌, ◌++◌, ℕ, zero, suc, map, Option, None, Some, Vec, String, string_bytes}
+use Rattle.std.specs.Prelude.{List, [], ◌∷◌, ◌++◌, ℕ, zero, suc, map, Option, None, Some, string_bytes}
 use Rattle.std.specs.Option.{option_map}
 use Rattle.lam_scope.specs.declared.numbers.Binder.{Binder}
 use Rattle.lam_scope.specs.declared.numbers.Place.{Place}
@@ -11,6 +11,8 @@ use Rattle.lam_scope.specs.declared.rows.Rows.{Rows}
 use Rattle.lam_scope.specs.declared.rows.Spans.{Spans}
 use Rattle.lam_scope.specs.declared.rows.PlaceRow.{PlaceRow}
 use Rattle.lam_scope.specs.declared.seen.SeenBinder.{SeenBinder}
+use Rattle.lam_scope.specs.Names.{Name}
+use Rattle.lam_scope.specs.Stacks.{stacked}
 use Rattle.lam_scope.specs.Tables.{Entry, entry, TextBinder, TextUse, TextPlace, Table}
 
 abbrev pub binder_number : Binder → ℕ
@@ -22,19 +24,13 @@ place_number p = p.0
 abbrev pub entry_of : SeenBinder → Entry
 entry_of b = entry (option_map (λ x. x.now) b.name) b.number.0 b.answer.0
 
--- the binders of a stack on top of others
-abbrev pub stacked_entries : List Entry → List SeenBinder → List Entry
-stacked_entries es [] = es
-stacked_entries es (b ∷ more) = stacked_entries (entry_of b ∷ es) more
-
 -- the binders of a stack, the innermost first
 abbrev pub entries_of : List SeenBinder → List Entry
-entries_of stack = stacked_entries [] stack
+entries_of = stacked entry_of []
 
--- all but the innermost
-abbrev pub outside_of : List Entry → List Entry
-outside_of [] = []
-outside_of (e ∷ es) = es
+-- their names
+abbrev pub entry_names : List Entry → List (Option Name)
+entry_names = map (λ e. e.name)
 
 abbrev pub text_binder : BinderRow → TextBinder
 text_binder r = record { name = option_map (λ s. string_bytes s) r.name; token = r.token; outer = option_map binder_number r.outer; answer = r.answer.0; origin = r.origin }

@@ -1,8 +1,8 @@
 -- What the names of a document are bound to: its binders, uses and places by number, each kind in its order.
-use Rattle.std.specs.Prelude.{ℕ, zero, suc, ◌+◌, ◌≡◌, List, [], ◌∷◌, ◌++◌, map, Bool, true, false, ◌==◌, Option, Some, None, if◌then◌else◌, length, get_or, reverse, filter, position, codes}
+use Rattle.std.specs.Prelude.{ℕ, zero, suc, ◌+◌, List, [], ◌∷◌, ◌++◌, map, Bool, true, false, ◌==◌, Option, Some, None, if◌then◌else◌, length, get_or, reverse, filter, position, codes}
 use Rattle.std.proofs.Math.Dec.{ltb}
 use Rattle.lam_token.specs.declared.span.Span.{Span}
-use Rattle.lam_syntax.specs.Trees.{word, Bound, bound, TypeTree, type_tree, TypeNode, named, arrow, record_type, TypeFields, no_type_fields, type_field, TermTree, term_tree, TermNode, true_term, false_term, unit_term, variable, numeral, lambda, if_term, let_term, letrec_term, prefixed, apply, project, ascribe, record_term, TermFields, no_fields, field, CommandTree, definition, declaration, abbreviation, evaluation, term_span}
+use Rattle.lam_syntax.specs.Trees.{word, bound, TypeTree, type_tree, TypeNode, named, arrow, record_type, TypeFields, no_type_fields, type_field, TermTree, term_tree, TermNode, variable, lambda, if_term, let_term, letrec_term, prefixed, apply, project, ascribe, record_term, TermFields, no_fields, field, CommandTree, definition, declaration, abbreviation, evaluation, term_span}
 use Rattle.lam_scope.specs.declared.numbers.Origin.{Origin}
 use Rattle.lam_scope.specs.declared.numbers.Origin.TheVariants.{Lambda, Term, Declaration, TypeName}
 use Rattle.lam_scope.specs.Names.{Name, binds}

@@ -9,7 +9,7 @@ use Rattle.lam_rules.specs.declared.types.Ty.{Ty}
 use Rattle.lam_rules.specs.TermViews.{term_of, written_of}
 use Rattle.lam_scope.specs.declared.statement.Statement.{Statement as RustStatement}
 use Rattle.lam_scope.specs.declared.statement.Statement.TheVariants as rust
-use Rattle.lam_scope.specs.declared.abbreviations.Abbreviation.{Abbreviation as RustAbbreviation}
+use Rattle.lam_scope.specs.declared.abbreviations.Abbreviations.{Abbreviations}
 use Rattle.lam_syntax.specs.Trees.{TypeTree, CommandTree}
 use Rattle.lam_syntax.specs.Views.{type_of}
 use Rattle.lam_syntax.specs.declared.types.WrittenTy.{WrittenTy}
@@ -23,7 +23,8 @@ use Rattle.lam_scope.specs.declared.scopes.Scopes.{Scopes}
 use Rattle.lam_scope.specs.Tables.{Table, table, tokens_by}
 use Rattle.lam_scope.specs.TableViews.{rows_of, span_lists}
 use Rattle.lam_scope.specs.Names.{Name}
-use Rattle.lam_scope.specs.Expansions.{Abbreviation, abbreviation}
+use Rattle.lam_scope.specs.Expansions.{Abbreviation}
+use Rattle.lam_scope.specs.Abbreviations.{abbreviations_in}
 use Rattle.lam_scope.specs.Places.{Statement, defines, declares, abbreviates, states}
 
 abbrev pub statement_of : RustStatement → Statement
@@ -31,9 +32,6 @@ statement_of (rust.Definition e) = defines (term_of e)
 statement_of (rust.Declaration w) = declares (written_of w)
 statement_of (rust.Abbreviation w) = abbreviates (written_of w)
 statement_of (rust.Evaluation e) = states (term_of e)
-
-abbrev pub abbreviation_of : RustAbbreviation → Abbreviation
-abbreviation_of a = abbreviation a.name.now (written_of a.expansion)
 
 -- what a nameless document states, where its binders take their types from, and its faults
 
@@ -59,32 +57,13 @@ pub record AreScopesOf (s : Scopes) (cs : List CommandTree) : Type 0 where
   pub same_table : table_of s ≡ table cs
   pub same_uses : uses_in s ≡ tokens_by 0 (length (table cs).binders) (table cs).uses
 
--- a stack of abbreviations on top of others
-abbrev pub stacked : List Abbreviation → List RustAbbreviation → List Abbreviation
-stacked bs [] = bs
-stacked bs (a ∷ more) = stacked (abbreviation_of a ∷ bs) more
-
--- the abbreviations of a stack, the innermost first
-abbrev pub abbreviations_of : List RustAbbreviation → List Abbreviation
-abbreviations_of stack = stacked [] stack
+-- the abbreviations that a written type sees, the innermost first
+abbrev pub abbreviations_of : Abbreviations → List Abbreviation
+abbreviations_of a = abbreviations_in a.items.items
 
 -- the fields of a record type, if it is not faulty
 abbrev pub expanded_fields_of : Option (Vec (String Global × Ty) Global) → Option Fields
 expanded_fields_of = option_map (λ v. fields_of v.items)
-
--- the names on top of others
-abbrev pub stacked_names : List (Option Name) → List (Option (Bor (List ℕ))) → List (Option Name)
-stacked_names bs [] = bs
-stacked_names bs (b ∷ more) = stacked_names (option_map (λ x. x.now) b ∷ bs) more
-
--- the names of a stack, the innermost first
-abbrev pub names_of : List (Option (Bor (List ℕ))) → List (Option Name)
-names_of stack = stacked_names [] stack
-
--- all but the innermost
-abbrev pub outside : List (Option Name) → List (Option Name)
-outside [] = []
-outside (b ∷ bs) = bs
 
 abbrev pub written_trees : List (Bor WrittenTy) → List TypeTree
 written_trees = map (λ t. type_of t.now)

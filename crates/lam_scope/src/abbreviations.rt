@@ -1,10 +1,13 @@
 //! The abbreviations that a written type sees.
-ghost use Rattle.std.specs.Prelude.{◌≡◌, true, false, None, IfSome, IfNone};
+ghost use Rattle.std.specs.Prelude.{◌≡◌, ◌∷◌, [], true, false, None, OnOk, IfSome, IfNone};
 ghost use Rattle.lam_rules.specs.TermViews.{written_of};
-ghost use Rattle.lam_scope.specs.Expansions.{meaning, is_bound};
-ghost use Rattle.lam_scope.specs.Views.{abbreviations_of};
+ghost use Rattle.lam_scope.specs.Expansions.{abbreviation, meaning, is_bound};
+ghost use Rattle.lam_scope.specs.Abbreviations.{abbreviations_in, names_in};
 
+use crate::names::Names;
+use crate::stacks::item_under;
 use lam_rules::Ty;
+use std::alloc::{AllocError, Global};
 
 /// A type name and what it stands for, or none where its written type is faulty.
 #[derive(Drop)]
@@ -13,22 +16,67 @@ pub(crate) struct Abbreviation<'a> {
     pub(crate) expansion: Option<Ty>,
 }
 
-/// The innermost abbreviation of that name, which is the last.
-#[tactic(auto, using(crate::proofs::WrittenTypes::stacks))]
-pub(crate) fn find<'t, 'a>(
-    name: &str,
-    abbreviations: &'t [Abbreviation<'a>],
-) -> Option<&'t Abbreviation<'a>>
-    ensures bound { IfSome result (λ a. is_bound name.now (abbreviations_of abbreviations.now) ≡ true) }
-    ensures meaning { IfSome result (λ a. meaning name.now (abbreviations_of abbreviations.now) ≡ written_of a.now.expansion) }
-    ensures unbound { IfNone result (is_bound name.now (abbreviations_of abbreviations.now) ≡ false) }
-    ensures none { IfNone result (meaning name.now (abbreviations_of abbreviations.now) ≡ None) }
-{
-    for i in (0..abbreviations.len()).rev() {
-        let abbreviation = &abbreviations[i];
-        if abbreviation.name == name {
-            return Some(abbreviation);
+/// The abbreviations that a written type sees.
+#[derive(Drop)]
+pub(crate) struct Abbreviations<'a> {
+    /// The innermost last.
+    pub(crate) items: Vec<Abbreviation<'a>>,
+    pub(crate) names: Names<'a>,
+    ghost named: { names ≡ names_in (abbreviations_in items.items) },
+}
+
+impl<'a> Abbreviations<'a> {
+    ghost use Rattle.lam_scope.specs.Views.{abbreviations_of};
+
+    /// None is seen.
+    pub(crate) fn new(alloc: Global) -> Abbreviations<'a>
+        ensures { abbreviations_of result ≡ [] }
+    {
+        Abbreviations {
+            items: Vec::new(alloc),
+            names: Names::new(alloc),
         }
     }
-    None
+
+    /// One more is seen, inside of the others.
+    #[tactic(auto, using(crate::proofs::AbbreviationStacks::abbreviations))]
+    pub(crate) fn add(&mut self, name: &'a str, expansion: Option<Ty>) -> Result<(), AllocError>
+        ensures { OnOk result (abbreviations_of self.new ≡ abbreviation name.now (written_of expansion) ∷ abbreviations_of self.old) }
+    {
+        // With its room made first the push cannot fail, and leave a name without its abbreviation.
+        self.items.reserve(1)?;
+        self.names.enter(Some(name))?;
+        self.items.push(Abbreviation { name, expansion })?;
+        Ok(())
+    }
+
+    /// The innermost of that name.
+    pub(crate) fn find(&self, name: &str) -> Option<&Abbreviation<'a>>
+        ensures bound { IfSome result (λ a. is_bound name.now (abbreviations_of self.now) ≡ true) }
+        ensures meaning { IfSome result (λ a. meaning name.now (abbreviations_of self.now) ≡ written_of a.now.expansion) }
+        ensures unbound { IfNone result (is_bound name.now (abbreviations_of self.now) ≡ false) }
+        ensures none { IfNone result (meaning name.now (abbreviations_of self.now) ≡ None) }
+    {
+        find_in(&self.items, &self.names, name)
+    }
+}
+
+fn find_in<'s, 'a>(
+    items: &'s [Abbreviation<'a>],
+    names: &Names<'_>,
+    name: &str,
+) -> Option<&'s Abbreviation<'a>>
+    requires { names.now ≡ names_in (abbreviations_in items.now) }
+    ensures bound { IfSome result (λ a. is_bound name.now (abbreviations_in items.now) ≡ true) }
+    ensures meaning { IfSome result (λ a. meaning name.now (abbreviations_in items.now) ≡ written_of a.now.expansion) }
+    ensures unbound { IfNone result (is_bound name.now (abbreviations_in items.now) ≡ false) }
+    ensures none { IfNone result (meaning name.now (abbreviations_in items.now) ≡ None) }
+{
+    match names.count(name) {
+        None => None,
+        Some(count) => {
+            let found = item_under(items, count);
+            Some(found)
+        }
+    }
 }

@@ -18,7 +18,7 @@ pub fn bind(alloc: Global, commands: &[Command]) -> Result<Scopes, AllocError>
 {
     let rows = walk_commands(alloc, commands)?;
     let tokens = group_tokens(alloc, rows.binders.len(), &rows.uses)?;
-    Ok(Scopes { rows, tokens })
+    Scopes::new(alloc, rows, tokens)
 }
 
 #[tactic(auto, using(crate::proofs::TableRows::walks))]

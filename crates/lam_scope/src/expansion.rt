@@ -7,7 +7,7 @@ ghost use Rattle.lam_syntax.specs.Views.{word_of, type_of, type_fields_of};
 ghost use Rattle.lam_scope.specs.Expansions.{expansion, expansion_of_fields, capped_nodes, capped_nodes_in, type_faults, field_faults, label_fault, has_label};
 ghost use Rattle.lam_scope.specs.Views.{abbreviations_of, expanded_fields_of};
 
-use crate::abbreviations::{Abbreviation, find};
+use crate::abbreviations::Abbreviations;
 use crate::fault::TypeFault;
 use lam_rules::{Ty, copy_of, make_arrow, make_record, size};
 use lam_syntax::{TyField, TyNode, WrittenTy};
@@ -17,7 +17,7 @@ use std::alloc::{AllocError, Global};
 #[cycle(faults)]
 #[tactic(auto, using(crate::proofs::WrittenTypes::fault_lists))]
 pub(crate) fn collect_faults(
-    seen: &[Abbreviation<'_>],
+    seen: &Abbreviations<'_>,
     ty: &WrittenTy,
     faults: &mut Vec<TypeFault>,
 ) -> Result<(), AllocError>
@@ -28,7 +28,7 @@ pub(crate) fn collect_faults(
         TyNode::Nat => Ok(()),
         TyNode::Unit => Ok(()),
         TyNode::Top => Ok(()),
-        TyNode::Named(name) => match find(&name.text, seen) {
+        TyNode::Named(name) => match seen.find(&name.text) {
             Some(_) => Ok(()),
             None => {
                 faults.push(TypeFault::UnboundTypeName(name.span))?;
@@ -46,7 +46,7 @@ pub(crate) fn collect_faults(
 #[cycle(faults)]
 #[tactic(auto, using(crate::proofs::WrittenTypes::fault_lists))]
 fn collect_field_faults(
-    seen: &[Abbreviation<'_>],
+    seen: &Abbreviations<'_>,
     fields: &[TyField],
     faults: &mut Vec<TypeFault>,
 ) -> Result<(), AllocError>
@@ -93,7 +93,7 @@ const SIZE_CAP: u64 = 4_097;
 /// How many nodes the expansion of a written type has, or 4,097 where it has more. There is none where it is faulty.
 #[cycle(sizes)]
 #[tactic(auto, using(crate::proofs::WrittenTypes::written_types))]
-pub(crate) fn expanded_size(seen: &[Abbreviation<'_>], ty: &WrittenTy) -> Option<u64>
+pub(crate) fn expanded_size(seen: &Abbreviations<'_>, ty: &WrittenTy) -> Option<u64>
     ensures { result ≡ capped_nodes (expansion (abbreviations_of seen.now) (type_of ty.now)) }
 {
     match &*ty.node {
@@ -102,7 +102,7 @@ pub(crate) fn expanded_size(seen: &[Abbreviation<'_>], ty: &WrittenTy) -> Option
         TyNode::Unit => Some(1),
         TyNode::Top => Some(1),
         TyNode::Named(name) => {
-            let abbreviation = find(&name.text, seen)?;
+            let abbreviation = seen.find(&name.text)?;
             written_size(&abbreviation.expansion)
         }
         TyNode::Arrow(parameter, outcome) => {
@@ -128,7 +128,7 @@ fn written_size(expansion: &Option<Ty>) -> Option<u64>
 
 #[cycle(sizes)]
 #[tactic(auto, using(crate::proofs::WrittenTypes::written_types))]
-fn expanded_fields_size(seen: &[Abbreviation<'_>], fields: &[TyField]) -> Option<u64>
+fn expanded_fields_size(seen: &Abbreviations<'_>, fields: &[TyField]) -> Option<u64>
     ensures { result ≡ capped_nodes_in (expansion_of_fields (abbreviations_of seen.now) (type_fields_of fields.now)) }
 {
     let mut total = 0;
@@ -148,7 +148,7 @@ fn expanded_fields_size(seen: &[Abbreviation<'_>], fields: &[TyField]) -> Option
 #[tactic(auto, using(crate::proofs::WrittenTypes::made_types))]
 pub(crate) fn expand(
     alloc: Global,
-    seen: &[Abbreviation<'_>],
+    seen: &Abbreviations<'_>,
     ty: &WrittenTy,
 ) -> Result<Option<Ty>, AllocError>
     ensures { IfOk result (λ w. written_of w ≡ expansion (abbreviations_of seen.now) (type_of ty.now)) }
@@ -158,7 +158,7 @@ pub(crate) fn expand(
         TyNode::Nat => Ok(Some(Ty::Nat)),
         TyNode::Unit => Ok(Some(Ty::Unit)),
         TyNode::Top => Ok(Some(Ty::Top)),
-        TyNode::Named(name) => match find(&name.text, seen) {
+        TyNode::Named(name) => match seen.find(&name.text) {
             None => Ok(None),
             Some(abbreviation) => copy_of_written(alloc, &abbreviation.expansion),
         },
@@ -201,7 +201,7 @@ pub(crate) fn copy_of_written(
 #[tactic(auto, using(crate::proofs::WrittenTypes::made_types))]
 fn expand_fields(
     alloc: Global,
-    seen: &[Abbreviation<'_>],
+    seen: &Abbreviations<'_>,
     fields: &[TyField],
 ) -> Result<Option<Vec<(String, Ty)>>, AllocError>
     ensures { IfOk result (λ o. expanded_fields_of o ≡ expansion_of_fields (abbreviations_of seen.now) (type_fields_of fields.now)) }

@@ -6,7 +6,7 @@ use lam_token::Span;
 pub enum TypeFault {
     /// A type name that no command before binds.
     UnboundTypeName(Span),
-    /// A label that already stands earlier in its record type.
+    /// The label of a field that has the same label as a field before it.
     RepeatedLabel(Span),
 }
 

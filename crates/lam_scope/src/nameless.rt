@@ -1,18 +1,20 @@
-//! The nameless forms of terms.
+//! The nameless forms of terms. Each level of nesting takes the frame of the match and of one arm, so that the deepest
+//! term of a command fits on the stack.
 ghost use Rattle.std.specs.Prelude.{◌≡◌, ◌∷◌, IfOk, OnOk, string_bytes};
 ghost use Rattle.std.specs.Option.{option_map};
 ghost use Rattle.lam_rules.specs.TermViews.{term_of, terms_of};
-ghost use Rattle.lam_rules.specs.Terms.{if_then_else, let_in, apply, project};
-ghost use Rattle.lam_syntax.specs.Views.{term_of as tree_of, fields_of};
+ghost use Rattle.lam_rules.specs.Terms.{numeral, record_term};
+ghost use Rattle.lam_syntax.specs.Trees.{lambda, if_term, let_term, letrec_term, prefixed as prefixed_term, apply, project, ascribe};
+ghost use Rattle.lam_syntax.specs.Views.{term_of as tree_of, fields_of, bound_of, word_of, type_of};
 ghost use Rattle.lam_scope.specs.Names.{count};
-ghost use Rattle.lam_scope.specs.Nameless.{use_counted, prefixed, nameless, nameless_fields};
+ghost use Rattle.lam_scope.specs.Nameless.{use_counted, prefixed, nameless, nameless_node, nameless_fields};
 ghost use Rattle.lam_scope.specs.Views.{abbreviations_of};
 
-use crate::abbreviations::Abbreviation;
+use crate::abbreviations::Abbreviations;
 use crate::expansion::expand;
 use crate::names::{Names, name_of};
 use lam_rules::{Core, make_letrec};
-use lam_syntax::{Binder, Identifier, Prefix, Tm, TmField, TmNode};
+use lam_syntax::{Binder, Identifier, Prefix, Tm, TmField, TmNode, WrittenTy};
 use std::alloc::{AllocError, Global};
 
 /// The nameless form of a term that sees these abbreviations and names.
@@ -20,7 +22,7 @@ use std::alloc::{AllocError, Global};
 #[tactic(auto, using(crate::proofs::Forms::forms))]
 pub(crate) fn nameless<'a>(
     alloc: Global,
-    seen: &[Abbreviation<'_>],
+    seen: &Abbreviations<'_>,
     names: &mut Names<'a>,
     term: &'a Tm,
 ) -> Result<Core, AllocError>
@@ -32,63 +34,44 @@ pub(crate) fn nameless<'a>(
         TmNode::False => Ok(Core::False),
         TmNode::Unit => Ok(Core::Unit),
         TmNode::Variable(name) => use_of(name, names),
-        TmNode::Numeral(digits) => {
-            let copy = digits.text.clone()?;
-            Ok(Core::Num(copy))
-        }
-        TmNode::Lambda(binder, ty, body) => {
-            let written = expand(alloc, seen, ty)?;
-            let form = under(alloc, seen, names, binder, body)?;
-            Ok(Core::Abs(written, Box::new(alloc, form)?))
-        }
-        TmNode::If(condition, one, other) => {
-            let first = nameless(alloc, seen, names, condition)?;
-            let second = nameless(alloc, seen, names, one)?;
-            let third = nameless(alloc, seen, names, other)?;
-            make_if(alloc, first, second, third)
-        }
-        TmNode::Let(binder, bound, body) => {
-            let first = nameless(alloc, seen, names, bound)?;
-            let second = under(alloc, seen, names, binder, body)?;
-            make_let(alloc, first, second)
-        }
+        TmNode::Numeral(digits) => numeral_of(digits),
+        TmNode::Lambda(binder, ty, body) => lambda_of(alloc, seen, names, binder, ty, body),
+        TmNode::If(condition, one, other) => if_of(alloc, seen, names, condition, one, other),
+        TmNode::Let(binder, bound, body) => let_of(alloc, seen, names, binder, bound, body),
         TmNode::Letrec(binder, ty, bound, body) => {
-            let written = expand(alloc, seen, ty)?;
-            let first = under(alloc, seen, names, binder, bound)?;
-            let second = under(alloc, seen, names, binder, body)?;
-            make_letrec(alloc, written, first, second)
+            letrec_of(alloc, seen, names, binder, ty, bound, body)
         }
-        TmNode::Prefixed(prefix, operand) => {
-            let form = nameless(alloc, seen, names, operand)?;
-            make_prefixed(alloc, *prefix, form)
-        }
-        TmNode::Apply(function, argument) => {
-            let first = nameless(alloc, seen, names, function)?;
-            let second = nameless(alloc, seen, names, argument)?;
-            make_apply(alloc, first, second)
-        }
-        TmNode::Project(operand, label) => {
-            let form = nameless(alloc, seen, names, operand)?;
-            make_project(alloc, form, label)
-        }
-        TmNode::Ascribe(operand, ty) => {
-            let form = nameless(alloc, seen, names, operand)?;
-            let written = expand(alloc, seen, ty)?;
-            Ok(Core::Ascribe(Box::new(alloc, form)?, written))
-        }
-        TmNode::Record(fields) => {
-            let forms = nameless_fields(alloc, seen, names, fields)?;
-            Ok(Core::Record(forms))
-        }
+        TmNode::Prefixed(prefix, operand) => prefixed_of(alloc, seen, names, *prefix, operand),
+        TmNode::Apply(function, argument) => apply_of(alloc, seen, names, function, argument),
+        TmNode::Project(operand, label) => project_of(alloc, seen, names, operand, label),
+        TmNode::Ascribe(operand, ty) => ascribe_of(alloc, seen, names, operand, ty),
+        TmNode::Record(fields) => record_of(alloc, seen, names, fields),
     }
 }
 
-/// The nameless form of a term that sees one more binder.
+/// The form of a part, in a box of its own.
+#[cycle(nameless)]
+#[tactic(auto, using(crate::proofs::Forms::forms))]
+fn boxed<'a>(
+    alloc: Global,
+    seen: &Abbreviations<'_>,
+    names: &mut Names<'a>,
+    term: &'a Tm,
+) -> Result<Box<Core>, AllocError>
+    ensures form { IfOk result (λ e. term_of e.value ≡ nameless (abbreviations_of seen.now) names.old (tree_of term.now)) }
+    ensures names { OnOk result (names.new ≡ names.old) }
+{
+    let form = nameless(alloc, seen, names, term)?;
+    let part = Box::new(alloc, form)?;
+    Ok(part)
+}
+
+/// The form of a term that sees one more binder.
 #[cycle(nameless)]
 #[tactic(auto, using(crate::proofs::Forms::forms))]
 fn under<'a>(
     alloc: Global,
-    seen: &[Abbreviation<'_>],
+    seen: &Abbreviations<'_>,
     names: &mut Names<'a>,
     binder: &'a Binder,
     body: &'a Tm,
@@ -104,9 +87,166 @@ fn under<'a>(
 
 #[cycle(nameless)]
 #[tactic(auto, using(crate::proofs::Forms::forms))]
+fn lambda_of<'a>(
+    alloc: Global,
+    seen: &Abbreviations<'_>,
+    names: &mut Names<'a>,
+    binder: &'a Binder,
+    ty: &WrittenTy,
+    body: &'a Tm,
+) -> Result<Core, AllocError>
+    ensures form { IfOk result (λ e. term_of e ≡ nameless_node (abbreviations_of seen.now) names.old (lambda (bound_of binder.now) (type_of ty.now) (tree_of body.now))) }
+    ensures names { OnOk result (names.new ≡ names.old) }
+{
+    let written = expand(alloc, seen, ty)?;
+    let form = under(alloc, seen, names, binder, body)?;
+    Ok(Core::Abs(written, Box::new(alloc, form)?))
+}
+
+#[cycle(nameless)]
+#[tactic(auto, using(crate::proofs::Forms::forms))]
+fn if_of<'a>(
+    alloc: Global,
+    seen: &Abbreviations<'_>,
+    names: &mut Names<'a>,
+    condition: &'a Tm,
+    one: &'a Tm,
+    other: &'a Tm,
+) -> Result<Core, AllocError>
+    ensures form { IfOk result (λ e. term_of e ≡ nameless_node (abbreviations_of seen.now) names.old (if_term (tree_of condition.now) (tree_of one.now) (tree_of other.now))) }
+    ensures names { OnOk result (names.new ≡ names.old) }
+{
+    let first = boxed(alloc, seen, names, condition)?;
+    let second = boxed(alloc, seen, names, one)?;
+    let third = boxed(alloc, seen, names, other)?;
+    Ok(Core::If(first, second, third))
+}
+
+#[cycle(nameless)]
+#[tactic(auto, using(crate::proofs::Forms::forms))]
+fn let_of<'a>(
+    alloc: Global,
+    seen: &Abbreviations<'_>,
+    names: &mut Names<'a>,
+    binder: &'a Binder,
+    bound: &'a Tm,
+    body: &'a Tm,
+) -> Result<Core, AllocError>
+    ensures form { IfOk result (λ e. term_of e ≡ nameless_node (abbreviations_of seen.now) names.old (let_term (bound_of binder.now) (tree_of bound.now) (tree_of body.now))) }
+    ensures names { OnOk result (names.new ≡ names.old) }
+{
+    let first = boxed(alloc, seen, names, bound)?;
+    let second = under(alloc, seen, names, binder, body)?;
+    Ok(Core::Let(first, Box::new(alloc, second)?))
+}
+
+#[cycle(nameless)]
+#[tactic(auto, using(crate::proofs::Forms::forms))]
+fn letrec_of<'a>(
+    alloc: Global,
+    seen: &Abbreviations<'_>,
+    names: &mut Names<'a>,
+    binder: &'a Binder,
+    ty: &WrittenTy,
+    bound: &'a Tm,
+    body: &'a Tm,
+) -> Result<Core, AllocError>
+    ensures form { IfOk result (λ e. term_of e ≡ nameless_node (abbreviations_of seen.now) names.old (letrec_term (bound_of binder.now) (type_of ty.now) (tree_of bound.now) (tree_of body.now))) }
+    ensures names { OnOk result (names.new ≡ names.old) }
+{
+    let written = expand(alloc, seen, ty)?;
+    let first = under(alloc, seen, names, binder, bound)?;
+    let second = under(alloc, seen, names, binder, body)?;
+    make_letrec(alloc, written, first, second)
+}
+
+#[cycle(nameless)]
+#[tactic(auto, using(crate::proofs::Forms::forms))]
+fn prefixed_of<'a>(
+    alloc: Global,
+    seen: &Abbreviations<'_>,
+    names: &mut Names<'a>,
+    prefix: Prefix,
+    operand: &'a Tm,
+) -> Result<Core, AllocError>
+    ensures form { IfOk result (λ e. term_of e ≡ nameless_node (abbreviations_of seen.now) names.old (prefixed_term prefix (tree_of operand.now))) }
+    ensures names { OnOk result (names.new ≡ names.old) }
+{
+    let form = boxed(alloc, seen, names, operand)?;
+    Ok(make_prefixed(prefix, form))
+}
+
+#[cycle(nameless)]
+#[tactic(auto, using(crate::proofs::Forms::forms))]
+fn apply_of<'a>(
+    alloc: Global,
+    seen: &Abbreviations<'_>,
+    names: &mut Names<'a>,
+    function: &'a Tm,
+    argument: &'a Tm,
+) -> Result<Core, AllocError>
+    ensures form { IfOk result (λ e. term_of e ≡ nameless_node (abbreviations_of seen.now) names.old (apply (tree_of function.now) (tree_of argument.now))) }
+    ensures names { OnOk result (names.new ≡ names.old) }
+{
+    let first = boxed(alloc, seen, names, function)?;
+    let second = boxed(alloc, seen, names, argument)?;
+    Ok(Core::App(first, second))
+}
+
+#[cycle(nameless)]
+#[tactic(auto, using(crate::proofs::Forms::forms))]
+fn project_of<'a>(
+    alloc: Global,
+    seen: &Abbreviations<'_>,
+    names: &mut Names<'a>,
+    operand: &'a Tm,
+    label: &Identifier,
+) -> Result<Core, AllocError>
+    ensures form { IfOk result (λ e. term_of e ≡ nameless_node (abbreviations_of seen.now) names.old (project (tree_of operand.now) (word_of label.now))) }
+    ensures names { OnOk result (names.new ≡ names.old) }
+{
+    let form = boxed(alloc, seen, names, operand)?;
+    let copy = label.text.clone()?;
+    Ok(Core::Proj(form, copy))
+}
+
+#[cycle(nameless)]
+#[tactic(auto, using(crate::proofs::Forms::forms))]
+fn ascribe_of<'a>(
+    alloc: Global,
+    seen: &Abbreviations<'_>,
+    names: &mut Names<'a>,
+    operand: &'a Tm,
+    ty: &WrittenTy,
+) -> Result<Core, AllocError>
+    ensures form { IfOk result (λ e. term_of e ≡ nameless_node (abbreviations_of seen.now) names.old (ascribe (tree_of operand.now) (type_of ty.now))) }
+    ensures names { OnOk result (names.new ≡ names.old) }
+{
+    let form = boxed(alloc, seen, names, operand)?;
+    let written = expand(alloc, seen, ty)?;
+    Ok(Core::Ascribe(form, written))
+}
+
+#[cycle(nameless)]
+#[tactic(auto, using(crate::proofs::Forms::forms))]
+fn record_of<'a>(
+    alloc: Global,
+    seen: &Abbreviations<'_>,
+    names: &mut Names<'a>,
+    fields: &'a [TmField],
+) -> Result<Core, AllocError>
+    ensures form { IfOk result (λ e. term_of e ≡ record_term (nameless_fields (abbreviations_of seen.now) names.old (fields_of fields.now))) }
+    ensures names { OnOk result (names.new ≡ names.old) }
+{
+    let forms = nameless_fields(alloc, seen, names, fields)?;
+    Ok(Core::Record(forms))
+}
+
+#[cycle(nameless)]
+#[tactic(auto, using(crate::proofs::Forms::forms))]
 fn nameless_fields<'a>(
     alloc: Global,
-    seen: &[Abbreviation<'_>],
+    seen: &Abbreviations<'_>,
     names: &mut Names<'a>,
     fields: &'a [TmField],
 ) -> Result<Vec<(String, Core)>, AllocError>
@@ -138,47 +278,21 @@ fn use_of(name: &Identifier, names: &Names<'_>) -> Result<Core, AllocError>
 }
 
 #[tactic(auto, using(crate::proofs::Forms::forms))]
-fn make_if(alloc: Global, condition: Core, one: Core, other: Core) -> Result<Core, AllocError>
-    ensures { IfOk result (λ e. term_of e ≡ if_then_else (term_of condition) (term_of one) (term_of other)) }
+fn numeral_of(digits: &Identifier) -> Result<Core, AllocError>
+    ensures { IfOk result (λ e. term_of e ≡ numeral (string_bytes digits.now.text)) }
 {
-    let condition = Box::new(alloc, condition)?;
-    let one = Box::new(alloc, one)?;
-    Ok(Core::If(condition, one, Box::new(alloc, other)?))
+    let copy = digits.text.clone()?;
+    Ok(Core::Num(copy))
 }
 
 #[tactic(auto, using(crate::proofs::Forms::forms))]
-fn make_let(alloc: Global, bound: Core, body: Core) -> Result<Core, AllocError>
-    ensures { IfOk result (λ e. term_of e ≡ let_in (term_of bound) (term_of body)) }
+fn make_prefixed(prefix: Prefix, operand: Box<Core>) -> Core
+    ensures { term_of result ≡ prefixed prefix (term_of operand.value) }
 {
-    let bound = Box::new(alloc, bound)?;
-    Ok(Core::Let(bound, Box::new(alloc, body)?))
-}
-
-#[tactic(auto, using(crate::proofs::Forms::forms))]
-fn make_apply(alloc: Global, function: Core, argument: Core) -> Result<Core, AllocError>
-    ensures { IfOk result (λ e. term_of e ≡ apply (term_of function) (term_of argument)) }
-{
-    let function = Box::new(alloc, function)?;
-    Ok(Core::App(function, Box::new(alloc, argument)?))
-}
-
-#[tactic(auto, using(crate::proofs::Forms::forms))]
-fn make_project(alloc: Global, operand: Core, label: &Identifier) -> Result<Core, AllocError>
-    ensures { IfOk result (λ e. term_of e ≡ project (term_of operand) (string_bytes label.now.text)) }
-{
-    let copy = label.text.clone()?;
-    Ok(Core::Proj(Box::new(alloc, operand)?, copy))
-}
-
-#[tactic(auto, using(crate::proofs::Forms::forms))]
-fn make_prefixed(alloc: Global, prefix: Prefix, operand: Core) -> Result<Core, AllocError>
-    ensures { IfOk result (λ e. term_of e ≡ prefixed prefix (term_of operand)) }
-{
-    let operand = Box::new(alloc, operand)?;
     match prefix {
-        Prefix::Fix => Ok(Core::Fix(operand)),
-        Prefix::Succ => Ok(Core::Succ(operand)),
-        Prefix::Pred => Ok(Core::Pred(operand)),
-        Prefix::IsZero => Ok(Core::IsZero(operand)),
+        Prefix::Fix => Core::Fix(operand),
+        Prefix::Succ => Core::Succ(operand),
+        Prefix::Pred => Core::Pred(operand),
+        Prefix::IsZero => Core::IsZero(operand),
     }
 }

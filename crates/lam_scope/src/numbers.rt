@@ -1,7 +1,6 @@
 //! The numbers that places and binders go by.
 
-/// A term of a command, by its number from 0 in the order of places: that of the text, a term after its immediate
-/// terms.
+/// A term of a command, by its number from 0: parts are numbered from left to right, and the term behind them.
 #[derive(Clone, Copy, Debug, PartialEq, Eq)]
 pub struct Place(pub usize);
 

@@ -5,7 +5,7 @@ ghost use Rattle.lam_scope.specs.Nameless.{statement, abbreviations_after, names
 ghost use Rattle.lam_scope.specs.Expansions.{is_capped};
 ghost use Rattle.lam_scope.specs.Views.{statement_of, abbreviations_of, written_trees, IsLimit};
 
-use crate::abbreviations::Abbreviation;
+use crate::abbreviations::Abbreviations;
 use crate::expansion::{collect_faults, copy_of_written, expand, expanded_size};
 use crate::fault::{ScopeFault, TypeFault};
 use crate::nameless::nameless;
@@ -18,8 +18,7 @@ use std::alloc::{AllocError, Global};
 /// What the commands so far state, and what those behind them see.
 #[derive(Drop)]
 pub(crate) struct Resolver<'a> {
-    /// The innermost last.
-    pub(crate) abbreviations: Vec<Abbreviation<'a>>,
+    pub(crate) abbreviations: Abbreviations<'a>,
     pub(crate) names: Names<'a>,
     pub(crate) faults: Vec<TypeFault>,
     pub(crate) statements: Vec<Statement>,
@@ -28,13 +27,13 @@ pub(crate) struct Resolver<'a> {
 impl<'a> Resolver<'a> {
     /// No command stands before.
     pub(crate) fn new(alloc: Global) -> Resolver<'a>
-        ensures abbreviations { abbreviations_of result.abbreviations.items ≡ [] }
+        ensures abbreviations { abbreviations_of result.abbreviations ≡ [] }
         ensures names { result.names ≡ [] }
         ensures faults { result.faults.items ≡ [] }
         ensures statements { map statement_of result.statements.items ≡ [] }
     {
         Resolver {
-            abbreviations: Vec::new(alloc),
+            abbreviations: Abbreviations::new(alloc),
             names: Names::new(alloc),
             faults: Vec::new(alloc),
             statements: Vec::new(alloc),
@@ -44,11 +43,11 @@ impl<'a> Resolver<'a> {
     /// One more command.
     #[tactic(auto, using(crate::proofs::Resolving::resolving))]
     pub(crate) fn add(&mut self, alloc: Global, command: &'a Command) -> Result<(), ScopeFault>
-        ensures statement { OnOk result (map statement_of self.new.statements.items ≡ map statement_of self.old.statements.items ++ statement (abbreviations_of self.old.abbreviations.items) self.old.names (command_of command.now) ∷ []) }
-        ensures abbreviations { OnOk result (abbreviations_of self.new.abbreviations.items ≡ abbreviations_after (abbreviations_of self.old.abbreviations.items) (command_of command.now)) }
+        ensures statement { OnOk result (map statement_of self.new.statements.items ≡ map statement_of self.old.statements.items ++ statement (abbreviations_of self.old.abbreviations) self.old.names (command_of command.now) ∷ []) }
+        ensures abbreviations { OnOk result (abbreviations_of self.new.abbreviations ≡ abbreviations_after (abbreviations_of self.old.abbreviations) (command_of command.now)) }
         ensures names { OnOk result (self.new.names ≡ names_after self.old.names (command_of command.now)) }
-        ensures faults { OnOk result (self.new.faults.items ≡ self.old.faults.items ++ faults_in (abbreviations_of self.old.abbreviations.items) (written_in_command (command_of command.now))) }
-        ensures limit { IsLimit (first_over_limit (abbreviations_of self.old.abbreviations.items) (written_in_command (command_of command.now))) result }
+        ensures faults { OnOk result (self.new.faults.items ≡ self.old.faults.items ++ faults_in (abbreviations_of self.old.abbreviations) (written_in_command (command_of command.now))) }
+        ensures limit { IsLimit (first_over_limit (abbreviations_of self.old.abbreviations) (written_in_command (command_of command.now))) result }
     {
         let mut written = Vec::new(alloc);
         let Ok(()) = collect_written(command, &mut written) else {
@@ -67,8 +66,8 @@ impl<'a> Resolver<'a> {
     /// What a command states. Those behind it then see what it binds.
     #[tactic(auto, using(crate::proofs::Resolving::resolving))]
     fn state(&mut self, alloc: Global, command: &'a Command) -> Result<Statement, AllocError>
-        ensures statement { IfOk result (λ s. statement_of s ≡ statement (abbreviations_of self.old.abbreviations.items) self.old.names (command_of command.now)) }
-        ensures abbreviations { OnOk result (abbreviations_of self.new.abbreviations.items ≡ abbreviations_after (abbreviations_of self.old.abbreviations.items) (command_of command.now)) }
+        ensures statement { IfOk result (λ s. statement_of s ≡ statement (abbreviations_of self.old.abbreviations) self.old.names (command_of command.now)) }
+        ensures abbreviations { OnOk result (abbreviations_of self.new.abbreviations ≡ abbreviations_after (abbreviations_of self.old.abbreviations) (command_of command.now)) }
         ensures names { OnOk result (self.new.names ≡ names_after self.old.names (command_of command.now)) }
         ensures faults { self.new.faults ≡ self.old.faults }
         ensures statements { self.new.statements ≡ self.old.statements }
@@ -87,8 +86,7 @@ impl<'a> Resolver<'a> {
             Command::Abbreviation(name, ty) => {
                 let expansion = expand(alloc, &self.abbreviations, ty)?;
                 let copy = copy_of_written(alloc, &expansion)?;
-                let name = name.text.as_str();
-                self.abbreviations.push(Abbreviation { name, expansion })?;
+                self.abbreviations.add(name.text.as_str(), expansion)?;
                 Ok(Statement::Abbreviation(copy))
             }
             Command::Evaluation(term) => {
@@ -105,7 +103,7 @@ const NODE_LIMIT: u64 = 4_096;
 /// The faults of written types, unless one of them is too large: its size is known before anything is built.
 #[tactic(auto, using(crate::proofs::Resolving::resolving))]
 fn check_written(
-    seen: &[Abbreviation<'_>],
+    seen: &Abbreviations<'_>,
     written: &[&WrittenTy],
     faults: &mut Vec<TypeFault>,
 ) -> Result<(), ScopeFault>

@@ -3,10 +3,11 @@ ghost use Rattle.std.specs.Prelude.{◌≡◌, [], length, slice_index_or, map, 
 ghost use Rattle.std.specs.Option.{option_map};
 ghost use Rattle.lam_scope.specs.Tables.{binder_numbered, place_row_numbered, binder_at, binder_token_at, binder_used_at, visible_at, seen_in, binder_in, place_in, place_at, is_over, shown_name};
 ghost use Rattle.lam_scope.specs.TableViews.{binder_number, place_number, text_binder, text_use, text_place, span_lists};
-ghost use Rattle.lam_scope.specs.Views.{table_of, uses_in};
+ghost use Rattle.lam_scope.specs.RowStretches.{place_stretch, binder_stretch, use_stretch, answer_at, used_at};
 
 use crate::numbers::{Binder, Place};
 use crate::rows::{BinderRow, PlaceRow, Rows, Spans, UseRow};
+use crate::stretches::{Stretch, Stretches, no_bytes, one_byte};
 use lam_token::Span;
 use std::alloc::{AllocError, Global};
 
@@ -16,18 +17,44 @@ pub struct Scopes {
     pub(crate) rows: Rows,
     /// The tokens of the uses of each binder, by its number.
     pub(crate) tokens: Vec<Spans>,
+    /// Where each place stands in the text, the token of each binder, and of each use.
+    pub(crate) places: Stretches,
+    pub(crate) binders: Stretches,
+    pub(crate) uses: Stretches,
+    ghost places_stand: { places ≡ map place_stretch (map text_place rows.places.items) },
+    ghost binders_stand: { binders ≡ map binder_stretch (map text_binder rows.binders.items) },
+    ghost uses_stand: { uses ≡ map use_stretch (map text_use rows.uses.items) },
 }
 
 impl Scopes {
+    ghost use Rattle.lam_scope.specs.Views.{table_of, uses_in};
+
+    /// The scopes of these rows, whose binders have those uses.
+    pub(crate) fn new(alloc: Global, rows: Rows, tokens: Vec<Spans>) -> Result<Scopes, AllocError>
+        ensures rows { IfOk result (λ s. s.rows ≡ rows) }
+        ensures tokens { IfOk result (λ s. s.tokens ≡ tokens) }
+    {
+        let places = stretches_of_places(alloc, &rows.places)?;
+        let binders = stretches_of_binders(alloc, &rows.binders)?;
+        let uses = stretches_of_uses(alloc, &rows.uses)?;
+        Ok(Scopes {
+            rows,
+            tokens,
+            places,
+            binders,
+            uses,
+        })
+    }
+
     /// The binder of the name or type name whose token starts at that byte: the one that it is, or the one that it
     /// uses. An underscore is no name; a letrec's token is the let's binder, and so are its uses.
     #[tactic(auto, using(crate::proofs::Reading::reading))]
     pub fn binder_at(&self, offset: usize) -> Option<Binder>
         ensures { option_map binder_number result ≡ binder_at (table_of self.now) offset }
     {
-        match binder_token_at(&self.rows.binders, offset) {
+        match binder_token_at(&self.rows.binders, &self.binders, offset) {
             Some(binder) => Some(binder),
-            None => binder_used_at(&self.rows.uses, offset),
+            None => binder_used_at(&self.rows.uses, &self.uses, offset),
         }
     }
 
@@ -53,12 +80,12 @@ impl Scopes {
         Ok(found)
     }
 
-    /// The innermost place of a byte of the text. None of those that stand for a letrec's lambda and fix is.
-    #[tactic(auto, using(crate::proofs::Reading::reading))]
+    /// The innermost place of a byte of the text: the first in their order that has it (`innermost_place` says that it
+    /// is the innermost). None of those that stand for a letrec's lambda and fix is.
     pub fn place_at(&self, offset: usize) -> Option<Place>
         ensures { option_map place_number result ≡ place_at (table_of self.now) offset }
     {
-        first_over(&self.rows.places, offset)
+        first_over(&self.rows.places, &self.places, offset)
     }
 
     /// From the first byte of a place to the one behind its last. The lambda and the fix of a letrec have that of its
@@ -152,33 +179,47 @@ fn innermost_at(places: &[PlaceRow], place: Place) -> Option<Binder>
 }
 
 /// The binder whose name has its token there.
-#[tactic(auto, using(crate::proofs::Reading::reading))]
-fn binder_token_at(binders: &[BinderRow], offset: usize) -> Option<Binder>
+fn binder_token_at(binders: &[BinderRow], tokens: &Stretches, offset: usize) -> Option<Binder>
+    requires { tokens.now ≡ map binder_stretch (map text_binder binders.now) }
     ensures { option_map binder_number result ≡ binder_token_at offset (map text_binder binders.now) }
 {
-    for i in 0..binders.len() {
-        let row = &binders[i];
-        if row.name.is_some() {
-            if row.token.start == offset {
-                return Some(row.answer);
-            }
-        }
+    match tokens.first_with(offset) {
+        None => None,
+        Some(index) => answer_at(binders, index),
     }
-    None
+}
+
+/// What the token of the binder of that number is told as.
+#[tactic(auto, using(crate::proofs::StretchedRows::row_reading))]
+fn answer_at(binders: &[BinderRow], index: usize) -> Option<Binder>
+    ensures { option_map binder_number result ≡ answer_at (map text_binder binders.now) index }
+{
+    match binders.get(index) {
+        Some(row) => Some(row.answer),
+        None => None,
+    }
 }
 
 /// The binder of the first use whose token starts there.
-#[tactic(auto, using(crate::proofs::Reading::reading))]
-fn binder_used_at(uses: &[UseRow], offset: usize) -> Option<Binder>
+fn binder_used_at(uses: &[UseRow], tokens: &Stretches, offset: usize) -> Option<Binder>
+    requires { tokens.now ≡ map use_stretch (map text_use uses.now) }
     ensures { option_map binder_number result ≡ binder_used_at offset (map text_use uses.now) }
 {
-    for i in 0..uses.len() {
-        let row = &uses[i];
-        if row.token.start == offset {
-            return row.binder;
-        }
+    match tokens.first_with(offset) {
+        None => None,
+        Some(index) => used_at(uses, index),
     }
-    None
+}
+
+/// The binder of the use of that number.
+#[tactic(auto, using(crate::proofs::StretchedRows::row_reading))]
+fn used_at(uses: &[UseRow], index: usize) -> Option<Binder>
+    ensures { option_map binder_number result ≡ used_at (map text_use uses.now) index }
+{
+    match uses.get(index) {
+        Some(row) => row.binder,
+        None => None,
+    }
 }
 
 /// A binder, the one just outside of it, and so on.
@@ -213,27 +254,84 @@ fn outer_of(binders: &[BinderRow], binder: Binder) -> Option<Binder>
 }
 
 /// The first place that has this byte and is written.
-#[tactic(auto, using(crate::proofs::Reading::reading))]
-fn first_over(places: &[PlaceRow], offset: usize) -> Option<Place>
+fn first_over(places: &[PlaceRow], stretches: &Stretches, offset: usize) -> Option<Place>
+    requires { stretches.now ≡ map place_stretch (map text_place places.now) }
     ensures { option_map place_number result ≡ position (is_over offset) (map text_place places.now) }
 {
-    for i in 0..places.len() {
-        let row = &places[i];
-        if is_over(row, offset) {
-            return Some(Place(i));
-        }
+    match stretches.first_with(offset) {
+        None => None,
+        Some(index) => Some(Place(index)),
     }
-    None
 }
 
-fn is_over(row: &PlaceRow, offset: usize) -> bool
-    ensures { result ≡ is_over offset (text_place row.now) }
+fn stretches_of_places(alloc: Global, places: &[PlaceRow]) -> Result<Stretches, AllocError>
+    ensures { IfOk result (λ s. s ≡ map place_stretch (map text_place places.now)) }
+{
+    let mut items = Vec::new(alloc);
+    for i in 0..places.len() {
+        let row = &places[i];
+        let stretch = stretch_of_place(row);
+        items.push(stretch)?;
+    }
+    let made = Stretches::new(alloc, items)?;
+    Ok(made)
+}
+
+fn stretches_of_binders(alloc: Global, binders: &[BinderRow]) -> Result<Stretches, AllocError>
+    ensures { IfOk result (λ s. s ≡ map binder_stretch (map text_binder binders.now)) }
+{
+    let mut items = Vec::new(alloc);
+    for i in 0..binders.len() {
+        let row = &binders[i];
+        let stretch = stretch_of_binder(row);
+        items.push(stretch)?;
+    }
+    let made = Stretches::new(alloc, items)?;
+    Ok(made)
+}
+
+fn stretches_of_uses(alloc: Global, uses: &[UseRow]) -> Result<Stretches, AllocError>
+    ensures { IfOk result (λ s. s ≡ map use_stretch (map text_use uses.now)) }
+{
+    let mut items = Vec::new(alloc);
+    for i in 0..uses.len() {
+        let row = &uses[i];
+        let stretch = stretch_of_use(row);
+        items.push(stretch)?;
+    }
+    let made = Stretches::new(alloc, items)?;
+    Ok(made)
+}
+
+/// The bytes of a place, if it is written.
+fn stretch_of_place(row: &PlaceRow) -> Stretch
+    ensures { result ≡ place_stretch (text_place row.now) }
 {
     if row.derived {
-        return false;
+        return no_bytes();
     }
-    if offset < row.span.start {
-        return false;
+    if row.span.start < row.span.end {
+        return Stretch {
+            lowest: row.span.start,
+            highest: row.span.end - 1,
+        };
     }
-    offset < row.span.end
+    no_bytes()
+}
+
+/// Where the token of a binder starts, unless it is an underscore.
+fn stretch_of_binder(row: &BinderRow) -> Stretch
+    ensures { result ≡ binder_stretch (text_binder row.now) }
+{
+    match &row.name {
+        None => no_bytes(),
+        Some(_) => one_byte(row.token.start),
+    }
+}
+
+/// Where the token of a use starts.
+fn stretch_of_use(row: &UseRow) -> Stretch
+    ensures { result ≡ use_stretch (text_use row.now) }
+{
+    one_byte(row.token.start)
 }

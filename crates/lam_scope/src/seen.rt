@@ -1,11 +1,13 @@
 //! The binders of one kind that a term sees.
 ghost use Rattle.std.specs.Prelude.{◌≡◌, ◌∷◌, [], OnOk};
 ghost use Rattle.std.specs.Option.{option_map};
+ghost use Rattle.lam_scope.specs.Stacks.{outside};
 ghost use Rattle.lam_scope.specs.Tables.{innermost, bound_to};
-ghost use Rattle.lam_scope.specs.TableViews.{entry_of, entries_of, outside_of, binder_number};
+ghost use Rattle.lam_scope.specs.TableViews.{entry_of, entries_of, entry_names, binder_number};
 
-use crate::names::binds;
+use crate::names::Names;
 use crate::numbers::Binder;
+use crate::stacks::item_under;
 use std::alloc::{AllocError, Global};
 use std::marker::Model;
 
@@ -22,16 +24,19 @@ pub(crate) struct SeenBinder<'a> {
 pub(crate) struct Seen<'a> {
     /// The innermost last.
     stack: Vec<SeenBinder<'a>>,
+    names: Names<'a>,
 }
 
 impl<'a> Model for Seen<'a> {
-    ghost use Rattle.std.specs.Prelude.{List};
+    ghost use Rattle.std.specs.Prelude.{◌≡◌, List};
     ghost use Rattle.lam_scope.specs.Tables.{Entry};
-    ghost use Rattle.lam_scope.specs.TableViews.{entries_of};
+    ghost use Rattle.lam_scope.specs.TableViews.{entries_of, entry_names};
 
     ghost Value = { List Entry };
 
     ghost view = { λ s. entries_of s.stack.items };
+
+    ghost invariant = { λ s. s.names ≡ entry_names (entries_of s.stack.items) };
 }
 
 impl<'a> Seen<'a> {
@@ -41,28 +46,25 @@ impl<'a> Seen<'a> {
     {
         Seen {
             stack: Vec::new(alloc),
+            names: Names::new(alloc),
         }
     }
 
     /// One more binder is seen, inside of the others.
-    #[tactic(auto, using(crate::proofs::SeenStacks::seen_stacks))]
     pub(crate) fn enter(&mut self, binder: SeenBinder<'a>) -> Result<(), AllocError>
         ensures { OnOk result (self.new ≡ entry_of binder.entry ∷ self.old) }
     {
-        self.stack.push(binder)?;
-        Ok(())
+        enter_in(&mut self.stack, &mut self.names, binder)
     }
 
     /// The innermost binder is seen no more.
-    #[tactic(auto, using(crate::proofs::SeenStacks::seen_stacks))]
     pub(crate) fn leave(&mut self)
-        ensures { self.new ≡ outside_of self.old }
+        ensures { self.new ≡ outside self.old }
     {
-        self.stack.pop();
+        leave_in(&mut self.stack, &mut self.names)
     }
 
     /// The innermost of all.
-    #[tactic(auto, using(crate::proofs::SeenStacks::seen_stacks))]
     pub(crate) fn innermost(&self) -> Option<Binder>
         ensures { option_map binder_number result ≡ innermost self.now }
     {
@@ -73,8 +75,34 @@ impl<'a> Seen<'a> {
     pub(crate) fn find(&self, name: &str) -> Option<Binder>
         ensures { option_map binder_number result ≡ bound_to name.now self.now }
     {
-        find_in(&self.stack, name)
+        find_in(&self.stack, &self.names, name)
     }
+}
+
+#[tactic(auto, using(crate::proofs::SeenStacks::seen_stacks))]
+fn enter_in<'a>(
+    stack: &mut Vec<SeenBinder<'a>>,
+    names: &mut Names<'a>,
+    binder: SeenBinder<'a>,
+) -> Result<(), AllocError>
+    requires { names.old ≡ entry_names (entries_of stack.old.items) }
+    ensures names { names.new ≡ entry_names (entries_of stack.new.items) }
+    ensures entered { OnOk result (entries_of stack.new.items ≡ entry_of binder.entry ∷ entries_of stack.old.items) }
+{
+    // With its room made first the push cannot fail, and leave a name without its binder.
+    stack.reserve(1)?;
+    names.enter(binder.name)?;
+    stack.push(binder)?;
+    Ok(())
+}
+
+fn leave_in<'a>(stack: &mut Vec<SeenBinder<'a>>, names: &mut Names<'a>)
+    requires { names.old ≡ entry_names (entries_of stack.old.items) }
+    ensures names { names.new ≡ entry_names (entries_of stack.new.items) }
+    ensures left { entries_of stack.new.items ≡ outside (entries_of stack.old.items) }
+{
+    names.leave();
+    stack.pop();
 }
 
 #[tactic(auto, using(crate::proofs::SeenStacks::seen_stacks))]
@@ -87,15 +115,15 @@ fn innermost_in(stack: &[SeenBinder<'_>]) -> Option<Binder>
     }
 }
 
-#[tactic(auto, using(crate::proofs::SeenStacks::seen_stacks))]
-fn find_in(stack: &[SeenBinder<'_>], name: &str) -> Option<Binder>
+fn find_in(stack: &[SeenBinder<'_>], names: &Names<'_>, name: &str) -> Option<Binder>
+    requires { names.now ≡ entry_names (entries_of stack.now) }
     ensures { option_map binder_number result ≡ bound_to name.now (entries_of stack.now) }
 {
-    for i in (0..stack.len()).rev() {
-        let seen = &stack[i];
-        if binds(seen.name, name) {
-            return Some(seen.answer);
+    match names.count(name) {
+        None => None,
+        Some(count) => {
+            let seen = item_under(stack, count);
+            Some(seen.answer)
         }
     }
-    None
 }

@@ -233,3 +233,65 @@ fn nameless_forms_count_binders(rt: HostRuntime) -> Result<(), Fail> {
     assert_eq!(rt; resolved.origins().len(), 4);
     Ok(())
 }
+
+/// Text that is so often before and behind another.
+fn wrapped(
+    alloc: Global,
+    before: &str,
+    inner: &str,
+    behind: &str,
+    count: usize,
+) -> Result<String, Fail> {
+    let mut text = String::new(alloc);
+    for _ in 0..count {
+        text.push_str(before)?;
+    }
+    text.push_str(inner)?;
+    for _ in 0..count {
+        text.push_str(behind)?;
+    }
+    Ok(text)
+}
+
+#[test]
+fn the_deepest_terms_of_a_command_fit_on_the_stack(rt: HostRuntime) -> Result<(), Fail> {
+    let alloc = rt.alloc();
+    let rows = [
+        ("", "0", " 0", 1_999),
+        ("", "x", ".a", 999),
+        ("succ (", "0", ")", 666),
+        ("lambda x:Nat. ", "x", "", 399),
+        ("if true then 0 else ", "0", "", 399),
+        ("{a=", "0", "}", 499),
+        ("let x = 0 in ", "x", "", 399),
+        ("letrec x:Nat = 0 in ", "x", "", 285),
+        ("(", "0", " as Nat)", 499),
+    ];
+    for (before, inner, behind, count) in rows {
+        let text = wrapped(alloc, before, inner, behind, count)?;
+        let commands = commands_of(&rt, alloc, &text)?;
+        let scopes = bind(alloc, &commands)?;
+        let resolved = resolve(alloc, &commands, &scopes)
+            .ok()
+            .expect(&rt, "its forms");
+        assert_eq!(rt; resolved.statements().len(), 1, "{before}");
+    }
+    Ok(())
+}
+
+#[test]
+fn places_and_names_are_found_behind_many_others(rt: HostRuntime) -> Result<(), Fail> {
+    let alloc = rt.alloc();
+    let text = wrapped(alloc, "x = x; ", "", "", 200)?;
+    let commands = commands_of(&rt, alloc, &text)?;
+    let scopes = bind(alloc, &commands)?;
+    assert_eq!(rt; scopes.binder_at(4), None);
+    for number in 1..200usize {
+        let start = number * 7;
+        assert_eq!(rt; scopes.place_at(start), None);
+        assert_eq!(rt; scopes.place_at(start + 4), Some(Place(number)));
+        assert_eq!(rt; scopes.binder_at(start), Some(Binder(number)));
+        assert_eq!(rt; scopes.binder_at(start + 4), Some(Binder(number - 1)));
+    }
+    Ok(())
+}

@@ -1,6 +1,5 @@
--- Every input has an output, and one alone.
-use Rattle.std.proofs.Common.{◌≡◌, ℕ, List, [], ◌∷◌, ◌++◌, Option, Some, None, Ok, Err, refl, sym, ap, ◌∙◌, subst, append_assoc, append-nil}
-use Rattle.serde_json.specs.Data.{Data}
+-- Every input has an output, and one alone, but for which derivation is given.
+use Rattle.std.proofs.Common.{◌≡◌, ℕ, List, [], ◌∷◌, ◌++◌, Option, Some, None, Ok, Err, sym, ap, ◌∙◌, subst, append_assoc, append-nil}
 use Rattle.lam_frame.specs.Frame.{HasFrame, IsRest}
 use Rattle.lam_frame.proofs.Readings.{frames_agree, has_reading, reads_one_way}
 use Rattle.lam_frame.specs.declared.fault.FrameFault.{FrameFault}
@@ -9,31 +8,30 @@ use Rattle.lam_rpc.specs.Kind.{Message, IsKindOf}
 use Rattle.lam_session.proofs.OneAnswer.{has_one_answer}
 use Rattle.lam_session.specs.State.{State, ended_status}
 use Rattle.lam_session.specs.Step.{Steps}
-use Rattle.lam_server.specs.Laws.{HasOneOutput}
+use Rattle.lam_server.specs.Laws.{AreAlikeOutputs, both_end, both_answer, HasOneOutput}
 use Rattle.lam_server.specs.Output.{Takes, Turns, IsLive, Outcome, ComesTo, IsAllowed, frames_of}
 use Rattle.lam_server.specs.Output.Turns.{no_turn, next_turn}
 use Rattle.lam_server.proofs.Growing.{whole_front}
 
 -- ---- one message
 
-steps_agree : (s : State) (m n : Message) (values sent : List Data) (next after : State) → m ≡ n → Steps s m values next → Steps s n sent after → (values ≡ sent) × (next ≡ after)
-steps_agree s m n values sent next after same p q =
-    let one = has_one_answer s n in
-    let left = one.alone values next (subst (λ (k : Message). Steps s k values next) same p) in
-    let right = one.alone sent after q in
-    (left.0 ∙ sym right.0, left.1 ∙ sym right.1)
-
-record Agree (out other : List ℕ) (next after : State) (left rest : List ℕ) : Type 0 where
-  outputs : out ≡ other
+record Agree (s : State) (bytes first other : List ℕ) (next after : State) (left rest : List ℕ) : Type 0 where
   states : next ≡ after
   lefts : left ≡ rest
+  joined : (out others : List ℕ) → AreAlikeOutputs next left out others → AreAlikeOutputs s bytes (first ++ out) (other ++ others)
 
-takes_agree : (s : State) (bytes out other : List ℕ) (next after : State) (left rest : List ℕ) → Takes s bytes out next left → Takes s bytes other after rest → Agree out other next after left rest
-takes_agree s bytes out other next after left rest t u =
+takes_agree : (s : State) (bytes first other : List ℕ) (next after : State) (left rest : List ℕ) → Takes s bytes first next left → Takes s bytes other after rest → Agree s bytes first other next after left rest
+takes_agree s bytes first other next after left rest t u =
     let frames = frames_agree bytes t.body u.body left rest t.frame u.frame in
-    let kinds : t.message ≡ u.message = one_kind u.body t.message u.message (subst (λ (b : List ℕ). IsKindOf b t.message) frames.0 t.kind) u.kind in
-    let answers = steps_agree s t.message u.message t.values u.values next after kinds t.steps u.steps in
-    record { outputs = t.frames ∙ ap frames_of answers.0 ∙ sym u.frames; states = answers.1; lefts = frames.1 }
+    let kinds : u.message ≡ t.message = one_kind u.body u.message t.message u.kind (subst (λ (b : List ℕ). IsKindOf b t.message) frames.0 t.kind) in
+    let answers = (has_one_answer s t.message).alone t.values u.values next after t.steps (subst (λ (m : Message). Steps s m u.values after) kinds u.steps) in
+    record {
+      states = answers.1;
+      lefts = frames.1;
+      joined = λ out others alike.
+          subst (λ (l : List ℕ). AreAlikeOutputs s bytes (l ++ out) (other ++ others)) (sym t.frames)
+          (subst (λ (l : List ℕ). AreAlikeOutputs s bytes (frames_of t.values ++ out) (l ++ others)) (sym u.frames) (both_answer t.frame t.kind t.steps answers.0 alike));
+    }
 
 -- ---- message after message, from the front
 
@@ -76,15 +74,15 @@ stopped_and_live s next bytes first left outcome comes live takes =
 
 -- ---- the whole
 
-one_end : (s : State) (bytes out other : List ℕ) (a b : Outcome) → Follows s bytes out a → Follows s bytes other b → (out ≡ other) × (a ≡ b)
-one_end s bytes out other a b (stops p) (stops q) = (refl, comes_to_one (ended_status s.life) bytes a b p q)
+one_end : (s : State) (bytes out other : List ℕ) (a b : Outcome) → Follows s bytes out a → Follows s bytes other b → AreAlikeOutputs s bytes out other × (a ≡ b)
+one_end s bytes out other a b (stops p) (stops q) = (both_end, comes_to_one (ended_status s.life) bytes a b p q)
 one_end s bytes out other a b (stops p) (follows {next = next} {first = first} {left = left} live takes f) = absurd (stopped_and_live s next bytes first left a p live takes)
 one_end s bytes out other a b (follows {next = next} {first = first} {left = left} live takes f) (stops q) = absurd (stopped_and_live s next bytes first left b q live takes)
 one_end s bytes out other a b (follows {next = next} {first = first} {left = left} {rest = rest} live takes f) (follows {next = next2} {first = first2} {left = left2} {rest = rest2} live2 takes2 g) =
-    let same = takes_agree s bytes first first2 next next2 left left2 takes takes2 in
+    let agree = takes_agree s bytes first first2 next next2 left left2 takes takes2 in
     let later = one_end next left rest rest2 a b f
-    (subst (λ (t : State). Follows t left rest2 b) (sym same.states) (subst (λ (l : List ℕ). Follows next2 l rest2 b) (sym same.lefts) g)) in
-    (ap (λ (l : List ℕ). l ++ rest) same.outputs ∙ ap (λ (l : List ℕ). first2 ++ l) later.0, later.1)
+    (subst (λ (t : State). Follows t left rest2 b) (sym agree.states) (subst (λ (l : List ℕ). Follows next2 l rest2 b) (sym agree.lefts) g)) in
+    (agree.joined rest rest2 later.0, later.1)
 
 pub has_one_output : (start : State) (input : List ℕ) → HasOneOutput start input
 has_one_output start input =
@@ -93,5 +91,5 @@ has_one_output start input =
       out = front.rest;
       outcome = front.outcome;
       allowed = front.allowed;
-      alone = λ other end a. one_end start input other front.rest end front.outcome (allowed_follows start input other end a) (allowed_follows start input front.rest front.outcome front.allowed);
+      alone = λ one other end after a b. one_end start input one other end after (allowed_follows start input one end a) (allowed_follows start input other after b);
     }

@@ -1,10 +1,13 @@
 -- The command line, as a command of clap: the dialect, and two options that editors give and that change nothing.
-use Rattle.std.specs.Prelude.{◌≡◌, ℕ, List, [], ◌∷◌, map, codes, Some}
+use Rattle.std.specs.Prelude.{◌≡◌, ℕ, List, [], ◌∷◌, map, codes, if◌then◌else◌, Option, None, Some}
+use Rattle.std.specs.Str.{bytes_eq}
 use Rattle.std.specs.Borrow.{Bor}
 use Rattle.clap.specs.Simple.{App, app_of, new_app, new_rule, with_rule}
 use Rattle.clap.specs.Walk.{Rule}
 use Rattle.clap.specs.declared.builder.action.ArgAction.TheVariants.{SetTrue}
 use Rattle.clap.specs.declared.builder.command.Command.{Command}
+use Rattle.lam_rules.specs.declared.rules.Dialect.{Dialect}
+use Rattle.lam_rules.specs.declared.rules.Dialect.TheVariants.{One, Two}
 use Rattle.clap.specs.declared.builder.value_parser.ValueParser.TheVariants.{Names}
 
 -- a flag without effect
@@ -21,7 +24,7 @@ dialect names = record (new_rule (codes "dialect")) { long = Some (codes "dialec
 
 -- the dialects that there are
 abbrev pub AreDialects : Bor (List (Bor (List ℕ))) → Type 0
-AreDialects names = map (λ name. name.now) names.now ≡ codes "1" ∷ []
+AreDialects names = map (λ name. name.now) names.now ≡ codes "1" ∷ codes "2" ∷ []
 
 -- the option with just these words
 pub record IsDialect (rule : Rule) : Type 0 where
@@ -41,3 +44,8 @@ pub record IsCommandLine (command : Command) : Type 0 where
 abbrev pub named_words : List (List ℕ) → List (List ℕ)
 named_words [] = codes "lam_server" ∷ []
 named_words (word ∷ words) = word ∷ words
+
+-- the rules that a value of the option names: the word 2 alone names the second ones
+abbrev pub dialect_named : Option (List ℕ) → Dialect
+dialect_named None = One
+dialect_named (Some word) = if bytes_eq word (codes "2") then Two else One

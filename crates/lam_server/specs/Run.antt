@@ -20,7 +20,7 @@ MayFollow pieces more = EndsEmpty pieces → more ≡ []
 abbrev pub IsSettled : State → List (List ℕ) → List ℕ → Outcome → Type 0
 IsSettled start pieces out outcome = (more : List ℕ) → MayFollow pieces more → IsAllowed start (concat pieces ++ more) out outcome
 
--- the bytes that were there are answered as far as they are whole, and decide nothing more
+-- the messages that are whole among the bytes leave the session alive, and the rest decides nothing
 abbrev pub DecidesNothing : State → List ℕ → Type 0
 DecidesNothing start read = (out : List ℕ) × IsAwaiting start read out
 

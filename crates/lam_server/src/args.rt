@@ -1,13 +1,14 @@
 //! The words of the command line.
 
-ghost use Rattle.std.specs.Prelude.{◌≡◌, false, IfOk, codes, map};
+ghost use Rattle.std.specs.Prelude.{◌≡◌, false, IfOk, codes, map, option_map};
 ghost use Rattle.clap.specs.Simple.{app_of, new_app};
 ghost use Rattle.clap.specs.Values.{kind_of};
 ghost use Rattle.clap.specs.Walk.{rule_of};
-ghost use Rattle.lam_server.specs.CommandLine.{IsCommandLine, IsDialect, client, named_words, stdio};
+ghost use Rattle.lam_server.specs.CommandLine.{IsCommandLine, IsDialect, client, dialect_named, named_words, stdio};
 
 use clap::error::ErrorKind;
 use clap::{Arg, ArgAction, Command, Error};
+use lam_rules::Dialect;
 use lam_session::Config;
 use std::alloc::{AllocError, Global};
 use thiserror::Error as FaultError;
@@ -17,7 +18,7 @@ const NAME: &str = "lam_server";
 static NAME_ALONE: [&str; 1] = [NAME];
 
 /// The names of the dialects that there are.
-static DIALECTS: [&str; 1] = ["1"];
+static DIALECTS: [&str; 2] = ["1", "2"];
 
 const ABOUT: &str = "A language server for the typed lambda calculus with records and subtyping. \
     It speaks LSP 3.17 on standard input and output.";
@@ -41,7 +42,7 @@ pub enum ArgsFault {
 
 ghost use Rattle.lam_server.specs.Words.{ReadsWords, TellsKind};
 
-/// What the words say: `--dialect 1`, which is the default, and `--stdio` and `--clientProcessId ID`,
+/// What the words say: `--dialect 1`, which is the default, or `--dialect 2`, and `--stdio` and `--clientProcessId TEXT`,
 /// which editors give and which change nothing. The first word names the program; without any word
 /// the program has its own name.
 pub fn read_args(alloc: Global, words: &[&str]) -> Result<Config, ArgsFault>
@@ -51,9 +52,22 @@ pub fn read_args(alloc: Global, words: &[&str]) -> Result<Config, ArgsFault>
         return Err(ArgsFault::Memory);
     };
     match command.try_get_matches_from(named(words)) {
-        Ok(_) => Ok(Config::new()),
+        Ok(matches) => Ok(Config::new(chosen(matches.get_str("dialect")))),
         Err(error) => Err(fault_of(alloc, &error)),
     }
+}
+
+/// The rules that a value of `--dialect` names.
+fn chosen(name: Option<&str>) -> Dialect
+    ensures { result ≡ dialect_named (option_map (λ word. word.now) name.entry) }
+{
+    let Some(word) = name else {
+        return Dialect::One;
+    };
+    if word == "2" {
+        return Dialect::Two;
+    }
+    Dialect::One
 }
 
 /// The words, or where there is none the program's name.
@@ -110,7 +124,7 @@ fn dialect<'a>(alloc: Global) -> Arg<'a>
         .value_name("DIALECT")
         .value_parser(DIALECTS.as_slice())
         .default_value("1")
-        .help("The subtyping rules")
+        .help("The subtyping rules: 1 for the book's, 2 for these and Bool below Nat")
 }
 
 /// A text that memory cut short is no text: the kind is looked at first.

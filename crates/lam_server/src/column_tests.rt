@@ -1,6 +1,7 @@
 //! The columns of what is published, in each of the three units, through whole runs.
 use crate::run::run;
 use lam_frame::{BytesIn, BytesOut};
+use lam_rules::Dialect;
 use lam_session::Config;
 use std::alloc::{AllocError, Global};
 use std::test::Fail;
@@ -50,7 +51,7 @@ fn ends_with(alloc: Global, bodies: &[&str], notice: &str) -> Result<bool, Fail>
     }
     let mut reader = BytesIn::new(input.as_bytes());
     let mut writer = BytesOut::new(alloc);
-    run(alloc, &mut reader, &mut writer, Config::new())?;
+    run(alloc, &mut reader, &mut writer, Config::new(Dialect::One))?;
     Ok(writer.bytes().ends_with(notice.as_bytes()))
 }
 

@@ -1,7 +1,7 @@
 //! A server, turn by turn.
 
 ghost use Rattle.std.specs.Prelude.{◌≡◌, ◌-◌, ◌^◌, ◌<◌, IfOk, []};
-ghost use Rattle.lam_session.specs.State.{fresh};
+ghost use Rattle.lam_session.specs.State.{fresh, dialect_of};
 
 use crate::answer::answer;
 use crate::faults::{RunFault, fault_of_run};
@@ -49,7 +49,7 @@ impl Server {
 
     /// A server before its first message. What later calls need of memory they ask of `alloc`.
     pub fn new(alloc: Global, config: Config) -> Result<Server, AllocError>
-        ensures { IfOk result (λ s. s ≡ record { held = []; pulls = 0; state = fresh }) }
+        ensures { IfOk result (λ s. s ≡ record { held = []; pulls = 0; state = fresh (dialect_of config) }) }
     {
         let frames = FrameReader::new(alloc)?;
         let session = Session::new(alloc, config);

@@ -6,6 +6,7 @@ use crate::faults::{RunFault, line_of, status_of};
 use crate::run::run;
 use crate::server::{Server, Turn};
 use lam_frame::{BytesIn, BytesOut, DeviceFault, FrameFault, Sink, Source};
+use lam_rules::Dialect;
 use lam_session::Config;
 use std::alloc::{AllocError, Global};
 use std::cell::Cell;
@@ -18,8 +19,8 @@ const SHUTDOWN: &str = r#"{"jsonrpc":"2.0","id":2,"method":"shutdown"}"#;
 
 const EXIT: &str = r#"{"jsonrpc":"2.0","method":"exit"}"#;
 
-const INITIALIZED: &str = "Content-Length: 129\r\n\r\n\
-    {\"id\":0,\"jsonrpc\":\"2.0\",\"result\":{\"capabilities\":{\"positionEncoding\":\"utf-16\",\"textDocumentSync\":{\"change\":2,\"openClose\":true}}}}";
+const INITIALIZED: &str = "Content-Length: 150\r\n\r\n\
+    {\"id\":0,\"jsonrpc\":\"2.0\",\"result\":{\"capabilities\":{\"hoverProvider\":true,\"positionEncoding\":\"utf-16\",\"textDocumentSync\":{\"change\":2,\"openClose\":true}}}}";
 
 const SHUT_DOWN: &str = "Content-Length: 38\r\n\r\n{\"id\":2,\"jsonrpc\":\"2.0\",\"result\":null}";
 
@@ -50,7 +51,7 @@ fn check_bytes(
 ) {
     let mut reader = BytesIn::new(input);
     let mut writer = BytesOut::new(alloc);
-    let found = run(alloc, &mut reader, &mut writer, Config::new());
+    let found = run(alloc, &mut reader, &mut writer, Config::new(Dialect::One));
     assert_eq!(rt; found, outcome);
     assert_eq!(rt; writer.bytes(), output.as_bytes());
 }
@@ -205,14 +206,14 @@ fn refusals(rt: HostRuntime) -> Result<(), Fail> {
 fn position_encodings(rt: HostRuntime) -> Result<(), Fail> {
     let alloc = rt.alloc();
     for (offered, length, chosen) in [
-        (r#"["utf-8","utf-16"]"#, 128, "utf-8"),
-        (r#"["utf-32","utf-8","utf-16"]"#, 129, "utf-32"),
+        (r#"["utf-8","utf-16"]"#, 149, "utf-8"),
+        (r#"["utf-32","utf-8","utf-16"]"#, 150, "utf-32"),
     ] {
         let body = format!(in alloc;
             "{{\"id\":0,\"method\":\"initialize\",\"params\":{{\"capabilities\":{{\"general\":{{\"positionEncodings\":{offered}}}}}}}}}"
         )?;
         let output = format!(in alloc;
-            "Content-Length: {length}\r\n\r\n{{\"id\":0,\"jsonrpc\":\"2.0\",\"result\":{{\"capabilities\":{{\"positionEncoding\":\"{chosen}\",\"textDocumentSync\":{{\"change\":2,\"openClose\":true}}}}}}}}"
+            "Content-Length: {length}\r\n\r\n{{\"id\":0,\"jsonrpc\":\"2.0\",\"result\":{{\"capabilities\":{{\"hoverProvider\":true,\"positionEncoding\":\"{chosen}\",\"textDocumentSync\":{{\"change\":2,\"openClose\":true}}}}}}}}"
         )?;
         check_bodies(&rt, alloc, &[body.as_str()], 1, output.as_str())?;
     }
@@ -242,7 +243,7 @@ fn turns(alloc: Global, input: &[u8], writer: &mut BytesOut) -> Result<(usize, u
     requires { writer.old.failures ≡ 0 }
 {
     let mut reader = BytesIn::new(input);
-    let Ok(mut server) = Server::new(alloc, Config::new()) else {
+    let Ok(mut server) = Server::new(alloc, Config::new(Dialect::One)) else {
         return Err(RunFault::Memory);
     };
     for count in 0..100 {
@@ -366,16 +367,19 @@ fn answers_before_it_pulls_again(rt: HostRuntime) -> Result<(), Fail> {
         unflushed: false,
         answered: &answered,
     };
-    let found = run(alloc, &mut reader, &mut writer, Config::new());
+    let found = run(alloc, &mut reader, &mut writer, Config::new(Dialect::One));
     assert_eq!(rt; found, Ok(0));
     assert_eq!(rt; writer.inner.bytes(), output.as_bytes());
     Ok(())
 }
 
-/// How reading these words comes out.
+/// How reading these words comes out: with a run by the book's rules or by the second ones, or with none.
 fn kind_of(alloc: Global, words: &[&str]) -> &'static str {
     match read_args(alloc, words) {
-        Ok(_) => "run",
+        Ok(config) => match config.dialect() {
+            Dialect::One => "one",
+            Dialect::Two => "two",
+        },
         Err(ArgsFault::Help(_)) => "help",
         Err(ArgsFault::Usage(_)) => "usage",
         Err(ArgsFault::Memory) => "memory",
@@ -386,13 +390,13 @@ fn kind_of(alloc: Global, words: &[&str]) -> &'static str {
 fn words(rt: HostRuntime) {
     let alloc = rt.alloc();
     let none: [&str; 0] = [];
-    assert_eq!(rt; kind_of(alloc, &none), "run");
-    assert_eq!(rt; kind_of(alloc, &["lam_server"]), "run");
+    assert_eq!(rt; kind_of(alloc, &none), "one");
+    assert_eq!(rt; kind_of(alloc, &["lam_server"]), "one");
     assert_eq!(rt; kind_of(alloc, &["lam_server", "--help"]), "help");
     assert_eq!(rt; kind_of(alloc, &["lam_server", "-h"]), "help");
-    assert_eq!(rt; kind_of(alloc, &["lam_server", "--stdio"]), "run");
+    assert_eq!(rt; kind_of(alloc, &["lam_server", "--stdio"]), "one");
     let editor = ["lam_server", "--stdio", "--clientProcessId", "7"];
-    assert_eq!(rt; kind_of(alloc, &editor), "run");
+    assert_eq!(rt; kind_of(alloc, &editor), "one");
     assert_eq!(rt;
         kind_of(alloc, &["lam_server", "--clientProcessId"]),
         "usage"
@@ -403,10 +407,10 @@ fn words(rt: HostRuntime) {
         kind_of(alloc, &["lam_server", "--stdio", "--stdio"]),
         "usage"
     );
-    for (dialect, kind) in [("1", "run"), ("2", "usage"), ("3", "usage"), ("", "usage")] {
+    for (dialect, kind) in [("1", "one"), ("2", "two"), ("3", "usage"), ("", "usage")] {
         assert_eq!(rt; kind_of(alloc, &["lam_server", "--dialect", dialect]), kind);
     }
-    assert_eq!(rt; kind_of(alloc, &["lam_server", "--dialect=1"]), "run");
+    assert_eq!(rt; kind_of(alloc, &["lam_server", "--dialect=2"]), "two");
 }
 
 #[test]

@@ -5,26 +5,29 @@ use Rattle.std.specs.Str.{bytes_eq}
 use Rattle.serde_json.specs.Data.{Data, Items, null, string, no_items}
 use Rattle.serde_json.specs.Find.{get}
 use Rattle.lam_rpc.specs.Reply.{result_reply}
-use Rattle.lam_rpc.specs.Fields.{named_uri, listed_changes}
+use Rattle.lam_rpc.specs.Fields.{asked_position, named_uri, listed_changes}
 use Rattle.lam_rpc.specs.Kind.{Message, request, notice, reply, unreadable, invalid}
+use Rattle.lam_rules.specs.declared.rules.Dialect.{Dialect}
+use Rattle.lam_text.specs.declared.places.Position.{Position}
 use Rattle.lam_text.specs.Edits.{Edit, text_after}
 use Rattle.lam_session.specs.declared.states.Life.{Life}
 use Rattle.lam_session.specs.declared.states.Life.TheVariants.{Fresh, Running, Down, Over}
 use Rattle.lam_session.specs.declared.methods.RequestMethod.{RequestMethod}
-use Rattle.lam_session.specs.declared.methods.RequestMethod.TheVariants.{Initialize, Shutdown, UnknownRequest}
+use Rattle.lam_session.specs.declared.methods.RequestMethod.TheVariants.{Initialize, Shutdown, Hover, Derivation, UnknownRequest}
 use Rattle.lam_session.specs.declared.methods.NoticeMethod.{NoticeMethod}
 use Rattle.lam_session.specs.declared.methods.NoticeMethod.TheVariants.{Exit, DidOpen, DidChange, DidClose, UnknownNotice}
 use Rattle.lam_session.specs.Documents.{OpenDocument, open_text, with_document, without_document}
 use Rattle.lam_session.specs.declared.refusals.Refusal.{Refusal}
-use Rattle.lam_session.specs.declared.refusals.Refusal.TheVariants.{UnreadableMessage, InvalidMessage, AlreadyInitialized, ShutDown, NotInitialized, MethodNotFound}
+use Rattle.lam_session.specs.declared.refusals.Refusal.TheVariants.{UnreadableMessage, InvalidMessage, AlreadyInitialized, ShutDown, NotInitialized, MethodNotFound, InvalidParams, DocumentNotOpen}
 use Rattle.lam_session.specs.Does.{Does}
 use Rattle.lam_session.specs.Initialize.{chosen, initialize_answer}
+use Rattle.lam_session.specs.Questions.{Question, IsHoverValue, IsDerivationValue, AsksOpen, AsksAs, Asks}
 use Rattle.lam_session.specs.Refusals.{refused}
 use Rattle.lam_session.specs.Methods.{request_method, notice_method}
 use Rattle.lam_session.specs.Runs.{Exchange, Runs, is_lifecycle, is_named, concerns, IsAlone, SaysNothing}
 use Rattle.lam_session.specs.State.{State, fresh}
 use Rattle.lam_session.specs.Step.{exit_status, Serves, Awaits, Requested, Heeds, Passes, Noticed, Receives, ReceivesIn, Steps}
-use Rattle.lam_session.specs.Sync.{published, opened_text, given_version, Tells, Holds, OpensAs, ChangesText, ChangesAs, ClosesOpen, ClosesAs}
+use Rattle.lam_session.specs.Sync.{published, opened_text, given_version, Holds, OpensAs, ChangesText, ChangesAs, ClosesOpen, ClosesAs}
 use Rattle.lam_session.specs.Diagnostics.{diagnostics}
 use Rattle.lam_session.proofs.EntryLemmas.{same_text, found_set}
 
@@ -89,11 +92,43 @@ does_same : (uri : List ℕ) (values : List Data) (after : State) (docs : List O
 does_same uri values after docs sent next agree d =
     (docs, (d.0, ap (λ (x : State). beside x docs) d.1), ap (λ (x : State). open_text uri x.documents) d.1 ∙ agree)
 
+-- agreement about a uri is agreement about an equal one
+agree_named : (uri other : List ℕ) (ds es : List OpenDocument) → bytes_eq uri other ≡ true → open_text uri ds ≡ open_text uri es → open_text other ds ≡ open_text other es
+agree_named uri other ds es is agree = subst (λ (u : List ℕ). open_text u ds ≡ open_text u es) ((bytes_eq-Decides uri other).0 is) agree
+
+asks_open_same : (uri : List ℕ) (question : Question) (s : State) (docs : List OpenDocument) (id : Data) (position : Position) (found : Option (List ℕ)) (sent : List Data) (next : State)
+    → open_text uri s.documents ≡ open_text uri docs → AsksOpen question s id position found sent next → Goes uri (AsksOpen question (beside s docs) id position found) sent next
+asks_open_same uri question s docs id position None sent next agree d = does_same uri (refused id DocumentNotOpen ∷ []) s docs sent next agree d
+asks_open_same uri question s docs id position (Some text) sent next agree d =
+    let does = does_same uri (result_reply id d.value ∷ []) s docs sent next agree d.does in
+    (does.0, record { value = d.value; right = d.right; does = does.1 }, does.2)
+
+asks_as_same : (uri : List ℕ) (question : Question) (s : State) (docs : List OpenDocument) (id : Data) (position : Option Position) (named : Option (List ℕ)) (sent : List Data) (next : State)
+    → open_text uri s.documents ≡ open_text uri docs → is_named uri named ≡ true → AsksAs question s id position named sent next → Goes uri (AsksAs question (beside s docs) id position named) sent next
+asks_as_same uri question s docs id None named sent next agree is d = does_same uri (refused id InvalidParams ∷ []) s docs sent next agree d
+asks_as_same uri question s docs id (Some position) None sent next agree is d = does_same uri (refused id InvalidParams ∷ []) s docs sent next agree d
+asks_as_same uri question s docs id (Some position) (Some other) sent next agree is d =
+    subst (λ (found : Option (List ℕ)). Goes uri (AsksOpen question (beside s docs) id position found) sent next)
+    (agree_named uri other s.documents docs is agree)
+    (asks_open_same uri question s docs id position (open_text other s.documents) sent next agree d)
+
+asks_same : (uri : List ℕ) (question : Question) (s : State) (docs : List OpenDocument) (id params : Data) (sent : List Data) (next : State)
+    → open_text uri s.documents ≡ open_text uri docs → is_named uri (named_uri params) ≡ true → Asks question s id params sent next → Goes uri (Asks question (beside s docs) id params) sent next
+asks_same uri question s docs id params sent next agree is d = asks_as_same uri question s docs id (asked_position params) (named_uri params) sent next agree is d
+
+-- a fact that only a question about a document needs
+abbrev IfAsks : RequestMethod → Type 0 → Type 0
+IfAsks Hover P = P
+IfAsks Derivation P = P
+IfAsks _ P = Unit {0}
+
 serves_same : (uri : List ℕ) (s : State) (docs : List OpenDocument) (id : Data) (method : RequestMethod) (params : Data) (sent : List Data) (next : State)
-    → open_text uri s.documents ≡ open_text uri docs → Serves s id method params sent next → Goes uri (Serves (beside s docs) id method params) sent next
-serves_same uri s docs id Initialize params sent next agree d = does_same uri (refused id AlreadyInitialized ∷ []) s docs sent next agree d
-serves_same uri s docs id Shutdown params sent next agree d = does_same uri (result_reply id null ∷ []) (record s { life = Down }) docs sent next agree d
-serves_same uri s docs id UnknownRequest params sent next agree d = does_same uri (refused id MethodNotFound ∷ []) s docs sent next agree d
+    → open_text uri s.documents ≡ open_text uri docs → IfAsks method (is_named uri (named_uri params) ≡ true) → Serves s id method params sent next → Goes uri (Serves (beside s docs) id method params) sent next
+serves_same uri s docs id Initialize params sent next agree is d = does_same uri (refused id AlreadyInitialized ∷ []) s docs sent next agree d
+serves_same uri s docs id Shutdown params sent next agree is d = does_same uri (result_reply id null ∷ []) (record s { life = Down }) docs sent next agree d
+serves_same uri s docs id Hover params sent next agree is d = asks_same uri (IsHoverValue s.encoding s.dialect) s docs id params sent next agree is d
+serves_same uri s docs id Derivation params sent next agree is d = asks_same uri (IsDerivationValue s.encoding s.dialect) s docs id params sent next agree is d
+serves_same uri s docs id UnknownRequest params sent next agree is d = does_same uri (refused id MethodNotFound ∷ []) s docs sent next agree d
 
 awaits_same : (uri : List ℕ) (s : State) (docs : List OpenDocument) (id : Data) (method : RequestMethod) (params : Data) (sent : List Data) (next : State)
     → open_text uri s.documents ≡ open_text uri docs → Awaits s id method params sent next → Goes uri (Awaits (beside s docs) id method params) sent next
@@ -102,11 +137,11 @@ awaits_same uri s docs id Initialize params sent next agree d =
 awaits_same uri s docs id _ params sent next agree d = does_same uri (refused id NotInitialized ∷ []) s docs sent next agree d
 
 requested_same : (uri : List ℕ) (life : Life) (s : State) (docs : List OpenDocument) (id : Data) (method : RequestMethod) (params : Data) (sent : List Data) (next : State)
-    → open_text uri s.documents ≡ open_text uri docs → Requested life s id method params sent next → Goes uri (Requested life (beside s docs) id method params) sent next
-requested_same uri Fresh s docs id method params sent next agree d = awaits_same uri s docs id method params sent next agree d
-requested_same uri Running s docs id method params sent next agree d = serves_same uri s docs id method params sent next agree d
-requested_same uri Down s docs id method params sent next agree d = does_same uri (refused id ShutDown ∷ []) s docs sent next agree d
-requested_same uri (Over status) s docs id method params sent next agree d = does_same uri [] s docs sent next agree d
+    → open_text uri s.documents ≡ open_text uri docs → IfAsks method (is_named uri (named_uri params) ≡ true) → Requested life s id method params sent next → Goes uri (Requested life (beside s docs) id method params) sent next
+requested_same uri Fresh s docs id method params sent next agree is d = awaits_same uri s docs id method params sent next agree d
+requested_same uri Running s docs id method params sent next agree is d = serves_same uri s docs id method params sent next agree is d
+requested_same uri Down s docs id method params sent next agree is d = does_same uri (refused id ShutDown ∷ []) s docs sent next agree d
+requested_same uri (Over status) s docs id method params sent next agree is d = does_same uri [] s docs sent next agree d
 
 holds_same : (uri : List ℕ) (s : State) (docs : List OpenDocument) (document : OpenDocument) (sent : List Data) (next : State)
     → open_text uri s.documents ≡ open_text uri docs → Holds s document sent next → Goes uri (Holds (beside s docs) document) sent next
@@ -125,10 +160,6 @@ changes_text_same : (uri : List ℕ) (s : State) (docs : List OpenDocument) (oth
 changes_text_same uri s docs other None edits version sent next agree d = does_same uri [] s docs sent next agree d
 changes_text_same uri s docs other (Some text) edits version sent next agree d =
     holds_same uri s docs (record { uri = other; text = text_after s.encoding text edits; version = version }) sent next agree d
-
--- agreement about a uri is agreement about an equal one
-agree_named : (uri other : List ℕ) (ds es : List OpenDocument) → bytes_eq uri other ≡ true → open_text uri ds ≡ open_text uri es → open_text other ds ≡ open_text other es
-agree_named uri other ds es is agree = subst (λ (u : List ℕ). open_text u ds ≡ open_text u es) ((bytes_eq-Decides uri other).0 is) agree
 
 changes_same : (uri : List ℕ) (s : State) (docs : List OpenDocument) (named : Option (List ℕ)) (edits : Option (List Edit)) (version : Option ℤ) (sent : List Data) (next : State)
     → open_text uri s.documents ≡ open_text uri docs → is_named uri named ≡ true → ChangesAs s named edits version sent next → Goes uri (ChangesAs (beside s docs) named edits version) sent next
@@ -196,9 +227,25 @@ concerned name b h =
     (λ is. subst (λ (n : List ℕ). (is_lifecycle n || b) ≡ true) ((bytes_eq-Decides name (codes "textDocument/didChange")).0 is) h)
     (λ is. subst (λ (n : List ℕ). (is_lifecycle n || b) ≡ true) ((bytes_eq-Decides name (codes "textDocument/didClose")).0 is) h)
 
+if_asks : (initialize shutdown hover derivation : Bool) (P : Type 0) → (hover ≡ true → P) → (derivation ≡ true → P)
+    → IfAsks (cond initialize Initialize (cond shutdown Shutdown (cond hover Hover (cond derivation Derivation UnknownRequest)))) P
+if_asks true shutdown hover derivation P f g = tt
+if_asks false true hover derivation P f g = tt
+if_asks false false true derivation P f g = f refl
+if_asks false false false true P f g = g refl
+if_asks false false false false P f g = tt
+
+-- a question that concerns a document names it
+asks_concerned : (name : List ℕ) (b : Bool) → (is_lifecycle name || b) ≡ true → IfAsks (request_method name) (b ≡ true)
+asks_concerned name b h =
+    if_asks (bytes_eq name (codes "initialize")) (bytes_eq name (codes "shutdown")) (bytes_eq name (codes "textDocument/hover")) (bytes_eq name (codes "fullsub/derivation")) (b ≡ true)
+    (λ is. subst (λ (n : List ℕ). (is_lifecycle n || b) ≡ true) ((bytes_eq-Decides name (codes "textDocument/hover")).0 is) h)
+    (λ is. subst (λ (n : List ℕ). (is_lifecycle n || b) ≡ true) ((bytes_eq-Decides name (codes "fullsub/derivation")).0 is) h)
+
 receives_same : (uri : List ℕ) (s : State) (docs : List OpenDocument) (m : Message) (sent : List Data) (next : State)
     → open_text uri s.documents ≡ open_text uri docs → concerns uri m ≡ true → Receives s m sent next → Goes uri (Receives (beside s docs) m) sent next
-receives_same uri s docs (request id method params) sent next agree is d = requested_same uri s.life s docs id (request_method method) params sent next agree d
+receives_same uri s docs (request id method params) sent next agree is d =
+    requested_same uri s.life s docs id (request_method method) params sent next agree (asks_concerned method (is_named uri (named_uri params)) is) d
 receives_same uri s docs (notice method params) sent next agree is d =
     noticed_same uri s.life s docs (notice_method method) params sent next agree (concerned method (is_named uri (named_uri params)) is) d
 receives_same uri s docs reply sent next agree is d = does_same uri [] s docs sent next agree d
@@ -233,19 +280,52 @@ published_says uri other version faults apart = (
   tt,
 )
 
-requested_quiet : (uri : List ℕ) (life : Life) (s : State) (id params : Data) (sent : List Data) (next : State) → Requested life s id UnknownRequest params sent next → Quiet uri s sent next
-requested_quiet uri Fresh s id params sent next d = does_quiet uri s (refused id NotInitialized ∷ []) s.documents sent next refl (refused_says uri id NotInitialized) d
-requested_quiet uri Running s id params sent next d = does_quiet uri s (refused id MethodNotFound ∷ []) s.documents sent next refl (refused_says uri id MethodNotFound) d
-requested_quiet uri Down s id params sent next d = does_quiet uri s (refused id ShutDown ∷ []) s.documents sent next refl (refused_says uri id ShutDown) d
-requested_quiet uri (Over status) s id params sent next d = does_quiet uri s [] s.documents sent next refl tt d
+answered_says : (uri : List ℕ) (id value : Data) → SaysNothing uri (result_reply id value ∷ [])
+answered_says uri id value = (λ about. let clash : None ≡ Some (string (codes "textDocument/publishDiagnostics")) = ap (get (codes "method")) about.2 in cc, tt)
 
-unknown_at : (initialize shutdown exit : Bool) → (initialize || (shutdown || exit)) ≡ false → cond initialize Initialize (cond shutdown Shutdown UnknownRequest) ≡ UnknownRequest
-unknown_at true shutdown exit is = cc
-unknown_at false true exit is = cc
-unknown_at false false exit is = refl
+asks_open_quiet : (uri : List ℕ) (question : Question) (s : State) (id : Data) (position : Position) (found : Option (List ℕ)) (sent : List Data) (next : State) → AsksOpen question s id position found sent next → Quiet uri s sent next
+asks_open_quiet uri question s id position None sent next d = does_quiet uri s (refused id DocumentNotOpen ∷ []) s.documents sent next refl (refused_says uri id DocumentNotOpen) d
+asks_open_quiet uri question s id position (Some text) sent next d = does_quiet uri s (result_reply id d.value ∷ []) s.documents sent next refl (answered_says uri id d.value) d.does
 
-unknown_request : (name : List ℕ) → is_lifecycle name ≡ false → request_method name ≡ UnknownRequest
-unknown_request name is = unknown_at (bytes_eq name (codes "initialize")) (bytes_eq name (codes "shutdown")) (bytes_eq name (codes "exit")) is
+asks_quiet : (uri : List ℕ) (question : Question) (s : State) (id : Data) (position : Option Position) (named : Option (List ℕ)) (sent : List Data) (next : State) → AsksAs question s id position named sent next → Quiet uri s sent next
+asks_quiet uri question s id None named sent next d = does_quiet uri s (refused id InvalidParams ∷ []) s.documents sent next refl (refused_says uri id InvalidParams) d
+asks_quiet uri question s id (Some position) None sent next d = does_quiet uri s (refused id InvalidParams ∷ []) s.documents sent next refl (refused_says uri id InvalidParams) d
+asks_quiet uri question s id (Some position) (Some other) sent next d = asks_open_quiet uri question s id position (open_text other s.documents) sent next d
+
+-- a request that does not shape the session
+abbrev IsOther : RequestMethod → Type 0
+IsOther Initialize = ⊥
+IsOther Shutdown = ⊥
+IsOther _ = Unit {0}
+
+serves_quiet : (uri : List ℕ) (s : State) (id : Data) (method : RequestMethod) (params : Data) (sent : List Data) (next : State) → IsOther method → Serves s id method params sent next → Quiet uri s sent next
+serves_quiet uri s id Initialize params sent next other d = absurd other
+serves_quiet uri s id Shutdown params sent next other d = absurd other
+serves_quiet uri s id Hover params sent next other d = asks_quiet uri (IsHoverValue s.encoding s.dialect) s id (asked_position params) (named_uri params) sent next d
+serves_quiet uri s id Derivation params sent next other d = asks_quiet uri (IsDerivationValue s.encoding s.dialect) s id (asked_position params) (named_uri params) sent next d
+serves_quiet uri s id UnknownRequest params sent next other d = does_quiet uri s (refused id MethodNotFound ∷ []) s.documents sent next refl (refused_says uri id MethodNotFound) d
+
+awaits_quiet : (uri : List ℕ) (s : State) (id : Data) (method : RequestMethod) (params : Data) (sent : List Data) (next : State) → IsOther method → Awaits s id method params sent next → Quiet uri s sent next
+awaits_quiet uri s id Initialize params sent next other d = absurd other
+awaits_quiet uri s id _ params sent next other d = does_quiet uri s (refused id NotInitialized ∷ []) s.documents sent next refl (refused_says uri id NotInitialized) d
+
+requested_quiet : (uri : List ℕ) (life : Life) (s : State) (id : Data) (method : RequestMethod) (params : Data) (sent : List Data) (next : State) → IsOther method → Requested life s id method params sent next → Quiet uri s sent next
+requested_quiet uri Fresh s id method params sent next other d = awaits_quiet uri s id method params sent next other d
+requested_quiet uri Running s id method params sent next other d = serves_quiet uri s id method params sent next other d
+requested_quiet uri Down s id method params sent next other d = does_quiet uri s (refused id ShutDown ∷ []) s.documents sent next refl (refused_says uri id ShutDown) d
+requested_quiet uri (Over status) s id method params sent next other d = does_quiet uri s [] s.documents sent next refl tt d
+
+other_at : (initialize shutdown exit hover derivation : Bool) → (initialize || (shutdown || exit)) ≡ false
+    → IsOther (cond initialize Initialize (cond shutdown Shutdown (cond hover Hover (cond derivation Derivation UnknownRequest))))
+other_at true shutdown exit hover derivation is = absurd cc
+other_at false true exit hover derivation is = absurd cc
+other_at false false exit true derivation is = tt
+other_at false false exit false true is = tt
+other_at false false exit false false is = tt
+
+other_request : (name : List ℕ) → is_lifecycle name ≡ false → IsOther (request_method name)
+other_request name is =
+    other_at (bytes_eq name (codes "initialize")) (bytes_eq name (codes "shutdown")) (bytes_eq name (codes "exit")) (bytes_eq name (codes "textDocument/hover")) (bytes_eq name (codes "fullsub/derivation")) is
 
 holds_quiet : (uri : List ℕ) (s : State) (document : OpenDocument) (sent : List Data) (next : State) → bytes_eq uri document.uri ≡ false → Holds s document sent next → Quiet uri s sent next
 holds_quiet uri s document sent next apart d =
@@ -320,8 +400,7 @@ second_false false b is = is
 
 receives_quiet : (uri : List ℕ) (s : State) (m : Message) (sent : List Data) (next : State) → concerns uri m ≡ false → Receives s m sent next → Quiet uri s sent next
 receives_quiet uri s (request id method params) sent next apart d =
-    requested_quiet uri s.life s id params sent next
-    (subst (λ (r : RequestMethod). Requested s.life s id r params sent next) (unknown_request method (first_false (is_lifecycle method) (is_named uri (named_uri params)) apart)) d)
+    requested_quiet uri s.life s id (request_method method) params sent next (other_request method (first_false (is_lifecycle method) (is_named uri (named_uri params)) apart)) d
 receives_quiet uri s (notice method params) sent next apart d =
     noticed_quiet uri s.life s (notice_method method) params sent next
     (not_exit method (first_false (is_lifecycle method) (is_named uri (named_uri params)) apart)) (second_false (is_lifecycle method) (is_named uri (named_uri params)) apart) d
@@ -362,7 +441,7 @@ runs_same uri [] s end docs agree r = (docs, ap (λ (x : State). beside x docs) 
 runs_same uri (e ∷ es) s end docs agree r =
     run_more uri (concerns uri e.message) s r.0 end docs e es refl agree r.1 (λ ds next_agree. runs_same uri es r.0 end ds next_agree r.2)
 
-pub isolated : (uri : List ℕ) (exchanges : List Exchange) (end : State) → Runs fresh exchanges end → IsAlone uri exchanges end
-isolated uri exchanges end r =
-    let part = runs_same uri exchanges fresh end [] refl r in
+pub isolated : (dialect : Dialect) (uri : List ℕ) (exchanges : List Exchange) (end : State) → Runs (fresh dialect) exchanges end → IsAlone dialect uri exchanges end
+isolated dialect uri exchanges end r =
+    let part = runs_same uri exchanges (fresh dialect) end [] refl r in
     record { alone = beside end part.0; run = part.1; same = record { life = refl; encoding = refl; dialect = refl; text = part.2 } }

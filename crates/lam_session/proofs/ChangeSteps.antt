@@ -5,22 +5,21 @@ use Rattle.lam_rpc.specs.Fields.{named_uri, listed_changes}
 use Rattle.lam_text.specs.Edits.{Edit, text_after}
 use Rattle.lam_session.specs.Documents.{OpenDocument, open_text, with_document}
 use Rattle.lam_session.specs.State.{State}
-use Rattle.lam_session.specs.Sync.{Tells, Holds, given_version, opened_text, OpensAs, Opens, ChangesText, Changes}
+use Rattle.lam_session.specs.Sync.{Tells, Holds, given_version, opened_text, Opens, ChangesText, Changes}
 use Rattle.lam_session.proofs.EntryLemmas.{found_set}
 
 -- what is told of the document that was set is told of the one that is held
 told_of_set : (s next : State) (document : OpenDocument) (sent : List Data) → next ≡ record s { documents = with_document document s.documents }
-    → ((text : List ℕ) → open_text document.uri next.documents ≡ Some text → Tells next.encoding (record { uri = document.uri; text = text; version = document.version }) sent)
+    → ((text : List ℕ) → open_text document.uri next.documents ≡ Some text → Tells next.encoding next.dialect (record { uri = document.uri; text = text; version = document.version }) sent)
     → Holds s document sent next
 told_of_set s next document sent becomes tells =
     let held : open_text document.uri next.documents ≡ Some document.text = ap (λ (n : State). open_text document.uri n.documents) becomes ∙ found_set document s.documents in
-    let same : next.encoding ≡ s.encoding = ap (λ (n : State). n.encoding) becomes in
-    (subst (λ e. Tells e document sent) same (tells document.text held), becomes)
+    (subst (λ (n : State). Tells n.encoding n.dialect document sent) becomes (tells document.text held), becomes)
 
 pub opens_found : (s : State) (params : Data) (uri text : List ℕ) (version : Option ℤ) (sent : List Data) (next : State)
     → Some uri ≡ named_uri params → Some text ≡ opened_text params → version ≡ given_version params
     → next ≡ record s { documents = with_document (record { uri = uri; text = text; version = version }) s.documents }
-    → ((held : List ℕ) → open_text uri next.documents ≡ Some held → Tells next.encoding (record { uri = uri; text = held; version = version }) sent)
+    → ((held : List ℕ) → open_text uri next.documents ≡ Some held → Tells next.encoding next.dialect (record { uri = uri; text = held; version = version }) sent)
     → Opens s params sent next
 opens_found s params uri text version sent next named opened given becomes tells =
     rw (← named, ← opened, ← given) (told_of_set s next (record { uri = uri; text = text; version = version }) sent becomes tells)
@@ -33,7 +32,7 @@ shown f (Some x) found are there = ap is_some (sym are)
 changed : (s : State) (uri : List ℕ) (found : Option (List ℕ)) (edits : List Edit) (version : Option ℤ) (sent : List Data) (next : State)
     → is_some found ≡ true
     → ((text : List ℕ) → found ≡ Some text → next ≡ record s { documents = with_document (record { uri = uri; text = text_after s.encoding text edits; version = version }) s.documents })
-    → ((text : List ℕ) → open_text uri next.documents ≡ Some text → Tells next.encoding (record { uri = uri; text = text; version = version }) sent)
+    → ((text : List ℕ) → open_text uri next.documents ≡ Some text → Tells next.encoding next.dialect (record { uri = uri; text = text; version = version }) sent)
     → ChangesText s uri found edits version sent next
 changed s uri None edits version sent next there becomes tells = absurd cc
 changed s uri (Some text) edits version sent next there becomes tells =
@@ -43,7 +42,11 @@ pub changes_found : (s : State) (params : Data) (uri : List ℕ) (edits : List E
     → Some uri ≡ named_uri params → listed_changes params ≡ Some edits → version ≡ given_version params
     → is_some (open_text uri s.documents) ≡ true
     → ((text : List ℕ) → open_text uri s.documents ≡ Some text → next ≡ record s { documents = with_document (record { uri = uri; text = text_after s.encoding text edits; version = version }) s.documents })
-    → ((text : List ℕ) → open_text uri next.documents ≡ Some text → Tells next.encoding (record { uri = uri; text = text; version = version }) sent)
+    → ((text : List ℕ) → open_text uri next.documents ≡ Some text → Tells next.encoding next.dialect (record { uri = uri; text = text; version = version }) sent)
     → Changes s params sent next
 changes_found s params uri edits version sent next named listed given there becomes tells =
     rw (← named, listed, ← given) (changed s uri (open_text uri s.documents) edits version sent next there becomes tells)
+
+pub some_text : (found : Option (List ℕ)) → is_some found ≡ true → (text : List ℕ) × found ≡ Some text
+some_text None there = absurd cc
+some_text (Some text) there = (text, refl)

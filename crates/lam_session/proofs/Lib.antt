@@ -3,7 +3,6 @@ pub mod EntryLemmas
 pub mod ChangeSteps
 pub mod AloneRuns
 pub mod OneAnswer
-pub mod FaultLists
-pub mod PieceFaultLaws
-pub mod SortedFaults
-pub mod OneFaultList
+pub mod Values
+pub mod AskSteps
+pub mod Messages

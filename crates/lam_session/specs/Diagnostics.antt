@@ -1,29 +1,47 @@
 -- Faults as a client is told them (LSP 3.17, "Diagnostic").
-use Rattle.std.specs.Prelude.{ℕ, List, codes, map}
+use Rattle.std.specs.Prelude.{ℕ, List, [], ◌∷◌, codes, map, if◌then◌else◌}
+use Rattle.std.specs.Str.{bytes_eq}
 use Rattle.serde_json.specs.Data.{Data, number, unsigned, string, object, Items, member, no_members}
 use Rattle.serde_json.specs.View.{items_of}
-use Rattle.lam_token.specs.declared.span.Span.{Span}
 use Rattle.lam_text.specs.declared.units.Encoding.{Encoding}
-use Rattle.lam_text.specs.declared.places.Position.{Position}
-use Rattle.lam_text.specs.Positions.{position_of}
-use Rattle.lam_session.specs.declared.faults.Fault.{Fault}
-use Rattle.lam_session.specs.Faults.{code_text, message_text}
+use Rattle.lam_query.specs.Faults.{Fault}
+use Rattle.lam_session.specs.Ranges.{range_value}
 
-abbrev pub position_value : Position → Data
-position_value p =
-    object (member (codes "character") (number (unsigned p.character)) (member (codes "line") (number (unsigned p.line)) no_members))
+-- the codes, each with what a person reads
+abbrev pub messages : List (List ℕ × List ℕ)
+messages =
+    (codes "B1", codes "character not allowed")
+    ∷ (codes "B2", codes "comment not closed")
+    ∷ (codes "P1", codes "unexpected token")
+    ∷ (codes "P2", codes "command ends too early")
+    ∷ (codes "L1", codes "type of more than 4096 nodes")
+    ∷ (codes "L2", codes "command of more than 2000 tokens")
+    ∷ (codes "Y1", codes "unbound type name")
+    ∷ (codes "Y2", codes "label used twice in a record type")
+    ∷ (codes "E1", codes "unbound name")
+    ∷ (codes "E2", codes "not a function")
+    ∷ (codes "E3", codes "argument does not fit the parameter")
+    ∷ (codes "E4", codes "no such field")
+    ∷ (codes "E5", codes "condition is not Bool")
+    ∷ (codes "E6", codes "operand is not Nat")
+    ∷ (codes "E7", codes "term does not have the written type")
+    ∷ (codes "E8", codes "fix needs a function whose result fits its parameter")
+    ∷ (codes "E9", codes "label used twice in a record")
+    ∷ []
 
--- the range of a span of that text, in the client's columns
-abbrev pub range_value : Encoding → List ℕ → Span → Data
-range_value encoding text span =
-    object (member (codes "end") (position_value (position_of encoding text span.end))
-    (member (codes "start") (position_value (position_of encoding text span.start)) no_members))
+-- the message beside a code, none for another word
+abbrev pub message_beside : List ℕ → List (List ℕ × List ℕ) → List ℕ
+message_beside code [] = []
+message_beside code (m ∷ ms) = if bytes_eq code m.0 then m.1 else message_beside code ms
+
+abbrev pub message_of : List ℕ → List ℕ
+message_of code = message_beside code messages
 
 -- every fault is an error (severity 1)
 abbrev pub diagnostic : Encoding → List ℕ → Fault → Data
 diagnostic encoding text fault =
-    object (member (codes "code") (string (code_text fault.code))
-    (member (codes "message") (string (message_text fault.code))
+    object (member (codes "code") (string fault.code)
+    (member (codes "message") (string (message_of fault.code))
     (member (codes "range") (range_value encoding text fault.span)
     (member (codes "severity") (number (unsigned 1))
     (member (codes "source") (string (codes "fullsub")) no_members)))))

@@ -1,6 +1,7 @@
 -- The open documents, in the order of opening. A uri is compared byte for byte.
-use Rattle.std.specs.Prelude.{ℕ, ℤ, not, filter, List, [], ◌∷◌, if◌then◌else◌, Option, None, Some}
+use Rattle.std.specs.Prelude.{ℕ, ℤ, Bool, not, filter, List, [], ◌∷◌, if◌then◌else◌, Option, None, Some}
 use Rattle.std.specs.Str.{bytes_eq}
+use Rattle.lam_rules.specs.declared.rules.Dialect.{Dialect}
 use Rattle.lam_text.specs.declared.units.Encoding.{Encoding}
 
 -- an open document: its uri and its text, both UTF-8, and the client's number of the text, where it gave one
@@ -9,10 +10,20 @@ pub record OpenDocument : Type 0 where
   pub text : List ℕ
   pub version : Option ℤ
 
--- the open documents, and the unit in which their columns count
+-- a document by itself: its text, the unit of its columns, the rules in force, the client's number, and whether an analysis of the text is at hand
+pub record HeldDocument : Type 0 where
+  pub text : List ℕ
+  pub encoding : Encoding
+  pub dialect : Dialect
+  pub version : Option ℤ
+  pub analysed : Bool
+
+-- the open documents, the unit of their columns, the rules in force, and whether of every text an analysis is at hand
 pub record OpenDocuments : Type 0 where
   pub encoding : Encoding
+  pub dialect : Dialect
   pub documents : List OpenDocument
+  pub analysed : Bool
 
 -- the text of the document with this uri
 abbrev pub open_text : List ℕ → List OpenDocument → Option (List ℕ)

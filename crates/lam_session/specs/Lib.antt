@@ -1,13 +1,15 @@
 pub mod Methods
 pub mod Refusals
-pub mod Faults
+pub mod Ranges
 pub mod Diagnostics
+pub mod Shown
 pub mod Documents
 pub mod Entries
 pub mod State
 pub mod Does
 pub mod Initialize
 pub mod Sync
+pub mod Questions
 pub mod Step
 pub mod OneAnswer
 pub mod Runs

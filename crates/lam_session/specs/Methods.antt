@@ -2,7 +2,7 @@
 use Rattle.std.specs.Prelude.{ℕ, List, codes, if◌then◌else◌}
 use Rattle.std.specs.Str.{bytes_eq}
 use Rattle.lam_session.specs.declared.methods.RequestMethod.{RequestMethod}
-use Rattle.lam_session.specs.declared.methods.RequestMethod.TheVariants.{Initialize, Shutdown, UnknownRequest}
+use Rattle.lam_session.specs.declared.methods.RequestMethod.TheVariants.{Initialize, Shutdown, Hover, Derivation, UnknownRequest}
 use Rattle.lam_session.specs.declared.methods.NoticeMethod.{NoticeMethod}
 use Rattle.lam_session.specs.declared.methods.NoticeMethod.TheVariants.{Exit, DidOpen, DidChange, DidClose, UnknownNotice}
 
@@ -11,7 +11,9 @@ abbrev pub request_method : List ℕ → RequestMethod
 request_method name =
     if bytes_eq name (codes "initialize") then Initialize
     else (if bytes_eq name (codes "shutdown") then Shutdown
-    else UnknownRequest)
+    else (if bytes_eq name (codes "textDocument/hover") then Hover
+    else (if bytes_eq name (codes "fullsub/derivation") then Derivation
+    else UnknownRequest)))
 
 -- the notices that are heeded
 abbrev pub notice_method : List ℕ → NoticeMethod

@@ -3,7 +3,7 @@ use Rattle.std.specs.Prelude.{ℕ, ℤ, negsuc, List, codes}
 use Rattle.serde_json.specs.Data.{Data}
 use Rattle.lam_rpc.specs.Reply.{refusal_reply}
 use Rattle.lam_session.specs.declared.refusals.Refusal.{Refusal}
-use Rattle.lam_session.specs.declared.refusals.Refusal.TheVariants.{UnreadableMessage, InvalidMessage, AlreadyInitialized, ShutDown, NotInitialized, MethodNotFound}
+use Rattle.lam_session.specs.declared.refusals.Refusal.TheVariants.{UnreadableMessage, InvalidMessage, AlreadyInitialized, ShutDown, NotInitialized, MethodNotFound, InvalidParams, DocumentNotOpen}
 
 -- the code, counted from -1 downwards: -32700 is `negsuc 32699`
 abbrev pub code_of : Refusal → ℤ
@@ -13,6 +13,8 @@ code_of AlreadyInitialized = negsuc 32599
 code_of ShutDown = negsuc 32599
 code_of NotInitialized = negsuc 32001
 code_of MethodNotFound = negsuc 32600
+code_of InvalidParams = negsuc 32601
+code_of DocumentNotOpen = negsuc 32601
 
 abbrev pub text_of : Refusal → List ℕ
 text_of UnreadableMessage = codes "unreadable message"
@@ -21,6 +23,8 @@ text_of AlreadyInitialized = codes "already initialized"
 text_of ShutDown = codes "server is shut down"
 text_of NotInitialized = codes "server not initialized"
 text_of MethodNotFound = codes "method not found"
+text_of InvalidParams = codes "invalid params"
+text_of DocumentNotOpen = codes "document not open"
 
 -- the reply that refuses the request with this id
 abbrev pub refused : Data → Refusal → Data

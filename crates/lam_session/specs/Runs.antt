@@ -5,9 +5,11 @@ use Rattle.std.specs.List.{AllByRecursion}
 use Rattle.serde_json.specs.Data.{Data, Items}
 use Rattle.lam_rpc.specs.Fields.{named_uri}
 use Rattle.lam_rpc.specs.Kind.{Message, request, notice, reply, unreadable, invalid}
+use Rattle.lam_rules.specs.declared.rules.Dialect.{Dialect}
 use Rattle.lam_session.specs.Documents.{open_text}
 use Rattle.lam_session.specs.State.{State, fresh}
 use Rattle.lam_session.specs.Step.{Steps}
+use Rattle.lam_session.specs.OneAnswer.{AreAlike}
 use Rattle.lam_session.specs.Sync.{published}
 
 -- a message, and the values that were sent for it
@@ -45,10 +47,17 @@ pub record SameFor (uri : List ℕ) (s t : State) : Type 0 where
   pub text : open_text uri s.documents ≡ open_text uri t.documents
 
 -- the exchanges that concern a document are a run by themselves, which leaves that document as the whole run does
-pub record IsAlone (uri : List ℕ) (exchanges : List Exchange) (end : State) : Type 0 where
+pub record IsAlone (dialect : Dialect) (uri : List ℕ) (exchanges : List Exchange) (end : State) : Type 0 where
   pub alone : State
-  pub run : Runs fresh (filter (λ e. concerns uri e.message) exchanges) alone
+  pub run : Runs (fresh dialect) (filter (λ e. concerns uri e.message) exchanges) alone
   pub same : SameFor uri end alone
+
+-- the same messages, each answered alike in both
+pub data AnswerAlike : State → List Exchange → List Exchange → Type 0 where
+  both_end : {s : State} → AnswerAlike s [] []
+  both_go_on : {s next : State} {one other : Exchange} {exchanges others : List Exchange}
+      → one.message ≡ other.message → Steps s one.message one.sent next → AreAlike s one.message one.sent other.sent → AnswerAlike next exchanges others
+      → AnswerAlike s (one ∷ exchanges) (other ∷ others)
 
 -- the value publishes faults of the document of this uri
 abbrev pub IsAbout : List ℕ → Data → Type 0

@@ -7,21 +7,16 @@ use Rattle.lam_rpc.specs.Reply.{result_reply}
 use Rattle.lam_session.specs.declared.states.Life.{Life}
 use Rattle.lam_session.specs.declared.states.Life.TheVariants.{Fresh, Running, Down, Over}
 use Rattle.lam_session.specs.declared.methods.RequestMethod.{RequestMethod}
-use Rattle.lam_session.specs.declared.methods.RequestMethod.TheVariants.{Initialize, Shutdown, UnknownRequest}
+use Rattle.lam_session.specs.declared.methods.RequestMethod.TheVariants.{Initialize, Shutdown, Hover, Derivation, UnknownRequest}
 use Rattle.lam_session.specs.declared.methods.NoticeMethod.{NoticeMethod}
 use Rattle.lam_session.specs.declared.methods.NoticeMethod.TheVariants.{Exit, DidOpen, DidChange, DidClose, UnknownNotice}
-use Rattle.lam_session.specs.declared.refusals.Refusal.{Refusal}
 use Rattle.lam_session.specs.declared.refusals.Refusal.TheVariants.{UnreadableMessage, InvalidMessage, AlreadyInitialized, ShutDown, NotInitialized, MethodNotFound}
-use Rattle.lam_session.specs.Does.{Does, Ignores}
+use Rattle.lam_session.specs.Does.{Does, Ignores, Refuses}
 use Rattle.lam_session.specs.Initialize.{chosen, initialize_answer}
 use Rattle.lam_session.specs.Methods.{request_method, notice_method}
-use Rattle.lam_session.specs.Refusals.{refused}
+use Rattle.lam_session.specs.Questions.{IsHoverValue, IsDerivationValue, Asks}
 use Rattle.lam_session.specs.Sync.{Opens, Changes, Closes}
 use Rattle.lam_session.specs.State.{State, Snapshot, ended_status}
-
--- the request is refused and nothing changes
-abbrev pub Refuses : State → Data → Refusal → List Data → State → Type 0
-Refuses s id refusal = Does (refused id refusal ∷ []) s
 
 -- the session begins to serve with no document open, and says what it can do
 abbrev pub Initializes : State → Data → Data → List Data → State → Type 0
@@ -41,6 +36,8 @@ Ends s status = Does [] (record s { life = Over status })
 abbrev pub Serves : State → Data → RequestMethod → Data → List Data → State → Type 0
 Serves s id Initialize params = Refuses s id AlreadyInitialized
 Serves s id Shutdown params = ShutsDown s id
+Serves s id Hover params = Asks (IsHoverValue s.encoding s.dialect) s id params
+Serves s id Derivation params = Asks (IsDerivationValue s.encoding s.dialect) s id params
 Serves s id UnknownRequest params = Refuses s id MethodNotFound
 
 -- a request before the first `initialize`

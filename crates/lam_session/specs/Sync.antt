@@ -7,8 +7,9 @@ use Rattle.lam_rpc.specs.Fields.{text_at, named_uri, listed_changes}
 use Rattle.lam_rpc.specs.Reply.{sent_notice}
 use Rattle.lam_text.specs.declared.units.Encoding.{Encoding}
 use Rattle.lam_text.specs.Edits.{Edit, text_after}
-use Rattle.lam_session.specs.declared.faults.Fault.{Fault}
-use Rattle.lam_session.specs.Faults.{AreFaultsOf}
+use Rattle.lam_rules.specs.declared.rules.Dialect.{Dialect}
+use Rattle.lam_query.specs.Faults.{Fault}
+use Rattle.lam_query.specs.TextFaults.{AreFaults}
 use Rattle.lam_session.specs.Diagnostics.{diagnostics}
 use Rattle.lam_session.specs.Documents.{OpenDocument, open_text, with_document, without_document}
 use Rattle.lam_session.specs.State.{State}
@@ -36,15 +37,15 @@ published uri version faults =
     (object (member (codes "diagnostics") (array faults) (member (codes "uri") (string uri) (version_member version))))
 
 -- one value is sent: all faults of the document's text
-pub record Tells (encoding : Encoding) (document : OpenDocument) (sent : List Data) : Type 0 where
+pub record Tells (encoding : Encoding) (d : Dialect) (document : OpenDocument) (sent : List Data) : Type 0 where
   pub faults : List Fault
-  pub are : AreFaultsOf document.text faults
+  pub are : AreFaults document.text faults d
   pub told : sent ≡ published document.uri document.version (diagnostics encoding document.text faults) ∷ []
 
 -- the document is open as it now stands, and its faults are told
 abbrev pub Holds : State → OpenDocument → List Data → State → Type 0
 Holds s document sent next =
-    Tells s.encoding document sent × (next ≡ record s { documents = with_document document s.documents })
+    Tells s.encoding s.dialect document sent × (next ≡ record s { documents = with_document document s.documents })
 
 -- a document is opened, anew where one of its uri is open
 abbrev pub OpensAs : State → Option (List ℕ) → Option (List ℕ) → Option ℤ → List Data → State → Type 0

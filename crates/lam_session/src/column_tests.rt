@@ -1,6 +1,7 @@
 //! The columns of changes, in each of the three units.
 use crate::{Config, Session};
 use lam_rpc::classify;
+use lam_rules::Dialect;
 use std::alloc::{AllocError, Global};
 use std::test::Fail;
 
@@ -23,7 +24,7 @@ fn change(alloc: Global, start: u64, end: u64) -> Result<String, AllocError> {
 
 /// The text of the document after these messages.
 fn text_after(alloc: Global, bodies: &[&str]) -> Result<String, AllocError> {
-    let mut session = Session::new(alloc, Config::new());
+    let mut session = Session::new(alloc, Config::new(Dialect::One));
     for body in bodies {
         drop(session.step(classify(alloc, body.as_bytes())?)?);
     }

@@ -1,20 +1,41 @@
 //! Faults as a client is told them (LSP 3.17, `Diagnostic`).
 ghost use Rattle.std.specs.Prelude.{◌≡◌, map, All, IfOk};
-ghost use Rattle.std.specs.Str.{IsCharBoundary};
 ghost use Rattle.serde_json.specs.View.{view};
-ghost use Rattle.lam_session.specs.Diagnostics.{position_value, range_value, diagnostic};
-ghost use Rattle.lam_session.specs.Faults.{StandsIn};
+ghost use Rattle.lam_query.specs.Views.{fault_of};
+ghost use Rattle.lam_query.specs.Within.{StandsIn};
+ghost use Rattle.lam_session.specs.Diagnostics.{message_beside, message_of, diagnostic};
 
-use crate::faults::Fault;
-use lam_text::{Doc, Position};
-use lam_token::Span;
+use crate::ranges::range_value;
+use lam_query::answers::Fault;
+use lam_text::Doc;
 use serde_json::{Value, json};
 use std::alloc::{AllocError, Global};
 
+/// What a person reads of each code.
+static MESSAGES: [(&str, &str); 17] = [
+    ("B1", "character not allowed"),
+    ("B2", "comment not closed"),
+    ("P1", "unexpected token"),
+    ("P2", "command ends too early"),
+    ("L1", "type of more than 4096 nodes"),
+    ("L2", "command of more than 2000 tokens"),
+    ("Y1", "unbound type name"),
+    ("Y2", "label used twice in a record type"),
+    ("E1", "unbound name"),
+    ("E2", "not a function"),
+    ("E3", "argument does not fit the parameter"),
+    ("E4", "no such field"),
+    ("E5", "condition is not Bool"),
+    ("E6", "operand is not Nat"),
+    ("E7", "term does not have the written type"),
+    ("E8", "fix needs a function whose result fits its parameter"),
+    ("E9", "label used twice in a record"),
+];
+
 /// A value for each fault, in their order.
 pub fn diagnostics(alloc: Global, doc: &Doc, faults: &[Fault]) -> Result<Vec<Value>, AllocError>
-    requires { All (StandsIn doc.now.text) faults.now }
-    ensures { IfOk result (λ values. map view values.items ≡ map (diagnostic doc.now.encoding doc.now.text) faults.now) }
+    requires { All (λ f. StandsIn doc.now.text f.span) faults.now }
+    ensures { IfOk result (λ values. map view values.items ≡ map (diagnostic doc.now.encoding doc.now.text) (map fault_of faults.now)) }
 {
     let mut values = Vec::new(alloc);
     for fault in faults {
@@ -24,31 +45,32 @@ pub fn diagnostics(alloc: Global, doc: &Doc, faults: &[Fault]) -> Result<Vec<Val
 }
 
 fn diagnostic(alloc: Global, doc: &Doc, fault: &Fault) -> Result<Value, AllocError>
-    requires { StandsIn doc.now.text fault.now }
-    ensures { IfOk result (λ value. view value ≡ diagnostic doc.now.encoding doc.now.text fault.now) }
+    requires { StandsIn doc.now.text fault.now.span }
+    ensures { IfOk result (λ value. view value ≡ diagnostic doc.now.encoding doc.now.text (fault_of fault.now)) }
 {
     let range = range_value(alloc, doc, fault.span)?;
     json!(in alloc; {
-        "code": fault.code.text(),
-        "message": fault.code.message(),
+        "code": fault.code,
+        "message": message_of(fault.code),
         "range": range,
         "severity": 1u64,
         "source": "fullsub",
     })
 }
 
-fn range_value(alloc: Global, doc: &Doc, span: Span) -> Result<Value, AllocError>
-    requires start { IsCharBoundary doc.now.text span.start }
-    requires end { IsCharBoundary doc.now.text span.end }
-    ensures { IfOk result (λ value. view value ≡ range_value doc.now.encoding doc.now.text span) }
+fn message_of(code: &str) -> &'static str
+    ensures { result.now ≡ message_of code.now }
 {
-    let end = position_value(alloc, doc.position_of(span.end))?;
-    let start = position_value(alloc, doc.position_of(span.start))?;
-    json!(in alloc; {"end": end, "start": start})
+    message_beside(code, MESSAGES.as_slice())
 }
 
-fn position_value(alloc: Global, position: Position) -> Result<Value, AllocError>
-    ensures { IfOk result (λ value. view value ≡ position_value position) }
+fn message_beside<'a>(code: &str, messages: &[(&'a str, &'a str)]) -> &'a str
+    ensures { result.now ≡ message_beside code.now (map (λ m. (m.0.now, m.1.now)) messages.now) }
 {
-    json!(in alloc; {"character": position.character, "line": position.line})
+    for (known, message) in messages {
+        if code == *known {
+            return message;
+        }
+    }
+    ""
 }

@@ -1,26 +1,22 @@
 //! The open documents of a session.
-ghost use Rattle.std.specs.Prelude.{◌≡◌, ℕ, List, [], Some, option_map, OnOk, OnErr, IsSome, IfSome};
+ghost use Rattle.std.specs.Prelude.{◌≡◌, ℕ, List, [], Some, true, option_map, OnOk, OnErr, IsSome, IfSome};
 ghost use Rattle.lam_text.specs.Edits.{text_after};
 ghost use Rattle.lam_session.specs.Documents.{open_text, with_document, without_document};
 
+use crate::document::Document;
 use indexmap::IndexMap;
-use lam_text::{Change, Doc, Encoding};
+use lam_rules::Dialect;
+use lam_text::{Change, Encoding};
 use std::alloc::{AllocError, Global};
 use std::marker::Model;
 
-/// A text, and the client's number of it, where it gave one.
-#[derive(Drop)]
-pub struct Open {
-    doc: Doc,
-    version: Option<i64>,
-}
-
-/// The open documents by their uris, in the order of opening, and the unit of their columns.
+/// The open documents by their uris, in the order of opening, with the unit of their columns and the rules in force.
 #[derive(Drop)]
 pub struct Documents {
     alloc: Global,
     encoding: Encoding,
-    by_uri: IndexMap<String, Open>,
+    dialect: Dialect,
+    by_uri: IndexMap<String, Document>,
 }
 
 impl Model for Documents {
@@ -28,75 +24,88 @@ impl Model for Documents {
 
     ghost Value = { OpenDocuments };
 
-    ghost use Rattle.lam_session.specs.Entries.{documents_of, CountIn};
+    ghost use Rattle.lam_session.specs.Entries.{documents_of, are_analysed, AreUnder};
 
-    ghost view = { λ d. record { encoding = d.encoding; documents = documents_of d.by_uri.entries } };
+    ghost view = { λ d. record {
+      encoding = d.encoding;
+      dialect = d.dialect;
+      documents = documents_of d.by_uri.entries;
+      analysed = are_analysed d.by_uri.entries;
+    } };
 
-    ghost invariant = { λ d. CountIn d.encoding d.by_uri.entries };
+    ghost invariant = { λ d. AreUnder d.encoding d.dialect d.by_uri.entries };
 }
 
 impl Documents {
     /// No document.
-    pub fn new(alloc: Global, encoding: Encoding) -> Documents
-        ensures { result ≡ record { encoding = encoding; documents = [] } }
+    pub fn new(alloc: Global, encoding: Encoding, dialect: Dialect) -> Documents
+        ensures { result ≡ record { encoding = encoding; dialect = dialect; documents = []; analysed = true } }
     {
         Documents {
             alloc,
             encoding,
+            dialect,
             by_uri: IndexMap::new(alloc),
         }
     }
 
+    /// The rules in force.
+    pub fn dialect(&self) -> Dialect
+        ensures { result ≡ self.now.dialect }
+    {
+        self.dialect
+    }
+
     /// An open document.
-    pub fn document(&self, uri: &str) -> Option<&Doc>
+    pub fn document(&self, uri: &str) -> Option<&Document>
         ensures text { option_map (λ d. d.now.text) result ≡ open_text uri.now self.now.documents }
         ensures encoding { IfSome result (λ d. d.now.encoding ≡ self.now.encoding) }
+        ensures dialect { IfSome result (λ d. d.now.dialect ≡ self.now.dialect) }
+        ensures analysed { self.now.analysed ≡ true → IfSome result (λ d. d.now.analysed ≡ true) }
     {
-        match self.by_uri.get(uri) {
-            Some(held) => Some(&held.doc),
-            None => None,
-        }
+        self.by_uri.get(uri)
     }
 
     /// Opens a document, anew where one of its uri is open: that one keeps its place.
     pub fn open(&mut self, uri: &str, text: &str, version: Option<i64>) -> Result<(), AllocError>
+        requires { self.old.analysed ≡ true }
         ensures opened { OnOk result (self.new ≡ record self.old {
           documents
               = with_document (record { uri = uri.now; text = text.now; version = version }) self.old.documents;
         }) }
         ensures err { OnErr result (self.new ≡ self.old) }
     {
-        let doc = Doc::new(self.alloc, text, self.encoding)?;
+        let document = Document::new(self.alloc, text, version, self.encoding, self.dialect)?;
         let uri = String::from_str(self.alloc, uri)?;
-        drop(self.by_uri.insert(uri, Open { doc, version })?);
+        drop(self.by_uri.insert(uri, document)?);
         Ok(())
     }
 
-    /// Changes an open document, all changes or none.
+    /// Changes an open document.
     pub fn change(
         &mut self,
         uri: &str,
         changes: &[Change],
         version: Option<i64>,
     ) -> Result<(), AllocError>
-        requires { IsSome (open_text uri.now self.old.documents) }
+        requires open { IsSome (open_text uri.now self.old.documents) }
+        requires analysed { self.old.analysed ≡ true }
         ensures changed { OnOk result ((text : List ℕ) → open_text uri.now self.old.documents ≡ Some text
             → self.new ≡ record self.old {
               documents = with_document
                   (record { uri = uri.now; text = text_after self.old.encoding text changes.now; version = version }) self.old.documents;
             }) }
-        ensures err { OnErr result (self.new ≡ self.old) }
     {
-        let Some(held) = self.by_uri.get_mut(uri) else {
-            return Ok(());
+        let Some(document) = self.by_uri.get_mut(uri) else {
+            unreachable!()
         };
-        held.doc.apply(changes)?;
-        held.version = version;
+        document.change(self.alloc, changes, version)?;
         Ok(())
     }
 
     /// Closes a document; the others keep their order.
     pub fn close(&mut self, uri: &str)
+        requires { self.old.analysed ≡ true }
         ensures { self.new ≡ record self.old { documents = without_document uri.now self.old.documents } }
     {
         drop(self.by_uri.shift_remove(uri));

@@ -76,6 +76,7 @@ pub fn initialize_answer(alloc: Global, encoding: Encoding) -> Result<Value, All
     ensures { IfOk result (λ value. view value ≡ initialize_answer encoding) }
 {
     json!(in alloc; {"capabilities": {
+        "hoverProvider": true,
         "positionEncoding": encoding_name(encoding),
         "textDocumentSync": {"change": 2u64, "openClose": true},
     }})

@@ -1,8 +1,9 @@
 //! What holds of all runs of a session.
-ghost use Rattle.std.specs.Prelude.{◌≡◌, ℕ, List, false};
+ghost use Rattle.std.specs.Prelude.{◌≡◌, ℕ, List, map, false};
 ghost use Rattle.serde_json.specs.Data.{Data};
 ghost use Rattle.lam_rpc.specs.Kind.{Message};
-ghost use Rattle.lam_session.specs.Runs.{Exchange, Runs, concerns, IsAlone, SaysNothing};
+ghost use Rattle.lam_rules.specs.declared.rules.Dialect.{Dialect};
+ghost use Rattle.lam_session.specs.Runs.{Exchange, Runs, AnswerAlike, concerns, IsAlone, SaysNothing};
 ghost use Rattle.lam_session.specs.State.{State, fresh};
 ghost use Rattle.lam_session.specs.Step.{Steps};
 
@@ -11,8 +12,16 @@ ghost use Rattle.lam_session.specs.Step.{Steps};
 /// leaves the document with the same text; and no other message publishes anything about it.
 /// (Nothing runs here: the contract is the law.)
 pub fn isolation()
-    ensures alone { (uri : List ℕ) (exchanges : List Exchange) (end : State)
-        → Runs fresh exchanges end → IsAlone uri exchanges end }
+    ensures alone { (dialect : Dialect) (uri : List ℕ) (exchanges : List Exchange) (end : State)
+        → Runs (fresh dialect) exchanges end → IsAlone dialect uri exchanges end }
     ensures untold { (uri : List ℕ) (s : State) (m : Message) (sent : List Data) (next : State)
         → Steps s m sent next → concerns uri m ≡ false → SaysNothing uri sent }
+{}
+
+/// Two sessions that are told the same are in one state and have answered alike: with the same values, but for which
+/// derivation of a shown type was given.
+pub fn one_run()
+    ensures { (s end later : State) (exchanges others : List Exchange)
+        → map (λ (e : Exchange). e.message) others ≡ map (λ (e : Exchange). e.message) exchanges → Runs s exchanges end → Runs s others later
+        → AnswerAlike s exchanges others × (end ≡ later) }
 {}

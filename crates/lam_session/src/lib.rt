@@ -6,23 +6,26 @@
 
 #[cfg(test)]
 mod column_tests;
+mod conversation;
 mod diagnostics;
+mod document;
 mod documents;
-mod faults;
 mod initialize;
 mod laws;
 mod methods;
+mod ranges;
 #[cfg(test)]
 mod recordings;
 mod refusals;
 #[cfg(test)]
 mod replay;
+mod session;
+mod shown;
 mod states;
-mod step;
 mod sync;
 #[cfg(test)]
 mod tests;
 
-pub use laws::isolation;
-pub use states::{Config, Dialect};
-pub use step::Session;
+pub use laws::{isolation, one_run};
+pub use session::Session;
+pub use states::Config;

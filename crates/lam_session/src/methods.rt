@@ -6,6 +6,8 @@ ghost use Rattle.lam_session.specs.Methods.{request_method, notice_method};
 pub enum RequestMethod {
     Initialize,
     Shutdown,
+    Hover,
+    Derivation,
     UnknownRequest,
 }
 
@@ -18,6 +20,7 @@ pub enum NoticeMethod {
     UnknownNotice,
 }
 
+/// The request of this name.
 pub fn request_method(name: &str) -> RequestMethod
     ensures { result ≡ request_method name.now }
 {
@@ -27,9 +30,16 @@ pub fn request_method(name: &str) -> RequestMethod
     if name == "shutdown" {
         return RequestMethod::Shutdown;
     }
+    if name == "textDocument/hover" {
+        return RequestMethod::Hover;
+    }
+    if name == "fullsub/derivation" {
+        return RequestMethod::Derivation;
+    }
     RequestMethod::UnknownRequest
 }
 
+/// The notice of this name.
 pub fn notice_method(name: &str) -> NoticeMethod
     ensures { result ≡ notice_method name.now }
 {

@@ -14,6 +14,8 @@ pub enum Refusal {
     ShutDown,
     NotInitialized,
     MethodNotFound,
+    InvalidParams,
+    DocumentNotOpen,
 }
 
 fn code_of(refusal: Refusal) -> i64
@@ -26,6 +28,8 @@ fn code_of(refusal: Refusal) -> i64
         Refusal::ShutDown => -32600,
         Refusal::NotInitialized => -32002,
         Refusal::MethodNotFound => -32601,
+        Refusal::InvalidParams => -32602,
+        Refusal::DocumentNotOpen => -32602,
     }
 }
 
@@ -39,6 +43,8 @@ fn text_of(refusal: Refusal) -> &'static str
         Refusal::ShutDown => "server is shut down",
         Refusal::NotInitialized => "server not initialized",
         Refusal::MethodNotFound => "method not found",
+        Refusal::InvalidParams => "invalid params",
+        Refusal::DocumentNotOpen => "document not open",
     }
 }
 

@@ -2,12 +2,13 @@
 use crate::recordings::{Recording, URI, emacs_cr_lf, emacs_lf, neovim_cr_lf, neovim_lf};
 use crate::{Config, Session};
 use lam_rpc::classify;
+use lam_rules::Dialect;
 use std::alloc::{AllocError, Global};
 use std::test::Fail;
 
 /// The text before the close, and how the session ended.
 fn replayed(alloc: Global, recording: &Recording) -> Result<(String, Option<u8>), AllocError> {
-    let mut session = Session::new(alloc, Config::new());
+    let mut session = Session::new(alloc, Config::new(Dialect::One));
     let mut last = String::new(alloc);
     for body in recording.bodies.lines() {
         drop(session.step(classify(alloc, body.as_bytes())?)?);

@@ -1,11 +1,8 @@
 //! What a session is set to.
+ghost use Rattle.std.specs.Prelude.{◌≡◌};
+ghost use Rattle.lam_session.specs.State.{dialect_of};
 
-/// The subtyping rules in force: the book's, or the book's and Bool below Nat.
-#[derive(Clone, Copy)]
-pub enum Dialect {
-    One,
-    Two,
-}
+use lam_rules::Dialect;
 
 /// How far a session has come (LSP 3.17, Server lifecycle).
 #[derive(Clone, Copy)]
@@ -19,12 +16,24 @@ pub enum Life {
     Over(u8),
 }
 
-/// What the program is started with: nothing so far.
+/// What the program is started with: the rules of subtyping that are in force.
 #[derive(Clone, Copy)]
-pub struct Config {}
+pub struct Config {
+    dialect: Dialect,
+}
 
 impl Config {
-    pub fn new() -> Config {
-        Config {}
+    /// What is started with these rules.
+    pub fn new(dialect: Dialect) -> Config
+        ensures { dialect_of result ≡ dialect }
+    {
+        Config { dialect }
+    }
+
+    /// These rules.
+    pub fn dialect(self) -> Dialect
+        ensures { result ≡ dialect_of self }
+    {
+        self.dialect
     }
 }

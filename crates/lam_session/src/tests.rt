@@ -1,13 +1,14 @@
 //! Rows: what a client says, what it is told, and how the session ends.
 use crate::{Config, Session};
 use lam_rpc::classify;
+use lam_rules::Dialect;
 use std::alloc::{AllocError, Global};
 use std::test::Fail;
 
 const INITIALIZE: &str = r#"{"id":0,"method":"initialize"}"#;
 
 const INITIALIZED: &str =
-    r#"{"id":0,"jsonrpc":"2.0","result":{"capabilities":{"positionEncoding":"utf-16","textDocumentSync":{"change":2,"openClose":true}}}}"#;
+    r#"{"id":0,"jsonrpc":"2.0","result":{"capabilities":{"hoverProvider":true,"positionEncoding":"utf-16","textDocumentSync":{"change":2,"openClose":true}}}}"#;
 
 /// The values sent for one body, each as its text and a line feed.
 fn told(alloc: Global, session: &mut Session, body: &str) -> Result<String, AllocError> {
@@ -29,7 +30,7 @@ fn refusal(alloc: Global, id: &str, code: &str, text: &str) -> Result<String, Al
 #[test]
 fn a_session_from_start_to_end(rt: HostRuntime) -> Result<(), Fail> {
     let alloc = rt.alloc();
-    let mut session = Session::new(alloc, Config::new());
+    let mut session = Session::new(alloc, Config::new(Dialect::One));
     assert_eq!(rt;
         told(alloc, &mut session, r#"{"method":"initialized"}"#)?.as_str(),
         ""
@@ -39,7 +40,7 @@ fn a_session_from_start_to_end(rt: HostRuntime) -> Result<(), Fail> {
         told(alloc, &mut session, INITIALIZE)?.as_str(),
         expected.as_str()
     );
-    assert_eq!(rt; INITIALIZED.len(), 129);
+    assert_eq!(rt; INITIALIZED.len(), 150);
     for quiet in [
         r#"{"result":0}"#,
         r#"{"method":"shutdown"}"#,
@@ -102,6 +103,48 @@ fn refusals(rt: HostRuntime) -> Result<(), Fail> {
         ),
         (
             INITIALIZE,
+            r#"{"id":1,"method":"textDocument/hover"}"#,
+            "1",
+            "-32602",
+            "invalid params",
+        ),
+        (
+            INITIALIZE,
+            r#"{"id":1,"method":"textDocument/hover","params":{"textDocument":{"uri":"file:///a"},"position":{"line":0,"character":0.5}}}"#,
+            "1",
+            "-32602",
+            "invalid params",
+        ),
+        (
+            INITIALIZE,
+            r#"{"id":1,"method":"textDocument/hover","params":{"textDocument":{"uri":"file:///a"},"position":{"line":0,"character":0}}}"#,
+            "1",
+            "-32602",
+            "document not open",
+        ),
+        (
+            "",
+            r#"{"id":1,"method":"textDocument/hover"}"#,
+            "1",
+            "-32002",
+            "server not initialized",
+        ),
+        (
+            INITIALIZE,
+            r#"{"id":1,"method":"fullsub/derivation","params":{"position":{"line":0,"character":0}}}"#,
+            "1",
+            "-32602",
+            "invalid params",
+        ),
+        (
+            INITIALIZE,
+            r#"{"id":1,"method":"fullsub/derivation","params":{"textDocument":{"uri":"file:///a"},"position":{"line":0,"character":0}}}"#,
+            "1",
+            "-32602",
+            "document not open",
+        ),
+        (
+            INITIALIZE,
             r#"{"id":1,"method":"$/x"}"#,
             "1",
             "-32601",
@@ -109,7 +152,7 @@ fn refusals(rt: HostRuntime) -> Result<(), Fail> {
         ),
     ];
     for (before, body, id, code, text) in rows {
-        let mut session = Session::new(alloc, Config::new());
+        let mut session = Session::new(alloc, Config::new(Dialect::One));
         if !before.is_empty() {
             drop(told(alloc, &mut session, before)?);
         }
@@ -117,7 +160,7 @@ fn refusals(rt: HostRuntime) -> Result<(), Fail> {
         let expected = refusal(alloc, id, code, text)?;
         assert_eq!(rt; found.as_str(), expected.as_str(), "at {body}");
     }
-    let mut session = Session::new(alloc, Config::new());
+    let mut session = Session::new(alloc, Config::new(Dialect::One));
     drop(told(alloc, &mut session, INITIALIZE)?);
     drop(told(alloc, &mut session, shutdown)?);
     let expected = refusal(alloc, "1", "-32600", "server is shut down")?;
@@ -136,10 +179,10 @@ fn refusals(rt: HostRuntime) -> Result<(), Fail> {
 #[test]
 fn exits(rt: HostRuntime) -> Result<(), Fail> {
     let alloc = rt.alloc();
-    let mut session = Session::new(alloc, Config::new());
+    let mut session = Session::new(alloc, Config::new(Dialect::One));
     drop(told(alloc, &mut session, r#"{"method":"exit"}"#)?);
     assert_eq!(rt; session.ended(), Some(1), "before initialize");
-    let mut session = Session::new(alloc, Config::new());
+    let mut session = Session::new(alloc, Config::new(Dialect::One));
     drop(told(alloc, &mut session, INITIALIZE)?);
     drop(told(alloc, &mut session, r#"{"method":"exit"}"#)?);
     assert_eq!(rt; session.ended(), Some(1), "without shutdown");
@@ -180,7 +223,7 @@ fn position_encodings(rt: HostRuntime) -> Result<(), Fail> {
     ];
     for (params, encoding) in rows {
         let body = format!(in alloc; "{{\"id\":0,\"method\":\"initialize\",\"params\":{params}}}")?;
-        let mut session = Session::new(alloc, Config::new());
+        let mut session = Session::new(alloc, Config::new(Dialect::One));
         let found = told(alloc, &mut session, body.as_str())?;
         let named = format!(in alloc; "\"positionEncoding\":\"{encoding}\",")?;
         assert_eq!(rt;
@@ -195,7 +238,7 @@ fn position_encodings(rt: HostRuntime) -> Result<(), Fail> {
 #[test]
 fn documents(rt: HostRuntime) -> Result<(), Fail> {
     let alloc = rt.alloc();
-    let mut session = Session::new(alloc, Config::new());
+    let mut session = Session::new(alloc, Config::new(Dialect::One));
     let open =
         r#"{"method":"textDocument/didOpen","params":{"textDocument":{"uri":"file:///a","version":1,"text":""}}}"#;
     assert_eq!(rt;
@@ -226,7 +269,7 @@ fn documents(rt: HostRuntime) -> Result<(), Fail> {
             "",
         ),
         (
-            r#"{"method":"textDocument/didOpen","params":{"textDocument":{"uri":"file:///a","version":1.0,"text":"x"}}}"#,
+            r#"{"method":"textDocument/didOpen","params":{"textDocument":{"uri":"file:///a","version":1.0,"text":"0"}}}"#,
             r#"{"jsonrpc":"2.0","method":"textDocument/publishDiagnostics","params":{"diagnostics":[],"uri":"file:///a"}}"#,
         ),
         (
@@ -250,7 +293,7 @@ fn documents(rt: HostRuntime) -> Result<(), Fail> {
 #[test]
 fn edited_texts(rt: HostRuntime) -> Result<(), Fail> {
     let alloc = rt.alloc();
-    let mut session = Session::new(alloc, Config::new());
+    let mut session = Session::new(alloc, Config::new(Dialect::One));
     drop(told(alloc, &mut session, INITIALIZE)?);
     let rows = [
         (
@@ -288,6 +331,7 @@ fn diagnostic(alloc: Global, code: &str, start: u64, end: u64) -> Result<String,
         "B1" => "character not allowed",
         "B2" => "comment not closed",
         "L2" => "command of more than 2000 tokens",
+        "E2" => "not a function",
         "P1" => "unexpected token",
         _ => "command ends too early",
     };
@@ -313,7 +357,7 @@ fn published(alloc: Global, diagnostics: &str) -> Result<String, AllocError> {
 #[test]
 fn one_fault_at_its_place(rt: HostRuntime) -> Result<(), Fail> {
     let alloc = rt.alloc();
-    let mut session = Session::new(alloc, Config::new());
+    let mut session = Session::new(alloc, Config::new(Dialect::One));
     drop(told(alloc, &mut session, INITIALIZE)?);
     let rows = [
         ("x = if true then 0", "P2", 17, 18),
@@ -347,7 +391,7 @@ fn one_fault_at_its_place(rt: HostRuntime) -> Result<(), Fail> {
 #[test]
 fn no_fault(rt: HostRuntime) -> Result<(), Fail> {
     let alloc = rt.alloc();
-    let mut session = Session::new(alloc, Config::new());
+    let mut session = Session::new(alloc, Config::new(Dialect::One));
     drop(told(alloc, &mut session, INITIALIZE)?);
     for text in ["letrec x:Nat = 0 in x", "/* a /* b */ */ 0", "", " ; ;; "] {
         let found = told_of(alloc, &mut session, text)?;
@@ -360,7 +404,7 @@ fn no_fault(rt: HostRuntime) -> Result<(), Fail> {
 #[test]
 fn faults_by_their_places(rt: HostRuntime) -> Result<(), Fail> {
     let alloc = rt.alloc();
-    let mut session = Session::new(alloc, Config::new());
+    let mut session = Session::new(alloc, Config::new(Dialect::One));
     drop(told(alloc, &mut session, INITIALIZE)?);
     let found = told_of(alloc, &mut session, "(; # x; ) /* y")?;
     let first = diagnostic(alloc, "P2", 0, 1)?;
@@ -377,14 +421,15 @@ fn faults_by_their_places(rt: HostRuntime) -> Result<(), Fail> {
 #[test]
 fn commands_at_the_limit(rt: HostRuntime) -> Result<(), Fail> {
     let alloc = rt.alloc();
-    let mut session = Session::new(alloc, Config::new());
+    let mut session = Session::new(alloc, Config::new(Dialect::One));
     drop(told(alloc, &mut session, INITIALIZE)?);
     let mut text = String::from_str(alloc, "0")?;
     for _ in 0..1_999 {
         text.push_str(" 0")?;
     }
     let found = told_of(alloc, &mut session, text.as_str())?;
-    assert_eq!(rt; found.as_str(), published(alloc, "")?.as_str());
+    let fault = diagnostic(alloc, "E2", 0, 3)?;
+    assert_eq!(rt; found.as_str(), published(alloc, fault.as_str())?.as_str());
     text.push_str(" 0")?;
     let found = told_of(alloc, &mut session, text.as_str())?;
     let fault = diagnostic(alloc, "L2", 0, 4_001)?;
@@ -399,7 +444,7 @@ fn columns_in_each_encoding(rt: HostRuntime) -> Result<(), Fail> {
         let initialize = format!(in alloc;
             "{{\"id\":0,\"method\":\"initialize\",\"params\":{{\"capabilities\":{{\"general\":{{\"positionEncodings\":[\"{encoding}\"]}}}}}}}}"
         )?;
-        let mut session = Session::new(alloc, Config::new());
+        let mut session = Session::new(alloc, Config::new(Dialect::One));
         drop(told(alloc, &mut session, initialize.as_str())?);
         let found = told_of(alloc, &mut session, "/*😀*/ #")?;
         let fault = diagnostic(alloc, "B1", start, end)?;

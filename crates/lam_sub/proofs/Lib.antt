@@ -2,5 +2,6 @@ pub mod LookUps
 pub mod Arranging
 pub mod Below
 pub mod ByVariant
+pub mod Keeping
 pub mod Steps
 pub mod TableVerdicts

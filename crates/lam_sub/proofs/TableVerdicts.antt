@@ -1,4 +1,4 @@
--- Verdicts on numbers of a table.
+-- Subtyping of numbers of a table.
 use Rattle.std.proofs.Common.{◌≡◌, ◌⊎◌, ◌↔◌, ℕ, ◌+◌, ◌<◌, ◌++◌, List, [], ◌∷◌, Bool, true, false, if◌then◌else◌, IsTrue, String, string_bytes, length, get_or, take, drop, drop-cons, add-one, suc, ap, sym, ◌∙◌, refl, inl, inr, subst, arith, Option, Some, None, IfNone, Vec, zero}
 use Rattle.std.proofs.lemmas.List.{take-append-drop}
 use Rattle.std.specs.declared.alloc.Global.{Global}
@@ -14,8 +14,7 @@ use Rattle.lam_rules.proofs.SortedBelow.{below_sorted, sorted_below}
 use Rattle.lam_rules.proofs.ByShape.{below_wf}
 use Rattle.lam_rules.proofs.Composing.{below_refl, below_trans}
 use Rattle.lam_sub.specs.FieldsBelow.{AreBelow}
-use Rattle.lam_sub.specs.Remembered.{IsRight, AreRight, IsConstant}
-use Rattle.lam_sub.specs.declared.numbers.Verdict.{Verdict}
+use Rattle.lam_sub.specs.Remembered.{IsConstant}
 use Rattle.lam_sub.proofs.LookUps.{has_in_first, has_in_second, absent_in_both}
 use Rattle.lam_sub.proofs.Below.{bool_below_nat, below_bool, below_nat, below_unit, below_arrow_is, below_record_is, arrow_iff}
 use Rattle.lam_sub.proofs.ByVariant.{true_here, false_here}
@@ -53,33 +52,6 @@ sorted_iff s t d ws wt = (
   λ h. below_trans s (sorted s) t d (below_sorted s d ws) (below_trans (sorted s) (sorted t) t d h (sorted_below t d wt)),
   λ h. below_trans (sorted s) s (sorted t) d (sorted_below s d ws) (below_trans s t (sorted t) d h (below_sorted t d wt)),
 )
-
--- verdicts that are kept
-
-pub right_at : (ts : List Typ) (vs : List Verdict) (i : ℕ) (v : Verdict) (d : Dialect) → AreRight ts vs d → i < length vs → v ≡ get_or vs i v → IsRight ts v d
-right_at ts [] i v d right lt is = absurd (omega arith)
-right_at ts (w ∷ vs) zero v d right lt is = subst (λ x. IsRight ts x d) (sym is) right.0
-right_at ts (w ∷ vs) (suc i) v d right lt is = right_at ts vs i v d right.1 (omega arith) is
-
-pub right_push : (ts : List Typ) (vs : List Verdict) (v : Verdict) (d : Dialect) → AreRight ts vs d → IsRight ts v d → AreRight ts (vs ++ v ∷ []) d
-right_push ts [] v d right here = (here, tt)
-right_push ts (w ∷ vs) v d right here = (right.0, right_push ts vs v d right.1 here)
-
-pub right_kept : (old now : List Typ) (vs : List Verdict) (d : Dialect) → Keeps old now → AreRight old vs d → AreRight now vs d
-right_kept old now [] d keeps right = tt
-right_kept old now (v ∷ vs) d keeps right = (one, right_kept old now vs d keeps right.1)
-  where
-    one : IsRight now v d
-    one =
-        let longer = keeps_length old now keeps in
-        let first = right.0.lower in
-        let second = right.0.upper in
-        record {
-          lower = omega arith;
-          upper = omega arith;
-          verdict = subst (λ s. IsTrue v.is_below ↔ IsBelow s (type_of now v.upper) d) (sym (kept_type old now v.lower.index keeps first))
-              (subst (λ t. IsTrue v.is_below ↔ IsBelow (type_of old v.lower) t d) (sym (kept_type old now v.upper.index keeps second)) right.0.verdict);
-        }
 
 -- shapes
 
@@ -144,7 +116,7 @@ pub fields_over-drop : (ts : List Typ) (fs : List (String Global × TyNo)) (i : 
 fields_over-drop ts fs i f lt is =
     rw add-one (rw (drop-cons fs i f lt) (ap (λ g. field (string_bytes g.0) (type_of ts g.1) (fields_over ts (drop (suc i) fs))) (sym is)))
 
-fields_over-append : (ts : List Typ) (fs gs : List (String Global × TyNo)) → fields_over ts (fs ++ gs) ≡ joined (fields_over ts fs) (fields_over ts gs)
+pub fields_over-append : (ts : List Typ) (fs gs : List (String Global × TyNo)) → fields_over ts (fs ++ gs) ≡ joined (fields_over ts fs) (fields_over ts gs)
 fields_over-append ts [] gs = refl
 fields_over-append ts (f ∷ fs) gs = ap (λ rest. field (string_bytes f.0) (type_of ts f.1) rest) (fields_over-append ts fs gs)
 
@@ -191,12 +163,6 @@ sorted_verdict s t x y d r ws wt is_x is_y verdict =
     let here = subst (λ u. IsTrue r ↔ IsBelow u (sorted t) d) is_x (subst (λ u. IsTrue r ↔ IsBelow x u d) is_y verdict) in
     ((λ h. iff.0 (here.0 h)), (λ h. here.1 (iff.1 h)))
 
-pub found_right : (ts : List Typ) (vs : List Verdict) (i : ℕ) (v : Verdict) (lower upper : TyNo) (d : Dialect) → i < length vs → v ≡ get_or vs i v
-    → v.lower.index ≡ lower.index → v.upper.index ≡ upper.index → AreRight ts vs d → IsTrue v.is_below ↔ IsBelow (type_of ts lower) (type_of ts upper) d
-found_right ts vs i v lower upper d lt is is_lower is_upper right =
-    subst (λ n. IsTrue v.is_below ↔ IsBelow (type_at ts n) (type_of ts upper) d) is_lower
-    (subst (λ n. IsTrue v.is_below ↔ IsBelow (type_of ts v.lower) (type_at ts n) d) is_upper (right_at ts vs i v d right lt is).verdict)
-
 pub none_then : {X : Type 0} {A B : Type 0} (r : Option X) → IfNone r A → (A → B) → IfNone r B
 none_then (Some x) a f = tt
 none_then None a f = f a
@@ -238,5 +204,3 @@ pub equal_sorted : (s t x y : Typ) (d : Dialect) → IsWellFormed s → IsWellFo
 equal_sorted s t x y d ws wt is_x is_y same =
     true_here ((sorted_iff s t d ws wt).0
     (subst (λ u. IsBelow (sorted s) u d) (sym is_x ∙ same ∙ is_y) (below_refl (sorted s) d (below_wf s (sorted s) d (below_sorted s d ws)).1)))
-
-pub ruleset kept_verdicts = (right_kept)

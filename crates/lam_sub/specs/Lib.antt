@@ -1,4 +1,5 @@
 pub mod Arranging
+pub mod Bounds
 pub mod FieldsBelow
 pub mod OtherFields
 pub mod Remembered

@@ -1,22 +1,52 @@
--- Verdicts on pairs of numbers that were given once and are kept.
-use Rattle.std.specs.Prelude.{◌↔◌, ◌<◌, List, [], ◌∷◌, length, IsTrue}
+-- Answers on pairs of numbers that were given once and are kept.
+use Rattle.std.specs.Prelude.{◌↔◌, ◌&&◌, ◌<◌, Bool, List, length, Option, IfSome, IfNone, IsTrue, eqb}
+use Rattle.std.specs.HashMap.{HashMap, get}
+use Rattle.std.specs.declared.hash.FoldHasher.{FoldHasher}
+use Rattle.std.specs.declared.hash.BuildHasherDefault.{BuildHasherDefault}
 use Rattle.lam_rules.specs.Types.{Typ}
-use Rattle.lam_rules.specs.Numbers.{type_of}
+use Rattle.lam_rules.specs.Numbers.{type_of, Stands}
 use Rattle.lam_rules.specs.Subtyping.{IsBelow}
 use Rattle.lam_rules.specs.declared.rules.Dialect.{Dialect}
+use Rattle.lam_rules.specs.declared.table.TyNo.{TyNo}
 use Rattle.lam_rules.specs.declared.table.Shape.{Shape}
-use Rattle.lam_sub.specs.declared.numbers.Verdict.{Verdict}
+use Rattle.lam_sub.specs.Bounds.{IsJoin, IsMeet, HaveNoMeet}
+use Rattle.lam_sub.specs.declared.verdicts.Verdicts.{Verdicts}
 
--- the verdict is right of the types that its two numbers stand for in this table
-pub record IsRight (ts : List Typ) (v : Verdict) (d : Dialect) : Type 0 where
-  pub lower : v.lower.index < length ts
-  pub upper : v.upper.index < length ts
-  pub verdict : IsTrue v.is_below ↔ IsBelow (type_of ts v.lower) (type_of ts v.upper) d
+-- both numbers of the pair stand for types
+abbrev pub BothStand : List Typ → TyNo × TyNo → Type 0
+BothStand ts pair = Stands ts pair.0 × Stands ts pair.1
 
--- each of the verdicts is
-abbrev pub AreRight : List Typ → List Verdict → Dialect → Type 0
-AreRight ts [] d = Unit {0}
-AreRight ts (v ∷ vs) d = IsRight ts v d × AreRight ts vs d
+-- the answer says whether the type of the first number is below that of the second
+pub record IsVerdict (ts : List Typ) (d : Dialect) (pair : TyNo × TyNo) (is_below : Bool) : Type 0 where
+  pub stand : BothStand ts pair
+  pub verdict : IsTrue is_below ↔ IsBelow (type_of ts pair.0) (type_of ts pair.1) d
+
+-- the number stands for the least type above both
+pub record IsJoinOf (ts : List Typ) (d : Dialect) (pair : TyNo × TyNo) (number : TyNo) : Type 0 where
+  pub stand : BothStand ts pair
+  pub stands : Stands ts number
+  pub join : IsJoin (type_of ts pair.0) (type_of ts pair.1) (type_of ts number) d
+
+-- the number stands for the greatest type below both, and there is none where no type is below both
+pub record IsMeetOf (ts : List Typ) (d : Dialect) (pair : TyNo × TyNo) (found : Option TyNo) : Type 0 where
+  pub stand : BothStand ts pair
+  pub stands : IfSome found (Stands ts)
+  pub some : IfSome found (λ number. IsMeet (type_of ts pair.0) (type_of ts pair.1) (type_of ts number) d)
+  pub none : IfNone found (HaveNoMeet (type_of ts pair.0) (type_of ts pair.1) d)
+
+-- what `==` answers of two pairs
+abbrev pub equal_pairs : TyNo × TyNo → TyNo × TyNo → Bool
+equal_pairs p q = eqb p.0.index q.0.index && eqb p.1.index q.1.index
+
+-- what a map keeps of each pair is such an answer on it
+abbrev pub AllKept : {X : Type 0} → (TyNo × TyNo → X → Type 0) → HashMap (TyNo × TyNo) X (BuildHasherDefault FoldHasher) → Type 0
+AllKept IsAnswer map = (pair : TyNo × TyNo) → IfSome (get equal_pairs map pair) (IsAnswer pair)
+
+-- all that is kept is right of the types that the numbers stand for in this table
+pub record AreRight (ts : List Typ) (verdicts : Verdicts) : Type 0 where
+  pub below : AllKept (IsVerdict ts verdicts.dialect) verdicts.below
+  pub joins : AllKept (IsJoinOf ts verdicts.dialect) verdicts.joins
+  pub meets : AllKept (IsMeetOf ts verdicts.dialect) verdicts.meets
 
 -- Bool, Nat, Unit and Top
 abbrev pub IsConstant : Shape → Type 0

@@ -32,21 +32,21 @@ pub fn is_sub(lower: &Ty, upper: &Ty, dialect: Dialect) -> bool
             Ty::Unit => true,
             _ => false,
         },
-        Ty::Arrow(upper_parameter, upper_outcome) => match lower {
-            Ty::Arrow(lower_parameter, lower_outcome) => {
-                if !is_sub(upper_parameter, lower_parameter, dialect) {
-                    return false;
-                }
-                is_sub(lower_outcome, upper_outcome, dialect)
+        Ty::Arrow(upper_parameter, upper_outcome) => {
+            let Ty::Arrow(lower_parameter, lower_outcome) = lower else {
+                return false;
+            };
+            if !is_sub(upper_parameter, lower_parameter, dialect) {
+                return false;
             }
-            _ => false,
-        },
-        Ty::Record(upper_fields) => match lower {
-            Ty::Record(lower_fields) => {
-                are_fields_sub(&lower_fields.items, &upper_fields.items, dialect)
-            }
-            _ => false,
-        },
+            is_sub(lower_outcome, upper_outcome, dialect)
+        }
+        Ty::Record(upper_fields) => {
+            let Ty::Record(lower_fields) = lower else {
+                return false;
+            };
+            are_fields_sub(&lower_fields.items, &upper_fields.items, dialect)
+        }
     }
 }
 

@@ -35,7 +35,8 @@ fn first_type<'a>(label: &str, fields: &'a [(String, Ty)]) -> Option<&'a Ty>
     None
 }
 
-/// Appends copies of those of `more` whose labels `known` has not.
+/// Appends copies of those of `more` whose labels `known` has not. Where memory is wanting, some of
+/// them may have been appended.
 #[tactic(auto, using(crate::proofs::LookUps::look_ups))]
 pub fn append_others(
     alloc: Global,

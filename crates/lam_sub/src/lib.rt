@@ -7,11 +7,13 @@ mod deciding;
 mod fields;
 mod numbers;
 mod proving;
+mod verdicts;
 
 pub use deciding::is_sub;
 pub use fields::{append_others, field_type};
-pub use numbers::{Verdict, Verdicts, field_number, is_sub_no};
+pub use numbers::{field_number, is_sub_no};
 pub use proving::prove_sub;
+pub use verdicts::{Verdicts, verdicts_stay_right};
 
 #[cfg(test)]
 mod tests;

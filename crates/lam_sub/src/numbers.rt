@@ -1,6 +1,6 @@
 //! Subtyping of types in a table, with what was found once kept for the next time.
 
-ghost use Rattle.std.specs.Prelude.{◌≡◌, ◌↔◌, ◌<◌, ℕ, List, [], length, IsTrue, IfOk, IfSome, IfNone};
+ghost use Rattle.std.specs.Prelude.{◌≡◌, ◌↔◌, ◌<◌, ℕ, List, length, IsTrue, IfOk, IfSome, IfNone};
 ghost use Rattle.lam_rules.specs.Types.{Typ, IsWellFormed, AreWellFormed, Has, IsAbsent};
 ghost use Rattle.lam_rules.specs.Subtyping.{IsBelow};
 ghost use Rattle.lam_rules.specs.Numbers.{type_of, Stands, fields_over, shaped, AreBelow as AreNumbersBelow};
@@ -8,54 +8,9 @@ ghost use Rattle.lam_rules.specs.declared.rules.Dialect.{Dialect};
 ghost use Rattle.lam_sub.specs.FieldsBelow.{AreBelow};
 ghost use Rattle.lam_sub.specs.Remembered.{AreRight, IsConstant};
 
+use crate::verdicts::Verdicts;
 use lam_rules::{Dialect, Shape, TyNo, TyTable, number_under};
-use std::alloc::{AllocError, Global};
-
-/// Whether the type of one number is below that of another.
-#[derive(Clone, Copy, Debug, PartialEq, Eq)]
-pub struct Verdict {
-    pub lower: TyNo,
-    pub upper: TyNo,
-    pub is_below: bool,
-}
-
-/// Verdicts on pairs of sorted numbers of one table, in one dialect. They stay right while the
-/// table grows.
-#[derive(Drop)]
-pub struct Verdicts {
-    pub alloc: Global,
-    pub dialect: Dialect,
-    pub kept: Vec<Verdict>,
-}
-
-impl Verdicts {
-    /// No verdicts yet. They keep the allocator for those to come.
-    pub fn new(alloc: Global, dialect: Dialect) -> Verdicts
-        ensures dialect { result.dialect ≡ dialect }
-        ensures empty { result.kept.items ≡ [] }
-    {
-        Verdicts {
-            alloc,
-            dialect,
-            kept: Vec::new(alloc),
-        }
-    }
-
-    /// What is remembered of a pair.
-    fn find(&self, lower: TyNo, upper: TyNo) -> Option<bool>
-        ensures { IfSome result (λ is_below. (ts : List Typ) (d : Dialect) → AreRight ts self.now.kept.items d → (IsTrue is_below ↔ IsBelow (type_of ts lower) (type_of ts upper) d)) }
-    {
-        for i in 0..self.kept.len() {
-            let verdict = self.kept[i];
-            if verdict.lower.index == lower.index {
-                if verdict.upper.index == upper.index {
-                    return Some(verdict.is_below);
-                }
-            }
-        }
-        None
-    }
-}
+use std::alloc::AllocError;
 
 /// Whether the type of the first number is below that of the second. What is found of their sorted
 /// forms, and of those inside, is kept in `verdicts`, so that types which share cost by their
@@ -69,9 +24,9 @@ pub fn is_sub_no(
 ) -> Result<bool, AllocError>
     requires lower { Stands table.now lower }
     requires upper { Stands table.now upper }
-    requires right { AreRight table.now verdicts.old.kept.items verdicts.old.dialect }
+    requires right { AreRight table.now verdicts.old }
     ensures dialect { verdicts.new.dialect ≡ verdicts.old.dialect }
-    ensures right { AreRight table.now verdicts.new.kept.items verdicts.new.dialect }
+    ensures right { AreRight table.now verdicts.new }
     ensures verdict { IfOk result (λ is_below. IsTrue is_below ↔ IsBelow (type_of table.now lower) (type_of table.now upper) verdicts.old.dialect) }
 {
     // Types with distinct labels are above and below their sorted forms.
@@ -81,15 +36,11 @@ pub fn is_sub_no(
     if lower_sorted.index == upper_sorted.index {
         return Ok(true);
     }
-    if let Some(known) = verdicts.find(lower_sorted, upper_sorted) {
+    if let Some(known) = verdicts.known_verdict(lower_sorted, upper_sorted) {
         return Ok(known);
     }
     let is_below = compare(table, verdicts, lower_sorted, upper_sorted)?;
-    verdicts.kept.push(Verdict {
-        lower: lower_sorted,
-        upper: upper_sorted,
-        is_below,
-    })?;
+    verdicts.keep_verdict(lower_sorted, upper_sorted, is_below)?;
     Ok(is_below)
 }
 
@@ -103,29 +54,29 @@ fn compare(
 ) -> Result<bool, AllocError>
     requires lower { Stands table.now lower }
     requires upper { Stands table.now upper }
-    requires right { AreRight table.now verdicts.old.kept.items verdicts.old.dialect }
+    requires right { AreRight table.now verdicts.old }
     ensures dialect { verdicts.new.dialect ≡ verdicts.old.dialect }
-    ensures right { AreRight table.now verdicts.new.kept.items verdicts.new.dialect }
+    ensures right { AreRight table.now verdicts.new }
     ensures verdict { IfOk result (λ is_below. IsTrue is_below ↔ IsBelow (type_of table.now lower) (type_of table.now upper) verdicts.old.dialect) }
 {
     let lower_shape = table.shape(lower);
     let upper_shape = table.shape(upper);
     match upper_shape {
-        Shape::Arrow(upper_parameter, upper_outcome) => match lower_shape {
-            Shape::Arrow(lower_parameter, lower_outcome) => {
-                if !is_sub_no(table, verdicts, *upper_parameter, *lower_parameter)? {
-                    return Ok(false);
-                }
-                is_sub_no(table, verdicts, *lower_outcome, *upper_outcome)
+        Shape::Arrow(upper_parameter, upper_outcome) => {
+            let Shape::Arrow(lower_parameter, lower_outcome) = lower_shape else {
+                return Ok(false);
+            };
+            if !is_sub_no(table, verdicts, *upper_parameter, *lower_parameter)? {
+                return Ok(false);
             }
-            _ => Ok(false),
-        },
-        Shape::Record(upper_fields) => match lower_shape {
-            Shape::Record(lower_fields) => {
-                are_fields_sub_no(table, verdicts, lower_fields, upper_fields)
-            }
-            _ => Ok(false),
-        },
+            is_sub_no(table, verdicts, *lower_outcome, *upper_outcome)
+        }
+        Shape::Record(upper_fields) => {
+            let Shape::Record(lower_fields) = lower_shape else {
+                return Ok(false);
+            };
+            are_fields_sub_no(table, verdicts, lower_fields, upper_fields)
+        }
         _ => Ok(is_below_constant(lower_shape, upper_shape, verdicts.dialect)),
     }
 }
@@ -141,9 +92,9 @@ fn are_fields_sub_no(
     requires lower_stand { AreNumbersBelow (length table.now) lower.now }
     requires upper_stand { AreNumbersBelow (length table.now) upper.now }
     requires lower { AreWellFormed (fields_over table.now lower.now) }
-    requires right { AreRight table.now verdicts.old.kept.items verdicts.old.dialect }
+    requires right { AreRight table.now verdicts.old }
     ensures dialect { verdicts.new.dialect ≡ verdicts.old.dialect }
-    ensures right { AreRight table.now verdicts.new.kept.items verdicts.new.dialect }
+    ensures right { AreRight table.now verdicts.new }
     ensures verdict { IfOk result (λ is_below. IsTrue is_below ↔ AreBelow (fields_over table.now lower.now) (fields_over table.now upper.now) verdicts.old.dialect) }
 {
     for i in 0..upper.len() {

@@ -1,7 +1,8 @@
+//! Rows of subtyping on trees and on numbers, deep and wide types.
+
 use crate::{Verdicts, is_sub, is_sub_no, prove_sub};
 use lam_rules::{
-    Dialect, Shape as OuterForm, SubProof, Ty, TyTable, check_sub, make_arrow, make_record, same,
-    wf,
+    Dialect, Shape, SubProof, Ty, TyTable, check_sub, make_arrow, make_record, same, wf,
 };
 use std::alloc::{AllocError, Global};
 use std::process::Abort;
@@ -9,27 +10,27 @@ use std::test::Fail;
 
 /// A type as it is written down in a table.
 #[derive(Clone, Copy)]
-enum Shape {
+enum Written {
     Bool,
     Nat,
     Top,
-    Arrow(&'static Shape, &'static Shape),
-    Record(&'static [(&'static str, Shape)]),
+    Arrow(&'static Written, &'static Written),
+    Record(&'static [(&'static str, Written)]),
 }
 
-use Shape::{Arrow, Bool, Nat, Record, Top};
+use Written::{Arrow, Bool, Nat, Record, Top};
 
-fn made(alloc: Global, shape: &Shape) -> Result<Ty, AllocError> {
+fn made(alloc: Global, shape: &Written) -> Result<Ty, AllocError> {
     match shape {
-        Shape::Bool => Ok(Ty::Bool),
-        Shape::Nat => Ok(Ty::Nat),
-        Shape::Top => Ok(Ty::Top),
-        Shape::Arrow(parameter, outcome) => {
+        Written::Bool => Ok(Ty::Bool),
+        Written::Nat => Ok(Ty::Nat),
+        Written::Top => Ok(Ty::Top),
+        Written::Arrow(parameter, outcome) => {
             let parameter = made(alloc, parameter)?;
             let outcome = made(alloc, outcome)?;
             make_arrow(alloc, parameter, outcome)
         }
-        Shape::Record(fields) => {
+        Written::Record(fields) => {
             let mut items = Vec::new(alloc);
             for field in *fields {
                 let label = String::from_str(alloc, field.0)?;
@@ -50,15 +51,15 @@ fn steps(proof: &SubProof) -> u64 {
     count
 }
 
-const AB: Shape = Record(&[("a", Nat), ("b", Bool)]);
+const AB: Written = Record(&[("a", Nat), ("b", Bool)]);
 
-const X: Shape = Record(&[("x", Nat)]);
+const X: Written = Record(&[("x", Nat)]);
 
-const XY: Shape = Record(&[("x", Nat), ("y", Bool)]);
+const XY: Written = Record(&[("x", Nat), ("y", Bool)]);
 
 /// The lower type, the upper type, and how many steps a proof has in dialect one and in dialect
 /// two, or none where there is no proof.
-const ROWS: [(Shape, Shape, Option<u64>, Option<u64>); 16] = [
+const ROWS: [(Written, Written, Option<u64>, Option<u64>); 16] = [
     (Record(&[]), Top, Some(1), Some(1)),
     (Top, Record(&[]), None, None),
     (
@@ -199,7 +200,7 @@ fn decides_the_same_by_numbers(rt: HostRuntime) -> Result<(), Fail> {
 fn doubles_types_forty_times(rt: HostRuntime) -> Result<(), Fail> {
     let alloc = rt.alloc();
     let mut table = TyTable::new(alloc);
-    let nat = table.intern(OuterForm::Nat)?;
+    let nat = table.intern(Shape::Nat)?;
     let mut narrow = table.record(&[("a", nat)])?;
     let mut wide = table.record(&[("b", nat), ("a", nat)])?;
     for _ in 0..40 {
@@ -274,7 +275,7 @@ fn thousand(alloc: Global, from_last: bool) -> Result<Ty, AllocError> {
     Ok(make_record(items))
 }
 
-const LAST: Shape = Record(&[("l999", Top)]);
+const LAST: Written = Record(&[("l999", Top)]);
 
 #[test]
 fn goes_over_a_thousand_fields(rt: HostRuntime) -> Result<(), Fail> {

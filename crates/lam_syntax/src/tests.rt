@@ -138,6 +138,15 @@ fn pieces_between_semicolons(rt: HostRuntime) -> Result<(), Fail> {
     Ok(())
 }
 
+#[test]
+fn many_pieces(rt: HostRuntime) -> Result<(), Fail> {
+    let text = repeated(rt.alloc(), "x = 0;", 10_000)?;
+    let tokens = lex(rt.alloc(), text.as_str())?;
+    let found = pieces(rt.alloc(), tokens.as_slice())?;
+    assert_eq!(rt; found.len(), 10_000);
+    Ok(())
+}
+
 /// A text that repeats a part.
 fn repeated(alloc: Global, part: &str, count: usize) -> Result<String, Fail> {
     let mut text = String::new(alloc);

@@ -1,3 +1,4 @@
+pub mod Marks
 pub mod Cuts
 pub mod Scan
 pub mod Mending

@@ -13,6 +13,7 @@ pub record Edit : Type 0 where
 abbrev pub replaced : List ℕ → ℕ → ℕ → List ℕ → List ℕ
 replaced text from to new = take (min from to) text ++ new ++ drop (max from to) text
 
+-- the text with this range replaced, or as a whole
 abbrev pub edited_in : Encoding → List ℕ → Option Range → List ℕ → List ℕ
 edited_in encoding text None new = new
 edited_in encoding text (Some range) new =

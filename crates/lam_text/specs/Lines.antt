@@ -48,6 +48,7 @@ Spell [] last text = (text ≡ last) × IsPlain last
 Spell (Ended bytes ending ∷ lines) last text =
     (after : List ℕ) × (text ≡ bytes ++ (end_bytes ending ++ after)) × IsPlain bytes × EndStands ending after × Spell lines last after
 
+-- these are the lines of the text, with their ends, and its last line
 abbrev pub IsCutOf : List ℕ → Lines → Type 0
 IsCutOf text (Cut lines last) = Spell lines last text
 

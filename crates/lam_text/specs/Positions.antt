@@ -40,7 +40,7 @@ position_on encoding (Cut lines last) offset = position_in encoding lines last o
 unfoldable pub position_of : Encoding → List ℕ → ℕ → Position
 position_of encoding text offset = position_on encoding (lines_of text) offset
 
--- the offset lies between a CR and its LF
+-- the offset lies between a CR and its LF; at 0 no byte is in front of it
 pub record IsInsideCrLf (text : List ℕ) (offset : ℕ) : Type 0 where
   pub after_start : 0 < offset
   pub cr : slice_index text (offset - 1) ≡ 13

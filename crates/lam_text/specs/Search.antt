@@ -36,13 +36,6 @@ abbrev pub lf_after : List ℕ → Bool → Bool
 lf_after [] lf = lf
 lf_after (b ∷ bytes) lf = b == 10
 
--- the marks of the lines that end among these bytes, which an LF follows or not
-abbrev pub ended_in : Mark → ℕ → List ℕ → Bool → List Mark
-ended_in open_line at [] lf = []
-ended_in open_line at (b ∷ bytes) lf =
-    if ends b (lf_after bytes lf) then open_line ∷ ended_in (fresh (at + 1)) (at + 1) bytes lf
-    else ended_in (grown open_line b) (at + 1) bytes lf
-
 -- the line that is open after these bytes
 abbrev pub open_after : Mark → ℕ → List ℕ → Bool → Mark
 open_after open_line at [] lf = open_line
@@ -53,10 +46,6 @@ open_after open_line at (b ∷ bytes) lf =
 -- the line starts at byte `k` or before
 abbrev pub starts_by : ℕ → Mark → Bool
 starts_by k mark = nat_le mark.start k
-
--- the marks of the lines that end before the byte `at`
-abbrev pub ended_by : List ℕ → ℕ → List Mark
-ended_by text at = ended_in (fresh 0) 0 (take at text) (begins_with_lf (drop at text))
 
 -- the line that is open at the byte `at`, as far as that byte
 abbrev pub open_at : List ℕ → ℕ → Mark

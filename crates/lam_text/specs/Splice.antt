@@ -1,8 +1,8 @@
 -- What a splice leaves of a text and of its index, for the contracts of its steps: no public contract names these.
 use Rattle.std.specs.Prelude.{◌≡◌, ℕ, ◌+◌, ◌-◌, ◌≤◌, Bool, ◌&&◌, List, [], ◌∷◌, length, take, drop}
 use Rattle.lam_text.specs.declared.index.Mark.{Mark}
-use Rattle.lam_text.specs.Lines.{Lines, Cut, content, line_bytes, lines_of}
-use Rattle.lam_text.specs.Index.{all_ascii, marks_in}
+use Rattle.lam_text.specs.Lines.{Lines, Cut, content, lines_of}
+use Rattle.lam_text.specs.Index.{all_ascii}
 
 -- whether the first line is all ASCII
 abbrev pub first_ascii_on : Lines → Bool
@@ -12,11 +12,6 @@ first_ascii_on (Cut (line ∷ lines) last) = all_ascii (content line)
 -- an open line up to its end, where these bytes follow
 abbrev pub closed : Mark → List ℕ → Mark
 closed open_line bytes = record { start = open_line.start; ascii = open_line.ascii && first_ascii_on (lines_of bytes) }
-
--- the marks of all lines but the first
-abbrev pub later_on : ℕ → Lines → List Mark
-later_on at (Cut [] last) = []
-later_on at (Cut (line ∷ lines) last) = marks_in (at + length (line_bytes line)) lines last
 
 -- where the first of these lines starts, or where the text ends
 abbrev pub first_start : List Mark → ℕ → ℕ

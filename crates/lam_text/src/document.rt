@@ -50,6 +50,7 @@ impl Doc {
         })
     }
 
+    /// The text as the changes so far have left it.
     pub fn text(&self) -> &str
         ensures { result.now ≡ self.now.text }
     {

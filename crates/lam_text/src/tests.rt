@@ -165,6 +165,24 @@ fn line_ends_that_join_and_part(rt: HostRuntime) -> Result<(), Fail> {
     Ok(())
 }
 
+#[test]
+fn a_long_text_takes_many_changes(rt: HostRuntime) -> Result<(), Fail> {
+    let mut text = String::new(rt.alloc());
+    for _ in 0..100_000 {
+        text.push_str("x = 0;\r\n")?;
+    }
+    let mut doc = Doc::new(rt.alloc(), text.as_str(), Encoding::Utf16)?;
+    let mut changes = Vec::new(rt.alloc());
+    for column in 0..10 {
+        changes.push(insert(rt.alloc(), at(50_000, column), at(50_000, column), "y")?)?;
+    }
+    doc.apply(&changes)?;
+    assert_eq!(rt; doc.text().len(), 800_010);
+    assert_eq!(rt; doc.offset_of(at(50_001, 0)), 400_018);
+    assert_eq!(rt; doc.position_of(400_018), at(50_001, 0));
+    Ok(())
+}
+
 /// The next of a fixed run of numbers.
 fn next(seed: &mut u64) -> u64 {
     *seed = seed

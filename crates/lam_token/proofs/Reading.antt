@@ -5,7 +5,7 @@ use Rattle.std.specs.Str.{chars, IsUtf8, IsCharBoundary}
 use Rattle.std.proofs.lemmas.Str.{chars-nil, chars_past_char, IsUtf8-past_char, IsUtf8-nil, encodes-chars, IsCharBoundary-at_seam, length-le-encodes, length-encode, len_utf8_bounds}
 use Rattle.std.proofs.lemmas.List.{append-nil}
 use Rattle.std.proofs.Math.Seq.{take-append_seam}
-use Rattle.lam_token.specs.Shape.{behind, is_opening, is_closing}
+use Rattle.lam_token.specs.Shape.{rest_of_comment, is_opening, is_closing}
 use Rattle.lam_token.specs.Reading.{FirstIs, FrontIs, EndsRun, RunIs, IsBehind}
 
 pub first_is : (text rest : List ℕ) (c : ℕ) → IsUtf8 text → text ≡ encode_utf8 c ++ rest → FirstIs text c rest
@@ -88,38 +88,38 @@ run_more passes text rest after c first pass run = record {
 }
 
 -- the marks of a comment, one at a time
-pub behind_opening : (depth before c : ℕ) (cs : List ℕ) → is_opening before c ≡ true → behind depth before (c ∷ cs) ≡ behind (depth + 1) 32 cs
-unfolding behind
+pub behind_opening : (depth before c : ℕ) (cs : List ℕ) → is_opening before c ≡ true → rest_of_comment depth before (c ∷ cs) ≡ rest_of_comment (depth + 1) 32 cs
+unfolding rest_of_comment
 behind_opening depth before c cs e = rw e refl
 
-pub behind_closing : (depth before c : ℕ) (cs : List ℕ) → is_opening before c ≡ false → is_closing before c ≡ true → (depth == 1) ≡ false → behind depth before (c ∷ cs) ≡ behind (depth - 1) 32 cs
-unfolding behind
+pub behind_closing : (depth before c : ℕ) (cs : List ℕ) → is_opening before c ≡ false → is_closing before c ≡ true → (depth == 1) ≡ false → rest_of_comment depth before (c ∷ cs) ≡ rest_of_comment (depth - 1) 32 cs
+unfolding rest_of_comment
 behind_closing depth before c cs e f g = rw (e, f, g) refl
 
-pub behind_last : (before c : ℕ) (cs : List ℕ) → is_opening before c ≡ false → is_closing before c ≡ true → behind 1 before (c ∷ cs) ≡ Some cs
-unfolding behind
+pub behind_last : (before c : ℕ) (cs : List ℕ) → is_opening before c ≡ false → is_closing before c ≡ true → rest_of_comment 1 before (c ∷ cs) ≡ Some cs
+unfolding rest_of_comment
 behind_last before c cs e f = rw (e, f) refl
 
-pub behind_other : (depth before c : ℕ) (cs : List ℕ) → is_opening before c ≡ false → is_closing before c ≡ false → behind depth before (c ∷ cs) ≡ behind depth c cs
-unfolding behind
+pub behind_other : (depth before c : ℕ) (cs : List ℕ) → is_opening before c ≡ false → is_closing before c ≡ false → rest_of_comment depth before (c ∷ cs) ≡ rest_of_comment depth c cs
+unfolding rest_of_comment
 behind_other depth before c cs e f = rw (e, f) refl
 
 -- a step over one character
-pub step_behind : (depth before depth' before' : ℕ) (text rest : List ℕ) (c : ℕ) (r : Option (List ℕ)) → FirstIs text c rest → behind depth before (c ∷ chars rest) ≡ behind depth' before' (chars rest) → IsBehind depth' before' rest r → IsBehind depth before text r
-step_behind depth before depth' before' text rest c None first same is = ap (behind depth before) first.characters ∙ same ∙ is
+pub step_behind : (depth before depth' before' : ℕ) (text rest : List ℕ) (c : ℕ) (r : Option (List ℕ)) → FirstIs text c rest → rest_of_comment depth before (c ∷ chars rest) ≡ rest_of_comment depth' before' (chars rest) → IsBehind depth' before' rest r → IsBehind depth before text r
+step_behind depth before depth' before' text rest c None first same is = ap (rest_of_comment depth before) first.characters ∙ same ∙ is
 step_behind depth before depth' before' text rest c (Some after) first same is = (
   c ∷ is.0,
   front_behind text rest after is.0 c first is.1,
-  ap (behind depth before) first.characters ∙ same ∙ is.2,
+  ap (rest_of_comment depth before) first.characters ∙ same ∙ is.2,
 )
 
 pub end_behind : (depth before : ℕ) (text : List ℕ) → text ≡ [] → IsBehind depth before text None
-unfolding behind
-end_behind depth before text is_end = ap (λ l. behind depth before (chars l)) is_end ∙ ap (behind depth before) chars-nil
+unfolding rest_of_comment
+end_behind depth before text is_end = ap (λ l. rest_of_comment depth before (chars l)) is_end ∙ ap (rest_of_comment depth before) chars-nil
 
 pub last_behind : (before : ℕ) (text rest : List ℕ) (c : ℕ) → FirstIs text c rest → is_opening before c ≡ false → is_closing before c ≡ true → IsBehind 1 before text (Some rest)
 last_behind before text rest c first e f = (
   c ∷ [],
   front_behind text rest rest [] c first (front_none rest first.is_text),
-  ap (behind 1 before) first.characters ∙ behind_last before c (chars rest) e f,
+  ap (rest_of_comment 1 before) first.characters ∙ behind_last before c (chars rest) e f,
 )

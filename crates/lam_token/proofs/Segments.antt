@@ -10,7 +10,7 @@ use Rattle.lam_token.specs.declared.kind.Segment.{Segment}
 use Rattle.lam_token.specs.declared.kind.Segment.TheVariants.{Blank, Comment, Token}
 use Rattle.lam_token.specs.declared.kind.Beginning.{Beginning}
 use Rattle.lam_token.specs.declared.kind.Beginning.TheVariants as begin
-use Rattle.lam_token.specs.Shape.{is_digit, is_continuing, beginning_of, behind, alone, closed_at_end, begun, shape_of, opened, opens_comment, word_kind}
+use Rattle.lam_token.specs.Shape.{is_digit, is_continuing, beginning_of, rest_of_comment, alone, closed_at_end, begun, shape_of, opened, opens_comment, word_kind}
 use Rattle.lam_token.specs.Cut.{NothingBegins, NothingLonger, longest, unclosed, stray}
 use Rattle.lam_token.specs.Reading.{FirstIs, FrontIs, EndsRun, RunIs, IsBehind, SegmentIs}
 use Rattle.lam_token.proofs.Reading.{front_none, front_all, front_behind, no_front}
@@ -154,38 +154,38 @@ lone_slash_segment text rest c first begins is_end =
     at_end [] more same = refl
     at_end (e ∷ front) more same = absurd cc
 
-begun_slash : (c d : ℕ) (cs front more : List ℕ) → d ∷ cs ≡ front ++ more → ((inside : List ℕ) → front ≡ d ∷ inside → cs ≡ inside ++ more → cond (d == 42) (closed_at_end (behind 1 32 inside)) None ≡ None) → begun begin.Slash c front ≡ None
+begun_slash : (c d : ℕ) (cs front more : List ℕ) → d ∷ cs ≡ front ++ more → ((inside : List ℕ) → front ≡ d ∷ inside → cs ≡ inside ++ more → cond (d == 42) (closed_at_end (rest_of_comment 1 32 inside)) None ≡ None) → begun begin.Slash c front ≡ None
 begun_slash c d cs [] more same none = refl
 begun_slash c d cs (e ∷ inside) more same none =
     let head : e ≡ d = cc in
     let tail : cs ≡ inside ++ more = cc in
-    ap (λ x. cond (x == 42) (closed_at_end (behind 1 32 inside)) None) head ∙ none inside (ap (λ x. x ∷ inside) head) tail
+    ap (λ x. cond (x == 42) (closed_at_end (rest_of_comment 1 32 inside)) None) head ∙ none inside (ap (λ x. x ∷ inside) head) tail
 
 pub stray_slash_segment : (text rest after : List ℕ) (c d : ℕ) → FirstIs text c rest → beginning_of c ≡ begin.Slash → FirstIs rest d after → (d == 42) ≡ false → SegmentIs text (Token BadCharacter) rest
 stray_slash_segment text rest after c d first begins second no_star =
     segment_stray text rest c begin.Slash begins first
     (λ front more same. begun_slash c d (chars after) front more (sym second.characters ∙ same)
-    (λ inside front_is after_is. ap (λ b. cond b (closed_at_end (behind 1 32 inside)) None) no_star))
+    (λ inside front_is after_is. ap (λ b. cond b (closed_at_end (rest_of_comment 1 32 inside)) None) no_star))
     (ap (opened begin.Slash) second.characters ∙ no_star)
 
 pub comment_segment : (text rest inside after : List ℕ) (c d : ℕ) → FirstIs text c rest → beginning_of c ≡ begin.Slash → FirstIs rest d inside → (d == 42) ≡ true → IsBehind 1 32 inside (Some after) → SegmentIs text Comment after
 comment_segment text rest inside after c d first begins second star (cs, front, closes) =
     segment_longest text rest after (d ∷ cs) c begin.Slash Comment begins first (front_behind rest inside after cs d second front)
-    (ap (λ b. cond b (closed_at_end (behind 1 32 cs)) None) star ∙ ap closed_at_end closed)
+    (ap (λ b. cond b (closed_at_end (rest_of_comment 1 32 cs)) None) star ∙ ap closed_at_end closed)
     longer_none
   where
-    closed : behind 1 32 cs ≡ Some []
-    closed = behind_front 1 32 cs (chars after) (ap (behind 1 32) (sym front.characters) ∙ closes)
+    closed : rest_of_comment 1 32 cs ≡ Some []
+    closed = behind_front 1 32 cs (chars after) (ap (rest_of_comment 1 32) (sym front.characters) ∙ closes)
 
     longer_none : (f more : List ℕ) → d ∷ cs ++ chars after ≡ f ++ more → length (d ∷ cs) < length f → begun begin.Slash c f ≡ None
     longer_none f more same longer =
         begun_slash c d (cs ++ chars after) f more same
-        (λ g f_is tail. ap (λ b. cond b (closed_at_end (behind 1 32 g)) None) star
+        (λ g f_is tail. ap (λ b. cond b (closed_at_end (rest_of_comment 1 32 g)) None) star
         ∙ longer_comment cs (chars after) g more closed tail (omega (arith, ap length f_is)))
 
 pub unclosed_segment : (text rest inside : List ℕ) (c d : ℕ) → IsUtf8 text → FirstIs text c rest → beginning_of c ≡ begin.Slash → FirstIs rest d inside → (d == 42) ≡ true → IsBehind 1 32 inside None → SegmentIs text (Token BadComment) []
 unclosed_segment text rest inside c d is_text first begins second star stays_open =
     segment_unclosed text rest c begin.Slash is_text begins first
     (λ front more same. begun_slash c d (chars inside) front more (sym second.characters ∙ same)
-    (λ g front_is tail. ap (λ b. cond b (closed_at_end (behind 1 32 g)) None) star ∙ open_comment (chars inside) g more stays_open tail))
+    (λ g front_is tail. ap (λ b. cond b (closed_at_end (rest_of_comment 1 32 g)) None) star ∙ open_comment (chars inside) g more stays_open tail))
     (ap (opened begin.Slash) second.characters ∙ star)

@@ -3,7 +3,7 @@ use Rattle.std.proofs.Common.{◌≡◌, ℕ, ◌+◌, ◌-◌, ◌<◌, Bool, t
 use Rattle.std.specs.Prelude.{◌==◌, ◌&&◌}
 use Rattle.std.specs.List.{list_all}
 use Rattle.lam_token.specs.declared.kind.Segment.{Segment}
-use Rattle.lam_token.specs.Shape.{is_opening, is_closing, behind, alone, closed_at_end}
+use Rattle.lam_token.specs.Shape.{is_opening, is_closing, rest_of_comment, alone, closed_at_end}
 use Rattle.lam_token.specs.Reading.{EndsRun}
 
 -- a test that fails somewhere fails for all
@@ -47,60 +47,60 @@ not_alone s (f ∷ front) longer = refl
 -- A character of a comment either goes on to another state, whatever follows it, or is the last.
 abbrev StepOf : ℕ → ℕ → ℕ → Type 0
 StepOf depth before c =
-    ((d : ℕ) × (b : ℕ) × ((cs : List ℕ) → behind depth before (c ∷ cs) ≡ behind d b cs))
-    ⊎ ((cs : List ℕ) → behind depth before (c ∷ cs) ≡ Some cs)
+    ((d : ℕ) × (b : ℕ) × ((cs : List ℕ) → rest_of_comment depth before (c ∷ cs) ≡ rest_of_comment d b cs))
+    ⊎ ((cs : List ℕ) → rest_of_comment depth before (c ∷ cs) ≡ Some cs)
 
 step_of : (depth before c : ℕ) → StepOf depth before c
-unfolding behind
+unfolding rest_of_comment
 step_of depth before c = opens (is_opening before c) (is_closing before c) (depth == 1)
   where
     rest_of : Bool → Bool → Bool → List ℕ → Option (List ℕ)
     rest_of opens closes outer cs =
-        cond opens (behind (depth + 1) 32 cs) (cond closes (cond outer (Some cs) (behind (depth - 1) 32 cs)) (behind depth c cs))
+        cond opens (rest_of_comment (depth + 1) 32 cs) (cond closes (cond outer (Some cs) (rest_of_comment (depth - 1) 32 cs)) (rest_of_comment depth c cs))
 
-    opens : (o s t : Bool) → ((d : ℕ) × (b : ℕ) × ((cs : List ℕ) → rest_of o s t cs ≡ behind d b cs)) ⊎ ((cs : List ℕ) → rest_of o s t cs ≡ Some cs)
+    opens : (o s t : Bool) → ((d : ℕ) × (b : ℕ) × ((cs : List ℕ) → rest_of o s t cs ≡ rest_of_comment d b cs)) ⊎ ((cs : List ℕ) → rest_of o s t cs ≡ Some cs)
     opens true s t = inl (depth + 1, 32, λ cs. refl)
     opens false true true = inr (λ cs. refl)
     opens false true false = inl (depth - 1, 32, λ cs. refl)
     opens false false t = inl (depth, c, λ cs. refl)
 
 -- what follows the text follows what is left behind its comment
-pub behind-append : (depth before : ℕ) (cs more r : List ℕ) → behind depth before cs ≡ Some r → behind depth before (cs ++ more) ≡ Some (r ++ more)
-unfolding behind
-behind-append depth before [] more r e = absurd cc
-behind-append depth before (c ∷ cs) more r e =
+pub rest_of_comment-append : (depth before : ℕ) (cs more r : List ℕ) → rest_of_comment depth before cs ≡ Some r → rest_of_comment depth before (cs ++ more) ≡ Some (r ++ more)
+unfolding rest_of_comment
+rest_of_comment-append depth before [] more r e = absurd cc
+rest_of_comment-append depth before (c ∷ cs) more r e =
     ⊎_elim
-    (λ (on : (d : ℕ) × (b : ℕ) × ((xs : List ℕ) → behind depth before (c ∷ xs) ≡ behind d b xs)).
-    on.2 (cs ++ more) ∙ behind-append on.0 on.1 cs more r (sym (on.2 cs) ∙ e))
-    (λ (last : (xs : List ℕ) → behind depth before (c ∷ xs) ≡ Some xs).
+    (λ (on : (d : ℕ) × (b : ℕ) × ((xs : List ℕ) → rest_of_comment depth before (c ∷ xs) ≡ rest_of_comment d b xs)).
+    on.2 (cs ++ more) ∙ rest_of_comment-append on.0 on.1 cs more r (sym (on.2 cs) ∙ e))
+    (λ (last : (xs : List ℕ) → rest_of_comment depth before (c ∷ xs) ≡ Some xs).
     let same : Some cs ≡ Some r = sym (last cs) ∙ e in
     let same_rest : cs ≡ r = cc in
     last (cs ++ more) ∙ ap (λ l. Some (l ++ more)) same_rest)
     (step_of depth before c)
 
 -- what is left behind a comment is shorter
-behind_shorter : (depth before : ℕ) (cs r : List ℕ) → behind depth before cs ≡ Some r → length r < length cs
-unfolding behind
+behind_shorter : (depth before : ℕ) (cs r : List ℕ) → rest_of_comment depth before cs ≡ Some r → length r < length cs
+unfolding rest_of_comment
 behind_shorter depth before [] r e = absurd cc
 behind_shorter depth before (c ∷ cs) r e =
     ⊎_elim
-    (λ (on : (d : ℕ) × (b : ℕ) × ((xs : List ℕ) → behind depth before (c ∷ xs) ≡ behind d b xs)).
+    (λ (on : (d : ℕ) × (b : ℕ) × ((xs : List ℕ) → rest_of_comment depth before (c ∷ xs) ≡ rest_of_comment d b xs)).
     let shorter = behind_shorter on.0 on.1 cs r (sym (on.2 cs) ∙ e) in omega arith)
-    (λ (last : (xs : List ℕ) → behind depth before (c ∷ xs) ≡ Some xs).
+    (λ (last : (xs : List ℕ) → rest_of_comment depth before (c ∷ xs) ≡ Some xs).
     let same : Some cs ≡ Some r = sym (last cs) ∙ e in
     let same_rest : cs ≡ r = cc in
     omega (arith, ap length same_rest))
     (step_of depth before c)
 
 -- a front behind which the comment leaves the rest closes by itself
-pub behind_front : (depth before : ℕ) (front rest : List ℕ) → behind depth before (front ++ rest) ≡ Some rest → behind depth before front ≡ Some []
-unfolding behind
+pub behind_front : (depth before : ℕ) (front rest : List ℕ) → rest_of_comment depth before (front ++ rest) ≡ Some rest → rest_of_comment depth before front ≡ Some []
+unfolding rest_of_comment
 behind_front depth before [] rest e = absurd (omega (arith, behind_shorter depth before rest rest e))
 behind_front depth before (c ∷ front) rest e =
     ⊎_elim
-    (λ (on : (d : ℕ) × (b : ℕ) × ((xs : List ℕ) → behind depth before (c ∷ xs) ≡ behind d b xs)).
+    (λ (on : (d : ℕ) × (b : ℕ) × ((xs : List ℕ) → rest_of_comment depth before (c ∷ xs) ≡ rest_of_comment d b xs)).
     on.2 front ∙ behind_front on.0 on.1 front rest (sym (on.2 (front ++ rest)) ∙ e))
-    (λ (last : (xs : List ℕ) → behind depth before (c ∷ xs) ≡ Some xs).
+    (λ (last : (xs : List ℕ) → rest_of_comment depth before (c ∷ xs) ≡ Some xs).
     let same : Some (front ++ rest) ≡ Some rest = sym (last (front ++ rest)) ∙ e in
     let same_rest : front ++ rest ≡ rest = cc in
     last front ∙ ap (λ (l : List ℕ). Some l) (empty_front front (omega (arith, ap length same_rest, length-append front rest))))
@@ -111,19 +111,19 @@ behind_front depth before (c ∷ front) rest e =
     empty_front (x ∷ l) none = absurd (omega arith)
 
 -- behind a closed comment, a longer front is none
-pub longer_comment : (cs rest front after : List ℕ) → behind 1 32 cs ≡ Some [] → cs ++ rest ≡ front ++ after → length cs < length front → closed_at_end (behind 1 32 front) ≡ None
+pub longer_comment : (cs rest front after : List ℕ) → rest_of_comment 1 32 cs ≡ Some [] → cs ++ rest ≡ front ++ after → length cs < length front → closed_at_end (rest_of_comment 1 32 front) ≡ None
 longer_comment cs rest front after closed same longer =
     let found = longer_splits cs rest front after same longer in
-    ap closed_at_end (ap (behind 1 32) found.2 ∙ behind-append 1 32 cs (found.0 ∷ found.1) [] closed)
+    ap closed_at_end (ap (rest_of_comment 1 32) found.2 ∙ rest_of_comment-append 1 32 cs (found.0 ∷ found.1) [] closed)
 
 -- no front of an open comment is closed
-pub open_comment : (cs front after : List ℕ) → behind 1 32 cs ≡ None → cs ≡ front ++ after → closed_at_end (behind 1 32 front) ≡ None
-open_comment cs front after stays_open same = left (behind 1 32 front) refl
+pub open_comment : (cs front after : List ℕ) → rest_of_comment 1 32 cs ≡ None → cs ≡ front ++ after → closed_at_end (rest_of_comment 1 32 front) ≡ None
+open_comment cs front after stays_open same = left (rest_of_comment 1 32 front) refl
   where
-    left : (r : Option (List ℕ)) → behind 1 32 front ≡ r → closed_at_end r ≡ None
+    left : (r : Option (List ℕ)) → rest_of_comment 1 32 front ≡ r → closed_at_end r ≡ None
     left None e = refl
     left (Some []) e =
-        let all = behind-append 1 32 front after [] e in
-        let whole : behind 1 32 (front ++ after) ≡ None = ap (behind 1 32) (sym same) ∙ stays_open in
+        let all = rest_of_comment-append 1 32 front after [] e in
+        let whole : rest_of_comment 1 32 (front ++ after) ≡ None = ap (rest_of_comment 1 32) (sym same) ∙ stays_open in
         absurd cc
     left (Some (x ∷ xs)) e = refl

@@ -1,5 +1,5 @@
 -- Each text has a cut.
-use Rattle.std.proofs.Common.{◌≡◌, ℕ, zero, suc, ◌+◌, ◌≤◌, ◌<◌, Bool, true, false, Option, Some, None, List, [], ◌∷◌, ◌++◌, length, take, drop, ⊎_elim, sym, refl, ap, ◌∙◌, subst, arith, length-append}
+use Rattle.std.proofs.Common.{◌≡◌, ℕ, zero, suc, ◌≤◌, ◌<◌, Bool, true, false, Option, Some, None, List, [], ◌∷◌, ◌++◌, length, take, drop, ⊎_elim, sym, refl, ap, ◌∙◌, subst, arith, length-append}
 use Rattle.std.proofs.lemmas.Bool.{cases_order}
 use Rattle.std.proofs.lemmas.List.{append-nil}
 use Rattle.std.proofs.Math.Seq.{take-append_seam}
@@ -7,7 +7,7 @@ use Rattle.lam_token.specs.declared.kind.Kind.TheVariants.{BadCharacter, BadComm
 use Rattle.lam_token.specs.declared.kind.Segment.{Segment}
 use Rattle.lam_token.specs.declared.kind.Segment.TheVariants.{Token}
 use Rattle.lam_token.specs.Shape.{shape_of, opens_comment}
-use Rattle.lam_token.specs.Cut.{NothingBegins, NothingLonger, IsFirst, longest, unclosed, stray, Part, IsCut}
+use Rattle.lam_token.specs.Cut.{NothingBegins, IsFirst, longest, unclosed, stray, Part, IsCut}
 
 -- a text begins with a first segment that has characters
 record Begun (text : List ℕ) : Type 0 where

@@ -3,7 +3,7 @@ use Rattle.std.specs.Prelude.{◌≡◌, ℕ, Bool, true, false, Option, Some, N
 use Rattle.std.specs.List.{list_all}
 use Rattle.std.specs.Str.{chars, IsUtf8}
 use Rattle.lam_token.specs.declared.kind.Segment.{Segment}
-use Rattle.lam_token.specs.Shape.{behind}
+use Rattle.lam_token.specs.Shape.{rest_of_comment}
 use Rattle.lam_token.specs.Cut.{IsFirst}
 
 -- a text is a character and the text behind it
@@ -32,8 +32,8 @@ pub record RunIs (passes : ℕ → Bool) (text rest : List ℕ) : Type 0 where
 
 -- the text behind a comment of which so many marks are open, behind this character; None where it does not close
 abbrev pub IsBehind : (depth before : ℕ) → List ℕ → Option (List ℕ) → Type 0
-IsBehind depth before text None = behind depth before (chars text) ≡ None
-IsBehind depth before text (Some rest) = (front : List ℕ) × FrontIs text front rest × (behind depth before (chars text) ≡ Some (chars rest))
+IsBehind depth before text None = rest_of_comment depth before (chars text) ≡ None
+IsBehind depth before text (Some rest) = (front : List ℕ) × FrontIs text front rest × (rest_of_comment depth before (chars text) ≡ Some (chars rest))
 
 -- the text is a first segment of this sort, and the text behind it
 pub record SegmentIs (text : List ℕ) (sort : Segment) (rest : List ℕ) : Type 0 where

@@ -86,12 +86,12 @@ is_closing before c = (before == 42) && (c == 47)
 
 -- What is left behind a comment of which so many marks are open; None where the text ends first.
 -- Marks are two characters, taken from the left: `before` is the character before, or a space if a mark took it.
-unfoldable pub behind : (depth before : ℕ) → List ℕ → Option (List ℕ)
-behind depth before [] = None
-behind depth before (c ∷ cs) =
-    if is_opening before c then behind (depth + 1) 32 cs
-    else if is_closing before c then (if depth == 1 then Some cs else behind (depth - 1) 32 cs)
-    else behind depth c cs
+unfoldable pub rest_of_comment : (depth before : ℕ) → List ℕ → Option (List ℕ)
+rest_of_comment depth before [] = None
+rest_of_comment depth before (c ∷ cs) =
+    if is_opening before c then rest_of_comment (depth + 1) 32 cs
+    else if is_closing before c then (if depth == 1 then Some cs else rest_of_comment (depth - 1) 32 cs)
+    else rest_of_comment depth c cs
 
 -- a segment of that sort, if nothing follows
 abbrev pub alone : Segment → List ℕ → Option Segment
@@ -107,7 +107,7 @@ closed_at_end None = None
 abbrev pub begun : Beginning → ℕ → List ℕ → Option Segment
 begun first.Blank c cs = alone segment.Blank cs
 begun first.Slash c [] = None
-begun first.Slash c (d ∷ cs) = if d == 42 then closed_at_end (behind 1 32 cs) else None
+begun first.Slash c (d ∷ cs) = if d == 42 then closed_at_end (rest_of_comment 1 32 cs) else None
 begun first.Digit c cs = if list_all is_digit cs then Some (segment.Token Numeral) else None
 begun first.Letter c cs = if list_all is_continuing cs then Some (segment.Token (word_kind c (encode_utf8_all (c ∷ cs)))) else None
 begun first.Underscore c [] = Some (segment.Token Underscore)

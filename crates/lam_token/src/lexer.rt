@@ -9,8 +9,7 @@ ghost use Rattle.lam_token.specs.Cut.{AreTokensOf, StandsIn, IsWholeKind};
 
 use crate::kind::{Kind, Segment};
 use crate::scan::next_segment;
-use crate::span::Span;
-use crate::token::Token;
+use crate::token::{Token, token_at};
 use std::alloc::{AllocError, Global};
 
 /// The tokens of a text, in order. It fails only for want of memory.
@@ -28,11 +27,7 @@ pub fn lex<'a>(alloc: Global, text: &'a str) -> Result<Vec<Token<'a>>, AllocErro
         let (front, _) = rest.split_at(rest.len() - after.len());
         let end = start + front.len();
         if let Segment::Token(kind) = segment {
-            tokens.push(Token {
-                kind,
-                text: front,
-                place: Span { start, end },
-            })?;
+            tokens.push(token_at(kind, front, start))?;
         }
         rest = after;
         start = end;

@@ -1,5 +1,5 @@
 //! Rows of the tokens of short texts.
-use crate::{Kind, is_name, is_type_name, lex};
+use crate::{Kind, Span, is_name, is_type_name, lex};
 use std::alloc::Global;
 use std::process::Abort;
 use std::test::Fail;
@@ -164,6 +164,18 @@ fn letters_beyond_ascii(rt: HostRuntime) -> Result<(), Fail> {
 }
 
 #[test]
+fn a_long_text_is_cut_to_its_end(rt: HostRuntime) -> Result<(), Fail> {
+    let mut text = String::new(rt.alloc());
+    for _ in 0..10_000 {
+        text.push_str("x = 0;\n")?;
+    }
+    let tokens = lex(rt.alloc(), text.as_str())?;
+    assert_eq!(rt; tokens.len(), 40_000);
+    assert_eq!(rt; tokens[39_999].end(), 69_999);
+    Ok(())
+}
+
+#[test]
 fn names(rt: HostRuntime) {
     for name in ["x", "_a", "_'", "__", "_1", "x'y", "é", "lambda_"] {
         assert!(rt; is_name(name), "for {name}");
@@ -178,5 +190,19 @@ fn names(rt: HostRuntime) {
     ] {
         assert!(rt; !is_name(other), "for {other}");
         assert!(rt; !is_type_name(other), "for {other}");
+    }
+}
+
+#[test]
+fn ranges_are_ordered_by_their_starts_and_then_their_ends(rt: HostRuntime) {
+    let rows = [(0, 9), (1, 2), (1, 3), (2, 2)];
+    for i in 1..rows.len() {
+        let (start, end) = rows[i - 1];
+        let (next_start, next_end) = rows[i];
+        let next = Span {
+            start: next_start,
+            end: next_end,
+        };
+        assert!(rt; Span { start, end } < next);
     }
 }

@@ -1,6 +1,6 @@
 //! A token of a text, which borrows the text.
-ghost use Rattle.std.specs.Prelude.{◌≡◌, ◌+◌, length};
-ghost use Rattle.lam_token.specs.Lexeme.{kind_of, text_of, span_of, start_of, end_of};
+ghost use Rattle.std.specs.Prelude.{◌≡◌, ◌+◌, ◌^◌, ◌<◌, length};
+ghost use Rattle.lam_token.specs.Lexeme.{kind_of, text_of, span_of, start_of, end_of, lexeme_at};
 
 use crate::kind::Kind;
 use crate::span::Span;
@@ -9,9 +9,9 @@ use std::marker::Model;
 /// A lexeme of a text, or what stands where none begins. A clause sees it as a `Lexeme`.
 #[derive(Drop, Debug)]
 pub struct Token<'a> {
-    pub(crate) kind: Kind,
-    pub(crate) text: &'a str,
-    pub(crate) place: Span,
+    kind: Kind,
+    text: &'a str,
+    place: Span,
 }
 
 impl<'a> Model for Token<'a> {
@@ -60,5 +60,18 @@ impl<'a> Token<'a> {
         ensures { result ≡ span_of self.now }
     {
         self.place
+    }
+}
+
+/// The token with this text that begins at this byte.
+pub(crate) fn token_at<'a>(kind: Kind, text: &'a str, start: usize) -> Token<'a>
+    requires { start + length text.now < 2 ^ 64 }
+    ensures { result ≡ lexeme_at kind text.now start }
+{
+    let end = start + text.len();
+    Token {
+        kind,
+        text,
+        place: Span { start, end },
     }
 }

@@ -10,8 +10,7 @@ use Rattle.lam_typing.specs.Analysis.{AreLeast, AreSmall, IsTooLarge, IsFirstToo
 use Rattle.lam_typing.specs.Answers.{answer, answers, StandsIn, AllStandIn}
 use Rattle.lam_typing.specs.Progress.{IsLowest, Progress, Shown, Went, next_is_too_large, enough, NextIs, ShownFront, StoppedIn}
 use Rattle.lam_typing.specs.Walk.{entries_of, progress_of, IsSoundWalk, Grows, IsBehind, IsUpTo, IsWithin, HasStoppedAmong}
-use Rattle.lam_typing.specs.Typings.{IsAnalysis, IsFaultOf, up_to, Begins, IsEndOf}
-use Rattle.lam_typing.specs.declared.fault.TypingFault.{TypingFault}
+use Rattle.lam_typing.specs.Typings.{IsAnalysis, up_to, Begins}
 use Rattle.lam_typing.specs.declared.typing.Typing.{Typing}
 use Rattle.lam_typing.specs.declared.walking.Walk.{Walk}
 use Rattle.lam_typing.specs.declared.walking.Stop.{Stop}
@@ -102,35 +101,31 @@ analysed w0 w last statements t d begins grows went is =
     subst (λ qs. IsAnalysis qs t d) (sym (whole last ps (length w.found.items) (found_length ps w d shows) within))
     (analysis ps t d (subst (λ v. IsSoundWalk v) (sym is) grows.sound) (subst (λ v. Shows ps v d) (sym is) shows))
 
--- it stopped
-pub ended : (stop : Stop) (w0 w : Walk) (last : Option PlaceNumber) (statements : List Statement) (r : Result Typing TypingFault) (d : Dialect) → Begins w0 last → Grows w0 w
-    → HasStoppedAmong stop (entries_of w0) (λ s. places_of s statements) w0 w d → IsEndOf stop w r
-    → IfOk r (λ t. IsAnalysis (up_to last (places_of [] statements)) t d) × IfErr r (λ fault. IsFaultOf fault (up_to last (places_of [] statements)) d)
-ended Stop.Enough w0 w last statements (Ok t) d begins grows stopped end =
+-- it stopped behind the last place that was asked for
+pub stopped_behind_last : (w0 w : Walk) (last : Option PlaceNumber) (statements : List Statement) (t : Typing) (d : Dialect) → Begins w0 last → Grows w0 w
+    → HasStoppedAmong Stop.Enough (entries_of w0) (λ s. places_of s statements) w0 w d → t.walk ≡ w → IsAnalysis (up_to last (places_of [] statements)) t d
+stopped_behind_last w0 w last statements t d begins grows stopped is =
     let h = stopped.0.shown [] (outermost w0 last d begins) in
     let shows : Shows h.front w d = shows_all w0 w last h.front stopped.0.found stopped.0.blames d begins stopped.0.found_is stopped.0.blames_are h.shown in
     let same : w.last ≡ last = grows.last ∙ begins.last in
     let within : IsWithin last (length w.found.items) = subst (λ l. IsWithin l (length w.found.items)) same grows.sound.room in
     let behind : IsBehind last (length w.found.items) = subst (λ l. IsBehind l (length w.found.items)) same stopped.1 in
-    let asked : up_to last (places_of [] statements) ≡ h.front = ap (λ ps. up_to last ps) h.are ∙ front_of last h.front h.rest (length w.found.items) (found_length h.front w d shows) within behind in (
-      subst (λ qs. IsAnalysis qs t d) (sym asked) (analysis h.front t d (subst (λ v. IsSoundWalk v) (sym end) grows.sound) (subst (λ v. Shows h.front v d) (sym end) shows)),
-      tt,
-    )
-ended Stop.TooLarge w0 w last statements (Err (TypingFault.TooLarge p)) d begins grows stopped end =
+    let asked : up_to last (places_of [] statements) ≡ h.front = ap (λ ps. up_to last ps) h.are ∙ front_of last h.front h.rest (length w.found.items) (found_length h.front w d shows) within behind in
+    subst (λ qs. IsAnalysis qs t d) (sym asked) (analysis h.front t d (subst (λ v. IsSoundWalk v) (sym is) grows.sound) (subst (λ v. Shows h.front v d) (sym is) shows))
+
+-- it stopped at a place that is too large
+pub stopped_at_large : (w0 w : Walk) (last : Option PlaceNumber) (statements : List Statement) (d : Dialect) → Begins w0 last → Grows w0 w
+    → HasStoppedAmong Stop.TooLarge (entries_of w0) (λ s. places_of s statements) w0 w d → IsFirstTooLarge (up_to last (places_of [] statements)) (length w.found.items) d
+stopped_at_large w0 w last statements d begins grows stopped =
     let h = stopped.0.shown [] (outermost w0 last d begins) in
     let shows : Shows h.front w d = shows_all w0 w last h.front stopped.0.found stopped.0.blames d begins stopped.0.found_is stopped.0.blames_are h.shown in
     let same : w.last ≡ last = grows.last ∙ begins.last in
-    let here : IsUpTo last (length w.found.items) = subst (λ l. IsUpTo l (length w.found.items)) same stopped.1 in (
-      tt,
-      subst (λ n. IsFirstTooLarge (up_to last (places_of [] statements)) n d) (sym end)
-          (asked_first last (length w.found.items) here (subst (λ ps. IsFirstTooLarge ps (length w.found.items) d) (sym h.are) (next_first h.front h.rest w d shows h.next))),
-    )
+    let here : IsUpTo last (length w.found.items) = subst (λ l. IsUpTo l (length w.found.items)) same stopped.1 in
+    asked_first last (length w.found.items) here (subst (λ ps. IsFirstTooLarge ps (length w.found.items) d) (sym h.are) (next_first h.front h.rest w d shows h.next))
   where
     asked_first : (last : Option PlaceNumber) (n : ℕ) → IsUpTo last n → IsFirstTooLarge (places_of [] statements) n d → IsFirstTooLarge (up_to last (places_of [] statements)) n d
     asked_first None n here first = first
     asked_first (Some p) n here first = first_in_front (places_of [] statements) n (p.0 + 1) d (omega arith) first
-ended Stop.Memory w0 w last statements (Err TypingFault.Memory) d begins grows stopped end = (tt, tt)
-ended _ w0 w last statements _ d begins grows stopped end = absurd end
 
 pub answers_at : (ts : List Typ) (os : List (Option TyNo)) (k : ℕ) → answer ts (get_or os k None) ≡ get_or (answers ts os) k None
 answers_at ts [] k = refl

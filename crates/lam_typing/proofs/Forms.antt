@@ -78,7 +78,7 @@ no_type_within n [] lt e = absurd (omega arith)
 no_type_within zero (entry ∷ g) lt e = e
 no_type_within (suc n) (entry ∷ g) lt e = no_type_within n g (omega arith) e
 
-entry_beyond : (n : ℕ) (g : Context) → length g ≤ n → entry_at n g ≡ None
+pub entry_beyond : (n : ℕ) (g : Context) → length g ≤ n → entry_at n g ≡ None
 entry_beyond n [] le = refl
 entry_beyond zero (entry ∷ g) le = absurd (omega arith)
 entry_beyond (suc n) (entry ∷ g) le = entry_beyond n g (omega arith)
@@ -265,7 +265,7 @@ if_ready g e1 e2 e3 p0 p1 p2 p3 x y z o d over1 over2 over3 rule = record {
 
 -- the terms of a record
 
-fields_least : (s : Scope) (g : Context) (es : TermFields) (y : Option Fields) (d : Dialect) → IsLowest s g d → AreFieldsAt s es y d → LeastFields g es y d
+pub fields_least : (s : Scope) (g : Context) (es : TermFields) (y : Option Fields) (d : Dialect) → IsLowest s g d → AreFieldsAt s es y d → LeastFields g es y d
 fields_least s g no_terms y d low is = subst (λ o. LeastFields g no_terms o d) (sym is) (none_least g d low.wf)
 fields_least s g (term_field l e es) y d low (x, z, least, rest, rule) = more_least g l e es x z y d (least_in s g e x d low least) (fields_least s g es z d low rest) rule
 

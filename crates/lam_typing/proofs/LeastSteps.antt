@@ -229,7 +229,7 @@ absent_each l (field k s fs) (field j t gs) d each absent = (λ e. absent.0 (e �
 absent_each l no_fields (field j t gs) d each absent = absurd each
 absent_each l (field k s fs) no_fields d each absent = absurd each
 
-wf_each : (fs gs : Fields) (d : Dialect) → EachBelow fs gs d → AreWellFormed gs → AreWellFormed fs
+pub wf_each : (fs gs : Fields) (d : Dialect) → EachBelow fs gs d → AreWellFormed gs → AreWellFormed fs
 wf_each no_fields no_fields d each wf = tt
 wf_each (field k s fs) (field j t gs) d each wf =
     ((below_wf s t d each.1).0, absent_each k fs gs d each.2 (subst (λ x. IsAbsent x gs) (sym each.0) wf.1), wf_each fs gs d each.2 wf.2)

@@ -16,3 +16,9 @@ pub mod StepRules
 pub mod Sizes
 pub mod Statements
 pub mod Finishing
+pub mod NotedParts
+pub mod Sighted
+pub mod Completing
+pub mod BuiltProofs
+pub mod BuiltSteps
+pub mod PlaceProofs

@@ -8,4 +8,8 @@ pub mod Progress
 pub mod Steps
 pub mod Answers
 pub mod Walk
+pub mod Entries
+pub mod Notes
+pub mod Seeing
 pub mod Typings
+pub mod Proving

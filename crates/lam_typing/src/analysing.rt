@@ -1,13 +1,15 @@
 //! The analysis of a document: one walk over its places.
 
-ghost use Rattle.std.specs.Prelude.{◌+◌, [], take, IfOk, IfErr};
+ghost use Rattle.std.specs.Prelude.{◌≡◌, ◌+◌, [], take, IfOk, IfErr};
 ghost use Rattle.lam_scope.specs.Places.{places_of};
-ghost use Rattle.lam_scope.specs.Views.{statements_of};
+ghost use Rattle.lam_scope.specs.Views.{statements_of, origins_of};
 ghost use Rattle.lam_scope.specs.WellFormed.{AreWellFormedStatements};
 ghost use Rattle.lam_typing.specs.Walk.{IsSoundWalk};
-ghost use Rattle.lam_typing.specs.Typings.{IsAnalysis, IsFaultOf, up_to, Begins, IsEndOf};
+ghost use Rattle.lam_typing.specs.Typings.{IsAnalysis, IsTypingOf, AreEntries, dialect_of, IsFaultOf, up_to, Begins, Completes, IsEndOf};
+ghost use Rattle.lam_typing.specs.declared.fault.TypingFault.TheVariants.{Memory};
 
 use crate::fault::TypingFault;
+use crate::noting::note_statements;
 use crate::typing::Typing;
 use crate::walking::{Leaves, Stop, Walk, walk_statements};
 use lam_rules::{Dialect, Shape, TyTable};
@@ -18,6 +20,9 @@ use std::alloc::{AllocError, Global};
 pub fn analyse(alloc: Global, resolved: &Resolved, dialect: Dialect) -> Result<Typing, TypingFault>
     requires { AreWellFormedStatements (statements_of resolved.now) }
     ensures analysis { IfOk result (λ typing. IsAnalysis (places_of [] (statements_of resolved.now)) typing dialect) }
+    ensures of { IfOk result (λ typing. IsTypingOf (statements_of resolved.now) typing) }
+    ensures entries { IfOk result (λ typing. AreEntries (statements_of resolved.now) (origins_of resolved.now) typing) }
+    ensures dialect { IfOk result (λ typing. dialect_of typing ≡ dialect) }
     ensures fault { IfErr result (λ fault. IsFaultOf fault (places_of [] (statements_of resolved.now)) dialect) }
 {
     analyse_up_to(alloc, resolved, None, dialect)
@@ -32,6 +37,9 @@ pub fn analyse_to(
 ) -> Result<Typing, TypingFault>
     requires { AreWellFormedStatements (statements_of resolved.now) }
     ensures analysis { IfOk result (λ typing. IsAnalysis (take (place.0 + 1) (places_of [] (statements_of resolved.now))) typing dialect) }
+    ensures of { IfOk result (λ typing. IsTypingOf (statements_of resolved.now) typing) }
+    ensures entries { IfOk result (λ typing. AreEntries (statements_of resolved.now) (origins_of resolved.now) typing) }
+    ensures dialect { IfOk result (λ typing. dialect_of typing ≡ dialect) }
     ensures fault { IfErr result (λ fault. IsFaultOf fault (take (place.0 + 1) (places_of [] (statements_of resolved.now))) dialect) }
 {
     analyse_up_to(alloc, resolved, Some(place), dialect)
@@ -45,6 +53,9 @@ fn analyse_up_to(
 ) -> Result<Typing, TypingFault>
     requires { AreWellFormedStatements (statements_of resolved.now) }
     ensures analysis { IfOk result (λ typing. IsAnalysis (up_to last (places_of [] (statements_of resolved.now))) typing dialect) }
+    ensures of { IfOk result (λ typing. IsTypingOf (statements_of resolved.now) typing) }
+    ensures entries { IfOk result (λ typing. AreEntries (statements_of resolved.now) (origins_of resolved.now) typing) }
+    ensures dialect { IfOk result (λ typing. dialect_of typing ≡ dialect) }
     ensures fault { IfErr result (λ fault. IsFaultOf fault (up_to last (places_of [] (statements_of resolved.now))) dialect) }
 {
     let Ok(mut walk) = start(alloc, last) else {
@@ -52,21 +63,70 @@ fn analyse_up_to(
     };
     let walked = walk_statements(alloc, &mut walk, resolved.statements(), dialect);
     match walked {
-        Ok(()) => Ok(Typing { walk }),
-        Err(stop) => stopped(walk, stop),
+        Ok(()) => complete(alloc, walk, resolved, dialect),
+        Err(stop) => end(alloc, walk, stop, resolved, dialect),
     }
 }
 
 /// What is known where a walk ended early: all that was asked for, or why not.
-fn stopped(walk: Walk, stop: Stop) -> Result<Typing, TypingFault>
-    requires { IsSoundWalk walk }
-    ensures { IsEndOf stop walk result }
+fn end(
+    alloc: Global,
+    walk: Walk,
+    stop: Stop,
+    resolved: &Resolved,
+    dialect: Dialect,
+) -> Result<Typing, TypingFault>
+    requires sound { IsSoundWalk walk }
+    requires wf { AreWellFormedStatements (statements_of resolved.now) }
+    ensures { IsEndOf stop walk (statements_of resolved.now) (origins_of resolved.now) result dialect }
 {
     match stop {
-        Stop::Enough => Ok(Typing { walk }),
+        Stop::Enough => complete(alloc, walk, resolved, dialect),
         Stop::TooLarge => Err(TypingFault::TooLarge(Place(walk.found.len()))),
         Stop::Memory => Err(TypingFault::Memory),
     }
+}
+
+/// What a walk found, with the entries that the places speak of.
+fn complete(
+    alloc: Global,
+    walk: Walk,
+    resolved: &Resolved,
+    dialect: Dialect,
+) -> Result<Typing, TypingFault>
+    requires sound { IsSoundWalk walk }
+    requires wf { AreWellFormedStatements (statements_of resolved.now) }
+    ensures completes { IfOk result (λ typing. Completes walk (statements_of resolved.now) (origins_of resolved.now) typing dialect) }
+    ensures fault { IfErr result (λ fault. fault ≡ Memory) }
+{
+    let Walk {
+        mut table,
+        leaves,
+        entries,
+        found,
+        blames,
+        last,
+    } = walk;
+    let Ok(notes) = note_statements(alloc, &mut table, &found, resolved.statements()) else {
+        return Err(TypingFault::Memory);
+    };
+    let Ok(origins) = resolved.origins().to_vec(alloc) else {
+        return Err(TypingFault::Memory);
+    };
+    let walk = Walk {
+        table,
+        leaves,
+        entries,
+        found,
+        blames,
+        last,
+    };
+    Ok(Typing {
+        walk,
+        notes,
+        origins,
+        dialect,
+    })
 }
 
 /// A walk that has found nothing yet.

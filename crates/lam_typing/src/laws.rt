@@ -41,8 +41,8 @@ pub fn never_blamed()
     ensures an_if { (s : Scope) (c a b : Term) (d : Dialect) → IsWellFormedScope s → IsTypeAt s c bool d → IsBlamed s (if_then_else c a b) d → ⊥ }
 {}
 
-/// Where each written type stands for a type, no place is to blame exactly where each command that
-/// binds or states a term has a type.
+/// Where each written type stands for a type, no place is to blame exactly where each definition and
+/// each evaluation has a type.
 pub fn typed_where_unblamed()
     ensures { (statements : List Statement) (d : Dialect) → AreWellFormedStatements statements → IsTypedWhereUnblamed statements d }
 {}

@@ -10,6 +10,8 @@ mod analysing;
 mod blame;
 mod fault;
 mod laws;
+mod noting;
+mod proving;
 mod reading;
 mod steps;
 mod typing;

@@ -1,7 +1,9 @@
 //! Answers by their number.
 
 ghost use Rattle.std.specs.Prelude.{◌≡◌, get_or, None};
+ghost use Rattle.lam_typing.specs.Notes.{written_number, bound_number};
 
+use crate::noting::Note;
 use lam_rules::TyNo;
 
 /// The answer of that number, if there are so many and it is one.
@@ -12,4 +14,24 @@ pub(crate) fn type_of_place(found: &[Option<TyNo>], number: usize) -> Option<TyN
         return None;
     }
     found[number]
+}
+
+/// What is written at the place of that number.
+pub(crate) fn written_at(notes: &[Note], number: usize) -> Option<TyNo>
+    ensures { result ≡ written_number notes.now number }
+{
+    if number >= notes.len() {
+        return None;
+    }
+    notes[number].written
+}
+
+/// The entry of the binder that the variable at the place of that number counts to.
+pub(crate) fn bound_at(notes: &[Note], number: usize) -> Option<TyNo>
+    ensures { result ≡ bound_number notes.now number }
+{
+    if number >= notes.len() {
+        return None;
+    }
+    notes[number].bound
 }

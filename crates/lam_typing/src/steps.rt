@@ -12,21 +12,25 @@ ghost use Rattle.lam_typing.specs.Answers.{answer, StandsIn};
 ghost use Rattle.lam_typing.specs.Progress.{if_all};
 ghost use Rattle.lam_typing.specs.Steps.{NatRule, LambdaRule, ApplyRule, AscribeRule, LetRule, IfRule, FixRule, ProjectRule, RecordRule};
 
-use lam_lattice::join;
+use lam_lattice::join_no;
 use lam_rules::{Dialect, Shape, Ty, TyNo, TyTable, labels_differ};
-use lam_sub::is_sub;
+use lam_sub::{Verdicts, is_sub_no};
 use std::alloc::{AllocError, Global};
 
 /// Whether one type is below another.
-fn is_below(table: &TyTable, lower: TyNo, upper: TyNo, dialect: Dialect) -> Result<bool, AllocError>
+fn is_below(
+    alloc: Global,
+    table: &TyTable,
+    lower: TyNo,
+    upper: TyNo,
+    dialect: Dialect,
+) -> Result<bool, AllocError>
     requires lower { Stands table.now lower }
     requires upper { Stands table.now upper }
     ensures { IfOk result (λ below. IsTrue below ↔ IsBelow (type_of table.now lower) (type_of table.now upper) dialect) }
 {
-    table.types_differ();
-    let lower_type = table.tree(lower)?;
-    let upper_type = table.tree(upper)?;
-    Ok(is_sub(&lower_type, &upper_type, dialect))
+    let mut verdicts = Verdicts::new(alloc, dialect);
+    is_sub_no(table, &mut verdicts, lower, upper)
 }
 
 /// The join of two types.
@@ -43,11 +47,8 @@ fn joined(
     ensures stands { IfOk result (λ made. Stands table.new made) }
     ensures join { IfOk result (λ made. IsJoin (type_of table.old left) (type_of table.old right) (type_of table.new made) dialect) }
 {
-    table.types_differ();
-    let left_type = table.tree(left)?;
-    let right_type = table.tree(right)?;
-    let made = join(alloc, &left_type, &right_type, dialect)?;
-    table.add(&made)
+    let mut verdicts = Verdicts::new(alloc, dialect);
+    join_no(table, &mut verdicts, left, right)
 }
 
 /// The two sides of an arrow.
@@ -81,6 +82,7 @@ pub(crate) fn added(table: &mut TyTable, written: &Option<Ty>) -> Result<Option<
 
 /// T-Succ, T-Pred and T-IsZero: an operand below Nat.
 pub(crate) fn of_number(
+    alloc: Global,
     table: &TyTable,
     operand: Option<TyNo>,
     nat_number: TyNo,
@@ -96,7 +98,7 @@ pub(crate) fn of_number(
     let Some(number) = operand else {
         return Ok(None);
     };
-    if is_below(table, number, nat_number, dialect)? {
+    if is_below(alloc, table, number, nat_number, dialect)? {
         Ok(Some(outcome))
     } else {
         Ok(None)
@@ -127,6 +129,7 @@ pub(crate) fn abstracted(
 
 /// T-App: an argument below the parameter.
 pub(crate) fn applied(
+    alloc: Global,
     table: &TyTable,
     function: Option<TyNo>,
     argument: Option<TyNo>,
@@ -146,7 +149,7 @@ pub(crate) fn applied(
     let Some((parameter, outcome)) = sides(table, function_number) else {
         return Ok(None);
     };
-    if is_below(table, argument_number, parameter, dialect)? {
+    if is_below(alloc, table, argument_number, parameter, dialect)? {
         Ok(Some(outcome))
     } else {
         Ok(None)
@@ -155,6 +158,7 @@ pub(crate) fn applied(
 
 /// T-Ascribe: a term below the type that is written.
 pub(crate) fn ascribed(
+    alloc: Global,
     table: &TyTable,
     written: Option<TyNo>,
     operand: Option<TyNo>,
@@ -171,7 +175,7 @@ pub(crate) fn ascribed(
     let Some(number) = operand else {
         return Ok(None);
     };
-    if is_below(table, number, written_number, dialect)? {
+    if is_below(alloc, table, number, written_number, dialect)? {
         Ok(Some(written_number))
     } else {
         Ok(None)
@@ -215,7 +219,7 @@ pub(crate) fn chosen(
     let Some(else_number) = else_branch else {
         return Ok(None);
     };
-    if !is_below(table, condition_number, bool_number, dialect)? {
+    if !is_below(alloc, table, condition_number, bool_number, dialect)? {
         return Ok(None);
     }
     let number = joined(alloc, table, then_number, else_number, dialect)?;
@@ -224,6 +228,7 @@ pub(crate) fn chosen(
 
 /// T-Fix: a function whose result is below its parameter.
 pub(crate) fn fixed(
+    alloc: Global,
     table: &TyTable,
     operand: Option<TyNo>,
     dialect: Dialect,
@@ -238,7 +243,7 @@ pub(crate) fn fixed(
     let Some((parameter, outcome)) = sides(table, number) else {
         return Ok(None);
     };
-    if is_below(table, outcome, parameter, dialect)? {
+    if is_below(alloc, table, outcome, parameter, dialect)? {
         Ok(Some(outcome))
     } else {
         Ok(None)

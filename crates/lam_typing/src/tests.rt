@@ -1,7 +1,7 @@
 //! Rows: documents, the types of their places, and what is to blame.
 use crate::{Typing, TypingFault, analyse, analyse_to};
-use lam_rules::Dialect;
-use lam_scope::{Place, Resolved, Scopes, bind, resolve};
+use lam_rules::{Dialect, Ty, check_type, text_of};
+use lam_scope::{Binder, Place, Resolved, Scopes, Statement, bind, resolve};
 use lam_syntax::{Command, parse, pieces};
 use lam_token::lex;
 use std::alloc::Global;
@@ -209,5 +209,192 @@ fn the_first_type_that_is_too_large_is_refused(rt: HostRuntime) -> Result<(), Fa
     let too_large = Some(start + 17);
     assert_eq!(rt; first_too_large(&rt, alloc, &text, None)?, too_large);
     assert_eq!(rt; first_too_large(&rt, alloc, &text, Some(Place(2)))?, None);
+    Ok(())
+}
+
+/// The entries of the binders that a place sees, the outermost first.
+fn context_of(
+    alloc: Global,
+    scopes: &Scopes,
+    typing: &Typing,
+    place: Place,
+) -> Result<Vec<Option<Ty>>, Fail> {
+    let binders = scopes.visible_at(alloc, place)?;
+    let mut context = Vec::new(alloc);
+    for binder in &binders {
+        let entry = match typing.type_of_binder(*binder) {
+            Some(number) => Some(typing.table().tree(number)?),
+            None => None,
+        };
+        context.push(entry)?;
+    }
+    Ok(context)
+}
+
+/// The place of the last command's term, which is the last one.
+fn last_place(scopes: &Scopes) -> Place {
+    let mut last = Place(0);
+    for number in 0..64 {
+        if scopes.span_of(Place(number)).end > 0 {
+            last = Place(number);
+        }
+    }
+    last
+}
+
+/// The text of the type that is proved of the last command's term; each proof passes the check.
+fn proved_type(
+    rt: &impl Abort,
+    alloc: Global,
+    text: &str,
+    dialect: Dialect,
+) -> Result<Option<String>, Fail> {
+    let commands = commands_of(rt, alloc, text)?;
+    let scopes = bind(alloc, &commands)?;
+    let resolved = resolve(alloc, &commands, &scopes)
+        .ok()
+        .expect(rt, "expansions within the limit");
+    let typing = analyse(alloc, &resolved, dialect)
+        .ok()
+        .expect(rt, "types within the limit");
+    let place = last_place(&scopes);
+    let Some(proof) = typing.prove_at(alloc, &resolved, place)? else {
+        return Ok(None);
+    };
+    let context = context_of(alloc, &scopes, &typing, place)?;
+    let Some(Statement::Evaluation(term)) = resolved.statements().last() else {
+        return Ok(None);
+    };
+    if !check_type(&context, term, &proof, dialect) {
+        return Ok(None);
+    }
+    Ok(Some(text_of(alloc, &proof.ty)?))
+}
+
+#[test]
+fn each_proof_is_one_of_the_type_that_is_shown(rt: HostRuntime) -> Result<(), Fail> {
+    let one = Dialect::One;
+    let two = Dialect::Two;
+    let rows = [
+        ("if true then {a=0} else {b=0}", one, Some("{}")),
+        ("fix (lambda x:Top. 0)", one, Some("Nat")),
+        (
+            "lambda c:Bool. if c then (lambda x:Nat. x) else (lambda x:Bool. 0)",
+            two,
+            Some("Bool->Bool->Nat"),
+        ),
+        ("(lambda r:{x:Nat}. r.x) {y=true, x=0}", one, Some("Nat")),
+        ("f : {a:Nat}->Nat; r = {b=true, a=0}; f r", one, Some("Nat")),
+        (
+            "let y = {b=0, a=true} in if y.a then y else {a=false}",
+            one,
+            Some("{a:Bool}"),
+        ),
+        ("Y = Q; z : Y; lambda x:Nat. x", one, Some("Nat->Nat")),
+        ("(iszero (succ (pred 0))) as Top", one, Some("Top")),
+        ("succ true", two, Some("Nat")),
+        ("letrec f:Nat->Top = lambda n:Nat. n in f unit", one, None),
+        (
+            "letrec f:Nat->Top = lambda n:Nat. n in f 0",
+            one,
+            Some("Nat"),
+        ),
+        ("unit false", one, None),
+        ("{a=0, a=1}", one, None),
+    ];
+    let alloc = rt.alloc();
+    for (text, dialect, expected) in rows {
+        let shown = proved_type(&rt, alloc, text, dialect)?;
+        assert_eq!(rt; shown.as_deref(), expected, "{text:?}");
+    }
+    Ok(())
+}
+
+#[test]
+fn each_binder_has_its_least_entry(rt: HostRuntime) -> Result<(), Fail> {
+    let text = "T = Nat; x = {b=0, a=true}; y : T->Q; z : T->T; lambda w:T. let v = w true in v";
+    let expected = [
+        None,
+        Some("{a:Bool, b:Nat}"),
+        None,
+        Some("Nat->Nat"),
+        Some("Nat"),
+        None,
+        None,
+    ];
+    let alloc = rt.alloc();
+    let commands = commands_of(&rt, alloc, text)?;
+    let scopes = bind(alloc, &commands)?;
+    let resolved = resolve(alloc, &commands, &scopes)
+        .ok()
+        .expect(&rt, "expansions within the limit");
+    let typing = analyse(alloc, &resolved, Dialect::One)
+        .ok()
+        .expect(&rt, "types within the limit");
+    for number in 0..expected.len() {
+        let shown = match typing.type_of_binder(Binder(number)) {
+            Some(entry) => Some(typing.table().text(entry)?),
+            None => None,
+        };
+        assert_eq!(rt; shown.as_deref(), expected[number], "binder {number}");
+    }
+    Ok(())
+}
+
+/// A word, so many times over, and an end.
+fn repeated(alloc: Global, word: &str, times: usize, end: &str) -> Result<String, Fail> {
+    let mut text = String::new(alloc);
+    for _ in 0..times {
+        text.push_str(word)?;
+    }
+    text.push_str(end)?;
+    Ok(text)
+}
+
+/// A word so many times, something, and another word as often.
+fn nested(
+    alloc: Global,
+    before: &str,
+    times: usize,
+    inside: &str,
+    after: &str,
+) -> Result<String, Fail> {
+    let mut text = repeated(alloc, before, times, inside)?;
+    let end = repeated(alloc, after, times, "")?;
+    text.push_str(&end)?;
+    Ok(text)
+}
+
+#[test]
+fn the_deepest_commands_are_analysed_and_proved(rt: HostRuntime) -> Result<(), Fail> {
+    let alloc = rt.alloc();
+    let rows = [
+        (nested(alloc, "succ (", 666, "0", ")")?, Some(666)),
+        (repeated(alloc, "0 ", 1999, "0")?, None),
+        (repeated(alloc, "lambda x:Nat. ", 399, "x")?, Some(399)),
+        (nested(alloc, "(", 999, "0", ")")?, Some(0)),
+        (nested(alloc, "{a=", 499, "0", "}")?, Some(499)),
+    ];
+    for (text, last) in &rows {
+        let tokens = lex(alloc, text)?;
+        let parts = pieces(alloc, tokens.as_slice())?;
+        let mut commands = Vec::new(alloc);
+        for piece in &parts {
+            if let Ok(command) = parse(alloc, piece) {
+                commands.push(command)?;
+            }
+        }
+        let scopes = bind(alloc, &commands)?;
+        let resolved = resolve(alloc, &commands, &scopes)
+            .ok()
+            .expect(&rt, "expansions within the limit");
+        let typing = analyse(alloc, &resolved, Dialect::One)
+            .ok()
+            .expect(&rt, "types within the limit");
+        if let Some(place) = last {
+            let proof = typing.prove_at(alloc, &resolved, Place(*place))?;
+            assert!(rt; proof.is_some(), "place {place}");
+        }
+    }
     Ok(())
 }

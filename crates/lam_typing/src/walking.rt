@@ -205,7 +205,14 @@ fn walk_succ(
     ensures stopped { IfErr result (λ stop. HasStopped stop w.old w.new (succ (term_of operand.now)) dialect) }
 {
     let part = walk_term(alloc, w, operand, dialect)?;
-    let found = of_number(&w.table, part, w.leaves.natural, w.leaves.natural, dialect)?;
+    let found = of_number(
+        alloc,
+        &w.table,
+        part,
+        w.leaves.natural,
+        w.leaves.natural,
+        dialect,
+    )?;
     let blame = blame_if(part.is_some(), found, "E6");
     settle(w, found, blame)
 }
@@ -224,7 +231,14 @@ fn walk_pred(
     ensures stopped { IfErr result (λ stop. HasStopped stop w.old w.new (pred (term_of operand.now)) dialect) }
 {
     let part = walk_term(alloc, w, operand, dialect)?;
-    let found = of_number(&w.table, part, w.leaves.natural, w.leaves.natural, dialect)?;
+    let found = of_number(
+        alloc,
+        &w.table,
+        part,
+        w.leaves.natural,
+        w.leaves.natural,
+        dialect,
+    )?;
     let blame = blame_if(part.is_some(), found, "E6");
     settle(w, found, blame)
 }
@@ -243,7 +257,14 @@ fn walk_is_zero(
     ensures stopped { IfErr result (λ stop. HasStopped stop w.old w.new (is_zero (term_of operand.now)) dialect) }
 {
     let part = walk_term(alloc, w, operand, dialect)?;
-    let found = of_number(&w.table, part, w.leaves.natural, w.leaves.boolean, dialect)?;
+    let found = of_number(
+        alloc,
+        &w.table,
+        part,
+        w.leaves.natural,
+        w.leaves.boolean,
+        dialect,
+    )?;
     let blame = blame_if(part.is_some(), found, "E6");
     settle(w, found, blame)
 }
@@ -288,7 +309,7 @@ fn walk_apply(
 {
     let first = walk_term(alloc, w, function, dialect)?;
     let second = walk_term(alloc, w, argument, dialect)?;
-    let found = applied(&w.table, first, second, dialect)?;
+    let found = applied(alloc, &w.table, first, second, dialect)?;
     let code = application_code(&w.table, first);
     let blame = blame_if(are_both_found(first, second), found, code);
     settle(w, found, blame)
@@ -311,7 +332,7 @@ fn walk_ascribe(
 {
     let part = walk_term(alloc, w, operand, dialect)?;
     let entry = added(&mut w.table, written)?;
-    let found = ascribed(&w.table, entry, part, dialect)?;
+    let found = ascribed(alloc, &w.table, entry, part, dialect)?;
     let blame = blame_if(are_both_found(part, entry), found, "E7");
     settle(w, found, blame)
 }
@@ -392,7 +413,7 @@ fn walk_fix(
     ensures stopped { IfErr result (λ stop. HasStopped stop w.old w.new (fix (term_of operand.now)) dialect) }
 {
     let part = walk_term(alloc, w, operand, dialect)?;
-    let found = fixed(&w.table, part, dialect)?;
+    let found = fixed(alloc, &w.table, part, dialect)?;
     let blame = blame_if(part.is_some(), found, "E8");
     settle(w, found, blame)
 }
@@ -442,7 +463,7 @@ fn walk_variable(w: &mut Walk, count: usize, dialect: Dialect) -> Result<Option<
 }
 
 /// The entry of the binder that a count finds, counted from the innermost one.
-fn entry_of(entries: &[Option<TyNo>], count: usize) -> Option<TyNo>
+pub(crate) fn entry_of(entries: &[Option<TyNo>], count: usize) -> Option<TyNo>
     requires { count < length entries.now }
     ensures entry { (ts : List Typ) → answer ts result ≡ entry_at count (context_under ts entries.now) }
     ensures stands { (ts : List Typ) → AllStandIn ts entries.now → StandsIn ts result }

@@ -21,61 +21,61 @@ use Rattle.lam_lattice.proofs.bounds.+bounds.Goals as goal
 pub join-meet-requires : goal.join-meet-requires
 join-meet-requires t c = (
   omega (arith, c.decreases, nodes_of_arrow c.args.left.now c.deref.result.now _ _ _ c.in-Arrow.is c.deref.ensures refl),
-  ((arrow_wf c.args.left.now c.deref.result.now _ _ _ c.in-Arrow.is c.deref.ensures refl c.requires.left).0, (arrow_wf c.args.right.now c.deref-in-Arrow-right.result.now _ _ _ c.in-Arrow-right.is c.deref-in-Arrow-right.ensures refl c.requires.right).0),
+  ((arrow_wf c.args.left.now c.deref.result.now _ _ _ c.in-Arrow.is c.deref.ensures refl c.requires.left).0, (arrow_wf c.args.right.now c.deref-in-Arrow.result.now _ _ _ c.in-Arrow-right.is c.deref-in-Arrow.ensures refl c.requires.right).0),
 )
 
 pub join-returns-in_default-2 : goal.join-returns-in_default-2
 join-returns-in_default-2 t c =
     let left = arrow_seen c.args.left.now c.deref.result.now c.in-Arrow.left_outcome.value _ _ c.in-Arrow.is c.deref.ensures refl in
-    let right = arrow_seen c.args.right.now c.deref-in-Arrow-right.result.now c.in-Arrow-right.right_outcome.value _ _ c.in-Arrow-right.is c.deref-in-Arrow-right.ensures refl in
-    let none : HaveNoMeet (typ_of c.deref.result.now) (typ_of c.deref-in-Arrow-right.result.now) c.args.dialect =
-    subst (λ o. IfNone o (HaveNoMeet (typ_of c.deref.result.now) (typ_of c.deref-in-Arrow-right.result.now) c.args.dialect)) c.in_default-2.is c.in_ok-parameter-in-Arrow-right.ensures.none in
+    let right = arrow_seen c.args.right.now c.deref-in-Arrow.result.now c.in-Arrow-right.right_outcome.value _ _ c.in-Arrow-right.is c.deref-in-Arrow.ensures refl in
+    let none : HaveNoMeet (typ_of c.deref.result.now) (typ_of c.deref-in-Arrow.result.now) c.args.dialect =
+    subst (λ o. IfNone o (HaveNoMeet (typ_of c.deref.result.now) (typ_of c.deref-in-Arrow.result.now) c.args.dialect)) c.in_default-2.is c.in_ok-parameter-in-Arrow.ensures.none in
     join_seen (typ_of c.args.left.now) (typ_of c.args.right.now) (typ_of Top) _ _ _ c.args.dialect left right (sym typ_of-Top)
-    (arrows_join_top (typ_of c.deref.result.now) (typ_of c.in-Arrow.left_outcome.value) (typ_of c.deref-in-Arrow-right.result.now) (typ_of c.in-Arrow-right.right_outcome.value) c.args.dialect
+    (arrows_join_top (typ_of c.deref.result.now) (typ_of c.in-Arrow.left_outcome.value) (typ_of c.deref-in-Arrow.result.now) (typ_of c.in-Arrow-right.right_outcome.value) c.args.dialect
     (subst (λ s. IsWellFormed s) (sym left) c.requires.left) (subst (λ s. IsWellFormed s) (sym right) c.requires.right) none)
 
 pub join-join-requires : goal.join-join-requires
 join-join-requires t c = (
-  omega (arith, c.decreases, nodes_of_arrow c.args.left.now _ c.deref-in-Arrow-right-2.result.now _ _ c.in-Arrow.is refl c.deref-in-Arrow-right-2.ensures),
-  ((arrow_wf c.args.left.now _ c.deref-in-Arrow-right-2.result.now _ _ c.in-Arrow.is refl c.deref-in-Arrow-right-2.ensures c.requires.left).1, (arrow_wf c.args.right.now _ c.deref-in-Arrow-right-3.result.now _ _ c.in-Arrow-right.is refl c.deref-in-Arrow-right-3.ensures c.requires.right).1),
+  omega (arith, c.decreases, nodes_of_arrow c.args.left.now _ c.deref-in-Arrow-2.result.now _ _ c.in-Arrow.is refl c.deref-in-Arrow-2.ensures),
+  ((arrow_wf c.args.left.now _ c.deref-in-Arrow-2.result.now _ _ c.in-Arrow.is refl c.deref-in-Arrow-2.ensures c.requires.left).1, (arrow_wf c.args.right.now _ c.deref-in-Arrow-3.result.now _ _ c.in-Arrow-right.is refl c.deref-in-Arrow-3.ensures c.requires.right).1),
 )
 
-pub join-returns-in_ok-outcome-in-Arrow-right : goal.join-returns-in_ok-outcome-in-Arrow-right
-join-returns-in_ok-outcome-in-Arrow-right t c =
-    let parameter : IsMeet (typ_of c.deref.result.now) (typ_of c.deref-in-Arrow-right.result.now) (typ_of c.in-Some.parameter) c.args.dialect =
-    subst (λ o. IfSome o (λ made. IsMeet (typ_of c.deref.result.now) (typ_of c.deref-in-Arrow-right.result.now) (typ_of made) c.args.dialect)) c.in-Some.is c.in_ok-parameter-in-Arrow-right.ensures.some in
-    let join = arrows_join (typ_of c.deref.result.now) (typ_of c.deref-in-Arrow-right-2.result.now) (typ_of c.deref-in-Arrow-right.result.now) (typ_of c.deref-in-Arrow-right-3.result.now) (typ_of c.in-Some.parameter) (typ_of c.in_ok-outcome-in-Arrow-right.outcome) c.args.dialect parameter c.in_ok-outcome-in-Arrow-right.ensures in
+pub join-returns-in_ok-outcome-in-Arrow : goal.join-returns-in_ok-outcome-in-Arrow
+join-returns-in_ok-outcome-in-Arrow t c =
+    let parameter : IsMeet (typ_of c.deref.result.now) (typ_of c.deref-in-Arrow.result.now) (typ_of c.in-Some.parameter) c.args.dialect =
+    subst (λ o. IfSome o (λ made. IsMeet (typ_of c.deref.result.now) (typ_of c.deref-in-Arrow.result.now) (typ_of made) c.args.dialect)) c.in-Some.is c.in_ok-parameter-in-Arrow.ensures.some in
+    let join = arrows_join (typ_of c.deref.result.now) (typ_of c.deref-in-Arrow-2.result.now) (typ_of c.deref-in-Arrow.result.now) (typ_of c.deref-in-Arrow-3.result.now) (typ_of c.in-Some.parameter) (typ_of c.in_ok-outcome-in-Arrow.outcome) c.args.dialect parameter c.in_ok-outcome-in-Arrow.ensures in
     IfOk-weaker c.make_arrow.result _ (λ made. IsJoin (typ_of c.args.left.now) (typ_of c.args.right.now) (typ_of made) c.args.dialect)
-    (λ made is. join_seen (typ_of c.args.left.now) (typ_of c.args.right.now) (typ_of made) _ _ _ c.args.dialect (arrow_seen c.args.left.now c.deref.result.now c.deref-in-Arrow-right-2.result.now _ _ c.in-Arrow.is c.deref.ensures c.deref-in-Arrow-right-2.ensures) (arrow_seen c.args.right.now c.deref-in-Arrow-right.result.now c.deref-in-Arrow-right-3.result.now _ _ c.in-Arrow-right.is c.deref-in-Arrow-right.ensures c.deref-in-Arrow-right-3.ensures) (sym is) join)
+    (λ made is. join_seen (typ_of c.args.left.now) (typ_of c.args.right.now) (typ_of made) _ _ _ c.args.dialect (arrow_seen c.args.left.now c.deref.result.now c.deref-in-Arrow-2.result.now _ _ c.in-Arrow.is c.deref.ensures c.deref-in-Arrow-2.ensures) (arrow_seen c.args.right.now c.deref-in-Arrow.result.now c.deref-in-Arrow-3.result.now _ _ c.in-Arrow-right.is c.deref-in-Arrow.ensures c.deref-in-Arrow-3.ensures) (sym is) join)
     c.make_arrow.ensures
 
 pub meet-meet-requires : goal.meet-meet-requires
 meet-meet-requires t c = (
   omega (arith, c.decreases, nodes_of_arrow c.args.left.now _ c.deref.result.now _ _ c.in-Arrow.is refl c.deref.ensures),
-  ((arrow_wf c.args.left.now _ c.deref.result.now _ _ c.in-Arrow.is refl c.deref.ensures c.requires.left).1, (arrow_wf c.args.right.now _ c.deref-in-Arrow-right.result.now _ _ c.in-Arrow-right.is refl c.deref-in-Arrow-right.ensures c.requires.right).1),
+  ((arrow_wf c.args.left.now _ c.deref.result.now _ _ c.in-Arrow.is refl c.deref.ensures c.requires.left).1, (arrow_wf c.args.right.now _ c.deref-in-Arrow.result.now _ _ c.in-Arrow-right.is refl c.deref-in-Arrow.ensures c.requires.right).1),
 )
 
 pub meet-returns-in_default-2-clause-none : goal.meet-returns-in_default-2-clause-none
 meet-returns-in_default-2-clause-none t c =
     let left = arrow_seen c.args.left.now c.in-Arrow.left_parameter.value c.deref.result.now _ _ c.in-Arrow.is refl c.deref.ensures in
-    let right = arrow_seen c.args.right.now c.in-Arrow-right.right_parameter.value c.deref-in-Arrow-right.result.now _ _ c.in-Arrow-right.is refl c.deref-in-Arrow-right.ensures in
-    let none : HaveNoMeet (typ_of c.deref.result.now) (typ_of c.deref-in-Arrow-right.result.now) c.args.dialect =
-    subst (λ o. IfNone o (HaveNoMeet (typ_of c.deref.result.now) (typ_of c.deref-in-Arrow-right.result.now) c.args.dialect)) c.in_default-2.is c.in_ok-outcome-in-Arrow-right.ensures.none in
+    let right = arrow_seen c.args.right.now c.in-Arrow-right.right_parameter.value c.deref-in-Arrow.result.now _ _ c.in-Arrow-right.is refl c.deref-in-Arrow.ensures in
+    let none : HaveNoMeet (typ_of c.deref.result.now) (typ_of c.deref-in-Arrow.result.now) c.args.dialect =
+    subst (λ o. IfNone o (HaveNoMeet (typ_of c.deref.result.now) (typ_of c.deref-in-Arrow.result.now) c.args.dialect)) c.in_default-2.is c.in_ok-outcome-in-Arrow.ensures.none in
     no_meet_seen (typ_of c.args.left.now) (typ_of c.args.right.now) _ _ c.args.dialect left right
-    (arrows_no_meet (typ_of c.in-Arrow.left_parameter.value) (typ_of c.deref.result.now) (typ_of c.in-Arrow-right.right_parameter.value) (typ_of c.deref-in-Arrow-right.result.now) c.args.dialect none)
+    (arrows_no_meet (typ_of c.in-Arrow.left_parameter.value) (typ_of c.deref.result.now) (typ_of c.in-Arrow-right.right_parameter.value) (typ_of c.deref-in-Arrow.result.now) c.args.dialect none)
 
 pub meet-join-requires : goal.meet-join-requires
 meet-join-requires t c = (
-  omega (arith, c.decreases, nodes_of_arrow c.args.left.now c.deref-in-Arrow-right-2.result.now _ _ _ c.in-Arrow.is c.deref-in-Arrow-right-2.ensures refl),
-  ((arrow_wf c.args.left.now c.deref-in-Arrow-right-2.result.now _ _ _ c.in-Arrow.is c.deref-in-Arrow-right-2.ensures refl c.requires.left).0, (arrow_wf c.args.right.now c.deref-in-Arrow-right-3.result.now _ _ _ c.in-Arrow-right.is c.deref-in-Arrow-right-3.ensures refl c.requires.right).0),
+  omega (arith, c.decreases, nodes_of_arrow c.args.left.now c.deref-in-Arrow-2.result.now _ _ _ c.in-Arrow.is c.deref-in-Arrow-2.ensures refl),
+  ((arrow_wf c.args.left.now c.deref-in-Arrow-2.result.now _ _ _ c.in-Arrow.is c.deref-in-Arrow-2.ensures refl c.requires.left).0, (arrow_wf c.args.right.now c.deref-in-Arrow-3.result.now _ _ _ c.in-Arrow-right.is c.deref-in-Arrow-3.ensures refl c.requires.right).0),
 )
 
-pub meet-returns-in_ok-made-in-Arrow-right-clause-some : goal.meet-returns-in_ok-made-in-Arrow-right-clause-some
-meet-returns-in_ok-made-in-Arrow-right-clause-some t c =
-    let outcome : IsMeet (typ_of c.deref.result.now) (typ_of c.deref-in-Arrow-right.result.now) (typ_of c.in-Some.outcome) c.args.dialect =
-    subst (λ o. IfSome o (λ made. IsMeet (typ_of c.deref.result.now) (typ_of c.deref-in-Arrow-right.result.now) (typ_of made) c.args.dialect)) c.in-Some.is c.in_ok-outcome-in-Arrow-right.ensures.some in
-    meet_seen (typ_of c.args.left.now) (typ_of c.args.right.now) (typ_of c.in_ok-made-in-Arrow-right.made) _ _ _ c.args.dialect (arrow_seen c.args.left.now c.deref-in-Arrow-right-2.result.now c.deref.result.now _ _ c.in-Arrow.is c.deref-in-Arrow-right-2.ensures c.deref.ensures) (arrow_seen c.args.right.now c.deref-in-Arrow-right-3.result.now c.deref-in-Arrow-right.result.now _ _ c.in-Arrow-right.is c.deref-in-Arrow-right-3.ensures c.deref-in-Arrow-right.ensures) (sym c.in_ok-made-in-Arrow-right.ensures)
-    (arrows_meet (typ_of c.deref-in-Arrow-right-2.result.now) (typ_of c.deref.result.now) (typ_of c.deref-in-Arrow-right-3.result.now) (typ_of c.deref-in-Arrow-right.result.now) (typ_of c.in_ok-parameter-in-Arrow-right.parameter) (typ_of c.in-Some.outcome) c.args.dialect c.in_ok-parameter-in-Arrow-right.ensures outcome)
+pub meet-returns-in_ok-made-in-Arrow-clause-some : goal.meet-returns-in_ok-made-in-Arrow-clause-some
+meet-returns-in_ok-made-in-Arrow-clause-some t c =
+    let outcome : IsMeet (typ_of c.deref.result.now) (typ_of c.deref-in-Arrow.result.now) (typ_of c.in-Some.outcome) c.args.dialect =
+    subst (λ o. IfSome o (λ made. IsMeet (typ_of c.deref.result.now) (typ_of c.deref-in-Arrow.result.now) (typ_of made) c.args.dialect)) c.in-Some.is c.in_ok-outcome-in-Arrow.ensures.some in
+    meet_seen (typ_of c.args.left.now) (typ_of c.args.right.now) (typ_of c.in_ok-made-in-Arrow.made) _ _ _ c.args.dialect (arrow_seen c.args.left.now c.deref-in-Arrow-2.result.now c.deref.result.now _ _ c.in-Arrow.is c.deref-in-Arrow-2.ensures c.deref.ensures) (arrow_seen c.args.right.now c.deref-in-Arrow-3.result.now c.deref-in-Arrow.result.now _ _ c.in-Arrow-right.is c.deref-in-Arrow-3.ensures c.deref-in-Arrow.ensures) (sym c.in_ok-made-in-Arrow.ensures)
+    (arrows_meet (typ_of c.deref-in-Arrow-2.result.now) (typ_of c.deref.result.now) (typ_of c.deref-in-Arrow-3.result.now) (typ_of c.deref-in-Arrow.result.now) (typ_of c.in_ok-parameter-in-Arrow.parameter) (typ_of c.in-Some.outcome) c.args.dialect c.in_ok-parameter-in-Arrow.ensures outcome)
 
 -- two types that are not of one shape
 
@@ -101,50 +101,50 @@ meet-meet_unlike-requires-in_default t c = record { one = c.requires.left; other
 
 pub join-join_fields-requires : goal.join-join_fields-requires
 join-join_fields-requires t c =
-    let left = record_seen c.args.left.now _ c.deref-in-Record-right.result.now c.in-Record.is c.deref-in-Record-right.ensures.value in
-    let right = record_seen c.args.right.now _ c.deref-in-Record-right-2.result.now c.in-Record-right.is c.deref-in-Record-right-2.ensures.value in (
-      omega (arith, c.decreases, nodes_of_record c.args.left.now c.deref-in-Record-right.result.now left),
+    let left = record_seen c.args.left.now _ c.deref-in-Record.result.now c.in-Record.is c.deref-in-Record.ensures.value in
+    let right = record_seen c.args.right.now _ c.deref-in-Record-2.result.now c.in-Record-right.is c.deref-in-Record-2.ensures.value in (
+      omega (arith, c.decreases, nodes_of_record c.args.left.now c.deref-in-Record.result.now left),
       (subst (λ s. IsWellFormed s) (sym left) c.requires.left, subst (λ s. IsWellFormed s) (sym right) c.requires.right),
     )
 
 pub meet-meet_fields-requires : goal.meet-meet_fields-requires
 meet-meet_fields-requires t c =
-    let left = record_seen c.args.left.now _ c.deref-in-Record-right.result.now c.in-Record.is c.deref-in-Record-right.ensures.value in
-    let right = record_seen c.args.right.now _ c.deref-in-Record-right-2.result.now c.in-Record-right.is c.deref-in-Record-right-2.ensures.value in (
-      omega (arith, c.decreases, nodes_of_record c.args.left.now c.deref-in-Record-right.result.now left),
+    let left = record_seen c.args.left.now _ c.deref-in-Record.result.now c.in-Record.is c.deref-in-Record.ensures.value in
+    let right = record_seen c.args.right.now _ c.deref-in-Record-2.result.now c.in-Record-right.is c.deref-in-Record-2.ensures.value in (
+      omega (arith, c.decreases, nodes_of_record c.args.left.now c.deref-in-Record.result.now left),
       (subst (λ s. IsWellFormed s) (sym left) c.requires.left, subst (λ s. IsWellFormed s) (sym right) c.requires.right),
     )
 
-pub join-returns-in_ok-items-in-Record-right : goal.join-returns-in_ok-items-in-Record-right
-join-returns-in_ok-items-in-Record-right t c =
-    let left = record_seen c.args.left.now _ c.deref-in-Record-right.result.now c.in-Record.is c.deref-in-Record-right.ensures.value in
-    let right = record_seen c.args.right.now _ c.deref-in-Record-right-2.result.now c.in-Record-right.is c.deref-in-Record-right-2.ensures.value in
+pub join-returns-in_ok-items-in-Record : goal.join-returns-in_ok-items-in-Record
+join-returns-in_ok-items-in-Record t c =
+    let left = record_seen c.args.left.now _ c.deref-in-Record.result.now c.in-Record.is c.deref-in-Record.ensures.value in
+    let right = record_seen c.args.right.now _ c.deref-in-Record-2.result.now c.in-Record-right.is c.deref-in-Record-2.ensures.value in
     let wf_left = subst (λ s. IsWellFormed s) (sym left) c.requires.left in
     let wf_right = subst (λ s. IsWellFormed s) (sym right) c.requires.right in
     join_seen (typ_of c.args.left.now) (typ_of c.args.right.now) (typ_of c.make_record.result) _ _ _ c.args.dialect left right (sym c.make_record.ensures)
-    (records_join c.args.dialect (fields_of c.deref-in-Record-right.result.now) (fields_of c.deref-in-Record-right-2.result.now) (fields_of c.in_ok-items-in-Record-right.items.items) wf_left wf_right c.in_ok-items-in-Record-right.ensures)
+    (records_join c.args.dialect (fields_of c.deref-in-Record.result.now) (fields_of c.deref-in-Record-2.result.now) (fields_of c.in_ok-items-in-Record.items.items) wf_left wf_right c.in_ok-items-in-Record.ensures)
 
 pub meet-returns-in_default-3-clause-none : goal.meet-returns-in_default-3-clause-none
 meet-returns-in_default-3-clause-none t c =
-    let left = record_seen c.args.left.now _ c.deref-in-Record-right.result.now c.in-Record.is c.deref-in-Record-right.ensures.value in
-    let right = record_seen c.args.right.now _ c.deref-in-Record-right-2.result.now c.in-Record-right.is c.deref-in-Record-right-2.ensures.value in
-    let none : HaveNoMeet (record_of (fields_of c.deref-in-Record-right.result.now)) (record_of (fields_of c.deref-in-Record-right-2.result.now)) c.args.dialect =
-    subst (λ o. IfNone o (HaveNoMeet (record_of (fields_of c.deref-in-Record-right.result.now)) (record_of (fields_of c.deref-in-Record-right-2.result.now)) c.args.dialect)) c.in_default-3.is c.in_ok-met-in-Record-right.ensures.none in
+    let left = record_seen c.args.left.now _ c.deref-in-Record.result.now c.in-Record.is c.deref-in-Record.ensures.value in
+    let right = record_seen c.args.right.now _ c.deref-in-Record-2.result.now c.in-Record-right.is c.deref-in-Record-2.ensures.value in
+    let none : HaveNoMeet (record_of (fields_of c.deref-in-Record.result.now)) (record_of (fields_of c.deref-in-Record-2.result.now)) c.args.dialect =
+    subst (λ o. IfNone o (HaveNoMeet (record_of (fields_of c.deref-in-Record.result.now)) (record_of (fields_of c.deref-in-Record-2.result.now)) c.args.dialect)) c.in_default-3.is c.in_ok-met-in-Record.ensures.none in
     no_meet_seen (typ_of c.args.left.now) (typ_of c.args.right.now) _ _ c.args.dialect left right none
 
-pub meet-returns-in_ok-append_others-in-Record-right-clause-some : goal.meet-returns-in_ok-append_others-in-Record-right-clause-some
-meet-returns-in_ok-append_others-in-Record-right-clause-some t c =
-    let left = record_seen c.args.left.now _ c.deref-in-Record-right.result.now c.in-Record.is c.deref-in-Record-right.ensures.value in
-    let right = record_seen c.args.right.now _ c.deref-in-Record-right-2.result.now c.in-Record-right.is c.deref-in-Record-right-2.ensures.value in
+pub meet-returns-in_ok-append_others-in-Record-clause-some : goal.meet-returns-in_ok-append_others-in-Record-clause-some
+meet-returns-in_ok-append_others-in-Record-clause-some t c =
+    let left = record_seen c.args.left.now _ c.deref-in-Record.result.now c.in-Record.is c.deref-in-Record.ensures.value in
+    let right = record_seen c.args.right.now _ c.deref-in-Record-2.result.now c.in-Record-right.is c.deref-in-Record-2.ensures.value in
     let wf_left = subst (λ s. IsWellFormed s) (sym left) c.requires.left in
     let wf_right = subst (λ s. IsWellFormed s) (sym right) c.requires.right in
-    let met : AreMet c.args.dialect (fields_of c.deref-in-Record-right-2.result.now) (fields_of c.deref-in-Record-right.result.now) (fields_of c.in-Some-2.met.items) =
-    subst (λ o. IfSome o (λ made. AreMet c.args.dialect (fields_of c.deref-in-Record-right-2.result.now) (fields_of c.deref-in-Record-right.result.now) (fields_of made.items))) c.in-Some-2.is c.in_ok-met-in-Record-right.ensures.some in
-    let others = ap (λ gs. joined (fields_of c.in-Some-2.met.items) (other_fields (fields_of gs) (fields_of c.deref-in-Record-right-4.result.now))) (c.deref-in-Record-right-3.ensures.value ∙ sym c.deref-in-Record-right-2.ensures.value)
-    ∙ ap (λ fs. joined (fields_of c.in-Some-2.met.items) (other_fields (fields_of c.deref-in-Record-right-2.result.now) (fields_of fs))) (c.deref-in-Record-right-4.ensures.value ∙ sym c.deref-in-Record-right.ensures.value) in
+    let met : AreMet c.args.dialect (fields_of c.deref-in-Record-2.result.now) (fields_of c.deref-in-Record.result.now) (fields_of c.in-Some-2.met.items) =
+    subst (λ o. IfSome o (λ made. AreMet c.args.dialect (fields_of c.deref-in-Record-2.result.now) (fields_of c.deref-in-Record.result.now) (fields_of made.items))) c.in-Some-2.is c.in_ok-met-in-Record.ensures.some in
+    let others = ap (λ gs. joined (fields_of c.in-Some-2.met.items) (other_fields (fields_of gs) (fields_of c.deref-in-Record-4.result.now))) (c.deref-in-Record-3.ensures.value ∙ sym c.deref-in-Record-2.ensures.value)
+    ∙ ap (λ fs. joined (fields_of c.in-Some-2.met.items) (other_fields (fields_of c.deref-in-Record-2.result.now) (fields_of fs))) (c.deref-in-Record-4.ensures.value ∙ sym c.deref-in-Record.ensures.value) in
     meet_seen (typ_of c.args.left.now) (typ_of c.args.right.now) (typ_of c.make_record.result) _ _ _ c.args.dialect left right
-    (sym (c.make_record.ensures ∙ ap record_of (c.in_ok-append_others-in-Record-right.ensures ∙ others)))
-    (records_meet c.args.dialect (fields_of c.deref-in-Record-right.result.now) (fields_of c.deref-in-Record-right-2.result.now) (fields_of c.in-Some-2.met.items) wf_left wf_right met)
+    (sym (c.make_record.ensures ∙ ap record_of (c.in_ok-append_others-in-Record.ensures ∙ others)))
+    (records_meet c.args.dialect (fields_of c.deref-in-Record.result.now) (fields_of c.deref-in-Record-2.result.now) (fields_of c.in-Some-2.met.items) wf_left wf_right met)
 
 pub join_fields-join-requires : goal.join_fields-join-requires
 join_fields-join-requires t c =

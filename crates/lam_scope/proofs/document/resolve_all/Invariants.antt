@@ -6,8 +6,8 @@ use Rattle.lam_scope.proofs.document.resolve_all.Given as goal
 
 abbrev pub invariant-loop-i : goal.invariant-loop-i
 invariant-loop-i l = record {
-  statements : map statement_of l.resolver.statements.items ++ statements (abbreviations_of l.resolver.abbreviations.items) l.resolver.names (map command_of (drop l.i l.commands))
+  statements : map statement_of l.resolver.statements.items ++ statements (abbreviations_of l.resolver.abbreviations) l.resolver.names (map command_of (drop l.i l.commands))
       ≡ statements [] [] (map command_of l.commands);
-  faults : l.resolver.faults.items ++ faults (abbreviations_of l.resolver.abbreviations.items) (map command_of (drop l.i l.commands)) ≡ faults [] (map command_of l.commands);
-  limit : first_too_large [] (map command_of l.commands) ≡ first_too_large (abbreviations_of l.resolver.abbreviations.items) (map command_of (drop l.i l.commands));
+  faults : l.resolver.faults.items ++ faults (abbreviations_of l.resolver.abbreviations) (map command_of (drop l.i l.commands)) ≡ faults [] (map command_of l.commands);
+  limit : first_too_large [] (map command_of l.commands) ≡ first_too_large (abbreviations_of l.resolver.abbreviations) (map command_of (drop l.i l.commands));
 }

@@ -1,9 +1,10 @@
-use Rattle.std.proofs.Common.{◌≡◌, drop}
+use Rattle.std.proofs.Common.{◌≡◌, ◌+◌, ◌*◌, drop}
 use Rattle.lam_rules.specs.TermViews.{terms_of}
-use Rattle.lam_syntax.specs.Views.{fields_of}
+use Rattle.lam_syntax.specs.Views.{term_of, fields_of}
 use Rattle.lam_scope.specs.Nameless.{nameless_fields}
 use Rattle.lam_scope.specs.Views.{abbreviations_of}
 use Rattle.lam_scope.proofs.Forms.{joined_terms}
+use Rattle.lam_scope.proofs.TreeSizes.{tree_size, tree_sizes}
 use Rattle.lam_scope.proofs.nameless.+nameless.Given as goal
 
 abbrev pub invariant-nameless_fields-loop-i : goal.invariant-nameless_fields-loop-i
@@ -12,3 +13,42 @@ invariant-nameless_fields-loop-i l = record {
       ≡ nameless_fields (abbreviations_of l.seen) l.initial.names (fields_of l.fields);
   names : l.names ≡ l.initial.names;
 }
+
+abbrev pub decreases-nameless : goal.decreases-nameless
+decreases-nameless l = 4 * tree_size (term_of l.term.now)
+
+abbrev pub decreases-boxed : goal.decreases-boxed
+decreases-boxed l = 4 * tree_size (term_of l.term.now) + 1
+
+abbrev pub decreases-under : goal.decreases-under
+decreases-under l = 4 * tree_size (term_of l.body.now) + 1
+
+abbrev pub decreases-lambda_of : goal.decreases-lambda_of
+decreases-lambda_of l = 4 * tree_size (term_of l.body.now) + 2
+
+abbrev pub decreases-if_of : goal.decreases-if_of
+decreases-if_of l = 4 * (tree_size (term_of l.condition.now) + tree_size (term_of l.one.now) + tree_size (term_of l.other.now)) + 2
+
+abbrev pub decreases-let_of : goal.decreases-let_of
+decreases-let_of l = 4 * (tree_size (term_of l.bound.now) + tree_size (term_of l.body.now)) + 2
+
+abbrev pub decreases-letrec_of : goal.decreases-letrec_of
+decreases-letrec_of l = 4 * (tree_size (term_of l.bound.now) + tree_size (term_of l.body.now)) + 2
+
+abbrev pub decreases-prefixed_of : goal.decreases-prefixed_of
+decreases-prefixed_of l = 4 * tree_size (term_of l.operand.now) + 2
+
+abbrev pub decreases-apply_of : goal.decreases-apply_of
+decreases-apply_of l = 4 * (tree_size (term_of l.function.now) + tree_size (term_of l.argument.now)) + 2
+
+abbrev pub decreases-project_of : goal.decreases-project_of
+decreases-project_of l = 4 * tree_size (term_of l.operand.now) + 2
+
+abbrev pub decreases-ascribe_of : goal.decreases-ascribe_of
+decreases-ascribe_of l = 4 * tree_size (term_of l.operand.now) + 2
+
+abbrev pub decreases-record_of : goal.decreases-record_of
+decreases-record_of l = 4 * tree_sizes (fields_of l.fields.now) + 2
+
+abbrev pub decreases-nameless_fields : goal.decreases-nameless_fields
+decreases-nameless_fields l = 4 * tree_sizes (fields_of l.fields.now) + 1

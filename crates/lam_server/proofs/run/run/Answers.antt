@@ -1,42 +1,42 @@
 use Rattle.std.proofs.Common.{refl}
-use Rattle.lam_session.specs.State.{fresh}
+use Rattle.lam_session.specs.State.{fresh, dialect_of}
 use Rattle.lam_server.proofs.Telling.{run_told}
 use Rattle.lam_server.proofs.Walking.{no_run, no_walk, walk_on, walk_to_end, walk_to_fault}
 use Rattle.lam_server.proofs.run.run.Goals as goal
 
 pub returns-in_default-clause-runs : goal.returns-in_default-clause-runs
-returns-in_default-clause-runs g c = no_run g.R.Source.coming g.R.Source.failed g.R.Source.gave g.W.Sink.taken g.W.Sink.flushed g.W.Sink.failed fresh _ _
+returns-in_default-clause-runs g c = no_run g.R.Source.coming g.R.Source.failed g.R.Source.gave g.W.Sink.taken g.W.Sink.flushed g.W.Sink.failed (fresh (dialect_of c.args.config)) _ _
 
 pub returns-in_default-clause-told : goal.returns-in_default-clause-told
-returns-in_default-clause-told g c = run_told g.R.Source.coming g.R.Source.failed g.R.Source.gave g.W.Sink.taken g.W.Sink.flushed g.W.Sink.failed fresh _ _ _ _ _ (no_run g.R.Source.coming g.R.Source.failed g.R.Source.gave g.W.Sink.taken g.W.Sink.flushed g.W.Sink.failed fresh _ _)
+returns-in_default-clause-told g c = run_told g.R.Source.coming g.R.Source.failed g.R.Source.gave g.W.Sink.taken g.W.Sink.flushed g.W.Sink.failed (fresh (dialect_of c.args.config)) _ _ _ _ _ (no_run g.R.Source.coming g.R.Source.failed g.R.Source.gave g.W.Sink.taken g.W.Sink.flushed g.W.Sink.failed (fresh (dialect_of c.args.config)) _ _)
 
 pub loop-turn-init : goal.loop-turn-init
-loop-turn-init g c = rw c.in-Ok.ensures (no_walk g.R.Source.coming g.R.Source.failed g.R.Source.gave g.W.Sink.taken g.W.Sink.flushed g.W.Sink.failed fresh _ _ refl)
+loop-turn-init g c = rw c.in-Ok.ensures (no_walk g.R.Source.coming g.R.Source.failed g.R.Source.gave g.W.Sink.taken g.W.Sink.flushed g.W.Sink.failed (fresh (dialect_of c.args.config)) _ _ refl)
 
 pub turn-requires-clause-source : goal.turn-requires-clause-source
 turn-requires-clause-source g c = rw c.loop-turn.invariant.unfailed c.requires.source
 
 pub loop-turn-preserved : goal.loop-turn-preserved
 loop-turn-preserved g c =
-    walk_on g.R.Source.coming g.R.Source.failed g.R.Source.gave g.W.Sink.taken g.W.Sink.flushed g.W.Sink.failed fresh _ _ _ _ _ c.loop-turn.invariant c.in-More.next _ _
+    walk_on g.R.Source.coming g.R.Source.failed g.R.Source.gave g.W.Sink.taken g.W.Sink.flushed g.W.Sink.failed (fresh (dialect_of c.args.config)) _ _ _ _ _ c.loop-turn.invariant c.in-More.next _ _
     (rw c.in-More.is at c.in-Ok-turn.ensures.takes)
 
 pub returns-in-End-clause-runs : goal.returns-in-End-clause-runs
 returns-in-End-clause-runs g c =
-    walk_to_end g.R.Source.coming g.R.Source.failed g.R.Source.gave g.W.Sink.taken g.W.Sink.flushed g.W.Sink.failed fresh _ _ _ _ _ c.loop-turn.invariant c.in-End.status _ _
+    walk_to_end g.R.Source.coming g.R.Source.failed g.R.Source.gave g.W.Sink.taken g.W.Sink.flushed g.W.Sink.failed (fresh (dialect_of c.args.config)) _ _ _ _ _ c.loop-turn.invariant c.in-End.status _ _
     (rw c.in-End.is at c.in-Ok-turn.ensures.takes)
 
 pub returns-in-End-clause-told : goal.returns-in-End-clause-told
 returns-in-End-clause-told g c =
-    run_told g.R.Source.coming g.R.Source.failed g.R.Source.gave g.W.Sink.taken g.W.Sink.flushed g.W.Sink.failed fresh _ _ _ _ _
-    (walk_to_end g.R.Source.coming g.R.Source.failed g.R.Source.gave g.W.Sink.taken g.W.Sink.flushed g.W.Sink.failed fresh _ _ _ _ _ c.loop-turn.invariant c.in-End.status _ _
+    run_told g.R.Source.coming g.R.Source.failed g.R.Source.gave g.W.Sink.taken g.W.Sink.flushed g.W.Sink.failed (fresh (dialect_of c.args.config)) _ _ _ _ _
+    (walk_to_end g.R.Source.coming g.R.Source.failed g.R.Source.gave g.W.Sink.taken g.W.Sink.flushed g.W.Sink.failed (fresh (dialect_of c.args.config)) _ _ _ _ _ c.loop-turn.invariant c.in-End.status _ _
     (rw c.in-End.is at c.in-Ok-turn.ensures.takes))
 
 pub returns-in-Err-clause-runs : goal.returns-in-Err-clause-runs
 returns-in-Err-clause-runs g c =
-    walk_to_fault g.R.Source.coming g.R.Source.failed g.R.Source.gave g.W.Sink.taken g.W.Sink.flushed g.W.Sink.failed fresh _ _ _ _ _ c.loop-turn.invariant c.in-Err.fault _ _ c.in-Err.ensures.takes
+    walk_to_fault g.R.Source.coming g.R.Source.failed g.R.Source.gave g.W.Sink.taken g.W.Sink.flushed g.W.Sink.failed (fresh (dialect_of c.args.config)) _ _ _ _ _ c.loop-turn.invariant c.in-Err.fault _ _ c.in-Err.ensures.takes
 
 pub returns-in-Err-clause-told : goal.returns-in-Err-clause-told
 returns-in-Err-clause-told g c =
-    run_told g.R.Source.coming g.R.Source.failed g.R.Source.gave g.W.Sink.taken g.W.Sink.flushed g.W.Sink.failed fresh _ _ _ _ _
-    (walk_to_fault g.R.Source.coming g.R.Source.failed g.R.Source.gave g.W.Sink.taken g.W.Sink.flushed g.W.Sink.failed fresh _ _ _ _ _ c.loop-turn.invariant c.in-Err.fault _ _ c.in-Err.ensures.takes)
+    run_told g.R.Source.coming g.R.Source.failed g.R.Source.gave g.W.Sink.taken g.W.Sink.flushed g.W.Sink.failed (fresh (dialect_of c.args.config)) _ _ _ _ _
+    (walk_to_fault g.R.Source.coming g.R.Source.failed g.R.Source.gave g.W.Sink.taken g.W.Sink.flushed g.W.Sink.failed (fresh (dialect_of c.args.config)) _ _ _ _ _ c.loop-turn.invariant c.in-Err.fault _ _ c.in-Err.ensures.takes)

@@ -42,15 +42,15 @@ is_sub-returns-then-not-is_sub t c =
     arrows_fail _ _ _ c.is_sub.result
     (two_arrows c.args.lower.now c.args.upper.now _ _ _ _ c.args.dialect c.in-Arrow-lower.is c.in-Arrow.is)
     c.if-not-is_sub.true
-    (rw (sym c.deref.ensures, sym c.deref-in-Arrow-lower.ensures) c.is_sub.ensures)
+    (rw (sym c.deref.ensures, sym c.deref-in-Arrow.ensures) c.is_sub.ensures)
 
 pub is_sub-returns-else-not-is_sub : goal.is_sub-returns-else-not-is_sub
 is_sub-returns-else-not-is_sub t c =
-    arrows_rest _ _ _ c.is_sub.result c.is_sub-in-Arrow-lower.result
+    arrows_rest _ _ _ c.is_sub.result c.is_sub-in-Arrow.result
     (two_arrows c.args.lower.now c.args.upper.now _ _ _ _ c.args.dialect c.in-Arrow-lower.is c.in-Arrow.is)
     c.if-not-is_sub.false
-    (rw (sym c.deref.ensures, sym c.deref-in-Arrow-lower.ensures) c.is_sub.ensures)
-    (rw (sym c.deref-in-Arrow-lower-2.ensures, sym c.deref-in-Arrow-lower-3.ensures) c.is_sub-in-Arrow-lower.ensures)
+    (rw (sym c.deref.ensures, sym c.deref-in-Arrow.ensures) c.is_sub.ensures)
+    (rw (sym c.deref-in-Arrow-2.ensures, sym c.deref-in-Arrow-3.ensures) c.is_sub-in-Arrow.ensures)
 
 pub are_fields_sub-returns-in_default : goal.are_fields_sub-returns-in_default
 are_fields_sub-returns-in_default t c =

@@ -6,7 +6,7 @@ use Rattle.lam_rules.specs.Subtyping.{IsBelow}
 use Rattle.lam_sub.specs.Remembered.{AreRight}
 use Rattle.lam_sub.proofs.Below.{no_field, nodes_of_field, record_iff}
 use Rattle.lam_sub.proofs.ByVariant.{field_fails, field_holds, found_field, not_true, arrows_fail, arrows_rest}
-use Rattle.lam_sub.proofs.TableVerdicts.{nodes_sorted, sorted_verdict, equal_sorted, right_push, arrow_numbers, record_of_numbers, not_arrow_numbers, not_record_numbers, stand_in, number_first, number_item, number_has}
+use Rattle.lam_sub.proofs.TableVerdicts.{nodes_sorted, sorted_verdict, equal_sorted, arrow_numbers, record_of_numbers, not_arrow_numbers, not_record_numbers, stand_in, number_first, number_item, number_has}
 use Rattle.lam_sub.proofs.numbers.+is_sub_no.Goals as goal
 
 -- by the sorted forms
@@ -14,7 +14,7 @@ use Rattle.lam_sub.proofs.numbers.+is_sub_no.Goals as goal
 pub is_sub_no-returns-in-Some-clause-verdict : goal.is_sub_no-returns-in-Some-clause-verdict
 is_sub_no-returns-in-Some-clause-verdict t c =
     sorted_verdict (type_of c.args.table.now c.args.lower) (type_of c.args.table.now c.args.upper) _ _ c.args.verdicts.now.dialect c.in-Some.known (c.types_differ.ensures.wf c.args.lower.index c.requires.lower) (c.types_differ.ensures.wf c.args.upper.index c.requires.upper)
-    c.sorted-lower_sorted.ensures.sorted c.sorted-upper_sorted.ensures.sorted (c.in-Some.ensures c.args.table.now c.args.verdicts.now.dialect c.requires.right)
+    c.sorted-lower_sorted.ensures.sorted c.sorted-upper_sorted.ensures.sorted (c.in-Some.ensures c.args.table.now c.requires.right).verdict
 
 pub is_sub_no-returns-then-lower_sorted-upper_sorted-clause-verdict : goal.is_sub_no-returns-then-lower_sorted-upper_sorted-clause-verdict
 is_sub_no-returns-then-lower_sorted-upper_sorted-clause-verdict t c =
@@ -27,16 +27,23 @@ is_sub_no-compare-requires t c =
     let upper = ap nodes c.sorted-upper_sorted.ensures.sorted ∙ nodes_sorted (type_of c.args.table.now c.args.upper) in
     (omega (arith, c.decreases, lower, upper), (omega arith, (omega arith, c.requires.right)))
 
-pub is_sub_no-returns-clause-right : goal.is_sub_no-returns-clause-right
-is_sub_no-returns-clause-right t c =
-    subst (λ vs. AreRight c.args.table.now vs c.compare.new.verdicts.dialect) (sym c.in_ok-push.ensures.items)
-    (right_push c.args.table.now c.compare.new.verdicts.kept.items _ c.compare.new.verdicts.dialect c.in_ok-is_below.ensures.right
+pub is_sub_no-returns-in_err-keep_verdict-clause-right : goal.is_sub_no-returns-in_err-keep_verdict-clause-right
+is_sub_no-returns-in_err-keep_verdict-clause-right t c =
+    c.keep_verdict.ensures.right c.args.table.now c.in_ok-is_below.ensures.right
     record {
-      lower = omega arith;
-      upper = omega arith;
+      stand = (omega arith, omega arith);
       verdict = subst (λ d. IsTrue c.in_ok-is_below.is_below ↔ IsBelow (type_of c.args.table.now c.sorted-lower_sorted.result) (type_of c.args.table.now c.sorted-upper_sorted.result) d)
           (sym c.in_ok-is_below.ensures.dialect) c.in_ok-is_below.ensures.verdict;
-    })
+    }
+
+pub is_sub_no-returns-clause-right : goal.is_sub_no-returns-clause-right
+is_sub_no-returns-clause-right t c =
+    c.keep_verdict.ensures.right c.args.table.now c.in_ok-is_below.ensures.right
+    record {
+      stand = (omega arith, omega arith);
+      verdict = subst (λ d. IsTrue c.in_ok-is_below.is_below ↔ IsBelow (type_of c.args.table.now c.sorted-lower_sorted.result) (type_of c.args.table.now c.sorted-upper_sorted.result) d)
+          (sym c.in_ok-is_below.ensures.dialect) c.in_ok-is_below.ensures.verdict;
+    }
 
 pub is_sub_no-returns-clause-verdict : goal.is_sub_no-returns-clause-verdict
 is_sub_no-returns-clause-verdict t c =
@@ -47,18 +54,18 @@ is_sub_no-returns-clause-verdict t c =
 
 pub compare-returns-then-not-branch-clause-verdict : goal.compare-returns-then-not-branch-clause-verdict
 compare-returns-then-not-branch-clause-verdict t c =
-    arrows_fail _ _ _ c.in_ok-is_sub_no-in-Arrow-lower_shape.field-0
+    arrows_fail _ _ _ c.in_ok-is_sub_no-in-Arrow.field-0
     (arrow_numbers c.args.table.now (type_of c.args.table.now c.args.lower) (type_of c.args.table.now c.args.upper) c.shape-lower_shape.result.now c.shape-upper_shape.result.now _ _ _ _ c.args.verdicts.now.dialect c.shape-lower_shape.ensures.form c.shape-upper_shape.ensures.form c.in-Arrow-lower_shape.is c.in-Arrow.is)
-    c.if-not-branch.true c.in_ok-is_sub_no-in-Arrow-lower_shape.ensures.verdict
+    c.if-not-branch.true c.in_ok-is_sub_no-in-Arrow.ensures.verdict
 
 pub compare-returns-else-not-branch-clause-verdict : goal.compare-returns-else-not-branch-clause-verdict
 compare-returns-else-not-branch-clause-verdict t c =
-    IfOk-weaker c.is_sub_no-in-Arrow-lower_shape.result _ (λ q. IsTrue q ↔ IsBelow (type_of c.args.table.now c.args.lower) (type_of c.args.table.now c.args.upper) c.args.verdicts.now.dialect)
-    (λ q second. arrows_rest _ _ _ c.in_ok-is_sub_no-in-Arrow-lower_shape.field-0 q
+    IfOk-weaker c.is_sub_no-in-Arrow.result _ (λ q. IsTrue q ↔ IsBelow (type_of c.args.table.now c.args.lower) (type_of c.args.table.now c.args.upper) c.args.verdicts.now.dialect)
+    (λ q second. arrows_rest _ _ _ c.in_ok-is_sub_no-in-Arrow.field-0 q
     (arrow_numbers c.args.table.now (type_of c.args.table.now c.args.lower) (type_of c.args.table.now c.args.upper) c.shape-lower_shape.result.now c.shape-upper_shape.result.now _ _ _ _ c.args.verdicts.now.dialect c.shape-lower_shape.ensures.form c.shape-upper_shape.ensures.form c.in-Arrow-lower_shape.is c.in-Arrow.is)
-    c.if-not-branch.false c.in_ok-is_sub_no-in-Arrow-lower_shape.ensures.verdict
-    (subst (λ d. IsTrue q ↔ IsBelow (type_of c.args.table.now c.in-Arrow-lower_shape.lower_outcome) (type_of c.args.table.now c.in-Arrow.upper_outcome) d) c.in_ok-is_sub_no-in-Arrow-lower_shape.ensures.dialect second))
-    c.is_sub_no-in-Arrow-lower_shape.ensures.verdict
+    c.if-not-branch.false c.in_ok-is_sub_no-in-Arrow.ensures.verdict
+    (subst (λ d. IsTrue q ↔ IsBelow (type_of c.args.table.now c.in-Arrow-lower_shape.lower_outcome) (type_of c.args.table.now c.in-Arrow.upper_outcome) d) c.in_ok-is_sub_no-in-Arrow.ensures.dialect second))
+    c.is_sub_no-in-Arrow.ensures.verdict
 
 pub compare-returns-in_default-lower_shape : goal.compare-returns-in_default-lower_shape
 compare-returns-in_default-lower_shape t c = record {
@@ -77,12 +84,12 @@ compare-returns-in_default-lower_shape-2 t c = record {
 pub compare-are_fields_sub_no-requires : goal.compare-are_fields_sub_no-requires
 compare-are_fields_sub_no-requires t c =
     let lower = record_of_numbers c.args.table.now (type_of c.args.table.now c.args.lower) c.shape-lower_shape.result.now _ c.deref.result.now c.shape-lower_shape.ensures.form c.in-Record-lower_shape.is c.deref.ensures.value in
-    let upper = record_of_numbers c.args.table.now (type_of c.args.table.now c.args.upper) c.shape-upper_shape.result.now _ c.deref-in-Record-lower_shape.result.now c.shape-upper_shape.ensures.form c.in-Record.is c.deref-in-Record-lower_shape.ensures.value in (
+    let upper = record_of_numbers c.args.table.now (type_of c.args.table.now c.args.upper) c.shape-upper_shape.result.now _ c.deref-in-Record.result.now c.shape-upper_shape.ensures.form c.in-Record.is c.deref-in-Record.ensures.value in (
       omega (arith, c.decreases, ap nodes lower, ap nodes upper),
       (
         stand_in c.args.lower.index _ c.shape-lower_shape.result.now _ c.deref.result.now c.shape-lower_shape.ensures.earlier c.requires.lower c.in-Record-lower_shape.is c.deref.ensures.value,
         (
-          stand_in c.args.upper.index _ c.shape-upper_shape.result.now _ c.deref-in-Record-lower_shape.result.now c.shape-upper_shape.ensures.earlier c.requires.upper c.in-Record.is c.deref-in-Record-lower_shape.ensures.value,
+          stand_in c.args.upper.index _ c.shape-upper_shape.result.now _ c.deref-in-Record.result.now c.shape-upper_shape.ensures.earlier c.requires.upper c.in-Record.is c.deref-in-Record.ensures.value,
           (subst (λ s. IsWellFormed s) lower c.shape-lower_shape.ensures.wf, c.requires.right),
         ),
       ),
@@ -91,8 +98,8 @@ compare-are_fields_sub_no-requires t c =
 pub compare-returns-in-Record-lower_shape-clause-verdict : goal.compare-returns-in-Record-lower_shape-clause-verdict
 compare-returns-in-Record-lower_shape-clause-verdict t c =
     let lower = record_of_numbers c.args.table.now (type_of c.args.table.now c.args.lower) c.shape-lower_shape.result.now _ c.deref.result.now c.shape-lower_shape.ensures.form c.in-Record-lower_shape.is c.deref.ensures.value in
-    let upper = record_of_numbers c.args.table.now (type_of c.args.table.now c.args.upper) c.shape-upper_shape.result.now _ c.deref-in-Record-lower_shape.result.now c.shape-upper_shape.ensures.form c.in-Record.is c.deref-in-Record-lower_shape.ensures.value in
-    let iff = record_iff (fields_over c.args.table.now c.deref.result.now) (fields_over c.args.table.now c.deref-in-Record-lower_shape.result.now) c.args.verdicts.now.dialect
+    let upper = record_of_numbers c.args.table.now (type_of c.args.table.now c.args.upper) c.shape-upper_shape.result.now _ c.deref-in-Record.result.now c.shape-upper_shape.ensures.form c.in-Record.is c.deref-in-Record.ensures.value in
+    let iff = record_iff (fields_over c.args.table.now c.deref.result.now) (fields_over c.args.table.now c.deref-in-Record.result.now) c.args.verdicts.now.dialect
     (subst (λ s. IsWellFormed s) lower c.shape-lower_shape.ensures.wf) (subst (λ s. IsWellFormed s) upper c.shape-upper_shape.ensures.wf) in
     IfOk-weaker c.are_fields_sub_no.result _ (λ q. IsTrue q ↔ IsBelow (type_of c.args.table.now c.args.lower) (type_of c.args.table.now c.args.upper) c.args.verdicts.now.dialect)
     (λ q verdict. subst (λ s. IsTrue q ↔ IsBelow s (type_of c.args.table.now c.args.upper) c.args.verdicts.now.dialect) (sym lower)

@@ -8,7 +8,7 @@ use Rattle.lam_sub.proofs.numbers.+is_sub_no.Given as goal
 abbrev pub invariant-are_fields_sub_no-loop-i : goal.invariant-are_fields_sub_no-loop-i
 invariant-are_fields_sub_no-loop-i l = record {
   dialect : l.verdicts.dialect ≡ l.initial.verdicts.dialect;
-  right : AreRight l.table l.verdicts.kept.items l.verdicts.dialect;
+  right : AreRight l.table l.verdicts;
   rest : AreBelow (fields_over l.table l.lower) (fields_over l.table l.upper) l.initial.verdicts.dialect
       ↔ AreBelow (fields_over l.table l.lower) (fields_over l.table (drop l.i l.upper)) l.initial.verdicts.dialect;
 }

@@ -6,7 +6,7 @@ use Rattle.lam_syntax.specs.Trees.{no_fields}
 use Rattle.lam_syntax.specs.Views.{bound_of, type_of, term_of, fields_of}
 use Rattle.lam_syntax.specs.Reads.{placed, fields_next}
 use Rattle.lam_syntax.proofs.Ends.{argument_begun}
-use Rattle.lam_syntax.proofs.Steps.{reads_stop, reads_same, expect_stop, some_fields, field_label_stop, equals_stop, dot_label_stop, placed_app, no_word, no_lambda_colon, no_lambda_dot, no_let_equals, no_let_in, no_letrec_colon, no_letrec_equals, no_letrec_in, no_else}
+use Rattle.lam_syntax.proofs.Steps.{reads_stop, reads_same, expect_stop, some_fields, field_label_stop, equals_stop, placed_app, no_word, no_lambda_colon, no_lambda_dot, no_let_equals, no_let_in, no_letrec_colon, no_letrec_equals, no_letrec_in, no_else}
 use Rattle.lam_syntax.proofs.parse_terms.+terms.Goals as goal
 
 pub parse_record-returns-in_err-field-clause-read : goal.parse_record-returns-in_err-field-clause-read

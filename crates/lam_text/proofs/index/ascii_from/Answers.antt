@@ -1,6 +1,7 @@
 use Rattle.std.proofs.Common.{◌≡◌, length, drop, ap, sym, ◌∙◌}
 use Rattle.lam_text.specs.Lines.{lines_of}
-use Rattle.lam_text.specs.Splice.{first_start, later_on}
+use Rattle.lam_text.specs.Splice.{first_start}
+use Rattle.lam_text.proofs.Marks.{later_on}
 use Rattle.lam_text.proofs.Splices.{first_ascii-mark, later-read, first_start-bounds, first_ascii-stop}
 use Rattle.lam_text.proofs.index.ascii_from.Goals as goal
 use Rattle.lam_text.proofs.index.ascii_from.Goals.{After-first_start-end}

@@ -1,4 +1,4 @@
-use Rattle.std.proofs.Common.{ℕ, ◌+◌, List, length, ◌∙◌, ap, arith}
+use Rattle.std.proofs.Common.{ℕ, ◌+◌, List, [], ◌∷◌, ◌++◌, length, ◌∙◌, ap, arith}
 use Rattle.lam_token.proofs.Reading.{cut_behind, take_front, length_front}
 use Rattle.lam_token.proofs.Cuts.{cuts_next, cuts_end, token_more, no_token_more, seam_next, boundary, stands_more, one_list, tokens_slices, tokens_ascend, segment_shorter}
 use Rattle.lam_token.proofs.lexer.lex.Goals as goal
@@ -21,8 +21,8 @@ loop-segment-preserved-in_ok-push c =
       is_text = c.in-Some.ensures.front.is_text;
       place = omega (arith, next, whole, c.loop-segment.invariant.place);
       seam = seam_next _ _ _ _ _ _ c.in-Some.ensures next c.loop-segment.invariant.seam;
-      stand = stands_more _ _ _ _ _ _ _ c.in_ok-push.ensures.items c.loop-segment.invariant.stand (boundary _ _ _ c.loop-segment.invariant.is_text c.loop-segment.invariant.seam) (boundary _ _ _ c.in-Some.ensures.front.is_text (seam_next _ _ _ _ _ _ c.in-Some.ensures next c.loop-segment.invariant.seam));
-      cuts = cuts_next _ _ _ _ _ _ _ _ c.in-Some.ensures c.loop-segment.invariant.cuts next (token_more _ _ _ _ _ _ _ _ c.in-Token.is front next c.in_ok-push.ensures.items);
+      stand = stands_more _ _ _ _ _ _ _ (c.in_ok-push.ensures.items ∙ ap (λ t. c.loop-segment.tokens.items ++ t ∷ []) c.token_at.ensures) c.loop-segment.invariant.stand (boundary _ _ _ c.loop-segment.invariant.is_text c.loop-segment.invariant.seam) (boundary _ _ _ c.in-Some.ensures.front.is_text (seam_next _ _ _ _ _ _ c.in-Some.ensures next c.loop-segment.invariant.seam));
+      cuts = cuts_next _ _ _ _ _ _ _ _ c.in-Some.ensures c.loop-segment.invariant.cuts next (token_more _ _ _ _ _ _ _ _ c.in-Token.is front next (c.in_ok-push.ensures.items ∙ ap (λ t. c.loop-segment.tokens.items ++ t ∷ []) c.token_at.ensures));
     }
 
 pub loop-segment-preserved : goal.loop-segment-preserved

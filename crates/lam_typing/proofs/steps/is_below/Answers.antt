@@ -1,9 +1,14 @@
-use Rattle.std.proofs.Common.{subst, sym}
-use Rattle.lam_rules.specs.Types.{IsWellFormed}
+use Rattle.std.proofs.Common.{◌↔◌, IsTrue, subst}
+use Rattle.std.proofs.lemmas.Result.{IfOk-weaker}
+use Rattle.lam_rules.specs.Numbers.{type_of}
+use Rattle.lam_rules.specs.Subtyping.{IsBelow}
 use Rattle.lam_typing.proofs.steps.is_below.Goals as goal
 
-pub is_sub-requires-clause-lower : goal.is_sub-requires-clause-lower
-is_sub-requires-clause-lower c = subst IsWellFormed (sym c.in_ok-lower_type.ensures) (c.types_differ.ensures.wf c.args.lower.index c.requires.lower)
+pub is_sub_no-requires-clause-right : goal.is_sub_no-requires-clause-right
+is_sub_no-requires-clause-right c = c.new-verdicts.ensures.right _
 
-pub is_sub-requires-clause-upper : goal.is_sub-requires-clause-upper
-is_sub-requires-clause-upper c = subst IsWellFormed (sym c.in_ok-upper_type.ensures) (c.types_differ.ensures.wf c.args.upper.index c.requires.upper)
+pub returns : goal.returns
+returns c =
+    IfOk-weaker c.is_sub_no.result _ (λ below. IsTrue below ↔ IsBelow (type_of c.args.table.now c.args.lower) (type_of c.args.table.now c.args.upper) c.args.dialect)
+    (λ below verdict. subst (λ d. IsTrue below ↔ IsBelow (type_of c.args.table.now c.args.lower) (type_of c.args.table.now c.args.upper) d) c.new-verdicts.ensures.dialect verdict)
+    c.is_sub_no.ensures.verdict

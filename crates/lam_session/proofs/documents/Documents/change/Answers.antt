@@ -1,41 +1,43 @@
-use Rattle.std.proofs.Common.{◌≡◌, ◌∙◌, refl, sym, Some}
-use Rattle.std.proofs.lemmas.Result.{err_from_is_err_and}
+use Rattle.std.proofs.Common.{◌≡◌, ◌∙◌, sym, ap, Some}
 use Rattle.std.specs.Map.{lookup}
-use Rattle.lam_session.proofs.EntryLemmas.{is_uri, text_found, no_text, set_value-same, documents_of-set_value, CountIn-set_value, CountIn-lookup}
+use Rattle.lam_text.specs.Edits.{text_after}
+use Rattle.lam_session.specs.Documents.{with_document}
+use Rattle.lam_session.specs.Entries.{documents_of}
+use Rattle.lam_session.proofs.EntryLemmas.{is_uri, text_found, not_found, documents_of-set_value, AreUnder-set_value, AreUnder-lookup, are_analysed-set_value}
 use Rattle.lam_session.proofs.documents.Documents.change.Goals as goal
 
-pub returns-in_default-clause-changed : goal.returns-in_default-clause-changed
-returns-in_default-clause-changed c = λ text told.
-    let entries = c.self.inside.by_uri.entries in
-    absurd (no_text c.args.uri.now entries text (sym c.in_default.ensures.value) (rw (← c.self.view_is) at told))
+pub unreachable-requires : goal.unreachable-requires
+unreachable-requires c = not_found c.args.uri.now c.self.inside.by_uri.entries (sym c.in_default.ensures.value) (rw (← c.self.view_is) at c.requires.open)
 
-pub invariant_of-self-in_err-apply : goal.invariant_of-self-in_err-apply
-invariant_of-self-in_err-apply c =
+pub invariant_of-self : goal.invariant_of-self
+invariant_of-self c =
     let entries = c.self.inside.by_uri.entries in
-    let there : lookup (is_uri c.args.uri.now) entries ≡ Some c.in-Some.held.now = sym c.in-Some.ensures.value in
+    let there : lookup (is_uri c.args.uri.now) entries ≡ Some c.in-Some.document.now = sym c.in-Some.ensures.value in
+    let under = AreUnder-lookup c.self.inside.encoding c.self.inside.dialect c.args.uri.now entries c.in-Some.document.now c.self.invariant there in
     rw (c.get_mut.follows.holds _).0
-    (CountIn-set_value c.self.inside.encoding c.args.uri.now entries _
-    (c.apply.ensures.encoding ∙ CountIn-lookup c.self.inside.encoding c.args.uri.now entries c.in-Some.held.now c.self.invariant there) c.self.invariant)
-
-pub returns-in_err-apply-clause-err : goal.returns-in_err-apply-clause-err
-returns-in_err-apply-clause-err c =
-    let entries = c.self.inside.by_uri.entries in
-    let there : lookup (is_uri c.args.uri.now) entries ≡ Some c.in-Some.held.now = sym c.in-Some.ensures.value in
-    let p = err_from_is_err_and c.from_residual.result c.from_residual.ensures.1 in
-    rw (p.1, ← c.self.view_is, (c.get_mut.follows.holds _).0, c.in_err-apply.ensures.unchanged, set_value-same c.args.uri.now entries c.in-Some.held.now there) refl
+    (AreUnder-set_value c.self.inside.encoding c.self.inside.dialect c.args.uri.now entries _ (c.change.ensures.encoding ∙ under.0) (c.change.ensures.dialect ∙ under.1) c.self.invariant)
 
 pub invariant_of-self-2 : goal.invariant_of-self-2
 invariant_of-self-2 c =
     let entries = c.self.inside.by_uri.entries in
-    let there : lookup (is_uri c.args.uri.now) entries ≡ Some c.in-Some.held.now = sym c.in-Some.ensures.value in
+    let there : lookup (is_uri c.args.uri.now) entries ≡ Some c.in-Some.document.now = sym c.in-Some.ensures.value in
+    let under = AreUnder-lookup c.self.inside.encoding c.self.inside.dialect c.args.uri.now entries c.in-Some.document.now c.self.invariant there in
     rw (c.get_mut.follows.holds _).0
-    (CountIn-set_value c.self.inside.encoding c.args.uri.now entries _
-    (c.apply.ensures.encoding ∙ CountIn-lookup c.self.inside.encoding c.args.uri.now entries c.in-Some.held.now c.self.invariant there) c.self.invariant)
+    (AreUnder-set_value c.self.inside.encoding c.self.inside.dialect c.args.uri.now entries _ (c.change.ensures.encoding ∙ under.0) (c.change.ensures.dialect ∙ under.1) c.self.invariant)
 
-pub returns-clause-changed : goal.returns-clause-changed
-returns-clause-changed c = λ text told.
-    let entries = c.self.inside.by_uri.entries in
-    let there : lookup (is_uri c.args.uri.now) entries ≡ Some c.in-Some.held.now = sym c.in-Some.ensures.value in
-    let counts = CountIn-lookup c.self.inside.encoding c.args.uri.now entries c.in-Some.held.now c.self.invariant there in
-    let before = text_found c.args.uri.now entries c.in-Some.held.now text there (rw (← c.self.view_is) at told) in
-    rw (← c.self.view_is, (c.get_mut.follows.holds _).0, documents_of-set_value c.args.uri.now entries c.in-Some.held.now _ there, c.in_ok-apply.ensures.text, counts, before) refl
+pub returns : goal.returns
+returns c = record {
+  changed = λ text told.
+      let entries = c.self.inside.by_uri.entries in
+      let there : lookup (is_uri c.args.uri.now) entries ≡ Some c.in-Some.document.now = sym c.in-Some.ensures.value in
+      let under = AreUnder-lookup c.self.inside.encoding c.self.inside.dialect c.args.uri.now entries c.in-Some.document.now c.self.invariant there in
+      let before = text_found c.args.uri.now entries c.in-Some.document.now text there (rw (← c.self.view_is) at told) in
+      let all = rw (← c.self.view_is) at c.requires.analysed in
+      let now = c.in_ok-change.ensures.changed in
+      let text_now = ap (λ d. d.text) now ∙ (λ i. text_after (under.0 i) (before i) c.args.changes.now) in
+      let documents =
+      documents_of-set_value c.args.uri.now entries c.in-Some.document.now c.change.new.self there
+      ∙ (λ i. with_document (record { uri = c.args.uri.now; text = text_now i; version = (now i).version }) (documents_of entries)) in
+      let analysed = are_analysed-set_value c.args.uri.now entries c.change.new.self (ap (λ d. d.analysed) now) all ∙ sym all in
+      rw (← c.self.view_is, (c.get_mut.follows.holds _).0) (λ i. record { encoding = c.self.inside.encoding; dialect = c.self.inside.dialect; documents = documents i; analysed = analysed i });
+}

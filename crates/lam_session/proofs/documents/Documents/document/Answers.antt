@@ -1,20 +1,26 @@
-use Rattle.std.proofs.Common.{◌≡◌, ◌∙◌, sym, ap, Some, option_map}
-use Rattle.std.specs.Map.{lookup}
-use Rattle.lam_session.proofs.EntryLemmas.{is_uri, open_text-lookup, CountIn-lookup}
+use Rattle.std.proofs.Common.{◌≡◌, true}
+use Rattle.lam_session.proofs.EntryLemmas.{found_text, of_found, AreUnder-lookup, are_analysed-lookup}
 use Rattle.lam_session.proofs.documents.Documents.document.Goals as goal
 
-pub returns-in-Some-clause-text : goal.returns-in-Some-clause-text
-returns-in-Some-clause-text c =
-    rw (← c.self.view_is)
-    (ap (option_map (λ o. o.doc.text)) c.in-Some.ensures.value ∙ sym (open_text-lookup c.args.uri.now c.self.inside.by_uri.entries))
+pub returns-clause-text : goal.returns-clause-text
+returns-clause-text c = rw (← c.self.view_is) (found_text c.args.uri.now c.self.inside.by_uri.entries c.get.result c.get.ensures.value)
 
-pub returns-in-Some-clause-encoding : goal.returns-in-Some-clause-encoding
-returns-in-Some-clause-encoding c =
+pub returns-clause-encoding : goal.returns-clause-encoding
+returns-clause-encoding c =
     let entries = c.self.inside.by_uri.entries in
-    let there : lookup (is_uri c.args.uri.now) entries ≡ Some c.in-Some.held.now = sym c.in-Some.ensures.value in
-    rw (← c.self.view_is) (CountIn-lookup c.self.inside.encoding c.args.uri.now entries c.in-Some.held.now c.self.invariant there)
-
-pub returns-in-None-clause-text : goal.returns-in-None-clause-text
-returns-in-None-clause-text c =
     rw (← c.self.view_is)
-    (ap (option_map (λ o. o.doc.text)) c.in-None.ensures.value ∙ sym (open_text-lookup c.args.uri.now c.self.inside.by_uri.entries))
+    (of_found (λ o. o.encoding ≡ c.self.inside.encoding) c.args.uri.now entries c.get.result c.get.ensures.value
+    (λ o there. (AreUnder-lookup c.self.inside.encoding c.self.inside.dialect c.args.uri.now entries o c.self.invariant there).0))
+
+pub returns-clause-dialect : goal.returns-clause-dialect
+returns-clause-dialect c =
+    let entries = c.self.inside.by_uri.entries in
+    rw (← c.self.view_is)
+    (of_found (λ o. o.dialect ≡ c.self.inside.dialect) c.args.uri.now entries c.get.result c.get.ensures.value
+    (λ o there. (AreUnder-lookup c.self.inside.encoding c.self.inside.dialect c.args.uri.now entries o c.self.invariant there).1))
+
+pub returns-clause-analysed : goal.returns-clause-analysed
+returns-clause-analysed c =
+    let entries = c.self.inside.by_uri.entries in
+    rw (← c.self.view_is)
+    (λ all. of_found (λ o. o.analysed ≡ true) c.args.uri.now entries c.get.result c.get.ensures.value (λ o there. are_analysed-lookup c.args.uri.now entries o all there))

@@ -1,5 +1,0 @@
-use Rattle.lam_frame.proofs.Written.{is_read_back}
-use Rattle.lam_frame.proofs.law.written_is_read.Goals as goal
-
-pub returns : goal.returns
-returns c = is_read_back

@@ -1,0 +1,30 @@
+-- What is found of two numbers is an answer that may be kept of them.
+use Rattle.std.proofs.Common.{◌≡◌, ◌<◌, List, length, sym, subst, arith, Option, Some, None, IfSome, IfNone}
+use Rattle.lam_rules.specs.Types.{Typ}
+use Rattle.lam_rules.specs.Numbers.{type_of, Stands, Keeps}
+use Rattle.lam_rules.specs.declared.rules.Dialect.{Dialect}
+use Rattle.lam_rules.specs.declared.table.TyNo.{TyNo}
+use Rattle.lam_sub.specs.Remembered.{IsJoinOf, IsMeetOf}
+use Rattle.lam_sub.proofs.Keeping.{both_kept, pair_kept}
+use Rattle.lam_lattice.specs.Bounds.{IsJoin, IsMeet, HaveNoMeet}
+
+pub join_found : (old now : List Typ) (left right number : TyNo) (d e : Dialect) → Keeps old now → left.index < length old → right.index < length old → e ≡ d → Stands now number
+    → IsJoin (type_of old left) (type_of old right) (type_of now number) d → IsJoinOf now e (left, right) number
+join_found old now left right number d e keeps one other same stands join = record {
+  stand = both_kept old now (left, right) keeps (one, other);
+  stands = stands;
+  join = subst (λ x. IsJoin (type_of now left) (type_of now right) (type_of now number) x) (sym same)
+      (pair_kept old now (left, right) (λ s t. IsJoin s t (type_of now number) d) keeps (one, other) join);
+}
+
+pub meet_found : (old now : List Typ) (left right : TyNo) (found : Option TyNo) (d e : Dialect) → Keeps old now → left.index < length old → right.index < length old → e ≡ d
+    → IfSome found (λ number. Stands now number) → IfSome found (λ number. IsMeet (type_of old left) (type_of old right) (type_of now number) d)
+    → IfNone found (HaveNoMeet (type_of old left) (type_of old right) d) → IsMeetOf now e (left, right) found
+meet_found old now left right found d e keeps one other same stands some none = record {
+  stand = both_kept old now (left, right) keeps (one, other);
+  stands = stands;
+  some = subst (λ x. IfSome found (λ number. IsMeet (type_of now left) (type_of now right) (type_of now number) x)) (sym same)
+      (pair_kept old now (left, right) (λ s t. IfSome found (λ number. IsMeet s t (type_of now number) d)) keeps (one, other) some);
+  none = subst (λ x. IfNone found (HaveNoMeet (type_of now left) (type_of now right) x)) (sym same)
+      (pair_kept old now (left, right) (λ s t. IfNone found (HaveNoMeet s t d)) keeps (one, other) none);
+}

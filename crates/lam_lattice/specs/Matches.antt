@@ -1,0 +1,26 @@
+-- The fields of two record types of a table, side by side.
+use Rattle.std.specs.Prelude.{◌≡◌, ℕ, ◌<◌, List, [], ◌∷◌, String, string_bytes, IfSome, IfNone}
+use Rattle.std.specs.declared.alloc.Global.{Global}
+use Rattle.lam_rules.specs.Types.{Typ, Has, IsAbsent}
+use Rattle.lam_rules.specs.Numbers.{type_of, fields_over, AreBelow}
+use Rattle.lam_rules.specs.declared.table.TyNo.{TyNo}
+use Rattle.lam_lattice.specs.declared.matching.Match.{Match}
+
+-- a field of the first, with the number that the second has under its label, if it has one
+pub record IsMatch (right : List (String Global × TyNo)) (f : String Global × TyNo) (m : Match) : Type 0 where
+  pub label : string_bytes m.label ≡ string_bytes f.0
+  pub left : m.left ≡ f.1
+  pub below : IfSome m.right (λ number. (n : ℕ) → AreBelow n right → number.index < n)
+  pub some : IfSome m.right (λ number. (ts : List Typ) → Has (string_bytes f.0) (type_of ts number) (fields_over ts right))
+  pub none : IfNone m.right ((ts : List Typ) → IsAbsent (string_bytes f.0) (fields_over ts right))
+
+-- one for each field of the first, in their order
+abbrev pub AreMatches : List (String Global × TyNo) → List (String Global × TyNo) → List Match → Type 0
+AreMatches right [] [] = Unit {0}
+AreMatches right (f ∷ fs) (m ∷ ms) = IsMatch right f m × AreMatches right fs ms
+AreMatches right _ _ = ⊥
+
+-- each number in them is below the bound
+abbrev pub AreMatchesBelow : ℕ → List Match → Type 0
+AreMatchesBelow n [] = Unit {0}
+AreMatchesBelow n (m ∷ ms) = (m.left.index < n) × IfSome m.right (λ number. number.index < n) × AreMatchesBelow n ms

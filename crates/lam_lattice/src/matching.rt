@@ -1,0 +1,62 @@
+//! The fields of two record types of a table, side by side.
+
+ghost use Rattle.std.specs.Prelude.{◌≡◌, ℕ, List, IfOk};
+ghost use Rattle.lam_rules.specs.Types.{Typ};
+ghost use Rattle.lam_rules.specs.Numbers.{fields_over, AreBelow};
+ghost use Rattle.lam_sub.specs.OtherFields.{other_fields};
+ghost use Rattle.lam_lattice.specs.Matches.{AreMatches};
+
+use lam_rules::TyNo;
+use lam_sub::field_number;
+use std::alloc::{AllocError, Global};
+
+/// A field of the first type, and the number that the second has under its label.
+#[derive(Drop)]
+pub(crate) struct Match {
+    pub label: String,
+    pub left: TyNo,
+    pub right: Option<TyNo>,
+}
+
+/// The fields of the first, in their order, each with what the second has under its label.
+pub(crate) fn matched(
+    alloc: Global,
+    left: &[(String, TyNo)],
+    right: &[(String, TyNo)],
+) -> Result<Vec<Match>, AllocError>
+    ensures { IfOk result (λ made. AreMatches right.now left.now made.items) }
+{
+    let mut made = Vec::new(alloc);
+    for i in 0..left.len() {
+        let field = &left[i];
+        let label = field.0.clone()?;
+        let number = field_number(&field.0, right, i);
+        made.push(Match {
+            label,
+            left: field.1,
+            right: number,
+        })?;
+    }
+    Ok(made)
+}
+
+/// The fields of the second whose labels the first has not.
+pub(crate) fn others(
+    alloc: Global,
+    left: &[(String, TyNo)],
+    right: &[(String, TyNo)],
+) -> Result<Vec<(String, TyNo)>, AllocError>
+    ensures below { IfOk result (λ made. (n : ℕ) → AreBelow n right.now → AreBelow n made.items) }
+    ensures others { IfOk result (λ made. (ts : List Typ) → fields_over ts made.items ≡ other_fields (fields_over ts right.now) (fields_over ts left.now)) }
+{
+    let mut made = Vec::new(alloc);
+    for i in 0..right.len() {
+        let field = &right[i];
+        if field_number(&field.0, left, i).is_some() {
+            continue;
+        }
+        let label = field.0.clone()?;
+        made.push((label, field.1))?;
+    }
+    Ok(made)
+}

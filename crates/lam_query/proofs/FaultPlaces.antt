@@ -1,0 +1,107 @@
+-- The faults of a text stand in it.
+use Rattle.std.proofs.Common.{◌≡◌, ℕ, zero, suc, List, [], ◌∷◌, ◌++◌, map, Option, Some, sym, subst, arith}
+use Rattle.std.specs.Prelude.{slice_get}
+use Rattle.std.specs.List.{All, AllByRecursion, filter_map, cons_option}
+use Rattle.std.specs.Option.{option_to_list}
+use Rattle.std.proofs.lemmas.List.{length-map, map-append, get_or-map}
+use Rattle.std.proofs.lemmas.List.Elements.{All-from_recursion}
+use Rattle.std.proofs.lemmas.List.Sorted.{All-permutation}
+use Rattle.lam_rules.specs.declared.rules.Dialect.{Dialect}
+use Rattle.lam_token.specs.declared.kind.Kind.TheVariants as kind
+use Rattle.lam_token.specs.declared.span.Span.{Span}
+use Rattle.lam_token.specs.Lexeme.{Lexeme, lexeme, span_of}
+use Rattle.lam_token.specs.Cut as token
+use Rattle.lam_syntax.specs.Trees.{CommandTree}
+use Rattle.lam_syntax.specs.Answers.{pieces_of}
+use Rattle.lam_scope.specs.declared.fault.TypeFault.{TypeFault}
+use Rattle.lam_scope.specs.declared.fault.TypeFault.TheVariants.{UnboundTypeName, RepeatedLabel}
+use Rattle.lam_scope.specs.Nameless.{faults}
+use Rattle.lam_scope.specs.Tables.{no_span}
+use Rattle.lam_typing.specs.Blaming.{Blamed}
+use Rattle.lam_query.specs.declared.answers.Fault.{Fault as RustFault}
+use Rattle.lam_query.specs.Faults.{Fault, AreInOrder}
+use Rattle.lam_query.specs.Sizes.{IsSizeFault, of_written_type, of_place}
+use Rattle.lam_query.specs.SyntaxFaults.{fault_of_token, PieceFault, too_long, spoiled, a_command, goes_wrong, ends_early, PieceFaults, AreSyntaxFaults}
+use Rattle.lam_query.specs.TextFaults.{written_fault, blame_fault, AreTypeFaults, too_large, small}
+use Rattle.lam_query.specs.Views.{fault_of}
+use Rattle.lam_query.specs.Within.{StandsIn, InCommands}
+use Rattle.lam_query.proofs.Spans.{InTokens, Spreads}
+use Rattle.lam_query.proofs.TextPlaces.{InPieces, in_pieces, tokens_stand, stands_spread}
+use Rattle.lam_query.proofs.Within.{InFaults, in_faults, in_place, in_too_large}
+
+abbrev pub InFaultList : (Span → Type 0) → List Fault → Type 0
+InFaultList Q = AllByRecursion (λ f. Q f.span)
+
+in_both : (Q : Span → Type 0) (fs gs : List Fault) → InFaultList Q fs → InFaultList Q gs → InFaultList Q (fs ++ gs)
+in_both Q [] gs h k = k
+in_both Q (f ∷ fs) gs h k = (h.0, in_both Q fs gs h.1 k)
+
+token_in : (Q : Span → Type 0) (ts : List Lexeme) (k : ℕ) (t : Lexeme) → InTokens Q ts → slice_get ts k ≡ Some t → Q (span_of t)
+token_in Q [] k t h is = absurd cc
+token_in Q (u ∷ ts) zero t h is = let same : u ≡ t = cc in subst (λ x. Q (span_of x)) same h.0
+token_in Q (u ∷ ts) (suc k) t h is = token_in Q ts k t h.1 is
+
+in_piece : (Q : Span → Type 0) → Spreads Q → (ts : List Lexeme) (one : Option Fault) → InTokens Q ts → PieceFault ts one → InFaultList Q (option_to_list one)
+in_piece Q w ts _ h (too_long {first = first} {last = last} over at_first at_last) =
+    (w (span_of first) (span_of last) (token_in Q ts _ first h at_first) (token_in Q ts _ last h at_last), tt)
+in_piece Q w ts _ h (spoiled few bad) = tt
+in_piece Q w ts _ h (a_command taken spells) = tt
+in_piece Q w ts _ h (goes_wrong taken wrong at) = (token_in Q ts _ _ h at, tt)
+in_piece Q w ts _ h (ends_early taken early at) = (token_in Q ts _ _ h at, tt)
+
+in_all_pieces : (Q : Span → Type 0) → Spreads Q → (ps : List (List Lexeme)) (fs : List Fault) → InPieces Q ps → PieceFaults ps fs → InFaultList Q fs
+in_all_pieces Q w [] fs h are = subst (InFaultList Q) (sym are) tt
+in_all_pieces Q w (p ∷ ps) fs h are =
+    subst (InFaultList Q) (sym are.4) (in_both Q (option_to_list are.0) are.1 (in_piece Q w p are.0 h.0 are.2) (in_all_pieces Q w ps are.1 h.1 are.3))
+
+of_token : (Q : Span → Type 0) (t : Lexeme) (fs : List Fault) → Q (span_of t) → InFaultList Q fs → InFaultList Q (cons_option (fault_of_token t) fs)
+of_token Q (lexeme kind.BadCharacter x s) fs q h = (q, h)
+of_token Q (lexeme kind.BadComment x s) fs q h = (q, h)
+of_token Q t fs q h = h
+
+of_tokens : (Q : Span → Type 0) (ts : List Lexeme) → InTokens Q ts → InFaultList Q (filter_map fault_of_token ts)
+of_tokens Q [] h = tt
+of_tokens Q (t ∷ ts) h = of_token Q t (filter_map fault_of_token ts) h.0 (of_tokens Q ts h.1)
+
+in_syntax : (Q : Span → Type 0) → Spreads Q → (ts : List Lexeme) (fs : List Fault) → InTokens Q ts → AreSyntaxFaults ts fs → InFaultList Q fs
+in_syntax Q w ts fs h are =
+    subst (InFaultList Q) (sym are.all)
+    (in_both Q (filter_map fault_of_token ts) are.of_pieces (of_tokens Q ts h) (in_all_pieces Q w (pieces_of ts) are.of_pieces (in_pieces Q ts h) are.pieces))
+
+size_in : (Q : Span → Type 0) (cs : List CommandTree) (s : Span) (d : Dialect) → Q no_span → InCommands Q cs → IsSizeFault cs s d → Q s
+size_in Q cs s d past h (of_written_type is) = in_too_large Q cs s is h
+size_in Q cs s d past h (of_place n none large) = in_place Q cs past h n
+
+of_written : (Q : Span → Type 0) (ws : List TypeFault) → InFaults Q ws → InFaultList Q (map written_fault ws)
+of_written Q [] h = tt
+of_written Q (UnboundTypeName s ∷ ws) h = (h.0, of_written Q ws h.1)
+of_written Q (RepeatedLabel s ∷ ws) h = (h.0, of_written Q ws h.1)
+
+of_blames : (Q : Span → Type 0) (cs : List CommandTree) (bs : List Blamed) → Q no_span → InCommands Q cs → InFaultList Q (map (blame_fault cs) bs)
+of_blames Q cs [] past h = tt
+of_blames Q cs (b ∷ bs) past h = (in_place Q cs past h b.number, of_blames Q cs bs past h)
+
+in_types : (Q : Span → Type 0) (cs : List CommandTree) (fs : List Fault) (d : Dialect) → Q no_span → InCommands Q cs → AreTypeFaults cs fs d → InFaultList Q fs
+in_types Q cs _ d past h (too_large {s = s} size) = (size_in Q cs s d past h size, tt)
+in_types Q cs _ d past h (small blames none are) =
+    in_both Q (map written_fault (faults [] cs)) (map (blame_fault cs) blames) (of_written Q (faults [] cs) (in_faults Q [] cs h)) (of_blames Q cs blames past h)
+
+unviewed : (Q : Span → Type 0) (fs : List RustFault) → All (λ f. Q f.span) (map fault_of fs) → All (λ f. Q f.span) fs
+unviewed Q fs h = λ k default lt.
+    let count = length-map fs fault_of in
+    let one = h k (fault_of default) (omega arith) in
+    rw (get_or-map fault_of fs k default (fault_of default) lt) at one
+
+pub faults_stand : (text : List ℕ) (cs : List CommandTree) (d : Dialect) (tokens : List Lexeme) (of_syntax types all ordered : List RustFault)
+    → StandsIn text no_span → All (token.StandsIn text) tokens → InCommands (StandsIn text) cs
+    → AreSyntaxFaults tokens (map fault_of of_syntax) → AreTypeFaults cs (map fault_of types) d
+    → all ≡ of_syntax ++ types → AreInOrder (map fault_of all) (map fault_of ordered) → All (λ f. StandsIn text f.span) ordered
+faults_stand text cs d tokens of_syntax types all ordered past h within syntax of_types joined order =
+    let first = in_syntax (StandsIn text) (stands_spread text) tokens (map fault_of of_syntax) (tokens_stand text tokens h) syntax in
+    let second = in_types (StandsIn text) cs (map fault_of types) d past within of_types in
+    let every = in_both (StandsIn text) (map fault_of of_syntax) (map fault_of types) first second in
+    let whole : map fault_of all ≡ map fault_of of_syntax ++ map fault_of types = rw joined (map-append fault_of of_syntax types) in
+    let same = rw whole at order.same in
+    unviewed (StandsIn text) ordered
+    (All-permutation (λ f. StandsIn text f.span) (map fault_of of_syntax ++ map fault_of types) (map fault_of ordered) same
+    (All-from_recursion (λ f. StandsIn text f.span) (map fault_of of_syntax ++ map fault_of types) every))

@@ -1,0 +1,64 @@
+-- What is shown of an offset, from what was found of places.
+use Rattle.std.proofs.Common.{◌≡◌, ℕ, ◌<◌, List, [], length, get_or, Some, None, sym, ap, subst, ◌∙◌}
+use Rattle.std.proofs.lemmas.List.Quantifiers.{position-Some}
+use Rattle.std.specs.Option.{unwrap_or}
+use Rattle.lam_rules.specs.Types.{Typ}
+use Rattle.lam_rules.specs.declared.rules.Dialect.{Dialect}
+use Rattle.lam_token.specs.declared.span.Span.{Span}
+use Rattle.lam_syntax.specs.Trees.{CommandTree}
+use Rattle.lam_scope.specs.declared.resolved.Resolved.{Resolved}
+use Rattle.lam_scope.specs.declared.scopes.Scopes.{Scopes}
+use Rattle.lam_scope.specs.Places.{places_of}
+use Rattle.lam_scope.specs.Views.{AreScopesOf, table_of, statements_of}
+use Rattle.lam_scope.specs.Tables.{table, place_at, is_over, place_row_numbered}
+use Rattle.lam_typing.specs.LeastTypes.{IsLeastAt}
+use Rattle.lam_typing.specs.declared.typing.Typing.{Typing}
+use Rattle.lam_typing.specs.Typings.{found_of}
+use Rattle.lam_query.specs.Sizes.{IsSizeFault, statements_in, places_in}
+use Rattle.lam_query.specs.Hovers.{place_in, IsTypedAround, IsHover}
+use Rattle.lam_query.specs.Analyses.{AreFoundOf}
+use Rattle.lam_scope.proofs.PlaceCounts.{as_many_places}
+use Rattle.lam_query.proofs.Small.{is_small, least_at}
+
+pub row_inside : (cs : List CommandTree) (o n : ℕ) → place_at (table cs) o ≡ Some n → n < length (table cs).places
+row_inside cs o n at = (position-Some (is_over o) (table cs).places n (place_row_numbered (table cs) n) at).0
+
+pub place_inside : (cs : List CommandTree) (o n : ℕ) → place_at (table cs) o ≡ Some n → n < length (places_in cs)
+place_inside cs o n at = rw (as_many_places cs) (row_inside cs o n at)
+
+-- what was bound and what was resolved of the same commands have the same places
+pub inside_both : (cs : List CommandTree) (scopes : Scopes) (resolved : Resolved) (o n : ℕ)
+    → AreScopesOf scopes cs → statements_of resolved ≡ statements_in cs → Some n ≡ place_at (table_of scopes) o
+    → n < length (places_of [] (statements_of resolved))
+inside_both cs scopes resolved o n of same at =
+    let there = subst (λ t. Some n ≡ place_at t o) of.same_table at in
+    subst (λ ss. n < length (places_of [] ss)) (sym same) (place_inside cs o n (sym there))
+
+pub ruleset both = (inside_both)
+
+pub least_found : (cs : List CommandTree) (resolved : Resolved) (typing : Typing) (d : Dialect) (o n : ℕ)
+    → AreFoundOf cs resolved typing d → place_at (table cs) o ≡ Some n
+    → IsLeastAt (place_in cs n).scope (place_in cs n).here (get_or (found_of typing) n None) d
+least_found cs resolved typing d o n h at = least_at (places_in cs) (found_of typing) n _ d (place_inside cs o n at) h.typed.least
+
+pub typed_around : (cs : List CommandTree) (resolved : Resolved) (typing : Typing) (d : Dialect) (o n : ℕ) (t : Typ)
+    → AreFoundOf cs resolved typing d → place_at (table cs) o ≡ Some n → get_or (found_of typing) n None ≡ Some t → IsTypedAround cs o n t d
+typed_around cs resolved typing d o n t h at found = record {
+  small = is_small cs (found_of typing) d h.none_too_large h.typed.least h.typed.small;
+  innermost = at;
+  least = rw found at (least_found cs resolved typing d o n h at);
+}
+
+pub untyped_around : (cs : List CommandTree) (resolved : Resolved) (typing : Typing) (d : Dialect) (o n : ℕ)
+    → AreFoundOf cs resolved typing d → place_at (table cs) o ≡ Some n → get_or (found_of typing) n None ≡ None → IsHover cs o None d
+untyped_around cs resolved typing d o n h at found = λ number type typed.
+    let same : number ≡ n = ap (λ x. unwrap_or x 0) (sym typed.innermost ∙ at) in
+    let least = rw same at typed.least in
+    let none = rw found at (least_found cs resolved typing d o n h at) in
+    none type least.0
+
+pub nothing_around : (cs : List CommandTree) (o : ℕ) (d : Dialect) → place_at (table cs) o ≡ None → IsHover cs o None d
+nothing_around cs o d at = λ number type typed. let no_way : None ≡ Some number = sym at ∙ typed.innermost in cc
+
+pub too_large_around : (cs : List CommandTree) (s : Span) (o : ℕ) (d : Dialect) → IsSizeFault cs s d → IsHover cs o None d
+too_large_around cs s o d fault = λ number type typed. typed.small s fault

@@ -1,0 +1,17 @@
+-- Faults in order, seen without where they lie in memory.
+use Rattle.std.proofs.Common.{◌≡◌, ℕ, ◌+◌, ◌<◌, ◌≤◌, List, [], ◌∷◌, map, length, get_or, false, arith}
+use Rattle.std.specs.List.Sorted.{IsSortedBy}
+use Rattle.std.proofs.lemmas.List.{length-map, get_or-map}
+use Rattle.lam_query.specs.declared.answers.Fault.{Fault as RustFault}
+use Rattle.lam_query.specs.Faults.{is_before}
+use Rattle.lam_query.specs.Views.{fault_of}
+
+pub sorted_seen : (faults : List RustFault)
+    → ((k : ℕ) (d : RustFault) → 0 ≤ k → k + 1 < length faults → is_before (fault_of (get_or faults (k + 1) d)) (fault_of (get_or faults k d)) ≡ false)
+    → IsSortedBy is_before (map fault_of faults)
+sorted_seen [] h = λ k d low high. absurd (omega arith)
+sorted_seen (x ∷ xs) h = λ k d low high.
+    let n = length-map (x ∷ xs) fault_of in
+    let p : k + 1 < length (x ∷ xs) = omega arith in
+    let q : k < length (x ∷ xs) = omega arith in
+    rw (get_or-map fault_of (x ∷ xs) (k + 1) x d p) (rw (get_or-map fault_of (x ∷ xs) k x d q) (h k x low p))

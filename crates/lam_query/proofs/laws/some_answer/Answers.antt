@@ -1,0 +1,14 @@
+use Rattle.lam_query.proofs.SomeAnswers.{some_faults, some_hover, some_derivation, shown_of_derived}
+use Rattle.lam_query.proofs.laws.some_answer.Goals as goal
+
+pub returns-clause-faults : goal.returns-clause-faults
+returns-clause-faults c = some_faults
+
+pub returns-clause-shown : goal.returns-clause-shown
+returns-clause-shown c = some_hover
+
+pub returns-clause-derived : goal.returns-clause-derived
+returns-clause-derived c = some_derivation
+
+pub returns-clause-as_shown : goal.returns-clause-as_shown
+returns-clause-as_shown c = shown_of_derived

@@ -1,0 +1,63 @@
+-- What is known of a text, and the answers about a text.
+use Rattle.std.specs.Prelude.{◌≡◌, ℕ, List, [], map, All, Option, None}
+use Rattle.lam_token.specs.Cut as token
+use Rattle.lam_rules.specs.declared.rules.Dialect.{Dialect}
+use Rattle.lam_syntax.specs.Trees.{CommandTree}
+use Rattle.lam_syntax.specs.Views.{command_of}
+use Rattle.lam_scope.specs.declared.resolved.Resolved.{Resolved}
+use Rattle.lam_scope.specs.Nameless.{first_too_large, faults}
+use Rattle.lam_scope.specs.Tables.{table}
+use Rattle.lam_scope.specs.Views.{AreScopesOf, statements_of, origins_of, faults_of}
+use Rattle.lam_typing.specs.declared.typing.Typing.{Typing}
+use Rattle.lam_typing.specs.Typings.{IsAnalysis, IsTypingOf, AreEntries, dialect_of as dialect_of_types}
+use Rattle.lam_query.specs.declared.analyses.Analysis.{Analysis}
+use Rattle.lam_query.specs.declared.analyses.Types.{Types}
+use Rattle.lam_query.specs.declared.analyses.Types.TheVariants.{TooLarge, Found}
+use Rattle.lam_query.specs.Commands.{AreCommandsOfText}
+use Rattle.lam_query.specs.SyntaxFaults.{AreSyntaxFaults}
+use Rattle.lam_query.specs.Views.{fault_of}
+use Rattle.lam_query.specs.Sizes.{statements_in, places_in, IsSizeFault}
+use Rattle.lam_query.specs.Hovers.{Shown, IsHover}
+use Rattle.lam_query.specs.Derivations.{Derivation, IsDerivation}
+
+-- the nameless form and the types are those of these commands
+pub record AreFoundOf (commands : List CommandTree) (resolved : Resolved) (typing : Typing) (d : Dialect) : Type 0 where
+  pub statements : statements_of resolved ≡ statements_in commands
+  pub faults : faults_of resolved ≡ faults [] commands
+  pub none_too_large : first_too_large [] commands ≡ None
+  pub typed : IsAnalysis (places_in commands) typing d
+  pub origins : origins_of resolved ≡ map (λ b. b.origin) (table commands).binders
+  pub types_of_it : IsTypingOf (statements_of resolved) typing
+  pub entries : AreEntries (statements_of resolved) (origins_of resolved) typing
+  pub dialect : dialect_of_types typing ≡ d
+
+abbrev pub AreTypesOf : List CommandTree → Types → Dialect → Type 0
+AreTypesOf commands (TooLarge s) d = IsSizeFault commands s d
+AreTypesOf commands (Found resolved typing) d = AreFoundOf commands resolved typing d
+
+-- the commands that an analysis holds, and the dialect that it was made in
+abbrev pub commands_held : Analysis → List CommandTree
+commands_held a = map command_of a.commands.items
+
+abbrev pub dialect_of : Analysis → Dialect
+dialect_of a = a.dialect
+
+-- An analysis is of a text: its commands are those of the text's tokens, places included, its faults of syntax are theirs, and all else in it is of the commands. The tokens
+-- begin and end between characters.
+pub record IsAnalysisOf (text : List ℕ) (a : Analysis) : Type 0 where
+  pub commands : AreCommandsOfText text (commands_held a)
+  pub whole : All (token.StandsIn text) commands.tokens
+  pub syntax : AreSyntaxFaults commands.tokens (map fault_of a.syntax.items)
+  pub scopes : AreScopesOf a.scopes (commands_held a)
+  pub types : AreTypesOf (commands_held a) a.types a.dialect
+
+-- an answer about an offset of a text is one about that offset in the commands of the text
+pub record IsShownIn (text : List ℕ) (offset : ℕ) (shown : Option Shown) (d : Dialect) : Type 0 where
+  pub commands : List CommandTree
+  pub are_commands : AreCommandsOfText text commands
+  pub answer : IsHover commands offset shown d
+
+pub record IsDerivedIn (text : List ℕ) (offset : ℕ) (derived : Option Derivation) (d : Dialect) : Type 0 where
+  pub commands : List CommandTree
+  pub are_commands : AreCommandsOfText text commands
+  pub answer : IsDerivation commands offset derived d

@@ -1,0 +1,15 @@
+pub mod Commands
+pub mod Within
+pub mod Faults
+pub mod Sizes
+pub mod SyntaxFaults
+pub mod TextFaults
+pub mod Hovers
+pub mod Steps
+pub mod Derivations
+pub mod Views
+pub mod Listing
+pub mod Contexts
+pub mod Reading
+pub mod Analyses
+pub mod WellTypedDocuments

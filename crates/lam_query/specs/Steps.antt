@@ -1,0 +1,86 @@
+-- A proof as a list of steps: the nodes of its tree, each behind its premises, and these from left to right.
+use Rattle.std.specs.Prelude.{ℕ, ◌+◌, Bool, true, false, List, [], ◌∷◌, ◌++◌, Option, Some, None, if◌then◌else◌}
+use Rattle.lam_token.specs.declared.span.Span.{Span}
+use Rattle.lam_rules.specs.Types.{Typ}
+use Rattle.lam_rules.specs.Subtyping.{SubTree, sub_step, SubTrees, no_subs, sub_first}
+use Rattle.lam_rules.specs.Typing.{TypingTree, typing_step, TypingTrees, no_typings, typing_first}
+use Rattle.lam_rules.specs.declared.rules.SubRule.{SubRule}
+use Rattle.lam_rules.specs.declared.rules.TypeRule.{TypeRule}
+use Rattle.lam_scope.specs.Tables.{Table, place_row_numbered}
+
+-- what a step concludes by its rule: that the term at the span has the type, or that the one type is below the other
+pub data Conclusion : Type 0 where
+  typing : (rule : TypeRule) → Span → (type : Typ) → Conclusion
+  subtyping : (rule : SubRule) → (lower upper : Typ) → Conclusion
+
+-- a step, and the steps that are its premises, by their numbers from 0
+pub record Step : Type 0 where
+  pub conclusion : Conclusion
+  pub premises : List ℕ
+
+-- A tree of conclusions, each above its premises.
+mutual
+  pub data Proof : Type 0 where
+    concludes : Conclusion → (premises : Proofs) → Proof
+
+  pub data Proofs : Type 0 where
+    no_proofs : Proofs
+    proof_first : (first : Proof) → (rest : Proofs) → Proofs
+
+-- how many steps stand before the last one of a proof, and how many several proofs have
+abbrev mutual
+  pub steps_before : Proof → ℕ
+  steps_before (concludes c premises) = number_of_steps premises
+
+  pub number_of_steps : Proofs → ℕ
+  number_of_steps no_proofs = 0
+  number_of_steps (proof_first p ps) = steps_before p + 1 + number_of_steps ps
+
+-- the numbers of the last steps of proofs, where the first step has the number n
+abbrev pub last_steps : (n : ℕ) → Proofs → List ℕ
+last_steps n no_proofs = []
+last_steps n (proof_first p ps) = (n + steps_before p) ∷ last_steps (n + steps_before p + 1) ps
+
+-- the steps of a proof, and of several one behind the other, where the first step has the number n
+abbrev mutual
+  pub steps_of : (n : ℕ) → Proof → List Step
+  steps_of n (concludes c premises) = steps_of_each n premises ++ record { conclusion = c; premises = last_steps n premises } ∷ []
+
+  pub steps_of_each : (n : ℕ) → Proofs → List Step
+  steps_of_each n no_proofs = []
+  steps_of_each n (proof_first p ps) = steps_of n p ++ steps_of_each (n + steps_before p + 1) ps
+
+-- a proof of subtyping
+abbrev mutual
+  pub sub_proof : SubTree → Proof
+  sub_proof (sub_step rule lower upper premises) = concludes (subtyping rule lower upper) (sub_proofs premises)
+
+  pub sub_proofs : SubTrees → Proofs
+  sub_proofs no_subs = no_proofs
+  sub_proofs (sub_first p ps) = proof_first (sub_proof p) (sub_proofs ps)
+
+-- the premise of subtyping, if there is one, behind those of typing
+abbrev pub with_side : Proofs → Option SubTree → Proofs
+with_side ps None = ps
+with_side no_proofs (Some q) = proof_first (sub_proof q) no_proofs
+with_side (proof_first p ps) (Some q) = proof_first p (with_side ps (Some q))
+
+abbrev pub is_sub : TypeRule → Bool
+is_sub TypeRule.Sub = true
+is_sub rule = false
+
+-- the places of the terms that the premises of a step are about: those of the immediate terms, but for T-Sub
+abbrev pub premise_places : Table → (place : ℕ) → TypeRule → List ℕ
+premise_places t place rule = if is_sub rule then [] else (place_row_numbered t place).terms
+
+-- A proof of typing of the term at a place, and proofs of premises of one: each is about the next of the terms, and about the term itself where none is left, as is
+-- the premise of T-Sub.
+abbrev mutual
+  pub typing_proof : Table → (place : ℕ) → TypingTree → Proof
+  typing_proof t place (typing_step rule type premises side) =
+      concludes (typing rule (place_row_numbered t place).span type) (with_side (typing_proofs t place (premise_places t place rule) premises) side)
+
+  pub typing_proofs : Table → (place : ℕ) → (terms : List ℕ) → TypingTrees → Proofs
+  typing_proofs t place terms no_typings = no_proofs
+  typing_proofs t place [] (typing_first p ps) = proof_first (typing_proof t place p) (typing_proofs t place [] ps)
+  typing_proofs t place (term ∷ terms) (typing_first p ps) = proof_first (typing_proof t term p) (typing_proofs t place terms ps)

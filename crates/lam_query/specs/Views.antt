@@ -1,0 +1,37 @@
+-- What the answers stand for.
+use Rattle.std.specs.Prelude.{ℕ, List, map, Option, String, string_bytes}
+use Rattle.std.specs.declared.alloc.Global.{Global}
+use Rattle.lam_rules.specs.TypeViews.{typ_of}
+use Rattle.lam_rules.specs.TermViews.{written_of}
+use Rattle.lam_rules.specs.declared.types.Ty.{Ty}
+use Rattle.lam_query.specs.declared.answers.Fault.{Fault as RustFault}
+use Rattle.lam_query.specs.declared.answers.Hover.{Hover}
+use Rattle.lam_query.specs.declared.answers.Derivation.{Derivation as RustDerivation}
+use Rattle.lam_query.specs.declared.answers.Step.{Step as RustStep}
+use Rattle.lam_query.specs.declared.answers.Step.TheVariants as rust
+use Rattle.lam_query.specs.Faults.{Fault}
+use Rattle.lam_query.specs.Within.{StandsIn}
+use Rattle.lam_query.specs.Steps.{Step, typing, subtyping}
+use Rattle.lam_query.specs.Hovers.{Shown}
+use Rattle.lam_query.specs.Derivations.{Entry, Derivation}
+
+abbrev pub fault_of : RustFault → Fault
+fault_of f = record { code = f.code.now; span = f.span }
+
+abbrev pub shown_of : Hover → Shown
+shown_of h = record { text = string_bytes h.text; span = h.span }
+
+abbrev pub step_of : RustStep → Step
+step_of (rust.Typing rule span ty premises) = record { conclusion = typing rule span (typ_of ty); premises = premises.items }
+step_of (rust.Sub rule lower upper premises) = record { conclusion = subtyping rule (typ_of lower) (typ_of upper); premises = premises.items }
+
+abbrev pub entry_of : String Global × Option Ty → Entry
+entry_of e = record { name = string_bytes e.0; type = written_of e.1 }
+
+abbrev pub derivation_of : RustDerivation → Derivation
+derivation_of d = record { context = map entry_of d.context.items; steps = map step_of d.steps.items }
+
+-- the place of a step of typing begins and ends between characters of the text
+abbrev pub StepStandsIn : List ℕ → RustStep → Type 0
+StepStandsIn text (rust.Typing rule span ty premises) = StandsIn text span
+StepStandsIn text (rust.Sub rule lower upper premises) = Unit {0}

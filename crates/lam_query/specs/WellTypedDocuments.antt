@@ -1,0 +1,13 @@
+-- Documents in which types have nothing to complain of.
+use Rattle.std.specs.Prelude.{List, []}
+use Rattle.lam_rules.specs.declared.rules.Dialect.{Dialect}
+use Rattle.lam_syntax.specs.Trees.{CommandTree}
+use Rattle.lam_scope.specs.Expanded.{IsExpanded}
+use Rattle.lam_typing.specs.WellTyped.{AreTyped}
+use Rattle.lam_query.specs.Sizes.{statements_in, IsSmall}
+
+-- each written type stands for a type, each definition and each evaluation has a type, and none of them is too large
+pub record IsWellTyped (commands : List CommandTree) (d : Dialect) : Type 0 where
+  pub expanded : IsExpanded (statements_in commands)
+  pub typed : AreTyped [] (statements_in commands) d
+  pub small : IsSmall commands d

@@ -1,0 +1,47 @@
+//! What is answered.
+
+use lam_rules::{SubRule, Ty, TypeRule};
+use lam_token::Span;
+
+/// A fault of a text, by its printed code, as `E3`.
+#[derive(Clone, Copy, Debug)]
+pub struct Fault {
+    pub code: &'static str,
+    pub span: Span,
+}
+
+/// The least type of a term, as a text, and the place of the term.
+#[derive(Drop, Debug)]
+pub struct Hover {
+    pub text: String,
+    pub span: Span,
+}
+
+/// A proof that a term has a type.
+#[derive(Drop)]
+pub struct Derivation {
+    /// The binders of names that the term sees, from the outermost to the innermost, shadowed ones and `_` too, each
+    /// with its least type, or none where it has no type.
+    pub context: Vec<(String, Option<Ty>)>,
+    /// The steps of the proof, each behind those of its premises; the last one concludes the term's type.
+    pub steps: Vec<Step>,
+}
+
+/// A step of a proof. Its premises are told by their places in the list of steps, counted from 0.
+#[derive(Drop)]
+pub enum Step {
+    /// The term at the span has the type. A use of subtyping has the span of its term.
+    Typing {
+        rule: TypeRule,
+        span: Span,
+        ty: Ty,
+        premises: Vec<usize>,
+    },
+    /// The one type is below the other.
+    Sub {
+        rule: SubRule,
+        lower: Ty,
+        upper: Ty,
+        premises: Vec<usize>,
+    },
+}

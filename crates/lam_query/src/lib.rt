@@ -1,0 +1,21 @@
+//! The answers about a text: its faults, the type at an offset, and a derivation of that type.
+//!
+//! Each answer is a function of the text, an offset and the dialect, but for the derivation, which may be any that the
+//! rules accept. Offsets and spans are bytes of the text's UTF-8.
+#![tactic(auto)]
+
+mod analyses;
+pub mod answers;
+mod contexts;
+mod laws;
+mod order;
+mod queries;
+mod reading;
+mod steps;
+#[cfg(test)]
+mod tests;
+mod type_faults;
+
+pub use analyses::Analysis;
+pub use laws::{one_answer, some_answer};
+pub use queries::{derivation, faults, hover};

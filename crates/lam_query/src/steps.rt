@@ -1,0 +1,173 @@
+//! Proofs as lists of steps.
+ghost use Rattle.std.specs.Prelude.{◌≡◌, ℕ, ◌+◌, ◌++◌, map, length, get_or, IfOk, OnOk, All, List};
+ghost use Rattle.std.specs.Option.{option_map};
+ghost use Rattle.lam_rules.specs.SubViews.{sub_tree_of, sub_trees_of};
+ghost use Rattle.lam_rules.specs.TypingViews.{typing_tree_of, typings_of};
+ghost use Rattle.lam_scope.specs.TableViews.{place_number};
+ghost use Rattle.lam_scope.specs.Views.{table_of};
+ghost use Rattle.lam_query.specs.declared.answers.Step.{Step as RustStep};
+ghost use Rattle.lam_query.specs.Steps.{Proofs, steps_of, steps_before, sub_proof, sub_proofs, with_side, is_sub, premise_places, typing_proof, typing_proofs};
+ghost use Rattle.lam_scope.specs.Tables.{place_row_numbered};
+ghost use Rattle.lam_query.specs.Within.{StandsIn};
+ghost use Rattle.lam_query.specs.Views.{step_of, StepStandsIn};
+ghost use Rattle.lam_query.specs.Listing.{AreListed};
+
+use crate::answers::Step;
+use lam_rules::{SubProof, TypeProof, TypeRule, copy_of};
+use lam_scope::{Place, Scopes};
+use std::alloc::{AllocError, Global};
+
+/// The steps of a proof about the term at a place, each behind those of its premises; the last one concludes the proof.
+pub fn steps_of_proof(
+    alloc: Global,
+    scopes: &Scopes,
+    place: Place,
+    proof: &TypeProof,
+) -> Result<Vec<Step>, AllocError>
+    ensures steps { IfOk result (λ listed. map step_of listed.items ≡ steps_of 0 (typing_proof (table_of scopes.now) place.0 (typing_tree_of proof.now))) }
+    ensures whole_characters { IfOk result (λ listed. (text : List ℕ) → ((n : ℕ) → StandsIn text (place_row_numbered (table_of scopes.now) n).span) → All (StepStandsIn text) listed.items) }
+{
+    let mut listed = Vec::new(alloc);
+    list_typing(alloc, &mut listed, scopes, place, proof)?;
+    Ok(listed)
+}
+
+/// Puts the steps of a proof behind those that stand, and answers the number of the last one. The proof is about the
+/// term at the place.
+#[cycle(list_typing)]
+#[tactic(auto, using(lam_rules::proofs::TypingShapes::typing_nodes))]
+fn list_typing(
+    alloc: Global,
+    steps: &mut Vec<Step>,
+    scopes: &Scopes,
+    place: Place,
+    proof: &TypeProof,
+) -> Result<usize, AllocError>
+    ensures steps { IfOk result (λ _. map step_of steps.new.items ≡ map step_of steps.old.items ++ steps_of (length steps.old.items) (typing_proof (table_of scopes.now) place.0 (typing_tree_of proof.now))) }
+    ensures last { IfOk result (λ last. last ≡ length steps.old.items + steps_before (typing_proof (table_of scopes.now) place.0 (typing_tree_of proof.now))) }
+{
+    let terms = premise_places(scopes, place, proof.rule);
+    let mut premises = list_typings(alloc, steps, scopes, place, terms, &proof.typing)?;
+    list_side(alloc, steps, &mut premises, &proof.sub)?;
+    let ty = copy_of(alloc, &proof.ty)?;
+    let last = steps.len();
+    steps.push(Step::Typing {
+        rule: proof.rule,
+        span: scopes.span_of(place),
+        ty,
+        premises,
+    })?;
+    Ok(last)
+}
+
+/// The places of the immediate terms, where the premises of a step are about those.
+fn premise_places(scopes: &Scopes, place: Place, rule: TypeRule) -> &[Place]
+    ensures { map place_number result.now ≡ premise_places (table_of scopes.now) place.0 rule }
+{
+    if is_sub(rule) {
+        &[]
+    } else {
+        scopes.terms_of(place)
+    }
+}
+
+fn is_sub(rule: TypeRule) -> bool
+    ensures { result ≡ is_sub rule }
+{
+    match rule {
+        TypeRule::Sub => true,
+        _ => false,
+    }
+}
+
+/// Puts the steps of proofs of premises one behind the other, and answers the number of the last one of each. They are
+/// about these terms, one after another, or about the term at the place itself.
+#[cycle(list_typing)]
+#[tactic(auto, using(lam_rules::proofs::TypingShapes::typing_nodes))]
+fn list_typings(
+    alloc: Global,
+    steps: &mut Vec<Step>,
+    scopes: &Scopes,
+    place: Place,
+    terms: &[Place],
+    proofs: &[TypeProof],
+) -> Result<Vec<usize>, AllocError>
+    ensures { IfOk result (λ numbers. AreListed steps.old.items (typing_proofs (table_of scopes.now) place.0 (map place_number terms.now) (typings_of proofs.now)) steps.new.items numbers.items) }
+{
+    let mut numbers = Vec::new(alloc);
+    for i in 0..proofs.len() {
+        let proof = &proofs[i];
+        let about = place_or(terms, i, place);
+        let last = list_typing(alloc, steps, scopes, about, proof)?;
+        numbers.push(last)?;
+    }
+    Ok(numbers)
+}
+
+/// The place of that number among these, or else the other one.
+#[tactic(auto, using(lam_scope::proofs::Reading::reading))]
+fn place_or(places: &[Place], number: usize, other: Place) -> Place
+    ensures { result.0 ≡ get_or (map place_number places.now) number other.0 }
+{
+    match places.get(number) {
+        Some(place) => *place,
+        None => other,
+    }
+}
+
+/// Puts the steps of a premise of subtyping behind those of the premises of typing, if there is one.
+fn list_side(
+    alloc: Global,
+    steps: &mut Vec<Step>,
+    premises: &mut Vec<usize>,
+    side: &Option<Box<SubProof>>,
+) -> Result<(), AllocError>
+    ensures { OnOk result ((start : List RustStep) (ps : Proofs) → AreListed start ps steps.old.items premises.old.items
+        → AreListed start (with_side ps (option_map (λ q. sub_tree_of q.value) side.now)) steps.new.items premises.new.items) }
+{
+    match side {
+        None => Ok(()),
+        Some(proof) => {
+            let last = list_sub(alloc, steps, proof)?;
+            premises.push(last)?;
+            Ok(())
+        }
+    }
+}
+
+/// Puts the steps of a proof of subtyping behind those that stand, and answers the number of the last one.
+#[cycle(list_sub)]
+#[tactic(auto, using(lam_rules::proofs::SubShapes::sub_nodes))]
+fn list_sub(alloc: Global, steps: &mut Vec<Step>, proof: &SubProof) -> Result<usize, AllocError>
+    ensures steps { IfOk result (λ _. map step_of steps.new.items ≡ map step_of steps.old.items ++ steps_of (length steps.old.items) (sub_proof (sub_tree_of proof.now))) }
+    ensures last { IfOk result (λ last. last ≡ length steps.old.items + steps_before (sub_proof (sub_tree_of proof.now))) }
+{
+    let premises = list_subs(alloc, steps, &proof.premises)?;
+    let lower = copy_of(alloc, &proof.lower)?;
+    let upper = copy_of(alloc, &proof.upper)?;
+    let last = steps.len();
+    steps.push(Step::Sub {
+        rule: proof.rule,
+        lower,
+        upper,
+        premises,
+    })?;
+    Ok(last)
+}
+
+#[cycle(list_sub)]
+#[tactic(auto, using(lam_rules::proofs::SubShapes::sub_nodes))]
+fn list_subs(
+    alloc: Global,
+    steps: &mut Vec<Step>,
+    proofs: &[SubProof],
+) -> Result<Vec<usize>, AllocError>
+    ensures { IfOk result (λ numbers. AreListed steps.old.items (sub_proofs (sub_trees_of proofs.now)) steps.new.items numbers.items) }
+{
+    let mut numbers = Vec::new(alloc);
+    for proof in proofs {
+        let last = list_sub(alloc, steps, proof)?;
+        numbers.push(last)?;
+    }
+    Ok(numbers)
+}

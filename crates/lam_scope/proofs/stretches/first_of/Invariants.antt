@@ -1,0 +1,7 @@
+use Rattle.std.proofs.Common.{◌≡◌, ◌+◌, drop}
+use Rattle.std.specs.List.{position_from}
+use Rattle.lam_scope.specs.Stretches.{has}
+use Rattle.lam_scope.proofs.stretches.first_of.Given as goal
+
+abbrev pub invariant-loop-i : goal.invariant-loop-i
+invariant-loop-i l = position_from (has l.offset) l.before l.run ≡ position_from (has l.offset) (l.before + l.i) (drop l.i l.run)

@@ -1,0 +1,21 @@
+-- What the abbreviations that are kept stand for.
+use Rattle.std.specs.Prelude.{List, [], map, Option, Some}
+use Rattle.lam_rules.specs.TermViews.{written_of}
+use Rattle.lam_scope.specs.declared.abbreviations.Abbreviation.{Abbreviation as RustAbbreviation}
+use Rattle.lam_scope.specs.Names.{Name}
+use Rattle.lam_scope.specs.Stacks.{stacked}
+use Rattle.lam_scope.specs.Expansions.{Abbreviation, abbreviation}
+
+abbrev pub abbreviation_of : RustAbbreviation → Abbreviation
+abbreviation_of a = abbreviation a.name.now (written_of a.expansion)
+
+-- the abbreviations of a stack, the innermost first
+abbrev pub abbreviations_in : List RustAbbreviation → List Abbreviation
+abbreviations_in = stacked abbreviation_of []
+
+-- the names of abbreviations
+abbrev pub name_of_one : Abbreviation → Option Name
+name_of_one (abbreviation x t) = Some x
+
+abbrev pub names_in : List Abbreviation → List (Option Name)
+names_in = map name_of_one

@@ -1,0 +1,29 @@
+-- The stretches of the rows of a table: of a place its bytes, of a name the byte where its token starts.
+use Rattle.std.specs.Prelude.{ℕ, zero, suc, ◌-◌, Option, Some, None, List, [], ◌∷◌, if◌then◌else◌}
+use Rattle.std.proofs.Math.Dec.{ltb}
+use Rattle.lam_scope.specs.declared.stretches.Stretch.{Stretch}
+use Rattle.lam_scope.specs.Stretches.{no_bytes, one_byte}
+use Rattle.lam_scope.specs.Tables.{TextBinder, TextUse, TextPlace, has_name}
+
+-- a place that is not written has none
+abbrev pub place_stretch : TextPlace → Stretch
+place_stretch p = if p.derived then no_bytes else (if ltb p.span.start p.span.end then record { lowest = p.span.start; highest = p.span.end - 1 } else no_bytes)
+
+-- an underscore has none
+abbrev pub binder_stretch : TextBinder → Stretch
+binder_stretch b = if has_name b.name then one_byte b.token.start else no_bytes
+
+abbrev pub use_stretch : TextUse → Stretch
+use_stretch u = one_byte u.token.start
+
+-- what the token of the binder of a number is told as, and the binder of the use of a number
+
+abbrev pub answer_at : List TextBinder → ℕ → Option ℕ
+answer_at [] n = None
+answer_at (b ∷ bs) zero = Some b.answer
+answer_at (b ∷ bs) (suc n) = answer_at bs n
+
+abbrev pub used_at : List TextUse → ℕ → Option ℕ
+used_at [] n = None
+used_at (u ∷ us) zero = u.binder
+used_at (u ∷ us) (suc n) = used_at us n

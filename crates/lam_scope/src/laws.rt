@@ -1,0 +1,46 @@
+//! What holds of the table and the nameless form of any commands.
+ghost use Rattle.std.specs.Prelude.{◌≡◌, ◌↔◌, ℕ, [], List, Option, None, Some, map, length, get_or, reverse};
+ghost use Rattle.lam_syntax.specs.Trees.{CommandTree};
+ghost use Rattle.lam_scope.specs.Names.{Name, count};
+ghost use Rattle.lam_scope.specs.Nameless.{statements, faults};
+ghost use Rattle.lam_scope.specs.Expanded.{IsExpanded};
+ghost use Rattle.lam_scope.specs.PlacedTerms.{commands_placed};
+ghost use Rattle.lam_scope.specs.Places.{places_of};
+ghost use Rattle.lam_scope.specs.Sights.{sight_numbered};
+ghost use Rattle.lam_scope.specs.Nesting.{AreNested, AreSpelledFrom, IsInnermost};
+ghost use Rattle.lam_scope.specs.Tables.{Table, table, Entry, bound_to, binder_numbered, visible_at, place_at};
+ghost use Rattle.lam_scope.specs.TableViews.{entry_names};
+
+/// The table of commands and their nameless form have as many places, and the binders that a place sees in the table take
+/// their types from where the nameless form says, the outermost first. (Nothing runs here: the contract is the law.)
+pub fn one_sight()
+    ensures places { (cs : List CommandTree) → length (table cs).places ≡ length (places_of [] (statements [] [] cs)) }
+    ensures sights { (cs : List CommandTree) (n : ℕ) → map (λ b. (binder_numbered (table cs) b).origin) (visible_at (table cs) n) ≡ reverse (sight_numbered (statements [] [] cs) n) }
+{}
+
+/// The first place that has a byte is the innermost: each other place that has it is around it. That is so where of two
+/// places the earlier stands within the later, or ends where that has not begun, as those of any text do: of commands
+/// that are spelled by tokens one behind the other. (Nothing runs here: the contract is the law.)
+pub fn innermost_place()
+    ensures spelled { (cs : List CommandTree) → AreSpelledFrom 0 cs → AreNested (table cs).places }
+    ensures innermost { (t : Table) (offset p : ℕ) → AreNested t.places → place_at t offset ≡ Some p → IsInnermost offset t p }
+{}
+
+/// The row of a number and the place of that number are of one term: its span is in the table, its nameless form among the
+/// places. (Nothing runs here: the contract is the law.)
+pub fn one_term()
+    ensures spans { (cs : List CommandTree) → map (λ p. p.span) (table cs).places ≡ map (λ p. p.span) (commands_placed [] [] cs) }
+    ensures terms { (cs : List CommandTree) → map (λ p. p.here) (places_of [] (statements [] [] cs)) ≡ map (λ p. p.term) (commands_placed [] [] cs) }
+{}
+
+/// The binder that a use is told to have is the one that its count names, and it has none where the count is none.
+/// (Nothing runs here: the contract is the law.)
+pub fn one_binder()
+    ensures bound { (x : Name) (seen : List Entry) (n : ℕ) (e : Entry) → count x (entry_names seen) ≡ Some n → get_or seen n e ≡ e → bound_to x seen ≡ Some e.answer }
+    ensures unbound { (x : Name) (seen : List Entry) → count x (entry_names seen) ≡ None → bound_to x seen ≡ None }
+{}
+
+/// No written type is at fault just where each of them stands for a type. (Nothing runs here: the contract is the law.)
+pub fn faultless_is_expanded()
+    ensures { (cs : List CommandTree) → ((faults [] cs ≡ []) ↔ IsExpanded (statements [] [] cs)) }
+{}

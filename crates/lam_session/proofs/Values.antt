@@ -1,0 +1,31 @@
+-- Lists of values that are built one behind the other.
+use Rattle.std.proofs.Common.{◌≡◌, ℕ, ◌+◌, ◌<◌, List, [], ◌∷◌, ◌++◌, length, drop, map, get_or, drop-cons, add-one, sym, refl, ap, ◌∙◌}
+use Rattle.serde_json.specs.Data.{Data}
+use Rattle.serde_json.specs.View.{view}
+use Rattle.serde_json.specs.declared.value.Value.{Value}
+
+viewed : (values : List Value) (v : Value) (rest : List Data) → map view (values ++ v ∷ []) ++ rest ≡ map view values ++ view v ∷ rest
+viewed [] v rest = refl
+viewed (w ∷ values) v rest = ap (λ l. view w ∷ l) (viewed values v rest)
+
+pub value_more : {A B : Type 0} (seen : A → B) (shown : B → Data) (values more : List Value) (v : Value) (xs : List A) (i : ℕ) (x : A)
+    → i < length xs → view v ≡ shown (seen (get_or xs i x)) → more ≡ values ++ v ∷ []
+    → map view values ++ map shown (map seen (drop i xs)) ≡ map shown (map seen xs) → map view more ++ map shown (map seen (drop (i + 1) xs)) ≡ map shown (map seen xs)
+value_more seen shown values more v xs i x inside shows pushed so_far =
+    ap (λ l. map view l ++ map shown (map seen (drop (i + 1) xs))) pushed
+    ∙ viewed values v (map shown (map seen (drop (i + 1) xs)))
+    ∙ ap (λ d. map view values ++ d ∷ map shown (map seen (drop (i + 1) xs))) shows
+    ∙ ap (λ n. map view values ++ shown (seen (get_or xs i x)) ∷ map shown (map seen (drop n xs))) (add-one i)
+    ∙ ap (λ l. map view values ++ map shown (map seen l)) (sym (drop-cons xs i x inside))
+    ∙ so_far
+
+pub number_more : {A : Type 0} (shown : A → Data) (values more : List Value) (v : Value) (xs : List A) (i : ℕ) (x : A)
+    → i < length xs → view v ≡ shown (get_or xs i x) → more ≡ values ++ v ∷ []
+    → map view values ++ map shown (drop i xs) ≡ map shown xs → map view more ++ map shown (drop (i + 1) xs) ≡ map shown xs
+number_more shown values more v xs i x inside shows pushed so_far =
+    ap (λ l. map view l ++ map shown (drop (i + 1) xs)) pushed
+    ∙ viewed values v (map shown (drop (i + 1) xs))
+    ∙ ap (λ d. map view values ++ d ∷ map shown (drop (i + 1) xs)) shows
+    ∙ ap (λ n. map view values ++ shown (get_or xs i x) ∷ map shown (drop n xs)) (add-one i)
+    ∙ ap (λ l. map view values ++ map shown l) (sym (drop-cons xs i x inside))
+    ∙ so_far

@@ -1,7 +1,0 @@
-use Rattle.std.proofs.lemmas.Result.{IfOk-weaker}
-use Rattle.lam_session.proofs.Plain.{steps_plain, each_plain}
-use Rattle.lam_session.proofs.step.Session.step.Goals as goal
-
-pub returns-else-is_err-clause-plain : goal.returns-else-is_err-clause-plain
-returns-else-is_err-clause-plain c =
-    λ plain. IfOk-weaker c.receive-answer.result _ _ (λ values steps. each_plain values.items (steps_plain _ _ _ _ plain steps)) c.receive-answer.ensures.steps

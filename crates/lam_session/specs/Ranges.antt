@@ -1,0 +1,17 @@
+-- Places of a text as a client is told them (LSP 3.17, "Position" and "Range").
+use Rattle.std.specs.Prelude.{ℕ, List, codes}
+use Rattle.serde_json.specs.Data.{Data, number, unsigned, object, member, no_members}
+use Rattle.lam_token.specs.declared.span.Span.{Span}
+use Rattle.lam_text.specs.declared.units.Encoding.{Encoding}
+use Rattle.lam_text.specs.declared.places.Position.{Position}
+use Rattle.lam_text.specs.Positions.{position_of}
+
+abbrev pub position_value : Position → Data
+position_value p =
+    object (member (codes "character") (number (unsigned p.character)) (member (codes "line") (number (unsigned p.line)) no_members))
+
+-- the range of a span of that text, in the client's columns
+abbrev pub range_value : Encoding → List ℕ → Span → Data
+range_value encoding text span =
+    object (member (codes "end") (position_value (position_of encoding text span.end))
+    (member (codes "start") (position_value (position_of encoding text span.start)) no_members))

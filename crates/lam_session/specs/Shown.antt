@@ -1,0 +1,56 @@
+-- Types and derivations as a client is told them (LSP 3.17, "Hover"; the derivation is this server's own request).
+use Rattle.std.specs.Prelude.{ℕ, List, codes, map, Option, None, Some}
+use Rattle.serde_json.specs.Data.{Data, null, number, unsigned, string, array, object, member, no_members}
+use Rattle.serde_json.specs.View.{items_of}
+use Rattle.lam_rules.specs.Types.{Typ}
+use Rattle.lam_rules.specs.Texts.{plain_text}
+use Rattle.lam_rules.specs.Rules.{name_of_sub_rule, name_of_type_rule}
+use Rattle.lam_text.specs.declared.units.Encoding.{Encoding}
+use Rattle.lam_query.specs.Hovers.{Shown}
+use Rattle.lam_query.specs.Steps.{Conclusion, typing, subtyping, Step}
+use Rattle.lam_query.specs.Derivations.{Entry, Derivation}
+use Rattle.lam_session.specs.Ranges.{range_value}
+
+-- ---- a type
+
+abbrev pub plain_contents : List ℕ → Data
+plain_contents text = object (member (codes "kind") (string (codes "plaintext")) (member (codes "value") (string text) no_members))
+
+abbrev pub hover_value : Encoding → List ℕ → Option Shown → Data
+hover_value encoding text None = null
+hover_value encoding text (Some shown) =
+    object (member (codes "contents") (plain_contents shown.text) (member (codes "range") (range_value encoding text shown.span) no_members))
+
+-- ---- a derivation
+
+-- an entry's type, with the fields in their own order
+abbrev pub type_value : Option Typ → Data
+type_value None = null
+type_value (Some t) = string (plain_text t)
+
+abbrev pub entry_value : Entry → Data
+entry_value e = object (member (codes "name") (string e.name) (member (codes "type") (type_value e.type) no_members))
+
+abbrev pub premises_value : List ℕ → Data
+premises_value numbers = array (items_of (map (λ n. number (unsigned n)) numbers))
+
+abbrev pub conclusion_value : Encoding → List ℕ → List ℕ → Conclusion → Data
+conclusion_value encoding text premises (typing rule span type) =
+    object (member (codes "from") (premises_value premises)
+    (member (codes "range") (range_value encoding text span)
+    (member (codes "rule") (string (name_of_type_rule rule))
+    (member (codes "type") (string (plain_text type)) no_members))))
+conclusion_value encoding text premises (subtyping rule lower upper) =
+    object (member (codes "from") (premises_value premises)
+    (member (codes "lower") (string (plain_text lower))
+    (member (codes "rule") (string (name_of_sub_rule rule))
+    (member (codes "upper") (string (plain_text upper)) no_members))))
+
+abbrev pub step_value : Encoding → List ℕ → Step → Data
+step_value encoding text step = conclusion_value encoding text step.premises step.conclusion
+
+abbrev pub derivation_value : Encoding → List ℕ → Option Derivation → Data
+derivation_value encoding text None = null
+derivation_value encoding text (Some d) =
+    object (member (codes "context") (array (items_of (map entry_value d.context)))
+    (member (codes "steps") (array (items_of (map (step_value encoding text) d.steps))) no_members))

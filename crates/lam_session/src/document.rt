@@ -1,0 +1,135 @@
+//! An open document, and what is known of its text.
+ghost use Rattle.std.specs.Prelude.{◌≡◌, true, map, option_map, All, IfOk, IfSome, OnOk};
+ghost use Rattle.lam_query.specs.Analyses.{IsShownIn, IsDerivedIn};
+ghost use Rattle.lam_query.specs.TextFaults.{AreFaults};
+ghost use Rattle.lam_query.specs.Views.{fault_of, shown_of, derivation_of, StepStandsIn};
+ghost use Rattle.lam_query.specs.Within.{StandsIn};
+ghost use Rattle.lam_text.specs.Edits.{text_after};
+ghost use Rattle.lam_text.specs.Positions.{offset_of};
+
+use lam_query::Analysis;
+use lam_query::answers::{Derivation, Fault, Hover};
+use lam_rules::Dialect;
+use lam_text::{Change, Doc, Encoding, Position};
+use std::alloc::{AllocError, Global};
+use std::marker::Model;
+
+/// A text with the client's number of it, where it gave one. An analysis that is there is one of that very text.
+#[derive(Drop)]
+pub struct Document {
+    doc: Doc,
+    dialect: Dialect,
+    version: Option<i64>,
+    analysis: Option<Analysis>,
+}
+
+impl Model for Document {
+    ghost use Rattle.std.specs.Prelude.{◌≡◌, IfSome, is_some};
+    ghost use Rattle.lam_query.specs.Analyses.{IsAnalysisOf, dialect_of};
+    ghost use Rattle.lam_session.specs.Documents.{HeldDocument};
+
+    ghost Value = { HeldDocument };
+
+    ghost view = { λ d. record {
+      text = d.doc.text;
+      encoding = d.doc.encoding;
+      dialect = d.dialect;
+      version = d.version;
+      analysed = is_some d.analysis;
+    } };
+
+    ghost invariant = { λ d. IfSome d.analysis (λ analysis. IsAnalysisOf d.doc.text analysis × (dialect_of analysis ≡ d.dialect)) };
+}
+
+impl Document {
+    /// A document with this text, analysed.
+    pub fn new(
+        alloc: Global,
+        text: &str,
+        version: Option<i64>,
+        encoding: Encoding,
+        dialect: Dialect,
+    ) -> Result<Document, AllocError>
+        ensures { IfOk result (λ d. d ≡ record { text = text.now; encoding = encoding; dialect = dialect; version = version; analysed = true }) }
+    {
+        let doc = Doc::new(alloc, text, encoding)?;
+        let analysis = Analysis::new(alloc, text, dialect)?;
+        Ok(Document {
+            doc,
+            dialect,
+            version,
+            analysis: Some(analysis),
+        })
+    }
+
+    /// Changes the text, and analyses it anew. After an error nothing is known of the text, which may be the changed one.
+    pub fn change(
+        &mut self,
+        alloc: Global,
+        changes: &[Change],
+        version: Option<i64>,
+    ) -> Result<(), AllocError>
+        ensures changed { OnOk result (self.new ≡ record self.old {
+          text = text_after self.old.encoding self.old.text changes.now;
+          version = version;
+          analysed = true;
+        }) }
+        ensures encoding { self.new.encoding ≡ self.old.encoding }
+        ensures dialect { self.new.dialect ≡ self.old.dialect }
+    {
+        self.analysis = None;
+        self.doc.apply(changes)?;
+        let analysis = Analysis::new(alloc, self.doc.text(), self.dialect)?;
+        self.analysis = Some(analysis);
+        self.version = version;
+        Ok(())
+    }
+
+    /// The text, with the unit of its columns.
+    pub fn doc(&self) -> &Doc
+        ensures text { result.now.text ≡ self.now.text }
+        ensures encoding { result.now.encoding ≡ self.now.encoding }
+    {
+        &self.doc
+    }
+
+    /// All faults of the text, in their order.
+    pub fn faults(&self, alloc: Global) -> Result<Vec<Fault>, AllocError>
+        requires { self.now.analysed ≡ true }
+        ensures faults { IfOk result (λ found. AreFaults self.now.text (map fault_of found.items) self.now.dialect) }
+        ensures whole_characters { IfOk result (λ found. All (λ f. StandsIn self.now.text f.span) found.items) }
+    {
+        let Some(analysis) = &self.analysis else {
+            unreachable!()
+        };
+        analysis.faults(alloc, self.doc.text())
+    }
+
+    /// The least type of the innermost term round a position.
+    pub fn hover(&self, alloc: Global, position: Position) -> Result<Option<Hover>, AllocError>
+        requires { self.now.analysed ≡ true }
+        ensures shown { IfOk result (λ found. IsShownIn self.now.text (offset_of self.now.encoding self.now.text position) (option_map shown_of found) self.now.dialect) }
+        ensures whole_characters { IfOk result (λ found. IfSome found (λ h. StandsIn self.now.text h.span)) }
+    {
+        let Some(analysis) = &self.analysis else {
+            unreachable!()
+        };
+        analysis.hover(alloc, self.doc.text(), self.doc.offset_of(position))
+    }
+
+    /// Why that term has that type.
+    pub fn derivation(
+        &self,
+        alloc: Global,
+        position: Position,
+    ) -> Result<Option<Derivation>, AllocError>
+        requires { self.now.analysed ≡ true }
+        ensures derived { IfOk result (λ found. IsDerivedIn self.now.text (offset_of self.now.encoding self.now.text position) (option_map derivation_of found) self.now.dialect) }
+        ensures whole_characters { IfOk result (λ found. IfSome found (λ d. All (StepStandsIn self.now.text) d.steps.items)) }
+    {
+        let Some(analysis) = &self.analysis else {
+            unreachable!()
+        };
+        analysis.derivation(alloc, self.doc.text(), self.doc.offset_of(position))
+    }
+}

@@ -1,0 +1,83 @@
+//! One message, answered in full.
+ghost use Rattle.std.specs.Prelude.{◌≡◌, map, false, IfOk, OnErr};
+ghost use Rattle.std.specs.List.{All};
+ghost use Rattle.serde_json.specs.View.{view};
+ghost use Rattle.serde_json.specs.Written.{has_float};
+ghost use Rattle.lam_rpc.specs.Kind.{message_of, HasPlainId};
+ghost use Rattle.lam_session.specs.OneAnswer.{HasOneAnswer};
+ghost use Rattle.lam_session.specs.State.{fresh, dialect_of, ended_status};
+ghost use Rattle.lam_session.specs.Step.{Answers, GivesUp};
+
+use crate::conversation::Conversation;
+use crate::states::Config;
+use lam_rpc::Incoming;
+use serde_json::Value;
+use std::alloc::{AllocError, Global};
+use std::marker::Model;
+
+/// A session with one client. Until it gives up, of every open document an analysis of the present text is at hand.
+#[derive(Drop)]
+pub struct Session {
+    conversation: Conversation,
+    gave_up: bool,
+}
+
+impl Model for Session {
+    ghost use Rattle.std.specs.Prelude.{◌≡◌, false, true};
+    ghost use Rattle.lam_session.specs.State.{Snapshot, IsWhole};
+
+    ghost Value = { Snapshot };
+
+    ghost view = { λ s. record { state = s.conversation.state; gave_up = s.gave_up } };
+
+    ghost invariant = { λ s. IsWhole s.conversation.state.life s.gave_up × (s.gave_up ≡ false → s.conversation.analysed ≡ true) };
+}
+
+impl Session {
+    /// A session before its first message. It takes no memory.
+    pub fn new(alloc: Global, config: Config) -> Session
+        ensures { result ≡ record { state = fresh (dialect_of config); gave_up = false } }
+    {
+        Session {
+            conversation: Conversation::new(alloc, config.dialect()),
+            gave_up: false,
+        }
+    }
+
+    /// The program's status, once the session has ended.
+    pub fn ended(&self) -> Option<u8>
+        ensures { result ≡ ended_status self.now.state.life }
+    {
+        self.conversation.ended()
+    }
+
+    /// One message, answered in full: the values to send, in order.
+    ///
+    /// `AllocError` says that memory ran out, in this step or an earlier one; from then on every
+    /// step answers it. After the end of the session a step sends nothing and changes nothing.
+    ///
+    /// What the answer is does not hang on memory: each message has one, and one alone, but for
+    /// which derivation of a shown type is given.
+    #[tactic(auto, using(crate::proofs::OneAnswer::has_one_answer))]
+    pub fn step(&mut self, incoming: Incoming) -> Result<Vec<Value>, AllocError>
+        ensures answers { IfOk result (λ values. Answers self.old (message_of incoming) (map view values.items) self.new) }
+        ensures gives_up { OnErr result (GivesUp self.old self.new) }
+        ensures plain { HasPlainId (message_of incoming) → IfOk result (λ values. All (λ v. has_float (view v) ≡ false) values.items) }
+        ensures one_answer { HasOneAnswer self.old.state (message_of incoming) }
+    {
+        if self.gave_up {
+            return Err(AllocError);
+        }
+        let answer = self.conversation.receive(incoming);
+        if answer.is_err() {
+            self.gave_up = true;
+        }
+        answer
+    }
+
+    /// The text of an open document.
+    #[cfg(test)]
+    pub fn text(&self, uri: &str) -> Option<&str> {
+        self.conversation.text(uri)
+    }
+}

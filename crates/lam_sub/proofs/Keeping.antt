@@ -1,0 +1,106 @@
+-- Answers that are kept stay right: one more is, and a table grows.
+use Rattle.std.proofs.Common.{◌≡◌, ◌<◌, ◌↔◌, List, Bool, true, false, ◌&&◌, cond, IsTrue, length, sym, refl, subst, arith, Option, Some, None, IfSome, IfNone}
+use Rattle.std.specs.Prelude.{eqb}
+use Rattle.std.specs.HashMap.{HashMap, get, Updates, IsUnchanged}
+use Rattle.std.specs.Map.{lookup}
+use Rattle.std.specs.declared.hash.FoldHasher.{FoldHasher}
+use Rattle.std.specs.declared.hash.BuildHasherDefault.{BuildHasherDefault}
+use borrow.Author.Tests.{eqb-true}
+use Rattle.lam_rules.specs.Types.{Typ}
+use Rattle.lam_rules.specs.Numbers.{type_of, Stands, Keeps}
+use Rattle.lam_rules.specs.Subtyping.{IsBelow}
+use Rattle.lam_rules.specs.declared.rules.Dialect.{Dialect}
+use Rattle.lam_rules.specs.declared.table.TyNo.{TyNo}
+use Rattle.lam_rules.proofs.Tables.{kept_type, keeps_length}
+use Rattle.lam_sub.specs.Bounds.{IsJoin, IsMeet, HaveNoMeet}
+use Rattle.lam_sub.specs.Remembered.{BothStand, IsVerdict, IsJoinOf, IsMeetOf, equal_pairs, AllKept, AreRight}
+use Rattle.lam_sub.specs.declared.verdicts.Verdicts.{Verdicts}
+
+both_true : (a b : Bool) → (a && b) ≡ true → (a ≡ true) × (b ≡ true)
+both_true true true e = (refl, refl)
+both_true true false e = cc
+both_true false b e = cc
+
+same_pair : (p q : TyNo × TyNo) → equal_pairs p q ≡ true → p ≡ q
+same_pair p q e =
+    let both = both_true (eqb p.0.index q.0.index) (eqb p.1.index q.1.index) e in
+    λ i. (record { index = eqb-true p.0.index q.0.index both.0 i }, record { index = eqb-true p.1.index q.1.index both.1 i })
+
+-- one answer more, or none where a growth was refused
+
+pub kept_more : {X : Type 0} (IsAnswer : TyNo × TyNo → X → Type 0) (m n : HashMap (TyNo × TyNo) X (BuildHasherDefault FoldHasher)) (pair : TyNo × TyNo) (x : X)
+    → Updates equal_pairs m n pair (Some x) → AllKept IsAnswer m → IsAnswer pair x → AllKept IsAnswer n
+kept_more IsAnswer m n pair x updates all here q = subst (λ o. IfSome o (IsAnswer q)) (sym (updates.0 q)) (by (equal_pairs pair q) refl)
+  where
+    by : (b : Bool) → equal_pairs pair q ≡ b → IfSome (cond b (Some x) (get equal_pairs m q)) (IsAnswer q)
+    by true eq = subst (λ p. IsAnswer p x) (same_pair pair q eq) here
+    by false eq = all q
+
+pub kept_same : {X : Type 0} (IsAnswer : TyNo × TyNo → X → Type 0) (m n : HashMap (TyNo × TyNo) X (BuildHasherDefault FoldHasher))
+    → IsUnchanged m n → AllKept IsAnswer m → AllKept IsAnswer n
+kept_same IsAnswer m n unchanged all q = subst (λ es. IfSome (lookup (equal_pairs q) es) (IsAnswer q)) (sym unchanged) (all q)
+
+-- a table that grows
+
+some_more : {X : Type 0} (A B : X → Type 0) (o : Option X) → ((x : X) → A x → B x) → IfSome o A → IfSome o B
+some_more A B (Some x) f a = f x a
+some_more A B None f a = tt
+
+pub both_kept : (old now : List Typ) (pair : TyNo × TyNo) → Keeps old now → BothStand old pair → BothStand now pair
+both_kept old now pair keeps stand =
+    let longer = keeps_length old now keeps in
+    let one = stand.0 in
+    let other = stand.1 in
+    (omega arith, omega arith)
+
+-- a statement on the types of two numbers is one in the table that has grown
+pub pair_kept : (old now : List Typ) (pair : TyNo × TyNo) (P : Typ → Typ → Type 0) → Keeps old now → BothStand old pair
+    → P (type_of old pair.0) (type_of old pair.1) → P (type_of now pair.0) (type_of now pair.1)
+pair_kept old now pair P keeps stand p =
+    subst (λ s. P s (type_of now pair.1)) (sym (kept_type old now pair.0.index keeps stand.0))
+    (subst (λ t. P (type_of old pair.0) t) (sym (kept_type old now pair.1.index keeps stand.1)) p)
+
+verdict_kept : (old now : List Typ) (d : Dialect) (pair : TyNo × TyNo) (is_below : Bool) → Keeps old now → IsVerdict old d pair is_below → IsVerdict now d pair is_below
+verdict_kept old now d pair is_below keeps is = record {
+  stand = both_kept old now pair keeps is.stand;
+  verdict = pair_kept old now pair (λ s t. IsTrue is_below ↔ IsBelow s t d) keeps is.stand is.verdict;
+}
+
+join_kept : (old now : List Typ) (d : Dialect) (pair : TyNo × TyNo) (number : TyNo) → Keeps old now → IsJoinOf old d pair number → IsJoinOf now d pair number
+join_kept old now d pair number keeps is = record {
+  stand = both_kept old now pair keeps is.stand;
+  stands = let longer = keeps_length old now keeps in let here = is.stands in omega arith;
+  join = pair_kept old now pair (λ s t. IsJoin s t (type_of now number) d) keeps is.stand
+      (subst (λ j. IsJoin (type_of old pair.0) (type_of old pair.1) j d) (sym (kept_type old now number.index keeps is.stands)) is.join);
+}
+
+some_kept : (old now : List Typ) (found : Option TyNo) (P : Typ → Type 0) → Keeps old now → IfSome found (Stands old)
+    → IfSome found (λ number. P (type_of old number)) → IfSome found (λ number. P (type_of now number))
+some_kept old now (Some number) P keeps stands p = subst P (sym (kept_type old now number.index keeps stands)) p
+some_kept old now None P keeps stands p = tt
+
+none_more : {X : Type 0} (A B : Type 0) (o : Option X) → (A → B) → IfNone o A → IfNone o B
+none_more A B (Some x) f a = tt
+none_more A B None f a = f a
+
+meet_kept : (old now : List Typ) (d : Dialect) (pair : TyNo × TyNo) (found : Option TyNo) → Keeps old now → IsMeetOf old d pair found → IsMeetOf now d pair found
+meet_kept old now d pair found keeps is = record {
+  stand = both_kept old now pair keeps is.stand;
+  stands = some_more (Stands old) (Stands now) found (λ number here. let longer = keeps_length old now keeps in omega arith) is.stands;
+  some = pair_kept old now pair (λ s t. IfSome found (λ number. IsMeet s t (type_of now number) d)) keeps is.stand
+      (some_kept old now found (λ m. IsMeet (type_of old pair.0) (type_of old pair.1) m d) keeps is.stands is.some);
+  none = none_more (HaveNoMeet (type_of old pair.0) (type_of old pair.1) d) (HaveNoMeet (type_of now pair.0) (type_of now pair.1) d) found
+      (pair_kept old now pair (λ s t. HaveNoMeet s t d) keeps is.stand) is.none;
+}
+
+pub right_kept : (old now : List Typ) (verdicts : Verdicts) → Keeps old now → AreRight old verdicts → AreRight now verdicts
+right_kept old now verdicts keeps right = record {
+  below = λ pair. some_more (IsVerdict old verdicts.dialect pair) (IsVerdict now verdicts.dialect pair) (get equal_pairs verdicts.below pair)
+      (λ is_below. verdict_kept old now verdicts.dialect pair is_below keeps) (right.below pair);
+  joins = λ pair. some_more (IsJoinOf old verdicts.dialect pair) (IsJoinOf now verdicts.dialect pair) (get equal_pairs verdicts.joins pair)
+      (λ number. join_kept old now verdicts.dialect pair number keeps) (right.joins pair);
+  meets = λ pair. some_more (IsMeetOf old verdicts.dialect pair) (IsMeetOf now verdicts.dialect pair) (get equal_pairs verdicts.meets pair)
+      (λ found. meet_kept old now verdicts.dialect pair found keeps) (right.meets pair);
+}
+
+pub ruleset kept_verdicts = (right_kept)

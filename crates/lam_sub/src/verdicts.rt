@@ -1,0 +1,104 @@
+//! What was once found of two types of a table, by their numbers.
+
+ghost use Rattle.std.specs.Prelude.{◌≡◌, List, IfSome};
+ghost use Rattle.lam_rules.specs.Types.{Typ};
+ghost use Rattle.lam_rules.specs.Numbers.{Keeps};
+ghost use Rattle.lam_sub.specs.Remembered.{IsVerdict, IsJoinOf, IsMeetOf, AreRight};
+ghost use Rattle.lam_sub.specs.declared.verdicts.Verdicts.{Verdicts};
+
+use lam_rules::{Dialect, TyNo};
+use std::alloc::{AllocError, Global};
+use std::collections::HashMap;
+
+/// Answers on pairs of numbers of one table, in one dialect: subtyping, which this crate decides, and
+/// the bounds that lam_lattice finds, so that a caller carries one thing beside the table. They are
+/// right of a table, not by themselves, so each call on numbers asks that they be.
+#[derive(Drop)]
+pub struct Verdicts {
+    pub alloc: Global,
+    pub dialect: Dialect,
+    /// Whether the first type is below the second, under the numbers of their sorted forms.
+    below: HashMap<(TyNo, TyNo), bool>,
+    joins: HashMap<(TyNo, TyNo), TyNo>,
+    /// None where no type is below both.
+    meets: HashMap<(TyNo, TyNo), Option<TyNo>>,
+}
+
+impl Verdicts {
+    /// No answers yet. They keep the allocator for those to come.
+    pub fn new(alloc: Global, dialect: Dialect) -> Verdicts
+        ensures dialect { result.dialect ≡ dialect }
+        ensures right { (ts : List Typ) → AreRight ts result }
+    {
+        Verdicts {
+            alloc,
+            dialect,
+            below: HashMap::new(alloc),
+            joins: HashMap::new(alloc),
+            meets: HashMap::new(alloc),
+        }
+    }
+
+    /// What is kept of whether the first type is below the second.
+    pub fn known_verdict(&self, lower: TyNo, upper: TyNo) -> Option<bool>
+        ensures { (ts : List Typ) → AreRight ts self.now → IfSome result (IsVerdict ts self.now.dialect (lower, upper)) }
+    {
+        self.below.get(&(lower, upper)).copied()
+    }
+
+    /// Keeps whether the first type is below the second.
+    pub fn keep_verdict(
+        &mut self,
+        lower: TyNo,
+        upper: TyNo,
+        is_below: bool,
+    ) -> Result<(), AllocError>
+        ensures dialect { self.new.dialect ≡ self.old.dialect }
+        ensures right { (ts : List Typ) → AreRight ts self.old → IsVerdict ts self.old.dialect (lower, upper) is_below → AreRight ts self.new }
+    {
+        self.below.insert((lower, upper), is_below)?;
+        Ok(())
+    }
+
+    /// What is kept as the join of two types.
+    pub fn known_join(&self, left: TyNo, right: TyNo) -> Option<TyNo>
+        ensures { (ts : List Typ) → AreRight ts self.now → IfSome result (IsJoinOf ts self.now.dialect (left, right)) }
+    {
+        self.joins.get(&(left, right)).copied()
+    }
+
+    /// Keeps a join of two types.
+    pub fn keep_join(&mut self, left: TyNo, right: TyNo, number: TyNo) -> Result<(), AllocError>
+        ensures dialect { self.new.dialect ≡ self.old.dialect }
+        ensures right { (ts : List Typ) → AreRight ts self.old → IsJoinOf ts self.old.dialect (left, right) number → AreRight ts self.new }
+    {
+        self.joins.insert((left, right), number)?;
+        Ok(())
+    }
+
+    /// What is kept as the meet of two types: some none where it is known that there is no meet.
+    pub fn known_meet(&self, left: TyNo, right: TyNo) -> Option<Option<TyNo>>
+        ensures { (ts : List Typ) → AreRight ts self.now → IfSome result (IsMeetOf ts self.now.dialect (left, right)) }
+    {
+        self.meets.get(&(left, right)).copied()
+    }
+
+    /// Keeps a meet of two types, or that they have none.
+    pub fn keep_meet(
+        &mut self,
+        left: TyNo,
+        right: TyNo,
+        found: Option<TyNo>,
+    ) -> Result<(), AllocError>
+        ensures dialect { self.new.dialect ≡ self.old.dialect }
+        ensures right { (ts : List Typ) → AreRight ts self.old → IsMeetOf ts self.old.dialect (left, right) found → AreRight ts self.new }
+    {
+        self.meets.insert((left, right), found)?;
+        Ok(())
+    }
+}
+
+/// A law: what is kept stays right while the table grows.
+pub fn verdicts_stay_right()
+    ensures { (old now : List Typ) (verdicts : Verdicts) → Keeps old now → AreRight old verdicts → AreRight now verdicts }
+{}

@@ -1,0 +1,93 @@
+-- What the proofs that are built for the terms of a document promise, in every context of least entries in which the terms stand at their places.
+use Rattle.std.specs.Prelude.{◌≡◌, ◌<◌, ◌≤◌, ℕ, ◌+◌, List, [], ◌∷◌, reverse, length, Option, Some, None, get_or, String, string_bytes}
+use Rattle.lam_rules.specs.Types.{Typ, bool, nat, unit, record_of, Fields}
+use Rattle.lam_rules.specs.TypeViews.{fields_of}
+use Rattle.lam_rules.specs.Terms.{Term, true_term, false_term, numeral, unit_term, succ, pred, is_zero, record_term, TermFields}
+use Rattle.lam_rules.specs.Subtyping.{IsBelow}
+use Rattle.lam_rules.specs.Typing.{Context, TypingTree, TypingTrees, type_in, IsTyping, ByTypeRule, ProvesTyping, HasType}
+use Rattle.lam_rules.specs.TypingViews.{typing_tree_of, typings_of}
+use Rattle.lam_rules.specs.declared.rules.Dialect.{Dialect}
+use Rattle.lam_rules.specs.declared.rules.TypeRule.{TypeRule}
+use Rattle.lam_scope.specs.Places.{Scope, Place}
+use Rattle.lam_scope.specs.Sights.{inside_fields, place_of_term, behind_term}
+use Rattle.lam_typing.specs.Progress.{IsLowest, AreFieldsAt}
+use Rattle.lam_typing.specs.Seeing.{LeastAmong, Sees, SeesFields}
+use Rattle.lam_typing.specs.Typings.{found_of, noted_in, dialect_of}
+use Rattle.lam_typing.specs.declared.typing.Typing.{Typing}
+use Rattle.lam_typing.specs.declared.proving.Proven.{Proven}
+use Rattle.lam_typing.specs.declared.proving.ProvenFields.{ProvenFields}
+
+abbrev pub tree_in : Proven → TypingTree
+tree_in m = typing_tree_of m.proof
+
+-- The context is that of the least entries of the scope, and what was found of the places are their least types.
+pub record IsSetting (t : Typing) (all : List Place) (s : Scope) (g : Context) : Type 0 where
+  pub least : LeastAmong all (found_of t) (dialect_of t)
+  pub low : IsLowest s g (dialect_of t)
+
+-- a proof exactly where a type was found, and of this very type
+abbrev pub ProvesFound : Option TypingTree → Option Typ → Context → Term → Dialect → Type 0
+ProvesFound (Some p) (Some t) g e d = ProvesTyping p g e t d
+ProvesFound None None g e d = Unit {0}
+ProvesFound _ _ g e d = ⊥
+
+abbrev pub IsProvenTerm : Typing → Term → ℕ → Option TypingTree → Type 0
+IsProvenTerm t e behind o =
+    (all : List Place) (k : ℕ) (s : Scope) (g : Context) → IsSetting t all s g → Sees all (found_of t) (noted_in t) k s g e → behind ≡ behind_term k e → behind ≤ length (found_of t)
+    → ProvesFound o (get_or (found_of t) (place_of_term k e) None) g e (dialect_of t)
+
+-- a proof of this type, where it is the one that was found
+abbrev pub ProvesThis : Option TypingTree → Typ → Context → Term → Dialect → Type 0
+ProvesThis (Some p) t g e d = ProvesTyping p g e t d
+ProvesThis None t g e d = ⊥
+
+abbrev pub IsProvenForm : Typing → Term → ℕ → Typ → Option TypingTree → Type 0
+IsProvenForm t e place type o =
+    (all : List Place) (k : ℕ) (s : Scope) (g : Context) → IsSetting t all s g → Sees all (found_of t) (noted_in t) k s g e → place ≡ place_of_term k e → place < length (found_of t)
+    → get_or (found_of t) place None ≡ Some type → ProvesThis o type g e (dialect_of t)
+
+-- a proof of this type, where the term has it
+abbrev pub ProvesWide : Option TypingTree → Typ → Context → Term → Dialect → Type 0
+ProvesWide (Some p) t g e d = ProvesTyping p g e t d
+ProvesWide None t g e d = HasType g e t d → ⊥
+
+abbrev pub IsProvenAs : Typing → Term → ℕ → Typ → Option TypingTree → Type 0
+IsProvenAs t e behind type o =
+    (all : List Place) (k : ℕ) (s : Scope) (g : Context) → IsSetting t all s g → Sees all (found_of t) (noted_in t) k s g e → behind ≡ behind_term k e → behind ≤ length (found_of t)
+    → ProvesWide o type g e (dialect_of t)
+
+-- what is proved by the tree has the wider type by the other, where its type is below that
+abbrev pub IsWidened : TypingTree → Typ → Option TypingTree → Dialect → Type 0
+IsWidened p t (Some q) d = (g : Context) (e : Term) → IsTyping g e p d → ProvesTyping q g e t d
+IsWidened p t None d = (g : Context) (e : Term) → IsTyping g e p d → IsBelow (type_in p) t d → ⊥
+
+-- the rules without premises, but that of variables, and those of one operand below Nat, with the types that they conclude
+abbrev pub IsLeafBy : TypeRule → Term → Typ → Type 0
+IsLeafBy TypeRule.True true_term t = t ≡ bool
+IsLeafBy TypeRule.False false_term t = t ≡ bool
+IsLeafBy TypeRule.Num (numeral digits) t = t ≡ nat
+IsLeafBy TypeRule.Unit unit_term t = t ≡ unit
+IsLeafBy _ _ t = ⊥
+
+abbrev pub IsNatBy : TypeRule → Term → Term → Typ → Type 0
+IsNatBy TypeRule.Succ (succ e) operand t = (e ≡ operand) × (t ≡ nat)
+IsNatBy TypeRule.Pred (pred e) operand t = (e ≡ operand) × (t ≡ nat)
+IsNatBy TypeRule.IsZero (is_zero e) operand t = (e ≡ operand) × (t ≡ bool)
+IsNatBy _ _ operand t = ⊥
+
+-- The proofs of the terms of a record and their types, label by label, where each of them has a type.
+pub record FieldTrees : Type 0 where
+  pub trees : TypingTrees
+  pub types : Fields
+
+abbrev pub trees_in : ProvenFields → FieldTrees
+trees_in m = record { trees = typings_of (reverse m.proofs.items); types = fields_of (reverse m.types.items) }
+
+abbrev pub ProveFields : Option FieldTrees → Scope → Context → TermFields → Dialect → Type 0
+ProveFields (Some ps) s g es d = ByTypeRule TypeRule.Rcd None g (record_term es) (record_of ps.types) ps.trees d × AreFieldsAt s es (Some ps.types) d
+ProveFields None s g es d = AreFieldsAt s es None d
+
+abbrev pub AreProvenFields : Typing → TermFields → ℕ → Option FieldTrees → Type 0
+AreProvenFields t es behind o =
+    (all : List Place) (k : ℕ) (s : Scope) (g : Context) → IsSetting t all s g → SeesFields all (found_of t) (noted_in t) k s g es → behind ≡ k + inside_fields es → behind ≤ length (found_of t)
+    → ProveFields o s g es (dialect_of t)

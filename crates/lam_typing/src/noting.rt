@@ -1,0 +1,308 @@
+//! The second pass over the places of a document: which entries they speak of.
+
+ghost use Rattle.std.specs.Prelude.{◌≡◌, List, Option, map, IfOk, OnOk};
+ghost use Rattle.lam_rules.specs.Types.{Typ};
+ghost use Rattle.lam_rules.specs.Terms.{Term, if_then_else, variable, lambda, apply, let_in, record_term};
+ghost use Rattle.lam_rules.specs.TermViews.{term_of, terms_of, written_of};
+ghost use Rattle.lam_rules.specs.Typing.{IsWellFormedEntry};
+ghost use Rattle.lam_rules.specs.declared.table.TyNo.{TyNo as Number};
+ghost use Rattle.lam_scope.specs.WellFormed.{IsWellFormedTerm, AreWellFormedTerms, IsWellFormedStatement, AreWellFormedStatements};
+ghost use Rattle.lam_scope.specs.Views.{statement_of};
+ghost use Rattle.lam_typing.specs.Answers.{answer, StandsIn, AllStandIn, context_under};
+ghost use Rattle.lam_typing.specs.Steps.{entry_at};
+ghost use Rattle.lam_typing.specs.Notes.{AreSoundNotes, NotesTerm, NotesFields, NotesOne, NotesStatement, NotesDocument, IsLeaf, IsOver};
+
+use crate::reading::type_of_place;
+use crate::steps::added;
+use crate::walking::entry_of;
+use lam_rules::{Core, Ty, TyNo, TyTable};
+use lam_scope::Statement;
+use std::alloc::{AllocError, Global};
+
+/// The entries that a place speaks of: a lambda of that of its own binder, which is what is written there, and a variable
+/// of that of the binder that it counts to.
+#[derive(Clone, Copy)]
+pub(crate) struct Note {
+    pub written: Option<TyNo>,
+    pub bound: Option<TyNo>,
+}
+
+/// What was noted so far.
+#[derive(Drop)]
+pub(crate) struct Notes {
+    /// The entries of the binders that it is under, the outermost first.
+    pub entries: Vec<Option<TyNo>>,
+    /// The note of each place, in the order of places.
+    pub noted: Vec<Note>,
+    /// What each statement declares, in their order.
+    pub declared: Vec<Option<TyNo>>,
+}
+
+/// The notes of a document's places, and what its statements declare.
+pub(crate) fn note_statements(
+    alloc: Global,
+    table: &mut TyTable,
+    found: &[Option<TyNo>],
+    statements: &[Statement],
+) -> Result<Notes, AllocError>
+    requires found { AllStandIn table.old found.now }
+    requires wf { AreWellFormedStatements (map statement_of statements.now) }
+    ensures { IfOk result (λ made. NotesDocument table.old table.new made found.now (map statement_of statements.now)) }
+{
+    let mut notes = Notes {
+        entries: Vec::new(alloc),
+        noted: Vec::new(alloc),
+        declared: Vec::new(alloc),
+    };
+    for i in 0..statements.len() {
+        note_statement(table, &mut notes, found, &statements[i])?;
+    }
+    Ok(notes)
+}
+
+fn note_statement(
+    table: &mut TyTable,
+    n: &mut Notes,
+    found: &[Option<TyNo>],
+    statement: &Statement,
+) -> Result<(), AllocError>
+    requires sound { AreSoundNotes table.old n.old }
+    requires found { AllStandIn table.old found.now }
+    requires wf { IsWellFormedStatement (statement_of statement.now) }
+    ensures { OnOk result (NotesStatement table.old table.new n.old n.new found.now (statement_of statement.now)) }
+{
+    match statement {
+        Statement::Definition(core) => {
+            let place = note_term(table, n, found, core)?;
+            n.entries.push(type_of_place(found, place))?;
+            n.declared.push(None)?;
+            Ok(())
+        }
+        Statement::Declaration(written) => {
+            let entry = added(table, written)?;
+            n.entries.push(entry)?;
+            n.declared.push(entry)?;
+            Ok(())
+        }
+        Statement::Abbreviation(_) => {
+            n.declared.push(None)?;
+            Ok(())
+        }
+        Statement::Evaluation(core) => {
+            note_term(table, n, found, core)?;
+            n.declared.push(None)?;
+            Ok(())
+        }
+    }
+}
+
+/// The notes of a term, whose places all come behind those that were noted; its own place.
+#[cycle(note_term)]
+#[tactic(auto, using(lam_rules::proofs::TermShapes::term_shapes))]
+fn note_term(
+    table: &mut TyTable,
+    n: &mut Notes,
+    found: &[Option<TyNo>],
+    term: &Core,
+) -> Result<usize, AllocError>
+    requires sound { AreSoundNotes table.old n.old }
+    requires found { AllStandIn table.old found.now }
+    requires wf { IsWellFormedTerm (term_of term.now) }
+    ensures { IfOk result (λ place. NotesTerm table.old table.new n.old n.new found.now (term_of term.now) place) }
+{
+    match term {
+        Core::True => note_leaf(table, n),
+        Core::False => note_leaf(table, n),
+        Core::If(condition, then_term, else_term) => {
+            note_if(table, n, found, condition, then_term, else_term)
+        }
+        Core::Num(_) => note_leaf(table, n),
+        Core::Succ(operand) => note_over(table, n, found, operand),
+        Core::Pred(operand) => note_over(table, n, found, operand),
+        Core::IsZero(operand) => note_over(table, n, found, operand),
+        Core::Var(count) => note_variable(table, n, *count),
+        Core::Free(_) => note_leaf(table, n),
+        Core::Abs(written, body) => note_lambda(table, n, found, written, body),
+        Core::App(function, argument) => note_apply(table, n, found, function, argument),
+        Core::Unit => note_leaf(table, n),
+        Core::Ascribe(operand, _) => note_over(table, n, found, operand),
+        Core::Let(bound, body) => note_let(table, n, found, bound, body),
+        Core::Record(fields) => note_record(table, n, found, fields),
+        Core::Proj(operand, _) => note_over(table, n, found, operand),
+        Core::Fix(operand) => note_over(table, n, found, operand),
+    }
+}
+
+/// A term without parts that is no variable.
+fn note_leaf(table: &TyTable, n: &mut Notes) -> Result<usize, AllocError>
+    requires sound { AreSoundNotes table.now n.old }
+    ensures { IfOk result (λ place. (found : List (Option Number)) (e : Term) → IsLeaf e → NotesTerm table.now table.now n.old n.new found e place) }
+{
+    note_here(n, None, None)
+}
+
+/// A term of one part that binds nothing.
+#[cycle(note_term)]
+fn note_over(
+    table: &mut TyTable,
+    n: &mut Notes,
+    found: &[Option<TyNo>],
+    operand: &Core,
+) -> Result<usize, AllocError>
+    requires sound { AreSoundNotes table.old n.old }
+    requires found { AllStandIn table.old found.now }
+    requires operand { IsWellFormedTerm (term_of operand.now) }
+    ensures { IfOk result (λ place. (e : Term) → IsOver e (term_of operand.now) → NotesTerm table.old table.new n.old n.new found.now e place) }
+{
+    note_term(table, n, found, operand)?;
+    note_here(n, None, None)
+}
+
+#[cycle(note_term)]
+fn note_if(
+    table: &mut TyTable,
+    n: &mut Notes,
+    found: &[Option<TyNo>],
+    condition: &Core,
+    then_term: &Core,
+    else_term: &Core,
+) -> Result<usize, AllocError>
+    requires sound { AreSoundNotes table.old n.old }
+    requires found { AllStandIn table.old found.now }
+    requires condition { IsWellFormedTerm (term_of condition.now) }
+    requires then_term { IsWellFormedTerm (term_of then_term.now) }
+    requires else_term { IsWellFormedTerm (term_of else_term.now) }
+    ensures { IfOk result (λ place. NotesTerm table.old table.new n.old n.new found.now (if_then_else (term_of condition.now) (term_of then_term.now) (term_of else_term.now)) place) }
+{
+    note_term(table, n, found, condition)?;
+    note_term(table, n, found, then_term)?;
+    note_term(table, n, found, else_term)?;
+    note_here(n, None, None)
+}
+
+/// A variable has the entry of the binder that it counts to.
+fn note_variable(table: &TyTable, n: &mut Notes, count: usize) -> Result<usize, AllocError>
+    requires sound { AreSoundNotes table.now n.old }
+    ensures { IfOk result (λ place. (found : List (Option Number)) → NotesTerm table.now table.now n.old n.new found (variable count) place) }
+{
+    let bound = entry_counted(&n.entries, count);
+    note_here(n, None, bound)
+}
+
+#[cycle(note_term)]
+fn note_lambda(
+    table: &mut TyTable,
+    n: &mut Notes,
+    found: &[Option<TyNo>],
+    written: &Option<Ty>,
+    body: &Core,
+) -> Result<usize, AllocError>
+    requires sound { AreSoundNotes table.old n.old }
+    requires found { AllStandIn table.old found.now }
+    requires written { IsWellFormedEntry (written_of written.now) }
+    requires body { IsWellFormedTerm (term_of body.now) }
+    ensures { IfOk result (λ place. NotesTerm table.old table.new n.old n.new found.now (lambda (written_of written.now) (term_of body.now)) place) }
+{
+    let entry = added(table, written)?;
+    n.entries.push(entry)?;
+    note_term(table, n, found, body)?;
+    n.entries.pop();
+    note_here(n, entry, None)
+}
+
+#[cycle(note_term)]
+fn note_apply(
+    table: &mut TyTable,
+    n: &mut Notes,
+    found: &[Option<TyNo>],
+    function: &Core,
+    argument: &Core,
+) -> Result<usize, AllocError>
+    requires sound { AreSoundNotes table.old n.old }
+    requires found { AllStandIn table.old found.now }
+    requires function { IsWellFormedTerm (term_of function.now) }
+    requires argument { IsWellFormedTerm (term_of argument.now) }
+    ensures { IfOk result (λ place. NotesTerm table.old table.new n.old n.new found.now (apply (term_of function.now) (term_of argument.now)) place) }
+{
+    note_term(table, n, found, function)?;
+    note_term(table, n, found, argument)?;
+    note_here(n, None, None)
+}
+
+/// A let: the binder's entry is the type that was found of the term that is bound.
+#[cycle(note_term)]
+fn note_let(
+    table: &mut TyTable,
+    n: &mut Notes,
+    found: &[Option<TyNo>],
+    bound: &Core,
+    body: &Core,
+) -> Result<usize, AllocError>
+    requires sound { AreSoundNotes table.old n.old }
+    requires found { AllStandIn table.old found.now }
+    requires bound { IsWellFormedTerm (term_of bound.now) }
+    requires body { IsWellFormedTerm (term_of body.now) }
+    ensures { IfOk result (λ place. NotesTerm table.old table.new n.old n.new found.now (let_in (term_of bound.now) (term_of body.now)) place) }
+{
+    let place = note_term(table, n, found, bound)?;
+    n.entries.push(type_of_place(found, place))?;
+    note_term(table, n, found, body)?;
+    n.entries.pop();
+    note_here(n, None, None)
+}
+
+#[cycle(note_term)]
+fn note_record(
+    table: &mut TyTable,
+    n: &mut Notes,
+    found: &[Option<TyNo>],
+    fields: &[(String, Core)],
+) -> Result<usize, AllocError>
+    requires sound { AreSoundNotes table.old n.old }
+    requires found { AllStandIn table.old found.now }
+    requires fields { AreWellFormedTerms (terms_of fields.now) }
+    ensures { IfOk result (λ place. NotesTerm table.old table.new n.old n.new found.now (record_term (terms_of fields.now)) place) }
+{
+    note_fields(table, n, found, fields)?;
+    note_here(n, None, None)
+}
+
+/// The terms of a record, from the first to the last.
+#[cycle(note_term)]
+fn note_fields(
+    table: &mut TyTable,
+    n: &mut Notes,
+    found: &[Option<TyNo>],
+    fields: &[(String, Core)],
+) -> Result<(), AllocError>
+    requires sound { AreSoundNotes table.old n.old }
+    requires found { AllStandIn table.old found.now }
+    requires wf { AreWellFormedTerms (terms_of fields.now) }
+    ensures { OnOk result (NotesFields table.old table.new n.old n.new found.now (terms_of fields.now)) }
+{
+    let Some((field, others)) = fields.split_first() else {
+        return Ok(());
+    };
+    note_term(table, n, found, &field.1)?;
+    note_fields(table, n, found, others)
+}
+
+/// The note of the next place, which is answered.
+fn note_here(n: &mut Notes, written: Option<TyNo>, bound: Option<TyNo>) -> Result<usize, AllocError>
+    ensures { IfOk result (λ place. NotesOne n.old n.new written bound place) }
+{
+    let place = n.noted.len();
+    n.noted.push(Note { written, bound })?;
+    Ok(place)
+}
+
+/// The entry of the binder that a count finds, if it does not count past all of them.
+fn entry_counted(entries: &[Option<TyNo>], count: usize) -> Option<TyNo>
+    ensures entry { (ts : List Typ) → answer ts result ≡ entry_at count (context_under ts entries.now) }
+    ensures stands { (ts : List Typ) → AllStandIn ts entries.now → StandsIn ts result }
+{
+    if count >= entries.len() {
+        return None;
+    }
+    entry_of(entries, count)
+}

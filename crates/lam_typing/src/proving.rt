@@ -1,0 +1,584 @@
+//! Proofs by the declarative rules that places have the types found of them.
+//!
+//! What is known of a type that was found is that it is least, and two least types may differ in the order of fields.
+//! So each step is followed by one of subsumption where it does not conclude in the very type that was found.
+
+ghost use Rattle.std.specs.Prelude.{◌≡◌, ◌+◌, ◌<◌, ◌≤◌, ℕ, IfOk, IfSome, None};
+ghost use Rattle.std.specs.Option.{option_map};
+ghost use Rattle.lam_rules.specs.Terms.{Term, if_then_else, variable, lambda, apply, ascribe, let_in, record_term, project, fix};
+ghost use Rattle.lam_rules.specs.TermViews.{term_of, terms_of, written_of};
+ghost use Rattle.lam_rules.specs.TypeViews.{typ_of};
+ghost use Rattle.lam_rules.specs.Typing.{typing_step};
+ghost use Rattle.lam_rules.specs.TypingViews.{typing_tree_of, typings_of};
+ghost use Rattle.lam_scope.specs.Sights.{inside, inside_fields};
+ghost use Rattle.lam_typing.specs.Proving.{tree_in, trees_in, IsProvenTerm, IsProvenForm, IsProvenAs, IsWidened, IsLeafBy, IsNatBy, AreProvenFields};
+
+use crate::reading::{bound_at, type_of_place};
+use crate::typing::Typing;
+use lam_rules::{
+    Core, Dialect, Ty, TypeProof, TypeRule, copy_of, make_arrow, make_record, same, wf,
+};
+use lam_sub::{field_type, prove_sub};
+use std::alloc::{AllocError, Global};
+
+/// A proof of the type that was found of a term, and the number of the term's first place.
+#[derive(Drop)]
+pub(crate) struct Proven {
+    pub proof: TypeProof,
+    pub first: usize,
+}
+
+/// The proofs and the types of the terms of a record, from the last to the first, and the number of the first place.
+#[derive(Drop)]
+struct ProvenFields {
+    proofs: Vec<TypeProof>,
+    types: Vec<(String, Ty)>,
+    first: usize,
+}
+
+/// A proof of the type that was found of a term, whose places end before this number; none, where none was found.
+#[cycle(prove_term)]
+#[tactic(auto, using(lam_rules::proofs::TermShapes::term_shapes))]
+pub(crate) fn prove_term(
+    alloc: Global,
+    typing: &Typing,
+    term: &Core,
+    behind: usize,
+) -> Result<Option<Proven>, AllocError>
+    requires { inside (term_of term.now) < behind }
+    ensures first { IfOk result (λ made. IfSome made (λ m. m.first + inside (term_of term.now) + 1 ≡ behind)) }
+    ensures proves { IfOk result (λ made. IsProvenTerm typing.now (term_of term.now) behind (option_map tree_in made)) }
+{
+    let place = behind - 1;
+    let Some(number) = type_of_place(&typing.walk.found, place) else {
+        return Ok(None);
+    };
+    let ty = typing.walk.table.tree(number)?;
+    match term {
+        Core::True => prove_leaf(alloc, typing, TypeRule::True, Ty::Bool, place, &ty),
+        Core::False => prove_leaf(alloc, typing, TypeRule::False, Ty::Bool, place, &ty),
+        Core::If(condition, one, other) => {
+            prove_if(alloc, typing, condition, one, other, place, &ty)
+        }
+        Core::Num(_) => prove_leaf(alloc, typing, TypeRule::Num, Ty::Nat, place, &ty),
+        Core::Succ(operand) => {
+            prove_number(alloc, typing, TypeRule::Succ, operand, Ty::Nat, place, &ty)
+        }
+        Core::Pred(operand) => {
+            prove_number(alloc, typing, TypeRule::Pred, operand, Ty::Nat, place, &ty)
+        }
+        Core::IsZero(operand) => {
+            prove_number(
+                alloc,
+                typing,
+                TypeRule::IsZero,
+                operand,
+                Ty::Bool,
+                place,
+                &ty,
+            )
+        }
+        Core::Var(_) => prove_variable(alloc, typing, place, &ty),
+        Core::Free(_) => Ok(None),
+        Core::Abs(written, body) => prove_lambda(alloc, typing, written, body, place, &ty),
+        Core::App(function, argument) => {
+            prove_apply(alloc, typing, function, argument, place, &ty)
+        }
+        Core::Unit => prove_leaf(alloc, typing, TypeRule::Unit, Ty::Unit, place, &ty),
+        Core::Ascribe(operand, written) => {
+            prove_ascribe(alloc, typing, operand, written, place, &ty)
+        }
+        Core::Let(bound, body) => prove_let(alloc, typing, bound, body, place, &ty),
+        Core::Record(fields) => prove_record(alloc, typing, fields, place, &ty),
+        Core::Proj(operand, label) => prove_project(alloc, typing, operand, label, place, &ty),
+        Core::Fix(operand) => prove_fix(alloc, typing, operand, place, &ty),
+    }
+}
+
+/// Constants and numerals.
+fn prove_leaf(
+    alloc: Global,
+    typing: &Typing,
+    rule: TypeRule,
+    conclusion: Ty,
+    place: usize,
+    ty: &Ty,
+) -> Result<Option<Proven>, AllocError>
+    ensures first { IfOk result (λ made. IfSome made (λ m. m.first ≡ place)) }
+    ensures proves { IfOk result (λ made. (e : Term) → IsLeafBy rule e (typ_of conclusion) → IsProvenForm typing.now e place (typ_of ty.now) (option_map tree_in made)) }
+{
+    let premises = Vec::new(alloc);
+    finish(alloc, rule, conclusion, premises, ty, place, typing.dialect)
+}
+
+/// A variable has the entry of its binder.
+fn prove_variable(
+    alloc: Global,
+    typing: &Typing,
+    place: usize,
+    ty: &Ty,
+) -> Result<Option<Proven>, AllocError>
+    ensures first { IfOk result (λ made. IfSome made (λ m. m.first ≡ place)) }
+    ensures proves { IfOk result (λ made. (count : ℕ) → IsProvenForm typing.now (variable count) place (typ_of ty.now) (option_map tree_in made)) }
+{
+    let Some(number) = bound_at(&typing.notes.noted, place) else {
+        return Ok(None);
+    };
+    let entry = typing.walk.table.tree(number)?;
+    let premises = Vec::new(alloc);
+    finish(
+        alloc,
+        TypeRule::Var,
+        entry,
+        premises,
+        ty,
+        place,
+        typing.dialect,
+    )
+}
+
+/// T-Succ, T-Pred and T-IsZero.
+#[cycle(prove_term)]
+fn prove_number(
+    alloc: Global,
+    typing: &Typing,
+    rule: TypeRule,
+    operand: &Core,
+    conclusion: Ty,
+    place: usize,
+    ty: &Ty,
+) -> Result<Option<Proven>, AllocError>
+    requires { inside (term_of operand.now) < place }
+    ensures first { IfOk result (λ made. IfSome made (λ m. m.first + (inside (term_of operand.now) + 1) ≡ place)) }
+    ensures proves { IfOk result (λ made. (e : Term) → IsNatBy rule e (term_of operand.now) (typ_of conclusion) → IsProvenForm typing.now e place (typ_of ty.now) (option_map tree_in made)) }
+{
+    let Some(made) = prove_as(alloc, typing, operand, place, &Ty::Nat)? else {
+        return Ok(None);
+    };
+    let Proven { proof, first } = made;
+    let mut premises = Vec::new(alloc);
+    premises.push(proof)?;
+    finish(alloc, rule, conclusion, premises, ty, first, typing.dialect)
+}
+
+/// T-If: both branches are made as wide as the whole.
+#[cycle(prove_term)]
+fn prove_if(
+    alloc: Global,
+    typing: &Typing,
+    condition: &Core,
+    one: &Core,
+    other: &Core,
+    place: usize,
+    ty: &Ty,
+) -> Result<Option<Proven>, AllocError>
+    requires { inside (if_then_else (term_of condition.now) (term_of one.now) (term_of other.now)) ≤ place }
+    ensures first { IfOk result (λ made. IfSome made (λ m. m.first + inside (if_then_else (term_of condition.now) (term_of one.now) (term_of other.now)) ≡ place)) }
+    ensures proves { IfOk result (λ made. IsProvenForm typing.now (if_then_else (term_of condition.now) (term_of one.now) (term_of other.now)) place (typ_of ty.now) (option_map tree_in made)) }
+{
+    let Some(third) = prove_as(alloc, typing, other, place, ty)? else {
+        return Ok(None);
+    };
+    let Some(second) = prove_as(alloc, typing, one, third.first, ty)? else {
+        return Ok(None);
+    };
+    let Some(first) = prove_as(alloc, typing, condition, second.first, &Ty::Bool)? else {
+        return Ok(None);
+    };
+    let conclusion = copy_of(alloc, ty)?;
+    let Proven { proof, first } = first;
+    let mut premises = Vec::new(alloc);
+    premises.push(proof)?;
+    premises.push(second.proof)?;
+    premises.push(third.proof)?;
+    finish(
+        alloc,
+        TypeRule::If,
+        conclusion,
+        premises,
+        ty,
+        first,
+        typing.dialect,
+    )
+}
+
+/// T-Abs.
+#[cycle(prove_term)]
+fn prove_lambda(
+    alloc: Global,
+    typing: &Typing,
+    written: &Option<Ty>,
+    body: &Core,
+    place: usize,
+    ty: &Ty,
+) -> Result<Option<Proven>, AllocError>
+    requires { inside (term_of body.now) < place }
+    ensures first { IfOk result (λ made. IfSome made (λ m. m.first + (inside (term_of body.now) + 1) ≡ place)) }
+    ensures proves { IfOk result (λ made. IsProvenForm typing.now (lambda (written_of written.now) (term_of body.now)) place (typ_of ty.now) (option_map tree_in made)) }
+{
+    let Some(parameter) = written else {
+        return Ok(None);
+    };
+    let Some(made) = prove_term(alloc, typing, body, place)? else {
+        return Ok(None);
+    };
+    let Proven { proof, first } = made;
+    let parameter = copy_of(alloc, parameter)?;
+    let outcome = copy_of(alloc, &proof.ty)?;
+    let conclusion = make_arrow(alloc, parameter, outcome)?;
+    let mut premises = Vec::new(alloc);
+    premises.push(proof)?;
+    finish(
+        alloc,
+        TypeRule::Abs,
+        conclusion,
+        premises,
+        ty,
+        first,
+        typing.dialect,
+    )
+}
+
+/// T-App: the argument is made as wide as the parameter.
+#[cycle(prove_term)]
+fn prove_apply(
+    alloc: Global,
+    typing: &Typing,
+    function: &Core,
+    argument: &Core,
+    place: usize,
+    ty: &Ty,
+) -> Result<Option<Proven>, AllocError>
+    requires { inside (apply (term_of function.now) (term_of argument.now)) ≤ place }
+    ensures first { IfOk result (λ made. IfSome made (λ m. m.first + inside (apply (term_of function.now) (term_of argument.now)) ≡ place)) }
+    ensures proves { IfOk result (λ made. IsProvenForm typing.now (apply (term_of function.now) (term_of argument.now)) place (typ_of ty.now) (option_map tree_in made)) }
+{
+    let Some(second) = prove_term(alloc, typing, argument, place)? else {
+        return Ok(None);
+    };
+    let Some(made) = prove_term(alloc, typing, function, second.first)? else {
+        return Ok(None);
+    };
+    let Proven { proof, first } = made;
+    let Ty::Arrow(parameter, outcome) = &proof.ty else {
+        return Ok(None);
+    };
+    let Some(operand) = widened(alloc, second.proof, parameter, typing.dialect)? else {
+        return Ok(None);
+    };
+    let conclusion = copy_of(alloc, outcome)?;
+    let mut premises = Vec::new(alloc);
+    premises.push(proof)?;
+    premises.push(operand)?;
+    finish(
+        alloc,
+        TypeRule::App,
+        conclusion,
+        premises,
+        ty,
+        first,
+        typing.dialect,
+    )
+}
+
+/// T-Ascribe: the term is made as wide as what is written.
+#[cycle(prove_term)]
+fn prove_ascribe(
+    alloc: Global,
+    typing: &Typing,
+    operand: &Core,
+    written: &Option<Ty>,
+    place: usize,
+    ty: &Ty,
+) -> Result<Option<Proven>, AllocError>
+    requires { inside (term_of operand.now) < place }
+    ensures first { IfOk result (λ made. IfSome made (λ m. m.first + (inside (term_of operand.now) + 1) ≡ place)) }
+    ensures proves { IfOk result (λ made. IsProvenForm typing.now (ascribe (term_of operand.now) (written_of written.now)) place (typ_of ty.now) (option_map tree_in made)) }
+{
+    let Some(wanted) = written else {
+        return Ok(None);
+    };
+    let Some(made) = prove_as(alloc, typing, operand, place, wanted)? else {
+        return Ok(None);
+    };
+    let Proven { proof, first } = made;
+    let conclusion = copy_of(alloc, wanted)?;
+    let mut premises = Vec::new(alloc);
+    premises.push(proof)?;
+    finish(
+        alloc,
+        TypeRule::Ascribe,
+        conclusion,
+        premises,
+        ty,
+        first,
+        typing.dialect,
+    )
+}
+
+/// T-Let.
+#[cycle(prove_term)]
+fn prove_let(
+    alloc: Global,
+    typing: &Typing,
+    bound: &Core,
+    body: &Core,
+    place: usize,
+    ty: &Ty,
+) -> Result<Option<Proven>, AllocError>
+    requires { inside (let_in (term_of bound.now) (term_of body.now)) ≤ place }
+    ensures first { IfOk result (λ made. IfSome made (λ m. m.first + inside (let_in (term_of bound.now) (term_of body.now)) ≡ place)) }
+    ensures proves { IfOk result (λ made. IsProvenForm typing.now (let_in (term_of bound.now) (term_of body.now)) place (typ_of ty.now) (option_map tree_in made)) }
+{
+    let Some(second) = prove_term(alloc, typing, body, place)? else {
+        return Ok(None);
+    };
+    let Some(made) = prove_term(alloc, typing, bound, second.first)? else {
+        return Ok(None);
+    };
+    let Proven { proof, first } = made;
+    let conclusion = copy_of(alloc, &second.proof.ty)?;
+    let mut premises = Vec::new(alloc);
+    premises.push(proof)?;
+    premises.push(second.proof)?;
+    finish(
+        alloc,
+        TypeRule::Let,
+        conclusion,
+        premises,
+        ty,
+        first,
+        typing.dialect,
+    )
+}
+
+/// T-Rcd.
+#[cycle(prove_term)]
+fn prove_record(
+    alloc: Global,
+    typing: &Typing,
+    fields: &[(String, Core)],
+    place: usize,
+    ty: &Ty,
+) -> Result<Option<Proven>, AllocError>
+    requires { inside_fields (terms_of fields.now) ≤ place }
+    ensures first { IfOk result (λ made. IfSome made (λ m. m.first + inside_fields (terms_of fields.now) ≡ place)) }
+    ensures proves { IfOk result (λ made. IsProvenForm typing.now (record_term (terms_of fields.now)) place (typ_of ty.now) (option_map tree_in made)) }
+{
+    let Some(made) = prove_fields(alloc, typing, fields, place)? else {
+        return Ok(None);
+    };
+    let ProvenFields {
+        mut proofs,
+        mut types,
+        first,
+    } = made;
+    proofs.reverse();
+    types.reverse();
+    finish(
+        alloc,
+        TypeRule::Rcd,
+        make_record(types),
+        proofs,
+        ty,
+        first,
+        typing.dialect,
+    )
+}
+
+/// The terms of a record, from the last to the first.
+#[cycle(prove_term)]
+fn prove_fields(
+    alloc: Global,
+    typing: &Typing,
+    fields: &[(String, Core)],
+    behind: usize,
+) -> Result<Option<ProvenFields>, AllocError>
+    requires { inside_fields (terms_of fields.now) ≤ behind }
+    ensures first { IfOk result (λ made. IfSome made (λ m. m.first + inside_fields (terms_of fields.now) ≡ behind)) }
+    ensures proves { IfOk result (λ made. AreProvenFields typing.now (terms_of fields.now) behind (option_map trees_in made)) }
+{
+    let Some((field, others)) = fields.split_first() else {
+        return Ok(Some(ProvenFields {
+            proofs: Vec::new(alloc),
+            types: Vec::new(alloc),
+            first: behind,
+        }));
+    };
+    let Some(made) = prove_fields(alloc, typing, others, behind)? else {
+        return Ok(None);
+    };
+    let ProvenFields {
+        mut proofs,
+        mut types,
+        first,
+    } = made;
+    let Some(own) = prove_term(alloc, typing, &field.1, first)? else {
+        return Ok(None);
+    };
+    let Proven { proof, first } = own;
+    let label = field.0.clone()?;
+    let ty = copy_of(alloc, &proof.ty)?;
+    types.push((label, ty))?;
+    proofs.push(proof)?;
+    Ok(Some(ProvenFields {
+        proofs,
+        types,
+        first,
+    }))
+}
+
+/// T-Proj.
+#[cycle(prove_term)]
+fn prove_project(
+    alloc: Global,
+    typing: &Typing,
+    operand: &Core,
+    label: &str,
+    place: usize,
+    ty: &Ty,
+) -> Result<Option<Proven>, AllocError>
+    requires { inside (term_of operand.now) < place }
+    ensures first { IfOk result (λ made. IfSome made (λ m. m.first + (inside (term_of operand.now) + 1) ≡ place)) }
+    ensures proves { IfOk result (λ made. IsProvenForm typing.now (project (term_of operand.now) label.now) place (typ_of ty.now) (option_map tree_in made)) }
+{
+    let Some(made) = prove_term(alloc, typing, operand, place)? else {
+        return Ok(None);
+    };
+    let Proven { proof, first } = made;
+    let Ty::Record(fields) = &proof.ty else {
+        return Ok(None);
+    };
+    let Some(field) = field_type(label, &fields.items, 0) else {
+        return Ok(None);
+    };
+    let conclusion = copy_of(alloc, field)?;
+    let mut premises = Vec::new(alloc);
+    premises.push(proof)?;
+    finish(
+        alloc,
+        TypeRule::Proj,
+        conclusion,
+        premises,
+        ty,
+        first,
+        typing.dialect,
+    )
+}
+
+/// T-Fix: the function is made one from its outcome to its outcome.
+#[cycle(prove_term)]
+fn prove_fix(
+    alloc: Global,
+    typing: &Typing,
+    operand: &Core,
+    place: usize,
+    ty: &Ty,
+) -> Result<Option<Proven>, AllocError>
+    requires { inside (term_of operand.now) < place }
+    ensures first { IfOk result (λ made. IfSome made (λ m. m.first + (inside (term_of operand.now) + 1) ≡ place)) }
+    ensures proves { IfOk result (λ made. IsProvenForm typing.now (fix (term_of operand.now)) place (typ_of ty.now) (option_map tree_in made)) }
+{
+    let parameter = copy_of(alloc, ty)?;
+    let outcome = copy_of(alloc, ty)?;
+    let wanted = make_arrow(alloc, parameter, outcome)?;
+    let Some(made) = prove_as(alloc, typing, operand, place, &wanted)? else {
+        return Ok(None);
+    };
+    let Proven { proof, first } = made;
+    let conclusion = copy_of(alloc, ty)?;
+    let mut premises = Vec::new(alloc);
+    premises.push(proof)?;
+    finish(
+        alloc,
+        TypeRule::Fix,
+        conclusion,
+        premises,
+        ty,
+        first,
+        typing.dialect,
+    )
+}
+
+/// A proof that a term has this type, which may be wider than the one that was found; none, where it has not.
+#[cycle(prove_term)]
+fn prove_as(
+    alloc: Global,
+    typing: &Typing,
+    term: &Core,
+    behind: usize,
+    wanted: &Ty,
+) -> Result<Option<Proven>, AllocError>
+    requires { inside (term_of term.now) < behind }
+    ensures first { IfOk result (λ made. IfSome made (λ m. m.first + inside (term_of term.now) + 1 ≡ behind)) }
+    ensures proves { IfOk result (λ made. IsProvenAs typing.now (term_of term.now) behind (typ_of wanted.now) (option_map tree_in made)) }
+{
+    let Some(made) = prove_term(alloc, typing, term, behind)? else {
+        return Ok(None);
+    };
+    let Proven { proof, first } = made;
+    let Some(proof) = widened(alloc, proof, wanted, typing.dialect)? else {
+        return Ok(None);
+    };
+    Ok(Some(Proven { proof, first }))
+}
+
+/// The step of a rule, and one to the type that was found where it concludes in another.
+fn finish(
+    alloc: Global,
+    rule: TypeRule,
+    conclusion: Ty,
+    premises: Vec<TypeProof>,
+    ty: &Ty,
+    first: usize,
+    dialect: Dialect,
+) -> Result<Option<Proven>, AllocError>
+    ensures first { IfOk result (λ made. IfSome made (λ m. m.first ≡ first)) }
+    ensures wide { IfOk result (λ made. IsWidened (typing_step rule (typ_of conclusion) (typings_of premises.items) None) (typ_of ty.now) (option_map tree_in made) dialect) }
+{
+    let step = TypeProof {
+        rule,
+        ty: conclusion,
+        typing: premises,
+        sub: None,
+    };
+    let Some(proof) = widened(alloc, step, ty, dialect)? else {
+        return Ok(None);
+    };
+    Ok(Some(Proven { proof, first }))
+}
+
+/// A proof with one step of subsumption more, where its type is not this one already; none, where it is not below this
+/// one. Types in which a label is repeated have no proofs.
+#[tactic(auto, using(lam_rules::proofs::TypingShapes::typing_shapes))]
+fn widened(
+    alloc: Global,
+    proof: TypeProof,
+    upper: &Ty,
+    dialect: Dialect,
+) -> Result<Option<TypeProof>, AllocError>
+    ensures { IfOk result (λ made. IsWidened (typing_tree_of proof) (typ_of upper.now) (option_map typing_tree_of made) dialect) }
+{
+    if same(&proof.ty, upper) {
+        return Ok(Some(proof));
+    }
+    if !wf(&proof.ty) {
+        return Ok(None);
+    }
+    if !wf(upper) {
+        return Ok(None);
+    }
+    let Some(sub) = prove_sub(alloc, &proof.ty, upper, dialect)? else {
+        return Ok(None);
+    };
+    let ty = copy_of(alloc, upper)?;
+    let sub = Box::new(alloc, sub)?;
+    let mut typing = Vec::new(alloc);
+    typing.push(proof)?;
+    Ok(Some(TypeProof {
+        rule: TypeRule::Sub,
+        ty,
+        typing,
+        sub: Some(sub),
+    }))
+}

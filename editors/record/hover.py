@@ -1,0 +1,119 @@
+"""hover.py SERVER: opens the tour in real editors, and prints what each shows of every construct.
+
+The cursor is put on the first letter of a text; then the editor asks for the type as it does for
+its user, and by a request of its own for the derivation of one type.
+"""
+
+import json
+import os
+import shutil
+import subprocess
+import sys
+
+from terminal import ENVIRONMENT, FILE, HERE, ROOM, Terminal, prepare
+
+TOUR = f"{HERE}/../../examples/tour.fsub"
+
+# Each construct, by a text that begins with it and stands once in the tour.
+PLACES = [
+    ("numeral", "1);\ntwo"),
+    ("succ", "succ (succ"),
+    ("pred", "pred three"),
+    ("iszero", "iszero 0"),
+    ("unit", "unit;\n\n/* A record"),
+    ("ascription", "as Point;"),
+    ("projection", ".x, y=origin"),
+    ("record", "{x=succ origin"),
+    ("lambda", "lambda p:Point. lambda q"),
+    ("application", "move origin"),
+    ("argument below the parameter", "coloured {x=7"),
+    ("let", "let side"),
+    ("lambda without a name", "lambda _:Top"),
+    ("if", "if c then"),
+    ("fix", "fix (lambda"),
+    ("declared name", "measure right"),
+    ("name with a quote", "x'.größe) as"),
+    ("comment", "😀 */"),
+    ("name of a command", "five = plus"),
+]
+
+DERIVED = "getx coloured"
+
+NEOVIM = ["nvim", "-i", "NONE", "--listen", f"{ROOM}/socket", FILE]
+NEOVIM_ASK = """luaeval('(function()
+  vim.fn.cursor(%d, %d)
+  local told = vim.lsp.buf_request_sync(0, "%s", vim.lsp.util.make_position_params(), 2000)
+  for _, reply in pairs(told or {}) do return vim.fn.json_encode(reply.result) end
+end)()')"""
+
+EMACS = ["emacs", "-nw", FILE]
+EMACS_INIT = f'(require \'server) (setq server-socket-dir "{ROOM}/home" server-name "socket") (server-start)'
+EMACS_ASK = """(with-current-buffer "a.fsub"
+  (goto-char (byte-to-position %d))
+  (json-encode (jsonrpc-request (eglot-current-server) :%s (eglot--TextDocumentPositionParams))))"""
+
+
+def asked(words):
+    """What the editor says, as JSON."""
+    answer = subprocess.run(words, env=ENVIRONMENT, capture_output=True, text=True, check=True)
+    # Neovim 0.7 says it on standard error; Emacs prints a literal.
+    said = json.loads(answer.stdout or answer.stderr)
+    return json.loads(said) if isinstance(said, str) else said
+
+
+def ask_neovim(text, at, method):
+    before = text[:at].encode()
+    line = before.count(b"\n")
+    column = len(before) - (before.rfind(b"\n") + 1)
+    ask = NEOVIM_ASK % (line + 1, column + 1, method)
+    return asked(["nvim", "--server", f"{ROOM}/socket", "--remote-expr", ask.replace("\n", " ")])
+
+
+def ask_emacs(text, at, method):
+    ask = EMACS_ASK % (len(text[:at].encode()) + 1, method)
+    return asked(["emacsclient", "-s", f"{ROOM}/home/socket", "-e", ask])
+
+
+def ready(ask, text, at):
+    """Whether the editor listens, and has the server behind it."""
+    try:
+        return ask(text, at, "textDocument/hover") is not None
+    except (subprocess.CalledProcessError, json.JSONDecodeError):
+        return False
+
+
+def watch(server, text, command, ask, end, init=""):
+    prepare(server, text, init)
+    editor = Terminal(command)
+    first = text.index(PLACES[0][1])
+    while not ready(ask, text, first):
+        editor.wait(1)
+    for name, begin in PLACES:
+        told = ask(text, text.index(begin), "textDocument/hover")
+        shown = told["contents"]["value"] if told else "nothing"
+        quoted = begin.split("\n")[0]
+        print(f"    {name:30}{quoted:28}{shown}")
+    told = ask(text, text.index(DERIVED), "fullsub/derivation")
+    print(f"\n    the derivation of `{DERIVED}`:")
+    for number, step in enumerate(told["steps"]):
+        what = step["type"] if "type" in step else f"{step['lower']} below {step['upper']}"
+        print(f"    {number:3} {step['rule']:11} {what}   from {step['from']}")
+    for keys in end:
+        editor.type(keys)
+        editor.wait(0.9)
+    print(f"    (ends with status {editor.close()})\n")
+
+
+def main():
+    server = os.path.abspath(sys.argv[1])
+    with open(TOUR, newline="") as file:
+        text = file.read()
+    print("Neovim:\n")
+    watch(server, text, NEOVIM, ask_neovim, ["\x1b", ":q!\r"])
+    print("Emacs:\n")
+    end = ["\x1bxeglot-shutdown-all\r", "\x18\x03"]
+    watch(server, text, EMACS, ask_emacs, end, EMACS_INIT)
+    shutil.rmtree(ROOM)
+
+
+main()
