@@ -46,8 +46,11 @@ impl Analysis {
         ensures of { IfOk result (λ made. IsAnalysisOf text.now made) }
         ensures dialect { IfOk result (λ made. dialect_of made ≡ dialect) }
     {
-        let tokens = lex(alloc, text)?;
-        let parsed = read(alloc, &tokens)?;
+        // The tokens are dropped before tables are made beside the trees.
+        let parsed = {
+            let tokens = lex(alloc, text)?;
+            read(alloc, &tokens)?
+        };
         let scopes = bind(alloc, &parsed.commands)?;
         let types = types_of(alloc, &parsed.commands, &scopes, dialect)?;
         Ok(Analysis {
