@@ -28,7 +28,9 @@ bench: all
 	done; done
 	for count in 10 100 1000 4000; do crates/lam_bench/out/lam_bench add-type $$count; done
 	crates/lam_bench/out/lam_bench bounds 40
-	for measure in bind-chain bind-first resolve-chain resolve-first places; do \
+	crates/lam_bench/out/lam_bench analyse-doubled 40
+	for measure in bind-chain bind-first resolve-chain resolve-first \
+	  analyse-chain analyse-first places; do \
 	  crates/lam_bench/out/lam_bench $$measure 10000; \
 	done
 	for count in 10 100 1000; do crates/lam_bench/out/lam_bench resolve-abbreviation $$count; done

@@ -1,7 +1,8 @@
 """hover.py SERVER: opens the tour in real editors, and prints what each shows of every construct.
 
 The cursor is put on the first letter of a text; then the editor asks for the type as it does for
-its user, and by a request of its own for the derivation of one type.
+its user, and by a request of its own for some derivations. Last it is said whether both editors
+were told the same.
 """
 
 import json
@@ -14,6 +15,9 @@ from terminal import ENVIRONMENT, FILE, HERE, ROOM, Terminal, prepare
 
 TOUR = f"{HERE}/../../examples/tour.fsub"
 
+# Stands in front of the tour. It gives no name, so the tour sees no more than without it.
+WORKED = "(lambda r:{x:Nat}. r.x) {y=true, x=0};\n"
+
 # Each construct, by a text that begins with it and stands once in the tour.
 PLACES = [
     ("numeral", "1);\ntwo"),
@@ -25,7 +29,8 @@ PLACES = [
     ("projection", ".x, y=origin"),
     ("record", "{x=succ origin"),
     ("lambda", "lambda p:Point. lambda q"),
-    ("application", "move origin"),
+    ("applied function", "move origin"),
+    ("application", " right;"),
     ("argument below the parameter", "coloured {x=7"),
     ("let", "let side"),
     ("lambda without a name", "lambda _:Top"),
@@ -37,7 +42,13 @@ PLACES = [
     ("name of a command", "five = plus"),
 ]
 
-DERIVED = "getx coloured"
+# What is derived, each within one line; of an application only the space is no part of a part.
+DERIVED = [
+    ("application", " {y=true, x=0}"),
+    ("argument", "{y=true, x=0}"),
+    ("projection", ".x, y=p.y"),
+    ("comment", "😀 */"),
+]
 
 NEOVIM = ["nvim", "-i", "NONE", "--listen", f"{ROOM}/socket", FILE]
 NEOVIM_ASK = """luaeval('(function()
@@ -82,37 +93,57 @@ def ready(ask, text, at):
         return False
 
 
+def print_derivation(told):
+    if not told:
+        print("    nothing")
+        return
+    seen = ", ".join(f"{entry['name']}:{entry.get('type')}" for entry in told["context"])
+    print(f"    context: {seen or 'empty'}")
+    for number, step in enumerate(told["steps"]):
+        if "type" in step:
+            what = step["type"]
+            where = f"{step['range']['start']['character']}..{step['range']['end']['character']}"
+        else:
+            what, where = f"{step['lower']} below {step['upper']}", ""
+        by = "from " + " and ".join(map(str, step["from"])) if step["from"] else ""
+        print(f"    {number:<3}{step['rule']:12}{what:36}{where:>7}   {by}".rstrip())
+
+
 def watch(server, text, command, ask, end, init=""):
     prepare(server, text, init)
     editor = Terminal(command)
     first = text.index(PLACES[0][1])
     while not ready(ask, text, first):
         editor.wait(1)
+    answers = []
     for name, begin in PLACES:
         told = ask(text, text.index(begin), "textDocument/hover")
+        answers.append(told)
         shown = told["contents"]["value"] if told else "nothing"
         quoted = begin.split("\n")[0]
         print(f"    {name:30}{quoted:28}{shown}")
-    told = ask(text, text.index(DERIVED), "fullsub/derivation")
-    print(f"\n    the derivation of `{DERIVED}`:")
-    for number, step in enumerate(told["steps"]):
-        what = step["type"] if "type" in step else f"{step['lower']} below {step['upper']}"
-        print(f"    {number:3} {step['rule']:11} {what}   from {step['from']}")
+    for name, begin in DERIVED:
+        told = ask(text, text.index(begin), "fullsub/derivation")
+        answers.append(told)
+        print(f"\n    {name}, `{begin}`:")
+        print_derivation(told)
     for keys in end:
         editor.type(keys)
         editor.wait(0.9)
-    print(f"    (ends with status {editor.close()})\n")
+    print(f"\n    (ends with status {editor.close()})\n")
+    return answers
 
 
 def main():
     server = os.path.abspath(sys.argv[1])
     with open(TOUR, newline="") as file:
-        text = file.read()
+        text = WORKED + file.read()
     print("Neovim:\n")
-    watch(server, text, NEOVIM, ask_neovim, ["\x1b", ":q!\r"])
+    neovim = watch(server, text, NEOVIM, ask_neovim, ["\x1b", ":q!\r"])
     print("Emacs:\n")
     end = ["\x1bxeglot-shutdown-all\r", "\x18\x03"]
-    watch(server, text, EMACS, ask_emacs, end, EMACS_INIT)
+    emacs = watch(server, text, EMACS, ask_emacs, end, EMACS_INIT)
+    print("Both were told the same." if neovim == emacs else "They were told different things.")
     shutil.rmtree(ROOM)
 
 

@@ -70,10 +70,12 @@ def watch(server, command, first, faults_now, end, init=""):
     typed = ""
     for piece in PIECES:
         editor.type(piece)
-        editor.wait(1.2)
         back = piece.count("\x7f")
         typed = typed[:-back] if back else typed + piece
-        faults = sorted(faults_now())
+        faults = None
+        # On a busy machine an editor may still show the faults of what stood before.
+        while faults != (faults := sorted(faults_now())):
+            editor.wait(1.2)
         shown = "; ".join(f"{text.strip()} at `{place}`".replace("\n", "⏎") for text, place in faults)
         print(f"    {typed:42}{shown}")
     for keys in end:

@@ -1,9 +1,15 @@
-//! Documents of many commands, to bind, to resolve and to find places in.
+//! Documents of many commands, to bind, to resolve, to analyse and to find places in.
+
+ghost use Rattle.std.specs.Prelude.{IfOk};
+ghost use Rattle.lam_scope.specs.Views.{statements_of};
+ghost use Rattle.lam_scope.specs.WellFormed.{AreWellFormedStatements};
 
 use crate::fault::BenchFault;
-use lam_scope::{bind, resolve};
+use lam_rules::Dialect;
+use lam_scope::{Place, Resolved, bind, resolve};
 use lam_syntax::{Command, parse, pieces};
 use lam_token::lex;
+use lam_typing::{TypingFault, analyse};
 use std::alloc::Global;
 use std::rt::Clock;
 use std::time::Instant;
@@ -24,6 +30,12 @@ const PLACES: usize = 100_000;
 
 /// Abbreviations that double, up to one of 4,095 nodes.
 const DOUBLED: usize = 10;
+
+/// Of doubled records, `x10` is the last with a type of at most 4,096 nodes: it has 4,095.
+const LAST_SMALL: usize = 10;
+
+/// The record of `x11`. Each command has three places, and that of the record comes behind those of its two fields.
+const FIRST_LARGE: Place = Place(35);
 
 /// A document of so many commands, and a few before them.
 fn document(alloc: Global, uses: Uses, size: usize) -> Result<String, BenchFault> {
@@ -46,6 +58,16 @@ fn document(alloc: Global, uses: Uses, size: usize) -> Result<String, BenchFault
     Ok(text)
 }
 
+/// A document of `x0 = {a=0, b=0}` and so many records behind it, each of the one before it at both labels.
+fn doubled(alloc: Global, size: usize) -> Result<String, BenchFault> {
+    let mut text = String::from_str(alloc, "x0 = {a=0, b=0};\n")?;
+    for number in 0..size {
+        let command = format!(in alloc; "x{} = {{a=x{number}, b=x{number}}};\n", number + 1)?;
+        text.push_str(command.as_str())?;
+    }
+    Ok(text)
+}
+
 fn commands_of(alloc: Global, text: &str) -> Result<Vec<Command>, BenchFault> {
     let tokens = lex(alloc, text)?;
     let parts = pieces(alloc, tokens.as_slice())?;
@@ -57,6 +79,18 @@ fn commands_of(alloc: Global, text: &str) -> Result<Vec<Command>, BenchFault> {
         commands.push(command)?;
     }
     Ok(commands)
+}
+
+/// The nameless form of a document.
+fn resolved_of(alloc: Global, text: &str) -> Result<Resolved, BenchFault>
+    ensures { IfOk result (λ resolved. AreWellFormedStatements (statements_of resolved)) }
+{
+    let commands = commands_of(alloc, text)?;
+    let scopes = bind(alloc, &commands)?;
+    let Ok(resolved) = resolve(alloc, &commands, &scopes) else {
+        return Err(BenchFault::Answer);
+    };
+    Ok(resolved)
 }
 
 /// How long it takes to bind a document.
@@ -96,6 +130,45 @@ pub fn resolving(
         return Err(BenchFault::Answer);
     }
     Ok(taken)
+}
+
+/// How long it takes to analyse a document in which no term is to blame.
+pub fn analysing(
+    alloc: Global,
+    rt: &impl Clock,
+    uses: Uses,
+    size: usize,
+) -> Result<u128, BenchFault> {
+    let text = document(alloc, uses, size)?;
+    let resolved = resolved_of(alloc, text.as_str())?;
+    let start = Instant::now(rt)?;
+    let Ok(typing) = analyse(alloc, &resolved, Dialect::One) else {
+        return Err(BenchFault::Answer);
+    };
+    let taken = start.elapsed(rt)?.as_micros();
+    if !typing.blamed().is_empty() {
+        return Err(BenchFault::Answer);
+    }
+    Ok(taken)
+}
+
+/// How long it takes to analyse a document whose types are doubled `size` times, up to the first that is too large.
+pub fn doubling(alloc: Global, rt: &impl Clock, size: usize) -> Result<u128, BenchFault> {
+    let text = doubled(alloc, size)?;
+    let resolved = resolved_of(alloc, text.as_str())?;
+    let start = Instant::now(rt)?;
+    let analysed = analyse(alloc, &resolved, Dialect::One);
+    let taken = start.elapsed(rt)?.as_micros();
+    let expected = match analysed {
+        Ok(_) => size <= LAST_SMALL,
+        Err(TypingFault::TooLarge(place)) => place == FIRST_LARGE,
+        Err(TypingFault::Memory) => false,
+    };
+    if expected {
+        Ok(taken)
+    } else {
+        Err(BenchFault::Answer)
+    }
 }
 
 /// How long it takes to find the places of a hundred thousand bytes, scattered over a document.

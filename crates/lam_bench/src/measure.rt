@@ -35,12 +35,16 @@ pub enum Measure {
     Bind(Uses),
     /// Its nameless form.
     Resolve(Uses),
+    /// The least types of its places.
+    Analyse(Uses),
     /// The places of a hundred thousand bytes of it.
     Places,
+    /// Analysing a document whose types are doubled SIZE times, up to the first that is too large.
+    AnalyseDoubled,
 }
 
 impl Measure {
-    pub const ALL: [Measure; 19] = [
+    pub const ALL: [Measure; 22] = [
         Measure::WholeBody,
         Measure::BodyByBytes,
         Measure::SmallFrames,
@@ -59,7 +63,10 @@ impl Measure {
         Measure::Resolve(Uses::Chain),
         Measure::Resolve(Uses::First),
         Measure::Resolve(Uses::Abbreviation),
+        Measure::Analyse(Uses::Chain),
+        Measure::Analyse(Uses::First),
         Measure::Places,
+        Measure::AnalyseDoubled,
     ];
 
     /// The measure that is called so on the command line.
@@ -90,7 +97,11 @@ impl Measure {
             Measure::Resolve(Uses::Chain) => "resolve-chain",
             Measure::Resolve(Uses::First) => "resolve-first",
             Measure::Resolve(Uses::Abbreviation) => "resolve-abbreviation",
+            Measure::Analyse(Uses::Chain) => "analyse-chain",
+            Measure::Analyse(Uses::First) => "analyse-first",
+            Measure::Analyse(Uses::Abbreviation) => "analyse-abbreviation",
             Measure::Places => "places",
+            Measure::AnalyseDoubled => "analyse-doubled",
         }
     }
 
@@ -108,7 +119,9 @@ impl Measure {
             Measure::Bounds => types::bounding(alloc, rt, size),
             Measure::Bind(uses) => documents::binding(alloc, rt, uses, size),
             Measure::Resolve(uses) => documents::resolving(alloc, rt, uses, size),
+            Measure::Analyse(uses) => documents::analysing(alloc, rt, uses, size),
             Measure::Places => documents::hovering(alloc, rt, size),
+            Measure::AnalyseDoubled => documents::doubling(alloc, rt, size),
         }
     }
 }

@@ -86,10 +86,22 @@ fn each_place_has_its_least_type(rt: HostRuntime) -> Result<(), Fail> {
             0,
             Some("Bool->{b:Bool}"),
         ),
+        (
+            "let f = lambda x:{a:Nat}. x.a in f {b=0, a=1}",
+            one,
+            0,
+            Some("Nat"),
+        ),
         ("lambda f:Nat->Nat. f", one, 0, Some("(Nat->Nat)->Nat->Nat")),
         ("(lambda x:Top. x) 0", one, 17, Some("Top")),
         ("if true then 0 else false", one, 0, Some("Top")),
         ("if true then 0 else false", two, 0, Some("Nat")),
+        (
+            "fix (lambda f:Nat->Nat. lambda n:Nat. f (pred n))",
+            one,
+            0,
+            Some("Nat->Nat"),
+        ),
         ("fix (lambda x:Nat. true)", two, 0, Some("Bool")),
         ("y = succ true; z = y", two, 19, Some("Nat")),
         (
