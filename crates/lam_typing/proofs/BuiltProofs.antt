@@ -1,32 +1,27 @@
 -- Form by form: from the proofs of the parts of a term to one of the type that was found of it, and why none is missing.
-use Rattle.std.proofs.Common.{◌≡◌, ℕ, ◌+◌, ◌<◌, ◌≤◌, List, [], ◌∷◌, ◌++◌, length, get_or, reverse, Option, Some, None, ap, refl, sym, subst, ◌∙◌, arith}
-use Rattle.std.proofs.lemmas.List.{reverse-append}
-use Rattle.lam_rules.specs.Types.{Label, Typ, bool, nat, unit, top, arrow, record_of, Fields, no_fields, field, Has, IsAbsent, IsWellFormed, AreWellFormed}
+use Rattle.std.proofs.Common.{◌≡◌, ℕ, ◌+◌, ◌<◌, ◌≤◌, List, ◌∷◌, length, get_or, Option, Some, None, ap, refl, sym, subst, ◌∙◌, arith}
+use Rattle.lam_rules.specs.Types.{Label, Typ, bool, nat, arrow, record_of, Fields, no_fields, field, Has, IsAbsent, IsWellFormed}
 use Rattle.lam_rules.specs.Terms.{Term, true_term, false_term, if_then_else, numeral, succ, pred, is_zero, variable, free, lambda, apply, unit_term, ascribe, let_in, record_term, project, fix, TermFields, no_terms, term_field}
 use Rattle.lam_rules.specs.Subtyping.{IsBelow}
-use Rattle.lam_rules.specs.Typing.{Context, IsEntry, IsWellFormedContext, HasField, TypingTree, typing_step, TypingTrees, no_typings, typing_first, type_in, IsTyping, ByTypeRule, ProvesTyping, HasType}
+use Rattle.lam_rules.specs.Typing.{Context, HasField, TypingTree, typing_step, TypingTrees, no_typings, typing_first, type_in, IsTyping, ByTypeRule, ProvesTyping, HasType}
 use Rattle.lam_rules.specs.declared.rules.Dialect.{Dialect}
 use Rattle.lam_rules.specs.declared.rules.TypeRule.{TypeRule}
-use Rattle.lam_rules.proofs.ByShape.{below_wf}
-use Rattle.lam_rules.proofs.Composing.{below_refl, below_trans, below_arrow, below_depth}
-use Rattle.lam_rules.proofs.Permutations.{absent_not}
-use Rattle.lam_rules.proofs.SharedTexts.{has_wf, one_type}
-use Rattle.lam_scope.specs.Places.{Binding, written, of_term, Scope, Place}
+use Rattle.lam_rules.proofs.Composing.{below_refl, below_trans, below_arrow}
+use Rattle.lam_scope.specs.Places.{written, of_term, Scope, Place}
 use Rattle.lam_scope.specs.Sights.{inside, inside_fields, place_of_term, behind_term}
 use Rattle.lam_typing.specs.LeastTypes.{IsLeastAt}
-use Rattle.lam_typing.specs.Progress.{IsLowest, AreFieldsAt}
+use Rattle.lam_typing.specs.Progress.{IsLowest}
 use Rattle.lam_typing.specs.Steps.{entry_at, LetRule, MoreRule}
-use Rattle.lam_typing.specs.Notes.{Noted}
-use Rattle.lam_typing.specs.Seeing.{note_among, LeastAmong, IsPlace, Sees, SeesFields}
+use Rattle.lam_typing.specs.Seeing.{note_among, Sees}
 use Rattle.lam_typing.specs.Typings.{found_of, noted_in, dialect_of}
-use Rattle.lam_typing.specs.Proving.{IsSetting, ProvesFound, IsProvenTerm, ProvesThis, IsProvenForm, ProvesWide, IsProvenAs, IsWidened, IsLeafBy, IsNatBy, FieldTrees, ProveFields, AreProvenFields}
+use Rattle.lam_typing.specs.Proving.{IsSetting, ProvesFound, IsProvenTerm, ProvesThis, IsProvenForm, IsProvenAs, IsWidened, IsLeafBy, IsNatBy, FieldTrees, AreProvenFields}
 use Rattle.lam_typing.specs.declared.typing.Typing.{Typing}
-use Rattle.lam_typing.proofs.Derivations.{Derives, FieldsDerive, t_fix, t_sub, derives, has_type, tree_derives, derives_wf, entry_wf}
+use Rattle.lam_typing.proofs.Derivations.{Derives, t_fix, t_sub, derives, has_type, derives_wf, entry_wf}
 use Rattle.lam_typing.proofs.Forms.{fields_least}
-use Rattle.lam_typing.proofs.LeastIn.{LeastIn, lowest_written, lowest_some, lowest_none, least_in, least_at}
-use Rattle.lam_typing.proofs.LeastSteps.{LeastFields, entry_is, is_entry_at, variable_least, lambda_least, apply_least, let_least, fix_least, project_least, record_least, wf_each}
-use Rattle.lam_typing.proofs.Inversions.{of_true, of_false, of_unit, of_num, of_free, of_succ, of_pred, of_is_zero, of_if, of_variable, of_lambda, of_faulty_lambda, of_apply, of_ascribe, of_faulty_ascribe, of_let, of_record, of_project, of_fix, of_more, of_no_more}
-use Rattle.lam_typing.proofs.Shapes.{below_arrow_is, below_record_is, records_below, arrows_below}
+use Rattle.lam_typing.proofs.LeastIn.{LeastIn, lowest_written, lowest_some, lowest_none, least_in}
+use Rattle.lam_typing.proofs.LeastSteps.{entry_is, is_entry_at, lambda_least, apply_least, let_least, project_least, record_least, wf_each}
+use Rattle.lam_typing.proofs.Inversions.{of_true, of_false, of_unit, of_num, of_free, of_succ, of_pred, of_is_zero, of_if, of_variable, of_lambda, of_faulty_lambda, of_apply, of_ascribe, of_faulty_ascribe, of_let, of_record, of_project, of_fix}
+use Rattle.lam_typing.proofs.Shapes.{below_arrow_is, below_record_is, arrows_below}
 use Rattle.lam_typing.proofs.Sighted.{own_least}
 
 -- what is known of a term, and of a part of it

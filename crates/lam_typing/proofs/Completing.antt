@@ -2,19 +2,19 @@
 use Rattle.std.proofs.Common.{◌≡◌, ℕ, ◌+◌, ◌<◌, ◌≤◌, List, [], ◌∷◌, length, map, get_or, take, Option, Some, None, Result, Ok, Err, IfOk, IfErr, ap, refl, sym, subst, ◌∙◌, arith, zero, suc}
 use Rattle.lam_rules.specs.Types.{Typ}
 use Rattle.lam_rules.specs.declared.rules.Dialect.{Dialect}
-use Rattle.lam_scope.specs.Places.{Place, Statement, places_of, place_numbered, statement_numbered, abbreviates}
+use Rattle.lam_scope.specs.Places.{Place, Statement, places_of, statement_numbered}
 use Rattle.lam_scope.specs.WellFormed.{AreWellFormedStatements}
 use Rattle.lam_scope.specs.declared.numbers.Place.{Place as PlaceNumber}
 use Rattle.lam_scope.specs.declared.numbers.Origin.{Origin}
 use Rattle.lam_scope.specs.declared.numbers.Origin.TheVariants.{Lambda, Term as TermAt, Declaration, TypeName}
 use Rattle.lam_typing.specs.Analysis.{AreLeast, IsFirstTooLarge}
 use Rattle.lam_typing.specs.Answers.{answers}
-use Rattle.lam_typing.specs.Entries.{declared_in, written_in, IsLeastFrom, HasTermAmong, entry_from}
-use Rattle.lam_typing.specs.Notes.{notes_of, noted_by}
+use Rattle.lam_typing.specs.Entries.{declared_in, IsLeastFrom, HasTermAmong, entry_from}
+use Rattle.lam_typing.specs.Notes.{notes_of}
 use Rattle.lam_typing.specs.Progress.{Went}
 use Rattle.lam_typing.specs.Seeing.{note_among, LeastAmong}
 use Rattle.lam_typing.specs.Walk.{Grows, IsSoundWalk, progress_of, entries_of, HasStoppedAmong}
-use Rattle.lam_typing.specs.Typings.{found_of, dialect_of, noted_in, declared_by, entry_by, entries_in, IsAnalysis, IsTypingOf, AreEntries, Begins, Completes, IsFaultOf, IsEndOf, up_to}
+use Rattle.lam_typing.specs.Typings.{found_of, dialect_of, entry_by, IsAnalysis, IsTypingOf, AreEntries, Begins, Completes, IsFaultOf, IsEndOf, up_to}
 use Rattle.lam_typing.specs.declared.fault.TypingFault.{TypingFault}
 use Rattle.lam_typing.specs.declared.typing.Typing.{Typing}
 use Rattle.lam_typing.specs.declared.walking.Walk.{Walk}

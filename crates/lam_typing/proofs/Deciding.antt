@@ -1,5 +1,5 @@
 -- Whether one type is below another is decided, by the shape of the two.
-use Rattle.std.proofs.Common.{◌≡◌, ◌⊎◌, inl, inr, refl, sym, subst}
+use Rattle.std.proofs.Common.{◌⊎◌, inl, inr, refl, subst}
 use Rattle.lam_rules.specs.Types.{Label, Typ, bool, nat, unit, top, arrow, record_of, Fields, no_fields, field, Has, IsAbsent, IsWellFormed, AreWellFormed}
 use Rattle.lam_rules.specs.Subtyping.{IsBelow}
 use Rattle.lam_rules.specs.declared.rules.Dialect.{Dialect}

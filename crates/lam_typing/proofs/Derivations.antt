@@ -1,9 +1,9 @@
 -- Typing as a family of derivations, a rule for each constructor, and the law between it and the trees that the checker accepts.
-use Rattle.std.proofs.Common.{◌≡◌, ◌⊎◌, ℕ, List, [], ◌∷◌, Option, Some, None, zero, suc, ap, sym, ◌∙◌, refl, subst, inl, inr}
+use Rattle.std.proofs.Common.{ℕ, List, [], ◌∷◌, Option, Some, None, zero, suc, ap, sym, ◌∙◌, refl, subst}
 use Rattle.lam_rules.specs.Types.{Label, Typ, bool, nat, unit, top, arrow, record_of, Fields, no_fields, field, Has, IsWellFormed, AreWellFormed}
-use Rattle.lam_rules.specs.Terms.{Term, true_term, false_term, if_then_else, numeral, succ, pred, is_zero, variable, free, lambda, apply, unit_term, ascribe, let_in, record_term, project, fix, TermFields, no_terms, term_field}
+use Rattle.lam_rules.specs.Terms.{Term, true_term, false_term, if_then_else, numeral, succ, pred, is_zero, variable, lambda, apply, unit_term, ascribe, let_in, record_term, project, fix, TermFields, no_terms, term_field}
 use Rattle.lam_rules.specs.Subtyping.{SubTree, ProvesBelow, IsBelow}
-use Rattle.lam_rules.specs.Typing.{Context, IsEntry, IsWellFormedEntry, IsWellFormedContext, HasField, TypingTree, typing_step, TypingTrees, no_typings, typing_first, type_in, IsTyping, ByTypeRule, ProvesTyping, HasType}
+use Rattle.lam_rules.specs.Typing.{Context, IsEntry, IsWellFormedEntry, IsWellFormedContext, HasField, TypingTree, typing_step, TypingTrees, no_typings, typing_first, type_in, IsTyping, ByTypeRule, HasType}
 use Rattle.lam_rules.specs.declared.rules.Dialect.{Dialect}
 use Rattle.lam_rules.specs.declared.rules.TypeRule.{TypeRule}
 use Rattle.lam_rules.proofs.ByShape.{below_wf}

@@ -1,17 +1,17 @@
 -- In a document whose written types all stand for types, no place is to blame exactly where each command has a type.
-use Rattle.std.proofs.Common.{◌≡◌, ◌⊎◌, ◌↔◌, ℕ, List, [], ◌∷◌, ◌++◌, Option, Some, None, zero, suc, refl, sym, subst, ◌∙◌, inl, inr}
-use Rattle.lam_rules.specs.Types.{Label, Typ, bool, nat, arrow, record_of, Fields}
+use Rattle.std.proofs.Common.{◌≡◌, ◌⊎◌, ℕ, List, [], ◌∷◌, ◌++◌, Some, None, zero, suc, refl, sym, ◌∙◌, inl, inr}
+use Rattle.lam_rules.specs.Types.{Typ, bool, nat, arrow, record_of, Fields}
 use Rattle.lam_rules.specs.Terms.{Term, true_term, false_term, if_then_else, numeral, succ, pred, is_zero, variable, free, lambda, apply, unit_term, ascribe, let_in, record_term, project, fix, TermFields, no_terms, term_field}
 use Rattle.lam_rules.specs.Typing.{Context}
 use Rattle.lam_rules.specs.declared.rules.Dialect.{Dialect}
-use Rattle.lam_scope.specs.Places.{Binding, written, of_term, Scope, Place, places, places_in, Statement, defines, declares, abbreviates, states, places_of}
-use Rattle.lam_typing.specs.Contexts.{Fits, IsContext}
+use Rattle.lam_scope.specs.Places.{written, of_term, Scope, Place, places, places_in, Statement, defines, declares, abbreviates, states, places_of}
+use Rattle.lam_typing.specs.Contexts.{IsContext}
 use Rattle.lam_typing.specs.LeastTypes.{IsTyped}
 use Rattle.lam_typing.specs.Blaming.{ArePartsTyped, AreFieldsTyped, IsExcused, HasNoType, IsBlamed}
 use Rattle.lam_scope.specs.WellFormed.{IsWellFormedTerm, AreWellFormedTerms, IsWellFormedScope, AreWellFormedStatements}
 use Rattle.lam_scope.specs.Expanded.{HasExpansion, HasExpansions, HaveExpansions, IsExpanded}
 use Rattle.lam_typing.specs.WellTyped.{AreTyped, AreUnblamed, IsTypedWhereUnblamed}
-use Rattle.lam_typing.proofs.Derivations.{Derives, FieldsDerive, derives, has_type, none_derive, more_derive}
+use Rattle.lam_typing.proofs.Derivations.{Derives, FieldsDerive, derives, has_type}
 use Rattle.lam_typing.proofs.Inversions.{of_succ, of_pred, of_is_zero, of_if, of_lambda, of_faulty_lambda, of_apply, of_ascribe, of_faulty_ascribe, of_let, of_record, of_project, of_fix, of_more}
 use Rattle.lam_typing.proofs.Existing.{typed_or_not}
 

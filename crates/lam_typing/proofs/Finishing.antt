@@ -1,14 +1,14 @@
 -- What a walk over a whole document has found, where it went through or stopped, is the analysis that was asked for.
-use Rattle.std.proofs.Common.{◌≡◌, ℕ, ◌+◌, ◌<◌, ◌≤◌, List, [], ◌∷◌, ◌++◌, length, take, get_or, Option, Some, None, Result, Ok, Err, IfOk, IfErr, zero, suc, ap, refl, sym, subst, ◌∙◌, arith}
+use Rattle.std.proofs.Common.{◌≡◌, ℕ, ◌+◌, ◌<◌, ◌≤◌, List, [], ◌∷◌, ◌++◌, length, take, get_or, Option, Some, None, zero, suc, ap, refl, sym, subst, ◌∙◌, arith}
 use Rattle.lam_rules.specs.Types.{Typ}
 use Rattle.lam_rules.specs.declared.rules.Dialect.{Dialect}
 use Rattle.lam_rules.specs.declared.table.TyNo.{TyNo}
-use Rattle.lam_scope.specs.Places.{Scope, Place, Statement, places_of}
+use Rattle.lam_scope.specs.Places.{Place, Statement, places_of}
 use Rattle.lam_scope.specs.declared.numbers.Place.{Place as PlaceNumber}
-use Rattle.lam_typing.specs.Blaming.{Blamed, AreBlamed}
+use Rattle.lam_typing.specs.Blaming.{Blamed}
 use Rattle.lam_typing.specs.Analysis.{AreLeast, AreSmall, IsTooLarge, IsFirstTooLarge}
 use Rattle.lam_typing.specs.Answers.{answer, answers, StandsIn, AllStandIn}
-use Rattle.lam_typing.specs.Progress.{IsLowest, Progress, Shown, Went, next_is_too_large, enough, NextIs, ShownFront, StoppedIn}
+use Rattle.lam_typing.specs.Progress.{IsLowest, Shown, Went, next_is_too_large, NextIs}
 use Rattle.lam_typing.specs.Walk.{entries_of, progress_of, IsSoundWalk, Grows, IsBehind, IsUpTo, IsWithin, HasStoppedAmong}
 use Rattle.lam_typing.specs.Typings.{IsAnalysis, up_to, Begins}
 use Rattle.lam_typing.specs.declared.typing.Typing.{Typing}

@@ -1,16 +1,16 @@
 -- Form by form: from what a walk found of the parts of a term and the step of its rule, what it is to take down for the term.
-use Rattle.std.proofs.Common.{◌≡◌, ◌⊎◌, ◌&&◌, ℕ, ◌<◌, ◌≤◌, List, [], ◌∷◌, ◌++◌, length, Option, Some, None, is_some, Bool, true, false, IsTrue, zero, suc, ap, refl, sym, subst, ◌∙◌, inl, inr, arith, codes}
+use Rattle.std.proofs.Common.{◌≡◌, ◌&&◌, ℕ, ◌<◌, ◌≤◌, List, [], ◌∷◌, ◌++◌, length, Option, Some, None, is_some, Bool, true, false, IsTrue, zero, suc, refl, sym, subst, arith, codes}
 use Rattle.lam_rules.specs.Types.{Label, Typ, bool, nat, unit, Fields, no_fields, field}
 use Rattle.lam_rules.specs.Terms.{Term, true_term, false_term, if_then_else, numeral, succ, pred, is_zero, variable, free, lambda, apply, unit_term, ascribe, let_in, record_term, project, fix, TermFields, no_terms, term_field}
 use Rattle.lam_rules.specs.Texts.{Text}
 use Rattle.lam_rules.specs.Typing.{Context, IsWellFormedEntry, IsWellFormedContext}
 use Rattle.lam_rules.specs.declared.rules.Dialect.{Dialect}
-use Rattle.lam_scope.specs.Places.{Binding, written, of_term, Scope, Place, places, places_in}
+use Rattle.lam_scope.specs.Places.{written, of_term, Scope, places, places_in}
 use Rattle.lam_typing.specs.Contexts.{IsContext}
 use Rattle.lam_typing.specs.LeastTypes.{IsTyped, IsLeastAt}
-use Rattle.lam_typing.specs.Blaming.{ArePartsTyped, AreFieldsTyped, IsExcused, HasNoType, IsBlamed, IsBlamedFor, Blamed, AreBlamed}
+use Rattle.lam_typing.specs.Blaming.{ArePartsTyped, AreFieldsTyped, IsExcused, HasNoType, IsBlamedFor, Blamed, AreBlamed}
 use Rattle.lam_typing.specs.Progress.{IsLowest, Progress, Went, WentOver, blame_step, IsApplicationCode, AreFieldsAt, if_all}
-use Rattle.lam_typing.specs.Steps.{entry_at, NatRule, LambdaRule, ApplyRule, AscribeRule, LetRule, IfRule, FixRule, ProjectRule, MoreRule, RecordRule}
+use Rattle.lam_typing.specs.Steps.{entry_at, NatRule, LambdaRule, ApplyRule, AscribeRule, LetRule, IfRule, FixRule, ProjectRule, RecordRule}
 use Rattle.lam_typing.proofs.LeastIn.{LeastIn, lowest_written, lowest_some, lowest_none, least_at, least_in}
 use Rattle.lam_typing.proofs.LeastSteps.{true_least, false_least, unit_least, num_least, free_least, variable_least, succ_least, pred_least, is_zero_least, lambda_least, apply_least, ascribe_least, let_least, if_least, fix_least, project_least, LeastFields, none_least, more_least, record_least}
 use Rattle.lam_typing.proofs.NeverBlamed.{lambda_unblamed, let_typed}
@@ -73,7 +73,7 @@ free_ready g x now d = leaf_ready g (free x) now None _ d least (λ s low. here_
 
 -- a variable
 
-no_type_within : (n : ℕ) (g : Context) → n < length g → entry_at n g ≡ None → HasNoType n g
+pub no_type_within : (n : ℕ) (g : Context) → n < length g → entry_at n g ≡ None → HasNoType n g
 no_type_within n [] lt e = absurd (omega arith)
 no_type_within zero (entry ∷ g) lt e = e
 no_type_within (suc n) (entry ∷ g) lt e = no_type_within n g (omega arith) e
@@ -88,7 +88,7 @@ has_no_type_within n [] h = absurd h
 has_no_type_within zero (entry ∷ g) h = omega arith
 has_no_type_within (suc n) (entry ∷ g) h = let lt = has_no_type_within n g h in omega arith
 
-context_length : (s : Scope) (g : Context) (d : Dialect) → IsContext s g d → length g ≡ length s
+pub context_length : (s : Scope) (g : Context) (d : Dialect) → IsContext s g d → length g ≡ length s
 context_length [] [] d is = refl
 context_length (b ∷ s) (entry ∷ g) d is = let e = context_length s g d is.1 in omega arith
 context_length [] (entry ∷ g) d is = absurd is

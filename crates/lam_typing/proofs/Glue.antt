@@ -8,26 +8,25 @@ use Rattle.lam_rules.specs.Types.{Label, Typ, bool, nat, unit, Fields, field}
 use Rattle.lam_rules.specs.Terms.{Term, variable, free, if_then_else, succ, pred, is_zero, lambda, apply, ascribe, let_in, record_term, project, fix, TermFields, no_terms, term_field}
 use Rattle.lam_rules.specs.Texts.{Text}
 use Rattle.lam_rules.specs.Typing.{Context, IsWellFormedEntry}
-use Rattle.lam_rules.specs.Numbers.{Keeps, IsNumberOf, AreBelow, type_of, fields_over}
+use Rattle.lam_rules.specs.Numbers.{Keeps, IsNumberOf, type_of, fields_over}
 use Rattle.lam_rules.specs.declared.rules.Dialect.{Dialect}
 use Rattle.lam_rules.specs.declared.terms.Core.{Core}
 use Rattle.lam_rules.specs.TermViews.{terms_of}
 use Rattle.lam_rules.specs.declared.table.TyNo.{TyNo}
-use Rattle.lam_rules.proofs.Tables.{keeps_same, keeps_trans, keeps_length, kept_number, below_more}
+use Rattle.lam_rules.proofs.Tables.{keeps_same, keeps_trans, keeps_length, kept_number}
 use Rattle.lam_scope.specs.Places.{Binding, written, of_term, Scope, Place, places, places_in}
 use Rattle.lam_scope.specs.declared.numbers.Place.{Place as PlaceNumber}
 use Rattle.lam_typing.specs.LeastTypes.{IsLeastAt}
-use Rattle.lam_typing.specs.Blaming.{Blamed}
 use Rattle.lam_typing.specs.Answers.{answer, answers, StandsIn, AllStandIn, context_under}
-use Rattle.lam_typing.specs.Progress.{IsLowest, Progress, Went, WentOver, Cause, next_is_too_large, enough, StoppedIn, blame_step, IsApplicationCode, if_all, AreFieldsAt}
+use Rattle.lam_typing.specs.Progress.{IsLowest, Progress, Went, WentOver, Cause, next_is_too_large, enough, StoppedIn, blame_step, IsApplicationCode, if_all}
 use Rattle.lam_typing.specs.Walk.{blamed_of, blames_of, progress_of, entries_of, IsSoundWalk, Grows, WalkedOver, HasStoppedAmong, HasStopped, HasStoppedInFields, FieldsWalked, blame_at, Settles, StopsAt, IsUpTo, IsWithin}
 use Rattle.lam_typing.specs.Steps.{entry_at, NatRule, LambdaRule, ApplyRule, AscribeRule, LetRule, IfRule, FixRule, ProjectRule, MoreRule, RecordRule}
 use Rattle.lam_typing.specs.declared.walking.Walk.{Walk}
 use Rattle.lam_typing.specs.declared.blame.Blame.{Blame}
 use Rattle.lam_typing.specs.declared.walking.Stop.{Stop}
-use Rattle.lam_typing.proofs.Growing.{answer_keep, answers_keep, context_keep, answers-push, length-answers, length-context, context-push, stands_keep, all_stand_keep, all_stand_push, some_answer}
+use Rattle.lam_typing.proofs.Growing.{answer_keep, answers_keep, context_keep, answers-push, length-answers, length-context, context-push, all_stand_keep, all_stand_push, some_answer}
 use Rattle.lam_typing.proofs.Together.{went_none, went_both, stopped_front, stopped_behind, stopped_under, IsReady, ready_went, ready_too_large, ready_enough}
-use Rattle.lam_typing.proofs.Forms.{free_ready, unbound_ready, variable_ready, succ_ready, pred_ready, is_zero_ready, fix_ready, project_ready, ascribe_ready, lambda_ready, let_ready, apply_ready, if_ready, record_ready, lowest_let}
+use Rattle.lam_typing.proofs.Forms.{free_ready, unbound_ready, variable_ready, succ_ready, pred_ready, is_zero_ready, fix_ready, project_ready, ascribe_ready, lambda_ready, let_ready, apply_ready, if_ready, record_ready}
 
 -- the same places, told otherwise
 

@@ -1,8 +1,8 @@
 -- What numbers answer stays as a table grows, and how answers and entries are put behind others.
-use Rattle.std.proofs.Common.{◌≡◌, ℕ, ◌+◌, ◌-◌, ◌<◌, ◌≤◌, List, [], ◌∷◌, ◌++◌, length, get_or, Option, Some, None, is_some, zero, suc, ap, refl, sym, subst, ◌∙◌, arith}
+use Rattle.std.proofs.Common.{◌≡◌, ℕ, ◌+◌, ◌-◌, ◌<◌, List, [], ◌∷◌, ◌++◌, length, get_or, Option, Some, None, is_some, zero, suc, ap, refl, arith}
 use Rattle.lam_rules.specs.Types.{Typ}
-use Rattle.lam_rules.specs.Typing.{Context, IsWellFormedContext}
-use Rattle.lam_rules.specs.Numbers.{type_at, type_of, Stands, IsNumberOf, Keeps}
+use Rattle.lam_rules.specs.Typing.{Context}
+use Rattle.lam_rules.specs.Numbers.{Keeps}
 use Rattle.lam_rules.specs.declared.table.TyNo.{TyNo}
 use Rattle.lam_rules.proofs.Tables.{kept_type, keeps_length}
 use Rattle.lam_typing.specs.Steps.{entry_at}

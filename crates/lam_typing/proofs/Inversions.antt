@@ -1,9 +1,9 @@
 -- What the last rule but T-Sub says of each form of term, where the term has a type.
-use Rattle.std.proofs.Common.{◌≡◌, ◌⊎◌, ℕ, List, [], ◌∷◌, Option, Some, None, zero, suc, refl, sym, subst, inl, inr}
-use Rattle.lam_rules.specs.Types.{Label, Typ, bool, nat, unit, top, arrow, record_of, Fields, no_fields, field, Has, IsWellFormed, AreWellFormed}
+use Rattle.std.proofs.Common.{◌≡◌, ℕ, List, ◌∷◌, Some, None, refl}
+use Rattle.lam_rules.specs.Types.{Label, Typ, bool, nat, unit, arrow, record_of, Fields, no_fields, field, Has, AreWellFormed}
 use Rattle.lam_rules.specs.Terms.{Term, true_term, false_term, if_then_else, numeral, succ, pred, is_zero, variable, free, lambda, apply, unit_term, ascribe, let_in, record_term, project, fix, TermFields, no_terms, term_field}
 use Rattle.lam_rules.specs.Subtyping.{IsBelow}
-use Rattle.lam_rules.specs.Typing.{Context, IsEntry, IsWellFormedContext}
+use Rattle.lam_rules.specs.Typing.{Context, IsEntry}
 use Rattle.lam_rules.specs.declared.rules.Dialect.{Dialect}
 use Rattle.lam_rules.proofs.Composing.{below_refl, below_trans}
 use Rattle.lam_typing.proofs.Derivations.{Derives, FieldsDerive, t_true, t_false, t_if, t_num, t_succ, t_pred, t_is_zero, t_var, t_abs, t_app, t_unit, t_ascribe, t_let, t_rcd, t_proj, t_fix, t_sub, none_derive, more_derive, derives_wf}

@@ -1,15 +1,15 @@
 -- Least types in one context: that of the least entries. What is least there is least over all contexts of the scope.
-use Rattle.std.proofs.Common.{◌≡◌, ℕ, List, [], ◌∷◌, Option, Some, None, refl, sym, subst, ◌∙◌}
-use Rattle.lam_rules.specs.Types.{Typ, IsWellFormed}
+use Rattle.std.proofs.Common.{◌≡◌, [], ◌∷◌, Option, Some, None, sym, subst}
+use Rattle.lam_rules.specs.Types.{Typ}
 use Rattle.lam_rules.specs.Terms.{Term}
 use Rattle.lam_rules.specs.Subtyping.{IsBelow}
-use Rattle.lam_rules.specs.Typing.{Context, IsWellFormedEntry, IsWellFormedContext, HasType}
+use Rattle.lam_rules.specs.Typing.{Context, IsWellFormedEntry}
 use Rattle.lam_rules.specs.declared.rules.Dialect.{Dialect}
 use Rattle.lam_rules.proofs.Composing.{below_refl}
 use Rattle.lam_scope.specs.Places.{Binding, written, of_term, Scope}
-use Rattle.lam_typing.specs.Contexts.{Fits, IsContext}
-use Rattle.lam_typing.specs.LeastTypes.{IsTypeAt, IsTyped, IsLeastAt}
-use Rattle.lam_scope.specs.WellFormed.{IsWellFormedBinding, IsWellFormedScope}
+use Rattle.lam_typing.specs.Contexts.{IsContext}
+use Rattle.lam_typing.specs.LeastTypes.{IsTyped, IsLeastAt}
+use Rattle.lam_scope.specs.WellFormed.{IsWellFormedScope}
 use Rattle.lam_typing.specs.Progress.{IsLowest}
 use Rattle.lam_typing.specs.Narrowing.{IsNarrowerEntry, IsNarrower}
 use Rattle.lam_typing.proofs.Derivations.{Derives, derives, has_type, derives_wf}

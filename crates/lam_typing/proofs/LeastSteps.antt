@@ -1,6 +1,6 @@
 -- What each rule makes of the least types of the parts is the least type of the whole.
-use Rattle.std.proofs.Common.{◌≡◌, ◌⊎◌, ℕ, List, [], ◌∷◌, Option, Some, None, zero, suc, Bool, true, false, if◌then◌else◌, ap, refl, sym, subst, ◌∙◌, inl, inr}
-use Rattle.lam_rules.specs.Types.{Label, Typ, bool, nat, unit, top, arrow, record_of, Fields, no_fields, field, Has, IsAbsent, IsWellFormed, AreWellFormed}
+use Rattle.std.proofs.Common.{◌≡◌, ℕ, List, [], ◌∷◌, Option, Some, None, zero, suc, refl, sym, subst, ◌∙◌}
+use Rattle.lam_rules.specs.Types.{Label, Typ, bool, nat, unit, top, arrow, record_of, Fields, no_fields, field, IsAbsent, AreWellFormed}
 use Rattle.lam_rules.specs.Terms.{Term, true_term, false_term, if_then_else, numeral, succ, pred, is_zero, variable, free, lambda, apply, unit_term, ascribe, let_in, record_term, project, fix, TermFields, no_terms, term_field}
 use Rattle.lam_rules.specs.Subtyping.{IsBelow}
 use Rattle.lam_rules.specs.Typing.{Context, IsEntry, IsWellFormedContext}
@@ -9,7 +9,7 @@ use Rattle.lam_rules.proofs.ByShape.{below_wf}
 use Rattle.lam_rules.proofs.Composing.{below_refl, below_trans, below_arrow, below_depth, EachBelow}
 use Rattle.lam_rules.proofs.Permutations.{absent_not}
 use Rattle.lam_rules.proofs.SharedTexts.{one_type}
-use Rattle.lam_typing.specs.Steps.{entry_at, NatRule, LambdaRule, ArrowRule, ApplyRule, AscribeRule, LetRule, IfRule, FixRule, FieldRule, ProjectRule, MoreRule, RecordRule}
+use Rattle.lam_typing.specs.Steps.{entry_at, NatRule, LambdaRule, ArrowRule, ApplyRule, AscribeRule, LetRule, IfRule, FixRule, ProjectRule, MoreRule, RecordRule}
 use Rattle.lam_typing.proofs.Derivations.{Derives, FieldsDerive, t_true, t_false, t_if, t_num, t_succ, t_pred, t_is_zero, t_var, t_abs, t_app, t_unit, t_ascribe, t_let, t_rcd, t_proj, t_fix, t_sub, none_derive, more_derive, derives_wf}
 use Rattle.lam_typing.proofs.Narrows.{narrow, narrower_self}
 use Rattle.lam_typing.proofs.LeastIn.{LeastIn}

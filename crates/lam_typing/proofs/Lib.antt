@@ -22,3 +22,4 @@ pub mod Completing
 pub mod BuiltProofs
 pub mod BuiltSteps
 pub mod PlaceProofs
+pub mod JustBlames

@@ -1,13 +1,12 @@
 -- Narrowing: what is derived in a context is derived in each narrower one.
-use Rattle.std.proofs.Common.{◌≡◌, ℕ, List, [], ◌∷◌, Option, Some, None, zero, suc, refl, sym, subst}
+use Rattle.std.proofs.Common.{◌≡◌, ℕ, [], ◌∷◌, Some, None, zero, suc, refl, subst}
 use Rattle.lam_rules.specs.Types.{Typ, bool, nat, arrow, record_of, Fields}
 use Rattle.lam_rules.specs.Terms.{Term, TermFields}
 use Rattle.lam_rules.specs.Subtyping.{IsBelow}
-use Rattle.lam_rules.specs.Typing.{Context, IsEntry, IsWellFormedContext, HasType}
+use Rattle.lam_rules.specs.Typing.{Context, IsEntry, IsWellFormedContext}
 use Rattle.lam_rules.specs.declared.rules.Dialect.{Dialect}
-use Rattle.lam_rules.proofs.ByShape.{below_wf}
 use Rattle.lam_rules.proofs.Composing.{below_refl}
-use Rattle.lam_typing.specs.Narrowing.{IsNarrowerEntry, IsNarrower, Narrows}
+use Rattle.lam_typing.specs.Narrowing.{IsNarrower, Narrows}
 use Rattle.lam_typing.proofs.Derivations.{Derives, FieldsDerive, t_true, t_false, t_if, t_num, t_succ, t_pred, t_is_zero, t_var, t_abs, t_app, t_unit, t_ascribe, t_let, t_rcd, t_proj, t_fix, t_sub, none_derive, more_derive, derives, has_type, derives_wf}
 
 -- an entry of the wider context has one below it in the narrower

@@ -1,5 +1,5 @@
 -- Terms that are never to blame.
-use Rattle.std.proofs.Common.{◌≡◌, ◌⊎◌, ℕ, List, [], ◌∷◌, Option, Some, None, subst, inl, inr}
+use Rattle.std.proofs.Common.{ℕ, List, [], ◌∷◌, Option, Some, None, subst}
 use Rattle.lam_rules.specs.Types.{Typ, bool, nat, unit}
 use Rattle.lam_rules.specs.Terms.{Term, true_term, false_term, if_then_else, numeral, lambda, unit_term, let_in}
 use Rattle.lam_rules.specs.Typing.{Context}

@@ -3,7 +3,7 @@ use Rattle.std.proofs.Common.{◌≡◌, ℕ, ◌+◌, ◌-◌, ◌<◌, ◌≤�
 use Rattle.std.proofs.lemmas.List.{append-nil, length-append, drop_all}
 use Rattle.std.specs.declared.alloc.Global.{Global}
 use Rattle.lam_rules.specs.Types.{Typ}
-use Rattle.lam_rules.specs.Terms.{Term, true_term, false_term, if_then_else, numeral, succ, pred, is_zero, variable, free, lambda, apply, unit_term, ascribe, let_in, record_term, project, fix, TermFields, no_terms, term_field}
+use Rattle.lam_rules.specs.Terms.{Term, true_term, false_term, if_then_else, numeral, succ, pred, is_zero, variable, free, lambda, apply, unit_term, ascribe, let_in, record_term, project, fix, TermFields, term_field}
 use Rattle.lam_rules.specs.Typing.{Context}
 use Rattle.lam_rules.specs.Numbers.{Keeps}
 use Rattle.lam_rules.specs.declared.table.TyNo.{TyNo}
@@ -15,7 +15,6 @@ use Rattle.lam_scope.specs.WellFormed.{IsWellFormedStatement, AreWellFormedState
 use Rattle.lam_scope.specs.declared.statement.Statement.{Statement as RustStatement}
 use Rattle.lam_typing.specs.Answers.{answer, answers, StandsIn, AllStandIn, context_under}
 use Rattle.lam_typing.specs.Entries.{written_in, declared_in}
-use Rattle.lam_typing.specs.Steps.{entry_at}
 use Rattle.lam_typing.specs.Notes.{Noted, bound_in, note, notes, notes_in, notes_of, noted_as, noted_by, AllNoted, AreSoundNotes, NotesMore, NotesTerm, NotesFields, NotesOne, NotesStatement, NotesDocument, IsLeaf, IsOver, written_number, bound_number}
 use Rattle.lam_typing.specs.Seeing.{note_among}
 use Rattle.lam_typing.specs.declared.noting.Note.{Note}

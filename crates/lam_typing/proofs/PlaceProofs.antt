@@ -2,16 +2,16 @@
 use Rattle.std.proofs.Common.{◌≡◌, ℕ, ◌+◌, ◌<◌, ◌≤◌, List, [], ◌∷◌, length, get_or, take, Option, Some, None, IfSome, IfNone, ap, refl, sym, subst, ◌∙◌, arith, zero, suc}
 use Rattle.lam_rules.specs.Types.{Typ}
 use Rattle.lam_rules.specs.Terms.{Term}
-use Rattle.lam_rules.specs.Typing.{Context, TypingTree, type_in, IsTyping}
+use Rattle.lam_rules.specs.Typing.{Context, TypingTree, IsTyping}
 use Rattle.lam_rules.specs.declared.rules.Dialect.{Dialect}
-use Rattle.lam_scope.specs.Places.{Binding, written, of_term, Scope, Place, Statement, places_of, place_numbered}
-use Rattle.lam_scope.specs.Sights.{inside, place_of_term, behind_term, sight_numbered}
+use Rattle.lam_scope.specs.Places.{written, of_term, Scope, Place, Statement, places_of, place_numbered}
+use Rattle.lam_scope.specs.Sights.{inside, place_of_term, sight_numbered}
 use Rattle.lam_scope.specs.WellFormed.{IsWellFormedScope}
 use Rattle.lam_typing.specs.Entries.{AreLeastEntries}
 use Rattle.lam_typing.specs.Progress.{IsLowest}
 use Rattle.lam_typing.specs.Seeing.{Sees}
 use Rattle.lam_typing.specs.Typings.{found_of, noted_in, dialect_of, IsTypingOf, context_at, IsProofAt}
-use Rattle.lam_typing.specs.Proving.{ProvesFound, IsProvenTerm, IsSetting}
+use Rattle.lam_typing.specs.Proving.{ProvesFound, IsProvenTerm}
 use Rattle.lam_typing.specs.declared.typing.Typing.{Typing}
 use Rattle.lam_typing.proofs.Completing.{least_among}
 use Rattle.lam_typing.proofs.Growing.{length-answers}

@@ -1,7 +1,7 @@
 -- What is below an arrow or a record type, part by part.
-use Rattle.std.proofs.Common.{◌≡◌, ◌⊎◌, List, [], ◌∷◌, ap, sym, ◌∙◌, refl, subst, inl, inr}
-use Rattle.lam_rules.specs.Types.{Label, Typ, bool, nat, unit, top, arrow, record_of, Fields, no_fields, field, Has, IsWellFormed, AreWellFormed}
-use Rattle.lam_rules.specs.Subtyping.{Claim, BeginsWith, GoesFieldByField, IsPermutation, BySubRule, IsRuleOf, SubTree, sub_step, SubTrees, no_subs, sub_first, conclusion, conclusions, IsSubProof, AreSubProofs, ProvesBelow, IsBelow}
+use Rattle.std.proofs.Common.{◌≡◌, List, [], ◌∷◌, ap, sym, ◌∙◌, refl, subst, inl, inr}
+use Rattle.lam_rules.specs.Types.{Label, Typ, bool, nat, unit, top, arrow, record_of, Fields, no_fields, field, Has, IsWellFormed}
+use Rattle.lam_rules.specs.Subtyping.{Claim, BeginsWith, GoesFieldByField, BySubRule, IsRuleOf, SubTree, sub_step, SubTrees, no_subs, sub_first, conclusion, conclusions, IsSubProof, AreSubProofs, IsBelow}
 use Rattle.lam_rules.specs.declared.rules.Dialect.{Dialect}
 use Rattle.lam_rules.specs.declared.rules.SubRule.{SubRule}
 use Rattle.lam_rules.proofs.Permutations.{permutation_has_back}

@@ -1,16 +1,15 @@
 -- What each place of a document sees: its entries are the least ones, and its parts stand at their places.
-use Rattle.std.proofs.Common.{◌≡◌, ℕ, ◌+◌, ◌<◌, ◌≤◌, List, [], ◌∷◌, ◌++◌, length, map, get_or, take, Option, Some, None, ap, refl, sym, subst, ◌∙◌, arith, append_assoc, suc, zero}
+use Rattle.std.proofs.Common.{◌≡◌, ℕ, ◌+◌, ◌<◌, ◌≤◌, List, [], ◌∷◌, ◌++◌, length, map, get_or, Option, None, ap, refl, sym, subst, ◌∙◌, arith, append_assoc, suc, zero}
 use Rattle.std.proofs.lemmas.List.{length-append}
 use Rattle.lam_rules.specs.Types.{Typ}
 use Rattle.lam_rules.specs.Terms.{Term, true_term, false_term, if_then_else, numeral, succ, pred, is_zero, variable, free, lambda, apply, unit_term, ascribe, let_in, record_term, project, fix, TermFields, no_terms, term_field}
 use Rattle.lam_rules.specs.Typing.{Context}
 use Rattle.lam_rules.specs.declared.rules.Dialect.{Dialect}
-use Rattle.lam_scope.specs.Places.{Binding, written, of_term, Scope, Place, places, places_in, places_of, Statement, defines, declares, abbreviates, states, place_numbered, statement_numbered}
+use Rattle.lam_scope.specs.Places.{written, of_term, Scope, Place, places, places_in, places_of, Statement, defines, declares, abbreviates, states, place_numbered, statement_numbered}
 use Rattle.lam_scope.specs.Sights.{Sight, inside, inside_fields, place_of_term, behind_term, lambda_at, term_at, sights, sights_in, sights_of, sight_numbered}
-use Rattle.lam_scope.specs.WellFormed.{IsWellFormedTerm, AreWellFormedTerms, IsWellFormedScope, IsWellFormedStatement, AreWellFormedStatements}
-use Rattle.lam_scope.specs.declared.numbers.Origin.{Origin}
+use Rattle.lam_scope.specs.WellFormed.{IsWellFormedTerm, AreWellFormedTerms, IsWellFormedScope, AreWellFormedStatements}
 use Rattle.lam_scope.specs.declared.numbers.Origin.TheVariants.{Declaration}
-use Rattle.lam_typing.specs.LeastTypes.{IsLeastAt, IsLeastEntry}
+use Rattle.lam_typing.specs.LeastTypes.{IsLeastAt}
 use Rattle.lam_typing.specs.Entries.{AreLeastEntries, written_in, declared_in, entry_from}
 use Rattle.lam_typing.specs.Steps.{entry_at}
 use Rattle.lam_typing.specs.Notes.{Noted, note, notes, notes_in, notes_of}

@@ -1,6 +1,6 @@
 -- How many nodes a term has, by which walks over it end.
 use Rattle.std.proofs.Common.{ℕ, ◌+◌}
-use Rattle.lam_rules.specs.Terms.{Term, true_term, false_term, if_then_else, numeral, succ, pred, is_zero, variable, free, lambda, apply, unit_term, ascribe, let_in, record_term, project, fix, TermFields, no_terms, term_field}
+use Rattle.lam_rules.specs.Terms.{Term, if_then_else, succ, pred, is_zero, lambda, apply, ascribe, let_in, record_term, project, fix, TermFields, no_terms, term_field}
 
 abbrev mutual
   pub size_of : Term → ℕ

@@ -1,5 +1,5 @@
 -- From statement to statement: what a walk over those that follow finds is found of all.
-use Rattle.std.proofs.Common.{◌≡◌, ℕ, List, [], ◌∷◌, ◌++◌, length, map, drop, get_or, drop-cons, add-one, suc, Vec, Option, Some, None, Result, Ok, Err, IfErr, ap, refl, sym, subst, ◌∙◌, ◌+◌, ◌<◌, ◌≤◌}
+use Rattle.std.proofs.Common.{◌≡◌, ℕ, List, [], ◌∷◌, ◌++◌, length, map, drop, get_or, drop-cons, add-one, suc, Vec, Option, Result, Ok, Err, IfErr, ap, refl, sym, subst, ◌∙◌, ◌+◌, ◌<◌, ◌≤◌}
 use Rattle.std.specs.Result.{IsErrAnd}
 use Rattle.std.proofs.lemmas.List.{drop_all}
 use Rattle.std.specs.declared.alloc.Global.{Global}
@@ -14,7 +14,7 @@ use Rattle.lam_scope.specs.Places.{Scope, written, of_term, places, Statement, d
 use Rattle.lam_scope.specs.WellFormed.{IsWellFormedStatement, AreWellFormedStatements}
 use Rattle.lam_scope.specs.Views.{statement_of}
 use Rattle.lam_scope.specs.declared.statement.Statement.{Statement as RustStatement}
-use Rattle.lam_typing.specs.Answers.{answer, StandsIn}
+use Rattle.lam_typing.specs.Answers.{answer}
 use Rattle.lam_typing.specs.Progress.{IsLowest, Went}
 use Rattle.lam_typing.specs.Walk.{entries_of, progress_of, IsSoundWalk, Grows, WalkedOver, HasStopped, HasStoppedAmong, HasStoppedAt, GoesOn}
 use Rattle.lam_typing.specs.declared.walking.Walk.{Walk}

@@ -1,7 +1,7 @@
 -- What the calls of a table say, as steps of rules.
-use Rattle.std.proofs.Common.{◌≡◌, ℕ, ◌<◌, List, [], ◌∷◌, String, string_bytes, length, Option, Some, None, refl, sym, subst, ◌∙◌, inl, inr}
+use Rattle.std.proofs.Common.{List, [], ◌∷◌, String, string_bytes, Some, None, refl, sym, inl, inr}
 use Rattle.std.specs.declared.alloc.Global.{Global}
-use Rattle.lam_rules.specs.Types.{Label, Typ, bool, nat, unit, top, arrow, record_of, Fields, no_fields, field, Has, IsAbsent, IsWellFormed, AreWellFormed}
+use Rattle.lam_rules.specs.Types.{Label, Typ, bool, nat, unit, top, arrow, record_of, Fields, no_fields, field, Has, IsAbsent, AreWellFormed}
 use Rattle.lam_rules.specs.Typing.{HasField}
 use Rattle.lam_rules.specs.Numbers.{type_of, fields_over, IsNotAmong, HaveDistinctLabels}
 use Rattle.lam_rules.specs.declared.table.TyNo.{TyNo}

@@ -1,5 +1,5 @@
 -- How the steps of a walk go together: one part after the other, under a binder, and the term itself behind its parts.
-use Rattle.std.proofs.Common.{◌≡◌, ◌⊎◌, ◌↔◌, ℕ, ◌+◌, ◌<◌, List, [], ◌∷◌, ◌++◌, length, Option, Some, None, Bool, true, false, IsTrue, ap, refl, sym, subst, ◌∙◌, inl, inr, append_assoc, arith}
+use Rattle.std.proofs.Common.{◌≡◌, ℕ, ◌+◌, ◌<◌, List, [], ◌∷◌, ◌++◌, length, Option, Some, None, Bool, true, false, IsTrue, ap, refl, sym, subst, ◌∙◌, inl, inr, append_assoc, arith}
 use Rattle.std.proofs.lemmas.List.{length-append, append-nil}
 use Rattle.lam_rules.specs.Types.{Typ, nodes}
 use Rattle.lam_rules.specs.Terms.{Term}
@@ -9,8 +9,8 @@ use Rattle.lam_rules.specs.declared.rules.Dialect.{Dialect}
 use Rattle.lam_scope.specs.Places.{Binding, Scope, Place}
 use Rattle.lam_typing.specs.LeastTypes.{IsLeastAt}
 use Rattle.lam_typing.specs.Blaming.{ArePartsTyped, IsExcused, IsBlamed, IsBlamedFor, Blamed, AreBlamed}
-use Rattle.lam_typing.specs.Analysis.{AreLeast, IsSmall, AreSmall, IsTooLarge}
-use Rattle.lam_typing.specs.Progress.{IsLowest, Progress, Shown, Went, WentOver, Cause, next_is_too_large, enough, NextIs, ShownFront, StoppedIn, blame_step}
+use Rattle.lam_typing.specs.Analysis.{AreLeast, IsSmall, AreSmall}
+use Rattle.lam_typing.specs.Progress.{IsLowest, Progress, Shown, Went, Cause, next_is_too_large, enough, NextIs, StoppedIn, blame_step}
 
 -- lists side by side
 

@@ -1,8 +1,8 @@
 -- Numbers of a table that answer for places and binders: each stands for a type, or there is none.
-use Rattle.std.specs.Prelude.{◌≡◌, ℕ, List, [], ◌∷◌, Option, Some, None, map, length}
-use Rattle.lam_rules.specs.Types.{Typ, bool, nat, unit}
+use Rattle.std.specs.Prelude.{List, [], ◌∷◌, Option, Some, None}
+use Rattle.lam_rules.specs.Types.{Typ}
 use Rattle.lam_rules.specs.Typing.{Context}
-use Rattle.lam_rules.specs.Numbers.{type_of, Stands, IsNumberOf, Keeps}
+use Rattle.lam_rules.specs.Numbers.{type_of, Stands}
 use Rattle.lam_rules.specs.declared.table.TyNo.{TyNo}
 
 -- the type that a number stands for, if there is one

@@ -1,7 +1,7 @@
 -- Where a document is to blame for a term without a type, and for what.
-use Rattle.std.specs.Prelude.{◌≡◌, ◌⊎◌, ℕ, zero, suc, ◌+◌, List, [], ◌∷◌, Option, Some, None, codes}
-use Rattle.lam_rules.specs.Types.{Typ, bool, nat, unit, top, arrow, record_of}
-use Rattle.lam_rules.specs.Terms.{Term, true_term, false_term, if_then_else, numeral, succ, pred, is_zero, variable, free, lambda, apply, unit_term, ascribe, let_in, record_term, project, fix, TermFields, no_terms, term_field}
+use Rattle.std.specs.Prelude.{◌≡◌, ◌≢◌, ◌⊎◌, ℕ, zero, suc, ◌+◌, List, [], ◌∷◌, Some, None, codes}
+use Rattle.lam_rules.specs.Types.{Label, Typ, arrow}
+use Rattle.lam_rules.specs.Terms.{Term, if_then_else, succ, pred, is_zero, variable, free, lambda, apply, ascribe, let_in, record_term, project, fix, TermFields, no_terms, term_field}
 use Rattle.lam_rules.specs.Texts.{Text}
 use Rattle.lam_rules.specs.Typing.{Context}
 use Rattle.lam_rules.specs.declared.rules.Dialect.{Dialect}
@@ -81,3 +81,13 @@ AreBlamed n (p ∷ ps) blames d =
     ((IsBlamed p.scope p.here d → ⊥) × AreBlamed (n + 1) ps blames d)
     ⊎ ((code : Text) × (rest : List Blamed) × (blames ≡ record { number = n; code = code } ∷ rest)
     × IsBlamed p.scope p.here d × IsBlamedFor p.scope p.here code d × AreBlamed (n + 1) ps rest d)
+
+-- the label is none of these terms'
+abbrev pub IsNoLabelOf : Label → TermFields → Type 0
+IsNoLabelOf l no_terms = Unit {0}
+IsNoLabelOf l (term_field k e es) = (l ≢ k) × IsNoLabelOf l es
+
+-- no label stands twice
+abbrev pub DifferInLabels : TermFields → Type 0
+DifferInLabels no_terms = Unit {0}
+DifferInLabels (term_field l e es) = IsNoLabelOf l es × DifferInLabels es

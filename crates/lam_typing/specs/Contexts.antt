@@ -1,5 +1,5 @@
 -- The contexts that a place may have: each binder's entry is chosen by itself.
-use Rattle.std.specs.Prelude.{◌≡◌, List, [], ◌∷◌, Option, Some, None}
+use Rattle.std.specs.Prelude.{◌≡◌, [], ◌∷◌, Option, Some, None}
 use Rattle.lam_rules.specs.Types.{Typ}
 use Rattle.lam_rules.specs.Typing.{Context, HasType}
 use Rattle.lam_rules.specs.declared.rules.Dialect.{Dialect}

@@ -1,5 +1,5 @@
 -- What is noted of each place beside its type: the entry of the binder of a lambda, and that of the binder that a variable counts to.
-use Rattle.std.specs.Prelude.{◌≡◌, ℕ, ◌+◌, List, [], ◌∷◌, ◌++◌, length, map, Option, Some, None, get_or}
+use Rattle.std.specs.Prelude.{◌≡◌, ℕ, ◌+◌, List, [], ◌∷◌, ◌++◌, length, map, Option, None, get_or}
 use Rattle.lam_rules.specs.Types.{Typ}
 use Rattle.lam_rules.specs.Terms.{Term, true_term, false_term, if_then_else, numeral, succ, pred, is_zero, variable, free, lambda, apply, unit_term, ascribe, let_in, record_term, project, fix, TermFields, no_terms, term_field}
 use Rattle.lam_rules.specs.Typing.{Context}

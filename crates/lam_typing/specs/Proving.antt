@@ -1,5 +1,5 @@
 -- What the proofs that are built for the terms of a document promise, in every context of least entries in which the terms stand at their places.
-use Rattle.std.specs.Prelude.{◌≡◌, ◌<◌, ◌≤◌, ℕ, ◌+◌, List, [], ◌∷◌, reverse, length, Option, Some, None, get_or, String, string_bytes}
+use Rattle.std.specs.Prelude.{◌≡◌, ◌<◌, ◌≤◌, ℕ, ◌+◌, List, reverse, length, Option, Some, None, get_or}
 use Rattle.lam_rules.specs.Types.{Typ, bool, nat, unit, record_of, Fields}
 use Rattle.lam_rules.specs.TypeViews.{fields_of}
 use Rattle.lam_rules.specs.Terms.{Term, true_term, false_term, numeral, unit_term, succ, pred, is_zero, record_term, TermFields}

@@ -1,14 +1,16 @@
 //! What holds of all terms and documents: the contracts of functions that do nothing.
 
-ghost use Rattle.std.specs.Prelude.{◌≡◌, ℕ, List, Option, Some};
-ghost use Rattle.lam_rules.specs.Types.{Typ, bool};
-ghost use Rattle.lam_rules.specs.Terms.{Term, true_term, false_term, unit_term, numeral, lambda, let_in, if_then_else};
+ghost use Rattle.std.specs.Prelude.{◌≡◌, ℕ, ◌<◌, length, List, Option, Some};
+ghost use Rattle.lam_rules.specs.Types.{Label, Typ, bool, nat, arrow, record_of, Fields, Has};
+ghost use Rattle.lam_rules.specs.Terms.{Term, true_term, false_term, unit_term, numeral, lambda, let_in, if_then_else, variable, succ, pred, is_zero, apply, ascribe, project, fix, record_term, TermFields};
+ghost use Rattle.lam_rules.specs.Subtyping.{IsBelow};
 ghost use Rattle.lam_rules.specs.Texts.{text};
 ghost use Rattle.lam_rules.specs.Typing.{Context};
 ghost use Rattle.lam_rules.specs.declared.rules.Dialect.{Dialect};
 ghost use Rattle.lam_scope.specs.Places.{Scope, Statement};
 ghost use Rattle.lam_typing.specs.LeastTypes.{IsTypeAt, IsLeastAt};
-ghost use Rattle.lam_typing.specs.Blaming.{IsBlamed};
+ghost use Rattle.lam_typing.specs.Blaming.{IsBlamed, DifferInLabels};
+ghost use Rattle.lam_typing.specs.Contexts.{IsContext};
 ghost use Rattle.lam_typing.specs.Narrowing.{Narrows};
 ghost use Rattle.lam_scope.specs.WellFormed.{IsWellFormedScope, IsWellFormedTerm, AreWellFormedStatements};
 ghost use Rattle.lam_typing.specs.WellTyped.{IsTypedWhereUnblamed};
@@ -45,4 +47,25 @@ pub fn never_blamed()
 /// each evaluation has a type.
 pub fn typed_where_unblamed()
     ensures { (statements : List Statement) (d : Dialect) → AreWellFormedStatements statements → IsTypedWhereUnblamed statements d }
+{}
+
+/// A place has a context, whatever it sees.
+pub fn scopes_have_contexts()
+    ensures { (s : Scope) (d : Dialect) → IsWellFormedScope s → (g : Context) × IsContext s g d }
+{}
+
+/// What is said of a place that is to blame is so: a name has no binder, a condition is not below Bool, an operand not
+/// below Nat, an argument not below the parameter, a term not below what is ascribed, a field not there, the outcome of
+/// a fix's function not below its parameter, a label of a record there twice.
+pub fn blame_is_just()
+    ensures a_name { (s : Scope) (n : ℕ) (d : Dialect) → IsWellFormedScope s → n < length s → IsBlamed s (variable n) d → ⊥ }
+    ensures a_condition { (s : Scope) (c a b : Term) (t : Typ) (d : Dialect) → IsWellFormedScope s → IsBlamed s (if_then_else c a b) d → IsLeastAt s c (Some t) d → IsBelow t bool d → ⊥ }
+    ensures of_succ { (s : Scope) (e : Term) (t : Typ) (d : Dialect) → IsWellFormedScope s → IsBlamed s (succ e) d → IsLeastAt s e (Some t) d → IsBelow t nat d → ⊥ }
+    ensures of_pred { (s : Scope) (e : Term) (t : Typ) (d : Dialect) → IsWellFormedScope s → IsBlamed s (pred e) d → IsLeastAt s e (Some t) d → IsBelow t nat d → ⊥ }
+    ensures of_is_zero { (s : Scope) (e : Term) (t : Typ) (d : Dialect) → IsWellFormedScope s → IsBlamed s (is_zero e) d → IsLeastAt s e (Some t) d → IsBelow t nat d → ⊥ }
+    ensures an_argument { (s : Scope) (f a : Term) (p r t : Typ) (d : Dialect) → IsWellFormedScope s → IsBlamed s (apply f a) d → IsLeastAt s f (Some (arrow p r)) d → IsLeastAt s a (Some t) d → IsBelow t p d → ⊥ }
+    ensures an_ascription { (s : Scope) (e : Term) (w t : Typ) (d : Dialect) → IsWellFormedScope s → IsBlamed s (ascribe e (Some w)) d → IsLeastAt s e (Some t) d → IsBelow t w d → ⊥ }
+    ensures a_field { (s : Scope) (e : Term) (l : Label) (fs : Fields) (t : Typ) (d : Dialect) → IsWellFormedScope s → IsBlamed s (project e l) d → IsLeastAt s e (Some (record_of fs)) d → Has l t fs → ⊥ }
+    ensures a_fix { (s : Scope) (e : Term) (p r : Typ) (d : Dialect) → IsWellFormedScope s → IsBlamed s (fix e) d → IsLeastAt s e (Some (arrow p r)) d → IsBelow r p d → ⊥ }
+    ensures a_record { (s : Scope) (es : TermFields) (d : Dialect) → IsWellFormedScope s → DifferInLabels es → IsBlamed s (record_term es) d → ⊥ }
 {}

@@ -1,14 +1,12 @@
-use Rattle.std.proofs.Common.{◌≡◌, ◌+◌, [], ◌∷◌, ◌++◌, length, get_or, None, vec_len, ap, refl, sym, ◌∙◌, subst, arith, string_bytes}
-use Rattle.lam_rules.specs.Terms.{Term, if_then_else, variable, lambda, apply, let_in, record_term}
+use Rattle.std.proofs.Common.{◌≡◌, ◌+◌, [], ◌∷◌, ◌++◌, length, get_or, None, vec_len, ap, refl, ◌∙◌, arith, string_bytes}
+use Rattle.lam_rules.specs.Terms.{if_then_else, lambda, apply, let_in, record_term}
 use Rattle.lam_rules.specs.TermViews.{term_of, terms_of, written_of}
 use Rattle.lam_rules.proofs.TermShapes.{term_of-Var}
 use Rattle.lam_rules.proofs.Tables.{keeps_same}
-use Rattle.lam_scope.specs.Sights.{inside, inside_fields, behind_term, place_of_term}
-use Rattle.lam_typing.specs.Answers.{answers, context_under}
-use Rattle.lam_typing.specs.Notes.{notes, notes_in, NotesTerm, NotesFields, NotesOne, IsOver}
+use Rattle.lam_scope.specs.Sights.{inside, inside_fields, behind_term}
 use Rattle.lam_typing.proofs.Growing.{all_stand_keep, stands_keep, answer_keep}
 use Rattle.lam_typing.proofs.Sizes.{size_of, size_of_fields}
-use Rattle.lam_typing.proofs.NotedParts.{sound_keep, more_none, then_term, term_done, over_done, under_done, let_under, fields_then, popped_items, pushed_sound, found_at, found_stands, ok_map, on_ok_map}
+use Rattle.lam_typing.proofs.NotedParts.{then_term, term_done, over_done, under_done, let_under, fields_then, popped_items, pushed_sound, found_stands, ok_map, on_ok_map}
 use Rattle.lam_typing.proofs.noting.+note_term.Goals as goal
 
 pub note_apply-note_term-requires-2 : goal.note_apply-note_term-requires-2

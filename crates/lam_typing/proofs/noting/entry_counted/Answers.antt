@@ -1,4 +1,4 @@
-use Rattle.std.proofs.Common.{◌≤◌, length, sym, arith}
+use Rattle.std.proofs.Common.{sym, arith}
 use Rattle.lam_typing.specs.Answers.{context_under}
 use Rattle.lam_typing.proofs.Growing.{length-context}
 use Rattle.lam_typing.proofs.Forms.{entry_beyond}

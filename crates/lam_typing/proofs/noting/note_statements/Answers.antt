@@ -1,4 +1,4 @@
-use Rattle.std.proofs.Common.{◌≤◌, map, arith}
+use Rattle.std.proofs.Common.{map}
 use Rattle.lam_scope.specs.Views.{statement_of}
 use Rattle.lam_typing.proofs.NotedParts.{statement_wf, statement_noted}
 use Rattle.lam_typing.proofs.noting.note_statements.Goals as goal

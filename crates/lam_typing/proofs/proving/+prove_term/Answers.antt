@@ -1,7 +1,7 @@
-use Rattle.std.proofs.Common.{◌≡◌, ◌+◌, ◌-◌, ◌∷◌, [], ◌++◌, Some, None, ap, refl, sym, subst, ◌∙◌, string_bytes, arith, reverse, get_or}
+use Rattle.std.proofs.Common.{◌≡◌, ◌+◌, ◌-◌, Some, None, ap, refl, sym, subst, ◌∙◌, string_bytes, arith, reverse, get_or}
 use Rattle.std.specs.Option.{option_map}
 use Rattle.lam_rules.specs.Types.{bool, nat, arrow, record_of, field}
-use Rattle.lam_rules.specs.Terms.{true_term, false_term, unit_term, numeral, free, variable, if_then_else, succ, pred, is_zero, lambda, apply, ascribe, let_in, record_term, project, fix, term_field}
+use Rattle.lam_rules.specs.Terms.{true_term, false_term, unit_term, numeral, free, variable, if_then_else, succ, pred, is_zero, lambda, apply, ascribe, let_in, record_term, project, fix}
 use Rattle.lam_rules.specs.TermViews.{term_of, terms_of, written_of}
 use Rattle.lam_rules.specs.TypeViews.{typ_of, fields_of}
 use Rattle.lam_rules.specs.TypingViews.{typing_tree_of, typings_of}
@@ -13,7 +13,7 @@ use Rattle.lam_scope.specs.Sights.{inside, inside_fields}
 use Rattle.lam_typing.specs.Proving.{tree_in, trees_in, IsProvenAs}
 use Rattle.lam_typing.proofs.Sizes.{size_of, size_of_fields}
 use Rattle.lam_typing.proofs.NotedParts.{ok_map}
-use Rattle.lam_typing.proofs.BuiltProofs.{leaf_form, variable_form, free_none, as_wide, as_none, number_form, number_none, if_form, if_none_else, if_none_then, if_none_condition, lambda_form, lambda_none, faulty_lambda_none, apply_form, apply_none_argument, apply_none_function, apply_no_arrow, apply_not_below, ascribe_form, ascribe_none, faulty_ascribe_none, let_form, let_none_body, let_none_bound, record_form, record_none, no_fields_form, more_fields_form, more_fields_none, first_field_none, project_form, project_none, project_no_record, project_no_field, fix_form, fix_none}
+use Rattle.lam_typing.proofs.BuiltProofs.{free_none, as_wide, as_none, number_form, number_none, if_form, if_none_else, if_none_then, if_none_condition, lambda_form, lambda_none, faulty_lambda_none, apply_form, apply_none_argument, apply_none_function, apply_no_arrow, apply_not_below, ascribe_form, ascribe_none, faulty_ascribe_none, let_form, let_none_body, let_none_bound, record_form, record_none, no_fields_form, more_fields_form, more_fields_none, first_field_none, project_form, project_none, project_no_record, project_no_field, fix_form, fix_none}
 use Rattle.lam_typing.proofs.BuiltSteps.{no_terms_of, trees_pushed, types_pushed, one_pushed, two_pushed, three_pushed, step_as, some_holds, some_term, none_term, some_as, none_as, some_fields, none_fields, some_wide, none_wide, found_type, found_none, term_of_form, term_none, arrow_in, no_arrow_in, record_in, no_record_in}
 use Rattle.lam_typing.proofs.proving.+prove_term.Goals as goal
 

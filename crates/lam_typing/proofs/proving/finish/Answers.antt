@@ -1,8 +1,7 @@
-use Rattle.std.proofs.Common.{None, sym, subst}
+use Rattle.std.proofs.Common.{None}
 use Rattle.lam_rules.specs.TypeViews.{typ_of}
 use Rattle.lam_rules.specs.Typing.{typing_step}
 use Rattle.lam_rules.specs.TypingViews.{typings_of}
-use Rattle.lam_typing.specs.Proving.{IsWidened}
 use Rattle.lam_typing.proofs.BuiltSteps.{step_tree, some_wide, none_wide}
 use Rattle.lam_typing.proofs.proving.finish.Goals as goal
 

@@ -1,4 +1,4 @@
-use Rattle.std.proofs.Common.{Some, None, refl, ap, sym, ◌∙◌}
+use Rattle.std.proofs.Common.{Some, refl, ap, sym, ◌∙◌}
 use Rattle.std.specs.Option.{option_map}
 use Rattle.lam_rules.specs.TypeViews.{typ_of}
 use Rattle.lam_rules.specs.declared.rules.TypeRule.{TypeRule}

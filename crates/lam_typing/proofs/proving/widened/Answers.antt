@@ -1,6 +1,5 @@
 use Rattle.std.proofs.Common.{ap, ◌++◌, ◌∷◌, [], ◌∙◌}
 use Rattle.lam_rules.specs.TypeViews.{typ_of}
-use Rattle.lam_rules.specs.Subtyping.{ProvesBelow}
 use Rattle.lam_typing.proofs.BuiltSteps.{sub_widened, some_holds}
 use Rattle.lam_typing.proofs.proving.widened.Goals as goal
 

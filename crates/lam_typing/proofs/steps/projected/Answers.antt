@@ -1,6 +1,3 @@
-use Rattle.std.proofs.Common.{ap}
-use Rattle.lam_typing.specs.Answers.{answer}
-use Rattle.lam_typing.specs.Steps.{ProjectRule}
 use Rattle.lam_typing.proofs.StepRules.{no_field_found}
 use Rattle.lam_typing.proofs.steps.projected.Goals as goal
 

@@ -1,4 +1,4 @@
-use Rattle.std.proofs.Common.{◌≤◌, map, arith}
+use Rattle.std.proofs.Common.{map, arith}
 use Rattle.lam_scope.specs.Views.{statement_of}
 use Rattle.lam_typing.proofs.Statements.{goes_further, goes_to_end, stops_at}
 use Rattle.lam_typing.proofs.walking.walk_statements.Goals as goal

@@ -1,4 +1,4 @@
-use Rattle.std.proofs.Common.{◌≡◌, [], ◌∷◌, None, refl, sym, subst, arith}
+use Rattle.std.proofs.Common.{◌≡◌, [], None, refl, sym, subst, arith}
 use Rattle.lam_rules.specs.Terms.{variable}
 use Rattle.lam_typing.specs.Answers.{answer, AllStandIn, context_under}
 use Rattle.lam_typing.specs.Steps.{entry_at}

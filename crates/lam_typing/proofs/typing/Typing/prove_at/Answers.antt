@@ -1,4 +1,4 @@
-use Rattle.std.proofs.Common.{◌+◌, ◌<◌, ◌≤◌, length, Some, None, arith}
+use Rattle.std.proofs.Common.{◌+◌, Some, None, arith}
 use Rattle.lam_rules.specs.TermViews.{term_of}
 use Rattle.lam_scope.specs.Views.{statements_of}
 use Rattle.lam_typing.specs.Proving.{tree_in}

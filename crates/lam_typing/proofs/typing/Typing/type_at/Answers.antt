@@ -1,4 +1,4 @@
-use Rattle.std.proofs.Common.{◌≡◌, get_or, List, Option, None, Some, ap, ◌∙◌, sym, subst}
+use Rattle.std.proofs.Common.{get_or, None, ap, ◌∙◌, sym}
 use Rattle.lam_typing.specs.Answers.{answer}
 use Rattle.lam_typing.proofs.Finishing.{answers_at, stands_where}
 use Rattle.lam_typing.proofs.typing.Typing.type_at.Goals as goal
