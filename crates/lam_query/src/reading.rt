@@ -32,6 +32,7 @@ enum Piece {
     Spoiled,
 }
 
+/// The commands of the text that was cut into these tokens, and the faults that tokens and the grammar decide.
 pub(crate) fn read(alloc: Global, tokens: &[Token<'_>]) -> Result<Parsed, AllocError>
     ensures commands { IfOk result (λ p. AreCommandsOf (pieces_of tokens.now) (map command_of p.commands.items)) }
     ensures faults { IfOk result (λ p. AreSyntaxFaults tokens.now (map fault_of p.faults.items)) }

@@ -11,6 +11,7 @@ use lam_scope::{Scopes, TypeFault};
 use lam_typing::Blame;
 use std::alloc::{AllocError, Global};
 
+/// The faults of written types, in the order of the text.
 pub(crate) fn written_faults(alloc: Global, faults: &[TypeFault]) -> Result<Vec<Fault>, AllocError>
     ensures { IfOk result (λ found. map fault_of found.items ≡ map written_fault faults.now) }
 {

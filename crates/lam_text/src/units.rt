@@ -13,6 +13,7 @@ pub enum Encoding {
     Utf32,
 }
 
+/// How many units a character takes.
 pub(crate) fn units_of(encoding: Encoding, c: char) -> u64
     ensures { result ≡ units_of encoding c }
 {

@@ -22,6 +22,7 @@ fn is_blank(c: char) -> bool
     c == ' ' || c == '\t' || c == '\n' || c == '\r'
 }
 
+/// Whether a character is a digit of a numeral: one of ASCII's.
 #[tactic(auto, unfolding(crate::specs::Shape::is_digit))]
 pub(crate) fn is_digit(c: char) -> bool
     ensures { result ≡ is_digit c }
@@ -36,6 +37,7 @@ fn is_capital(c: char) -> bool
     c >= 'A' && c <= 'Z'
 }
 
+/// Whether a name goes on with the character: with `'`, or as Unicode has identifiers go on.
 #[tactic(auto, unfolding(crate::specs::Shape::is_continuing))]
 pub(crate) fn is_continuing(c: char) -> bool
     ensures { result ≡ is_continuing c }
@@ -80,6 +82,7 @@ fn mark_of(c: char) -> Beginning
     }
 }
 
+/// What begins with the character.
 #[tactic(auto, unfolding(crate::specs::Shape::beginning_of))]
 pub(crate) fn beginning_of(c: char) -> Beginning
     ensures { result ≡ beginning_of c }
