@@ -1,5 +1,5 @@
 -- How written types and terms are seen as trees: the tree of each variant.
-use Rattle.std.proofs.Common.{◌≡◌, List, [], ◌∷◌, ◌++◌, map, ap, sym, ◌∙◌, refl, Vec}
+use Rattle.std.proofs.Common.{◌≡◌, List, [], ◌∷◌, ◌++◌, map, ap, sym, ◌∙◌, refl, Vec, Box}
 use Rattle.std.specs.declared.alloc.Global.{Global}
 use Rattle.lam_syntax.specs.declared.identifier.Identifier.{Identifier}
 use Rattle.lam_syntax.specs.declared.identifier.Binder.{Binder}
@@ -9,13 +9,18 @@ use Rattle.lam_syntax.specs.declared.types.TyNode.{fold-roll-TyNode}
 use Rattle.lam_syntax.specs.declared.types.TyNode.TheOpen.{TyNode-F}
 use Rattle.lam_syntax.specs.declared.types.TyNode.TheVariants as types
 use Rattle.lam_syntax.specs.declared.terms.Prefix.{Prefix}
+use Rattle.lam_syntax.specs.declared.terms.Conditional.{Conditional, fold-Conditional, fold_out-Conditional}
+use Rattle.lam_syntax.specs.declared.terms.Lambda.{Lambda, fold-Lambda, fold_out-Lambda}
+use Rattle.lam_syntax.specs.declared.terms.Let.{Let, fold-Let, fold_out-Let}
+use Rattle.lam_syntax.specs.declared.terms.Letrec.{Letrec, fold-Letrec, fold_out-Letrec}
+use Rattle.lam_syntax.specs.declared.terms.Projection.{Projection, fold-Projection, fold_out-Projection}
 use Rattle.lam_syntax.specs.declared.terms.Tm.{Tm, fold-Tm, fold_out-Tm}
 use Rattle.lam_syntax.specs.declared.terms.TmField.{TmField, fold-TmField, fold_out-TmField}
 use Rattle.lam_syntax.specs.declared.terms.TmNode.{fold-roll-TmNode}
 use Rattle.lam_syntax.specs.declared.terms.TmNode.TheOpen.{TmNode-F}
 use Rattle.lam_syntax.specs.declared.terms.TmNode.TheVariants as terms
 use Rattle.lam_syntax.specs.Trees.{Word, TypeTree, TypeNode, bool, nat, unit, top, named, arrow, record_type, no_type_fields, type_field, TermTree, TermNode, true_term, false_term, unit_term, variable, numeral, lambda, if_term, let_term, letrec_term, prefixed, apply, project, ascribe, record_term, no_fields, field, joined_types, joined}
-use Rattle.lam_syntax.specs.Views.{word_of, bound_of, type_fields_made, type_node_step, type_field_step, type_tree_step, type_node_of, type_of, type_fields_of, fields_made, node_step, field_step, tree_step, term_node_of, term_of, fields_of}
+use Rattle.lam_syntax.specs.Views.{word_of, bound_of, type_fields_made, type_node_step, type_field_step, type_tree_step, type_node_of, type_of, type_fields_of, fields_made, conditional_step, lambda_step, let_step, letrec_step, projection_step, node_step, field_step, tree_step, term_node_of, term_of, fields_of}
 
 -- written types
 
@@ -65,73 +70,93 @@ type_fields_of-push (g ∷ fs) f = ap (type_field (word_of g.label) (type_of g.t
 
 -- terms
 
-term_of-fold : (t : Tm) → fold-Tm TermNode TermTree (Word × TermTree) node_step tree_step field_step t ≡ term_of t
+term_of-fold : (t : Tm) → fold-Tm TermNode TermNode TermNode TermNode TermNode TermNode TermTree (Word × TermTree) node_step conditional_step lambda_step let_step letrec_step projection_step tree_step field_step t ≡ term_of t
 unfolding term_node_of
-term_of-fold t = fold_out-Tm TermNode TermTree (Word × TermTree) node_step tree_step field_step t
+term_of-fold t = fold_out-Tm TermNode TermNode TermNode TermNode TermNode TermNode TermTree (Word × TermTree) node_step conditional_step lambda_step let_step letrec_step projection_step tree_step field_step t
 
-field-fold : (f : TmField) → fold-TmField TermNode TermTree (Word × TermTree) node_step tree_step field_step f ≡ (word_of f.label, term_of f.term)
+field-fold : (f : TmField) → fold-TmField TermNode TermNode TermNode TermNode TermNode TermNode TermTree (Word × TermTree) node_step conditional_step lambda_step let_step letrec_step projection_step tree_step field_step f ≡ (word_of f.label, term_of f.term)
 unfolding term_node_of
-field-fold f = fold_out-TmField TermNode TermTree (Word × TermTree) node_step tree_step field_step f ∙ ap (λ t. (word_of f.label, t)) (term_of-fold f.term)
+field-fold f = fold_out-TmField TermNode TermNode TermNode TermNode TermNode TermNode TermTree (Word × TermTree) node_step conditional_step lambda_step let_step letrec_step projection_step tree_step field_step f ∙ ap (λ t. (word_of f.label, t)) (term_of-fold f.term)
 
-fields-fold : (fs : List TmField) → fields_made (map (fold-TmField TermNode TermTree (Word × TermTree) node_step tree_step field_step) fs) ≡ fields_of fs
+fields-fold : (fs : List TmField) → fields_made (map (fold-TmField TermNode TermNode TermNode TermNode TermNode TermNode TermTree (Word × TermTree) node_step conditional_step lambda_step let_step letrec_step projection_step tree_step field_step) fs) ≡ fields_of fs
 fields-fold [] = refl
 fields-fold (f ∷ fs) = (λ i. field ((field-fold f i).0) ((field-fold f i).1) (fields-fold fs i))
 
+conditional-fold : (c : Conditional) → fold-Conditional TermNode TermNode TermNode TermNode TermNode TermNode TermTree (Word × TermTree) node_step conditional_step lambda_step let_step letrec_step projection_step tree_step field_step c ≡ if_term (term_of c.condition) (term_of c.one) (term_of c.other)
+unfolding term_node_of
+conditional-fold c = fold_out-Conditional TermNode TermNode TermNode TermNode TermNode TermNode TermTree (Word × TermTree) node_step conditional_step lambda_step let_step letrec_step projection_step tree_step field_step c ∙ (λ i. if_term (term_of-fold c.condition i) (term_of-fold c.one i) (term_of-fold c.other i))
+
+lambda-fold : (l : Lambda) → fold-Lambda TermNode TermNode TermNode TermNode TermNode TermNode TermTree (Word × TermTree) node_step conditional_step lambda_step let_step letrec_step projection_step tree_step field_step l ≡ lambda (bound_of l.binder) (type_of l.ty) (term_of l.body)
+unfolding term_node_of
+lambda-fold l = fold_out-Lambda TermNode TermNode TermNode TermNode TermNode TermNode TermTree (Word × TermTree) node_step conditional_step lambda_step let_step letrec_step projection_step tree_step field_step l ∙ ap (lambda (bound_of l.binder) (type_of l.ty)) (term_of-fold l.body)
+
+let-fold : (l : Let) → fold-Let TermNode TermNode TermNode TermNode TermNode TermNode TermTree (Word × TermTree) node_step conditional_step lambda_step let_step letrec_step projection_step tree_step field_step l ≡ let_term (bound_of l.binder) (term_of l.bound) (term_of l.body)
+unfolding term_node_of
+let-fold l = fold_out-Let TermNode TermNode TermNode TermNode TermNode TermNode TermTree (Word × TermTree) node_step conditional_step lambda_step let_step letrec_step projection_step tree_step field_step l ∙ (λ i. let_term (bound_of l.binder) (term_of-fold l.bound i) (term_of-fold l.body i))
+
+letrec-fold : (l : Letrec) → fold-Letrec TermNode TermNode TermNode TermNode TermNode TermNode TermTree (Word × TermTree) node_step conditional_step lambda_step let_step letrec_step projection_step tree_step field_step l ≡ letrec_term (bound_of l.binder) (type_of l.ty) (term_of l.bound) (term_of l.body)
+unfolding term_node_of
+letrec-fold l = fold_out-Letrec TermNode TermNode TermNode TermNode TermNode TermNode TermTree (Word × TermTree) node_step conditional_step lambda_step let_step letrec_step projection_step tree_step field_step l ∙ (λ i. letrec_term (bound_of l.binder) (type_of l.ty) (term_of-fold l.bound i) (term_of-fold l.body i))
+
+projection-fold : (p : Projection) → fold-Projection TermNode TermNode TermNode TermNode TermNode TermNode TermTree (Word × TermTree) node_step conditional_step lambda_step let_step letrec_step projection_step tree_step field_step p ≡ project (term_of p.record) (word_of p.label)
+unfolding term_node_of
+projection-fold p = fold_out-Projection TermNode TermNode TermNode TermNode TermNode TermNode TermTree (Word × TermTree) node_step conditional_step lambda_step let_step letrec_step projection_step tree_step field_step p ∙ ap (λ t. project t (word_of p.label)) (term_of-fold p.record)
+
 pub term_node_of-True : term_node_of terms.True ≡ true_term
 unfolding term_node_of
-term_node_of-True = ap term_node_of (sym terms.rolls-True) ∙ fold-roll-TmNode TermNode TermTree (Word × TermTree) node_step tree_step field_step TmNode-F.True
+term_node_of-True = ap term_node_of (sym terms.rolls-True) ∙ fold-roll-TmNode TermNode TermNode TermNode TermNode TermNode TermNode TermTree (Word × TermTree) node_step conditional_step lambda_step let_step letrec_step projection_step tree_step field_step TmNode-F.True
 
 pub term_node_of-False : term_node_of terms.False ≡ false_term
 unfolding term_node_of
-term_node_of-False = ap term_node_of (sym terms.rolls-False) ∙ fold-roll-TmNode TermNode TermTree (Word × TermTree) node_step tree_step field_step TmNode-F.False
+term_node_of-False = ap term_node_of (sym terms.rolls-False) ∙ fold-roll-TmNode TermNode TermNode TermNode TermNode TermNode TermNode TermTree (Word × TermTree) node_step conditional_step lambda_step let_step letrec_step projection_step tree_step field_step TmNode-F.False
 
 pub term_node_of-Unit : term_node_of terms.Unit ≡ unit_term
 unfolding term_node_of
-term_node_of-Unit = ap term_node_of (sym terms.rolls-Unit) ∙ fold-roll-TmNode TermNode TermTree (Word × TermTree) node_step tree_step field_step TmNode-F.Unit
+term_node_of-Unit = ap term_node_of (sym terms.rolls-Unit) ∙ fold-roll-TmNode TermNode TermNode TermNode TermNode TermNode TermNode TermTree (Word × TermTree) node_step conditional_step lambda_step let_step letrec_step projection_step tree_step field_step TmNode-F.Unit
 
 pub term_node_of-Variable : (x : Identifier) → term_node_of (terms.Variable x) ≡ variable (word_of x)
 unfolding term_node_of
-term_node_of-Variable x = ap term_node_of (sym (terms.rolls-Variable x)) ∙ fold-roll-TmNode TermNode TermTree (Word × TermTree) node_step tree_step field_step (TmNode-F.Variable x)
+term_node_of-Variable x = ap term_node_of (sym (terms.rolls-Variable x)) ∙ fold-roll-TmNode TermNode TermNode TermNode TermNode TermNode TermNode TermTree (Word × TermTree) node_step conditional_step lambda_step let_step letrec_step projection_step tree_step field_step (TmNode-F.Variable x)
 
 pub term_node_of-Numeral : (x : Identifier) → term_node_of (terms.Numeral x) ≡ numeral (word_of x)
 unfolding term_node_of
-term_node_of-Numeral x = ap term_node_of (sym (terms.rolls-Numeral x)) ∙ fold-roll-TmNode TermNode TermTree (Word × TermTree) node_step tree_step field_step (TmNode-F.Numeral x)
+term_node_of-Numeral x = ap term_node_of (sym (terms.rolls-Numeral x)) ∙ fold-roll-TmNode TermNode TermNode TermNode TermNode TermNode TermNode TermTree (Word × TermTree) node_step conditional_step lambda_step let_step letrec_step projection_step tree_step field_step (TmNode-F.Numeral x)
 
-pub term_node_of-Lambda : (b : Binder) (u : WrittenTy) (t : Tm) → term_node_of (terms.Lambda b u t) ≡ lambda (bound_of b) (type_of u) (term_of t)
+pub term_node_of-Lambda : (l : Box Lambda Global) → term_node_of (terms.Lambda l) ≡ lambda (bound_of l.value.binder) (type_of l.value.ty) (term_of l.value.body)
 unfolding term_node_of
-term_node_of-Lambda b u t = ap term_node_of (sym (terms.rolls-Lambda b u t)) ∙ fold-roll-TmNode TermNode TermTree (Word × TermTree) node_step tree_step field_step (TmNode-F.Lambda b u t) ∙ ap (lambda (bound_of b) (type_of u)) (term_of-fold t)
+term_node_of-Lambda l = ap term_node_of (sym (terms.rolls-Lambda l)) ∙ fold-roll-TmNode TermNode TermNode TermNode TermNode TermNode TermNode TermTree (Word × TermTree) node_step conditional_step lambda_step let_step letrec_step projection_step tree_step field_step (TmNode-F.Lambda l) ∙ lambda-fold l.value
 
-pub term_node_of-If : (c : Tm) (t : Tm) (e : Tm) → term_node_of (terms.If c t e) ≡ if_term (term_of c) (term_of t) (term_of e)
+pub term_node_of-If : (c : Box Conditional Global) → term_node_of (terms.If c) ≡ if_term (term_of c.value.condition) (term_of c.value.one) (term_of c.value.other)
 unfolding term_node_of
-term_node_of-If c t e = ap term_node_of (sym (terms.rolls-If c t e)) ∙ fold-roll-TmNode TermNode TermTree (Word × TermTree) node_step tree_step field_step (TmNode-F.If c t e) ∙ (λ i. if_term (term_of-fold c i) (term_of-fold t i) (term_of-fold e i))
+term_node_of-If c = ap term_node_of (sym (terms.rolls-If c)) ∙ fold-roll-TmNode TermNode TermNode TermNode TermNode TermNode TermNode TermTree (Word × TermTree) node_step conditional_step lambda_step let_step letrec_step projection_step tree_step field_step (TmNode-F.If c) ∙ conditional-fold c.value
 
-pub term_node_of-Let : (b : Binder) (t : Tm) (u : Tm) → term_node_of (terms.Let b t u) ≡ let_term (bound_of b) (term_of t) (term_of u)
+pub term_node_of-Let : (l : Box Let Global) → term_node_of (terms.Let l) ≡ let_term (bound_of l.value.binder) (term_of l.value.bound) (term_of l.value.body)
 unfolding term_node_of
-term_node_of-Let b t u = ap term_node_of (sym (terms.rolls-Let b t u)) ∙ fold-roll-TmNode TermNode TermTree (Word × TermTree) node_step tree_step field_step (TmNode-F.Let b t u) ∙ (λ i. let_term (bound_of b) (term_of-fold t i) (term_of-fold u i))
+term_node_of-Let l = ap term_node_of (sym (terms.rolls-Let l)) ∙ fold-roll-TmNode TermNode TermNode TermNode TermNode TermNode TermNode TermTree (Word × TermTree) node_step conditional_step lambda_step let_step letrec_step projection_step tree_step field_step (TmNode-F.Let l) ∙ let-fold l.value
 
-pub term_node_of-Letrec : (b : Binder) (y : WrittenTy) (t : Tm) (u : Tm) → term_node_of (terms.Letrec b y t u) ≡ letrec_term (bound_of b) (type_of y) (term_of t) (term_of u)
+pub term_node_of-Letrec : (l : Box Letrec Global) → term_node_of (terms.Letrec l) ≡ letrec_term (bound_of l.value.binder) (type_of l.value.ty) (term_of l.value.bound) (term_of l.value.body)
 unfolding term_node_of
-term_node_of-Letrec b y t u = ap term_node_of (sym (terms.rolls-Letrec b y t u)) ∙ fold-roll-TmNode TermNode TermTree (Word × TermTree) node_step tree_step field_step (TmNode-F.Letrec b y t u) ∙ (λ i. letrec_term (bound_of b) (type_of y) (term_of-fold t i) (term_of-fold u i))
+term_node_of-Letrec l = ap term_node_of (sym (terms.rolls-Letrec l)) ∙ fold-roll-TmNode TermNode TermNode TermNode TermNode TermNode TermNode TermTree (Word × TermTree) node_step conditional_step lambda_step let_step letrec_step projection_step tree_step field_step (TmNode-F.Letrec l) ∙ letrec-fold l.value
 
 pub term_node_of-Prefixed : (p : Prefix) (t : Tm) → term_node_of (terms.Prefixed p t) ≡ prefixed p (term_of t)
 unfolding term_node_of
-term_node_of-Prefixed p t = ap term_node_of (sym (terms.rolls-Prefixed p t)) ∙ fold-roll-TmNode TermNode TermTree (Word × TermTree) node_step tree_step field_step (TmNode-F.Prefixed p t) ∙ ap (prefixed p) (term_of-fold t)
+term_node_of-Prefixed p t = ap term_node_of (sym (terms.rolls-Prefixed p t)) ∙ fold-roll-TmNode TermNode TermNode TermNode TermNode TermNode TermNode TermTree (Word × TermTree) node_step conditional_step lambda_step let_step letrec_step projection_step tree_step field_step (TmNode-F.Prefixed p t) ∙ ap (prefixed p) (term_of-fold t)
 
 pub term_node_of-Apply : (f : Tm) (a : Tm) → term_node_of (terms.Apply f a) ≡ apply (term_of f) (term_of a)
 unfolding term_node_of
-term_node_of-Apply f a = ap term_node_of (sym (terms.rolls-Apply f a)) ∙ fold-roll-TmNode TermNode TermTree (Word × TermTree) node_step tree_step field_step (TmNode-F.Apply f a) ∙ (λ i. apply (term_of-fold f i) (term_of-fold a i))
+term_node_of-Apply f a = ap term_node_of (sym (terms.rolls-Apply f a)) ∙ fold-roll-TmNode TermNode TermNode TermNode TermNode TermNode TermNode TermTree (Word × TermTree) node_step conditional_step lambda_step let_step letrec_step projection_step tree_step field_step (TmNode-F.Apply f a) ∙ (λ i. apply (term_of-fold f i) (term_of-fold a i))
 
-pub term_node_of-Project : (t : Tm) (l : Identifier) → term_node_of (terms.Project t l) ≡ project (term_of t) (word_of l)
+pub term_node_of-Project : (p : Box Projection Global) → term_node_of (terms.Project p) ≡ project (term_of p.value.record) (word_of p.value.label)
 unfolding term_node_of
-term_node_of-Project t l = ap term_node_of (sym (terms.rolls-Project t l)) ∙ fold-roll-TmNode TermNode TermTree (Word × TermTree) node_step tree_step field_step (TmNode-F.Project t l) ∙ ap (λ t. project t (word_of l)) (term_of-fold t)
+term_node_of-Project p = ap term_node_of (sym (terms.rolls-Project p)) ∙ fold-roll-TmNode TermNode TermNode TermNode TermNode TermNode TermNode TermTree (Word × TermTree) node_step conditional_step lambda_step let_step letrec_step projection_step tree_step field_step (TmNode-F.Project p) ∙ projection-fold p.value
 
 pub term_node_of-Ascribe : (t : Tm) (u : WrittenTy) → term_node_of (terms.Ascribe t u) ≡ ascribe (term_of t) (type_of u)
 unfolding term_node_of
-term_node_of-Ascribe t u = ap term_node_of (sym (terms.rolls-Ascribe t u)) ∙ fold-roll-TmNode TermNode TermTree (Word × TermTree) node_step tree_step field_step (TmNode-F.Ascribe t u) ∙ ap (λ t. ascribe t (type_of u)) (term_of-fold t)
+term_node_of-Ascribe t u = ap term_node_of (sym (terms.rolls-Ascribe t u)) ∙ fold-roll-TmNode TermNode TermNode TermNode TermNode TermNode TermNode TermTree (Word × TermTree) node_step conditional_step lambda_step let_step letrec_step projection_step tree_step field_step (TmNode-F.Ascribe t u) ∙ ap (λ t. ascribe t (type_of u)) (term_of-fold t)
 
 pub term_node_of-Record : (fs : Vec TmField Global) → term_node_of (terms.Record fs) ≡ record_term (fields_of fs.items)
 unfolding term_node_of
-term_node_of-Record fs = ap term_node_of (sym (terms.rolls-Record fs)) ∙ fold-roll-TmNode TermNode TermTree (Word × TermTree) node_step tree_step field_step (TmNode-F.Record fs) ∙ ap record_term (fields-fold fs.items)
+term_node_of-Record fs = ap term_node_of (sym (terms.rolls-Record fs)) ∙ fold-roll-TmNode TermNode TermNode TermNode TermNode TermNode TermNode TermTree (Word × TermTree) node_step conditional_step lambda_step let_step letrec_step projection_step tree_step field_step (TmNode-F.Record fs) ∙ ap record_term (fields-fold fs.items)
 
 pub fields_of-push : (fs : List TmField) (f : TmField) → fields_of (fs ++ f ∷ []) ≡ joined (fields_of fs) (field (word_of f.label) (term_of f.term) no_fields)
 fields_of-push [] f = refl

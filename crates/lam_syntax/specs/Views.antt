@@ -10,7 +10,7 @@ use Rattle.lam_syntax.specs.declared.types.TyNode.TheOpen.{TyNode-F, TyField-F, 
 use Rattle.lam_syntax.specs.declared.types.TyField.{TyField}
 use Rattle.lam_syntax.specs.declared.terms.Tm.{Tm}
 use Rattle.lam_syntax.specs.declared.terms.TmNode.{TmNode, fold-TmNode}
-use Rattle.lam_syntax.specs.declared.terms.TmNode.TheOpen.{TmNode-F, TmField-F, Tm-F}
+use Rattle.lam_syntax.specs.declared.terms.TmNode.TheOpen.{TmNode-F, Conditional-F, Lambda-F, Let-F, Letrec-F, Projection-F, TmField-F, Tm-F}
 use Rattle.lam_syntax.specs.declared.terms.TmField.{TmField}
 use Rattle.lam_syntax.specs.declared.terms.Command.{Command}
 use Rattle.lam_syntax.specs.declared.terms.Command.TheVariants as command
@@ -60,32 +60,47 @@ abbrev pub fields_made : List (Word × TermTree) → TermFields
 fields_made [] = no_fields
 fields_made (f ∷ fs) = field f.0 f.1 (fields_made fs)
 
-abbrev pub node_step : TmNode-F TermNode TermTree (Word × TermTree) → TermNode
+abbrev pub conditional_step : Conditional-F TermNode TermNode TermNode TermNode TermNode TermNode TermTree (Word × TermTree) → TermNode
+conditional_step c = if_term c.condition c.one c.other
+
+abbrev pub lambda_step : Lambda-F TermNode TermNode TermNode TermNode TermNode TermNode TermTree (Word × TermTree) → TermNode
+lambda_step l = lambda (bound_of l.binder) (type_of l.ty) l.body
+
+abbrev pub let_step : Let-F TermNode TermNode TermNode TermNode TermNode TermNode TermTree (Word × TermTree) → TermNode
+let_step l = let_term (bound_of l.binder) l.bound l.body
+
+abbrev pub letrec_step : Letrec-F TermNode TermNode TermNode TermNode TermNode TermNode TermTree (Word × TermTree) → TermNode
+letrec_step l = letrec_term (bound_of l.binder) (type_of l.ty) l.bound l.body
+
+abbrev pub projection_step : Projection-F TermNode TermNode TermNode TermNode TermNode TermNode TermTree (Word × TermTree) → TermNode
+projection_step p = project p.record (word_of p.label)
+
+abbrev pub node_step : TmNode-F TermNode TermNode TermNode TermNode TermNode TermNode TermTree (Word × TermTree) → TermNode
 node_step TmNode-F.True = true_term
 node_step TmNode-F.False = false_term
 node_step TmNode-F.Unit = unit_term
 node_step (TmNode-F.Variable x) = variable (word_of x)
 node_step (TmNode-F.Numeral x) = numeral (word_of x)
-node_step (TmNode-F.Lambda b u t) = lambda (bound_of b) (type_of u) t
-node_step (TmNode-F.If c t e) = if_term c t e
-node_step (TmNode-F.Let b t u) = let_term (bound_of b) t u
-node_step (TmNode-F.Letrec b ty t u) = letrec_term (bound_of b) (type_of ty) t u
+node_step (TmNode-F.Lambda l) = l.value
+node_step (TmNode-F.If c) = c.value
+node_step (TmNode-F.Let l) = l.value
+node_step (TmNode-F.Letrec l) = l.value
 node_step (TmNode-F.Prefixed p t) = prefixed p t
 node_step (TmNode-F.Apply f a) = apply f a
-node_step (TmNode-F.Project t l) = project t (word_of l)
+node_step (TmNode-F.Project p) = p.value
 node_step (TmNode-F.Ascribe t u) = ascribe t (type_of u)
 node_step (TmNode-F.Record fs) = record_term (fields_made fs.items)
 
-abbrev pub field_step : TmField-F TermNode TermTree (Word × TermTree) → Word × TermTree
+abbrev pub field_step : TmField-F TermNode TermNode TermNode TermNode TermNode TermNode TermTree (Word × TermTree) → Word × TermTree
 field_step f = (word_of f.label, f.term)
 
-abbrev pub tree_step : Tm-F TermNode TermTree (Word × TermTree) → TermTree
+abbrev pub tree_step : Tm-F TermNode TermNode TermNode TermNode TermNode TermNode TermTree (Word × TermTree) → TermTree
 tree_step t = term_tree t.span t.node.value
 
 -- the tree of what a term is, of a term, and of the fields of a record
 
 unfoldable pub term_node_of : TmNode → TermNode
-term_node_of = fold-TmNode TermNode TermTree (Word × TermTree) node_step tree_step field_step
+term_node_of = fold-TmNode TermNode TermNode TermNode TermNode TermNode TermNode TermTree (Word × TermTree) node_step conditional_step lambda_step let_step letrec_step projection_step tree_step field_step
 
 abbrev pub term_of : Tm → TermTree
 term_of t = term_tree t.span (term_node_of t.node.value)

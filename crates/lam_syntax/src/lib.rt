@@ -25,5 +25,7 @@ pub use identifier::{Binder, Identifier};
 pub use laws::one_answer;
 pub use parser::parse;
 pub use splitting::pieces;
-pub use terms::{Command, Prefix, Tm, TmField, TmNode};
+pub use terms::{
+    Command, Conditional, Lambda, Let, Letrec, Prefix, Projection, Tm, TmField, TmNode,
+};
 pub use types::{TyField, TyNode, WrittenTy};

@@ -29,7 +29,7 @@ pub enum Prefix {
     IsZero,
 }
 
-/// What a term is.
+/// What a term is. Each node has the size of the widest variant, so that wider parts stand in boxes of their own.
 #[cycle(terms)]
 #[derive(Drop)]
 pub enum TmNode {
@@ -38,20 +38,61 @@ pub enum TmNode {
     Unit,
     Variable(Identifier),
     Numeral(Identifier),
-    /// `lambda b : type . body`
-    Lambda(Binder, WrittenTy, Tm),
-    /// `if condition then one else other`
-    If(Tm, Tm, Tm),
-    /// `let b = term in body`
-    Let(Binder, Tm, Tm),
-    /// `letrec b : type = term in body`
-    Letrec(Binder, WrittenTy, Tm, Tm),
+    Lambda(Box<Lambda>),
+    If(Box<Conditional>),
+    Let(Box<Let>),
+    Letrec(Box<Letrec>),
     Prefixed(Prefix, Tm),
     /// A function and its argument.
     Apply(Tm, Tm),
-    Project(Tm, Identifier),
+    Project(Box<Projection>),
     Ascribe(Tm, WrittenTy),
     Record(Vec<TmField>),
+}
+
+/// `lambda binder : ty . body`
+#[cycle(terms)]
+#[derive(Drop)]
+pub struct Lambda {
+    pub binder: Binder,
+    pub ty: WrittenTy,
+    pub body: Tm,
+}
+
+/// `if condition then one else other`
+#[cycle(terms)]
+#[derive(Drop)]
+pub struct Conditional {
+    pub condition: Tm,
+    pub one: Tm,
+    pub other: Tm,
+}
+
+/// `let binder = bound in body`
+#[cycle(terms)]
+#[derive(Drop)]
+pub struct Let {
+    pub binder: Binder,
+    pub bound: Tm,
+    pub body: Tm,
+}
+
+/// `letrec binder : ty = bound in body`
+#[cycle(terms)]
+#[derive(Drop)]
+pub struct Letrec {
+    pub binder: Binder,
+    pub ty: WrittenTy,
+    pub bound: Tm,
+    pub body: Tm,
+}
+
+/// `record . label`
+#[cycle(terms)]
+#[derive(Drop)]
+pub struct Projection {
+    pub record: Tm,
+    pub label: Identifier,
 }
 
 /// A label of a record and its term.
@@ -106,7 +147,8 @@ pub(crate) fn make_lambda(
     ensures { IfOk result (λ t. term_of t ≡ term_tree (from_to first (term_span (term_of body))) (lambda (bound_of binder) (type_of ty) (term_of body))) }
 {
     let span = from_to(first, body.span);
-    term_at(alloc, span, TmNode::Lambda(binder, ty, body))
+    let lambda = Lambda { binder, ty, body };
+    term_at(alloc, span, TmNode::Lambda(Box::new(alloc, lambda)?))
 }
 
 /// The choice between two terms.
@@ -121,7 +163,12 @@ pub(crate) fn make_if(
     ensures { IfOk result (λ t. term_of t ≡ term_tree (from_to first (term_span (term_of other))) (if_term (term_of condition) (term_of one) (term_of other))) }
 {
     let span = from_to(first, other.span);
-    term_at(alloc, span, TmNode::If(condition, one, other))
+    let conditional = Conditional {
+        condition,
+        one,
+        other,
+    };
+    term_at(alloc, span, TmNode::If(Box::new(alloc, conditional)?))
 }
 
 /// The term with a name for another.
@@ -136,7 +183,12 @@ pub(crate) fn make_let(
     ensures { IfOk result (λ t. term_of t ≡ term_tree (from_to first (term_span (term_of body))) (let_term (bound_of binder) (term_of term) (term_of body))) }
 {
     let span = from_to(first, body.span);
-    term_at(alloc, span, TmNode::Let(binder, term, body))
+    let parts = Let {
+        binder,
+        bound: term,
+        body,
+    };
+    term_at(alloc, span, TmNode::Let(Box::new(alloc, parts)?))
 }
 
 /// The term with a name for another that may use it.
@@ -152,7 +204,13 @@ pub(crate) fn make_letrec(
     ensures { IfOk result (λ t. term_of t ≡ term_tree (from_to first (term_span (term_of body))) (letrec_term (bound_of binder) (type_of ty) (term_of term) (term_of body))) }
 {
     let span = from_to(first, body.span);
-    term_at(alloc, span, TmNode::Letrec(binder, ty, term, body))
+    let parts = Letrec {
+        binder,
+        ty,
+        bound: term,
+        body,
+    };
+    term_at(alloc, span, TmNode::Letrec(Box::new(alloc, parts)?))
 }
 
 /// The term behind a prefix, or behind none.
@@ -188,7 +246,11 @@ pub(crate) fn make_project(alloc: Global, term: Tm, label: Identifier) -> Result
     ensures { IfOk result (λ t. term_of t ≡ term_tree (from_to (term_span (term_of term)) label.span) (project (term_of term) (word_of label))) }
 {
     let span = from_to(term.span, label.span);
-    term_at(alloc, span, TmNode::Project(term, label))
+    let projection = Projection {
+        record: term,
+        label,
+    };
+    term_at(alloc, span, TmNode::Project(Box::new(alloc, projection)?))
 }
 
 /// The term with a type that is written to it.
@@ -206,9 +268,11 @@ pub(crate) fn make_record(
     alloc: Global,
     first: Span,
     last: Span,
-    fields: Vec<TmField>,
+    mut fields: Vec<TmField>,
 ) -> Result<Tm, AllocError>
     ensures { IfOk result (λ t. term_of t ≡ term_tree (from_to first last) (record_term (fields_of fields.items))) }
 {
+    // Up to half of a vector that grew is spare, and a document has thousands of records.
+    fields.shrink_to_fit();
     term_at(alloc, from_to(first, last), TmNode::Record(fields))
 }

@@ -76,9 +76,11 @@ pub(crate) fn make_record_type(
     alloc: Global,
     first: Span,
     last: Span,
-    fields: Vec<TyField>,
+    mut fields: Vec<TyField>,
 ) -> Result<WrittenTy, AllocError>
     ensures { IfOk result (λ t. type_of t ≡ type_tree (from_to first last) (record_type (type_fields_of fields.items))) }
 {
+    // Up to half of a vector that grew is spare, and a document has thousands of record types.
+    fields.shrink_to_fit();
     type_at(alloc, from_to(first, last), TyNode::Record(fields))
 }
