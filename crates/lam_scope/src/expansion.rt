@@ -206,7 +206,7 @@ fn expand_fields(
 ) -> Result<Option<Vec<(String, Ty)>>, AllocError>
     ensures { IfOk result (λ o. expanded_fields_of o ≡ expansion_of_fields (abbreviations_of seen.now) (type_fields_of fields.now)) }
 {
-    let mut items = Vec::new(alloc);
+    let mut items = Vec::with_capacity(alloc, fields.len())?;
     for i in 0..fields.len() {
         let field = &fields[i];
         if has_label(&field.label.text, &fields[i + 1..]) {

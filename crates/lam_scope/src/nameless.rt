@@ -14,7 +14,10 @@ use crate::abbreviations::Abbreviations;
 use crate::expansion::expand;
 use crate::names::{Names, name_of};
 use lam_rules::{Core, make_letrec};
-use lam_syntax::{Binder, Identifier, Prefix, Tm, TmField, TmNode, WrittenTy};
+use lam_syntax::{
+    Binder, Conditional, Identifier, Lambda, Let, Letrec, Prefix, Projection, Tm, TmField, TmNode,
+    WrittenTy,
+};
 use std::alloc::{AllocError, Global};
 
 /// The nameless form of a term that sees these abbreviations and names.
@@ -35,15 +38,13 @@ pub(crate) fn nameless<'a>(
         TmNode::Unit => Ok(Core::Unit),
         TmNode::Variable(name) => use_of(name, names),
         TmNode::Numeral(digits) => numeral_of(digits),
-        TmNode::Lambda(binder, ty, body) => lambda_of(alloc, seen, names, binder, ty, body),
-        TmNode::If(condition, one, other) => if_of(alloc, seen, names, condition, one, other),
-        TmNode::Let(binder, bound, body) => let_of(alloc, seen, names, binder, bound, body),
-        TmNode::Letrec(binder, ty, bound, body) => {
-            letrec_of(alloc, seen, names, binder, ty, bound, body)
-        }
+        TmNode::Lambda(lambda) => lambda_of(alloc, seen, names, lambda),
+        TmNode::If(conditional) => if_of(alloc, seen, names, conditional),
+        TmNode::Let(parts) => let_of(alloc, seen, names, parts),
+        TmNode::Letrec(parts) => letrec_of(alloc, seen, names, parts),
         TmNode::Prefixed(prefix, operand) => prefixed_of(alloc, seen, names, *prefix, operand),
         TmNode::Apply(function, argument) => apply_of(alloc, seen, names, function, argument),
-        TmNode::Project(operand, label) => project_of(alloc, seen, names, operand, label),
+        TmNode::Project(projection) => project_of(alloc, seen, names, projection),
         TmNode::Ascribe(operand, ty) => ascribe_of(alloc, seen, names, operand, ty),
         TmNode::Record(fields) => record_of(alloc, seen, names, fields),
     }
@@ -91,15 +92,13 @@ fn lambda_of<'a>(
     alloc: Global,
     seen: &Abbreviations<'_>,
     names: &mut Names<'a>,
-    binder: &'a Binder,
-    ty: &WrittenTy,
-    body: &'a Tm,
+    term: &'a Lambda,
 ) -> Result<Core, AllocError>
-    ensures form { IfOk result (λ e. term_of e ≡ nameless_node (abbreviations_of seen.now) names.old (lambda (bound_of binder.now) (type_of ty.now) (tree_of body.now))) }
+    ensures form { IfOk result (λ e. term_of e ≡ nameless_node (abbreviations_of seen.now) names.old (lambda (bound_of term.now.binder) (type_of term.now.ty) (tree_of term.now.body))) }
     ensures names { OnOk result (names.new ≡ names.old) }
 {
-    let written = expand(alloc, seen, ty)?;
-    let form = under(alloc, seen, names, binder, body)?;
+    let written = expand(alloc, seen, &term.ty)?;
+    let form = under(alloc, seen, names, &term.binder, &term.body)?;
     Ok(Core::Abs(written, Box::new(alloc, form)?))
 }
 
@@ -109,16 +108,14 @@ fn if_of<'a>(
     alloc: Global,
     seen: &Abbreviations<'_>,
     names: &mut Names<'a>,
-    condition: &'a Tm,
-    one: &'a Tm,
-    other: &'a Tm,
+    term: &'a Conditional,
 ) -> Result<Core, AllocError>
-    ensures form { IfOk result (λ e. term_of e ≡ nameless_node (abbreviations_of seen.now) names.old (if_term (tree_of condition.now) (tree_of one.now) (tree_of other.now))) }
+    ensures form { IfOk result (λ e. term_of e ≡ nameless_node (abbreviations_of seen.now) names.old (if_term (tree_of term.now.condition) (tree_of term.now.one) (tree_of term.now.other))) }
     ensures names { OnOk result (names.new ≡ names.old) }
 {
-    let first = boxed(alloc, seen, names, condition)?;
-    let second = boxed(alloc, seen, names, one)?;
-    let third = boxed(alloc, seen, names, other)?;
+    let first = boxed(alloc, seen, names, &term.condition)?;
+    let second = boxed(alloc, seen, names, &term.one)?;
+    let third = boxed(alloc, seen, names, &term.other)?;
     Ok(Core::If(first, second, third))
 }
 
@@ -128,15 +125,13 @@ fn let_of<'a>(
     alloc: Global,
     seen: &Abbreviations<'_>,
     names: &mut Names<'a>,
-    binder: &'a Binder,
-    bound: &'a Tm,
-    body: &'a Tm,
+    term: &'a Let,
 ) -> Result<Core, AllocError>
-    ensures form { IfOk result (λ e. term_of e ≡ nameless_node (abbreviations_of seen.now) names.old (let_term (bound_of binder.now) (tree_of bound.now) (tree_of body.now))) }
+    ensures form { IfOk result (λ e. term_of e ≡ nameless_node (abbreviations_of seen.now) names.old (let_term (bound_of term.now.binder) (tree_of term.now.bound) (tree_of term.now.body))) }
     ensures names { OnOk result (names.new ≡ names.old) }
 {
-    let first = boxed(alloc, seen, names, bound)?;
-    let second = under(alloc, seen, names, binder, body)?;
+    let first = boxed(alloc, seen, names, &term.bound)?;
+    let second = under(alloc, seen, names, &term.binder, &term.body)?;
     Ok(Core::Let(first, Box::new(alloc, second)?))
 }
 
@@ -146,17 +141,14 @@ fn letrec_of<'a>(
     alloc: Global,
     seen: &Abbreviations<'_>,
     names: &mut Names<'a>,
-    binder: &'a Binder,
-    ty: &WrittenTy,
-    bound: &'a Tm,
-    body: &'a Tm,
+    term: &'a Letrec,
 ) -> Result<Core, AllocError>
-    ensures form { IfOk result (λ e. term_of e ≡ nameless_node (abbreviations_of seen.now) names.old (letrec_term (bound_of binder.now) (type_of ty.now) (tree_of bound.now) (tree_of body.now))) }
+    ensures form { IfOk result (λ e. term_of e ≡ nameless_node (abbreviations_of seen.now) names.old (letrec_term (bound_of term.now.binder) (type_of term.now.ty) (tree_of term.now.bound) (tree_of term.now.body))) }
     ensures names { OnOk result (names.new ≡ names.old) }
 {
-    let written = expand(alloc, seen, ty)?;
-    let first = under(alloc, seen, names, binder, bound)?;
-    let second = under(alloc, seen, names, binder, body)?;
+    let written = expand(alloc, seen, &term.ty)?;
+    let first = under(alloc, seen, names, &term.binder, &term.bound)?;
+    let second = under(alloc, seen, names, &term.binder, &term.body)?;
     make_letrec(alloc, written, first, second)
 }
 
@@ -199,14 +191,13 @@ fn project_of<'a>(
     alloc: Global,
     seen: &Abbreviations<'_>,
     names: &mut Names<'a>,
-    operand: &'a Tm,
-    label: &Identifier,
+    term: &'a Projection,
 ) -> Result<Core, AllocError>
-    ensures form { IfOk result (λ e. term_of e ≡ nameless_node (abbreviations_of seen.now) names.old (project (tree_of operand.now) (word_of label.now))) }
+    ensures form { IfOk result (λ e. term_of e ≡ nameless_node (abbreviations_of seen.now) names.old (project (tree_of term.now.record) (word_of term.now.label))) }
     ensures names { OnOk result (names.new ≡ names.old) }
 {
-    let form = boxed(alloc, seen, names, operand)?;
-    let copy = label.text.clone()?;
+    let form = boxed(alloc, seen, names, &term.record)?;
+    let copy = term.label.text.clone()?;
     Ok(Core::Proj(form, copy))
 }
 
@@ -253,7 +244,7 @@ fn nameless_fields<'a>(
     ensures form { IfOk result (λ forms. terms_of forms.items ≡ nameless_fields (abbreviations_of seen.now) names.old (fields_of fields.now)) }
     ensures names { OnOk result (names.new ≡ names.old) }
 {
-    let mut forms = Vec::new(alloc);
+    let mut forms = Vec::with_capacity(alloc, fields.len())?;
     for i in 0..fields.len() {
         let field = &fields[i];
         let form = nameless(alloc, seen, names, &field.term)?;

@@ -2,7 +2,7 @@
 //! its immediate terms.
 ghost use Rattle.std.specs.Prelude.{◌≡◌, ◌∷◌, [], ◌+◌, ◌<◌, length, map, true, Some, IfOk, OnOk, string_bytes};
 ghost use Rattle.std.specs.Option.{option_map};
-ghost use Rattle.lam_syntax.specs.Trees.{lambda};
+ghost use Rattle.lam_syntax.specs.Trees.{lambda, if_term, let_term, letrec_term, apply};
 ghost use Rattle.lam_syntax.specs.Views.{bound_of, type_of, type_fields_of, term_of, term_node_of, fields_of, command_of};
 ghost use Rattle.lam_scope.specs.Tables.{◌⊕◌, entry, binder_row, place_row, lambda_at, term_at, root, behind, roots, roots_of_fields, binders_in, binders_in_node, binders_in_fields, below_node, below_fields, type_uses, field_uses, term_table, node_table, letrec_rows, fields_table, command_table, types_seen_after, names_seen_after, binders_in_command, places_in_command};
 ghost use Rattle.lam_scope.specs.TableViews.{place_number, rows_of, entry_of, with_origin};
@@ -12,7 +12,8 @@ use crate::numbers::{Binder, Origin, Place};
 use crate::rows::Rows;
 use crate::seen::{Seen, SeenBinder};
 use lam_syntax::{
-    Binder as BoundName, Command, Identifier, Tm, TmField, TmNode, TyField, TyNode, WrittenTy,
+    Binder as BoundName, Command, Conditional, Identifier, Lambda, Let, Letrec, Tm, TmField,
+    TmNode, TyField, TyNode, WrittenTy,
 };
 use lam_token::Span;
 use std::alloc::{AllocError, Global};
@@ -108,41 +109,18 @@ fn walk_node<'a>(
             rows.add_use(name, names)?;
             Ok(Vec::new(alloc))
         }
-        TmNode::Lambda(binder, ty, body) => {
-            let place = walk_lambda(alloc, rows, types, names, body, binder, ty)?;
+        TmNode::Lambda(lambda) => {
+            let place = walk_lambda(alloc, rows, types, names, lambda)?;
             listed(alloc, &[place])
         }
-        TmNode::If(condition, one, other) => {
-            let first = walk_term(alloc, rows, types, names, condition)?;
-            let second = walk_term(alloc, rows, types, names, one)?;
-            let third = walk_term(alloc, rows, types, names, other)?;
-            listed(alloc, &[first, second, third])
-        }
-        TmNode::Let(binder, bound, body) => {
-            let seen = seen_as(binder, rows.binder_count());
-            let first = walk_bound(alloc, rows, types, names, bound, seen.name, binder.span)?;
-            let second = walk_under(alloc, rows, types, names, body, seen)?;
-            listed(alloc, &[first, second])
-        }
-        TmNode::Letrec(binder, ty, bound, body) => {
-            let seen = seen_as(binder, rows.binder_count() + 1);
-            let first = walk_letrec(alloc, rows, types, names, bound, binder, ty)?;
-            let second = walk_under(alloc, rows, types, names, body, seen)?;
-            listed(alloc, &[first, second])
-        }
-        TmNode::Prefixed(_, operand) => {
-            let place = walk_term(alloc, rows, types, names, operand)?;
-            listed(alloc, &[place])
-        }
+        TmNode::If(conditional) => walk_if(alloc, rows, types, names, conditional),
+        TmNode::Let(parts) => walk_let(alloc, rows, types, names, parts),
+        TmNode::Letrec(parts) => walk_letrec(alloc, rows, types, names, parts),
+        TmNode::Prefixed(_, operand) => walk_operand(alloc, rows, types, names, operand),
         TmNode::Apply(function, argument) => {
-            let first = walk_term(alloc, rows, types, names, function)?;
-            let second = walk_term(alloc, rows, types, names, argument)?;
-            listed(alloc, &[first, second])
+            walk_apply(alloc, rows, types, names, function, argument)
         }
-        TmNode::Project(operand, _) => {
-            let place = walk_term(alloc, rows, types, names, operand)?;
-            listed(alloc, &[place])
-        }
+        TmNode::Project(projection) => walk_operand(alloc, rows, types, names, &projection.record),
         TmNode::Ascribe(operand, ty) => {
             let place = walk_term(alloc, rows, types, names, operand)?;
             walk_type(alloc, rows, types, ty)?;
@@ -150,6 +128,111 @@ fn walk_node<'a>(
         }
         TmNode::Record(fields) => walk_fields(alloc, rows, types, names, fields),
     }
+}
+
+#[cycle(terms)]
+#[tactic(auto, using(crate::proofs::TableRows::walks))]
+fn walk_if<'a>(
+    alloc: Global,
+    rows: &mut Rows,
+    types: &Seen<'_>,
+    names: &mut Seen<'a>,
+    term: &'a Conditional,
+) -> Result<Vec<Place>, AllocError>
+    ensures table { OnOk result (rows_of rows.new ≡ rows_of rows.old ⊕ node_table types.now names.old (length rows.old.binders.items) (length rows.old.places.items) (if_term (term_of term.now.condition) (term_of term.now.one) (term_of term.now.other))) }
+    ensures terms { IfOk result (λ ps. map place_number ps.items ≡ roots (length rows.old.places.items) (if_term (term_of term.now.condition) (term_of term.now.one) (term_of term.now.other))) }
+    ensures binders { OnOk result (length rows.new.binders.items ≡ length rows.old.binders.items + binders_in_node (if_term (term_of term.now.condition) (term_of term.now.one) (term_of term.now.other))) }
+    ensures places { OnOk result (length rows.new.places.items ≡ length rows.old.places.items + below_node (if_term (term_of term.now.condition) (term_of term.now.one) (term_of term.now.other))) }
+    ensures names { OnOk result (names.new ≡ names.old) }
+{
+    let first = walk_term(alloc, rows, types, names, &term.condition)?;
+    let second = walk_term(alloc, rows, types, names, &term.one)?;
+    let third = walk_term(alloc, rows, types, names, &term.other)?;
+    listed(alloc, &[first, second, third])
+}
+
+#[cycle(terms)]
+#[tactic(auto, using(crate::proofs::TableRows::walks))]
+fn walk_let<'a>(
+    alloc: Global,
+    rows: &mut Rows,
+    types: &Seen<'_>,
+    names: &mut Seen<'a>,
+    term: &'a Let,
+) -> Result<Vec<Place>, AllocError>
+    ensures table { OnOk result (rows_of rows.new ≡ rows_of rows.old ⊕ node_table types.now names.old (length rows.old.binders.items) (length rows.old.places.items) (let_term (bound_of term.now.binder) (term_of term.now.bound) (term_of term.now.body))) }
+    ensures terms { IfOk result (λ ps. map place_number ps.items ≡ roots (length rows.old.places.items) (let_term (bound_of term.now.binder) (term_of term.now.bound) (term_of term.now.body))) }
+    ensures binders { OnOk result (length rows.new.binders.items ≡ length rows.old.binders.items + binders_in_node (let_term (bound_of term.now.binder) (term_of term.now.bound) (term_of term.now.body))) }
+    ensures places { OnOk result (length rows.new.places.items ≡ length rows.old.places.items + below_node (let_term (bound_of term.now.binder) (term_of term.now.bound) (term_of term.now.body))) }
+    ensures names { OnOk result (names.new ≡ names.old) }
+{
+    let seen = seen_as(&term.binder, rows.binder_count());
+    let token = term.binder.span;
+    let first = walk_bound(alloc, rows, types, names, &term.bound, seen.name, token)?;
+    let second = walk_under(alloc, rows, types, names, &term.body, seen)?;
+    listed(alloc, &[first, second])
+}
+
+#[cycle(terms)]
+#[tactic(auto, using(crate::proofs::TableRows::walks))]
+fn walk_letrec<'a>(
+    alloc: Global,
+    rows: &mut Rows,
+    types: &Seen<'_>,
+    names: &mut Seen<'a>,
+    term: &'a Letrec,
+) -> Result<Vec<Place>, AllocError>
+    ensures table { OnOk result (rows_of rows.new ≡ rows_of rows.old ⊕ node_table types.now names.old (length rows.old.binders.items) (length rows.old.places.items) (letrec_term (bound_of term.now.binder) (type_of term.now.ty) (term_of term.now.bound) (term_of term.now.body))) }
+    ensures terms { IfOk result (λ ps. map place_number ps.items ≡ roots (length rows.old.places.items) (letrec_term (bound_of term.now.binder) (type_of term.now.ty) (term_of term.now.bound) (term_of term.now.body))) }
+    ensures binders { OnOk result (length rows.new.binders.items ≡ length rows.old.binders.items + binders_in_node (letrec_term (bound_of term.now.binder) (type_of term.now.ty) (term_of term.now.bound) (term_of term.now.body))) }
+    ensures places { OnOk result (length rows.new.places.items ≡ length rows.old.places.items + below_node (letrec_term (bound_of term.now.binder) (type_of term.now.ty) (term_of term.now.bound) (term_of term.now.body))) }
+    ensures names { OnOk result (names.new ≡ names.old) }
+{
+    let seen = seen_as(&term.binder, rows.binder_count() + 1);
+    let first = walk_fix(alloc, rows, types, names, term)?;
+    let second = walk_under(alloc, rows, types, names, &term.body, seen)?;
+    listed(alloc, &[first, second])
+}
+
+#[cycle(terms)]
+#[tactic(auto, using(crate::proofs::TableRows::walks))]
+fn walk_apply<'a>(
+    alloc: Global,
+    rows: &mut Rows,
+    types: &Seen<'_>,
+    names: &mut Seen<'a>,
+    function: &'a Tm,
+    argument: &'a Tm,
+) -> Result<Vec<Place>, AllocError>
+    ensures table { OnOk result (rows_of rows.new ≡ rows_of rows.old ⊕ node_table types.now names.old (length rows.old.binders.items) (length rows.old.places.items) (apply (term_of function.now) (term_of argument.now))) }
+    ensures terms { IfOk result (λ ps. map place_number ps.items ≡ roots (length rows.old.places.items) (apply (term_of function.now) (term_of argument.now))) }
+    ensures binders { OnOk result (length rows.new.binders.items ≡ length rows.old.binders.items + binders_in_node (apply (term_of function.now) (term_of argument.now))) }
+    ensures places { OnOk result (length rows.new.places.items ≡ length rows.old.places.items + below_node (apply (term_of function.now) (term_of argument.now))) }
+    ensures names { OnOk result (names.new ≡ names.old) }
+{
+    let first = walk_term(alloc, rows, types, names, function)?;
+    let second = walk_term(alloc, rows, types, names, argument)?;
+    listed(alloc, &[first, second])
+}
+
+/// The one part of a term that has no other and binds nothing.
+#[cycle(terms)]
+#[tactic(auto, using(crate::proofs::TableRows::walks))]
+fn walk_operand<'a>(
+    alloc: Global,
+    rows: &mut Rows,
+    types: &Seen<'_>,
+    names: &mut Seen<'a>,
+    operand: &'a Tm,
+) -> Result<Vec<Place>, AllocError>
+    ensures table { OnOk result (rows_of rows.new ≡ rows_of rows.old ⊕ term_table types.now names.old (length rows.old.binders.items) (length rows.old.places.items) (term_of operand.now)) }
+    ensures terms { IfOk result (λ ps. map place_number ps.items ≡ root (length rows.old.places.items) (term_of operand.now) ∷ []) }
+    ensures binders { OnOk result (length rows.new.binders.items ≡ length rows.old.binders.items + binders_in (term_of operand.now)) }
+    ensures places { OnOk result (length rows.new.places.items ≡ behind (length rows.old.places.items) (term_of operand.now)) }
+    ensures names { OnOk result (names.new ≡ names.old) }
+{
+    let place = walk_term(alloc, rows, types, names, operand)?;
+    listed(alloc, &[place])
 }
 
 #[cycle(terms)]
@@ -232,28 +315,20 @@ fn walk_lambda<'a>(
     rows: &mut Rows,
     types: &Seen<'_>,
     names: &mut Seen<'a>,
-    body: &'a Tm,
-    binder: &'a BoundName,
-    ty: &'a WrittenTy,
+    term: &'a Lambda,
 ) -> Result<Place, AllocError>
-    ensures table { OnOk result (rows_of rows.new ≡ rows_of rows.old ⊕ node_table types.now names.old (length rows.old.binders.items) (length rows.old.places.items) (lambda (bound_of binder.now) (type_of ty.now) (term_of body.now))) }
-    ensures place { IfOk result (λ p. p.0 ≡ root (length rows.old.places.items) (term_of body.now)) }
-    ensures binders { OnOk result (length rows.new.binders.items ≡ length rows.old.binders.items + (1 + binders_in (term_of body.now))) }
-    ensures places { OnOk result (length rows.new.places.items ≡ behind (length rows.old.places.items) (term_of body.now)) }
+    ensures table { OnOk result (rows_of rows.new ≡ rows_of rows.old ⊕ node_table types.now names.old (length rows.old.binders.items) (length rows.old.places.items) (lambda (bound_of term.now.binder) (type_of term.now.ty) (term_of term.now.body))) }
+    ensures place { IfOk result (λ p. p.0 ≡ root (length rows.old.places.items) (term_of term.now.body)) }
+    ensures binders { OnOk result (length rows.new.binders.items ≡ length rows.old.binders.items + (1 + binders_in (term_of term.now.body))) }
+    ensures places { OnOk result (length rows.new.places.items ≡ behind (length rows.old.places.items) (term_of term.now.body)) }
     ensures names { OnOk result (names.new ≡ names.old) }
 {
     let number = Binder(rows.binder_count());
-    let seen = seen_as(binder, number.0);
-    rows.add_binder(
-        alloc,
-        seen.name,
-        binder.span,
-        names,
-        number,
-        Origin::TypeName,
-    )?;
-    walk_type(alloc, rows, types, ty)?;
-    let place = walk_under(alloc, rows, types, names, body, seen)?;
+    let seen = seen_as(&term.binder, number.0);
+    let token = term.binder.span;
+    rows.add_binder(alloc, seen.name, token, names, number, Origin::TypeName)?;
+    walk_type(alloc, rows, types, &term.ty)?;
+    let place = walk_under(alloc, rows, types, names, &term.body, seen)?;
     rows.set_origin(number, Origin::Lambda(Place(rows.place_count())));
     Ok(place)
 }
@@ -262,47 +337,40 @@ fn walk_lambda<'a>(
 /// their own, behind those of the first term.
 #[cycle(terms)]
 #[tactic(auto, using(crate::proofs::TableRows::walks))]
-fn walk_letrec<'a>(
+fn walk_fix<'a>(
     alloc: Global,
     rows: &mut Rows,
     types: &Seen<'_>,
     names: &mut Seen<'a>,
-    bound: &'a Tm,
-    binder: &'a BoundName,
-    ty: &'a WrittenTy,
+    term: &'a Letrec,
 ) -> Result<Place, AllocError>
-    ensures table { OnOk result (rows_of rows.new ≡ rows_of rows.old ⊕ letrec_rows (option_map (λ s. string_bytes s) binder.now.name) binder.now.span names.old (length rows.old.binders.items) (root (length rows.old.places.items) (term_of bound.now)) bound.now.span (type_uses types.now (type_of ty.now)) (term_table types.now (entry (option_map (λ s. string_bytes s) binder.now.name) (length rows.old.binders.items) (length rows.old.binders.items + 1) ∷ names.old) (length rows.old.binders.items + 2) (length rows.old.places.items) (term_of bound.now))) }
-    ensures place { IfOk result (λ p. p.0 ≡ root (length rows.old.places.items) (term_of bound.now) + 2) }
-    ensures binders { OnOk result (length rows.new.binders.items ≡ length rows.old.binders.items + 2 + binders_in (term_of bound.now)) }
-    ensures places { OnOk result (length rows.new.places.items ≡ root (length rows.old.places.items) (term_of bound.now) + 3) }
+    ensures table { OnOk result (rows_of rows.new ≡ rows_of rows.old ⊕ letrec_rows (option_map (λ s. string_bytes s) term.now.binder.name) term.now.binder.span names.old (length rows.old.binders.items) (root (length rows.old.places.items) (term_of term.now.bound)) term.now.bound.span (type_uses types.now (type_of term.now.ty)) (term_table types.now (entry (option_map (λ s. string_bytes s) term.now.binder.name) (length rows.old.binders.items) (length rows.old.binders.items + 1) ∷ names.old) (length rows.old.binders.items + 2) (length rows.old.places.items) (term_of term.now.bound))) }
+    ensures place { IfOk result (λ p. p.0 ≡ root (length rows.old.places.items) (term_of term.now.bound) + 2) }
+    ensures binders { OnOk result (length rows.new.binders.items ≡ length rows.old.binders.items + 2 + binders_in (term_of term.now.bound)) }
+    ensures places { OnOk result (length rows.new.places.items ≡ root (length rows.old.places.items) (term_of term.now.bound) + 3) }
     ensures names { OnOk result (names.new ≡ names.old) }
 {
     let of_lambda = Binder(rows.binder_count());
     let of_let = Binder(of_lambda.0 + 1);
     let seen = SeenBinder {
-        name: name_of(binder),
+        name: name_of(&term.binder),
         number: of_lambda,
         answer: of_let,
     };
-    rows.add_binder(
+    let token = term.binder.span;
+    rows.add_binder(alloc, seen.name, token, names, of_let, Origin::TypeName)?;
+    rows.add_binder(alloc, seen.name, token, names, of_let, Origin::TypeName)?;
+    walk_type(alloc, rows, types, &term.ty)?;
+    let place = walk_under(alloc, rows, types, names, &term.bound, seen)?;
+    let fixed = add_derived(
         alloc,
-        seen.name,
-        binder.span,
+        rows,
         names,
+        term.bound.span,
+        place,
+        of_lambda,
         of_let,
-        Origin::TypeName,
     )?;
-    rows.add_binder(
-        alloc,
-        seen.name,
-        binder.span,
-        names,
-        of_let,
-        Origin::TypeName,
-    )?;
-    walk_type(alloc, rows, types, ty)?;
-    let place = walk_under(alloc, rows, types, names, bound, seen)?;
-    let fixed = add_derived(alloc, rows, names, bound.span, place, of_lambda, of_let)?;
     Ok(fixed)
 }
 

@@ -43,30 +43,30 @@ fn collect_in_term<'a>(term: &'a Tm, found: &mut Vec<&'a WrittenTy>) -> Result<(
         TmNode::Unit => Ok(()),
         TmNode::Variable(_) => Ok(()),
         TmNode::Numeral(_) => Ok(()),
-        TmNode::Lambda(_, ty, body) => {
-            collect_type(ty, found)?;
-            collect_in_term(body, found)
+        TmNode::Lambda(lambda) => {
+            collect_type(&lambda.ty, found)?;
+            collect_in_term(&lambda.body, found)
         }
-        TmNode::If(condition, one, other) => {
-            collect_in_term(condition, found)?;
-            collect_in_term(one, found)?;
-            collect_in_term(other, found)
+        TmNode::If(conditional) => {
+            collect_in_term(&conditional.condition, found)?;
+            collect_in_term(&conditional.one, found)?;
+            collect_in_term(&conditional.other, found)
         }
-        TmNode::Let(_, bound, body) => {
-            collect_in_term(bound, found)?;
-            collect_in_term(body, found)
+        TmNode::Let(parts) => {
+            collect_in_term(&parts.bound, found)?;
+            collect_in_term(&parts.body, found)
         }
-        TmNode::Letrec(_, ty, bound, body) => {
-            collect_type(ty, found)?;
-            collect_in_term(bound, found)?;
-            collect_in_term(body, found)
+        TmNode::Letrec(parts) => {
+            collect_type(&parts.ty, found)?;
+            collect_in_term(&parts.bound, found)?;
+            collect_in_term(&parts.body, found)
         }
         TmNode::Prefixed(_, operand) => collect_in_term(operand, found),
         TmNode::Apply(function, argument) => {
             collect_in_term(function, found)?;
             collect_in_term(argument, found)
         }
-        TmNode::Project(operand, _) => collect_in_term(operand, found),
+        TmNode::Project(projection) => collect_in_term(&projection.record, found),
         TmNode::Ascribe(operand, ty) => {
             collect_in_term(operand, found)?;
             collect_type(ty, found)

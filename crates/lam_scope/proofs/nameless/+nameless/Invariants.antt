@@ -24,16 +24,16 @@ abbrev pub decreases-under : goal.decreases-under
 decreases-under l = 4 * tree_size (term_of l.body.now) + 1
 
 abbrev pub decreases-lambda_of : goal.decreases-lambda_of
-decreases-lambda_of l = 4 * tree_size (term_of l.body.now) + 2
+decreases-lambda_of l = 4 * tree_size (term_of l.term.now.body) + 2
 
 abbrev pub decreases-if_of : goal.decreases-if_of
-decreases-if_of l = 4 * (tree_size (term_of l.condition.now) + tree_size (term_of l.one.now) + tree_size (term_of l.other.now)) + 2
+decreases-if_of l = 4 * (tree_size (term_of l.term.now.condition) + tree_size (term_of l.term.now.one) + tree_size (term_of l.term.now.other)) + 2
 
 abbrev pub decreases-let_of : goal.decreases-let_of
-decreases-let_of l = 4 * (tree_size (term_of l.bound.now) + tree_size (term_of l.body.now)) + 2
+decreases-let_of l = 4 * (tree_size (term_of l.term.now.bound) + tree_size (term_of l.term.now.body)) + 2
 
 abbrev pub decreases-letrec_of : goal.decreases-letrec_of
-decreases-letrec_of l = 4 * (tree_size (term_of l.bound.now) + tree_size (term_of l.body.now)) + 2
+decreases-letrec_of l = 4 * (tree_size (term_of l.term.now.bound) + tree_size (term_of l.term.now.body)) + 2
 
 abbrev pub decreases-prefixed_of : goal.decreases-prefixed_of
 decreases-prefixed_of l = 4 * tree_size (term_of l.operand.now) + 2
@@ -42,7 +42,7 @@ abbrev pub decreases-apply_of : goal.decreases-apply_of
 decreases-apply_of l = 4 * (tree_size (term_of l.function.now) + tree_size (term_of l.argument.now)) + 2
 
 abbrev pub decreases-project_of : goal.decreases-project_of
-decreases-project_of l = 4 * tree_size (term_of l.operand.now) + 2
+decreases-project_of l = 4 * tree_size (term_of l.term.now.record) + 2
 
 abbrev pub decreases-ascribe_of : goal.decreases-ascribe_of
 decreases-ascribe_of l = 4 * tree_size (term_of l.operand.now) + 2

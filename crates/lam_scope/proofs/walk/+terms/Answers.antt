@@ -6,6 +6,7 @@ use Rattle.lam_scope.specs.Tables.{◌⊕◌, entry, root, behind, lambda_at, te
 use Rattle.std.proofs.lemmas.List.{length-map}
 use Rattle.lam_scope.specs.TableViews.{rows_of, text_binder}
 use Rattle.lam_scope.proofs.TableRows.{fields_more, roots_more, binders_more, places_more, fields_walked, bound_rows, lambda_rows, letrec_walked}
+use Rattle.lam_scope.proofs.TreeSizes.{field_size}
 use Rattle.lam_scope.proofs.walk.+terms.Goals as goal
 
 pub walk_fields-loop-i-preserved : goal.walk_fields-loop-i-preserved
@@ -47,29 +48,29 @@ walk_lambda-returns-clause-table t c =
     let typed = c.in_ok-walk_type.ensures in
     let walked = c.in_ok-place.ensures in
     let named = c.seen_as-seen.ensures in
-    let tree = term_of c.args.body.now in
+    let tree = term_of c.args.term.now.body in
     let same_places = typed.places ∙ added.places in
     lambda_rows (rows_of old) _ _ _ _ _ _ _ _ _ _ _ _ _ _ _
-    (added.table ∙ (λ i. rows_of old ⊕ binder_row (named.name i) c.args.binder.now.span nm (c.binder_count.ensures i) TypeName))
+    (added.table ∙ (λ i. rows_of old ⊕ binder_row (named.name i) c.args.term.now.binder.span nm (c.binder_count.ensures i) TypeName))
     typed.table walked.table c.set_origin.ensures.table (c.binder_count.ensures ∙ sym (length-map old.binders.items text_binder))
     (λ i. term_table c.args.types.now
-    ((named.entry ∙ ap (λ m. entry (option_map (λ s. string_bytes s) c.args.binder.now.name) m m) c.binder_count.ensures) i ∷ nm)
+    ((named.entry ∙ ap (λ m. entry (option_map (λ s. string_bytes s) c.args.term.now.binder.name) m m) c.binder_count.ensures) i ∷ nm)
     ((ap (λ v. length v.items) typed.binders ∙ added.binders) i) (length (same_places i).items) tree)
     (ap (λ m. lambda_at m) (c.place_count.ensures ∙ walked.places ∙ ap (λ v. behind (length v.items) tree) same_places))
 
-pub walk_letrec-returns-clause-table : goal.walk_letrec-returns-clause-table
-walk_letrec-returns-clause-table t c =
+pub walk_fix-returns-clause-table : goal.walk_fix-returns-clause-table
+walk_fix-returns-clause-table t c =
     let old = c.args.rows.now in
     let first = c.in_ok-add_binder.ensures in
     let second = c.in_ok-add_binder-2.ensures in
     let typed = c.in_ok-walk_type.ensures in
     let walked = c.in_ok-place.ensures in
-    let tree = term_of c.args.bound.now in
+    let tree = term_of c.args.term.now.bound in
     let n = length old.binders.items in
     let two_more : n + 1 + 1 ≡ n + 2 = omega arith in
     let same_places = ap (λ v. length v.items) (typed.places ∙ second.places ∙ first.places) in
     letrec_walked c.args.types.now c.args.names.now c.walk_under.new.names (rows_of old) (rows_of c.add_binder.new.self) (rows_of c.add_binder-2.new.self) (rows_of c.walk_type.new.rows)
-    (rows_of c.walk_under.new.rows) (rows_of c.add_derived.new.rows) _ _ _ _ c.args.bound.now.span c.binder_count.result n
+    (rows_of c.walk_under.new.rows) (rows_of c.add_derived.new.rows) _ _ _ _ c.args.term.now.bound.span c.binder_count.result n
     (length c.walk_type.new.rows.binders.items) (length old.places.items) (length c.walk_type.new.rows.places.items) (length c.walk_under.new.rows.places.items) c.in_ok-place.place.0 tree
     c.name_of.ensures c.binder_count.ensures first.table second.table typed.table walked.table c.in_ok-fixed.ensures.table walked.names
     (ap (λ v. length v.items) typed.binders ∙ second.binders ∙ ap (λ m. m + 1) first.binders ∙ two_more)
@@ -77,3 +78,6 @@ walk_letrec-returns-clause-table t c =
     (walked.places ∙ ap (λ m. behind m tree) same_places)
     (walked.place ∙ ap (λ m. root m tree) same_places)
     (sym (length-map old.binders.items text_binder))
+
+pub walk_fields-walk_term-requires : goal.walk_fields-walk_term-requires
+walk_fields-walk_term-requires t c = omega (arith, c.decreases, field_size c.args.fields.now c.loop-i.i c.index-fields-i.result c.loop-i-test.true c.index-fields-i.is)
