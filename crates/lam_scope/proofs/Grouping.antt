@@ -1,6 +1,6 @@
 -- How the tokens of uses are grouped by their binders.
 use Rattle.std.proofs.Common.{◌≡◌, ◌≢◌, ℕ, ◌+◌, ◌<◌, ◌≤◌, ◌==◌, slice_set, List, [], ◌∷◌, ◌++◌, length, drop, get_or, zero, suc, refl, ap, sym, ◌∙◌, append_assoc, map, arith, add-one, drop-cons, true, false, Option, Some, None}
-use Rattle.std.proofs.lemmas.List.{append-nil, map-append, drop_all}
+use Rattle.std.proofs.lemmas.List.{append-nil, map-append, drop_all, get_or_default}
 use Rattle.std.proofs.lemmas.Bool.Decides.{nat_tests}
 use Rattle.lam_token.specs.declared.span.Span.{Span}
 use Rattle.lam_scope.specs.declared.rows.UseRow.{UseRow}
@@ -91,12 +91,13 @@ pub noted_more : (u : TextUse) (us : List TextUse) (ls : List (List Span)) → w
 noted_more u us ls = noted_any u us ls u.binder refl
 
 -- one more use is gone through
-pub grouped_more : (us : List UseRow) (i : ℕ) (u : UseRow) (ls more all : List (List Span)) → i < length us → u ≡ get_or us i u → more ≡ noted (text_use u) ls
+pub grouped_more : (us : List UseRow) (i : ℕ) (d : UseRow) (ls more all : List (List Span)) → i < length us → more ≡ noted (text_use (get_or us i d)) ls
     → with_tokens 0 (map text_use (drop i us)) ls ≡ all → with_tokens 0 (map text_use (drop (i + 1) us)) more ≡ all
-grouped_more us i u ls more all lt is e so_far =
+grouped_more us i d ls more all lt e so_far =
+    let u = get_or us i d in
     ap (with_tokens 0 (map text_use (drop (i + 1) us))) e
     ∙ noted_more (text_use u) (map text_use (drop (i + 1) us)) ls
-    ∙ ap (λ vs. with_tokens 0 vs ls) (sym (uses-drop us i u lt is))
+    ∙ ap (λ vs. with_tokens 0 vs ls) (sym (uses-drop us i u lt (get_or_default us i d u lt)))
     ∙ so_far
 
 pub grouped_all : (us : List UseRow) (i : ℕ) (ls all : List (List Span)) → length us ≤ i → with_tokens 0 (map text_use (drop i us)) ls ≡ all → ls ≡ all

@@ -49,12 +49,12 @@ new_binder bs more us ps b x seen pushed named outer = λ i. record {
 }
 
 pub new_use : (bs : List BinderRow) (us more : List UseRow) (ps : List PlaceRow) (u : UseRow) (x : Name) (seen : List Entry)
-    → more ≡ us ++ u ∷ [] → string_bytes u.name ≡ x → option_map binder_number u.sees ≡ innermost seen → option_map binder_number u.binder ≡ bound_to x seen
+    → more ≡ us ++ u ∷ [] → option_map binder_number u.binder ≡ bound_to x seen
     → rows_table bs more ps ≡ rows_table bs us ps ⊕ use_row x u.token seen
 unfolding ◌⊕◌
-new_use bs us more ps u x seen pushed named sees own = λ i. record {
+new_use bs us more ps u x seen pushed own = λ i. record {
   binders = sym (append-nil (map text_binder bs)) i;
-  uses = (ap (map text_use) pushed ∙ map-append text_use us (u ∷ []) ∙ (λ j. map text_use us ++ record { name = named j; token = u.token; sees = sees j; binder = own j } ∷ [])) i;
+  uses = (ap (map text_use) pushed ∙ map-append text_use us (u ∷ []) ∙ (λ j. map text_use us ++ record { token = u.token; binder = own j } ∷ [])) i;
   places = sym (append-nil (map text_place ps)) i;
 }
 

@@ -36,7 +36,7 @@ abbrev pub text_binder : BinderRow → TextBinder
 text_binder r = record { name = option_map (λ s. string_bytes s) r.name; token = r.token; outer = option_map binder_number r.outer; answer = r.answer.0; origin = r.origin }
 
 abbrev pub text_use : UseRow → TextUse
-text_use r = record { name = string_bytes r.name; token = r.token; sees = option_map binder_number r.sees; binder = option_map binder_number r.binder }
+text_use r = record { token = r.token; binder = option_map binder_number r.binder }
 
 abbrev pub text_place : PlaceRow → TextPlace
 text_place r = record { span = r.span; derived = r.derived; terms = map place_number r.terms.items; inner = option_map binder_number r.inner }

@@ -20,10 +20,7 @@ pub record TextBinder : Type 0 where
 
 -- a use of a name or of a type name, in the order of the text
 pub record TextUse : Type 0 where
-  pub name : Name
   pub token : Span
-  -- the innermost binder of its kind that it sees
-  pub sees : Option ℕ
   -- its own, or none where it is unbound
   pub binder : Option ℕ
 
@@ -73,7 +70,7 @@ abbrev pub binder_row : Option Name → Span → List Entry → (answer : ℕ) �
 binder_row x s seen a o = record { binders = record { name = x; token = s; outer = innermost seen; answer = a; origin = o } ∷ []; uses = []; places = [] }
 
 abbrev pub use_row : Name → Span → List Entry → Table
-use_row x s seen = record { binders = []; uses = record { name = x; token = s; sees = innermost seen; binder = bound_to x seen } ∷ []; places = [] }
+use_row x s seen = record { binders = []; uses = record { token = s; binder = bound_to x seen } ∷ []; places = [] }
 
 abbrev pub place_row : Span → (derived : Bool) → (terms : List ℕ) → List Entry → Table
 place_row s d ts seen = record { binders = []; uses = []; places = record { span = s; derived = d; terms = ts; inner = innermost seen } ∷ [] }

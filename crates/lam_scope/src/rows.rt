@@ -26,10 +26,7 @@ pub(crate) struct BinderRow {
 /// A use of a name or of a type name.
 #[derive(Drop)]
 pub(crate) struct UseRow {
-    pub(crate) name: String,
     pub(crate) token: Span,
-    /// The innermost binder of its kind that it sees.
-    pub(crate) sees: Option<Binder>,
     /// Its own, or none where it is unbound.
     pub(crate) binder: Option<Binder>,
 }
@@ -118,14 +115,9 @@ impl Rows {
         ensures binders { self.new.binders ≡ self.old.binders }
         ensures places { self.new.places ≡ self.old.places }
     {
-        let name = used.text.clone()?;
-        let binder = seen.find(&used.text);
-        let sees = seen.innermost();
         let row = UseRow {
-            name,
             token: used.span,
-            sees,
-            binder,
+            binder: seen.find(&used.text),
         };
         self.uses.push(row)?;
         Ok(())
