@@ -9,7 +9,7 @@ use Rattle.lam_sub.specs.OtherFields.{other_fields}
 use Rattle.lam_sub.proofs.LookUps.{label_or}
 use Rattle.lam_sub.proofs.Below.{below_bool, below_nat, below_unit, bool_below_nat, below_arrow_is, below_record_is}
 use Rattle.lam_lattice.specs.Bounds.{IsJoin, IsMeet, HaveNoMeet}
-use Rattle.lam_lattice.specs.Records.{AreUnlike, AreJoined, joined_none, joined_both, joined_left_out, AreMet, met_none, met_both, met_alone}
+use Rattle.lam_lattice.specs.Records.{AreUnlike, Joins, Meets, AreJoined, joined_none, joined_both, joined_left_out, AreMet, met_none, met_both, met_alone}
 use Rattle.lam_lattice.proofs.Unlike.{join_above, join_below, meet_above, meet_below, join_unlike_top, no_meet_unlike}
 use Rattle.lam_lattice.proofs.Arrows.{arrows_join, arrows_join_top, arrows_meet, arrows_no_meet}
 use Rattle.lam_lattice.proofs.FieldBounds.{records_join, records_meet, records_no_meet}
@@ -108,29 +108,29 @@ bounds_arrow s1 s2 b1 b2 (arrow t1 t2) d ws wt = both (b1 t1 d ws.0 wt.0) (b2 t2
 abbrev EachBounded : Fields → Type 0
 EachBounded fs = (l : Label) (s : Typ) → Has l s fs → Bounded s
 
-fields_join : (d : Dialect) (gs fs : Fields) → EachBounded fs → AreWellFormed fs → AreWellFormed gs → (hs : Fields) × AreJoined d gs fs hs
+fields_join : (d : Dialect) (gs fs : Fields) → EachBounded fs → AreWellFormed fs → AreWellFormed gs → (hs : Fields) × AreJoined (Joins d) gs fs hs
 fields_join d gs no_fields each wf wg = (no_fields, joined_none)
 fields_join d gs (field l s fs) each wf wg = by (label_or l gs) (fields_join d gs fs (λ k u has. each k u (inr has)) wf.2 wg)
   where
-    by : ((t : Typ) × Has l t gs) ⊎ IsAbsent l gs → (hs : Fields) × AreJoined d gs fs hs → (hs : Fields) × AreJoined d gs (field l s fs) hs
+    by : ((t : Typ) × Has l t gs) ⊎ IsAbsent l gs → (hs : Fields) × AreJoined (Joins d) gs fs hs → (hs : Fields) × AreJoined (Joins d) gs (field l s fs) hs
     by (inl found) rest =
         let bounds = each l s (inl (refl, refl)) found.0 d wf.0 (has_wf gs wg l found.0 found.1) in
         (field l bounds.join.0 rest.0, joined_both l s found.0 bounds.join.0 found.1 bounds.join.1 rest.1)
     by (inr absent) rest = (rest.0, joined_left_out l s absent rest.1)
 
 fields_meet : (d : Dialect) (gs fs : Fields) → EachBounded fs → AreWellFormed fs → AreWellFormed gs
-    → ((hs : Fields) × AreMet d gs fs hs) ⊎ ((l : Label) × (s : Typ) × (t : Typ) × Has l s fs × Has l t gs × HaveNoMeet s t d)
+    → ((hs : Fields) × AreMet (Meets d) gs fs hs) ⊎ ((l : Label) × (s : Typ) × (t : Typ) × Has l s fs × Has l t gs × HaveNoMeet s t d)
 fields_meet d gs no_fields each wf wg = inl (no_fields, met_none)
 fields_meet d gs (field l s fs) each wf wg = by (label_or l gs) (fields_meet d gs fs (λ k u has. each k u (inr has)) wf.2 wg)
   where
-    beside : (t : Typ) → Has l t gs → ((m : Typ) × IsMeet s t m d) ⊎ HaveNoMeet s t d → (hs : Fields) × AreMet d gs fs hs
-        → ((hs : Fields) × AreMet d gs (field l s fs) hs) ⊎ ((k : Label) × (u : Typ) × (v : Typ) × Has k u (field l s fs) × Has k v gs × HaveNoMeet u v d)
+    beside : (t : Typ) → Has l t gs → ((m : Typ) × IsMeet s t m d) ⊎ HaveNoMeet s t d → (hs : Fields) × AreMet (Meets d) gs fs hs
+        → ((hs : Fields) × AreMet (Meets d) gs (field l s fs) hs) ⊎ ((k : Label) × (u : Typ) × (v : Typ) × Has k u (field l s fs) × Has k v gs × HaveNoMeet u v d)
     beside t has (inl met) rest = inl (field l met.0 rest.0, met_both l s t met.0 has met.1 rest.1)
     beside t has (inr none) rest = inr (l, s, t, inl (refl, refl), has, none)
 
     by : ((t : Typ) × Has l t gs) ⊎ IsAbsent l gs
-        → ((hs : Fields) × AreMet d gs fs hs) ⊎ ((k : Label) × (u : Typ) × (v : Typ) × Has k u fs × Has k v gs × HaveNoMeet u v d)
-        → ((hs : Fields) × AreMet d gs (field l s fs) hs) ⊎ ((k : Label) × (u : Typ) × (v : Typ) × Has k u (field l s fs) × Has k v gs × HaveNoMeet u v d)
+        → ((hs : Fields) × AreMet (Meets d) gs fs hs) ⊎ ((k : Label) × (u : Typ) × (v : Typ) × Has k u fs × Has k v gs × HaveNoMeet u v d)
+        → ((hs : Fields) × AreMet (Meets d) gs (field l s fs) hs) ⊎ ((k : Label) × (u : Typ) × (v : Typ) × Has k u (field l s fs) × Has k v gs × HaveNoMeet u v d)
     by found (inr none) = inr (none.0, none.1, none.2, inr none.3, none.4, none.5)
     by (inl found) (inl rest) =
         let bounds = each l s (inl (refl, refl)) found.0 d wf.0 (has_wf gs wg l found.0 found.1) in
@@ -148,7 +148,7 @@ bounds_record fs each (record_of gs) d ws wt = record {
   meet = by (fields_meet d gs fs each ws wt);
 }
   where
-    by : ((hs : Fields) × AreMet d gs fs hs) ⊎ ((l : Label) × (s : Typ) × (t : Typ) × Has l s fs × Has l t gs × HaveNoMeet s t d)
+    by : ((hs : Fields) × AreMet (Meets d) gs fs hs) ⊎ ((l : Label) × (s : Typ) × (t : Typ) × Has l s fs × Has l t gs × HaveNoMeet s t d)
         → ((m : Typ) × IsMeet (record_of fs) (record_of gs) m d) ⊎ HaveNoMeet (record_of fs) (record_of gs) d
     by (inl made) = inl (record_of (joined made.0 (other_fields gs fs)), records_meet d fs gs made.0 ws wt made.1)
     by (inr none) = inr (records_no_meet d fs gs none.0 none.1 none.2 none.3 none.4 none.5)

@@ -18,11 +18,11 @@ use Rattle.lam_sub.proofs.LookUps.{label_or, absent_from, others_are, others_hav
 use Rattle.lam_sub.proofs.Arranging.{field_below, fields_below, record_below}
 use Rattle.lam_sub.proofs.Below.{record_inside, below_record_is, above_record_is}
 use Rattle.lam_lattice.specs.Bounds.{IsJoin, IsMeet, HaveNoMeet}
-use Rattle.lam_lattice.specs.Records.{AreJoined, joined_none, joined_both, joined_left_out, AreMet, met_none, met_both, met_alone}
+use Rattle.lam_lattice.specs.Records.{Joins, Meets, AreJoined, joined_none, joined_both, joined_left_out, AreMet, met_none, met_both, met_alone}
 
 -- joins: each field made is the join of a field of each side ..
 
-joined_from : (d : Dialect) (gs fs hs : Fields) → AreJoined d gs fs hs → (l : Label) (j : Typ) → Has l j hs
+joined_from : (d : Dialect) (gs fs hs : Fields) → AreJoined (Joins d) gs fs hs → (l : Label) (j : Typ) → Has l j hs
     → (s : Typ) × (t : Typ) × Has l s fs × Has l t gs × IsJoin s t j d
 joined_from d gs _ _ joined_none l j has = absurd has
 joined_from d gs _ _ (joined_both k s t v there join rest) l j (inl e) =
@@ -33,7 +33,7 @@ joined_from d gs _ hs (joined_left_out k s {fs = fs} absent rest) l j has =
     let found = joined_from d gs fs hs rest l j has in (found.0, found.1, inr found.2, found.3, found.4)
 
 -- .. and two fields with one label have one
-joined_to : (d : Dialect) (gs fs hs : Fields) → AreWellFormed gs → AreJoined d gs fs hs → (l : Label) (s t : Typ) → Has l s fs → Has l t gs
+joined_to : (d : Dialect) (gs fs hs : Fields) → AreWellFormed gs → AreJoined (Joins d) gs fs hs → (l : Label) (s t : Typ) → Has l s fs → Has l t gs
     → (j : Typ) × Has l j hs × IsJoin s t j d
 joined_to d gs _ _ wg joined_none l s t has there = absurd has
 joined_to d gs _ _ wg (joined_both k u v j other join rest) l s t (inl e) there =
@@ -44,13 +44,13 @@ joined_to d gs _ _ wg (joined_both k u v j {fs = fs} {hs = hs} other join rest) 
 joined_to d gs _ hs wg (joined_left_out k u {fs = fs} absent rest) l s t (inl e) there = absurd (absent_not k gs t absent (subst (λ m. Has m t gs) (sym e.0) there))
 joined_to d gs _ hs wg (joined_left_out k u {fs = fs} absent rest) l s t (inr has) there = joined_to d gs fs hs wg rest l s t has there
 
-joined_are_wf : (d : Dialect) (gs fs hs : Fields) → AreWellFormed fs → AreJoined d gs fs hs → AreWellFormed hs
+joined_are_wf : (d : Dialect) (gs fs hs : Fields) → AreWellFormed fs → AreJoined (Joins d) gs fs hs → AreWellFormed hs
 joined_are_wf d gs _ _ wf joined_none = tt
 joined_are_wf d gs _ _ wf (joined_both k s t j {fs = fs} {hs = hs} there join rest) =
     ((below_wf s j d join.left).1, absent_from k hs (λ v has. let found = joined_from d gs fs hs rest k v has in absent_not k fs found.0 wf.1 found.2), joined_are_wf d gs fs hs wf.2 rest)
 joined_are_wf d gs _ hs wf (joined_left_out k s {fs = fs} absent rest) = joined_are_wf d gs fs hs wf.2 rest
 
-pub records_join : (d : Dialect) (fs gs hs : Fields) → AreWellFormed fs → AreWellFormed gs → AreJoined d gs fs hs → IsJoin (record_of fs) (record_of gs) (record_of hs) d
+pub records_join : (d : Dialect) (fs gs hs : Fields) → AreWellFormed fs → AreWellFormed gs → AreJoined (Joins d) gs fs hs → IsJoin (record_of fs) (record_of gs) (record_of hs) d
 records_join d fs gs hs wf wg are = record {
   left = record_below fs hs d wf wh (fields_below fs hs d (λ l j has. let found = joined_from d gs fs hs are l j has in (found.0, found.2, found.4.left)));
   right = record_below gs hs d wg wh (fields_below gs hs d (λ l j has. let found = joined_from d gs fs hs are l j has in (found.1, found.3, found.4.right)));
@@ -75,7 +75,7 @@ records_join d fs gs hs wf wg are = record {
 
 -- meets: where a field of the first is found among those made ..
 
-met_left : (d : Dialect) (gs fs hs : Fields) → AreWellFormed fs → AreMet d gs fs hs → (l : Label) (s : Typ) → Has l s fs → (m : Typ) × Has l m hs × IsBelow m s d
+met_left : (d : Dialect) (gs fs hs : Fields) → AreWellFormed fs → AreMet (Meets d) gs fs hs → (l : Label) (s : Typ) → Has l s fs → (m : Typ) × Has l m hs × IsBelow m s d
 met_left d gs _ _ wf met_none l s has = absurd has
 met_left d gs _ _ wf (met_both k u t m there meet rest) l s (inl e) = (m, inl (e.0, refl), subst (λ x. IsBelow m x d) e.1 meet.left)
 met_left d gs _ _ wf (met_both k u t m {fs = fs} {hs = hs} there meet rest) l s (inr has) = let found = met_left d gs fs hs wf.2 rest l s has in (found.0, inr found.1, found.2)
@@ -83,7 +83,7 @@ met_left d gs _ _ wf (met_alone k u absent rest) l s (inl e) = (s, inl (e.0, e.1
 met_left d gs _ _ wf (met_alone k u {fs = fs} {hs = hs} absent rest) l s (inr has) = let found = met_left d gs fs hs wf.2 rest l s has in (found.0, inr found.1, found.2)
 
 -- .. a field of the second, whose label the first has ..
-met_right : (d : Dialect) (gs fs hs : Fields) → AreWellFormed gs → AreMet d gs fs hs → (l : Label) (s t : Typ) → Has l s fs → Has l t gs → (m : Typ) × Has l m hs × IsBelow m t d
+met_right : (d : Dialect) (gs fs hs : Fields) → AreWellFormed gs → AreMet (Meets d) gs fs hs → (l : Label) (s t : Typ) → Has l s fs → Has l t gs → (m : Typ) × Has l m hs × IsBelow m t d
 met_right d gs _ _ wg met_none l s t has there = absurd has
 met_right d gs _ _ wg (met_both k u v m other meet rest) l s t (inl e) there =
     let same = one_type gs wg l v t (subst (λ j. Has j v gs) e.0 other) there in
@@ -93,7 +93,7 @@ met_right d gs _ _ wg (met_alone k u absent rest) l s t (inl e) there = absurd (
 met_right d gs _ _ wg (met_alone k u {fs = fs} {hs = hs} absent rest) l s t (inr has) there = let found = met_right d gs fs hs wg rest l s t has there in (found.0, inr found.1, found.2)
 
 -- .. and what each field made is
-met_from : (d : Dialect) (gs fs hs : Fields) → AreMet d gs fs hs → (l : Label) (m : Typ) → Has l m hs
+met_from : (d : Dialect) (gs fs hs : Fields) → AreMet (Meets d) gs fs hs → (l : Label) (m : Typ) → Has l m hs
     → (s : Typ) × Has l s fs × (((t : Typ) × Has l t gs × IsMeet s t m d) ⊎ (s ≡ m))
 met_from d gs _ _ met_none l m has = absurd has
 met_from d gs _ _ (met_both k s t v there meet rest) l m (inl e) =
@@ -102,7 +102,7 @@ met_from d gs _ _ (met_both k s t v {fs = fs} {hs = hs} there meet rest) l m (in
 met_from d gs _ _ (met_alone k s absent rest) l m (inl e) = (s, inl (e.0, refl), inr e.1)
 met_from d gs _ _ (met_alone k s {fs = fs} {hs = hs} absent rest) l m (inr has) = let found = met_from d gs fs hs rest l m has in (found.0, inr found.1, found.2)
 
-met_are_wf : (d : Dialect) (gs fs hs : Fields) → AreWellFormed fs → AreMet d gs fs hs → AreWellFormed hs
+met_are_wf : (d : Dialect) (gs fs hs : Fields) → AreWellFormed fs → AreMet (Meets d) gs fs hs → AreWellFormed hs
 met_are_wf d gs _ _ wf met_none = tt
 met_are_wf d gs _ _ wf (met_both k s t m {fs = fs} {hs = hs} there meet rest) =
     ((below_wf m s d meet.left).0, absent_from k hs (λ v has. let found = met_from d gs fs hs rest k v has in absent_not k fs found.0 wf.1 found.1), met_are_wf d gs fs hs wf.2 rest)
@@ -110,7 +110,7 @@ met_are_wf d gs _ _ wf (met_alone k s {fs = fs} {hs = hs} absent rest) =
     (wf.0, absent_from k hs (λ v has. let found = met_from d gs fs hs rest k v has in absent_not k fs found.0 wf.1 found.1), met_are_wf d gs fs hs wf.2 rest)
 
 -- the meet of two record types has the fields met and the second's other ones
-pub records_meet : (d : Dialect) (fs gs hs : Fields) → AreWellFormed fs → AreWellFormed gs → AreMet d gs fs hs → IsMeet (record_of fs) (record_of gs) (record_of (joined hs (other_fields gs fs))) d
+pub records_meet : (d : Dialect) (fs gs hs : Fields) → AreWellFormed fs → AreWellFormed gs → AreMet (Meets d) gs fs hs → IsMeet (record_of fs) (record_of gs) (record_of (joined hs (other_fields gs fs))) d
 records_meet d fs gs hs wf wg are = record {
   left = record_below whole fs d ww wf (fields_below whole fs d to_left);
   right = record_below whole gs d ww wg (fields_below whole gs d (λ l t has. to_right l t has (label_or l fs)));
@@ -162,44 +162,44 @@ records_no_meet d fs gs l s t has there none = λ u a b.
 
 -- fields made one after the other: what is made, with what will be made of the rest, is made of the whole
 
-pub join_more : (d : Dialect) (gs whole : Fields) (left : List (String Global × Ty)) (i : ℕ) (f : String Global × Ty) (made more : List (String Global × Ty)) (c : String Global × Ty) (t : Typ)
+pub join_more : (IsMade : Typ → Typ → Typ → Type 0) (gs whole : Fields) (left : List (String Global × Ty)) (i : ℕ) (f : String Global × Ty) (made more : List (String Global × Ty)) (c : String Global × Ty) (t : Typ)
     → i < length left → f ≡ get_or left i f → more ≡ made ++ c ∷ [] → string_bytes c.0 ≡ string_bytes f.0
-    → Has (string_bytes f.0) t gs → IsJoin (typ_of f.1) t (typ_of c.1) d
-    → ((rest : Fields) → AreJoined d gs (fields_of (drop i left)) rest → AreJoined d gs whole (joined (fields_of made) rest))
-    → (rest : Fields) → AreJoined d gs (fields_of (drop (i + 1) left)) rest → AreJoined d gs whole (joined (fields_of more) rest)
-join_more d gs whole left i f made more c t lt is pushed same_label there join so_far rest are =
+    → Has (string_bytes f.0) t gs → IsMade (typ_of f.1) t (typ_of c.1)
+    → ((rest : Fields) → AreJoined IsMade gs (fields_of (drop i left)) rest → AreJoined IsMade gs whole (joined (fields_of made) rest))
+    → (rest : Fields) → AreJoined IsMade gs (fields_of (drop (i + 1) left)) rest → AreJoined IsMade gs whole (joined (fields_of more) rest)
+join_more IsMade gs whole left i f made more c t lt is pushed same_label there join so_far rest are =
     rw (pushed, joined-push made c rest, same_label)
     (so_far (field (string_bytes f.0) (typ_of c.1) rest) (rw (fields_of-drop left i f lt is) (joined_both (string_bytes f.0) (typ_of f.1) t (typ_of c.1) there join are)))
 
-pub join_fewer : (d : Dialect) (gs whole : Fields) (left : List (String Global × Ty)) (i : ℕ) (f : String Global × Ty) (made : Fields)
+pub join_fewer : (IsMade : Typ → Typ → Typ → Type 0) (gs whole : Fields) (left : List (String Global × Ty)) (i : ℕ) (f : String Global × Ty) (made : Fields)
     → i < length left → f ≡ get_or left i f → IsAbsent (string_bytes f.0) gs
-    → ((rest : Fields) → AreJoined d gs (fields_of (drop i left)) rest → AreJoined d gs whole (joined made rest))
-    → (rest : Fields) → AreJoined d gs (fields_of (drop (i + 1) left)) rest → AreJoined d gs whole (joined made rest)
-join_fewer d gs whole left i f made lt is absent so_far rest are =
+    → ((rest : Fields) → AreJoined IsMade gs (fields_of (drop i left)) rest → AreJoined IsMade gs whole (joined made rest))
+    → (rest : Fields) → AreJoined IsMade gs (fields_of (drop (i + 1) left)) rest → AreJoined IsMade gs whole (joined made rest)
+join_fewer IsMade gs whole left i f made lt is absent so_far rest are =
     so_far rest (rw (fields_of-drop left i f lt is) (joined_left_out (string_bytes f.0) (typ_of f.1) absent are))
 
-pub join_all : (d : Dialect) (gs whole : Fields) (left : List (String Global × Ty)) (i : ℕ) (made : Fields) → length left ≤ i
-    → ((rest : Fields) → AreJoined d gs (fields_of (drop i left)) rest → AreJoined d gs whole (joined made rest)) → AreJoined d gs whole made
-join_all d gs whole left i made le so_far = rw joined-none at (so_far no_fields (rw (drop_all i left le) joined_none))
+pub join_all : (IsMade : Typ → Typ → Typ → Type 0) (gs whole : Fields) (left : List (String Global × Ty)) (i : ℕ) (made : Fields) → length left ≤ i
+    → ((rest : Fields) → AreJoined IsMade gs (fields_of (drop i left)) rest → AreJoined IsMade gs whole (joined made rest)) → AreJoined IsMade gs whole made
+join_all IsMade gs whole left i made le so_far = rw joined-none at (so_far no_fields (rw (drop_all i left le) joined_none))
 
-pub meet_more : (d : Dialect) (gs whole : Fields) (left : List (String Global × Ty)) (i : ℕ) (f : String Global × Ty) (made more : List (String Global × Ty)) (c : String Global × Ty) (t : Typ)
+pub meet_more : (IsMade : Typ → Typ → Typ → Type 0) (gs whole : Fields) (left : List (String Global × Ty)) (i : ℕ) (f : String Global × Ty) (made more : List (String Global × Ty)) (c : String Global × Ty) (t : Typ)
     → i < length left → f ≡ get_or left i f → more ≡ made ++ c ∷ [] → string_bytes c.0 ≡ string_bytes f.0
-    → Has (string_bytes f.0) t gs → IsMeet (typ_of f.1) t (typ_of c.1) d
-    → ((rest : Fields) → AreMet d gs (fields_of (drop i left)) rest → AreMet d gs whole (joined (fields_of made) rest))
-    → (rest : Fields) → AreMet d gs (fields_of (drop (i + 1) left)) rest → AreMet d gs whole (joined (fields_of more) rest)
-meet_more d gs whole left i f made more c t lt is pushed same_label there meet so_far rest are =
+    → Has (string_bytes f.0) t gs → IsMade (typ_of f.1) t (typ_of c.1)
+    → ((rest : Fields) → AreMet IsMade gs (fields_of (drop i left)) rest → AreMet IsMade gs whole (joined (fields_of made) rest))
+    → (rest : Fields) → AreMet IsMade gs (fields_of (drop (i + 1) left)) rest → AreMet IsMade gs whole (joined (fields_of more) rest)
+meet_more IsMade gs whole left i f made more c t lt is pushed same_label there meet so_far rest are =
     rw (pushed, joined-push made c rest, same_label)
     (so_far (field (string_bytes f.0) (typ_of c.1) rest) (rw (fields_of-drop left i f lt is) (met_both (string_bytes f.0) (typ_of f.1) t (typ_of c.1) there meet are)))
 
-pub meet_alone : (d : Dialect) (gs whole : Fields) (left : List (String Global × Ty)) (i : ℕ) (f : String Global × Ty) (made more : List (String Global × Ty)) (c : String Global × Ty)
+pub meet_alone : (IsMade : Typ → Typ → Typ → Type 0) (gs whole : Fields) (left : List (String Global × Ty)) (i : ℕ) (f : String Global × Ty) (made more : List (String Global × Ty)) (c : String Global × Ty)
     → i < length left → f ≡ get_or left i f → more ≡ made ++ c ∷ [] → string_bytes c.0 ≡ string_bytes f.0 → typ_of c.1 ≡ typ_of f.1
     → IsAbsent (string_bytes f.0) gs
-    → ((rest : Fields) → AreMet d gs (fields_of (drop i left)) rest → AreMet d gs whole (joined (fields_of made) rest))
-    → (rest : Fields) → AreMet d gs (fields_of (drop (i + 1) left)) rest → AreMet d gs whole (joined (fields_of more) rest)
-meet_alone d gs whole left i f made more c lt is pushed same_label same_type absent so_far rest are =
+    → ((rest : Fields) → AreMet IsMade gs (fields_of (drop i left)) rest → AreMet IsMade gs whole (joined (fields_of made) rest))
+    → (rest : Fields) → AreMet IsMade gs (fields_of (drop (i + 1) left)) rest → AreMet IsMade gs whole (joined (fields_of more) rest)
+meet_alone IsMade gs whole left i f made more c lt is pushed same_label same_type absent so_far rest are =
     rw (pushed, joined-push made c rest, same_label, same_type)
     (so_far (field (string_bytes f.0) (typ_of f.1) rest) (rw (fields_of-drop left i f lt is) (met_alone (string_bytes f.0) (typ_of f.1) absent are)))
 
-pub meet_all : (d : Dialect) (gs whole : Fields) (left : List (String Global × Ty)) (i : ℕ) (made : Fields) → length left ≤ i
-    → ((rest : Fields) → AreMet d gs (fields_of (drop i left)) rest → AreMet d gs whole (joined made rest)) → AreMet d gs whole made
-meet_all d gs whole left i made le so_far = rw joined-none at (so_far no_fields (rw (drop_all i left le) met_none))
+pub meet_all : (IsMade : Typ → Typ → Typ → Type 0) (gs whole : Fields) (left : List (String Global × Ty)) (i : ℕ) (made : Fields) → length left ≤ i
+    → ((rest : Fields) → AreMet IsMade gs (fields_of (drop i left)) rest → AreMet IsMade gs whole (joined made rest)) → AreMet IsMade gs whole made
+meet_all IsMade gs whole left i made le so_far = rw joined-none at (so_far no_fields (rw (drop_all i left le) met_none))

@@ -11,12 +11,14 @@ use Rattle.lam_rules.proofs.ByShape.{below_wf}
 use Rattle.lam_rules.proofs.Tables.{kept_type, kept_fields}
 use Rattle.lam_rules.proofs.TableFields.{distinct_of}
 use Rattle.lam_sub.specs.OtherFields.{other_fields}
+use Rattle.lam_sub.specs.BoundOrder.{join_of_arrows, join_of_records, meet_of_arrows, meet_of_records}
 use Rattle.lam_sub.proofs.TableVerdicts.{fields_over-append}
-use Rattle.lam_lattice.specs.Bounds.{IsJoin, IsMeet, HaveNoMeet}
-use Rattle.lam_lattice.specs.Records.{AreUnlike, AreJoined, AreMet}
+use Rattle.lam_lattice.specs.Bounds.{IsJoin, IsMeet, HaveNoMeet, JoinsInOrder, MeetsInOrder}
+use Rattle.lam_lattice.specs.Records.{AreUnlike, OrderlyJoins, OrderlyMeets, AreJoined, AreMet}
 use Rattle.lam_lattice.proofs.Unlike.{join_seen, meet_seen, no_meet_seen}
 use Rattle.lam_lattice.proofs.Arrows.{arrows_join, arrows_join_top, arrows_meet, arrows_no_meet}
 use Rattle.lam_lattice.proofs.FieldBounds.{records_join, records_meet}
+use Rattle.lam_lattice.proofs.Orders.{are_joins, joins_are_ordered, are_meets, meets_are_ordered, order_seen}
 
 -- types that are not of one shape
 
@@ -110,14 +112,15 @@ arrow_no_meet old s t p o q r d is_s is_t none =
 -- two record types
 
 pub record_join : (old now : List Typ) (s t u : Typ) (fs gs items : List (String Global × TyNo)) (d : Dialect) → s ≡ record_of (fields_over old fs) → t ≡ record_of (fields_over old gs)
-    → IsWellFormed s → IsWellFormed t → AreJoined d (fields_over old gs) (fields_over old fs) (fields_over now items)
+    → IsWellFormed s → IsWellFormed t → AreJoined (OrderlyJoins d) (fields_over old gs) (fields_over old fs) (fields_over now items)
     → u ≡ record_of (fields_over now items) → IsJoin s t u d
 record_join old now s t u fs gs items d is_s is_t ws wt are is_u =
     join_seen s t u _ _ _ d (sym is_s) (sym is_t) (sym is_u)
-    (records_join d (fields_over old fs) (fields_over old gs) (fields_over now items) (subst (λ x. IsWellFormed x) is_s ws) (subst (λ x. IsWellFormed x) is_t wt) are)
+    (records_join d (fields_over old fs) (fields_over old gs) (fields_over now items) (subst (λ x. IsWellFormed x) is_s ws) (subst (λ x. IsWellFormed x) is_t wt)
+    (are_joins d (fields_over old gs) (fields_over old fs) (fields_over now items) are))
 
 pub join_labels : (old now : List Typ) (s t : Typ) (fs gs items : List (String Global × TyNo)) (d : Dialect) → s ≡ record_of (fields_over old fs) → t ≡ record_of (fields_over old gs)
-    → IsWellFormed s → IsWellFormed t → AreJoined d (fields_over old gs) (fields_over old fs) (fields_over now items) → HaveDistinctLabels items
+    → IsWellFormed s → IsWellFormed t → AreJoined (OrderlyJoins d) (fields_over old gs) (fields_over old fs) (fields_over now items) → HaveDistinctLabels items
 join_labels old now s t fs gs items d is_s is_t ws wt are =
     let join = record_join old now s t (record_of (fields_over now items)) fs gs items d is_s is_t ws wt are refl in
     distinct_of now items (below_wf s (record_of (fields_over now items)) d join.left).1
@@ -129,19 +132,60 @@ fields_met old now fs gs met more items keeps below others is =
     sym (ap (λ xs. fields_over now xs) is ∙ fields_over-append now met more ∙ ap (λ x. joined (fields_over now met) x) (kept_fields old now more keeps below ∙ others))
 
 pub record_meet : (old now : List Typ) (s t u : Typ) (fs gs met more items : List (String Global × TyNo)) (d : Dialect) → s ≡ record_of (fields_over old fs) → t ≡ record_of (fields_over old gs)
-    → IsWellFormed s → IsWellFormed t → Keeps old now → AreMet d (fields_over old gs) (fields_over old fs) (fields_over now met) → AreBelow (length old) more
+    → IsWellFormed s → IsWellFormed t → Keeps old now → AreMet (OrderlyMeets d) (fields_over old gs) (fields_over old fs) (fields_over now met) → AreBelow (length old) more
     → fields_over old more ≡ other_fields (fields_over old gs) (fields_over old fs) → items ≡ met ++ more
     → u ≡ record_of (fields_over now items) → IsMeet s t u d
 record_meet old now s t u fs gs met more items d is_s is_t ws wt keeps are below others is is_u =
     meet_seen s t u _ _ _ d (sym is_s) (sym is_t) (ap record_of (fields_met old now fs gs met more items keeps below others is) ∙ sym is_u)
-    (records_meet d (fields_over old fs) (fields_over old gs) (fields_over now met) (subst (λ x. IsWellFormed x) is_s ws) (subst (λ x. IsWellFormed x) is_t wt) are)
+    (records_meet d (fields_over old fs) (fields_over old gs) (fields_over now met) (subst (λ x. IsWellFormed x) is_s ws) (subst (λ x. IsWellFormed x) is_t wt)
+    (are_meets d (fields_over old gs) (fields_over old fs) (fields_over now met) are))
 
 pub meet_labels : (old now : List Typ) (s t : Typ) (fs gs met more items : List (String Global × TyNo)) (d : Dialect) → s ≡ record_of (fields_over old fs) → t ≡ record_of (fields_over old gs)
-    → IsWellFormed s → IsWellFormed t → Keeps old now → AreMet d (fields_over old gs) (fields_over old fs) (fields_over now met) → AreBelow (length old) more
+    → IsWellFormed s → IsWellFormed t → Keeps old now → AreMet (OrderlyMeets d) (fields_over old gs) (fields_over old fs) (fields_over now met) → AreBelow (length old) more
     → fields_over old more ≡ other_fields (fields_over old gs) (fields_over old fs) → items ≡ met ++ more → HaveDistinctLabels items
 meet_labels old now s t fs gs met more items d is_s is_t ws wt keeps are below others is =
     let meet = record_meet old now s t (record_of (fields_over now items)) fs gs met more items d is_s is_t ws wt keeps are below others is refl in
     distinct_of now items (below_wf (record_of (fields_over now items)) s d meet.left).0
+
+-- the order of bounds on numbers
+
+-- what is said of two numbers that stood before the table grew
+before : (old now : List Typ) (left right : TyNo) (P : Typ → Typ → Type 0) → Keeps old now → left.index < length old → right.index < length old
+    → P (type_of now left) (type_of now right) → P (type_of old left) (type_of old right)
+before old now left right P keeps one other p =
+    subst (λ s. P s (type_of old right)) (kept_type old now left.index keeps one)
+    (subst (λ t. P (type_of now left) t) (kept_type old now right.index keeps other) p)
+
+pub arrow_join_order : (old mid now : List Typ) (s t u : Typ) (p o q r m j : TyNo) → s ≡ arrow (type_of old p) (type_of old o) → t ≡ arrow (type_of old q) (type_of old r)
+    → Keeps old mid → Keeps mid now → o.index < length old → r.index < length old → m.index < length mid
+    → MeetsInOrder (type_of old p) (type_of old q) (type_of mid m) → JoinsInOrder (type_of mid o) (type_of mid r) (type_of now j)
+    → u ≡ arrow (type_of now m) (type_of now j) → JoinsInOrder s t u
+arrow_join_order old mid now s t u p o q r m j is_s is_t first second stands_o stands_r stands_m meet join is_u =
+    order_seen JoinsInOrder s t u _ _ _ (sym is_s) (sym is_t) (sym is_u)
+    (join_of_arrows (subst (λ x. MeetsInOrder (type_of old p) (type_of old q) x) (sym (kept_type mid now m.index second stands_m)) meet)
+    (before old mid o r (λ a b. JoinsInOrder a b (type_of now j)) first stands_o stands_r join))
+
+pub arrow_meet_order : (old mid now : List Typ) (s t u : Typ) (p o q r m j : TyNo) → s ≡ arrow (type_of old p) (type_of old o) → t ≡ arrow (type_of old q) (type_of old r)
+    → Keeps old mid → Keeps mid now → p.index < length old → q.index < length old → m.index < length mid
+    → MeetsInOrder (type_of old o) (type_of old r) (type_of mid m) → JoinsInOrder (type_of mid p) (type_of mid q) (type_of now j)
+    → u ≡ arrow (type_of now j) (type_of now m) → MeetsInOrder s t u
+arrow_meet_order old mid now s t u p o q r m j is_s is_t first second stands_p stands_q stands_m meet join is_u =
+    order_seen MeetsInOrder s t u _ _ _ (sym is_s) (sym is_t) (sym is_u)
+    (meet_of_arrows (before old mid p q (λ a b. JoinsInOrder a b (type_of now j)) first stands_p stands_q join)
+    (subst (λ x. MeetsInOrder (type_of old o) (type_of old r) x) (sym (kept_type mid now m.index second stands_m)) meet))
+
+pub record_join_order : (old now : List Typ) (s t u : Typ) (fs gs items : List (String Global × TyNo)) (d : Dialect) → s ≡ record_of (fields_over old fs) → t ≡ record_of (fields_over old gs)
+    → AreJoined (OrderlyJoins d) (fields_over old gs) (fields_over old fs) (fields_over now items) → u ≡ record_of (fields_over now items) → JoinsInOrder s t u
+record_join_order old now s t u fs gs items d is_s is_t are is_u =
+    order_seen JoinsInOrder s t u _ _ _ (sym is_s) (sym is_t) (sym is_u) (join_of_records (joins_are_ordered d (fields_over old gs) (fields_over old fs) (fields_over now items) are))
+
+pub record_meet_order : (old now : List Typ) (s t u : Typ) (fs gs met more items : List (String Global × TyNo)) (d : Dialect) → s ≡ record_of (fields_over old fs) → t ≡ record_of (fields_over old gs)
+    → Keeps old now → AreMet (OrderlyMeets d) (fields_over old gs) (fields_over old fs) (fields_over now met) → AreBelow (length old) more
+    → fields_over old more ≡ other_fields (fields_over old gs) (fields_over old fs) → items ≡ met ++ more
+    → u ≡ record_of (fields_over now items) → MeetsInOrder s t u
+record_meet_order old now s t u fs gs met more items d is_s is_t keeps are below others is is_u =
+    order_seen MeetsInOrder s t u _ _ _ (sym is_s) (sym is_t) (ap record_of (fields_met old now fs gs met more items keeps below others is) ∙ sym is_u)
+    (meet_of_records (meets_are_ordered d (fields_over old gs) (fields_over old fs) (fields_over now met) are))
 
 pub below_append : (n : ℕ) (fs gs : List (String Global × TyNo)) → AreBelow n fs → AreBelow n gs → AreBelow n (fs ++ gs)
 below_append n [] gs one other = other

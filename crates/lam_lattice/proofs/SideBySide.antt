@@ -12,7 +12,7 @@ use Rattle.lam_rules.proofs.TypeShapes.{joined-none}
 use Rattle.lam_sub.specs.OtherFields.{other_fields}
 use Rattle.lam_sub.proofs.LookUps.{others_without, others_with}
 use Rattle.lam_sub.proofs.TableVerdicts.{fields_over-drop, number_in_back}
-use Rattle.lam_lattice.specs.Bounds.{IsJoin, IsMeet, HaveNoMeet}
+use Rattle.lam_lattice.specs.Bounds.{HaveNoMeet}
 use Rattle.lam_lattice.specs.Matches.{IsMatch, AreMatches, AreMatchesBelow}
 use Rattle.lam_lattice.specs.Records.{AreJoined, joined_none, joined_both, joined_left_out, AreMet, met_none, met_both, met_alone}
 use Rattle.lam_lattice.specs.declared.matching.Match.{Match}
@@ -106,96 +106,96 @@ pushed_number before now made more label number l hs keeps below pushed same =
     ∙ ap (λ fs. joined fs (field (string_bytes label) (type_of now number) hs)) (kept_fields before now made keeps below)
     ∙ ap (λ k. joined (fields_over before made) (field k (type_of now number) hs)) same
 
-abbrev pub JoinsSoFar : Dialect → List Typ → List Typ → List Match → ℕ → List (String Global × TyNo) → Type 0
-JoinsSoFar d old now ms i made = (left right : List (String Global × TyNo)) → AreMatches right left ms → (hs : Fields)
-    → AreJoined d (fields_over old right) (fields_over old (drop i left)) hs
-    → AreJoined d (fields_over old right) (fields_over old left) (joined (fields_over now made) hs)
+abbrev pub JoinsSoFar : (Typ → Typ → Typ → Type 0) → List Typ → List Typ → List Match → ℕ → List (String Global × TyNo) → Type 0
+JoinsSoFar IsMade old now ms i made = (left right : List (String Global × TyNo)) → AreMatches right left ms → (hs : Fields)
+    → AreJoined IsMade (fields_over old right) (fields_over old (drop i left)) hs
+    → AreJoined IsMade (fields_over old right) (fields_over old left) (joined (fields_over now made) hs)
 
-pub joins_more : (d : Dialect) (old before now : List Typ) (ms : List Match) (i : ℕ) (m : Match) (made more : List (String Global × TyNo)) (label : String Global) (r number : TyNo)
+pub joins_more : (IsMade : Typ → Typ → Typ → Type 0) (old before now : List Typ) (ms : List Match) (i : ℕ) (m : Match) (made more : List (String Global × TyNo)) (label : String Global) (r number : TyNo)
     → AreMatchesBelow (length old) ms → i < length ms → m ≡ get_or ms i m → m.right ≡ Some r
     → Keeps old before → Keeps before now → AreBelow (length before) made
-    → IsJoin (type_of before m.left) (type_of before r) (type_of now number) d
+    → IsMade (type_of before m.left) (type_of before r) (type_of now number)
     → more ≡ made ++ (label, number) ∷ [] → string_bytes label ≡ string_bytes m.label
-    → JoinsSoFar d old before ms i made → JoinsSoFar d old now ms (i + 1) more
-joins_more d old before now ms i m made more label r number stand lt is is_r first keeps below join pushed same so_far left right are hs rest =
+    → JoinsSoFar IsMade old before ms i made → JoinsSoFar IsMade old now ms (i + 1) more
+joins_more IsMade old before now ms i m made more label r number stand lt is is_r first keeps below join pushed same so_far left right are hs rest =
     let at = match_at right left ms i m are lt is in
     let has : Has (string_bytes at.0.0) (type_of old r) (fields_over old right) =
     subst (λ o. IfSome o (λ x. (ts : List Typ) → Has (string_bytes at.0.0) (type_of ts x) (fields_over ts right))) is_r at.2.some old in
     let same_left : type_of before m.left ≡ type_of old at.0.1 = kept_type old before m.left.index first (match_below (length old) ms i m stand lt is).0 ∙ ap (type_of old) at.2.left in
     let same_right = kept_type old before r.index first (right_below (length old) ms i m r stand lt is is_r) in
-    let here : IsJoin (type_of old at.0.1) (type_of old r) (type_of now number) d =
-    subst (λ s. IsJoin s (type_of old r) (type_of now number) d) same_left (subst (λ t. IsJoin (type_of before m.left) t (type_of now number) d) same_right join) in
-    subst (λ x. AreJoined d (fields_over old right) (fields_over old left) x)
+    let here : IsMade (type_of old at.0.1) (type_of old r) (type_of now number) =
+    subst (λ s. IsMade s (type_of old r) (type_of now number)) same_left (subst (λ t. IsMade (type_of before m.left) t (type_of now number)) same_right join) in
+    subst (λ x. AreJoined IsMade (fields_over old right) (fields_over old left) x)
     (sym (pushed_number before now made more label number (string_bytes at.0.0) hs keeps below pushed (same ∙ at.2.label)))
     (so_far left right are (field (string_bytes at.0.0) (type_of now number) hs)
-    (subst (λ fs. AreJoined d (fields_over old right) (fields_over old fs) (field (string_bytes at.0.0) (type_of now number) hs)) (sym at.1)
+    (subst (λ fs. AreJoined IsMade (fields_over old right) (fields_over old fs) (field (string_bytes at.0.0) (type_of now number) hs)) (sym at.1)
     (joined_both (string_bytes at.0.0) (type_of old at.0.1) (type_of old r) (type_of now number) has here rest)))
 
-pub joins_without : (d : Dialect) (old now : List Typ) (ms : List Match) (i : ℕ) (m : Match) (made : List (String Global × TyNo)) → i < length ms → m ≡ get_or ms i m → m.right ≡ None
-    → JoinsSoFar d old now ms i made → JoinsSoFar d old now ms (i + 1) made
-joins_without d old now ms i m made lt is is_none so_far left right are hs rest =
+pub joins_without : (IsMade : Typ → Typ → Typ → Type 0) (old now : List Typ) (ms : List Match) (i : ℕ) (m : Match) (made : List (String Global × TyNo)) → i < length ms → m ≡ get_or ms i m → m.right ≡ None
+    → JoinsSoFar IsMade old now ms i made → JoinsSoFar IsMade old now ms (i + 1) made
+joins_without IsMade old now ms i m made lt is is_none so_far left right are hs rest =
     let at = match_at right left ms i m are lt is in
     let absent : IsAbsent (string_bytes at.0.0) (fields_over old right) =
     subst (λ o. IfNone o ((ts : List Typ) → IsAbsent (string_bytes at.0.0) (fields_over ts right))) is_none at.2.none old in
     so_far left right are hs
-    (subst (λ fs. AreJoined d (fields_over old right) (fields_over old fs) hs) (sym at.1) (joined_left_out (string_bytes at.0.0) (type_of old at.0.1) absent rest))
+    (subst (λ fs. AreJoined IsMade (fields_over old right) (fields_over old fs) hs) (sym at.1) (joined_left_out (string_bytes at.0.0) (type_of old at.0.1) absent rest))
 
-pub joins_all : (d : Dialect) (old now : List Typ) (ms : List Match) (i : ℕ) (made : List (String Global × TyNo)) → length ms ≤ i → JoinsSoFar d old now ms i made
-    → (left right : List (String Global × TyNo)) → AreMatches right left ms → AreJoined d (fields_over old right) (fields_over old left) (fields_over now made)
-joins_all d old now ms i made le so_far left right are =
+pub joins_all : (IsMade : Typ → Typ → Typ → Type 0) (old now : List Typ) (ms : List Match) (i : ℕ) (made : List (String Global × TyNo)) → length ms ≤ i → JoinsSoFar IsMade old now ms i made
+    → (left right : List (String Global × TyNo)) → AreMatches right left ms → AreJoined IsMade (fields_over old right) (fields_over old left) (fields_over now made)
+joins_all IsMade old now ms i made le so_far left right are =
     let long = matches_length right left ms are in
     let over : length left ≤ i = omega arith in
-    subst (λ x. AreJoined d (fields_over old right) (fields_over old left) x) (joined-none (fields_over now made))
-    (so_far left right are no_fields (subst (λ fs. AreJoined d (fields_over old right) (fields_over old fs) no_fields) (sym (drop_all i left over)) joined_none))
+    subst (λ x. AreJoined IsMade (fields_over old right) (fields_over old left) x) (joined-none (fields_over now made))
+    (so_far left right are no_fields (subst (λ fs. AreJoined IsMade (fields_over old right) (fields_over old fs) no_fields) (sym (drop_all i left over)) joined_none))
 
-abbrev pub MeetsSoFar : Dialect → List Typ → List Typ → List Match → ℕ → List (String Global × TyNo) → Type 0
-MeetsSoFar d old now ms i made = (left right : List (String Global × TyNo)) → AreMatches right left ms → (hs : Fields)
-    → AreMet d (fields_over old right) (fields_over old (drop i left)) hs
-    → AreMet d (fields_over old right) (fields_over old left) (joined (fields_over now made) hs)
+abbrev pub MeetsSoFar : (Typ → Typ → Typ → Type 0) → List Typ → List Typ → List Match → ℕ → List (String Global × TyNo) → Type 0
+MeetsSoFar IsMade old now ms i made = (left right : List (String Global × TyNo)) → AreMatches right left ms → (hs : Fields)
+    → AreMet IsMade (fields_over old right) (fields_over old (drop i left)) hs
+    → AreMet IsMade (fields_over old right) (fields_over old left) (joined (fields_over now made) hs)
 
-pub meets_more : (d : Dialect) (old before now : List Typ) (ms : List Match) (i : ℕ) (m : Match) (made more : List (String Global × TyNo)) (label : String Global) (r number : TyNo)
+pub meets_more : (IsMade : Typ → Typ → Typ → Type 0) (old before now : List Typ) (ms : List Match) (i : ℕ) (m : Match) (made more : List (String Global × TyNo)) (label : String Global) (r number : TyNo)
     → AreMatchesBelow (length old) ms → i < length ms → m ≡ get_or ms i m → m.right ≡ Some r
     → Keeps old before → Keeps before now → AreBelow (length before) made
-    → IsMeet (type_of before m.left) (type_of before r) (type_of now number) d
+    → IsMade (type_of before m.left) (type_of before r) (type_of now number)
     → more ≡ made ++ (label, number) ∷ [] → string_bytes label ≡ string_bytes m.label
-    → MeetsSoFar d old before ms i made → MeetsSoFar d old now ms (i + 1) more
-meets_more d old before now ms i m made more label r number stand lt is is_r first keeps below meet pushed same so_far left right are hs rest =
+    → MeetsSoFar IsMade old before ms i made → MeetsSoFar IsMade old now ms (i + 1) more
+meets_more IsMade old before now ms i m made more label r number stand lt is is_r first keeps below meet pushed same so_far left right are hs rest =
     let at = match_at right left ms i m are lt is in
     let has : Has (string_bytes at.0.0) (type_of old r) (fields_over old right) =
     subst (λ o. IfSome o (λ x. (ts : List Typ) → Has (string_bytes at.0.0) (type_of ts x) (fields_over ts right))) is_r at.2.some old in
     let same_left : type_of before m.left ≡ type_of old at.0.1 = kept_type old before m.left.index first (match_below (length old) ms i m stand lt is).0 ∙ ap (type_of old) at.2.left in
     let same_right = kept_type old before r.index first (right_below (length old) ms i m r stand lt is is_r) in
-    let here : IsMeet (type_of old at.0.1) (type_of old r) (type_of now number) d =
-    subst (λ s. IsMeet s (type_of old r) (type_of now number) d) same_left (subst (λ t. IsMeet (type_of before m.left) t (type_of now number) d) same_right meet) in
-    subst (λ x. AreMet d (fields_over old right) (fields_over old left) x)
+    let here : IsMade (type_of old at.0.1) (type_of old r) (type_of now number) =
+    subst (λ s. IsMade s (type_of old r) (type_of now number)) same_left (subst (λ t. IsMade (type_of before m.left) t (type_of now number)) same_right meet) in
+    subst (λ x. AreMet IsMade (fields_over old right) (fields_over old left) x)
     (sym (pushed_number before now made more label number (string_bytes at.0.0) hs keeps below pushed (same ∙ at.2.label)))
     (so_far left right are (field (string_bytes at.0.0) (type_of now number) hs)
-    (subst (λ fs. AreMet d (fields_over old right) (fields_over old fs) (field (string_bytes at.0.0) (type_of now number) hs)) (sym at.1)
+    (subst (λ fs. AreMet IsMade (fields_over old right) (fields_over old fs) (field (string_bytes at.0.0) (type_of now number) hs)) (sym at.1)
     (met_both (string_bytes at.0.0) (type_of old at.0.1) (type_of old r) (type_of now number) has here rest)))
 
-pub meets_alone : (d : Dialect) (old now : List Typ) (ms : List Match) (i : ℕ) (m : Match) (made more : List (String Global × TyNo)) (label : String Global)
+pub meets_alone : (IsMade : Typ → Typ → Typ → Type 0) (old now : List Typ) (ms : List Match) (i : ℕ) (m : Match) (made more : List (String Global × TyNo)) (label : String Global)
     → AreMatchesBelow (length old) ms → i < length ms → m ≡ get_or ms i m → m.right ≡ None
     → Keeps old now → AreBelow (length now) made → more ≡ made ++ (label, m.left) ∷ [] → string_bytes label ≡ string_bytes m.label
-    → MeetsSoFar d old now ms i made → MeetsSoFar d old now ms (i + 1) more
-meets_alone d old now ms i m made more label stand lt is is_none first below pushed same so_far left right are hs rest =
+    → MeetsSoFar IsMade old now ms i made → MeetsSoFar IsMade old now ms (i + 1) more
+meets_alone IsMade old now ms i m made more label stand lt is is_none first below pushed same so_far left right are hs rest =
     let at = match_at right left ms i m are lt is in
     let absent : IsAbsent (string_bytes at.0.0) (fields_over old right) =
     subst (λ o. IfNone o ((ts : List Typ) → IsAbsent (string_bytes at.0.0) (fields_over ts right))) is_none at.2.none old in
     let same_left : type_of now m.left ≡ type_of old at.0.1 = kept_type old now m.left.index first (match_below (length old) ms i m stand lt is).0 ∙ ap (type_of old) at.2.left in
-    subst (λ x. AreMet d (fields_over old right) (fields_over old left) x)
+    subst (λ x. AreMet IsMade (fields_over old right) (fields_over old left) x)
     (sym (pushed_number now now made more label m.left (string_bytes at.0.0) hs (keeps_same now) below pushed (same ∙ at.2.label)
     ∙ ap (λ t. joined (fields_over now made) (field (string_bytes at.0.0) t hs)) same_left))
     (so_far left right are (field (string_bytes at.0.0) (type_of old at.0.1) hs)
-    (subst (λ fs. AreMet d (fields_over old right) (fields_over old fs) (field (string_bytes at.0.0) (type_of old at.0.1) hs)) (sym at.1)
+    (subst (λ fs. AreMet IsMade (fields_over old right) (fields_over old fs) (field (string_bytes at.0.0) (type_of old at.0.1) hs)) (sym at.1)
     (met_alone (string_bytes at.0.0) (type_of old at.0.1) absent rest)))
 
-pub meets_all : (d : Dialect) (old now : List Typ) (ms : List Match) (i : ℕ) (made : List (String Global × TyNo)) → length ms ≤ i → MeetsSoFar d old now ms i made
-    → (left right : List (String Global × TyNo)) → AreMatches right left ms → AreMet d (fields_over old right) (fields_over old left) (fields_over now made)
-meets_all d old now ms i made le so_far left right are =
+pub meets_all : (IsMade : Typ → Typ → Typ → Type 0) (old now : List Typ) (ms : List Match) (i : ℕ) (made : List (String Global × TyNo)) → length ms ≤ i → MeetsSoFar IsMade old now ms i made
+    → (left right : List (String Global × TyNo)) → AreMatches right left ms → AreMet IsMade (fields_over old right) (fields_over old left) (fields_over now made)
+meets_all IsMade old now ms i made le so_far left right are =
     let long = matches_length right left ms are in
     let over : length left ≤ i = omega arith in
-    subst (λ x. AreMet d (fields_over old right) (fields_over old left) x) (joined-none (fields_over now made))
-    (so_far left right are no_fields (subst (λ fs. AreMet d (fields_over old right) (fields_over old fs) no_fields) (sym (drop_all i left over)) met_none))
+    subst (λ x. AreMet IsMade (fields_over old right) (fields_over old left) x) (joined-none (fields_over now made))
+    (so_far left right are no_fields (subst (λ fs. AreMet IsMade (fields_over old right) (fields_over old fs) no_fields) (sym (drop_all i left over)) met_none))
 
 -- two fields with one label and nothing below both of their types
 pub meet_missing : (d : Dialect) (old before : List Typ) (ms : List Match) (i : ℕ) (m : Match) (r : TyNo) → AreMatchesBelow (length old) ms → i < length ms → m ≡ get_or ms i m → m.right ≡ Some r

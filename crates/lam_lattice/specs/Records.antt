@@ -1,7 +1,7 @@
 -- Bounds of record types field by field, and pairs of types that have none of their own shape.
 use Rattle.lam_rules.specs.Types.{Label, Typ, arrow, record_of, Fields, no_fields, field, Has, IsAbsent}
 use Rattle.lam_rules.specs.declared.rules.Dialect.{Dialect}
-use Rattle.lam_lattice.specs.Bounds.{IsJoin, IsMeet}
+use Rattle.lam_lattice.specs.Bounds.{IsJoin, IsMeet, JoinsInOrder, MeetsInOrder}
 
 -- they are not two arrows, nor two record types
 abbrev pub AreUnlike : Typ → Typ → Type 0
@@ -9,14 +9,28 @@ AreUnlike (arrow s1 s2) (arrow t1 t2) = ⊥
 AreUnlike (record_of fs) (record_of gs) = ⊥
 AreUnlike _ _ = Unit {0}
 
--- the labels that both lists have, in the order of the first, each with the join of its types
-pub data AreJoined (d : Dialect) (gs : Fields) : Fields → Fields → Type 0 where
-  joined_none : AreJoined d gs no_fields no_fields
-  joined_both : (l : Label) (s t j : Typ) {fs hs : Fields} → Has l t gs → IsJoin s t j d → AreJoined d gs fs hs → AreJoined d gs (field l s fs) (field l j hs)
-  joined_left_out : (l : Label) (s : Typ) {fs hs : Fields} → IsAbsent l gs → AreJoined d gs fs hs → AreJoined d gs (field l s fs) hs
+-- the third type is a join of the first two, or a meet of them
+abbrev pub Joins : Dialect → Typ → Typ → Typ → Type 0
+Joins d s t j = IsJoin s t j d
 
--- the labels of the first list in its order: one that the second has too with the meet of its types, another with its own
-pub data AreMet (d : Dialect) (gs : Fields) : Fields → Fields → Type 0 where
-  met_none : AreMet d gs no_fields no_fields
-  met_both : (l : Label) (s t m : Typ) {fs hs : Fields} → Has l t gs → IsMeet s t m d → AreMet d gs fs hs → AreMet d gs (field l s fs) (field l m hs)
-  met_alone : (l : Label) (s : Typ) {fs hs : Fields} → IsAbsent l gs → AreMet d gs fs hs → AreMet d gs (field l s fs) (field l s hs)
+abbrev pub Meets : Dialect → Typ → Typ → Typ → Type 0
+Meets d s t m = IsMeet s t m d
+
+-- .. and in the order of the first, too
+abbrev pub OrderlyJoins : Dialect → Typ → Typ → Typ → Type 0
+OrderlyJoins d s t j = IsJoin s t j d × JoinsInOrder s t j
+
+abbrev pub OrderlyMeets : Dialect → Typ → Typ → Typ → Type 0
+OrderlyMeets d s t m = IsMeet s t m d × MeetsInOrder s t m
+
+-- the labels that both lists have, in the order of the first, each with a join of its types
+pub data AreJoined (IsMade : Typ → Typ → Typ → Type 0) (gs : Fields) : Fields → Fields → Type 0 where
+  joined_none : AreJoined IsMade gs no_fields no_fields
+  joined_both : (l : Label) (s t j : Typ) {fs hs : Fields} → Has l t gs → IsMade s t j → AreJoined IsMade gs fs hs → AreJoined IsMade gs (field l s fs) (field l j hs)
+  joined_left_out : (l : Label) (s : Typ) {fs hs : Fields} → IsAbsent l gs → AreJoined IsMade gs fs hs → AreJoined IsMade gs (field l s fs) hs
+
+-- the labels of the first list in its order: one that the second has too with a meet of its types, another with its own
+pub data AreMet (IsMade : Typ → Typ → Typ → Type 0) (gs : Fields) : Fields → Fields → Type 0 where
+  met_none : AreMet IsMade gs no_fields no_fields
+  met_both : (l : Label) (s t m : Typ) {fs hs : Fields} → Has l t gs → IsMade s t m → AreMet IsMade gs fs hs → AreMet IsMade gs (field l s fs) (field l m hs)
+  met_alone : (l : Label) (s : Typ) {fs hs : Fields} → IsAbsent l gs → AreMet IsMade gs fs hs → AreMet IsMade gs (field l s fs) (field l s hs)

@@ -4,8 +4,8 @@
 ghost use Rattle.std.specs.Prelude.{IfOk, IfSome, IfNone};
 ghost use Rattle.lam_rules.specs.Types.{IsWellFormed, AreWellFormed, record_of};
 ghost use Rattle.lam_rules.specs.TypeViews.{typ_of, fields_of};
-ghost use Rattle.lam_lattice.specs.Bounds.{IsJoin, IsMeet, HaveNoMeet};
-ghost use Rattle.lam_lattice.specs.Records.{AreUnlike, AreJoined, AreMet};
+ghost use Rattle.lam_lattice.specs.Bounds.{IsJoin, IsMeet, HaveNoMeet, JoinsInOrder, MeetsInOrder};
+ghost use Rattle.lam_lattice.specs.Records.{AreUnlike, OrderlyJoins, OrderlyMeets, AreJoined, AreMet};
 
 use lam_rules::{Dialect, Ty, copy_of, make_arrow, make_record};
 use lam_sub::{append_others, field_type, is_sub};
@@ -16,7 +16,8 @@ use std::alloc::{AllocError, Global};
 pub fn join(alloc: Global, left: &Ty, right: &Ty, dialect: Dialect) -> Result<Ty, AllocError>
     requires left { IsWellFormed (typ_of left.now) }
     requires right { IsWellFormed (typ_of right.now) }
-    ensures { IfOk result (λ made. IsJoin (typ_of left.now) (typ_of right.now) (typ_of made) dialect) }
+    ensures join { IfOk result (λ made. IsJoin (typ_of left.now) (typ_of right.now) (typ_of made) dialect) }
+    ensures order { IfOk result (λ made. JoinsInOrder (typ_of left.now) (typ_of right.now) (typ_of made)) }
 {
     match left {
         Ty::Arrow(left_parameter, left_outcome) => {
@@ -50,7 +51,7 @@ fn join_fields(
 ) -> Result<Vec<(String, Ty)>, AllocError>
     requires left { AreWellFormed (fields_of left.now) }
     requires right { AreWellFormed (fields_of right.now) }
-    ensures { IfOk result (λ made. AreJoined dialect (fields_of right.now) (fields_of left.now) (fields_of made.items)) }
+    ensures { IfOk result (λ made. AreJoined (OrderlyJoins dialect) (fields_of right.now) (fields_of left.now) (fields_of made.items)) }
 {
     let mut made = Vec::new(alloc);
     for i in 0..left.len() {
@@ -70,7 +71,8 @@ fn join_unlike(alloc: Global, left: &Ty, right: &Ty, dialect: Dialect) -> Result
     requires left { IsWellFormed (typ_of left.now) }
     requires right { IsWellFormed (typ_of right.now) }
     requires unlike { AreUnlike (typ_of left.now) (typ_of right.now) }
-    ensures { IfOk result (λ made. IsJoin (typ_of left.now) (typ_of right.now) (typ_of made) dialect) }
+    ensures join { IfOk result (λ made. IsJoin (typ_of left.now) (typ_of right.now) (typ_of made) dialect) }
+    ensures order { IfOk result (λ made. JoinsInOrder (typ_of left.now) (typ_of right.now) (typ_of made)) }
 {
     if is_sub(left, right, dialect) {
         return copy_of(alloc, right);
@@ -92,6 +94,7 @@ pub fn meet(
     requires left { IsWellFormed (typ_of left.now) }
     requires right { IsWellFormed (typ_of right.now) }
     ensures some { IfOk result (λ found. IfSome found (λ made. IsMeet (typ_of left.now) (typ_of right.now) (typ_of made) dialect)) }
+    ensures order { IfOk result (λ found. IfSome found (λ made. MeetsInOrder (typ_of left.now) (typ_of right.now) (typ_of made))) }
     ensures none { IfOk result (λ found. IfNone found (HaveNoMeet (typ_of left.now) (typ_of right.now) dialect)) }
 {
     match left {
@@ -133,7 +136,7 @@ fn meet_fields(
 ) -> Result<Option<Vec<(String, Ty)>>, AllocError>
     requires left { AreWellFormed (fields_of left.now) }
     requires right { AreWellFormed (fields_of right.now) }
-    ensures some { IfOk result (λ found. IfSome found (λ made. AreMet dialect (fields_of right.now) (fields_of left.now) (fields_of made.items))) }
+    ensures some { IfOk result (λ found. IfSome found (λ made. AreMet (OrderlyMeets dialect) (fields_of right.now) (fields_of left.now) (fields_of made.items))) }
     ensures none { IfOk result (λ found. IfNone found (HaveNoMeet (record_of (fields_of left.now)) (record_of (fields_of right.now)) dialect)) }
 {
     let mut made = Vec::new(alloc);
@@ -164,6 +167,7 @@ fn meet_unlike(
     requires other { IsWellFormed (typ_of other.now) }
     requires unlike { AreUnlike (typ_of one.now) (typ_of other.now) }
     ensures some { IfOk result (λ found. IfSome found (λ made. IsMeet (typ_of one.now) (typ_of other.now) (typ_of made) dialect)) }
+    ensures order { IfOk result (λ found. IfSome found (λ made. MeetsInOrder (typ_of one.now) (typ_of other.now) (typ_of made))) }
     ensures none { IfOk result (λ found. IfNone found (HaveNoMeet (typ_of one.now) (typ_of other.now) dialect)) }
 {
     if is_sub(one, other, dialect) {

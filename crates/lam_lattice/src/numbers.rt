@@ -7,9 +7,9 @@ ghost use Rattle.lam_rules.specs.Types.{record_of};
 ghost use Rattle.lam_rules.specs.Numbers.{type_of, Stands, Keeps, fields_over, AreBelow};
 ghost use Rattle.lam_rules.specs.declared.table.TyNo.{TyNo};
 ghost use Rattle.lam_sub.specs.Remembered.{AreRight};
-ghost use Rattle.lam_lattice.specs.Bounds.{IsJoin, IsMeet, HaveNoMeet};
+ghost use Rattle.lam_lattice.specs.Bounds.{IsJoin, IsMeet, HaveNoMeet, JoinsInOrder, MeetsInOrder};
 ghost use Rattle.lam_lattice.specs.Matches.{AreMatches, AreMatchesBelow};
-ghost use Rattle.lam_lattice.specs.Records.{AreUnlike, AreJoined, AreMet};
+ghost use Rattle.lam_lattice.specs.Records.{AreUnlike, OrderlyJoins, OrderlyMeets, AreJoined, AreMet};
 
 use crate::matching::{Match, matched, others};
 use lam_rules::{Shape, TyNo, TyTable};
@@ -33,6 +33,7 @@ pub fn join_no(
     ensures verdicts_right { AreRight table.new verdicts.new }
     ensures stands { IfOk result (λ number. Stands table.new number) }
     ensures join { IfOk result (λ number. IsJoin (type_of table.old left) (type_of table.old right) (type_of table.new number) verdicts.old.dialect) }
+    ensures order { IfOk result (λ number. JoinsInOrder (type_of table.old left) (type_of table.old right) (type_of table.new number)) }
 {
     // The types of a table have distinct labels, so each is below itself.
     table.types_differ();
@@ -63,6 +64,7 @@ fn join_by_shape(
     ensures verdicts_right { AreRight table.new verdicts.new }
     ensures stands { IfOk result (λ number. Stands table.new number) }
     ensures join { IfOk result (λ number. IsJoin (type_of table.old left) (type_of table.old right) (type_of table.new number) verdicts.old.dialect) }
+    ensures order { IfOk result (λ number. JoinsInOrder (type_of table.old left) (type_of table.old right) (type_of table.new number)) }
 {
     match table.shape(left) {
         &Shape::Arrow(left_parameter, left_outcome) => {
@@ -101,7 +103,7 @@ fn join_fields(
     ensures dialect { verdicts.new.dialect ≡ verdicts.old.dialect }
     ensures verdicts_right { AreRight table.new verdicts.new }
     ensures stand { IfOk result (λ made. AreBelow (length table.new) made.items) }
-    ensures joined { IfOk result (λ made. (left right : List (String Global × TyNo)) → AreMatches right left matches.now → AreJoined verdicts.old.dialect (fields_over table.old right) (fields_over table.old left) (fields_over table.new made.items)) }
+    ensures joined { IfOk result (λ made. (left right : List (String Global × TyNo)) → AreMatches right left matches.now → AreJoined (OrderlyJoins verdicts.old.dialect) (fields_over table.old right) (fields_over table.old left) (fields_over table.new made.items)) }
 {
     let mut made = Vec::new(verdicts.alloc);
     for i in 0..matches.len() {
@@ -133,6 +135,7 @@ fn join_unlike(
     ensures verdicts_right { AreRight table.new verdicts.new }
     ensures stands { IfOk result (λ number. Stands table.new number) }
     ensures join { IfOk result (λ number. IsJoin (type_of table.old left) (type_of table.old right) (type_of table.new number) verdicts.old.dialect) }
+    ensures order { IfOk result (λ number. JoinsInOrder (type_of table.old left) (type_of table.old right) (type_of table.new number)) }
 {
     if is_sub_no(table, verdicts, left, right)? {
         return Ok(right);
@@ -161,6 +164,7 @@ pub fn meet_no(
     ensures verdicts_right { AreRight table.new verdicts.new }
     ensures stands { IfOk result (λ found. IfSome found (λ number. Stands table.new number)) }
     ensures some { IfOk result (λ found. IfSome found (λ number. IsMeet (type_of table.old left) (type_of table.old right) (type_of table.new number) verdicts.old.dialect)) }
+    ensures order { IfOk result (λ found. IfSome found (λ number. MeetsInOrder (type_of table.old left) (type_of table.old right) (type_of table.new number))) }
     ensures none { IfOk result (λ found. IfNone found (HaveNoMeet (type_of table.old left) (type_of table.old right) verdicts.old.dialect)) }
 {
     table.types_differ();
@@ -191,6 +195,7 @@ fn meet_by_shape(
     ensures verdicts_right { AreRight table.new verdicts.new }
     ensures stands { IfOk result (λ found. IfSome found (λ number. Stands table.new number)) }
     ensures some { IfOk result (λ found. IfSome found (λ number. IsMeet (type_of table.old left) (type_of table.old right) (type_of table.new number) verdicts.old.dialect)) }
+    ensures order { IfOk result (λ found. IfSome found (λ number. MeetsInOrder (type_of table.old left) (type_of table.old right) (type_of table.new number))) }
     ensures none { IfOk result (λ found. IfNone found (HaveNoMeet (type_of table.old left) (type_of table.old right) verdicts.old.dialect)) }
 {
     match table.shape(left) {
@@ -238,7 +243,7 @@ fn meet_fields(
     ensures dialect { verdicts.new.dialect ≡ verdicts.old.dialect }
     ensures verdicts_right { AreRight table.new verdicts.new }
     ensures stand { IfOk result (λ found. IfSome found (λ made. AreBelow (length table.new) made.items)) }
-    ensures some { IfOk result (λ found. IfSome found (λ made. (left right : List (String Global × TyNo)) → AreMatches right left matches.now → AreMet verdicts.old.dialect (fields_over table.old right) (fields_over table.old left) (fields_over table.new made.items))) }
+    ensures some { IfOk result (λ found. IfSome found (λ made. (left right : List (String Global × TyNo)) → AreMatches right left matches.now → AreMet (OrderlyMeets verdicts.old.dialect) (fields_over table.old right) (fields_over table.old left) (fields_over table.new made.items))) }
     ensures none { IfOk result (λ found. IfNone found ((left right : List (String Global × TyNo)) → AreMatches right left matches.now → HaveNoMeet (record_of (fields_over table.old left)) (record_of (fields_over table.old right)) verdicts.old.dialect)) }
 {
     let mut made = Vec::new(verdicts.alloc);
@@ -273,6 +278,7 @@ fn meet_unlike(
     ensures verdicts_right { AreRight table.now verdicts.new }
     ensures stands { IfOk result (λ found. IfSome found (λ number. Stands table.now number)) }
     ensures some { IfOk result (λ found. IfSome found (λ number. IsMeet (type_of table.now left) (type_of table.now right) (type_of table.now number) verdicts.old.dialect)) }
+    ensures order { IfOk result (λ found. IfSome found (λ number. MeetsInOrder (type_of table.now left) (type_of table.now right) (type_of table.now number))) }
     ensures none { IfOk result (λ found. IfNone found (HaveNoMeet (type_of table.now left) (type_of table.now right) verdicts.old.dialect)) }
 {
     table.types_differ();

@@ -12,6 +12,7 @@ use Rattle.lam_rules.specs.Subtyping.{IsBelow}
 use Rattle.lam_rules.specs.declared.rules.Dialect.{Dialect}
 use Rattle.lam_rules.specs.declared.table.TyNo.{TyNo}
 use Rattle.lam_rules.proofs.Tables.{kept_type, keeps_length}
+use Rattle.lam_sub.specs.BoundOrder.{JoinsInOrder, MeetsInOrder}
 use Rattle.lam_sub.specs.Bounds.{IsJoin, IsMeet, HaveNoMeet}
 use Rattle.lam_sub.specs.Remembered.{BothStand, IsVerdict, IsJoinOf, IsMeetOf, equal_pairs, AllKept, AreRight}
 use Rattle.lam_sub.specs.declared.verdicts.Verdicts.{Verdicts}
@@ -72,6 +73,8 @@ join_kept old now d pair number keeps is = record {
   stands = let longer = keeps_length old now keeps in let here = is.stands in omega arith;
   join = pair_kept old now pair (λ s t. IsJoin s t (type_of now number) d) keeps is.stand
       (subst (λ j. IsJoin (type_of old pair.0) (type_of old pair.1) j d) (sym (kept_type old now number.index keeps is.stands)) is.join);
+  order = pair_kept old now pair (λ s t. JoinsInOrder s t (type_of now number)) keeps is.stand
+      (subst (λ j. JoinsInOrder (type_of old pair.0) (type_of old pair.1) j) (sym (kept_type old now number.index keeps is.stands)) is.order);
 }
 
 some_kept : (old now : List Typ) (found : Option TyNo) (P : Typ → Type 0) → Keeps old now → IfSome found (Stands old)
@@ -89,6 +92,8 @@ meet_kept old now d pair found keeps is = record {
   stands = some_more (Stands old) (Stands now) found (λ number here. let longer = keeps_length old now keeps in omega arith) is.stands;
   some = pair_kept old now pair (λ s t. IfSome found (λ number. IsMeet s t (type_of now number) d)) keeps is.stand
       (some_kept old now found (λ m. IsMeet (type_of old pair.0) (type_of old pair.1) m d) keeps is.stands is.some);
+  order = pair_kept old now pair (λ s t. IfSome found (λ number. MeetsInOrder s t (type_of now number))) keeps is.stand
+      (some_kept old now found (λ m. MeetsInOrder (type_of old pair.0) (type_of old pair.1) m) keeps is.stands is.order);
   none = none_more (HaveNoMeet (type_of old pair.0) (type_of old pair.1) d) (HaveNoMeet (type_of now pair.0) (type_of now pair.1) d) found
       (pair_kept old now pair (λ s t. HaveNoMeet s t d) keeps is.stand) is.none;
 }

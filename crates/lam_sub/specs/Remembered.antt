@@ -9,6 +9,7 @@ use Rattle.lam_rules.specs.Subtyping.{IsBelow}
 use Rattle.lam_rules.specs.declared.rules.Dialect.{Dialect}
 use Rattle.lam_rules.specs.declared.table.TyNo.{TyNo}
 use Rattle.lam_rules.specs.declared.table.Shape.{Shape}
+use Rattle.lam_sub.specs.BoundOrder.{JoinsInOrder, MeetsInOrder}
 use Rattle.lam_sub.specs.Bounds.{IsJoin, IsMeet, HaveNoMeet}
 use Rattle.lam_sub.specs.declared.verdicts.Verdicts.{Verdicts}
 
@@ -21,17 +22,19 @@ pub record IsVerdict (ts : List Typ) (d : Dialect) (pair : TyNo × TyNo) (is_bel
   pub stand : BothStand ts pair
   pub verdict : IsTrue is_below ↔ IsBelow (type_of ts pair.0) (type_of ts pair.1) d
 
--- the number stands for the least type above both
+-- the number stands for the least type above both, in the order of the first
 pub record IsJoinOf (ts : List Typ) (d : Dialect) (pair : TyNo × TyNo) (number : TyNo) : Type 0 where
   pub stand : BothStand ts pair
   pub stands : Stands ts number
   pub join : IsJoin (type_of ts pair.0) (type_of ts pair.1) (type_of ts number) d
+  pub order : JoinsInOrder (type_of ts pair.0) (type_of ts pair.1) (type_of ts number)
 
--- the number stands for the greatest type below both, and there is none where no type is below both
+-- the number stands for the greatest type below both, in the order of the first, and there is none where no type is below both
 pub record IsMeetOf (ts : List Typ) (d : Dialect) (pair : TyNo × TyNo) (found : Option TyNo) : Type 0 where
   pub stand : BothStand ts pair
   pub stands : IfSome found (Stands ts)
   pub some : IfSome found (λ number. IsMeet (type_of ts pair.0) (type_of ts pair.1) (type_of ts number) d)
+  pub order : IfSome found (λ number. MeetsInOrder (type_of ts pair.0) (type_of ts pair.1) (type_of ts number))
   pub none : IfNone found (HaveNoMeet (type_of ts pair.0) (type_of ts pair.1) d)
 
 -- what `==` answers of two pairs

@@ -9,14 +9,16 @@ use Rattle.lam_rules.proofs.Composing.{below_refl}
 use Rattle.lam_rules.proofs.Tables.{keeps_trans, keeps_length, below_more}
 use Rattle.lam_rules.proofs.TableFields.{below-push}
 use Rattle.lam_sub.specs.OtherFields.{other_fields}
+use Rattle.lam_sub.specs.BoundOrder.{join_without_parts}
 use Rattle.lam_sub.proofs.Keeping.{right_kept}
 use Rattle.lam_sub.proofs.TableVerdicts.{record_of_numbers, stand_in}
-use Rattle.lam_lattice.specs.Bounds.{IsJoin, IsMeet, HaveNoMeet}
+use Rattle.lam_lattice.specs.Bounds.{IsJoin, IsMeet, HaveNoMeet, JoinsInOrder, MeetsInOrder}
 use Rattle.lam_lattice.specs.Matches.{AreMatches}
-use Rattle.lam_lattice.specs.Records.{AreMet}
+use Rattle.lam_lattice.specs.Records.{OrderlyJoins, OrderlyMeets, AreMet}
 use Rattle.lam_lattice.proofs.Unlike.{join_below, meet_above, no_meet_seen}
+use Rattle.lam_lattice.proofs.Orders.{join_of_same, meet_of_same}
 use Rattle.lam_lattice.proofs.SideBySide.{matches_below, matches_bound, match_below, match_bound, right_below, joins_more, joins_without, joins_all, meets_more, meets_alone, meets_all, meet_missing}
-use Rattle.lam_lattice.proofs.OnNumbers.{arrow_told, arrow_join, arrow_top, arrow_meet, arrow_no_meet, record_join, join_labels, record_meet, meet_labels, below_append}
+use Rattle.lam_lattice.proofs.OnNumbers.{arrow_join_order, arrow_meet_order, record_join_order, record_meet_order, arrow_told, arrow_join, arrow_top, arrow_meet, arrow_no_meet, record_join, join_labels, record_meet, meet_labels, below_append}
 use Rattle.lam_lattice.proofs.Answering.{meet_found}
 use Rattle.lam_lattice.proofs.numbers.+bounds.Goals as goal
 
@@ -32,19 +34,27 @@ meet_no-returns-then-left-right-clause-some t c =
     meet_above (type_of c.args.table.now c.args.left) (type_of c.args.table.now c.args.right) c.args.verdicts.now.dialect
     (subst (λ n. IsBelow (type_of c.args.table.now c.args.left) (type_at c.args.table.now n) c.args.verdicts.now.dialect) c.if-left-right.true (below_refl (type_of c.args.table.now c.args.left) c.args.verdicts.now.dialect (c.types_differ.ensures.wf c.args.left.index c.requires.left)))
 
+pub join_no-returns-then-left-right-clause-order : goal.join_no-returns-then-left-right-clause-order
+join_no-returns-then-left-right-clause-order t c =
+    subst (λ n. JoinsInOrder (type_of c.args.table.now c.args.left) (type_at c.args.table.now n) (type_of c.args.table.now c.args.left)) c.if-left-right.true (join_of_same (type_of c.args.table.now c.args.left))
+
+pub meet_no-returns-then-left-right-clause-order : goal.meet_no-returns-then-left-right-clause-order
+meet_no-returns-then-left-right-clause-order t c =
+    subst (λ n. MeetsInOrder (type_of c.args.table.now c.args.left) (type_at c.args.table.now n) (type_of c.args.table.now c.args.left)) c.if-left-right.true (meet_of_same (type_of c.args.table.now c.args.left))
+
 -- what is found is kept
 
 pub meet_no-returns-in_err-keep_meet-clause-verdicts_right : goal.meet_no-returns-in_err-keep_meet-clause-verdicts_right
 meet_no-returns-in_err-keep_meet-clause-verdicts_right t c =
     c.keep_meet.ensures.right c.meet_by_shape.new.table c.in_ok-found.ensures.verdicts_right
     (meet_found c.args.table.now c.meet_by_shape.new.table c.args.left c.args.right c.in_ok-found.found c.args.verdicts.now.dialect c.meet_by_shape.new.verdicts.dialect
-    c.in_ok-found.ensures.keeps c.requires.left c.requires.right c.in_ok-found.ensures.dialect c.in_ok-found.ensures.stands c.in_ok-found.ensures.some c.in_ok-found.ensures.none)
+    c.in_ok-found.ensures.keeps c.requires.left c.requires.right c.in_ok-found.ensures.dialect c.in_ok-found.ensures.stands c.in_ok-found.ensures.some c.in_ok-found.ensures.order c.in_ok-found.ensures.none)
 
 pub meet_no-returns-clause-verdicts_right : goal.meet_no-returns-clause-verdicts_right
 meet_no-returns-clause-verdicts_right t c =
     c.keep_meet.ensures.right c.meet_by_shape.new.table c.in_ok-found.ensures.verdicts_right
     (meet_found c.args.table.now c.meet_by_shape.new.table c.args.left c.args.right c.in_ok-found.found c.args.verdicts.now.dialect c.meet_by_shape.new.verdicts.dialect
-    c.in_ok-found.ensures.keeps c.requires.left c.requires.right c.in_ok-found.ensures.dialect c.in_ok-found.ensures.stands c.in_ok-found.ensures.some c.in_ok-found.ensures.none)
+    c.in_ok-found.ensures.keeps c.requires.left c.requires.right c.in_ok-found.ensures.dialect c.in_ok-found.ensures.stands c.in_ok-found.ensures.some c.in_ok-found.ensures.order c.in_ok-found.ensures.none)
 
 -- the verdicts while the table grows
 
@@ -118,6 +128,42 @@ meet_by_shape-returns-in_ok-number-in-Arrow-clause-some t c =
     c.in_ok-outcome-in-Arrow.ensures.keeps c.in_ok-parameter-in-Arrow.ensures.keeps (omega (arith, earlier.0, one)) (omega (arith, other.0, two)) stands
     meet c.in_ok-outcome-in-Arrow.ensures.dialect c.in_ok-parameter-in-Arrow.ensures.join c.in_ok-number-in-Arrow.ensures.number.type
 
+pub join_by_shape-returns-in_default-2-clause-order : goal.join_by_shape-returns-in_default-2-clause-order
+join_by_shape-returns-in_default-2-clause-order t c =
+    IfOk-weaker c.intern.result _ (λ number. JoinsInOrder (type_of c.args.table.now c.args.left) (type_of c.args.table.now c.args.right) (type_of c.intern.new.self number))
+    (λ number is. subst (λ j. JoinsInOrder (type_of c.args.table.now c.args.left) (type_of c.args.table.now c.args.right) j) (sym is.type) (join_without_parts tt))
+    c.intern.ensures.number
+
+pub join_by_shape-returns-in_ok-outcome-in-Arrow-clause-order : goal.join_by_shape-returns-in_ok-outcome-in-Arrow-clause-order
+join_by_shape-returns-in_ok-outcome-in-Arrow-clause-order t c =
+    let earlier = subst (λ s. IsOver c.args.left.index s) c.in-Arrow.is c.shape.ensures.earlier in
+    let other = subst (λ s. IsOver c.args.right.index s) c.in-Arrow-shape.is c.shape-in-Arrow.ensures.earlier in
+    let one = c.requires.left in
+    let two = c.requires.right in
+    let stands = subst (λ o. IfSome o (λ number. Stands c.meet_no.new.table number)) c.in-Some.is c.in_ok-parameter-in-Arrow.ensures.stands in
+    let meet = subst (λ o. IfSome o (λ number. MeetsInOrder (type_of c.args.table.now c.in-Arrow.left_parameter) (type_of c.args.table.now c.in-Arrow-shape.right_parameter) (type_of c.meet_no.new.table number))) c.in-Some.is c.in_ok-parameter-in-Arrow.ensures.order in
+    IfOk-weaker c.arrow.result _ (λ number. JoinsInOrder (type_of c.args.table.now c.args.left) (type_of c.args.table.now c.args.right) (type_of c.arrow.new.self number))
+    (λ number is. arrow_join_order c.args.table.now c.meet_no.new.table c.join_no.new.table (type_of c.args.table.now c.args.left) (type_of c.args.table.now c.args.right) (type_of c.arrow.new.self number) c.in-Arrow.left_parameter c.in-Arrow.left_outcome c.in-Arrow-shape.right_parameter c.in-Arrow-shape.right_outcome c.in-Some.parameter c.in_ok-outcome-in-Arrow.outcome
+    (arrow_told c.args.table.now (type_of c.args.table.now c.args.left) c.shape.result.now c.in-Arrow.left_parameter c.in-Arrow.left_outcome c.shape.ensures.form c.in-Arrow.is)
+    (arrow_told c.args.table.now (type_of c.args.table.now c.args.right) c.shape-in-Arrow.result.now c.in-Arrow-shape.right_parameter c.in-Arrow-shape.right_outcome c.shape-in-Arrow.ensures.form c.in-Arrow-shape.is)
+    c.in_ok-parameter-in-Arrow.ensures.keeps c.in_ok-outcome-in-Arrow.ensures.keeps (omega (arith, earlier.1, one)) (omega (arith, other.1, two)) stands
+    meet c.in_ok-outcome-in-Arrow.ensures.order is.type)
+    c.arrow.ensures.number
+
+pub meet_by_shape-returns-in_ok-number-in-Arrow-clause-order : goal.meet_by_shape-returns-in_ok-number-in-Arrow-clause-order
+meet_by_shape-returns-in_ok-number-in-Arrow-clause-order t c =
+    let earlier = subst (λ s. IsOver c.args.left.index s) c.in-Arrow.is c.shape.ensures.earlier in
+    let other = subst (λ s. IsOver c.args.right.index s) c.in-Arrow-shape.is c.shape-in-Arrow.ensures.earlier in
+    let one = c.requires.left in
+    let two = c.requires.right in
+    let stands = subst (λ o. IfSome o (λ number. Stands c.meet_no.new.table number)) c.in-Some.is c.in_ok-outcome-in-Arrow.ensures.stands in
+    let meet = subst (λ o. IfSome o (λ number. MeetsInOrder (type_of c.args.table.now c.in-Arrow.left_outcome) (type_of c.args.table.now c.in-Arrow-shape.right_outcome) (type_of c.meet_no.new.table number))) c.in-Some.is c.in_ok-outcome-in-Arrow.ensures.order in
+    arrow_meet_order c.args.table.now c.meet_no.new.table c.join_no.new.table (type_of c.args.table.now c.args.left) (type_of c.args.table.now c.args.right) (type_of c.arrow.new.self c.in_ok-number-in-Arrow.number) c.in-Arrow.left_parameter c.in-Arrow.left_outcome c.in-Arrow-shape.right_parameter c.in-Arrow-shape.right_outcome c.in-Some.outcome c.in_ok-parameter-in-Arrow.parameter
+    (arrow_told c.args.table.now (type_of c.args.table.now c.args.left) c.shape.result.now c.in-Arrow.left_parameter c.in-Arrow.left_outcome c.shape.ensures.form c.in-Arrow.is)
+    (arrow_told c.args.table.now (type_of c.args.table.now c.args.right) c.shape-in-Arrow.result.now c.in-Arrow-shape.right_parameter c.in-Arrow-shape.right_outcome c.shape-in-Arrow.ensures.form c.in-Arrow-shape.is)
+    c.in_ok-outcome-in-Arrow.ensures.keeps c.in_ok-parameter-in-Arrow.ensures.keeps (omega (arith, earlier.0, one)) (omega (arith, other.0, two)) stands
+    meet c.in_ok-parameter-in-Arrow.ensures.order c.in_ok-number-in-Arrow.ensures.number.type
+
 -- two record types
 
 pub join_by_shape-join_fields-requires : goal.join_by_shape-join_fields-requires
@@ -149,6 +195,16 @@ join_by_shape-returns-in_ok-items-in-Record-clause-join t c =
     (record_of_numbers c.args.table.now (type_of c.args.table.now c.args.left) c.shape.result.now _ c.deref.result.now c.shape.ensures.form c.in-Record.is c.deref.ensures.value)
     (record_of_numbers c.args.table.now (type_of c.args.table.now c.args.right) c.shape-in-Record.result.now _ c.deref-in-Record.result.now c.shape-in-Record.ensures.form c.in-Record-shape.is c.deref-in-Record.ensures.value)
     c.shape.ensures.wf c.shape-in-Record.ensures.wf (c.in_ok-items-in-Record.ensures.joined c.deref.result.now c.deref-in-Record.result.now are) is.type)
+    c.intern-in-Record.ensures.number
+
+pub join_by_shape-returns-in_ok-items-in-Record-clause-order : goal.join_by_shape-returns-in_ok-items-in-Record-clause-order
+join_by_shape-returns-in_ok-items-in-Record-clause-order t c =
+    let are = subst (λ ms. AreMatches c.deref-in-Record.result.now c.deref.result.now ms) (sym c.deref-in-Record-2.ensures.value) c.in_ok-matches-in-Record.ensures in
+    IfOk-weaker c.intern-in-Record.result _ (λ number. JoinsInOrder (type_of c.args.table.now c.args.left) (type_of c.args.table.now c.args.right) (type_of c.intern-in-Record.new.self number))
+    (λ number is. record_join_order c.args.table.now c.join_fields.new.table (type_of c.args.table.now c.args.left) (type_of c.args.table.now c.args.right) (type_of c.intern-in-Record.new.self number) c.deref.result.now c.deref-in-Record.result.now c.in_ok-items-in-Record.items.items c.args.verdicts.now.dialect
+    (record_of_numbers c.args.table.now (type_of c.args.table.now c.args.left) c.shape.result.now _ c.deref.result.now c.shape.ensures.form c.in-Record.is c.deref.ensures.value)
+    (record_of_numbers c.args.table.now (type_of c.args.table.now c.args.right) c.shape-in-Record.result.now _ c.deref-in-Record.result.now c.shape-in-Record.ensures.form c.in-Record-shape.is c.deref-in-Record.ensures.value)
+    (c.in_ok-items-in-Record.ensures.joined c.deref.result.now c.deref-in-Record.result.now are) is.type)
     c.intern-in-Record.ensures.number
 
 pub meet_by_shape-meet_fields-requires : goal.meet_by_shape-meet_fields-requires
@@ -187,7 +243,7 @@ pub meet_by_shape-intern-requires-clause-labels : goal.meet_by_shape-intern-requ
 meet_by_shape-intern-requires-clause-labels t c =
     let are = subst (λ ms. AreMatches c.deref-in-Record.result.now c.deref.result.now ms) (sym c.deref-in-Record-4.ensures.value) c.in_ok-matches-in-Record.ensures in
     let met = subst (λ o. IfSome o (λ made. (left right : List (String Global × TyNo)) → AreMatches right left c.deref-in-Record-4.result.now
-    → AreMet c.args.verdicts.now.dialect (fields_over c.args.table.now right) (fields_over c.args.table.now left) (fields_over c.meet_fields.new.table made.items))) c.in-Some-2.is c.in_ok-met-in-Record.ensures.some in
+    → AreMet (OrderlyMeets c.args.verdicts.now.dialect) (fields_over c.args.table.now right) (fields_over c.args.table.now left) (fields_over c.meet_fields.new.table made.items))) c.in-Some-2.is c.in_ok-met-in-Record.ensures.some in
     let others = c.in_ok-more-in-Record.ensures.others c.args.table.now
     ∙ ap (λ x. other_fields (fields_over c.args.table.now x) (fields_over c.args.table.now c.deref-in-Record-2.result.now)) (c.deref-in-Record-3.ensures.value ∙ sym c.deref-in-Record.ensures.value)
     ∙ ap (λ x. other_fields (fields_over c.args.table.now c.deref-in-Record.result.now) (fields_over c.args.table.now x)) (c.deref-in-Record-2.ensures.value ∙ sym c.deref.ensures.value) in
@@ -202,7 +258,7 @@ pub meet_by_shape-returns-in_ok-number-in-Record-clause-some : goal.meet_by_shap
 meet_by_shape-returns-in_ok-number-in-Record-clause-some t c =
     let are = subst (λ ms. AreMatches c.deref-in-Record.result.now c.deref.result.now ms) (sym c.deref-in-Record-4.ensures.value) c.in_ok-matches-in-Record.ensures in
     let met = subst (λ o. IfSome o (λ made. (left right : List (String Global × TyNo)) → AreMatches right left c.deref-in-Record-4.result.now
-    → AreMet c.args.verdicts.now.dialect (fields_over c.args.table.now right) (fields_over c.args.table.now left) (fields_over c.meet_fields.new.table made.items))) c.in-Some-2.is c.in_ok-met-in-Record.ensures.some in
+    → AreMet (OrderlyMeets c.args.verdicts.now.dialect) (fields_over c.args.table.now right) (fields_over c.args.table.now left) (fields_over c.meet_fields.new.table made.items))) c.in-Some-2.is c.in_ok-met-in-Record.ensures.some in
     let others = c.in_ok-more-in-Record.ensures.others c.args.table.now
     ∙ ap (λ x. other_fields (fields_over c.args.table.now x) (fields_over c.args.table.now c.deref-in-Record-2.result.now)) (c.deref-in-Record-3.ensures.value ∙ sym c.deref-in-Record.ensures.value)
     ∙ ap (λ x. other_fields (fields_over c.args.table.now c.deref-in-Record.result.now) (fields_over c.args.table.now x)) (c.deref-in-Record-2.ensures.value ∙ sym c.deref.ensures.value) in
@@ -212,6 +268,21 @@ meet_by_shape-returns-in_ok-number-in-Record-clause-some t c =
     (record_of_numbers c.args.table.now (type_of c.args.table.now c.args.left) c.shape.result.now _ c.deref.result.now c.shape.ensures.form c.in-Record.is c.deref.ensures.value)
     (record_of_numbers c.args.table.now (type_of c.args.table.now c.args.right) c.shape-in-Record.result.now _ c.deref-in-Record.result.now c.shape-in-Record.ensures.form c.in-Record-shape.is c.deref-in-Record.ensures.value)
     c.shape.ensures.wf c.shape-in-Record.ensures.wf c.in_ok-met-in-Record.ensures.keeps (met c.deref.result.now c.deref-in-Record.result.now are) more others c.in_ok-append-in-Record.ensures.items c.in_ok-number-in-Record.ensures.number.type
+
+pub meet_by_shape-returns-in_ok-number-in-Record-clause-order : goal.meet_by_shape-returns-in_ok-number-in-Record-clause-order
+meet_by_shape-returns-in_ok-number-in-Record-clause-order t c =
+    let are = subst (λ ms. AreMatches c.deref-in-Record.result.now c.deref.result.now ms) (sym c.deref-in-Record-4.ensures.value) c.in_ok-matches-in-Record.ensures in
+    let met = subst (λ o. IfSome o (λ made. (left right : List (String Global × TyNo)) → AreMatches right left c.deref-in-Record-4.result.now
+    → AreMet (OrderlyMeets c.args.verdicts.now.dialect) (fields_over c.args.table.now right) (fields_over c.args.table.now left) (fields_over c.meet_fields.new.table made.items))) c.in-Some-2.is c.in_ok-met-in-Record.ensures.some in
+    let others = c.in_ok-more-in-Record.ensures.others c.args.table.now
+    ∙ ap (λ x. other_fields (fields_over c.args.table.now x) (fields_over c.args.table.now c.deref-in-Record-2.result.now)) (c.deref-in-Record-3.ensures.value ∙ sym c.deref-in-Record.ensures.value)
+    ∙ ap (λ x. other_fields (fields_over c.args.table.now c.deref-in-Record.result.now) (fields_over c.args.table.now x)) (c.deref-in-Record-2.ensures.value ∙ sym c.deref.ensures.value) in
+    let more = c.in_ok-more-in-Record.ensures.below (length c.args.table.now)
+    (stand_in c.args.right.index _ c.shape-in-Record.result.now _ c.deref-in-Record-3.result.now c.shape-in-Record.ensures.earlier c.requires.right c.in-Record-shape.is c.deref-in-Record-3.ensures.value) in
+    record_meet_order c.args.table.now c.meet_fields.new.table (type_of c.args.table.now c.args.left) (type_of c.args.table.now c.args.right) (type_of c.intern.new.self c.in_ok-number-in-Record.number) c.deref.result.now c.deref-in-Record.result.now c.in-Some-2.met.items c.in_ok-more-in-Record.more.items c.append.new.self.items c.args.verdicts.now.dialect
+    (record_of_numbers c.args.table.now (type_of c.args.table.now c.args.left) c.shape.result.now _ c.deref.result.now c.shape.ensures.form c.in-Record.is c.deref.ensures.value)
+    (record_of_numbers c.args.table.now (type_of c.args.table.now c.args.right) c.shape-in-Record.result.now _ c.deref-in-Record.result.now c.shape-in-Record.ensures.form c.in-Record-shape.is c.deref-in-Record.ensures.value)
+    c.in_ok-met-in-Record.ensures.keeps (met c.deref.result.now c.deref-in-Record.result.now are) more others c.in_ok-append-in-Record.ensures.items c.in_ok-number-in-Record.ensures.number.type
 
 -- field by field
 
@@ -241,7 +312,7 @@ join_fields-loop-i-preserved-in_default t c = record {
   dialect = c.loop-i.invariant.dialect;
   right = c.loop-i.invariant.right;
   stand = c.loop-i.invariant.stand;
-  joins = joins_without c.args.verdicts.now.dialect c.args.table.now c.loop-i.table c.args.matches.now c.loop-i.i c.index-matches-i.result c.loop-i.made.items c.loop-i-test.true c.index-matches-i.is c.in_default.is c.loop-i.invariant.joins;
+  joins = joins_without (OrderlyJoins c.args.verdicts.now.dialect) c.args.table.now c.loop-i.table c.args.matches.now c.loop-i.i c.index-matches-i.result c.loop-i.made.items c.loop-i-test.true c.index-matches-i.is c.in_default.is c.loop-i.invariant.joins;
 }
 
 pub join_fields-loop-i-preserved : goal.join_fields-loop-i-preserved
@@ -252,14 +323,14 @@ join_fields-loop-i-preserved t c = record {
   stand = subst (λ fs. AreBelow (length c.join_no.new.table) fs) (sym c.in_ok-push.ensures.items)
       (below-push (length c.join_no.new.table) c.loop-i.made.items (c.in_ok-label.label, c.in_ok-number.number)
       (below_more (length c.loop-i.table) (length c.join_no.new.table) c.loop-i.made.items c.loop-i.invariant.stand (keeps_length c.loop-i.table c.join_no.new.table c.in_ok-number.ensures.keeps)) c.in_ok-number.ensures.stands);
-  joins = joins_more c.args.verdicts.now.dialect c.args.table.now c.loop-i.table c.join_no.new.table c.args.matches.now c.loop-i.i c.index-matches-i.result c.loop-i.made.items c.push.new.self.items c.in_ok-label.label c.in-Some.right c.in_ok-number.number
+  joins = joins_more (OrderlyJoins c.args.verdicts.now.dialect) c.args.table.now c.loop-i.table c.join_no.new.table c.args.matches.now c.loop-i.i c.index-matches-i.result c.loop-i.made.items c.push.new.self.items c.in_ok-label.label c.in-Some.right c.in_ok-number.number
       c.requires.stand c.loop-i-test.true c.index-matches-i.is c.in-Some.is c.loop-i.invariant.keeps c.in_ok-number.ensures.keeps c.loop-i.invariant.stand
-      (subst (λ d. IsJoin (type_of c.loop-i.table c.index-matches-i.result.left) (type_of c.loop-i.table c.in-Some.right) (type_of c.join_no.new.table c.in_ok-number.number) d) c.loop-i.invariant.dialect c.in_ok-number.ensures.join)
+      (subst (λ d. IsJoin (type_of c.loop-i.table c.index-matches-i.result.left) (type_of c.loop-i.table c.in-Some.right) (type_of c.join_no.new.table c.in_ok-number.number) d) c.loop-i.invariant.dialect c.in_ok-number.ensures.join, c.in_ok-number.ensures.order)
       c.in_ok-push.ensures.items c.in_ok-label.ensures.cases c.loop-i.invariant.joins;
 }
 
 pub join_fields-returns-clause-joined : goal.join_fields-returns-clause-joined
-join_fields-returns-clause-joined t c = joins_all c.args.verdicts.now.dialect c.args.table.now c.loop-i.table c.args.matches.now c.loop-i.i c.loop-i.made.items c.loop-i-test.false c.loop-i.invariant.joins
+join_fields-returns-clause-joined t c = joins_all (OrderlyJoins c.args.verdicts.now.dialect) c.args.table.now c.loop-i.table c.args.matches.now c.loop-i.i c.loop-i.made.items c.loop-i-test.false c.loop-i.invariant.joins
 
 pub meet_fields-loop-i-preserved-in_default : goal.meet_fields-loop-i-preserved-in_default
 meet_fields-loop-i-preserved-in_default t c =
@@ -271,7 +342,7 @@ meet_fields-loop-i-preserved-in_default t c =
       right = c.loop-i.invariant.right;
       stand = subst (λ fs. AreBelow (length c.loop-i.table) fs) (sym c.in_ok-push.ensures.items)
           (below-push (length c.loop-i.table) c.loop-i.made.items (c.in_ok-label.label, c.index-matches-i.result.left) c.loop-i.invariant.stand (omega (arith, left, longer)));
-      meets = meets_alone c.args.verdicts.now.dialect c.args.table.now c.loop-i.table c.args.matches.now c.loop-i.i c.index-matches-i.result c.loop-i.made.items c.push.new.self.items c.in_ok-label.label
+      meets = meets_alone (OrderlyMeets c.args.verdicts.now.dialect) c.args.table.now c.loop-i.table c.args.matches.now c.loop-i.i c.index-matches-i.result c.loop-i.made.items c.push.new.self.items c.in_ok-label.label
           c.requires.stand c.loop-i-test.true c.index-matches-i.is c.in_default.is c.loop-i.invariant.keeps c.loop-i.invariant.stand c.in_ok-push.ensures.items c.in_ok-label.ensures.cases c.loop-i.invariant.meets;
     }
 
@@ -286,6 +357,8 @@ meet_fields-loop-i-preserved t c =
     let stands = subst (λ o. IfSome o (λ number. Stands c.meet_no.new.table number)) c.in-Some-2.is c.in_ok-number.ensures.stands in
     let meet = subst (λ o. IfSome o (λ number. IsMeet (type_of c.loop-i.table c.index-matches-i.result.left) (type_of c.loop-i.table c.in-Some.right) (type_of c.meet_no.new.table number) c.loop-i.verdicts.dialect))
     c.in-Some-2.is c.in_ok-number.ensures.some in
+    let order = subst (λ o. IfSome o (λ number. MeetsInOrder (type_of c.loop-i.table c.index-matches-i.result.left) (type_of c.loop-i.table c.in-Some.right) (type_of c.meet_no.new.table number)))
+    c.in-Some-2.is c.in_ok-number.ensures.order in
     record {
       keeps = keeps_trans c.args.table.now c.loop-i.table c.meet_no.new.table c.loop-i.invariant.keeps c.in_ok-number.ensures.keeps;
       dialect = c.in_ok-number.ensures.dialect ∙ c.loop-i.invariant.dialect;
@@ -293,11 +366,11 @@ meet_fields-loop-i-preserved t c =
       stand = subst (λ fs. AreBelow (length c.meet_no.new.table) fs) (sym c.in_ok-push-2.ensures.items)
           (below-push (length c.meet_no.new.table) c.loop-i.made.items (c.in_ok-label.label, c.in-Some-2.number)
           (below_more (length c.loop-i.table) (length c.meet_no.new.table) c.loop-i.made.items c.loop-i.invariant.stand (keeps_length c.loop-i.table c.meet_no.new.table c.in_ok-number.ensures.keeps)) stands);
-      meets = meets_more c.args.verdicts.now.dialect c.args.table.now c.loop-i.table c.meet_no.new.table c.args.matches.now c.loop-i.i c.index-matches-i.result c.loop-i.made.items c.push-in-loop-i.new.self.items c.in_ok-label.label c.in-Some.right c.in-Some-2.number
+      meets = meets_more (OrderlyMeets c.args.verdicts.now.dialect) c.args.table.now c.loop-i.table c.meet_no.new.table c.args.matches.now c.loop-i.i c.index-matches-i.result c.loop-i.made.items c.push-in-loop-i.new.self.items c.in_ok-label.label c.in-Some.right c.in-Some-2.number
           c.requires.stand c.loop-i-test.true c.index-matches-i.is c.in-Some.is c.loop-i.invariant.keeps c.in_ok-number.ensures.keeps c.loop-i.invariant.stand
-          (subst (λ d. IsMeet (type_of c.loop-i.table c.index-matches-i.result.left) (type_of c.loop-i.table c.in-Some.right) (type_of c.meet_no.new.table c.in-Some-2.number) d) c.loop-i.invariant.dialect meet)
+          (subst (λ d. IsMeet (type_of c.loop-i.table c.index-matches-i.result.left) (type_of c.loop-i.table c.in-Some.right) (type_of c.meet_no.new.table c.in-Some-2.number) d) c.loop-i.invariant.dialect meet, order)
           c.in_ok-push-2.ensures.items c.in_ok-label.ensures.cases c.loop-i.invariant.meets;
     }
 
 pub meet_fields-returns-clause-some : goal.meet_fields-returns-clause-some
-meet_fields-returns-clause-some t c = meets_all c.args.verdicts.now.dialect c.args.table.now c.loop-i.table c.args.matches.now c.loop-i.i c.loop-i.made.items c.loop-i-test.false c.loop-i.invariant.meets
+meet_fields-returns-clause-some t c = meets_all (OrderlyMeets c.args.verdicts.now.dialect) c.args.table.now c.loop-i.table c.args.matches.now c.loop-i.i c.loop-i.made.items c.loop-i-test.false c.loop-i.invariant.meets

@@ -1,6 +1,7 @@
 use Rattle.std.proofs.Common.{◌≡◌, ◌+◌, ◌*◌, length}
 use Rattle.lam_rules.specs.Numbers.{Keeps, AreBelow}
 use Rattle.lam_sub.specs.Remembered.{AreRight}
+use Rattle.lam_lattice.specs.Records.{OrderlyJoins, OrderlyMeets}
 use Rattle.lam_lattice.proofs.SideBySide.{bound_of, JoinsSoFar, MeetsSoFar}
 use Rattle.lam_lattice.proofs.numbers.+bounds.Given as goal
 
@@ -10,7 +11,7 @@ invariant-join_fields-loop-i l = record {
   dialect : l.verdicts.dialect ≡ l.fn.verdicts.dialect;
   right : AreRight l.table l.verdicts;
   stand : AreBelow (length l.table) l.made.items;
-  joins : JoinsSoFar l.fn.verdicts.dialect l.fn.table l.table l.matches l.i l.made.items;
+  joins : JoinsSoFar (OrderlyJoins l.fn.verdicts.dialect) l.fn.table l.table l.matches l.i l.made.items;
 }
 
 abbrev pub invariant-meet_fields-loop-i : goal.invariant-meet_fields-loop-i
@@ -19,7 +20,7 @@ invariant-meet_fields-loop-i l = record {
   dialect : l.verdicts.dialect ≡ l.fn.verdicts.dialect;
   right : AreRight l.table l.verdicts;
   stand : AreBelow (length l.table) l.made.items;
-  meets : MeetsSoFar l.fn.verdicts.dialect l.fn.table l.table l.matches l.i l.made.items;
+  meets : MeetsSoFar (OrderlyMeets l.fn.verdicts.dialect) l.fn.table l.table l.matches l.i l.made.items;
 }
 
 abbrev pub decreases-join_no : goal.decreases-join_no

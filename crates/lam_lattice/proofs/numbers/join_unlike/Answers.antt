@@ -2,9 +2,11 @@ use Rattle.std.proofs.Common.{◌≡◌, true, refl, sym, subst}
 use Rattle.std.proofs.lemmas.Result.{IfOk-weaker}
 use Rattle.lam_rules.specs.Numbers.{type_of}
 use Rattle.lam_rules.specs.Subtyping.{IsBelow}
+use Rattle.lam_sub.specs.BoundOrder.{join_without_parts}
 use Rattle.lam_sub.proofs.Keeping.{right_kept}
-use Rattle.lam_lattice.specs.Bounds.{IsJoin}
+use Rattle.lam_lattice.specs.Bounds.{IsJoin, JoinsInOrder}
 use Rattle.lam_lattice.proofs.Unlike.{join_above, join_below, join_unlike_top, join_seen}
+use Rattle.lam_lattice.proofs.Orders.{join_order_above, join_order_below}
 use Rattle.lam_lattice.proofs.numbers.join_unlike.Goals as goal
 
 pub returns-then-branch-clause-join : goal.returns-then-branch-clause-join
@@ -27,4 +29,17 @@ returns-clause-join c =
     (λ below. let e : c.in_ok-is_sub_no.field-0 ≡ true = c.in_ok-is_sub_no.ensures.verdict.1 below in cc)
     (λ below. let e : c.in_ok-is_sub_no-2.field-0 ≡ true =
     c.in_ok-is_sub_no-2.ensures.verdict.1 (subst (λ d. IsBelow (type_of c.args.table.now c.args.right) (type_of c.args.table.now c.args.left) d) (sym c.in_ok-is_sub_no.ensures.dialect) below) in cc)))
+    c.intern.ensures.number
+
+pub returns-then-branch-clause-order : goal.returns-then-branch-clause-order
+returns-then-branch-clause-order c = join_order_above (type_of c.args.table.now c.args.left) (type_of c.args.table.now c.args.right) c.args.verdicts.now.dialect c.requires.unlike (c.in_ok-is_sub_no.ensures.verdict.0 c.if-branch.true)
+
+pub returns-then-branch-2-clause-order : goal.returns-then-branch-2-clause-order
+returns-then-branch-2-clause-order c =
+    join_order_below (type_of c.args.table.now c.args.left) (type_of c.args.table.now c.args.right) _ c.requires.unlike (c.in_ok-is_sub_no-2.ensures.verdict.0 c.if-branch-2.true)
+
+pub returns-clause-order : goal.returns-clause-order
+returns-clause-order c =
+    IfOk-weaker c.intern.result _ (λ number. JoinsInOrder (type_of c.args.table.now c.args.left) (type_of c.args.table.now c.args.right) (type_of c.intern.new.self number))
+    (λ number is. subst (λ j. JoinsInOrder (type_of c.args.table.now c.args.left) (type_of c.args.table.now c.args.right) j) (sym is.type) (join_without_parts tt))
     c.intern.ensures.number
