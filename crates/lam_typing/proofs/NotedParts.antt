@@ -15,9 +15,10 @@ use Rattle.lam_scope.specs.WellFormed.{IsWellFormedStatement, AreWellFormedState
 use Rattle.lam_scope.specs.declared.statement.Statement.{Statement as RustStatement}
 use Rattle.lam_typing.specs.Answers.{answer, answers, StandsIn, AllStandIn, context_under}
 use Rattle.lam_typing.specs.Entries.{written_in, declared_in}
-use Rattle.lam_typing.specs.Notes.{Noted, bound_in, note, notes, notes_in, notes_of, noted_as, noted_by, AllNoted, AreSoundNotes, NotesMore, NotesTerm, NotesFields, NotesOne, NotesStatement, NotesDocument, IsLeaf, IsOver, written_number, bound_number}
+use Rattle.lam_typing.specs.Notes.{Noted, bound_in, note, notes, notes_in, notes_of, written_by, bound_by, noted_as, noted_by, AllNoted, AreSoundNotes, NotesMore, NotesTerm, NotesFields, NotesOne, NotesStatement, NotesDocument, IsLeaf, IsOver, written_number, bound_number}
 use Rattle.lam_typing.specs.Seeing.{note_among}
 use Rattle.lam_typing.specs.declared.noting.Note.{Note}
+use Rattle.lam_typing.specs.declared.noting.Note.TheVariants.{Nothing}
 use Rattle.lam_typing.specs.declared.noting.Notes.{Notes}
 use Rattle.lam_typing.proofs.Growing.{answer_keep, answers_keep, context_keep, stands_keep, all_stand_keep, all_stand_push, answers-push, context-push}
 
@@ -25,17 +26,17 @@ use Rattle.lam_typing.proofs.Growing.{answer_keep, answers_keep, context_keep, s
 
 noted_keep : (old now : List Typ) (ns : List Note) → Keeps old now → AllNoted old ns → noted_by now ns ≡ noted_by old ns
 noted_keep old now [] keeps all = refl
-noted_keep old now (n ∷ ns) keeps all = rw (answer_keep old now n.written keeps all.0, answer_keep old now n.bound keeps all.1, noted_keep old now ns keeps all.2)
+noted_keep old now (n ∷ ns) keeps all = rw (answer_keep old now (written_by n) keeps all.0, answer_keep old now (bound_by n) keeps all.1, noted_keep old now ns keeps all.2)
 
 all_noted_keep : (old now : List Typ) (ns : List Note) → Keeps old now → AllNoted old ns → AllNoted now ns
 all_noted_keep old now [] keeps all = tt
-all_noted_keep old now (n ∷ ns) keeps all = (stands_keep old now n.written keeps all.0, stands_keep old now n.bound keeps all.1, all_noted_keep old now ns keeps all.2)
+all_noted_keep old now (n ∷ ns) keeps all = (stands_keep old now (written_by n) keeps all.0, stands_keep old now (bound_by n) keeps all.1, all_noted_keep old now ns keeps all.2)
 
 noted_by-push : (ts : List Typ) (ns : List Note) (n : Note) → noted_by ts (ns ++ n ∷ []) ≡ noted_by ts ns ++ noted_as ts n ∷ []
 noted_by-push ts [] n = refl
 noted_by-push ts (m ∷ ns) n = ap (λ xs. noted_as ts m ∷ xs) (noted_by-push ts ns n)
 
-all_noted_push : (ts : List Typ) (ns : List Note) (n : Note) → AllNoted ts ns → StandsIn ts n.written → StandsIn ts n.bound → AllNoted ts (ns ++ n ∷ [])
+all_noted_push : (ts : List Typ) (ns : List Note) (n : Note) → AllNoted ts ns → StandsIn ts (written_by n) → StandsIn ts (bound_by n) → AllNoted ts (ns ++ n ∷ [])
 all_noted_push ts [] n all w b = (w, b, tt)
 all_noted_push ts (m ∷ ns) n all w b = (all.0, all.1, all_noted_push ts ns n all.2 w b)
 
@@ -84,38 +85,38 @@ then_term k t0 t1 t2 n0 n1 n2 xs a found e place sound stand at p q =
     (subst (λ xs. NotesMore t1 t2 n1 n2 xs (inside e + 1)) (λ i. notes (sym at i) (f i) (g i) e) q.more)
 
 -- the note of the term itself behind those of its parts
-pub term_done : (t0 t1 : List Typ) (n0 n1 n2 : Notes) (found : List (Option TyNo)) (e : Term) (parts : List Noted) (a : ℕ) (w b : Option TyNo) (place : ℕ)
+pub term_done : (t0 t1 : List Typ) (n0 n1 n2 : Notes) (found : List (Option TyNo)) (e : Term) (parts : List Noted) (a : ℕ) (own : Note) (place : ℕ)
     → notes (length n0.noted.items) (answers t0 found) (context_under t0 n0.entries.items) e ≡ parts ++ note (context_under t0 n0.entries.items) e ∷ []
-    → a ≡ inside e → NotesMore t0 t1 n0 n1 parts a → NotesOne n1 n2 w b place → StandsIn t1 w → StandsIn t1 b
-    → answer t1 w ≡ written_in e → answer t1 b ≡ bound_in (context_under t0 n0.entries.items) e
+    → a ≡ inside e → NotesMore t0 t1 n0 n1 parts a → NotesOne n1 n2 own place → StandsIn t1 (written_by own) → StandsIn t1 (bound_by own)
+    → answer t1 (written_by own) ≡ written_in e → answer t1 (bound_by own) ≡ bound_in (context_under t0 n0.entries.items) e
     → NotesTerm t0 t1 n0 n2 found e place
-term_done t0 t1 n0 n1 n2 found e parts a w b place form count p one stands_w stands_b is_w is_b = record {
+term_done t0 t1 n0 n1 n2 found e parts a own place form count p one stands_w stands_b is_w is_b = record {
   more = record {
     keeps = p.keeps;
     sound = record {
       entries = subst (λ os. AllStandIn t1 os) (sym one.entries) p.sound.entries;
-      noted = subst (λ ns. AllNoted t1 ns) (sym one.noted) (all_noted_push t1 n1.noted.items (record { written = w; bound = b }) p.sound.noted stands_w stands_b);
+      noted = subst (λ ns. AllNoted t1 ns) (sym one.noted) (all_noted_push t1 n1.noted.items own p.sound.noted stands_w stands_b);
       declared = subst (λ os. AllStandIn t1 os) (sym one.declared) p.sound.declared;
     };
     entries = one.entries ∙ p.entries;
     declared = one.declared ∙ p.declared;
     noted =
         ap (λ ns. noted_by t1 ns) one.noted
-        ∙ noted_by-push t1 n1.noted.items (record { written = w; bound = b })
+        ∙ noted_by-push t1 n1.noted.items own
         ∙ (λ i. p.noted i ++ record { written = is_w i; bound = is_b i } ∷ [])
         ∙ append_assoc (noted_by t0 n0.noted.items) parts (note (context_under t0 n0.entries.items) e ∷ [])
         ∙ ap (λ xs. noted_by t0 n0.noted.items ++ xs) (sym form);
-    behind = let l = ap length one.noted ∙ length-append n1.noted.items (record { written = w; bound = b } ∷ []) in let m = p.behind in omega arith;
+    behind = let l = ap length one.noted ∙ length-append n1.noted.items (own ∷ []) in let m = p.behind in omega arith;
   };
   place_is = let m = p.behind in let q = one.place_is in omega arith;
 }
 
-pub leaf_done : (t : List Typ) (n0 n1 : Notes) (found : List (Option TyNo)) (e : Term) (place : ℕ) → IsLeaf e → AreSoundNotes t n0 → NotesOne n0 n1 None None place → NotesTerm t t n0 n1 found e place
-leaf_done t n0 n1 found true_term place leaf sound one = term_done t t n0 n0 n1 found true_term [] 0 None None place refl refl (more_none t n0 sound) one tt tt refl refl
-leaf_done t n0 n1 found false_term place leaf sound one = term_done t t n0 n0 n1 found false_term [] 0 None None place refl refl (more_none t n0 sound) one tt tt refl refl
-leaf_done t n0 n1 found (numeral digits) place leaf sound one = term_done t t n0 n0 n1 found (numeral digits) [] 0 None None place refl refl (more_none t n0 sound) one tt tt refl refl
-leaf_done t n0 n1 found (free name) place leaf sound one = term_done t t n0 n0 n1 found (free name) [] 0 None None place refl refl (more_none t n0 sound) one tt tt refl refl
-leaf_done t n0 n1 found unit_term place leaf sound one = term_done t t n0 n0 n1 found unit_term [] 0 None None place refl refl (more_none t n0 sound) one tt tt refl refl
+pub leaf_done : (t : List Typ) (n0 n1 : Notes) (found : List (Option TyNo)) (e : Term) (place : ℕ) → IsLeaf e → AreSoundNotes t n0 → NotesOne n0 n1 Nothing place → NotesTerm t t n0 n1 found e place
+leaf_done t n0 n1 found true_term place leaf sound one = term_done t t n0 n0 n1 found true_term [] 0 Nothing place refl refl (more_none t n0 sound) one tt tt refl refl
+leaf_done t n0 n1 found false_term place leaf sound one = term_done t t n0 n0 n1 found false_term [] 0 Nothing place refl refl (more_none t n0 sound) one tt tt refl refl
+leaf_done t n0 n1 found (numeral digits) place leaf sound one = term_done t t n0 n0 n1 found (numeral digits) [] 0 Nothing place refl refl (more_none t n0 sound) one tt tt refl refl
+leaf_done t n0 n1 found (free name) place leaf sound one = term_done t t n0 n0 n1 found (free name) [] 0 Nothing place refl refl (more_none t n0 sound) one tt tt refl refl
+leaf_done t n0 n1 found unit_term place leaf sound one = term_done t t n0 n0 n1 found unit_term [] 0 Nothing place refl refl (more_none t n0 sound) one tt tt refl refl
 leaf_done t n0 n1 found (if_then_else c a b) place leaf sound one = absurd leaf
 leaf_done t n0 n1 found (succ e) place leaf sound one = absurd leaf
 leaf_done t n0 n1 found (pred e) place leaf sound one = absurd leaf
@@ -132,13 +133,13 @@ leaf_done t n0 n1 found (fix e) place leaf sound one = absurd leaf
 module _ (t0 t1 : List Typ) (n0 n1 n2 : Notes) (found : List (Option TyNo)) (p : Term) (inner place : ℕ) where
   over : (e : Term) → notes (length n0.noted.items) (answers t0 found) (context_under t0 n0.entries.items) e ≡ notes (length n0.noted.items) (answers t0 found) (context_under t0 n0.entries.items) p ++ record { written = None; bound = None } ∷ []
       → inside p + 1 ≡ inside e → written_in e ≡ None → ((g : Context) → bound_in g e ≡ None)
-      → NotesTerm t0 t1 n0 n1 found p inner → NotesOne n1 n2 None None place → NotesTerm t0 t1 n0 n2 found e place
+      → NotesTerm t0 t1 n0 n1 found p inner → NotesOne n1 n2 Nothing place → NotesTerm t0 t1 n0 n2 found e place
   over e form count w b part one =
-      term_done t0 t1 n0 n1 n2 found e (notes (length n0.noted.items) (answers t0 found) (context_under t0 n0.entries.items) p) (inside p + 1) None None place
+      term_done t0 t1 n0 n1 n2 found e (notes (length n0.noted.items) (answers t0 found) (context_under t0 n0.entries.items) p) (inside p + 1) Nothing place
       (form ∙ (λ i. notes (length n0.noted.items) (answers t0 found) (context_under t0 n0.entries.items) p ++ record { written = sym w i; bound = sym (b (context_under t0 n0.entries.items)) i } ∷ []))
       count part.more one tt tt (sym w) (sym (b (context_under t0 n0.entries.items)))
 
-  pub over_done : (e : Term) → IsOver e p → NotesTerm t0 t1 n0 n1 found p inner → NotesOne n1 n2 None None place → NotesTerm t0 t1 n0 n2 found e place
+  pub over_done : (e : Term) → IsOver e p → NotesTerm t0 t1 n0 n1 found p inner → NotesOne n1 n2 Nothing place → NotesTerm t0 t1 n0 n2 found e place
   over_done (succ e) is part one = rw is (over (succ p) refl refl refl (λ g. refl) part one)
   over_done (pred e) is part one = rw is (over (pred p) refl refl refl (λ g. refl) part one)
   over_done (is_zero e) is part one = rw is (over (is_zero p) refl refl refl (λ g. refl) part one)
@@ -404,10 +405,10 @@ some_stands ts o number stands is = subst (λ p. StandsIn ts p) is stands
 
 pub written_stands : (ts : List Typ) (ns : List Note) → AllNoted ts ns → (i : ℕ) (number : TyNo) → written_number ns i ≡ Some number → number.index < length ts
 written_stands ts [] all i number is = absurd (let wrong : None ≡ Some number = is in cc)
-written_stands ts (n ∷ ns) all zero number is = some_stands ts n.written number all.0 is
+written_stands ts (n ∷ ns) all zero number is = some_stands ts (written_by n) number all.0 is
 written_stands ts (n ∷ ns) all (suc i) number is = written_stands ts ns all.2 i number is
 
 pub bound_stands : (ts : List Typ) (ns : List Note) → AllNoted ts ns → (i : ℕ) (number : TyNo) → bound_number ns i ≡ Some number → number.index < length ts
 bound_stands ts [] all i number is = absurd (let wrong : None ≡ Some number = is in cc)
-bound_stands ts (n ∷ ns) all zero number is = some_stands ts n.bound number all.1 is
+bound_stands ts (n ∷ ns) all zero number is = some_stands ts (bound_by n) number all.1 is
 bound_stands ts (n ∷ ns) all (suc i) number is = bound_stands ts ns all.2 i number is

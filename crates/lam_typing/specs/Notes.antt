@@ -1,5 +1,5 @@
 -- What is noted of each place beside its type: the entry of the binder of a lambda, and that of the binder that a variable counts to.
-use Rattle.std.specs.Prelude.{◌≡◌, ℕ, ◌+◌, List, [], ◌∷◌, ◌++◌, length, map, Option, None, get_or}
+use Rattle.std.specs.Prelude.{◌≡◌, ℕ, ◌+◌, List, [], ◌∷◌, ◌++◌, length, map, Option, Some, None, get_or}
 use Rattle.lam_rules.specs.Types.{Typ}
 use Rattle.lam_rules.specs.Terms.{Term, true_term, false_term, if_then_else, numeral, succ, pred, is_zero, variable, free, lambda, apply, unit_term, ascribe, let_in, record_term, project, fix, TermFields, no_terms, term_field}
 use Rattle.lam_rules.specs.Typing.{Context}
@@ -11,6 +11,7 @@ use Rattle.lam_typing.specs.Answers.{answer, answers, StandsIn, AllStandIn, cont
 use Rattle.lam_typing.specs.Entries.{written_in, declared_in}
 use Rattle.lam_typing.specs.Steps.{entry_at}
 use Rattle.lam_typing.specs.declared.noting.Note.{Note}
+use Rattle.lam_typing.specs.declared.noting.Note.TheVariants.{Written, Bound, Nothing}
 use Rattle.lam_typing.specs.declared.noting.Notes.{Notes}
 
 pub record Noted : Type 0 where
@@ -54,9 +55,18 @@ notes_of k found g (declares w ∷ rest) = notes_of k found (w ∷ g) rest
 notes_of k found g (abbreviates w ∷ rest) = notes_of k found g rest
 notes_of k found g (states e ∷ rest) = notes k found g e ++ notes_of (behind_term k e) found g rest
 
+-- the number that a note has of what is written, and the one of the entry of the binder that is counted to
+abbrev pub written_by : Note → Option TyNo
+written_by (Written number) = Some number
+written_by _ = None
+
+abbrev pub bound_by : Note → Option TyNo
+bound_by (Bound number) = Some number
+bound_by _ = None
+
 -- what notes say by the numbers of a table
 abbrev pub noted_as : List Typ → Note → Noted
-noted_as ts n = record { written = answer ts n.written; bound = answer ts n.bound }
+noted_as ts n = record { written = answer ts (written_by n); bound = answer ts (bound_by n) }
 
 abbrev pub noted_by : List Typ → List Note → List Noted
 noted_by ts [] = []
@@ -64,15 +74,15 @@ noted_by ts (n ∷ ns) = noted_as ts n ∷ noted_by ts ns
 
 -- the numbers in the note of a place
 abbrev pub written_number : List Note → ℕ → Option TyNo
-written_number ns k = (get_or ns k (record { written = None; bound = None })).written
+written_number ns k = written_by (get_or ns k Nothing)
 
 abbrev pub bound_number : List Note → ℕ → Option TyNo
-bound_number ns k = (get_or ns k (record { written = None; bound = None })).bound
+bound_number ns k = bound_by (get_or ns k Nothing)
 
 -- each number in them is one of the table
 abbrev pub AllNoted : List Typ → List Note → Type 0
 AllNoted ts [] = Unit {0}
-AllNoted ts (n ∷ ns) = StandsIn ts n.written × StandsIn ts n.bound × AllNoted ts ns
+AllNoted ts (n ∷ ns) = StandsIn ts (written_by n) × StandsIn ts (bound_by n) × AllNoted ts ns
 
 pub record AreSoundNotes (ts : List Typ) (ns : Notes) : Type 0 where
   pub entries : AllStandIn ts ns.entries.items
@@ -97,11 +107,11 @@ abbrev pub NotesFields : List Typ → List Typ → Notes → Notes → List (Opt
 NotesFields old now before after found es =
     NotesMore old now before after (notes_in (length before.noted.items) (answers old found) (context_under old before.entries.items) es) (inside_fields es)
 
--- one note was put behind the others
-pub record NotesOne (before after : Notes) (written bound : Option TyNo) (place : ℕ) : Type 0 where
+-- this note was put behind the others
+pub record NotesOne (before after : Notes) (own : Note) (place : ℕ) : Type 0 where
   pub entries : after.entries.items ≡ before.entries.items
   pub declared : after.declared.items ≡ before.declared.items
-  pub noted : after.noted.items ≡ before.noted.items ++ record { written = written; bound = bound } ∷ []
+  pub noted : after.noted.items ≡ before.noted.items ++ own ∷ []
   pub place_is : place ≡ length before.noted.items
 
 -- terms without parts but variables, and those of one part that bind nothing

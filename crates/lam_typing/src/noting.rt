@@ -1,6 +1,6 @@
 //! The second pass over the places of a document: which entries they speak of.
 
-ghost use Rattle.std.specs.Prelude.{◌≡◌, List, Option, map, IfOk, OnOk};
+ghost use Rattle.std.specs.Prelude.{◌≡◌, List, Option, None, map, IfOk, OnOk};
 ghost use Rattle.lam_rules.specs.Types.{Typ};
 ghost use Rattle.lam_rules.specs.Terms.{Term, if_then_else, variable, lambda, apply, let_in, record_term};
 ghost use Rattle.lam_rules.specs.TermViews.{term_of, terms_of, written_of};
@@ -10,7 +10,7 @@ ghost use Rattle.lam_scope.specs.WellFormed.{IsWellFormedTerm, AreWellFormedTerm
 ghost use Rattle.lam_scope.specs.Views.{statement_of};
 ghost use Rattle.lam_typing.specs.Answers.{answer, StandsIn, AllStandIn, context_under};
 ghost use Rattle.lam_typing.specs.Steps.{entry_at};
-ghost use Rattle.lam_typing.specs.Notes.{AreSoundNotes, NotesTerm, NotesFields, NotesOne, NotesStatement, NotesDocument, IsLeaf, IsOver};
+ghost use Rattle.lam_typing.specs.Notes.{written_by, bound_by, AreSoundNotes, NotesTerm, NotesFields, NotesOne, NotesStatement, NotesDocument, IsLeaf, IsOver};
 
 use crate::reading::type_of_place;
 use crate::steps::added;
@@ -19,12 +19,39 @@ use lam_rules::{Core, Ty, TyNo, TyTable};
 use lam_scope::Statement;
 use std::alloc::{AllocError, Global};
 
-/// The entries that a place speaks of: a lambda of that of its own binder, which is what is written there, and a variable
-/// of that of the binder that it counts to.
+/// The entry that a place speaks of.
 #[derive(Clone, Copy)]
-pub(crate) struct Note {
-    pub written: Option<TyNo>,
-    pub bound: Option<TyNo>,
+pub(crate) enum Note {
+    /// A lambda speaks of that of its own binder, which is what is written there.
+    Written(TyNo),
+    /// A variable speaks of that of the binder that it counts to.
+    Bound(TyNo),
+    /// The other places speak of none, and so do these where the entry is none.
+    Nothing,
+}
+
+impl Note {
+    /// The note of a lambda where this is written.
+    fn of_lambda(written: Option<TyNo>) -> Note
+        ensures written { written_by result ≡ written }
+        ensures bound { bound_by result ≡ None }
+    {
+        match written {
+            Some(number) => Note::Written(number),
+            None => Note::Nothing,
+        }
+    }
+
+    /// The note of a variable whose binder has this entry.
+    fn of_variable(bound: Option<TyNo>) -> Note
+        ensures written { written_by result ≡ None }
+        ensures bound { bound_by result ≡ bound }
+    {
+        match bound {
+            Some(number) => Note::Bound(number),
+            None => Note::Nothing,
+        }
+    }
 }
 
 /// What was noted so far.
@@ -138,7 +165,7 @@ fn note_leaf(table: &TyTable, n: &mut Notes) -> Result<usize, AllocError>
     requires sound { AreSoundNotes table.now n.old }
     ensures { IfOk result (λ place. (found : List (Option Number)) (e : Term) → IsLeaf e → NotesTerm table.now table.now n.old n.new found e place) }
 {
-    note_here(n, None, None)
+    note_here(n, Note::Nothing)
 }
 
 /// A term of one part that binds nothing.
@@ -155,7 +182,7 @@ fn note_over(
     ensures { IfOk result (λ place. (e : Term) → IsOver e (term_of operand.now) → NotesTerm table.old table.new n.old n.new found.now e place) }
 {
     note_term(table, n, found, operand)?;
-    note_here(n, None, None)
+    note_here(n, Note::Nothing)
 }
 
 #[cycle(note_term)]
@@ -177,7 +204,7 @@ fn note_if(
     note_term(table, n, found, condition)?;
     note_term(table, n, found, then_term)?;
     note_term(table, n, found, else_term)?;
-    note_here(n, None, None)
+    note_here(n, Note::Nothing)
 }
 
 /// A variable has the entry of the binder that it counts to.
@@ -186,7 +213,7 @@ fn note_variable(table: &TyTable, n: &mut Notes, count: usize) -> Result<usize, 
     ensures { IfOk result (λ place. (found : List (Option Number)) → NotesTerm table.now table.now n.old n.new found (variable count) place) }
 {
     let bound = entry_counted(&n.entries, count);
-    note_here(n, None, bound)
+    note_here(n, Note::of_variable(bound))
 }
 
 #[cycle(note_term)]
@@ -207,7 +234,7 @@ fn note_lambda(
     n.entries.push(entry)?;
     note_term(table, n, found, body)?;
     n.entries.pop();
-    note_here(n, entry, None)
+    note_here(n, Note::of_lambda(entry))
 }
 
 #[cycle(note_term)]
@@ -226,7 +253,7 @@ fn note_apply(
 {
     note_term(table, n, found, function)?;
     note_term(table, n, found, argument)?;
-    note_here(n, None, None)
+    note_here(n, Note::Nothing)
 }
 
 /// A let: the binder's entry is the type that was found of the term that is bound.
@@ -248,7 +275,7 @@ fn note_let(
     n.entries.push(type_of_place(found, place))?;
     note_term(table, n, found, body)?;
     n.entries.pop();
-    note_here(n, None, None)
+    note_here(n, Note::Nothing)
 }
 
 #[cycle(note_term)]
@@ -264,7 +291,7 @@ fn note_record(
     ensures { IfOk result (λ place. NotesTerm table.old table.new n.old n.new found.now (record_term (terms_of fields.now)) place) }
 {
     note_fields(table, n, found, fields)?;
-    note_here(n, None, None)
+    note_here(n, Note::Nothing)
 }
 
 /// The terms of a record, from the first to the last.
@@ -287,12 +314,12 @@ fn note_fields(
     note_fields(table, n, found, others)
 }
 
-/// The note of the next place, which is answered.
-fn note_here(n: &mut Notes, written: Option<TyNo>, bound: Option<TyNo>) -> Result<usize, AllocError>
-    ensures { IfOk result (λ place. NotesOne n.old n.new written bound place) }
+/// Takes down the note of the next place, which is answered.
+fn note_here(n: &mut Notes, note: Note) -> Result<usize, AllocError>
+    ensures { IfOk result (λ place. NotesOne n.old n.new note place) }
 {
     let place = n.noted.len();
-    n.noted.push(Note { written, bound })?;
+    n.noted.push(note)?;
     Ok(place)
 }
 

@@ -23,7 +23,10 @@ pub(crate) fn written_at(notes: &[Note], number: usize) -> Option<TyNo>
     if number >= notes.len() {
         return None;
     }
-    notes[number].written
+    match notes[number] {
+        Note::Written(entry) => Some(entry),
+        _ => None,
+    }
 }
 
 /// The entry of the binder that the variable at the place of that number counts to.
@@ -33,5 +36,8 @@ pub(crate) fn bound_at(notes: &[Note], number: usize) -> Option<TyNo>
     if number >= notes.len() {
         return None;
     }
-    notes[number].bound
+    match notes[number] {
+        Note::Bound(entry) => Some(entry),
+        _ => None,
+    }
 }

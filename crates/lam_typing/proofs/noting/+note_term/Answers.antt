@@ -1,9 +1,11 @@
-use Rattle.std.proofs.Common.{◌≡◌, ◌+◌, [], ◌∷◌, ◌++◌, length, get_or, None, vec_len, ap, refl, ◌∙◌, arith, string_bytes}
+use Rattle.std.proofs.Common.{◌≡◌, ◌+◌, [], ◌∷◌, ◌++◌, length, get_or, None, vec_len, ap, refl, sym, subst, ◌∙◌, arith, string_bytes}
 use Rattle.lam_rules.specs.Terms.{if_then_else, lambda, apply, let_in, record_term}
 use Rattle.lam_rules.specs.TermViews.{term_of, terms_of, written_of}
 use Rattle.lam_rules.proofs.TermShapes.{term_of-Var}
 use Rattle.lam_rules.proofs.Tables.{keeps_same}
 use Rattle.lam_scope.specs.Sights.{inside, inside_fields, behind_term}
+use Rattle.lam_typing.specs.Answers.{answer, StandsIn}
+use Rattle.lam_typing.specs.declared.noting.Note.TheVariants.{Nothing}
 use Rattle.lam_typing.proofs.Growing.{all_stand_keep, stands_keep, answer_keep}
 use Rattle.lam_typing.proofs.Sizes.{size_of, size_of_fields}
 use Rattle.lam_typing.proofs.NotedParts.{then_term, term_done, over_done, under_done, let_under, fields_then, popped_items, pushed_sound, found_stands, ok_map, on_ok_map}
@@ -19,7 +21,7 @@ note_apply-returns t c =
     let f = term_of c.args.function.now in
     let a = term_of c.args.argument.now in
     let both = then_term (behind_term (length c.args.n.now.noted.items) f) c.args.table.now c.note_term.new.table c.note_term-2.new.table c.args.n.now c.note_term.new.n c.note_term-2.new.n _ (inside f + 1) c.args.found.now a _ c.requires.sound c.requires.found (let b = first.more.behind in omega arith) first.more c.in_ok-note_term-2.ensures in
-    ok_map c.note_here.result _ _ (λ place one. term_done c.args.table.now c.note_term-2.new.table c.args.n.now c.note_term-2.new.n c.note_here.new.n c.args.found.now (apply f a) _ (inside f + 1 + (inside a + 1)) None None place refl (omega arith) both one tt tt refl refl) c.note_here.ensures
+    ok_map c.note_here.result _ _ (λ place one. term_done c.args.table.now c.note_term-2.new.table c.args.n.now c.note_term-2.new.n c.note_here.new.n c.args.found.now (apply f a) _ (inside f + 1 + (inside a + 1)) Nothing place refl (omega arith) both one tt tt refl refl) c.note_here.ensures
 
 pub note_fields-note_fields-requires : goal.note_fields-note_fields-requires
 note_fields-note_fields-requires t c =
@@ -56,7 +58,7 @@ note_if-returns t c =
     let k = length c.args.n.now.noted.items in
     let both = then_term (behind_term k e1) c.args.table.now c.note_term.new.table c.note_term-2.new.table c.args.n.now c.note_term.new.n c.note_term-2.new.n _ (inside e1 + 1) c.args.found.now e2 _ c.requires.sound c.requires.found (let b = first.more.behind in omega arith) first.more c.in_ok-note_term-2.ensures in
     let three = then_term (behind_term (behind_term k e1) e2) c.args.table.now c.note_term-2.new.table c.note_term-3.new.table c.args.n.now c.note_term-2.new.n c.note_term-3.new.n _ (inside e1 + 1 + (inside e2 + 1)) c.args.found.now e3 _ c.requires.sound c.requires.found (let b = both.behind in omega arith) both c.in_ok-note_term-3.ensures in
-    ok_map c.note_here.result _ _ (λ place one. term_done c.args.table.now c.note_term-3.new.table c.args.n.now c.note_term-3.new.n c.note_here.new.n c.args.found.now (if_then_else e1 e2 e3) _ (inside e1 + 1 + (inside e2 + 1) + (inside e3 + 1)) None None place refl (omega arith) three one tt tt refl refl) c.note_here.ensures
+    ok_map c.note_here.result _ _ (λ place one. term_done c.args.table.now c.note_term-3.new.table c.args.n.now c.note_term-3.new.n c.note_here.new.n c.args.found.now (if_then_else e1 e2 e3) _ (inside e1 + 1 + (inside e2 + 1) + (inside e3 + 1)) Nothing place refl (omega arith) three one tt tt refl refl) c.note_here.ensures
 
 pub note_lambda-note_term-requires : goal.note_lambda-note_term-requires
 note_lambda-note_term-requires t c =
@@ -69,8 +71,11 @@ note_lambda-returns t c =
     let over = c.in_ok-note_term.ensures in
     let popped = popped_items c.push.new.self c.pop.new.self c.note_term.new.n.entries.items c.args.n.now.entries.items c.in_ok-entry.entry (vec_len c.note_term.new.n.entries) c.in_ok-push.ensures.items over.more.entries c.note_term.new.n.entries.ok.0 c.pop.ensures.rest in
     let body = under_done c.args.table.now c.added.new.table c.note_term.new.table c.args.n.now c.note_term.new.n c.push.new.self c.pop.new.self c.args.found.now c.in_ok-entry.entry w e _ c.requires.sound c.requires.found c.added.ensures.keeps c.in_ok-push.ensures.items c.in_ok-entry.ensures.entry over popped in
-    ok_map c.note_here.result _ _ (λ place one. term_done c.args.table.now c.note_term.new.table c.args.n.now (record c.note_term.new.n { entries = c.pop.new.self }) c.note_here.new.n c.args.found.now (lambda w e) _ (inside e + 1) c.in_ok-entry.entry None place refl refl body one
-    (stands_keep c.added.new.table c.note_term.new.table c.in_ok-entry.entry over.more.keeps c.in_ok-entry.ensures.stands) tt (answer_keep c.added.new.table c.note_term.new.table c.in_ok-entry.entry over.more.keeps c.in_ok-entry.ensures.stands ∙ c.in_ok-entry.ensures.entry) refl) c.note_here.ensures
+    ok_map c.note_here.result _ _ (λ place one. term_done c.args.table.now c.note_term.new.table c.args.n.now (record c.note_term.new.n { entries = c.pop.new.self }) c.note_here.new.n c.args.found.now (lambda w e) _ (inside e + 1) c.of_lambda.result place refl refl body one
+    (subst (λ o. StandsIn c.note_term.new.table o) (sym c.of_lambda.ensures.written) (stands_keep c.added.new.table c.note_term.new.table c.in_ok-entry.entry over.more.keeps c.in_ok-entry.ensures.stands))
+    (subst (λ o. StandsIn c.note_term.new.table o) (sym c.of_lambda.ensures.bound) tt)
+    (ap (λ o. answer c.note_term.new.table o) c.of_lambda.ensures.written ∙ answer_keep c.added.new.table c.note_term.new.table c.in_ok-entry.entry over.more.keeps c.in_ok-entry.ensures.stands ∙ c.in_ok-entry.ensures.entry)
+    (ap (λ o. answer c.note_term.new.table o) c.of_lambda.ensures.bound)) c.note_here.ensures
 
 pub note_let-note_term-requires-2 : goal.note_let-note_term-requires-2
 note_let-note_term-requires-2 t c =
@@ -93,7 +98,7 @@ note_let-returns t c =
     let put = c.in_ok-push.ensures.items ∙ ap (λ o. c.note_term.new.n.entries.items ++ o ∷ []) c.type_of_place.ensures in
     let popped = popped_items c.push.new.self c.pop.new.self c.note_term-2.new.n.entries.items c.note_term.new.n.entries.items (get_or c.args.found.now c.in_ok-place.place None) (vec_len c.note_term-2.new.n.entries) put under.more.entries c.note_term-2.new.n.entries.ok.0 c.pop.ensures.rest in
     let both = let_under c.note_term.new.table c.note_term-2.new.table c.args.n.now c.note_term.new.n c.note_term-2.new.n c.push.new.self c.pop.new.self c.args.table.now c.args.found.now a b c.in_ok-place.place _ c.requires.sound c.requires.found over put under popped in
-    ok_map c.note_here.result _ _ (λ place one. term_done c.args.table.now c.note_term-2.new.table c.args.n.now (record c.note_term-2.new.n { entries = c.pop.new.self }) c.note_here.new.n c.args.found.now (let_in a b) _ (inside a + 1 + (inside b + 1)) None None place refl (omega arith) both one tt tt refl refl) c.note_here.ensures
+    ok_map c.note_here.result _ _ (λ place one. term_done c.args.table.now c.note_term-2.new.table c.args.n.now (record c.note_term-2.new.n { entries = c.pop.new.self }) c.note_here.new.n c.args.found.now (let_in a b) _ (inside a + 1 + (inside b + 1)) Nothing place refl (omega arith) both one tt tt refl refl) c.note_here.ensures
 
 pub note_over-returns : goal.note_over-returns
 note_over-returns t c =
@@ -102,7 +107,7 @@ note_over-returns t c =
 pub note_record-returns : goal.note_record-returns
 note_record-returns t c =
     let es = terms_of c.args.fields.now in
-    ok_map c.note_here.result _ _ (λ place one. term_done c.args.table.now c.note_fields.new.table c.args.n.now c.note_fields.new.n c.note_here.new.n c.args.found.now (record_term es) _ (inside_fields es) None None place refl refl c.in_ok-note_fields.ensures one tt tt refl refl) c.note_here.ensures
+    ok_map c.note_here.result _ _ (λ place one. term_done c.args.table.now c.note_fields.new.table c.args.n.now c.note_fields.new.n c.note_here.new.n c.args.found.now (record_term es) _ (inside_fields es) Nothing place refl refl c.in_ok-note_fields.ensures one tt tt refl refl) c.note_here.ensures
 
 pub note_term-returns-in-Var : goal.note_term-returns-in-Var
 note_term-returns-in-Var t c = rw (ap term_of c.in-Var.is ∙ term_of-Var c.in-Var.count)
