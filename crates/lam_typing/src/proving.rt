@@ -38,7 +38,6 @@ struct ProvenFields {
 
 /// A proof of the type that was found of a term, whose places end before this number; none, where none was found.
 #[cycle(prove_term)]
-#[tactic(auto, using(lam_rules::proofs::TermShapes::term_shapes))]
 pub(crate) fn prove_term(
     alloc: Global,
     typing: &Typing,
@@ -54,44 +53,53 @@ pub(crate) fn prove_term(
         return Ok(None);
     };
     let ty = typing.walk.table.tree(number)?;
+    prove_form(alloc, typing, term, place, &ty)
+}
+
+/// A proof of the type that was found of the term of a place, by the rule of its form.
+#[cycle(prove_term)]
+#[tactic(auto, using(lam_rules::proofs::TermShapes::term_shapes))]
+fn prove_form(
+    alloc: Global,
+    typing: &Typing,
+    term: &Core,
+    place: usize,
+    ty: &Ty,
+) -> Result<Option<Proven>, AllocError>
+    requires { inside (term_of term.now) ≤ place }
+    ensures first { IfOk result (λ made. IfSome made (λ m. m.first + inside (term_of term.now) ≡ place)) }
+    ensures proves { IfOk result (λ made. IsProvenForm typing.now (term_of term.now) place (typ_of ty.now) (option_map tree_in made)) }
+{
     match term {
-        Core::True => prove_leaf(alloc, typing, TypeRule::True, Ty::Bool, place, &ty),
-        Core::False => prove_leaf(alloc, typing, TypeRule::False, Ty::Bool, place, &ty),
+        Core::True => prove_leaf(alloc, typing, TypeRule::True, Ty::Bool, place, ty),
+        Core::False => prove_leaf(alloc, typing, TypeRule::False, Ty::Bool, place, ty),
         Core::If(condition, one, other) => {
-            prove_if(alloc, typing, condition, one, other, place, &ty)
+            prove_if(alloc, typing, condition, one, other, place, ty)
         }
-        Core::Num(_) => prove_leaf(alloc, typing, TypeRule::Num, Ty::Nat, place, &ty),
-        Core::Succ(operand) => {
-            prove_number(alloc, typing, TypeRule::Succ, operand, Ty::Nat, place, &ty)
+        Core::Num(_) => prove_leaf(alloc, typing, TypeRule::Num, Ty::Nat, place, ty),
+        Core::Succ(number) => {
+            prove_number(alloc, typing, TypeRule::Succ, number, Ty::Nat, place, ty)
         }
-        Core::Pred(operand) => {
-            prove_number(alloc, typing, TypeRule::Pred, operand, Ty::Nat, place, &ty)
+        Core::Pred(number) => {
+            prove_number(alloc, typing, TypeRule::Pred, number, Ty::Nat, place, ty)
         }
-        Core::IsZero(operand) => {
-            prove_number(
-                alloc,
-                typing,
-                TypeRule::IsZero,
-                operand,
-                Ty::Bool,
-                place,
-                &ty,
-            )
+        Core::IsZero(number) => {
+            prove_number(alloc, typing, TypeRule::IsZero, number, Ty::Bool, place, ty)
         }
-        Core::Var(_) => prove_variable(alloc, typing, place, &ty),
+        Core::Var(_) => prove_variable(alloc, typing, place, ty),
         Core::Free(_) => Ok(None),
-        Core::Abs(written, body) => prove_lambda(alloc, typing, written, body, place, &ty),
+        Core::Abs(written, body) => prove_lambda(alloc, typing, written, body, place, ty),
         Core::App(function, argument) => {
-            prove_apply(alloc, typing, function, argument, place, &ty)
+            prove_apply(alloc, typing, function, argument, place, ty)
         }
-        Core::Unit => prove_leaf(alloc, typing, TypeRule::Unit, Ty::Unit, place, &ty),
+        Core::Unit => prove_leaf(alloc, typing, TypeRule::Unit, Ty::Unit, place, ty),
         Core::Ascribe(operand, written) => {
-            prove_ascribe(alloc, typing, operand, written, place, &ty)
+            prove_ascribe(alloc, typing, operand, written, place, ty)
         }
-        Core::Let(bound, body) => prove_let(alloc, typing, bound, body, place, &ty),
-        Core::Record(fields) => prove_record(alloc, typing, fields, place, &ty),
-        Core::Proj(operand, label) => prove_project(alloc, typing, operand, label, place, &ty),
-        Core::Fix(operand) => prove_fix(alloc, typing, operand, place, &ty),
+        Core::Let(bound, body) => prove_let(alloc, typing, bound, body, place, ty),
+        Core::Record(fields) => prove_record(alloc, typing, fields, place, ty),
+        Core::Proj(operand, label) => prove_project(alloc, typing, operand, label, place, ty),
+        Core::Fix(operand) => prove_fix(alloc, typing, operand, place, ty),
     }
 }
 

@@ -1,7 +1,7 @@
 use Rattle.std.proofs.Common.{◌≡◌, ◌+◌, ◌-◌, Some, None, ap, refl, sym, subst, ◌∙◌, string_bytes, arith, reverse, get_or}
 use Rattle.std.specs.Option.{option_map}
 use Rattle.lam_rules.specs.Types.{bool, nat, arrow, record_of, field}
-use Rattle.lam_rules.specs.Terms.{true_term, false_term, unit_term, numeral, free, variable, if_then_else, succ, pred, is_zero, lambda, apply, ascribe, let_in, record_term, project, fix}
+use Rattle.lam_rules.specs.Terms.{true_term, false_term, unit_term, numeral, if_then_else, succ, pred, is_zero, lambda, apply, ascribe, let_in, record_term, project, fix}
 use Rattle.lam_rules.specs.TermViews.{term_of, terms_of, written_of}
 use Rattle.lam_rules.specs.TypeViews.{typ_of, fields_of}
 use Rattle.lam_rules.specs.TypingViews.{typing_tree_of, typings_of}
@@ -192,70 +192,74 @@ pub prove_term-returns-in_default-clause-proves : goal.prove_term-returns-in_def
 prove_term-returns-in_default-clause-proves t c =
     term_none c.args.typing.now (term_of c.args.term.now) c.args.behind (found_none c.args.typing.now (c.args.behind - 1) c.type_of_place.result (c.type_of_place.ensures ∙ ap (λ os. get_or os (c.args.behind - 1) None) c.deref.ensures.value) c.in_default.is)
 
-pub prove_term-returns-in-True-clause-proves : goal.prove_term-returns-in-True-clause-proves
-prove_term-returns-in-True-clause-proves t c =
-    rw (ap term_of c.in-True.is ∙ term_of-True) (ok_map c.prove_leaf.result _ _ (λ made form. term_of_form c.args.typing.now true_term c.args.behind (typ_of c.in_ok-ty.ty) (option_map tree_in made) (found_type c.args.typing.now (c.args.behind - 1) c.type_of_place.result c.in-Some.number (typ_of c.in_ok-ty.ty) (c.type_of_place.ensures ∙ ap (λ os. get_or os (c.args.behind - 1) None) c.deref.ensures.value) c.in-Some.is c.in_ok-ty.ensures) (form true_term typ_of-Bool)) c.prove_leaf.ensures.proves)
-
-pub prove_term-returns-in-False-clause-proves : goal.prove_term-returns-in-False-clause-proves
-prove_term-returns-in-False-clause-proves t c =
-    rw (ap term_of c.in-False.is ∙ term_of-False) (ok_map c.prove_leaf-in-False.result _ _ (λ made form. term_of_form c.args.typing.now false_term c.args.behind (typ_of c.in_ok-ty.ty) (option_map tree_in made) (found_type c.args.typing.now (c.args.behind - 1) c.type_of_place.result c.in-Some.number (typ_of c.in_ok-ty.ty) (c.type_of_place.ensures ∙ ap (λ os. get_or os (c.args.behind - 1) None) c.deref.ensures.value) c.in-Some.is c.in_ok-ty.ensures) (form false_term typ_of-Bool)) c.prove_leaf-in-False.ensures.proves)
-
-pub prove_term-returns-in-If-clause-proves : goal.prove_term-returns-in-If-clause-proves
-prove_term-returns-in-If-clause-proves t c =
-    rw (ap term_of c.in-If.is ∙ term_of-If c.in-If.condition c.in-If.one c.in-If.other ∙ (λ i. if_then_else (term_of (sym c.deref-in-If.ensures i)) (term_of (sym c.deref-in-If-2.ensures i)) (term_of (sym c.deref-in-If-3.ensures i)))) (ok_map c.prove_if.result _ _ (λ made form. term_of_form c.args.typing.now (if_then_else (term_of c.deref-in-If.result.now) (term_of c.deref-in-If-2.result.now) (term_of c.deref-in-If-3.result.now)) c.args.behind (typ_of c.in_ok-ty.ty) (option_map tree_in made) (found_type c.args.typing.now (c.args.behind - 1) c.type_of_place.result c.in-Some.number (typ_of c.in_ok-ty.ty) (c.type_of_place.ensures ∙ ap (λ os. get_or os (c.args.behind - 1) None) c.deref.ensures.value) c.in-Some.is c.in_ok-ty.ensures) (form)) c.prove_if.ensures.proves)
-
-pub prove_term-returns-in-Num-clause-proves : goal.prove_term-returns-in-Num-clause-proves
-prove_term-returns-in-Num-clause-proves t c =
-    rw (ap term_of c.in-Num.is ∙ term_of-Num c.in-Num.field-0) (ok_map c.prove_leaf-in-Num.result _ _ (λ made form. term_of_form c.args.typing.now (numeral (string_bytes c.in-Num.field-0)) c.args.behind (typ_of c.in_ok-ty.ty) (option_map tree_in made) (found_type c.args.typing.now (c.args.behind - 1) c.type_of_place.result c.in-Some.number (typ_of c.in_ok-ty.ty) (c.type_of_place.ensures ∙ ap (λ os. get_or os (c.args.behind - 1) None) c.deref.ensures.value) c.in-Some.is c.in_ok-ty.ensures) (form (numeral (string_bytes c.in-Num.field-0)) typ_of-Nat)) c.prove_leaf-in-Num.ensures.proves)
-
-pub prove_term-returns-in-Succ-clause-proves : goal.prove_term-returns-in-Succ-clause-proves
-prove_term-returns-in-Succ-clause-proves t c =
-    rw (ap term_of c.in-Succ.is ∙ term_of-Succ c.in-Succ.operand ∙ (λ i. succ (term_of (sym c.deref-in-Succ.ensures i)))) (ok_map c.prove_number.result _ _ (λ made form. term_of_form c.args.typing.now (succ (term_of c.deref-in-Succ.result.now)) c.args.behind (typ_of c.in_ok-ty.ty) (option_map tree_in made) (found_type c.args.typing.now (c.args.behind - 1) c.type_of_place.result c.in-Some.number (typ_of c.in_ok-ty.ty) (c.type_of_place.ensures ∙ ap (λ os. get_or os (c.args.behind - 1) None) c.deref.ensures.value) c.in-Some.is c.in_ok-ty.ensures) (form (succ (term_of c.deref-in-Succ.result.now)) (refl, typ_of-Nat))) c.prove_number.ensures.proves)
-
-pub prove_term-returns-in-Pred-clause-proves : goal.prove_term-returns-in-Pred-clause-proves
-prove_term-returns-in-Pred-clause-proves t c =
-    rw (ap term_of c.in-Pred.is ∙ term_of-Pred c.in-Pred.operand ∙ (λ i. pred (term_of (sym c.deref-in-Pred.ensures i)))) (ok_map c.prove_number-in-Pred.result _ _ (λ made form. term_of_form c.args.typing.now (pred (term_of c.deref-in-Pred.result.now)) c.args.behind (typ_of c.in_ok-ty.ty) (option_map tree_in made) (found_type c.args.typing.now (c.args.behind - 1) c.type_of_place.result c.in-Some.number (typ_of c.in_ok-ty.ty) (c.type_of_place.ensures ∙ ap (λ os. get_or os (c.args.behind - 1) None) c.deref.ensures.value) c.in-Some.is c.in_ok-ty.ensures) (form (pred (term_of c.deref-in-Pred.result.now)) (refl, typ_of-Nat))) c.prove_number-in-Pred.ensures.proves)
-
-pub prove_term-returns-in-IsZero-clause-proves : goal.prove_term-returns-in-IsZero-clause-proves
-prove_term-returns-in-IsZero-clause-proves t c =
-    rw (ap term_of c.in-IsZero.is ∙ term_of-IsZero c.in-IsZero.operand ∙ (λ i. is_zero (term_of (sym c.deref-in-IsZero.ensures i)))) (ok_map c.prove_number-in-IsZero.result _ _ (λ made form. term_of_form c.args.typing.now (is_zero (term_of c.deref-in-IsZero.result.now)) c.args.behind (typ_of c.in_ok-ty.ty) (option_map tree_in made) (found_type c.args.typing.now (c.args.behind - 1) c.type_of_place.result c.in-Some.number (typ_of c.in_ok-ty.ty) (c.type_of_place.ensures ∙ ap (λ os. get_or os (c.args.behind - 1) None) c.deref.ensures.value) c.in-Some.is c.in_ok-ty.ensures) (form (is_zero (term_of c.deref-in-IsZero.result.now)) (refl, typ_of-Bool))) c.prove_number-in-IsZero.ensures.proves)
-
-pub prove_term-returns-in-Var-clause-proves : goal.prove_term-returns-in-Var-clause-proves
-prove_term-returns-in-Var-clause-proves t c =
-    rw (ap term_of c.in-Var.is ∙ term_of-Var c.in-Var.field-0) (ok_map c.prove_variable.result _ _ (λ made form. term_of_form c.args.typing.now (variable c.in-Var.field-0) c.args.behind (typ_of c.in_ok-ty.ty) (option_map tree_in made) (found_type c.args.typing.now (c.args.behind - 1) c.type_of_place.result c.in-Some.number (typ_of c.in_ok-ty.ty) (c.type_of_place.ensures ∙ ap (λ os. get_or os (c.args.behind - 1) None) c.deref.ensures.value) c.in-Some.is c.in_ok-ty.ensures) (form c.in-Var.field-0)) c.prove_variable.ensures.proves)
-
-pub prove_term-returns-in-Free-clause-proves : goal.prove_term-returns-in-Free-clause-proves
-prove_term-returns-in-Free-clause-proves t c =
-    rw (ap term_of c.in-Free.is ∙ term_of-Free c.in-Free.field-0) (term_of_form c.args.typing.now (free (string_bytes c.in-Free.field-0)) c.args.behind (typ_of c.in_ok-ty.ty) None (found_type c.args.typing.now (c.args.behind - 1) c.type_of_place.result c.in-Some.number (typ_of c.in_ok-ty.ty) (c.type_of_place.ensures ∙ ap (λ os. get_or os (c.args.behind - 1) None) c.deref.ensures.value) c.in-Some.is c.in_ok-ty.ensures) (free_none c.args.typing.now (string_bytes c.in-Free.field-0) (c.args.behind - 1) (typ_of c.in_ok-ty.ty)))
-
-pub prove_term-returns-in-Abs-clause-proves : goal.prove_term-returns-in-Abs-clause-proves
-prove_term-returns-in-Abs-clause-proves t c =
-    rw (ap term_of c.in-Abs.is ∙ term_of-Abs c.in-Abs.written c.in-Abs.body ∙ (λ i. lambda (written_of c.in-Abs.written) (term_of (sym c.deref-in-Abs.ensures i)))) (ok_map c.prove_lambda.result _ _ (λ made form. term_of_form c.args.typing.now (lambda (written_of c.in-Abs.written) (term_of c.deref-in-Abs.result.now)) c.args.behind (typ_of c.in_ok-ty.ty) (option_map tree_in made) (found_type c.args.typing.now (c.args.behind - 1) c.type_of_place.result c.in-Some.number (typ_of c.in_ok-ty.ty) (c.type_of_place.ensures ∙ ap (λ os. get_or os (c.args.behind - 1) None) c.deref.ensures.value) c.in-Some.is c.in_ok-ty.ensures) (form)) c.prove_lambda.ensures.proves)
-
-pub prove_term-returns-in-App-clause-proves : goal.prove_term-returns-in-App-clause-proves
-prove_term-returns-in-App-clause-proves t c =
-    rw (ap term_of c.in-App.is ∙ term_of-App c.in-App.function c.in-App.argument ∙ (λ i. apply (term_of (sym c.deref-in-App.ensures i)) (term_of (sym c.deref-in-App-2.ensures i)))) (ok_map c.prove_apply.result _ _ (λ made form. term_of_form c.args.typing.now (apply (term_of c.deref-in-App.result.now) (term_of c.deref-in-App-2.result.now)) c.args.behind (typ_of c.in_ok-ty.ty) (option_map tree_in made) (found_type c.args.typing.now (c.args.behind - 1) c.type_of_place.result c.in-Some.number (typ_of c.in_ok-ty.ty) (c.type_of_place.ensures ∙ ap (λ os. get_or os (c.args.behind - 1) None) c.deref.ensures.value) c.in-Some.is c.in_ok-ty.ensures) (form)) c.prove_apply.ensures.proves)
-
-pub prove_term-returns-in-Unit-clause-proves : goal.prove_term-returns-in-Unit-clause-proves
-prove_term-returns-in-Unit-clause-proves t c =
-    rw (ap term_of c.in-Unit.is ∙ term_of-Unit) (ok_map c.prove_leaf-in-Unit.result _ _ (λ made form. term_of_form c.args.typing.now unit_term c.args.behind (typ_of c.in_ok-ty.ty) (option_map tree_in made) (found_type c.args.typing.now (c.args.behind - 1) c.type_of_place.result c.in-Some.number (typ_of c.in_ok-ty.ty) (c.type_of_place.ensures ∙ ap (λ os. get_or os (c.args.behind - 1) None) c.deref.ensures.value) c.in-Some.is c.in_ok-ty.ensures) (form unit_term typ_of-Unit)) c.prove_leaf-in-Unit.ensures.proves)
-
-pub prove_term-returns-in-Ascribe-clause-proves : goal.prove_term-returns-in-Ascribe-clause-proves
-prove_term-returns-in-Ascribe-clause-proves t c =
-    rw (ap term_of c.in-Ascribe.is ∙ term_of-Ascribe c.in-Ascribe.operand c.in-Ascribe.written ∙ (λ i. ascribe (term_of (sym c.deref-in-Ascribe.ensures i)) (written_of c.in-Ascribe.written))) (ok_map c.prove_ascribe.result _ _ (λ made form. term_of_form c.args.typing.now (ascribe (term_of c.deref-in-Ascribe.result.now) (written_of c.in-Ascribe.written)) c.args.behind (typ_of c.in_ok-ty.ty) (option_map tree_in made) (found_type c.args.typing.now (c.args.behind - 1) c.type_of_place.result c.in-Some.number (typ_of c.in_ok-ty.ty) (c.type_of_place.ensures ∙ ap (λ os. get_or os (c.args.behind - 1) None) c.deref.ensures.value) c.in-Some.is c.in_ok-ty.ensures) (form)) c.prove_ascribe.ensures.proves)
-
-pub prove_term-returns-in-Let-clause-proves : goal.prove_term-returns-in-Let-clause-proves
-prove_term-returns-in-Let-clause-proves t c =
-    rw (ap term_of c.in-Let.is ∙ term_of-Let c.in-Let.bound c.in-Let.body ∙ (λ i. let_in (term_of (sym c.deref-in-Let.ensures i)) (term_of (sym c.deref-in-Let-2.ensures i)))) (ok_map c.prove_let.result _ _ (λ made form. term_of_form c.args.typing.now (let_in (term_of c.deref-in-Let.result.now) (term_of c.deref-in-Let-2.result.now)) c.args.behind (typ_of c.in_ok-ty.ty) (option_map tree_in made) (found_type c.args.typing.now (c.args.behind - 1) c.type_of_place.result c.in-Some.number (typ_of c.in_ok-ty.ty) (c.type_of_place.ensures ∙ ap (λ os. get_or os (c.args.behind - 1) None) c.deref.ensures.value) c.in-Some.is c.in_ok-ty.ensures) (form)) c.prove_let.ensures.proves)
-
-pub prove_term-returns-in-Record-clause-proves : goal.prove_term-returns-in-Record-clause-proves
-prove_term-returns-in-Record-clause-proves t c =
-    rw (ap term_of c.in-Record.is ∙ term_of-Record c.in-Record.fields ∙ (λ i. record_term (terms_of (sym c.deref-in-Record.ensures.value i)))) (ok_map c.prove_record.result _ _ (λ made form. term_of_form c.args.typing.now (record_term (terms_of c.deref-in-Record.result.now)) c.args.behind (typ_of c.in_ok-ty.ty) (option_map tree_in made) (found_type c.args.typing.now (c.args.behind - 1) c.type_of_place.result c.in-Some.number (typ_of c.in_ok-ty.ty) (c.type_of_place.ensures ∙ ap (λ os. get_or os (c.args.behind - 1) None) c.deref.ensures.value) c.in-Some.is c.in_ok-ty.ensures) (form)) c.prove_record.ensures.proves)
-
-pub prove_term-returns-in-Proj-clause-proves : goal.prove_term-returns-in-Proj-clause-proves
-prove_term-returns-in-Proj-clause-proves t c =
-    rw (ap term_of c.in-Proj.is ∙ term_of-Proj c.in-Proj.operand c.in-Proj.label ∙ (λ i. project (term_of (sym c.deref-in-Proj.ensures i)) (sym c.deref-in-Proj-2.ensures i))) (ok_map c.prove_project.result _ _ (λ made form. term_of_form c.args.typing.now (project (term_of c.deref-in-Proj.result.now) c.deref-in-Proj-2.result.now) c.args.behind (typ_of c.in_ok-ty.ty) (option_map tree_in made) (found_type c.args.typing.now (c.args.behind - 1) c.type_of_place.result c.in-Some.number (typ_of c.in_ok-ty.ty) (c.type_of_place.ensures ∙ ap (λ os. get_or os (c.args.behind - 1) None) c.deref.ensures.value) c.in-Some.is c.in_ok-ty.ensures) (form)) c.prove_project.ensures.proves)
-
 pub prove_term-returns-clause-proves : goal.prove_term-returns-clause-proves
 prove_term-returns-clause-proves t c =
-    rw (ap term_of c.in-Fix.is ∙ term_of-Fix c.in-Fix.operand ∙ (λ i. fix (term_of (sym c.deref-in-Fix.ensures i)))) (ok_map c.prove_fix.result _ _ (λ made form. term_of_form c.args.typing.now (fix (term_of c.deref-in-Fix.result.now)) c.args.behind (typ_of c.in_ok-ty.ty) (option_map tree_in made) (found_type c.args.typing.now (c.args.behind - 1) c.type_of_place.result c.in-Some.number (typ_of c.in_ok-ty.ty) (c.type_of_place.ensures ∙ ap (λ os. get_or os (c.args.behind - 1) None) c.deref.ensures.value) c.in-Some.is c.in_ok-ty.ensures) (form)) c.prove_fix.ensures.proves)
+    ok_map c.prove_form.result _ _ (λ made form. term_of_form c.args.typing.now (term_of c.args.term.now) c.args.behind (typ_of c.in_ok-ty.ty) (option_map tree_in made) (found_type c.args.typing.now (c.args.behind - 1) c.type_of_place.result c.in-Some.number (typ_of c.in_ok-ty.ty) (c.type_of_place.ensures ∙ ap (λ os. get_or os (c.args.behind - 1) None) c.deref.ensures.value) c.in-Some.is c.in_ok-ty.ensures) form) c.prove_form.ensures.proves
+
+pub prove_form-returns-in-True-clause-proves : goal.prove_form-returns-in-True-clause-proves
+prove_form-returns-in-True-clause-proves t c =
+    rw (ap term_of c.in-True.is ∙ term_of-True) (ok_map c.prove_leaf.result _ _ (λ made form. form true_term typ_of-Bool) c.prove_leaf.ensures.proves)
+
+pub prove_form-returns-in-False-clause-proves : goal.prove_form-returns-in-False-clause-proves
+prove_form-returns-in-False-clause-proves t c =
+    rw (ap term_of c.in-False.is ∙ term_of-False) (ok_map c.prove_leaf-in-False.result _ _ (λ made form. form false_term typ_of-Bool) c.prove_leaf-in-False.ensures.proves)
+
+pub prove_form-returns-in-If-clause-proves : goal.prove_form-returns-in-If-clause-proves
+prove_form-returns-in-If-clause-proves t c =
+    rw (ap term_of c.in-If.is ∙ term_of-If c.in-If.condition c.in-If.one c.in-If.other ∙ (λ i. if_then_else (term_of (sym c.deref.ensures i)) (term_of (sym c.deref-in-If.ensures i)) (term_of (sym c.deref-in-If-2.ensures i)))) c.prove_if.ensures.proves
+
+pub prove_form-returns-in-Num-clause-proves : goal.prove_form-returns-in-Num-clause-proves
+prove_form-returns-in-Num-clause-proves t c =
+    rw (ap term_of c.in-Num.is ∙ term_of-Num c.in-Num.field-0) (ok_map c.prove_leaf-in-Num.result _ _ (λ made form. form (numeral (string_bytes c.in-Num.field-0)) typ_of-Nat) c.prove_leaf-in-Num.ensures.proves)
+
+pub prove_form-returns-in-Succ-clause-proves : goal.prove_form-returns-in-Succ-clause-proves
+prove_form-returns-in-Succ-clause-proves t c =
+    rw (ap term_of c.in-Succ.is ∙ term_of-Succ c.in-Succ.number ∙ (λ i. succ (term_of (sym c.deref-in-Succ.ensures i)))) (ok_map c.prove_number.result _ _ (λ made form. form (succ (term_of c.deref-in-Succ.result.now)) (refl, typ_of-Nat)) c.prove_number.ensures.proves)
+
+pub prove_form-returns-in-Pred-clause-proves : goal.prove_form-returns-in-Pred-clause-proves
+prove_form-returns-in-Pred-clause-proves t c =
+    rw (ap term_of c.in-Pred.is ∙ term_of-Pred c.in-Pred.number ∙ (λ i. pred (term_of (sym c.deref-in-Pred.ensures i)))) (ok_map c.prove_number-in-Pred.result _ _ (λ made form. form (pred (term_of c.deref-in-Pred.result.now)) (refl, typ_of-Nat)) c.prove_number-in-Pred.ensures.proves)
+
+pub prove_form-returns-in-IsZero-clause-proves : goal.prove_form-returns-in-IsZero-clause-proves
+prove_form-returns-in-IsZero-clause-proves t c =
+    rw (ap term_of c.in-IsZero.is ∙ term_of-IsZero c.in-IsZero.number ∙ (λ i. is_zero (term_of (sym c.deref-in-IsZero.ensures i)))) (ok_map c.prove_number-in-IsZero.result _ _ (λ made form. form (is_zero (term_of c.deref-in-IsZero.result.now)) (refl, typ_of-Bool)) c.prove_number-in-IsZero.ensures.proves)
+
+pub prove_form-returns-in-Var-clause-proves : goal.prove_form-returns-in-Var-clause-proves
+prove_form-returns-in-Var-clause-proves t c =
+    rw (ap term_of c.in-Var.is ∙ term_of-Var c.in-Var.field-0) (ok_map c.prove_variable.result _ _ (λ made form. form c.in-Var.field-0) c.prove_variable.ensures.proves)
+
+pub prove_form-returns-in-Free-clause-proves : goal.prove_form-returns-in-Free-clause-proves
+prove_form-returns-in-Free-clause-proves t c =
+    rw (ap term_of c.in-Free.is ∙ term_of-Free c.in-Free.field-0) (free_none c.args.typing.now (string_bytes c.in-Free.field-0) c.args.place (typ_of c.args.ty.now))
+
+pub prove_form-returns-in-Abs-clause-proves : goal.prove_form-returns-in-Abs-clause-proves
+prove_form-returns-in-Abs-clause-proves t c =
+    rw (ap term_of c.in-Abs.is ∙ term_of-Abs c.in-Abs.written c.in-Abs.body ∙ (λ i. lambda (written_of c.in-Abs.written) (term_of (sym c.deref-in-Abs.ensures i)))) c.prove_lambda.ensures.proves
+
+pub prove_form-returns-in-App-clause-proves : goal.prove_form-returns-in-App-clause-proves
+prove_form-returns-in-App-clause-proves t c =
+    rw (ap term_of c.in-App.is ∙ term_of-App c.in-App.function c.in-App.argument ∙ (λ i. apply (term_of (sym c.deref-in-App.ensures i)) (term_of (sym c.deref-in-App-2.ensures i)))) c.prove_apply.ensures.proves
+
+pub prove_form-returns-in-Unit-clause-proves : goal.prove_form-returns-in-Unit-clause-proves
+prove_form-returns-in-Unit-clause-proves t c =
+    rw (ap term_of c.in-Unit.is ∙ term_of-Unit) (ok_map c.prove_leaf-in-Unit.result _ _ (λ made form. form unit_term typ_of-Unit) c.prove_leaf-in-Unit.ensures.proves)
+
+pub prove_form-returns-in-Ascribe-clause-proves : goal.prove_form-returns-in-Ascribe-clause-proves
+prove_form-returns-in-Ascribe-clause-proves t c =
+    rw (ap term_of c.in-Ascribe.is ∙ term_of-Ascribe c.in-Ascribe.operand c.in-Ascribe.written ∙ (λ i. ascribe (term_of (sym c.deref-in-Ascribe.ensures i)) (written_of c.in-Ascribe.written))) c.prove_ascribe.ensures.proves
+
+pub prove_form-returns-in-Let-clause-proves : goal.prove_form-returns-in-Let-clause-proves
+prove_form-returns-in-Let-clause-proves t c =
+    rw (ap term_of c.in-Let.is ∙ term_of-Let c.in-Let.bound c.in-Let.body ∙ (λ i. let_in (term_of (sym c.deref-in-Let.ensures i)) (term_of (sym c.deref-in-Let-2.ensures i)))) c.prove_let.ensures.proves
+
+pub prove_form-returns-in-Record-clause-proves : goal.prove_form-returns-in-Record-clause-proves
+prove_form-returns-in-Record-clause-proves t c =
+    rw (ap term_of c.in-Record.is ∙ term_of-Record c.in-Record.fields ∙ (λ i. record_term (terms_of (sym c.deref-in-Record.ensures.value i)))) c.prove_record.ensures.proves
+
+pub prove_form-returns-in-Proj-clause-proves : goal.prove_form-returns-in-Proj-clause-proves
+prove_form-returns-in-Proj-clause-proves t c =
+    rw (ap term_of c.in-Proj.is ∙ term_of-Proj c.in-Proj.operand c.in-Proj.label ∙ (λ i. project (term_of (sym c.deref-in-Proj.ensures i)) (sym c.deref-in-Proj-2.ensures i))) c.prove_project.ensures.proves
+
+pub prove_form-returns-in-Fix-clause-proves : goal.prove_form-returns-in-Fix-clause-proves
+prove_form-returns-in-Fix-clause-proves t c =
+    rw (ap term_of c.in-Fix.is ∙ term_of-Fix c.in-Fix.operand ∙ (λ i. fix (term_of (sym c.deref-in-Fix.ensures i)))) c.prove_fix.ensures.proves
