@@ -21,3 +21,4 @@ pub mod SightLengths
 pub mod SomeAnswers
 pub mod Deriving
 pub mod Faultless
+pub mod KnownCodes

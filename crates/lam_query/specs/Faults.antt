@@ -1,5 +1,6 @@
 -- Faults, and their order.
-use Rattle.std.specs.Prelude.{List, Bool}
+use Rattle.std.specs.Prelude.{◌≡◌, List, [], ◌∷◌, Bool, true, false, codes, if◌then◌else◌}
+use Rattle.std.specs.Str.{bytes_eq}
 use Rattle.std.specs.List.Sorted.{IsPermutation, IsSortedBy}
 use Rattle.std.specs.Ordering.{is_lt, nat_cmp, ordering_then}
 use Rattle.std.specs.Cmp.Lexicographic.{slice_cmp}
@@ -19,3 +20,16 @@ is_before a b = is_lt (ordering_then (ordering_then (nat_cmp a.span.start b.span
 pub record AreInOrder (faults ordered : List Fault) : Type 0 where
   pub same : IsPermutation faults ordered
   pub sorted : IsSortedBy is_before ordered
+
+-- the codes that faults have
+abbrev pub fault_codes : List Text
+fault_codes =
+    codes "B1" ∷ codes "B2" ∷ codes "P1" ∷ codes "P2" ∷ codes "L1" ∷ codes "L2" ∷ codes "Y1" ∷ codes "Y2" ∷ codes "E1"
+    ∷ codes "E2" ∷ codes "E3" ∷ codes "E4" ∷ codes "E5" ∷ codes "E6" ∷ codes "E7" ∷ codes "E8" ∷ codes "E9" ∷ []
+
+abbrev pub is_among : Text → List Text → Bool
+is_among code [] = false
+is_among code (c ∷ cs) = if bytes_eq code c then true else is_among code cs
+
+abbrev pub HasKnownCode : Fault → Type 0
+HasKnownCode f = is_among f.code fault_codes ≡ true

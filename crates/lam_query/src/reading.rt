@@ -62,6 +62,8 @@ fn read_pieces(alloc: Global, pieces: &[&[Token<'_>]]) -> Result<Parsed, AllocEr
             Piece::Spoiled => {}
         }
     }
+    // An analysis keeps them, and up to half of a vector that grew is spare.
+    commands.shrink_to_fit();
     Ok(Parsed { commands, faults })
 }
 

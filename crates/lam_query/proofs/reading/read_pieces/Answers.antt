@@ -28,7 +28,8 @@ loop-piece-preserved c =
 
 pub returns-clause-commands : goal.returns-clause-commands
 returns-clause-commands c =
-    all_found _ c.loop-piece.commands.items _ (ap (map (λ p. p.now)) (drop_of_length-le c.args.pieces.now c.loop-piece-test.false)) c.loop-piece.invariant.commands_are
+    rw c.shrink_to_fit.ensures.items
+    (all_found _ c.loop-piece.commands.items _ (ap (map (λ p. p.now)) (drop_of_length-le c.args.pieces.now c.loop-piece-test.false)) c.loop-piece.invariant.commands_are)
 
 pub returns-clause-faults : goal.returns-clause-faults
 returns-clause-faults c =
