@@ -1,5 +1,5 @@
 //! From commands to scopes.
-ghost use Rattle.std.specs.Prelude.{◌≡◌, map, IfOk, OnOk};
+ghost use Rattle.std.specs.Prelude.{◌≡◌, length, map, IfOk, OnOk};
 ghost use Rattle.lam_syntax.specs.Views.{command_of};
 ghost use Rattle.lam_scope.specs.Tables.{table, tokens_by};
 ghost use Rattle.lam_scope.specs.TableViews.{text_use, rows_of, span_lists, noted, empty_lists};
@@ -40,7 +40,8 @@ fn walk_commands(alloc: Global, commands: &[Command]) -> Result<Rows, AllocError
 fn group_tokens(alloc: Global, binders: usize, uses: &[UseRow]) -> Result<Vec<Spans>, AllocError>
     ensures { IfOk result (λ lists. span_lists lists.items ≡ tokens_by 0 binders (map text_use uses.now)) }
 {
-    let mut lists = empty_lists(alloc, binders)?;
+    let counts = use_counts(alloc, binders, uses)?;
+    let mut lists = empty_lists(alloc, &counts)?;
     for i in 0..uses.len() {
         let used = &uses[i];
         note_use(&mut lists, used)?;
@@ -48,13 +49,38 @@ fn group_tokens(alloc: Global, binders: usize, uses: &[UseRow]) -> Result<Vec<Sp
     Ok(lists)
 }
 
-#[tactic(auto, using(crate::proofs::Grouping::grouping))]
-fn empty_lists(alloc: Global, count: usize) -> Result<Vec<Spans>, AllocError>
-    ensures { IfOk result (λ lists. span_lists lists.items ≡ empty_lists count) }
+/// How many uses each of so many binders has.
+fn use_counts(alloc: Global, binders: usize, uses: &[UseRow]) -> Result<Vec<usize>, AllocError>
+    ensures { IfOk result (λ counts. length counts.items ≡ binders) }
 {
-    let mut lists = Vec::new(alloc);
-    for _ in 0..count {
-        let items = Vec::new(alloc);
+    let mut counts = Vec::new(alloc);
+    counts.resize(binders, 0)?;
+    for i in 0..uses.len() {
+        let used = &uses[i];
+        count_use(&mut counts, used);
+    }
+    Ok(counts)
+}
+
+fn count_use(counts: &mut [usize], used: &UseRow)
+    ensures { length counts.new ≡ length counts.old }
+{
+    let Some(binder) = used.binder else {
+        return;
+    };
+    if binder.0 < counts.len() {
+        counts[binder.0] = counts[binder.0].saturating_add(1);
+    }
+}
+
+/// An empty list for each count, with room for so many: lists that grew would take four times the memory.
+#[tactic(auto, using(crate::proofs::Grouping::grouping))]
+fn empty_lists(alloc: Global, counts: &[usize]) -> Result<Vec<Spans>, AllocError>
+    ensures { IfOk result (λ lists. span_lists lists.items ≡ empty_lists (length counts.now)) }
+{
+    let mut lists = Vec::with_capacity(alloc, counts.len())?;
+    for i in 0..counts.len() {
+        let items = Vec::with_capacity(alloc, counts[i])?;
         lists.push(Spans { items })?;
     }
     Ok(lists)
