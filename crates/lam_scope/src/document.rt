@@ -28,7 +28,9 @@ pub fn resolve(alloc: Global, commands: &[Command], scopes: &Scopes) -> Result<R
     ensures well_formed { IfOk result (λ r. AreWellFormedStatements (statements_of r)) }
     ensures limit { IsLimit (first_too_large [] (map command_of commands.now)) result }
 {
-    let resolver = resolve_all(alloc, commands)?;
+    let mut resolver = resolve_all(alloc, commands)?;
+    // They are kept, and up to half of a vector that grew is spare.
+    resolver.statements.shrink_to_fit();
     let Ok(origins) = origins_in(alloc, &scopes.rows.binders) else {
         return Err(ScopeFault::Memory);
     };
