@@ -34,96 +34,110 @@ fn shown_at(
     }
 }
 
-#[test]
-fn each_place_has_its_least_type(rt: HostRuntime) -> Result<(), Fail> {
-    let one = Dialect::One;
-    let two = Dialect::Two;
-    let rows = [
-        ("if true then {a=0} else {b=0}", one, 0, Some("{}")),
-        ("fix (lambda x:Top. 0)", one, 0, Some("Nat")),
-        ("fix (lambda x:Top. 0)", one, 4, Some("Top->Nat")),
-        (
-            "lambda c:Bool. if c then (lambda x:Nat. x) else (lambda x:Bool. 0)",
-            one,
-            0,
-            Some("Bool->Top"),
-        ),
-        (
-            "lambda c:Bool. if c then (lambda x:Nat. x) else (lambda x:Bool. 0)",
-            two,
-            0,
-            Some("Bool->Bool->Nat"),
-        ),
-        (
-            "(lambda r:{x:Nat}. r.x) {y=true, x=0}",
-            one,
-            23,
-            Some("Nat"),
-        ),
-        ("lambda x:Q. x", one, 12, None),
-        ("lambda x:Q. x", one, 0, None),
-        (
-            "f : {a:Nat}->Nat; f {a=0, b=true}; f {}",
-            one,
-            18,
-            Some("{a:Nat}->Nat"),
-        ),
-        (
-            "let y = {b=0, a=true} in if y.a then y else {a=false}",
-            one,
-            25,
-            Some("{a:Bool}"),
-        ),
-        (
-            "let y = {b=0, a=true} in if y.a then y else {a=false}",
-            one,
-            28,
-            Some("{a:Bool, b:Nat}"),
-        ),
-        (
-            "let y = {a=0, b=true} in lambda c:Bool. if c then y else {b=false}",
-            one,
-            0,
-            Some("Bool->{b:Bool}"),
-        ),
-        (
-            "let f = lambda x:{a:Nat}. x.a in f {b=0, a=1}",
-            one,
-            0,
-            Some("Nat"),
-        ),
-        ("lambda f:Nat->Nat. f", one, 0, Some("(Nat->Nat)->Nat->Nat")),
-        ("(lambda x:Top. x) 0", one, 17, Some("Top")),
-        ("if true then 0 else false", one, 0, Some("Top")),
-        ("if true then 0 else false", two, 0, Some("Nat")),
-        (
-            "fix (lambda f:Nat->Nat. lambda n:Nat. f (pred n))",
-            one,
-            0,
-            Some("Nat->Nat"),
-        ),
-        ("fix (lambda x:Nat. true)", two, 0, Some("Bool")),
-        ("y = succ true; z = y", two, 19, Some("Nat")),
-        (
-            "letrec f:Nat->Top = lambda n:Nat. n in f",
-            one,
-            39,
-            Some("Nat->Nat"),
-        ),
-        ("letrec x:Nat = true in x", one, 23, None),
-    ];
-    let alloc = rt.alloc();
-    for (text, dialect, offset, expected) in rows {
-        let commands = commands_of(&rt, alloc, text)?;
+/// Analyses the text of each row, and compares what is shown at its offset.
+fn expect_shown(
+    rt: &impl Abort,
+    alloc: Global,
+    rows: &[(&str, Dialect, usize, Option<&str>)],
+) -> Result<(), Fail> {
+    for row in rows {
+        let (text, dialect, offset, expected) = *row;
+        let commands = commands_of(rt, alloc, text)?;
         let scopes = bind(alloc, &commands)?;
         let resolved = resolve(alloc, &commands, &scopes)
             .ok()
-            .expect(&rt, "expansions within the limit");
+            .expect(rt, "expansions within the limit");
         let typing = analyse(alloc, &resolved, dialect)
             .ok()
-            .expect(&rt, "types within the limit");
-        let shown = shown_at(&rt, &scopes, &typing, offset)?;
+            .expect(rt, "types within the limit");
+        let shown = shown_at(rt, &scopes, &typing, offset)?;
         assert_eq!(rt; shown.as_deref(), expected, "{offset} in {text:?}");
+    }
+    Ok(())
+}
+
+#[test]
+fn branches_are_joined(rt: HostRuntime) -> Result<(), Fail> {
+    let one = Dialect::One;
+    let two = Dialect::Two;
+    let functions = "lambda c:Bool. if c then (lambda x:Nat. x) else (lambda x:Bool. 0)";
+    let records = "let y = {a=0, b=true} in lambda c:Bool. if c then y else {b=false}";
+    let rows = [
+        ("if true then {a=0} else {b=0}", one, 0, Some("{}")),
+        (functions, one, 0, Some("Bool->Top")),
+        (functions, two, 0, Some("Bool->Bool->Nat")),
+        (records, one, 0, Some("Bool->{b:Bool}")),
+        ("if true then 0 else false", one, 0, Some("Top")),
+        ("if true then 0 else false", two, 0, Some("Nat")),
+    ];
+    expect_shown(&rt, rt.alloc(), &rows)
+}
+
+#[test]
+fn functions_show_their_outcome(rt: HostRuntime) -> Result<(), Fail> {
+    let one = Dialect::One;
+    let two = Dialect::Two;
+    let wider = "(lambda r:{x:Nat}. r.x) {y=true, x=0}";
+    let loops = "fix (lambda f:Nat->Nat. lambda n:Nat. f (pred n))";
+    let rows = [
+        ("fix (lambda x:Top. 0)", one, 0, Some("Nat")),
+        ("fix (lambda x:Top. 0)", one, 4, Some("Top->Nat")),
+        (wider, one, 23, Some("Nat")),
+        ("lambda x:Q. x", one, 12, None),
+        ("lambda x:Q. x", one, 0, None),
+        ("lambda f:Nat->Nat. f", one, 0, Some("(Nat->Nat)->Nat->Nat")),
+        ("(lambda x:Top. x) 0", one, 17, Some("Top")),
+        (loops, one, 0, Some("Nat->Nat")),
+        ("fix (lambda x:Nat. true)", two, 0, Some("Bool")),
+    ];
+    expect_shown(&rt, rt.alloc(), &rows)
+}
+
+#[test]
+fn names_have_the_least_type_of_their_term(rt: HostRuntime) -> Result<(), Fail> {
+    let one = Dialect::One;
+    let two = Dialect::Two;
+    let declared = "f : {a:Nat}->Nat; f {a=0, b=true}; f {}";
+    let wide = "let y = {b=0, a=true} in if y.a then y else {a=false}";
+    let function = "let f = lambda x:{a:Nat}. x.a in f {b=0, a=1}";
+    let recursive = "letrec f:Nat->Top = lambda n:Nat. n in f";
+    let rows = [
+        (declared, one, 18, Some("{a:Nat}->Nat")),
+        (wide, one, 25, Some("{a:Bool}")),
+        (wide, one, 28, Some("{a:Bool, b:Nat}")),
+        (function, one, 0, Some("Nat")),
+        ("y = succ true; z = y", two, 19, Some("Nat")),
+        (recursive, one, 39, Some("Nat->Nat")),
+        ("letrec x:Nat = true in x", one, 23, None),
+    ];
+    expect_shown(&rt, rt.alloc(), &rows)
+}
+
+/// Analyses the text of each row, and compares what is blamed: its code, and where it stands.
+fn expect_blamed(
+    rt: &impl Abort,
+    alloc: Global,
+    rows: &[(&str, Dialect, Option<(&str, usize, usize)>)],
+) -> Result<(), Fail> {
+    for row in rows {
+        let (text, dialect, expected) = *row;
+        let commands = commands_of(rt, alloc, text)?;
+        let scopes = bind(alloc, &commands)?;
+        let resolved = resolve(alloc, &commands, &scopes)
+            .ok()
+            .expect(rt, "expansions within the limit");
+        let typing = analyse(alloc, &resolved, dialect)
+            .ok()
+            .expect(rt, "types within the limit");
+        let found = match typing.blamed() {
+            [] => None,
+            [blame] => {
+                let span = scopes.span_of(blame.place);
+                Some((blame.code, span.start, span.end))
+            }
+            _ => Some(("several", 0, 0)),
+        };
+        assert_eq!(rt; found, expected, "{text:?}");
     }
     Ok(())
 }
@@ -132,15 +146,12 @@ fn each_place_has_its_least_type(rt: HostRuntime) -> Result<(), Fail> {
 fn the_first_wrong_term_is_to_blame_and_no_term_around_it(rt: HostRuntime) -> Result<(), Fail> {
     let one = Dialect::One;
     let two = Dialect::Two;
+    let declared = "f : {a:Nat}->Nat; f {a=0, b=true}; f {}";
     let rows: [(&str, Dialect, Option<(&str, usize, usize)>); 16] = [
         ("0 as Nat; succ 0", one, None),
         ("z", one, Some(("E1", 0, 1))),
         ("lambda x:Nat. x 0", one, Some(("E2", 14, 17))),
-        (
-            "f : {a:Nat}->Nat; f {a=0, b=true}; f {}",
-            one,
-            Some(("E3", 35, 39)),
-        ),
+        (declared, one, Some(("E3", 35, 39))),
         ("{a=0}.b", one, Some(("E4", 0, 7))),
         ("if 0 then 1 else 2", one, Some(("E5", 0, 18))),
         ("if 0 then 1 else 2", two, Some(("E5", 0, 18))),
@@ -154,27 +165,7 @@ fn the_first_wrong_term_is_to_blame_and_no_term_around_it(rt: HostRuntime) -> Re
         ("{a=0, a=1}", one, Some(("E9", 0, 10))),
         ("lambda x:Q. x", one, None),
     ];
-    let alloc = rt.alloc();
-    for (text, dialect, expected) in rows {
-        let commands = commands_of(&rt, alloc, text)?;
-        let scopes = bind(alloc, &commands)?;
-        let resolved = resolve(alloc, &commands, &scopes)
-            .ok()
-            .expect(&rt, "expansions within the limit");
-        let typing = analyse(alloc, &resolved, dialect)
-            .ok()
-            .expect(&rt, "types within the limit");
-        let found = match typing.blamed() {
-            [] => None,
-            [blame] => {
-                let span = scopes.span_of(blame.place);
-                Some((blame.code, span.start, span.end))
-            }
-            _ => Some(("several", 0, 0)),
-        };
-        assert_eq!(rt; found, expected, "{text:?}");
-    }
-    Ok(())
+    expect_blamed(&rt, rt.alloc(), &rows)
 }
 
 /// x0 = {a=0, b=0}; and so on to x10, whose type has 4,095 nodes.
