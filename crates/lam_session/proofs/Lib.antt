@@ -6,3 +6,4 @@ pub mod OneAnswer
 pub mod Values
 pub mod AskSteps
 pub mod Messages
+pub mod FaultMessages
