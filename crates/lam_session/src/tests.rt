@@ -3,6 +3,7 @@ use crate::{Config, Session};
 use lam_rpc::classify;
 use lam_rules::Dialect;
 use std::alloc::{AllocError, Global};
+use std::process::Abort;
 use std::test::Fail;
 
 const INITIALIZE: &str = r#"{"id":0,"method":"initialize"}"#;
@@ -19,6 +20,13 @@ fn told(alloc: Global, session: &mut Session, body: &str) -> Result<String, Allo
         text.push('\n')?;
     }
     Ok(text)
+}
+
+/// A session that was told one body.
+fn started(alloc: Global, first: &str) -> Result<Session, AllocError> {
+    let mut session = Session::new(alloc, Config::new(Dialect::One));
+    drop(told(alloc, &mut session, first)?);
+    Ok(session)
 }
 
 fn refusal(alloc: Global, id: &str, code: &str, text: &str) -> Result<String, AllocError> {
@@ -160,8 +168,7 @@ fn refusals(rt: HostRuntime) -> Result<(), Fail> {
         let expected = refusal(alloc, id, code, text)?;
         assert_eq!(rt; found.as_str(), expected.as_str(), "at {body}");
     }
-    let mut session = Session::new(alloc, Config::new(Dialect::One));
-    drop(told(alloc, &mut session, INITIALIZE)?);
+    let mut session = started(alloc, INITIALIZE)?;
     drop(told(alloc, &mut session, shutdown)?);
     let expected = refusal(alloc, "1", "-32600", "server is shut down")?;
     assert_eq!(rt;
@@ -179,11 +186,9 @@ fn refusals(rt: HostRuntime) -> Result<(), Fail> {
 #[test]
 fn exits(rt: HostRuntime) -> Result<(), Fail> {
     let alloc = rt.alloc();
-    let mut session = Session::new(alloc, Config::new(Dialect::One));
-    drop(told(alloc, &mut session, r#"{"method":"exit"}"#)?);
+    let session = started(alloc, r#"{"method":"exit"}"#)?;
     assert_eq!(rt; session.ended(), Some(1), "before initialize");
-    let mut session = Session::new(alloc, Config::new(Dialect::One));
-    drop(told(alloc, &mut session, INITIALIZE)?);
+    let mut session = started(alloc, INITIALIZE)?;
     drop(told(alloc, &mut session, r#"{"method":"exit"}"#)?);
     assert_eq!(rt; session.ended(), Some(1), "without shutdown");
     Ok(())
@@ -293,8 +298,7 @@ fn documents(rt: HostRuntime) -> Result<(), Fail> {
 #[test]
 fn edited_texts(rt: HostRuntime) -> Result<(), Fail> {
     let alloc = rt.alloc();
-    let mut session = Session::new(alloc, Config::new(Dialect::One));
-    drop(told(alloc, &mut session, INITIALIZE)?);
+    let mut session = started(alloc, INITIALIZE)?;
     let rows = [
         (
             r#"{"method":"textDocument/didOpen","params":{"textDocument":{"uri":"file:///a","text":"x = 0;\r\ny = x;"}}}"#,
@@ -354,11 +358,24 @@ fn published(alloc: Global, diagnostics: &str) -> Result<String, AllocError> {
     )
 }
 
+/// Opens this text, as it stands in JSON, and compares what is told of its faults.
+fn assert_published(
+    rt: &impl Abort,
+    alloc: Global,
+    session: &mut Session,
+    text: &str,
+    diagnostics: &str,
+) -> Result<(), AllocError> {
+    let found = told_of(alloc, session, text)?;
+    let expected = published(alloc, diagnostics)?;
+    assert_eq!(rt; found.as_str(), expected.as_str(), "in {text}");
+    Ok(())
+}
+
 #[test]
 fn one_fault_at_its_place(rt: HostRuntime) -> Result<(), Fail> {
     let alloc = rt.alloc();
-    let mut session = Session::new(alloc, Config::new(Dialect::One));
-    drop(told(alloc, &mut session, INITIALIZE)?);
+    let mut session = started(alloc, INITIALIZE)?;
     let rows = [
         ("x = if true then 0", "P2", 17, 18),
         ("lambda X:Nat. 0", "P1", 7, 8),
@@ -380,10 +397,8 @@ fn one_fault_at_its_place(rt: HostRuntime) -> Result<(), Fail> {
         ("/*😀*/ )", "P1", 7, 8),
     ];
     for (text, code, start, end) in rows {
-        let found = told_of(alloc, &mut session, text)?;
         let fault = diagnostic(alloc, code, start, end)?;
-        let expected = published(alloc, fault.as_str())?;
-        assert_eq!(rt; found.as_str(), expected.as_str(), "in {text}");
+        assert_published(&rt, alloc, &mut session, text, fault.as_str())?;
     }
     Ok(())
 }
@@ -391,12 +406,9 @@ fn one_fault_at_its_place(rt: HostRuntime) -> Result<(), Fail> {
 #[test]
 fn no_fault(rt: HostRuntime) -> Result<(), Fail> {
     let alloc = rt.alloc();
-    let mut session = Session::new(alloc, Config::new(Dialect::One));
-    drop(told(alloc, &mut session, INITIALIZE)?);
+    let mut session = started(alloc, INITIALIZE)?;
     for text in ["letrec x:Nat = 0 in x", "/* a /* b */ */ 0", "", " ; ;; "] {
-        let found = told_of(alloc, &mut session, text)?;
-        let expected = published(alloc, "")?;
-        assert_eq!(rt; found.as_str(), expected.as_str(), "in {text}");
+        assert_published(&rt, alloc, &mut session, text, "")?;
     }
     Ok(())
 }
@@ -404,36 +416,28 @@ fn no_fault(rt: HostRuntime) -> Result<(), Fail> {
 #[test]
 fn faults_by_their_places(rt: HostRuntime) -> Result<(), Fail> {
     let alloc = rt.alloc();
-    let mut session = Session::new(alloc, Config::new(Dialect::One));
-    drop(told(alloc, &mut session, INITIALIZE)?);
-    let found = told_of(alloc, &mut session, "(; # x; ) /* y")?;
+    let mut session = started(alloc, INITIALIZE)?;
     let first = diagnostic(alloc, "P2", 0, 1)?;
     let second = diagnostic(alloc, "B1", 3, 4)?;
     let third = diagnostic(alloc, "B2", 10, 14)?;
-    let expected = published(
-        alloc,
-        format!(in alloc; "{first},{second},{third}")?.as_str(),
-    )?;
-    assert_eq!(rt; found.as_str(), expected.as_str());
+    let all = format!(in alloc; "{first},{second},{third}")?;
+    assert_published(&rt, alloc, &mut session, "(; # x; ) /* y", all.as_str())?;
     Ok(())
 }
 
 #[test]
 fn commands_at_the_limit(rt: HostRuntime) -> Result<(), Fail> {
     let alloc = rt.alloc();
-    let mut session = Session::new(alloc, Config::new(Dialect::One));
-    drop(told(alloc, &mut session, INITIALIZE)?);
+    let mut session = started(alloc, INITIALIZE)?;
     let mut text = String::from_str(alloc, "0")?;
     for _ in 0..1_999 {
         text.push_str(" 0")?;
     }
-    let found = told_of(alloc, &mut session, text.as_str())?;
     let fault = diagnostic(alloc, "E2", 0, 3)?;
-    assert_eq!(rt; found.as_str(), published(alloc, fault.as_str())?.as_str());
+    assert_published(&rt, alloc, &mut session, text.as_str(), fault.as_str())?;
     text.push_str(" 0")?;
-    let found = told_of(alloc, &mut session, text.as_str())?;
     let fault = diagnostic(alloc, "L2", 0, 4_001)?;
-    assert_eq!(rt; found.as_str(), published(alloc, fault.as_str())?.as_str());
+    assert_published(&rt, alloc, &mut session, text.as_str(), fault.as_str())?;
     Ok(())
 }
 
@@ -444,12 +448,9 @@ fn columns_in_each_encoding(rt: HostRuntime) -> Result<(), Fail> {
         let initialize = format!(in alloc;
             "{{\"id\":0,\"method\":\"initialize\",\"params\":{{\"capabilities\":{{\"general\":{{\"positionEncodings\":[\"{encoding}\"]}}}}}}}}"
         )?;
-        let mut session = Session::new(alloc, Config::new(Dialect::One));
-        drop(told(alloc, &mut session, initialize.as_str())?);
-        let found = told_of(alloc, &mut session, "/*😀*/ #")?;
+        let mut session = started(alloc, initialize.as_str())?;
         let fault = diagnostic(alloc, "B1", start, end)?;
-        let expected = published(alloc, fault.as_str())?;
-        assert_eq!(rt; found.as_str(), expected.as_str(), "in {encoding}");
+        assert_published(&rt, alloc, &mut session, "/*😀*/ #", fault.as_str())?;
     }
     Ok(())
 }
