@@ -21,7 +21,8 @@ pub use analysing::{analyse, analyse_to};
 pub use blame::Blame;
 pub use fault::TypingFault;
 pub use laws::{
-    least_types_exist, least_types_have_one_text, narrowing, never_blamed, typed_where_unblamed,
+    blame_is_just, least_types_exist, least_types_have_one_text, narrowing, never_blamed,
+    scopes_have_contexts, typed_where_unblamed,
 };
 pub use typing::Typing;
 
