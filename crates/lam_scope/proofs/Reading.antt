@@ -3,6 +3,7 @@ use Rattle.std.proofs.Common.{◌≡◌, ℕ, ◌+◌, ◌-◌, ◌<◌, ◌≤�
 use Rattle.std.proofs.lemmas.List.{drop_all, length-map, map-append, reverse-append}
 use Rattle.std.specs.Option.{option_map}
 use Rattle.lam_scope.specs.declared.numbers.Binder.{Binder}
+use Rattle.lam_scope.specs.declared.numbers.Place.{Place}
 use Rattle.std.proofs.Math.ListN.{get_or-eq_default}
 use Rattle.lam_scope.specs.declared.numbers.Origin.TheVariants.{TypeName}
 use Rattle.lam_scope.specs.declared.rows.Spans.{Spans}
@@ -16,11 +17,7 @@ pub binders-drop : (bs : List BinderRow) (i : ℕ) (b : BinderRow) → i < lengt
     → map text_binder (drop i bs) ≡ text_binder b ∷ map text_binder (drop (i + 1) bs)
 binders-drop bs i b lt is = rw add-one (rw (drop-cons bs i b lt) (ap (λ c. text_binder c ∷ map text_binder (drop (suc i) bs)) (sym is)))
 
-pub places-drop : (ps : List PlaceRow) (i : ℕ) (p : PlaceRow) → i < length ps → p ≡ get_or ps i p
-    → map text_place (drop i ps) ≡ text_place p ∷ map text_place (drop (i + 1) ps)
-places-drop ps i p lt is = rw add-one (rw (drop-cons ps i p lt) (ap (λ q. text_place q ∷ map text_place (drop (suc i) ps)) (sym is)))
-
-get_or-mapped : {A B : Type 0} (f : A → B) (xs : List A) (n : ℕ) (x : A) (d : B) → n < length xs → x ≡ get_or xs n x → get_or (map f xs) n d ≡ f x
+pub get_or-mapped : {A B : Type 0} (f : A → B) (xs : List A) (n : ℕ) (x : A) (d : B) → n < length xs → x ≡ get_or xs n x → get_or (map f xs) n d ≡ f x
 get_or-mapped f [] n x d lt is = absurd (omega arith)
 get_or-mapped f (y ∷ xs) zero x d lt is = ap f (sym is)
 get_or-mapped f (y ∷ xs) (suc n) x d lt is = get_or-mapped f xs n x d (omega arith) is
@@ -33,11 +30,11 @@ binder-at bs n b lt is = get_or-mapped text_binder bs n b _ lt is
 pub binder-past : (bs : List BinderRow) (n : ℕ) → length bs ≤ n → binder_in (map text_binder bs) n ≡ record { name = None; token = no_span; outer = None; answer = n; origin = TypeName }
 binder-past bs n le = get_or-eq_default (map text_binder bs) _ (rw (length-map bs text_binder) le)
 
-pub place-at : (ps : List PlaceRow) (n : ℕ) (p : PlaceRow) → n < length ps → p ≡ get_or ps n p → place_in (map text_place ps) n ≡ text_place p
-place-at ps n p lt is = get_or-mapped text_place ps n p _ lt is
+pub place-at : (ts : List Place) (ps : List PlaceRow) (n : ℕ) (p : PlaceRow) → n < length ps → p ≡ get_or ps n p → place_in (map (text_place ts) ps) n ≡ text_place ts p
+place-at ts ps n p lt is = get_or-mapped (text_place ts) ps n p _ lt is
 
-pub place-past : (ps : List PlaceRow) (n : ℕ) → length ps ≤ n → place_in (map text_place ps) n ≡ record { span = no_span; derived = true; terms = []; inner = None }
-place-past ps n le = get_or-eq_default (map text_place ps) _ (rw (length-map ps text_place) le)
+pub place-past : (ts : List Place) (ps : List PlaceRow) (n : ℕ) → length ps ≤ n → place_in (map (text_place ts) ps) n ≡ record { span = no_span; derived = true; terms = []; inner = None }
+place-past ts ps n le = get_or-eq_default (map (text_place ts) ps) _ (rw (length-map ps (text_place ts)) le)
 
 pub list-at : (ls : List Spans) (n : ℕ) (l : Spans) → n < length ls → l ≡ get_or ls n l → get_or (span_lists ls) n [] ≡ l.items.items
 list-at ls n l lt is = get_or-mapped (λ k. k.items.items) ls n l [] lt is
@@ -67,4 +64,4 @@ chain_more rows found more b next now len i all lt is pushed outer so_far =
     ∙ (λ j. map binder_number found ++ seen_in rows (one_less j) (option_map binder_number (sym is j)))
     ∙ so_far
 
-pub ruleset reading = (binders-drop, places-drop, uses-drop, drop_all, binder-at, binder-past, place-at, place-past, list-at, list-past)
+pub ruleset reading = (binders-drop, uses-drop, drop_all, binder-at, binder-past, place-at, place-past, list-at, list-past)

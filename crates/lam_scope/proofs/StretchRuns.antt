@@ -1,12 +1,23 @@
--- How stretches are kept in runs, and found by them.
+-- How rows are gone through by their runs.
 use Rattle.std.proofs.Common.{◌≡◌, ℕ, ◌+◌, ◌-◌, ◌<◌, ◌≤◌, arith, Bool, true, false, cond, ltb, List, [], ◌∷◌, ◌++◌, length, take, drop, get_or, zero, suc, refl, ap, sym, ◌∙◌, subst, append_assoc, Option, Some, None, position, min, map}
 use Rattle.std.specs.Prelude.{if◌then◌else◌}
 use Rattle.std.specs.List.{position_from}
 use Rattle.std.proofs.lemmas.Bool.Decides.{nat_tests}
 use Rattle.std.proofs.lemmas.Iterator.Adapters.{position_from-zero}
-use Rattle.std.proofs.lemmas.List.{append-nil, drop_all, drop_more, drop-drop, take_more, take-append-drop, length-drop, get_or_default}
+use Rattle.std.proofs.lemmas.List.{append-nil, drop_all, drop_more, drop-drop, take_more, take-append-drop, length-drop, get_or-map, length-map, length-take, take-map, drop-map, take_all}
 use Rattle.lam_scope.specs.declared.stretches.Stretch.{Stretch}
 use Rattle.lam_scope.specs.Stretches.{has, IsPart, AreParts, AreRuns}
+
+-- rows and their stretches
+
+row_mapped : {X : Type 0} (f : X → Stretch) (xs : List X) (i : ℕ) (x : X) → i < length xs → x ≡ get_or xs i x → f x ≡ get_or (map f xs) i (f x)
+row_mapped f xs i x lt is = ap f is ∙ sym (get_or-map f xs i x (f x) lt)
+
+run_mapped : {X : Type 0} (f : X → Stretch) (xs run : List X) (n : ℕ) → run ≡ take 64 (drop n xs) → map f run ≡ take 64 (drop n (map f xs))
+run_mapped f xs run n is = ap (map f) is ∙ sym (take-map f 64 (drop n xs)) ∙ ap (take 64) (sym (drop-map f n xs))
+
+behind_mapped : {X : Type 0} (f : X → Stretch) (run : List X) (n m : ℕ) → m ≡ n + length run → m ≡ n + length (map f run)
+behind_mapped f run n m last = last ∙ ap (λ k. n + k) (sym (length-map run f))
 
 -- parts
 
@@ -24,21 +35,17 @@ around_more ss i s t u lt is h whole part =
     let longer : take (i + 1) ss ≡ take i ss ++ s ∷ [] = take_more ss i s lt ∙ ap (λ x. take i ss ++ x ∷ []) (sym is) in
     subst (λ rs. AreParts rs u) (sym longer) (parts_push (take i ss) s u (parts_more (take i ss) t u h whole) part)
 
--- the same, where it is read
-pub around_read : (ss : List Stretch) (i : ℕ) (d t u : Stretch) → i < length ss → AreParts (take i ss) t → IsPart t u → IsPart (get_or ss i d) u → AreParts (take (i + 1) ss) u
-around_read ss i d t u lt h whole part = around_more ss i (get_or ss i d) t u lt (get_or_default ss i d (get_or ss i d) lt) h whole part
+-- the same for a row that is read
+pub around_row : {X : Type 0} (f : X → Stretch) (xs : List X) (i : ℕ) (x : X) (s t u : Stretch) → i < length xs → x ≡ get_or xs i x → s ≡ f x → AreParts (take i (map f xs)) t → IsPart t u → IsPart s u
+    → AreParts (take (i + 1) (map f xs)) u
+around_row f xs i x s t u lt is same h whole part =
+    around_more (map f xs) i (f x) t u (subst (λ n. i < n) (sym (length-map xs f)) lt) (row_mapped f xs i x lt is) h whole (subst (λ r. IsPart r u) same part)
 
-take_whole : (ss : List Stretch) (n : ℕ) → length ss ≤ n → take n ss ≡ ss
-take_whole [] zero le = refl
-take_whole [] (suc n) le = refl
-take_whole (s ∷ ss) zero le = absurd (omega arith)
-take_whole (s ∷ ss) (suc n) le = ap (λ rs. s ∷ rs) (take_whole ss n (omega arith))
+pub around_all : {X : Type 0} (f : X → Stretch) (xs : List X) (i : ℕ) (t : Stretch) → length xs ≤ i → AreParts (take i (map f xs)) t → AreParts (map f xs) t
+around_all f xs i t le h = subst (λ rs. AreParts rs t) (take_all i (map f xs) (subst (λ n. n ≤ i) (sym (length-map xs f)) le)) h
 
-pub around_all : (ss : List Stretch) (i : ℕ) (t : Stretch) → length ss ≤ i → AreParts (take i ss) t → AreParts ss t
-around_all ss i t le h = subst (λ rs. AreParts rs t) (take_whole ss i le) h
-
-pub short_run : (ss : List Stretch) → length ss < 64 → ss ≡ take 64 ss
-short_run ss lt = sym (take_whole ss 64 (omega (arith, lt)))
+pub short_run : {X : Type 0} (xs : List X) → length xs < 64 → xs ≡ take 64 xs
+short_run xs lt = sym (take_all 64 xs (omega (arith, lt)))
 
 pub ruleset whole_runs = (short_run)
 
@@ -52,26 +59,31 @@ drop_run (s ∷ ss) (suc n) = drop_run ss n
 behind_run : (ss : List Stretch) (n m : ℕ) → m ≡ n + length (take 64 (drop n ss)) → drop m ss ≡ drop 64 (drop n ss)
 behind_run ss n m e = ap (λ k. drop k ss) e ∙ sym (drop-drop (length (take 64 (drop n ss))) n ss) ∙ drop_run (drop n ss) 64
 
-run_length : (ss : List Stretch) (n : ℕ) → length (take n ss) ≡ min n (length ss)
-run_length ss zero = omega arith
-run_length [] (suc n) = omega arith
-run_length (s ∷ ss) (suc n) = let rest = run_length ss n in omega arith
+-- how many rows stand behind a run
+pub run_within : {X : Type 0} (xs run : List X) (n m : ℕ) → n ≤ length xs → run ≡ take 64 (drop n xs) → m ≡ n + length run → m ≤ length xs
+run_within xs run n m le is last =
+    let size = length-take 64 (drop n xs) in
+    let rest = length-drop n xs in
+    let same = ap length is in
+    omega (arith, size, rest, same, last)
 
--- how many stand behind a run
-pub run_within : (ss : List Stretch) (n m : ℕ) → n ≤ length ss → m ≡ n + length (take 64 (drop n ss)) → m ≤ length ss
-run_within ss n m le e = let run = run_length (drop n ss) 64 in let rest = length-drop n ss in omega arith
-
-pub run_goes_on : (ss run : List Stretch) (n : ℕ) → n < length ss → run ≡ take 64 (drop n ss) → 0 < length run
-run_goes_on ss run n lt is = let same : length run ≡ length (take 64 (drop n ss)) = ap length is in let size = run_length (drop n ss) 64 in let rest = length-drop n ss in omega arith
-
-pub runs_more : (ss runs more run : List Stretch) (n m : ℕ) (whole : Stretch) → n < length ss → run ≡ take 64 (drop n ss) → m ≡ n + length run → AreParts run whole → more ≡ runs ++ whole ∷ []
+runs_more : (ss runs more run : List Stretch) (n m : ℕ) (whole : Stretch) → run ≡ take 64 (drop n ss) → m ≡ n + length run → AreParts run whole → more ≡ runs ++ whole ∷ []
     → ((rs : List Stretch) → AreRuns rs (drop n ss) → AreRuns (runs ++ rs) ss) → (rs : List Stretch) → AreRuns rs (drop m ss) → AreRuns (more ++ rs) ss
-runs_more ss runs more run n m whole lt is last parts pushed so_far rs rest =
+runs_more ss runs more run n m whole is last parts pushed so_far rs rest =
     subst (λ qs. AreRuns qs ss) (sym (ap (λ qs. qs ++ rs) pushed ∙ append_assoc runs (whole ∷ []) rs))
     (so_far (whole ∷ rs) (subst (λ qs. AreParts qs whole) is parts, subst (AreRuns rs) (behind_run ss n m (last ∙ ap (λ qs. n + length qs) is)) rest))
 
-pub runs_all : (ss runs : List Stretch) (n : ℕ) → length ss ≤ n → ((rs : List Stretch) → AreRuns rs (drop n ss) → AreRuns (runs ++ rs) ss) → AreRuns runs ss
-runs_all ss runs n le so_far = subst (λ qs. AreRuns qs ss) (append-nil runs) (so_far [] (drop_all n ss le))
+runs_all : (ss runs : List Stretch) (n : ℕ) → length ss ≤ n → ((rs : List Stretch) → AreRuns rs (drop n ss) → AreRuns (runs ++ rs) ss) → AreRuns runs ss
+runs_all ss runs n le so_far = subst (λ qs. AreRuns qs ss) (append-nil runs) (so_far [] (subst (AreRuns []) (sym (drop_all n ss le)) tt))
+
+pub rows_more : {X : Type 0} (f : X → Stretch) (xs run : List X) (runs more : List Stretch) (n m : ℕ) (whole : Stretch) → run ≡ take 64 (drop n xs) → m ≡ n + length run → AreParts (map f run) whole
+    → more ≡ runs ++ whole ∷ [] → ((rs : List Stretch) → AreRuns rs (drop n (map f xs)) → AreRuns (runs ++ rs) (map f xs))
+    → (rs : List Stretch) → AreRuns rs (drop m (map f xs)) → AreRuns (more ++ rs) (map f xs)
+rows_more f xs run runs more n m whole is last parts pushed so_far = runs_more (map f xs) runs more (map f run) n m whole (run_mapped f xs run n is) (behind_mapped f run n m last) parts pushed so_far
+
+pub rows_all : {X : Type 0} (f : X → Stretch) (xs : List X) (runs : List Stretch) (n : ℕ) → length xs ≤ n
+    → ((rs : List Stretch) → AreRuns rs (drop n (map f xs)) → AreRuns (runs ++ rs) (map f xs)) → AreRuns runs (map f xs)
+rows_all f xs runs n le so_far = runs_all (map f xs) runs n (subst (λ k. k ≤ n) (sym (length-map xs f)) le) so_far
 
 -- the first that has a byte
 
@@ -112,23 +124,26 @@ first_fails o i s ss e = ap (λ b. cond b (Some i) (position_from (has o) (i + 1
 from_drop : (ss : List Stretch) (i : ℕ) (s : Stretch) → i < length ss → s ≡ get_or ss i s → drop i ss ≡ s ∷ drop (i + 1) ss
 from_drop ss i s lt is = drop_more ss i s lt ∙ ap (λ x. x ∷ drop (i + 1) ss) (sym is)
 
-pub found_in_run : (o before i : ℕ) (ss : List Stretch) (s : Stretch) → i < length ss → s ≡ get_or ss i s → has o s ≡ true
-    → position_from (has o) before ss ≡ position_from (has o) (before + i) (drop i ss) → Some (before + i) ≡ position_from (has o) before ss
-found_in_run o before i ss s lt is hit so_far =
-    sym (so_far ∙ ap (position_from (has o) (before + i)) (from_drop ss i s lt is) ∙ first_passes o (before + i) s (drop (i + 1) ss) hit)
+pub found_in_run : {X : Type 0} (f : X → Stretch) (o before i : ℕ) (xs : List X) (x : X) (s : Stretch) → i < length xs → x ≡ get_or xs i x → s ≡ f x → has o s ≡ true
+    → position_from (has o) before (map f xs) ≡ position_from (has o) (before + i) (drop i (map f xs)) → Some (before + i) ≡ position_from (has o) before (map f xs)
+found_in_run f o before i xs x s lt is same hit so_far =
+    sym (so_far
+    ∙ ap (position_from (has o) (before + i)) (from_drop (map f xs) i (f x) (subst (λ n. i < n) (sym (length-map xs f)) lt) (row_mapped f xs i x lt is))
+    ∙ first_passes o (before + i) (f x) (drop (i + 1) (map f xs)) (ap (has o) (sym same) ∙ hit))
 
-pub missed_in_run : (o before i : ℕ) (ss : List Stretch) (s : Stretch) → i < length ss → s ≡ get_or ss i s → has o s ≡ false
-    → position_from (has o) before ss ≡ position_from (has o) (before + i) (drop i ss) → position_from (has o) before ss ≡ position_from (has o) (before + (i + 1)) (drop (i + 1) ss)
-missed_in_run o before i ss s lt is no_byte so_far =
+pub missed_in_run : {X : Type 0} (f : X → Stretch) (o before i : ℕ) (xs : List X) (x : X) (s : Stretch) → i < length xs → x ≡ get_or xs i x → s ≡ f x → has o s ≡ false
+    → position_from (has o) before (map f xs) ≡ position_from (has o) (before + i) (drop i (map f xs))
+    → position_from (has o) before (map f xs) ≡ position_from (has o) (before + (i + 1)) (drop (i + 1) (map f xs))
+missed_in_run f o before i xs x s lt is same no_byte so_far =
     let next : before + i + 1 ≡ before + (i + 1) = omega arith in
     so_far
-    ∙ ap (position_from (has o) (before + i)) (from_drop ss i s lt is)
-    ∙ first_fails o (before + i) s (drop (i + 1) ss) no_byte
-    ∙ ap (λ k. position_from (has o) k (drop (i + 1) ss)) next
+    ∙ ap (position_from (has o) (before + i)) (from_drop (map f xs) i (f x) (subst (λ n. i < n) (sym (length-map xs f)) lt) (row_mapped f xs i x lt is))
+    ∙ first_fails o (before + i) (f x) (drop (i + 1) (map f xs)) (ap (has o) (sym same) ∙ no_byte)
+    ∙ ap (λ k. position_from (has o) k (drop (i + 1) (map f xs))) next
 
-pub missed_run : (o before i : ℕ) (ss : List Stretch) → length ss ≤ i → position_from (has o) before ss ≡ position_from (has o) (before + i) (drop i ss)
-    → None ≡ position_from (has o) before ss
-missed_run o before i ss le so_far = sym (so_far ∙ ap (position_from (has o) (before + i)) (drop_all i ss le))
+pub missed_run : {X : Type 0} (f : X → Stretch) (o before i : ℕ) (xs : List X) → length xs ≤ i → position_from (has o) before (map f xs) ≡ position_from (has o) (before + i) (drop i (map f xs))
+    → None ≡ position_from (has o) before (map f xs)
+missed_run f o before i xs le so_far = sym (so_far ∙ ap (position_from (has o) (before + i)) (drop_all i (map f xs) (subst (λ n. n ≤ i) (sym (length-map xs f)) le)))
 
 skip_run : (o i j : ℕ) (ss ts : List Stretch) → j ≡ i + length ss → position_from (has o) i ss ≡ None → position_from (has o) i (ss ++ ts) ≡ position_from (has o) j ts
 skip_run o i j [] ts e none = let same : i ≡ j = omega arith in ap (λ k. position_from (has o) k ts) same
@@ -152,46 +167,45 @@ split_rest : (ss run : List Stretch) (n : ℕ) → run ≡ take 64 (drop n ss) �
 split_rest ss run n is = sym (take-append-drop 64 (drop n ss)) ∙ ap (λ rs. rs ++ drop 64 (drop n ss)) (sym is)
 
 -- a run that has it, and one that has it not
-pub hit_runs : (o n : ℕ) (ss run : List Stretch) (found : Option ℕ) (k : ℕ) → run ≡ take 64 (drop n ss) → found ≡ position_from (has o) n run → found ≡ Some k
-    → position (has o) ss ≡ position_from (has o) n (drop n ss) → found ≡ position (has o) ss
-hit_runs o n ss run found k is search some so_far =
-    some ∙ sym (so_far ∙ ap (position_from (has o) n) (split_rest ss run n is) ∙ hit_run o n k run (drop 64 (drop n ss)) (sym search ∙ some))
 
-pub miss_runs : (o n m : ℕ) (ss run : List Stretch) (found : Option ℕ) → run ≡ take 64 (drop n ss) → m ≡ n + length run → found ≡ position_from (has o) n run → found ≡ None
-    → position (has o) ss ≡ position_from (has o) n (drop n ss) → position (has o) ss ≡ position_from (has o) m (drop m ss)
-miss_runs o n m ss run found is last search none so_far =
+pub hit_runs : {X : Type 0} (f : X → Stretch) (o n : ℕ) (xs run : List X) (found : Option ℕ) (k : ℕ) → run ≡ take 64 (drop n xs) → found ≡ position_from (has o) n (map f run) → found ≡ Some k
+    → position (has o) (map f xs) ≡ position_from (has o) n (drop n (map f xs)) → found ≡ position (has o) (map f xs)
+hit_runs f o n xs run found k is search some so_far =
+    some
+    ∙ sym (so_far
+    ∙ ap (position_from (has o) n) (split_rest (map f xs) (map f run) n (run_mapped f xs run n is))
+    ∙ hit_run o n k (map f run) (drop 64 (drop n (map f xs))) (sym search ∙ some))
+
+pub miss_runs : {X : Type 0} (f : X → Stretch) (o n m : ℕ) (xs run : List X) (found : Option ℕ) → run ≡ take 64 (drop n xs) → m ≡ n + length run → found ≡ position_from (has o) n (map f run)
+    → found ≡ None → position (has o) (map f xs) ≡ position_from (has o) n (drop n (map f xs)) → position (has o) (map f xs) ≡ position_from (has o) m (drop m (map f xs))
+miss_runs f o n m xs run found is last search none so_far =
+    let same = run_mapped f xs run n is in
+    let behind = behind_mapped f run n m last in
     so_far
-    ∙ ap (position_from (has o) n) (split_rest ss run n is)
-    ∙ skip_run o n m run (drop 64 (drop n ss)) last (sym search ∙ none)
-    ∙ ap (position_from (has o) m) (sym (behind_run ss n m (last ∙ ap (λ rs. n + length rs) is)))
+    ∙ ap (position_from (has o) n) (split_rest (map f xs) (map f run) n same)
+    ∙ skip_run o n m (map f run) (drop 64 (drop n (map f xs))) behind (sym search ∙ none)
+    ∙ ap (position_from (has o) m) (sym (behind_run (map f xs) n m (behind ∙ ap (λ rs. n + length rs) same)))
 
-pub no_run_left : (o n i : ℕ) (ss runs : List Stretch) → length runs ≤ i → AreRuns (drop i runs) (drop n ss) → position (has o) ss ≡ position_from (has o) n (drop n ss) → None ≡ position (has o) ss
-no_run_left o n i ss runs le rest so_far =
-    let over : drop n ss ≡ [] = subst (λ rs. AreRuns rs (drop n ss)) (drop_all i runs le) rest in
+all_gone : (ss : List Stretch) → AreRuns [] ss → ss ≡ []
+all_gone [] h = refl
+all_gone (s ∷ ss) h = absurd h
+
+pub no_run_left : {X : Type 0} (f : X → Stretch) (o n i : ℕ) (xs : List X) (runs : List Stretch) → length runs ≤ i → AreRuns (drop i runs) (drop n (map f xs))
+    → position (has o) (map f xs) ≡ position_from (has o) n (drop n (map f xs)) → None ≡ position (has o) (map f xs)
+no_run_left f o n i xs runs le rest so_far =
+    let over = all_gone (drop n (map f xs)) (subst (λ rs. AreRuns rs (drop n (map f xs))) (drop_all i runs le) rest) in
     sym (so_far ∙ ap (position_from (has o) n) over)
 
-pub next_run : (ss runs run : List Stretch) (n m i : ℕ) (whole : Stretch) → i < length runs → whole ≡ get_or runs i whole → AreRuns (drop i runs) (drop n ss) → run ≡ take 64 (drop n ss)
-    → AreParts run whole
-next_run ss runs run n m i whole lt is rest same =
-    let split : AreRuns (whole ∷ drop (i + 1) runs) (drop n ss) = subst (λ rs. AreRuns rs (drop n ss)) (from_drop runs i whole lt is) rest in
-    subst (λ rs. AreParts rs whole) (sym same) split.0
+next_runs : (ss runs : List Stretch) (i : ℕ) (whole : Stretch) → i < length runs → whole ≡ get_or runs i whole → AreRuns (drop i runs) ss → AreRuns (whole ∷ drop (i + 1) runs) ss
+next_runs ss runs i whole lt is rest = subst (λ rs. AreRuns rs ss) (from_drop runs i whole lt is) rest
 
-pub runs_left : (ss runs run : List Stretch) (n m i : ℕ) (whole : Stretch) → i < length runs → whole ≡ get_or runs i whole → AreRuns (drop i runs) (drop n ss) → run ≡ take 64 (drop n ss)
-    → m ≡ n + length run → AreRuns (drop (i + 1) runs) (drop m ss)
-runs_left ss runs run n m i whole lt is rest same last =
-    let split : AreRuns (whole ∷ drop (i + 1) runs) (drop n ss) = subst (λ rs. AreRuns rs (drop n ss)) (from_drop runs i whole lt is) rest in
-    subst (AreRuns (drop (i + 1) runs)) (sym (behind_run ss n m (last ∙ ap (λ rs. n + length rs) same))) split.1
+pub next_run : {X : Type 0} (f : X → Stretch) (xs run : List X) (runs : List Stretch) (n i : ℕ) (whole : Stretch) → i < length runs → whole ≡ get_or runs i whole
+    → AreRuns (drop i runs) (drop n (map f xs)) → run ≡ take 64 (drop n xs) → AreParts (map f run) whole
+next_run f xs run runs n i whole lt is rest same =
+    subst (λ rs. AreParts rs whole) (sym (run_mapped f xs run n same)) (next_runs (drop n (map f xs)) runs i whole lt is rest).0
 
--- stretches of rows, one by one
-
-pub items_more : {X Y : Type 0} (g : X → Y) (f : Y → Stretch) (xs : List X) (i : ℕ) (x : X) (told more : List Stretch) (s : Stretch) (all : List Stretch) → i < length xs → x ≡ get_or xs i x
-    → more ≡ told ++ s ∷ [] → s ≡ f (g x) → told ++ map f (map g (drop i xs)) ≡ all → more ++ map f (map g (drop (i + 1) xs)) ≡ all
-items_more g f xs i x told more s all lt is pushed same so_far =
-    ap (λ ss. ss ++ map f (map g (drop (i + 1) xs))) pushed
-    ∙ append_assoc told (s ∷ []) (map f (map g (drop (i + 1) xs)))
-    ∙ ap (λ r. told ++ r ∷ map f (map g (drop (i + 1) xs))) same
-    ∙ ap (λ ys. told ++ map f (map g ys)) (sym (drop_more xs i x lt ∙ ap (λ y. y ∷ drop (i + 1) xs) (sym is)))
-    ∙ so_far
-
-pub items_all : {X Y : Type 0} (g : X → Y) (f : Y → Stretch) (xs : List X) (i : ℕ) (told all : List Stretch) → length xs ≤ i → told ++ map f (map g (drop i xs)) ≡ all → told ≡ all
-items_all g f xs i told all le so_far = sym (append-nil told) ∙ ap (λ ys. told ++ map f (map g ys)) (sym (drop_all i xs le)) ∙ so_far
+pub runs_left : {X : Type 0} (f : X → Stretch) (xs run : List X) (runs : List Stretch) (n m i : ℕ) (whole : Stretch) → i < length runs → whole ≡ get_or runs i whole
+    → AreRuns (drop i runs) (drop n (map f xs)) → run ≡ take 64 (drop n xs) → m ≡ n + length run → AreRuns (drop (i + 1) runs) (drop m (map f xs))
+runs_left f xs run runs n m i whole lt is rest same last =
+    let behind = behind_mapped f run n m last ∙ ap (λ rs. n + length rs) (run_mapped f xs run n same) in
+    subst (AreRuns (drop (i + 1) runs)) (sym (behind_run (map f xs) n m behind)) (next_runs (drop n (map f xs)) runs i whole lt is rest).1

@@ -8,11 +8,13 @@ use Rattle.std.proofs.lemmas.Iterator.Adapters.{position_from-zero}
 use Rattle.lam_token.specs.declared.span.Span.{Span}
 use Rattle.lam_scope.specs.declared.stretches.Stretch.{Stretch}
 use Rattle.lam_scope.specs.declared.rows.BinderRow.{BinderRow}
+use Rattle.lam_scope.specs.declared.numbers.Place.{Place}
+use Rattle.lam_scope.specs.declared.rows.PlaceRow.{PlaceRow}
 use Rattle.lam_scope.specs.declared.rows.UseRow.{UseRow}
-use Rattle.lam_scope.specs.TableViews.{text_binder, text_use, binder_number}
+use Rattle.lam_scope.specs.TableViews.{text_binder, text_use, text_place, binder_number}
 use Rattle.lam_scope.specs.Stretches.{has, no_bytes, one_byte}
 use Rattle.lam_scope.specs.RowStretches.{place_stretch, binder_stretch, use_stretch, answer_at, used_at}
-use Rattle.lam_scope.specs.Tables.{TextBinder, TextUse, TextPlace, has_name, is_over, is_token_at, binder_token_at, binder_used_at, binder_in}
+use Rattle.lam_scope.specs.Tables.{TextBinder, TextUse, has_name, is_over, is_token_at, binder_token_at, binder_used_at, binder_in}
 
 -- which stretch has which byte
 
@@ -60,8 +62,8 @@ empty_span a b o e = by (ltb o a) refl
     by true f = ap (λ c. if c then false else ltb o b) f
     by false f = ap (λ c. if c then false else ltb o b) f ∙ past a b o e f
 
-place_has : (o : ℕ) (p : TextPlace) → has o (place_stretch p) ≡ is_over o p
-place_has o p = by p.derived (ltb p.span.start p.span.end) refl
+place_has : (o : ℕ) (ts : List Place) (p : PlaceRow) → has o (place_stretch p) ≡ is_over o (text_place ts p)
+place_has o ts p = by p.derived (ltb p.span.start p.span.end) refl
   where
     by : (d c : Bool) → ltb p.span.start p.span.end ≡ c
         → has o (if d then no_bytes else (if ltb p.span.start p.span.end then record { lowest = p.span.start; highest = p.span.end - 1 } else no_bytes))
@@ -87,8 +89,8 @@ byte_has o n = by (ltb o n) (ltb n o) refl refl
     by false true e f = has_by false true o (one_byte n) e f ∙ sym (apart_above o n f)
     by false false e f = has_by false false o (one_byte n) e f ∙ sym (same o n e f)
 
-token_has : (o : ℕ) (b : TextBinder) → has o (binder_stretch b) ≡ is_token_at o b
-token_has o b = by (has_name b.name)
+token_has : (o : ℕ) (b : BinderRow) → has o (binder_stretch b) ≡ is_token_at o (text_binder b)
+token_has o b = by (has_name (text_binder b).name)
   where
     by : (c : Bool) → has o (if c then one_byte b.token.start else no_bytes) ≡ (if c then b.token.start == o else false)
     by true = byte_has o b.token.start
@@ -120,14 +122,17 @@ from_none (Some n) = ap (λ k. Some k) (omega arith)
 position_first : {X : Type 0} (p : X → Bool) (xs : List X) → position p xs ≡ first_at p xs
 position_first p xs = position_from-zero p xs ∙ first_from p 0 xs ∙ from_none (first_at p xs)
 
-first_mapped : {X : Type 0} (o : ℕ) (f : X → Stretch) (q : X → Bool) → ((x : X) → has o (f x) ≡ q x) → (xs : List X) → first_at (has o) (map f xs) ≡ first_at q xs
-first_mapped o f q same [] = refl
-first_mapped o f q same (x ∷ xs) = λ i. if same x i then Some 0 else option_map suc (first_mapped o f q same xs i)
+first_mapped : {X Y : Type 0} (o : ℕ) (f : X → Stretch) (g : X → Y) (q : Y → Bool) → ((x : X) → has o (f x) ≡ q (g x)) → (xs : List X) → first_at (has o) (map f xs) ≡ first_at q (map g xs)
+first_mapped o f g q same [] = refl
+first_mapped o f g q same (x ∷ xs) = λ i. if same x i then Some 0 else option_map suc (first_mapped o f g q same xs i)
 
 -- places
 
-pub first_place : (o : ℕ) (ps : List TextPlace) → position (has o) (map place_stretch ps) ≡ position (is_over o) ps
-first_place o ps = position_first (has o) (map place_stretch ps) ∙ first_mapped o place_stretch (is_over o) (place_has o) ps ∙ sym (position_first (is_over o) ps)
+pub first_place : (o : ℕ) (ts : List Place) (ps : List PlaceRow) → position (has o) (map place_stretch ps) ≡ position (is_over o) (map (text_place ts) ps)
+first_place o ts ps =
+    position_first (has o) (map place_stretch ps)
+    ∙ first_mapped o place_stretch (text_place ts) (is_over o) (place_has o ts) ps
+    ∙ sym (position_first (is_over o) (map (text_place ts) ps))
 
 -- tokens of binders, and of uses
 
@@ -148,10 +153,10 @@ binder_by_number o (b ∷ bs) = by (is_token_at o b) (binder_by_number o bs)
     by true e = refl
     by false e = e ∙ answer_behind b bs (first_at (is_token_at o) bs)
 
-pub first_token : (o : ℕ) (bs : List TextBinder) → and_then (position (has o) (map binder_stretch bs)) (answer_at bs) ≡ binder_token_at o bs
+pub first_token : (o : ℕ) (bs : List BinderRow) → and_then (position (has o) (map binder_stretch bs)) (answer_at (map text_binder bs)) ≡ binder_token_at o (map text_binder bs)
 first_token o bs =
-    ap (λ n. and_then n (answer_at bs)) (position_first (has o) (map binder_stretch bs) ∙ first_mapped o binder_stretch (is_token_at o) (token_has o) bs)
-    ∙ sym (binder_by_number o bs)
+    ap (λ n. and_then n (answer_at (map text_binder bs))) (position_first (has o) (map binder_stretch bs) ∙ first_mapped o binder_stretch text_binder (is_token_at o) (token_has o) bs)
+    ∙ sym (binder_by_number o (map text_binder bs))
 
 abbrev starts_at : ℕ → TextUse → Bool
 starts_at o u = u.token.start == o
@@ -169,10 +174,10 @@ use_by_number o (u ∷ us) = by (starts_at o u) (use_by_number o us)
     by true e = refl
     by false e = e ∙ used_behind u us (first_at (starts_at o) us)
 
-pub first_use : (o : ℕ) (us : List TextUse) → and_then (position (has o) (map use_stretch us)) (used_at us) ≡ binder_used_at o us
+pub first_use : (o : ℕ) (us : List UseRow) → and_then (position (has o) (map use_stretch us)) (used_at (map text_use us)) ≡ binder_used_at o (map text_use us)
 first_use o us =
-    ap (λ n. and_then n (used_at us)) (position_first (has o) (map use_stretch us) ∙ first_mapped o use_stretch (starts_at o) (λ u. byte_has o u.token.start) us)
-    ∙ sym (use_by_number o us)
+    ap (λ n. and_then n (used_at (map text_use us))) (position_first (has o) (map use_stretch us) ∙ first_mapped o use_stretch text_use (starts_at o) (λ u. byte_has o u.token.start) us)
+    ∙ sym (use_by_number o (map text_use us))
 
 -- what is read of a row
 

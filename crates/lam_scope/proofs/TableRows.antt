@@ -1,6 +1,10 @@
 -- How rows are added to tables.
-use Rattle.std.proofs.Common.{◌≡◌, ℕ, ◌+◌, ◌<◌, ◌≤◌, List, [], ◌∷◌, ◌++◌, length, drop, get_or, slice_set, zero, suc, refl, ap, sym, ◌∙◌, append_assoc, length-append, map, arith, Option, true, string_bytes}
-use Rattle.std.proofs.lemmas.List.{append-nil, map-append, drop_all}
+use Rattle.std.proofs.Common.{◌≡◌, ℕ, ◌+◌, ◌<◌, ◌≤◌, List, [], ◌∷◌, ◌++◌, length, drop, get_or, slice_set, zero, suc, refl, ap, sym, ◌∙◌, append_assoc, length-append, map, arith, Option, true, string_bytes, ◌-◌, take}
+use Rattle.std.proofs.lemmas.List.{append-nil, map-append, drop_all, drop-append-le, take-append-le, length-drop}
+use Rattle.std.proofs.lemmas.List.Elements.{All-head, All-tail, All-same, All-push}
+use Rattle.std.proofs.Math.Seq.{drop-append_seam, take-length}
+use Rattle.std.specs.Prelude.{All}
+use Rattle.std.specs.List.{slice_range}
 use Rattle.std.specs.Option.{option_map}
 use Rattle.lam_token.specs.declared.span.Span.{Span}
 use Rattle.lam_syntax.specs.declared.terms.Command.{Command}
@@ -38,34 +42,68 @@ empty_plus s = refl
 
 -- one more row
 
-pub new_binder : (bs more : List BinderRow) (us : List UseRow) (ps : List PlaceRow) (b : BinderRow) (x : Option Name) (seen : List Entry)
+pub new_binder : (bs more : List BinderRow) (us : List UseRow) (ps : List PlaceRow) (ts : List Place) (b : BinderRow) (x : Option Name) (seen : List Entry)
     → more ≡ bs ++ b ∷ [] → option_map (λ s. string_bytes s) b.name ≡ x → option_map binder_number b.outer ≡ innermost seen
-    → rows_table more us ps ≡ rows_table bs us ps ⊕ binder_row x b.token seen b.answer.0 b.origin
+    → rows_table more us ps ts ≡ rows_table bs us ps ts ⊕ binder_row x b.token seen b.answer.0 b.origin
 unfolding ◌⊕◌
-new_binder bs more us ps b x seen pushed named outer = λ i. record {
+new_binder bs more us ps ts b x seen pushed named outer = λ i. record {
   binders = (ap (map text_binder) pushed ∙ map-append text_binder bs (b ∷ []) ∙ (λ j. map text_binder bs ++ record { name = named j; token = b.token; outer = outer j; answer = b.answer.0; origin = b.origin } ∷ [])) i;
   uses = sym (append-nil (map text_use us)) i;
-  places = sym (append-nil (map text_place ps)) i;
+  places = sym (append-nil (map (text_place ts) ps)) i;
 }
 
-pub new_use : (bs : List BinderRow) (us more : List UseRow) (ps : List PlaceRow) (u : UseRow) (x : Name) (seen : List Entry)
+pub new_use : (bs : List BinderRow) (us more : List UseRow) (ps : List PlaceRow) (ts : List Place) (u : UseRow) (x : Name) (seen : List Entry)
     → more ≡ us ++ u ∷ [] → option_map binder_number u.binder ≡ bound_to x seen
-    → rows_table bs more ps ≡ rows_table bs us ps ⊕ use_row x u.token seen
+    → rows_table bs more ps ts ≡ rows_table bs us ps ts ⊕ use_row x u.token seen
 unfolding ◌⊕◌
-new_use bs us more ps u x seen pushed own = λ i. record {
+new_use bs us more ps ts u x seen pushed own = λ i. record {
   binders = sym (append-nil (map text_binder bs)) i;
   uses = (ap (map text_use) pushed ∙ map-append text_use us (u ∷ []) ∙ (λ j. map text_use us ++ record { token = u.token; binder = own j } ∷ [])) i;
-  places = sym (append-nil (map text_place ps)) i;
+  places = sym (append-nil (map (text_place ts) ps)) i;
 }
 
-pub new_place : (bs : List BinderRow) (us : List UseRow) (ps more : List PlaceRow) (p : PlaceRow) (seen : List Entry)
-    → more ≡ ps ++ p ∷ [] → option_map binder_number p.inner ≡ innermost seen
-    → rows_table bs us more ≡ rows_table bs us ps ⊕ place_row p.span p.derived (map place_number p.terms.items) seen
+-- the immediate terms of places stand among so many
+abbrev pub StandWithin : ℕ → List PlaceRow → Type 0
+StandWithin n ps = All (λ p. (p.terms_start ≤ p.terms_end) × (p.terms_end ≤ n)) ps
+
+pub stand_longer : (ps : List PlaceRow) (n m : ℕ) → n ≤ m → StandWithin n ps → StandWithin m ps
+stand_longer ps n m le within = λ k d lt. let at = within k d lt in (at.0, omega (arith, at.1, le))
+
+pub stand_pushed : (ps more : List PlaceRow) (p : PlaceRow) (n : ℕ) → more ≡ ps ++ p ∷ [] → p.terms_start ≤ p.terms_end → p.terms_end ≤ n → StandWithin n ps → StandWithin n more
+stand_pushed ps more p n pushed rise end within =
+    let P : PlaceRow → Type 0 = λ q. (q.terms_start ≤ q.terms_end) × (q.terms_end ≤ n) in
+    All-same P more (ps ++ p ∷ []) pushed (All-push P ps p within (rise, end))
+
+range_kept : (ts new : List Place) (a b : ℕ) → a ≤ b → b ≤ length ts → slice_range (ts ++ new) a b ≡ slice_range ts a b
+range_kept ts new a b le within =
+    let rest = length-drop a ts in
+    ap (take (b - a)) (drop-append-le a ts new (omega arith)) ∙ take-append-le (b - a) (drop a ts) new (omega arith)
+
+range_new : (ts new : List Place) (a b : ℕ) → a ≡ length ts → b ≡ length (ts ++ new) → slice_range (ts ++ new) a b ≡ new
+range_new ts new a b start end =
+    let all = length-append ts new in
+    let count : b - a ≡ length new = omega arith in
+    (λ i. take (count i) (drop (start i) (ts ++ new))) ∙ ap (take (length new)) (drop-append_seam ts new) ∙ take-length new
+
+places_kept : (ts new : List Place) (ps : List PlaceRow) → StandWithin (length ts) ps → map (text_place (ts ++ new)) ps ≡ map (text_place ts) ps
+places_kept ts new [] within = refl
+places_kept ts new (p ∷ ps) within =
+    let P : PlaceRow → Type 0 = λ q. (q.terms_start ≤ q.terms_end) × (q.terms_end ≤ length ts) in
+    let own = All-head P p ps within in
+    λ i. record { span = p.span; derived = p.derived; terms = map place_number (range_kept ts new p.terms_start p.terms_end own.0 own.1 i); inner = option_map binder_number p.inner }
+    ∷ places_kept ts new ps (All-tail P p ps within) i
+
+pub new_place : (bs : List BinderRow) (us : List UseRow) (ps more : List PlaceRow) (ts longer new : List Place) (p : PlaceRow) (seen : List Entry)
+    → StandWithin (length ts) ps → longer ≡ ts ++ new → p.terms_start ≡ length ts → p.terms_end ≡ length longer → more ≡ ps ++ p ∷ [] → option_map binder_number p.inner ≡ innermost seen
+    → rows_table bs us more longer ≡ rows_table bs us ps ts ⊕ place_row p.span p.derived (map place_number new) seen
 unfolding ◌⊕◌
-new_place bs us ps more p seen pushed inner = λ i. record {
+new_place bs us ps more ts longer new p seen within grown start end pushed inner = λ i. record {
   binders = sym (append-nil (map text_binder bs)) i;
   uses = sym (append-nil (map text_use us)) i;
-  places = (ap (map text_place) pushed ∙ map-append text_place ps (p ∷ []) ∙ (λ j. map text_place ps ++ record { span = p.span; derived = p.derived; terms = map place_number p.terms.items; inner = inner j } ∷ [])) i;
+  places = ((λ j. map (text_place (grown j)) (pushed j))
+      ∙ map-append (text_place (ts ++ new)) ps (p ∷ [])
+      ∙ (λ j. places_kept ts new ps within j
+      ++ record { span = p.span; derived = p.derived; terms = map place_number (range_new ts new p.terms_start p.terms_end start (end ∙ ap length grown) j); inner = inner j } ∷ [])) i;
 }
 
 -- the origin of a binder

@@ -1,19 +1,23 @@
--- The stretches of the rows of a table: of a place its bytes, of a name the byte where its token starts.
+-- Where the rows of a table stand in the text: a place at its bytes, a name at the byte where its token starts.
 use Rattle.std.specs.Prelude.{ℕ, zero, suc, ◌-◌, Option, Some, None, List, [], ◌∷◌, if◌then◌else◌}
 use Rattle.std.proofs.Math.Dec.{ltb}
+use Rattle.lam_scope.specs.declared.rows.BinderRow.{BinderRow}
+use Rattle.lam_scope.specs.declared.rows.UseRow.{UseRow}
+use Rattle.lam_scope.specs.declared.rows.PlaceRow.{PlaceRow}
 use Rattle.lam_scope.specs.declared.stretches.Stretch.{Stretch}
 use Rattle.lam_scope.specs.Stretches.{no_bytes, one_byte}
-use Rattle.lam_scope.specs.Tables.{TextBinder, TextUse, TextPlace, has_name}
+use Rattle.lam_scope.specs.Tables.{TextBinder, TextUse, has_name}
+use Rattle.lam_scope.specs.TableViews.{text_binder}
 
 -- a place that is not written has none
-abbrev pub place_stretch : TextPlace → Stretch
+abbrev pub place_stretch : PlaceRow → Stretch
 place_stretch p = if p.derived then no_bytes else (if ltb p.span.start p.span.end then record { lowest = p.span.start; highest = p.span.end - 1 } else no_bytes)
 
 -- an underscore has none
-abbrev pub binder_stretch : TextBinder → Stretch
-binder_stretch b = if has_name b.name then one_byte b.token.start else no_bytes
+abbrev pub binder_stretch : BinderRow → Stretch
+binder_stretch b = if has_name (text_binder b).name then one_byte b.token.start else no_bytes
 
-abbrev pub use_stretch : TextUse → Stretch
+abbrev pub use_stretch : UseRow → Stretch
 use_stretch u = one_byte u.token.start
 
 -- what the token of the binder of a number is told as, and the binder of the use of a number

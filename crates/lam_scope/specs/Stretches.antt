@@ -1,5 +1,6 @@
--- Stretches of a text, and the runs that they are kept in.
-use Rattle.std.specs.Prelude.{ℕ, ◌≡◌, ◌≤◌, Bool, true, false, if◌then◌else◌, List, [], ◌∷◌, take, drop}
+-- Stretches of a text, and the runs that they are searched by.
+use Rattle.std.specs.Prelude.{ℕ, ◌≤◌, Bool, true, false, if◌then◌else◌, List, [], ◌∷◌, take, drop}
+use Rattle.std.specs.Coded.{×_prop, Unit-prop, le_prop}
 use Rattle.std.proofs.Math.Dec.{ltb}
 use Rattle.lam_scope.specs.declared.stretches.Stretch.{Stretch}
 
@@ -23,5 +24,17 @@ AreParts (s ∷ ss) t = IsPart s t × AreParts ss t
 
 -- for each 64 stretches one that they are parts of
 abbrev pub AreRuns : List Stretch → List Stretch → Type 0
-AreRuns [] ss = ss ≡ []
+AreRuns [] [] = Unit {0}
+AreRuns [] (s ∷ ss) = ⊥
 AreRuns (r ∷ rs) ss = AreParts (take 64 ss) r × AreRuns rs (drop 64 ss)
+
+-- there is one proof of each of them at most
+
+AreParts-prop : (ss : List Stretch) (t : Stretch) → IsProp (AreParts ss t)
+AreParts-prop [] t = Unit-prop
+AreParts-prop (s ∷ ss) t = ×_prop (×_prop le_prop le_prop) (AreParts-prop ss t)
+
+pub AreRuns-prop : (rs ss : List Stretch) → IsProp (AreRuns rs ss)
+AreRuns-prop [] [] = Unit-prop
+AreRuns-prop [] (s ∷ ss) = λ x y. absurd x
+AreRuns-prop (r ∷ rs) ss = ×_prop (AreParts-prop (take 64 ss) r) (AreRuns-prop rs (drop 64 ss))

@@ -1,5 +1,6 @@
 -- How the rows of the tables and the binders that are seen stand for those of the definitions.
 use Rattle.std.specs.Prelude.{List, [], ◌∷◌, ◌++◌, ℕ, zero, suc, map, Option, None, Some, string_bytes}
+use Rattle.std.specs.List.{slice_range}
 use Rattle.std.specs.Option.{option_map}
 use Rattle.lam_scope.specs.declared.numbers.Binder.{Binder}
 use Rattle.lam_scope.specs.declared.numbers.Place.{Place}
@@ -38,14 +39,15 @@ text_binder r = record { name = option_map (λ s. string_bytes s) r.name; token 
 abbrev pub text_use : UseRow → TextUse
 text_use r = record { token = r.token; binder = option_map binder_number r.binder }
 
-abbrev pub text_place : PlaceRow → TextPlace
-text_place r = record { span = r.span; derived = r.derived; terms = map place_number r.terms.items; inner = option_map binder_number r.inner }
+-- a place, whose immediate terms stand in one list with those of the others
+abbrev pub text_place : List Place → PlaceRow → TextPlace
+text_place ts r = record { span = r.span; derived = r.derived; terms = map place_number (slice_range ts r.terms_start r.terms_end); inner = option_map binder_number r.inner }
 
-abbrev pub rows_table : List BinderRow → List UseRow → List PlaceRow → Table
-rows_table bs us ps = record { binders = map text_binder bs; uses = map text_use us; places = map text_place ps }
+abbrev pub rows_table : List BinderRow → List UseRow → List PlaceRow → List Place → Table
+rows_table bs us ps ts = record { binders = map text_binder bs; uses = map text_use us; places = map (text_place ts) ps }
 
 abbrev pub rows_of : Rows → Table
-rows_of r = rows_table r.binders.items r.uses.items r.places.items
+rows_of r = rows_table r.binders.items r.uses.items r.places.items r.terms.items
 
 -- binders of which one, by its number, takes its type from there
 

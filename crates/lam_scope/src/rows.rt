@@ -1,8 +1,7 @@
 //! The rows of the tables that binding fills.
-ghost use Rattle.std.specs.Prelude.{◌≡◌, ◌+◌, ◌<◌, length, map, IfOk, OnOk, string_bytes};
+ghost use Rattle.std.specs.Prelude.{◌≡◌, ◌+◌, ◌<◌, ◌≤◌, length, map, All, IfOk, OnOk, string_bytes};
 ghost use Rattle.std.specs.Option.{option_map};
-ghost use Rattle.lam_scope.specs.Tables.{◌⊕◌, empty_table, binder_row, use_row, place_row};
-ghost use Rattle.lam_scope.specs.TableViews.{place_number, rows_of, with_origin};
+ghost use Rattle.lam_scope.specs.Tables.{◌⊕◌, empty_table, binder_row, use_row, place_row, place_row_numbered};
 
 use crate::numbers::{Binder, Origin, Place};
 use crate::seen::Seen;
@@ -37,7 +36,9 @@ pub(crate) struct PlaceRow {
     pub(crate) span: Span,
     /// Whether it stands for a letrec's lambda or fix, which are not written.
     pub(crate) derived: bool,
-    pub(crate) terms: Vec<Place>,
+    /// Where its immediate terms stand among those of all places: from the first of them to the one behind the last.
+    pub(crate) terms_start: usize,
+    pub(crate) terms_end: usize,
     /// The innermost of the binders of names that it sees.
     pub(crate) inner: Option<Binder>,
 }
@@ -54,9 +55,14 @@ pub(crate) struct Rows {
     pub(crate) binders: Vec<BinderRow>,
     pub(crate) uses: Vec<UseRow>,
     pub(crate) places: Vec<PlaceRow>,
+    /// The immediate terms of all places.
+    terms: Vec<Place>,
+    ghost terms_stand: { All (λ p. (p.terms_start ≤ p.terms_end) × (p.terms_end ≤ length terms.items)) places.items },
 }
 
 impl Rows {
+    ghost use Rattle.lam_scope.specs.TableViews.{place_number, rows_of, with_origin};
+
     /// Nothing was walked.
     pub(crate) fn new(alloc: Global) -> Rows
         ensures { rows_of result ≡ empty_table }
@@ -65,6 +71,7 @@ impl Rows {
             binders: Vec::new(alloc),
             uses: Vec::new(alloc),
             places: Vec::new(alloc),
+            terms: Vec::new(alloc),
         }
     }
 
@@ -128,24 +135,37 @@ impl Rows {
         &mut self,
         span: Span,
         derived: bool,
-        terms: Vec<Place>,
+        terms: &[Place],
         seen: &Seen<'_>,
     ) -> Result<Place, AllocError>
-        ensures table { OnOk result (rows_of self.new ≡ rows_of self.old ⊕ place_row span derived (map place_number terms.items) seen.now) }
+        ensures table { OnOk result (rows_of self.new ≡ rows_of self.old ⊕ place_row span derived (map place_number terms.now) seen.now) }
         ensures number { IfOk result (λ p. p.0 ≡ length self.old.places.items) }
         ensures binders { self.new.binders ≡ self.old.binders }
         ensures places { OnOk result (length self.new.places.items ≡ length self.old.places.items + 1) }
     {
         let number = Place(self.places.len());
-        let inner = seen.innermost();
+        let terms_start = self.terms.len();
+        self.terms.extend_from_slice(terms)?;
         let row = PlaceRow {
             span,
             derived,
-            terms,
-            inner,
+            terms_start,
+            terms_end: self.terms.len(),
+            inner: seen.innermost(),
         };
         self.places.push(row)?;
         Ok(number)
+    }
+
+    /// The immediate terms of a place.
+    #[tactic(auto, using(crate::proofs::Reading::reading))]
+    pub(crate) fn terms_of(&self, place: Place) -> &[Place]
+        ensures { map place_number result.now ≡ (place_row_numbered (rows_of self.now) place.0).terms }
+    {
+        match self.places.get(place.0) {
+            Some(row) => &self.terms[row.terms_start..row.terms_end],
+            None => &[],
+        }
     }
 
     /// Tells where a binder takes its type from.

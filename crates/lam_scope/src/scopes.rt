@@ -1,13 +1,14 @@
 //! The binders of a document, the uses of each, and what each place sees.
-ghost use Rattle.std.specs.Prelude.{◌≡◌, [], length, slice_index_or, map, position, IfOk, string_bytes};
+ghost use Rattle.std.specs.Prelude.{◌≡◌, [], length, slice_index_or, map, IfOk, string_bytes};
 ghost use Rattle.std.specs.Option.{option_map};
-ghost use Rattle.lam_scope.specs.Tables.{binder_numbered, place_row_numbered, binder_at, binder_token_at, binder_used_at, visible_at, seen_in, binder_in, place_in, place_at, is_over, shown_name};
-ghost use Rattle.lam_scope.specs.TableViews.{binder_number, place_number, text_binder, text_use, text_place, span_lists};
+ghost use Rattle.lam_scope.specs.Tables.{binder_numbered, place_row_numbered, binder_at, binder_token_at, binder_used_at, visible_at, seen_in, binder_in, place_at, shown_name};
+ghost use Rattle.lam_scope.specs.TableViews.{binder_number, place_number, text_binder, text_use, rows_of, span_lists};
+ghost use Rattle.lam_scope.specs.Stretches.{AreRuns, AreRuns-prop};
 ghost use Rattle.lam_scope.specs.RowStretches.{place_stretch, binder_stretch, use_stretch, answer_at, used_at};
 
 use crate::numbers::{Binder, Place};
-use crate::rows::{BinderRow, PlaceRow, Rows, Spans, UseRow};
-use crate::stretches::{Stretch, Stretches, no_bytes, one_byte};
+use crate::rows::{BinderRow, Rows, Spans, UseRow};
+use crate::stretches::{Stretch, first_with, runs_of};
 use lam_token::Span;
 use std::alloc::{AllocError, Global};
 
@@ -17,13 +18,13 @@ pub struct Scopes {
     pub(crate) rows: Rows,
     /// The tokens of the uses of each binder, by its number.
     pub(crate) tokens: Vec<Spans>,
-    /// Where each place stands in the text, the token of each binder, and of each use.
-    pub(crate) places: Stretches,
-    pub(crate) binders: Stretches,
-    pub(crate) uses: Stretches,
-    ghost places_stand: { places ≡ map place_stretch (map text_place rows.places.items) },
-    ghost binders_stand: { binders ≡ map binder_stretch (map text_binder rows.binders.items) },
-    ghost uses_stand: { uses ≡ map use_stretch (map text_use rows.uses.items) },
+    /// The runs by which the places are searched for a byte of the text, the tokens of the binders, and of the uses.
+    place_runs: Vec<Stretch>,
+    binder_runs: Vec<Stretch>,
+    use_runs: Vec<Stretch>,
+    ghost places_run: { AreRuns place_runs.items (map place_stretch rows.places.items) } by { AreRuns-prop place_runs.items (map place_stretch rows.places.items) },
+    ghost binders_run: { AreRuns binder_runs.items (map binder_stretch rows.binders.items) } by { AreRuns-prop binder_runs.items (map binder_stretch rows.binders.items) },
+    ghost uses_run: { AreRuns use_runs.items (map use_stretch rows.uses.items) } by { AreRuns-prop use_runs.items (map use_stretch rows.uses.items) },
 }
 
 impl Scopes {
@@ -34,15 +35,15 @@ impl Scopes {
         ensures rows { IfOk result (λ s. s.rows ≡ rows) }
         ensures tokens { IfOk result (λ s. s.tokens ≡ tokens) }
     {
-        let places = stretches_of_places(alloc, &rows.places)?;
-        let binders = stretches_of_binders(alloc, &rows.binders)?;
-        let uses = stretches_of_uses(alloc, &rows.uses)?;
+        let place_runs = runs_of(alloc, &rows.places)?;
+        let binder_runs = runs_of(alloc, &rows.binders)?;
+        let use_runs = runs_of(alloc, &rows.uses)?;
         Ok(Scopes {
             rows,
             tokens,
-            places,
-            binders,
-            uses,
+            place_runs,
+            binder_runs,
+            use_runs,
         })
     }
 
@@ -52,9 +53,9 @@ impl Scopes {
     pub fn binder_at(&self, offset: usize) -> Option<Binder>
         ensures { option_map binder_number result ≡ binder_at (table_of self.now) offset }
     {
-        match binder_token_at(&self.rows.binders, &self.binders, offset) {
+        match binder_token_at(&self.rows.binders, &self.binder_runs, offset) {
             Some(binder) => Some(binder),
-            None => binder_used_at(&self.rows.uses, &self.uses, offset),
+            None => binder_used_at(&self.rows.uses, &self.use_runs, offset),
         }
     }
 
@@ -72,8 +73,7 @@ impl Scopes {
     pub fn visible_at(&self, alloc: Global, place: Place) -> Result<Vec<Binder>, AllocError>
         ensures { IfOk result (λ bs. map binder_number bs.items ≡ visible_at (table_of self.now) place.0) }
     {
-        let places = self.rows.places.as_slice();
-        let inner = innermost_at(places, place);
+        let inner = innermost_at(&self.rows, place);
         let binders = self.rows.binders.as_slice();
         let mut found = chain(alloc, binders, inner)?;
         found.reverse();
@@ -85,7 +85,10 @@ impl Scopes {
     pub fn place_at(&self, offset: usize) -> Option<Place>
         ensures { option_map place_number result ≡ place_at (table_of self.now) offset }
     {
-        first_over(&self.rows.places, &self.places, offset)
+        match first_with(&self.place_runs, &self.rows.places, offset) {
+            Some(index) => Some(Place(index)),
+            None => None,
+        }
     }
 
     /// From the first byte of a place to the one behind its last. The lambda and the fix of a letrec have that of its
@@ -101,14 +104,10 @@ impl Scopes {
     }
 
     /// The places of the immediate terms of a place, from left to right.
-    #[tactic(auto, using(crate::proofs::Reading::reading))]
     pub fn terms_of(&self, place: Place) -> &[Place]
         ensures { map place_number result.now ≡ (place_row_numbered (table_of self.now) place.0).terms }
     {
-        match self.rows.places.get(place.0) {
-            Some(row) => &row.terms,
-            None => &[],
-        }
+        self.rows.terms_of(place)
     }
 
     /// The name of a binder; `_` where it is an underscore.
@@ -169,21 +168,21 @@ fn tokens_at(lists: &[Spans], binder: Binder) -> &[Span]
 
 /// The innermost binder of a name that a place sees.
 #[tactic(auto, using(crate::proofs::Reading::reading))]
-fn innermost_at(places: &[PlaceRow], place: Place) -> Option<Binder>
-    ensures { option_map binder_number result ≡ (place_in (map text_place places.now) place.0).inner }
+fn innermost_at(rows: &Rows, place: Place) -> Option<Binder>
+    ensures { option_map binder_number result ≡ (place_row_numbered (rows_of rows.now) place.0).inner }
 {
-    match places.get(place.0) {
+    match rows.places.get(place.0) {
         Some(row) => row.inner,
         None => None,
     }
 }
 
 /// The binder whose name has its token there.
-fn binder_token_at(binders: &[BinderRow], tokens: &Stretches, offset: usize) -> Option<Binder>
-    requires { tokens.now ≡ map binder_stretch (map text_binder binders.now) }
+fn binder_token_at(binders: &[BinderRow], runs: &[Stretch], offset: usize) -> Option<Binder>
+    requires { AreRuns runs.now (map binder_stretch binders.now) }
     ensures { option_map binder_number result ≡ binder_token_at offset (map text_binder binders.now) }
 {
-    match tokens.first_with(offset) {
+    match first_with(runs, binders, offset) {
         None => None,
         Some(index) => answer_at(binders, index),
     }
@@ -201,11 +200,11 @@ fn answer_at(binders: &[BinderRow], index: usize) -> Option<Binder>
 }
 
 /// The binder of the first use whose token starts there.
-fn binder_used_at(uses: &[UseRow], tokens: &Stretches, offset: usize) -> Option<Binder>
-    requires { tokens.now ≡ map use_stretch (map text_use uses.now) }
+fn binder_used_at(uses: &[UseRow], runs: &[Stretch], offset: usize) -> Option<Binder>
+    requires { AreRuns runs.now (map use_stretch uses.now) }
     ensures { option_map binder_number result ≡ binder_used_at offset (map text_use uses.now) }
 {
-    match tokens.first_with(offset) {
+    match first_with(runs, uses, offset) {
         None => None,
         Some(index) => used_at(uses, index),
     }
@@ -251,87 +250,4 @@ fn outer_of(binders: &[BinderRow], binder: Binder) -> Option<Binder>
         Some(row) => row.outer,
         None => None,
     }
-}
-
-/// The first place that has this byte and is written.
-fn first_over(places: &[PlaceRow], stretches: &Stretches, offset: usize) -> Option<Place>
-    requires { stretches.now ≡ map place_stretch (map text_place places.now) }
-    ensures { option_map place_number result ≡ position (is_over offset) (map text_place places.now) }
-{
-    match stretches.first_with(offset) {
-        None => None,
-        Some(index) => Some(Place(index)),
-    }
-}
-
-fn stretches_of_places(alloc: Global, places: &[PlaceRow]) -> Result<Stretches, AllocError>
-    ensures { IfOk result (λ s. s ≡ map place_stretch (map text_place places.now)) }
-{
-    let mut items = Vec::new(alloc);
-    for i in 0..places.len() {
-        let row = &places[i];
-        let stretch = stretch_of_place(row);
-        items.push(stretch)?;
-    }
-    let made = Stretches::new(alloc, items)?;
-    Ok(made)
-}
-
-fn stretches_of_binders(alloc: Global, binders: &[BinderRow]) -> Result<Stretches, AllocError>
-    ensures { IfOk result (λ s. s ≡ map binder_stretch (map text_binder binders.now)) }
-{
-    let mut items = Vec::new(alloc);
-    for i in 0..binders.len() {
-        let row = &binders[i];
-        let stretch = stretch_of_binder(row);
-        items.push(stretch)?;
-    }
-    let made = Stretches::new(alloc, items)?;
-    Ok(made)
-}
-
-fn stretches_of_uses(alloc: Global, uses: &[UseRow]) -> Result<Stretches, AllocError>
-    ensures { IfOk result (λ s. s ≡ map use_stretch (map text_use uses.now)) }
-{
-    let mut items = Vec::new(alloc);
-    for i in 0..uses.len() {
-        let row = &uses[i];
-        let stretch = stretch_of_use(row);
-        items.push(stretch)?;
-    }
-    let made = Stretches::new(alloc, items)?;
-    Ok(made)
-}
-
-/// The bytes of a place, if it is written.
-fn stretch_of_place(row: &PlaceRow) -> Stretch
-    ensures { result ≡ place_stretch (text_place row.now) }
-{
-    if row.derived {
-        return no_bytes();
-    }
-    if row.span.start < row.span.end {
-        return Stretch {
-            lowest: row.span.start,
-            highest: row.span.end - 1,
-        };
-    }
-    no_bytes()
-}
-
-/// Where the token of a binder starts, unless it is an underscore.
-fn stretch_of_binder(row: &BinderRow) -> Stretch
-    ensures { result ≡ binder_stretch (text_binder row.now) }
-{
-    match &row.name {
-        None => no_bytes(),
-        Some(_) => one_byte(row.token.start),
-    }
-}
-
-/// Where the token of a use starts.
-fn stretch_of_use(row: &UseRow) -> Stretch
-    ensures { result ≡ use_stretch (text_use row.now) }
-{
-    one_byte(row.token.start)
 }

@@ -1,10 +1,9 @@
 //! Stretches of a text, among which the first that has a byte is found without a walk over all of them.
-ghost use Rattle.std.specs.Prelude.{◌≡◌, ◌+◌, ◌<◌, ◌≤◌, ◌^◌, length, position, IfOk, take, drop};
+ghost use Rattle.std.specs.Prelude.{◌≡◌, ◌+◌, ◌<◌, ◌≤◌, ◌^◌, length, map, position, IfOk, take, drop};
 ghost use Rattle.std.specs.List.{position_from};
 ghost use Rattle.lam_scope.specs.Stretches.{has, IsPart, AreParts, AreRuns, no_bytes, one_byte};
 
 use std::alloc::{AllocError, Global};
-use std::marker::Model;
 
 /// The bytes of a text from the lowest to the highest, which is one of them. There are none where the lowest is above
 /// the highest.
@@ -14,54 +13,29 @@ pub(crate) struct Stretch {
     pub(crate) highest: usize,
 }
 
-/// How many stretches a run has.
+/// What stands in a text.
+pub(crate) trait Stretched {
+    ghost use Rattle.lam_scope.specs.declared.stretches.Stretch.{Stretch as Bytes};
+
+    ghost stretch_of: { Self → Bytes };
+
+    /// Its bytes.
+    fn stretch(&self) -> Stretch
+        ensures { result ≡ stretch_of self.now };
+}
+
+/// How many rows a run has.
 const RUN: usize = 64;
 
-/// Stretches in an order of their own. A clause sees them as a list.
-#[derive(Drop)]
-pub(crate) struct Stretches {
-    items: Vec<Stretch>,
-    /// For each run of them one that they are parts of, so that a search skips the runs that have not the byte.
-    runs: Vec<Stretch>,
-}
-
-impl Model for Stretches {
-    ghost use Rattle.std.specs.Prelude.{List};
-    ghost use Rattle.lam_scope.specs.declared.stretches.Stretch.{Stretch as Bytes};
-    ghost use Rattle.lam_scope.specs.Stretches.{AreRuns};
-
-    ghost Value = { List Bytes };
-
-    ghost view = { λ s. s.items.items };
-
-    ghost invariant = { λ s. AreRuns s.runs.items s.items.items };
-}
-
-impl Stretches {
-    /// These stretches, in their order.
-    pub(crate) fn new(alloc: Global, items: Vec<Stretch>) -> Result<Stretches, AllocError>
-        ensures { IfOk result (λ s. s ≡ items.items) }
-    {
-        let runs = runs_of(alloc, &items)?;
-        Ok(Stretches { items, runs })
-    }
-
-    /// The number of the first that has the byte.
-    pub(crate) fn first_with(&self, offset: usize) -> Option<usize>
-        ensures { result ≡ position (has offset) self.now }
-    {
-        first_in_runs(&self.runs, &self.items, offset)
-    }
-}
-
-/// For each run of stretches one that they are parts of.
-fn runs_of(alloc: Global, items: &[Stretch]) -> Result<Vec<Stretch>, AllocError>
-    ensures { IfOk result (λ runs. AreRuns runs.items items.now) }
+/// For each run of rows a stretch that theirs are parts of, so that a search skips the runs that have not the byte.
+pub(crate) fn runs_of<T: Stretched>(alloc: Global, rows: &[T]) -> Result<Vec<Stretch>, AllocError>
+    requires { length rows.now < 2 ^ 64 }
+    ensures { IfOk result (λ runs. AreRuns runs.items (map T.stretch_of rows.now)) }
 {
     let mut runs = Vec::new(alloc);
     let mut before = 0;
-    while before < items.len() {
-        let run = run_behind(items, before);
+    while before < rows.len() {
+        let run = run_behind(rows, before);
         let whole = around(run);
         runs.push(whole)?;
         before += run.len();
@@ -69,54 +43,15 @@ fn runs_of(alloc: Global, items: &[Stretch]) -> Result<Vec<Stretch>, AllocError>
     Ok(runs)
 }
 
-/// The run that has so many stretches before it; the last is shorter than the others.
-fn run_behind(items: &[Stretch], before: usize) -> &[Stretch]
-    requires { before ≤ length items.now }
-    ensures { result.now ≡ take 64 (drop before items.now) }
-{
-    first_run(&items[before..])
-}
-
-#[tactic(auto, using(crate::proofs::StretchRuns::whole_runs))]
-fn first_run(items: &[Stretch]) -> &[Stretch]
-    ensures { result.now ≡ take 64 items.now }
-{
-    if items.len() < RUN {
-        return items;
-    }
-    &items[..RUN]
-}
-
-/// A stretch that these are parts of.
-fn around(run: &[Stretch]) -> Stretch
-    ensures { AreParts run.now result }
-{
-    let mut whole = no_bytes();
-    for i in 0..run.len() {
-        let stretch = &run[i];
-        whole = joined(whole, stretch);
-    }
-    whole
-}
-
-/// A stretch that has the bytes of both.
-fn joined(one: Stretch, other: &Stretch) -> Stretch
-    ensures one { IsPart one result }
-    ensures other { IsPart other.now result }
-{
-    Stretch {
-        lowest: one.lowest.min(other.lowest),
-        highest: one.highest.max(other.highest),
-    }
-}
-
-fn first_in_runs(runs: &[Stretch], items: &[Stretch], offset: usize) -> Option<usize>
-    requires { AreRuns runs.now items.now }
-    ensures { result ≡ position (has offset) items.now }
+/// The number of the first row that has the byte.
+pub(crate) fn first_with<T: Stretched>(runs: &[Stretch], rows: &[T], offset: usize) -> Option<usize>
+    requires runs { AreRuns runs.now (map T.stretch_of rows.now) }
+    requires count { length rows.now < 2 ^ 64 }
+    ensures { result ≡ position (has offset) (map T.stretch_of rows.now) }
 {
     let mut before = 0;
     for i in 0..runs.len() {
-        let run = run_behind(items, before);
+        let run = run_behind(rows, before);
         let whole = &runs[i];
         match first_in_run(whole, run, before, offset) {
             Some(index) => return Some(index),
@@ -126,11 +61,58 @@ fn first_in_runs(runs: &[Stretch], items: &[Stretch], offset: usize) -> Option<u
     None
 }
 
-/// The number of the first of a run that has the byte, where so many stand before the run.
-fn first_in_run(whole: &Stretch, run: &[Stretch], before: usize, offset: usize) -> Option<usize>
-    requires parts { AreParts run.now whole.now }
+/// The run that has so many rows before it; the last is shorter than the others.
+fn run_behind<T>(rows: &[T], before: usize) -> &[T]
+    requires { before ≤ length rows.now }
+    ensures { result.now ≡ take 64 (drop before rows.now) }
+{
+    first_run(&rows[before..])
+}
+
+#[tactic(auto, using(crate::proofs::StretchRuns::whole_runs))]
+fn first_run<T>(rows: &[T]) -> &[T]
+    ensures { result.now ≡ take 64 rows.now }
+{
+    if rows.len() < RUN {
+        return rows;
+    }
+    &rows[..RUN]
+}
+
+/// A stretch that those of a run are parts of.
+fn around<T: Stretched>(run: &[T]) -> Stretch
+    ensures { AreParts (map T.stretch_of run.now) result }
+{
+    let mut whole = no_bytes();
+    for i in 0..run.len() {
+        let row = &run[i];
+        let stretch = row.stretch();
+        whole = joined(whole, stretch);
+    }
+    whole
+}
+
+/// A stretch that has the bytes of both.
+fn joined(one: Stretch, other: Stretch) -> Stretch
+    ensures one { IsPart one result }
+    ensures other { IsPart other result }
+{
+    Stretch {
+        lowest: one.lowest.min(other.lowest),
+        highest: one.highest.max(other.highest),
+    }
+}
+
+/// The number of the first row of a run that has the byte, where so many stand before the run.
+fn first_in_run<T: Stretched>(
+    whole: &Stretch,
+    run: &[T],
+    before: usize,
+    offset: usize,
+) -> Option<usize>
+    requires parts { AreParts (map T.stretch_of run.now) whole.now }
     requires count { before + length run.now < 2 ^ 64 }
-    ensures { result ≡ position_from (has offset) before run.now }
+    ensures { result ≡ position_from (has offset) before (map T.stretch_of run.now) }
 {
     if has(whole, offset) {
         return first_of(run, before, offset);
@@ -138,13 +120,14 @@ fn first_in_run(whole: &Stretch, run: &[Stretch], before: usize, offset: usize) 
     None
 }
 
-fn first_of(run: &[Stretch], before: usize, offset: usize) -> Option<usize>
+fn first_of<T: Stretched>(run: &[T], before: usize, offset: usize) -> Option<usize>
     requires { before + length run.now < 2 ^ 64 }
-    ensures { result ≡ position_from (has offset) before run.now }
+    ensures { result ≡ position_from (has offset) before (map T.stretch_of run.now) }
 {
     for i in 0..run.len() {
-        let stretch = &run[i];
-        if has(stretch, offset) {
+        let row = &run[i];
+        let stretch = row.stretch();
+        if has(&stretch, offset) {
             return Some(before + i);
         }
     }

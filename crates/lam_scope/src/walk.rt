@@ -81,7 +81,7 @@ pub(crate) fn walk_term<'a>(
     ensures names { OnOk result (names.new ≡ names.old) }
 {
     let terms = walk_node(alloc, rows, types, names, &term.node)?;
-    rows.add_place(term.span, false, terms, names)
+    rows.add_place(term.span, false, &terms, names)
 }
 
 /// Adds the rows of a term but for its own place, and answers the places of its immediate terms.
@@ -393,9 +393,9 @@ fn add_derived(
     ensures places { OnOk result (length rows.new.places.items ≡ length rows.old.places.items + 2) }
 {
     let terms_of_lambda = listed(alloc, &[bound])?;
-    let function = rows.add_place(span, true, terms_of_lambda, names)?;
+    let function = rows.add_place(span, true, &terms_of_lambda, names)?;
     let terms_of_fix = listed(alloc, &[function])?;
-    let fixed = rows.add_place(span, true, terms_of_fix, names)?;
+    let fixed = rows.add_place(span, true, &terms_of_fix, names)?;
     rows.set_origin(of_lambda, Origin::Lambda(function));
     rows.set_origin(of_let, Origin::Term(fixed));
     Ok(fixed)

@@ -10,7 +10,7 @@ pub loop-i-init : goal.loop-i-init
 loop-i-init c =
     let r = c.new-rows.result in
     let binders : length r.binders.items ≡ 0 = sym (length-map r.binders.items text_binder) ∙ ap (λ t. length t.binders) c.new-rows.ensures in
-    let places : length r.places.items ≡ 0 = sym (length-map r.places.items text_place) ∙ ap (λ t. length t.places) c.new-rows.ensures in
+    let places : length r.places.items ≡ 0 = sym (length-map r.places.items (text_place r.terms.items)) ∙ ap (λ t. length t.places) c.new-rows.ensures in
     (λ i. c.new-rows.ensures i ⊕ commands_table (c.new-types.ensures i) (c.new-names.ensures i) (binders i) (places i) 0 (map command_of c.args.commands.now))
     ∙ empty_plus (table (map command_of c.args.commands.now))
 

@@ -1,5 +1,4 @@
-use Rattle.std.proofs.Common.{sym, ap, ◌∙◌, position, map}
-use Rattle.lam_scope.specs.Stretches.{has}
+use Rattle.std.proofs.Common.{sym, ap, ◌∙◌, map}
 use Rattle.lam_scope.specs.RowStretches.{answer_at}
 use Rattle.lam_scope.specs.TableViews.{text_binder}
 use Rattle.lam_scope.proofs.StretchedRows.{and_then, first_token}
@@ -7,10 +6,10 @@ use Rattle.lam_scope.proofs.scopes.binder_token_at.Goals as goal
 
 pub returns-in-None : goal.returns-in-None
 returns-in-None c =
-    let bs = map text_binder c.args.binders.now in
-    ap (λ n. and_then n (answer_at bs)) (sym c.in-None.is ∙ c.first_with.ensures ∙ ap (position (has c.args.offset)) c.requires) ∙ first_token c.args.offset bs
+    let bs = c.args.binders.now in
+    ap (λ n. and_then n (answer_at (map text_binder bs))) (sym c.in-None.is ∙ c.first_with.ensures) ∙ first_token c.args.offset bs
 
 pub returns-in-Some : goal.returns-in-Some
 returns-in-Some c =
-    let bs = map text_binder c.args.binders.now in
-    c.answer_at.ensures ∙ ap (λ n. and_then n (answer_at bs)) (sym c.in-Some.is ∙ c.first_with.ensures ∙ ap (position (has c.args.offset)) c.requires) ∙ first_token c.args.offset bs
+    let bs = c.args.binders.now in
+    c.answer_at.ensures ∙ ap (λ n. and_then n (answer_at (map text_binder bs))) (sym c.in-Some.is ∙ c.first_with.ensures) ∙ first_token c.args.offset bs

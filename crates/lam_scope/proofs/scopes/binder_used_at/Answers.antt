@@ -1,5 +1,4 @@
-use Rattle.std.proofs.Common.{sym, ap, ◌∙◌, position, map}
-use Rattle.lam_scope.specs.Stretches.{has}
+use Rattle.std.proofs.Common.{sym, ap, ◌∙◌, map}
 use Rattle.lam_scope.specs.RowStretches.{used_at}
 use Rattle.lam_scope.specs.TableViews.{text_use}
 use Rattle.lam_scope.proofs.StretchedRows.{and_then, first_use}
@@ -7,10 +6,10 @@ use Rattle.lam_scope.proofs.scopes.binder_used_at.Goals as goal
 
 pub returns-in-None : goal.returns-in-None
 returns-in-None c =
-    let us = map text_use c.args.uses.now in
-    ap (λ n. and_then n (used_at us)) (sym c.in-None.is ∙ c.first_with.ensures ∙ ap (position (has c.args.offset)) c.requires) ∙ first_use c.args.offset us
+    let us = c.args.uses.now in
+    ap (λ n. and_then n (used_at (map text_use us))) (sym c.in-None.is ∙ c.first_with.ensures) ∙ first_use c.args.offset us
 
 pub returns-in-Some : goal.returns-in-Some
 returns-in-Some c =
-    let us = map text_use c.args.uses.now in
-    c.used_at.ensures ∙ ap (λ n. and_then n (used_at us)) (sym c.in-Some.is ∙ c.first_with.ensures ∙ ap (position (has c.args.offset)) c.requires) ∙ first_use c.args.offset us
+    let us = c.args.uses.now in
+    c.used_at.ensures ∙ ap (λ n. and_then n (used_at (map text_use us))) (sym c.in-Some.is ∙ c.first_with.ensures) ∙ first_use c.args.offset us

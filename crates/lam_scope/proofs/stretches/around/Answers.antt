@@ -1,8 +1,10 @@
-use Rattle.lam_scope.proofs.StretchRuns.{around_read, around_all}
+use Rattle.lam_scope.proofs.StretchRuns.{around_row, around_all}
 use Rattle.lam_scope.proofs.stretches.around.Goals as goal
 
 pub loop-i-preserved : goal.loop-i-preserved
-loop-i-preserved c = around_read c.args.run.now c.loop-i.i _ c.loop-i.whole c.joined-whole.result c.loop-i-test.true c.loop-i.invariant c.joined-whole.ensures.one c.joined-whole.ensures.other
+loop-i-preserved g c =
+    around_row g.T.Stretched.stretch_of c.args.run.now c.loop-i.i c.index-run-i.result c.stretch-stretch.result c.loop-i.whole c.joined-whole.result c.loop-i-test.true c.index-run-i.is c.stretch-stretch.ensures c.loop-i.invariant
+    c.joined-whole.ensures.one c.joined-whole.ensures.other
 
 pub returns : goal.returns
-returns c = around_all c.args.run.now c.loop-i.i c.loop-i.whole c.loop-i-test.false c.loop-i.invariant
+returns g c = around_all g.T.Stretched.stretch_of c.args.run.now c.loop-i.i c.loop-i.whole c.loop-i-test.false c.loop-i.invariant

@@ -1,7 +1,9 @@
-use Rattle.std.proofs.Common.{◌≡◌, ◌+◌, drop}
+use Rattle.std.proofs.Common.{◌≡◌, ◌+◌, drop, map}
 use Rattle.std.specs.List.{position_from}
 use Rattle.lam_scope.specs.Stretches.{has}
 use Rattle.lam_scope.proofs.stretches.first_of.Given as goal
 
 abbrev pub invariant-loop-i : goal.invariant-loop-i
-invariant-loop-i l = position_from (has l.offset) l.before l.run ≡ position_from (has l.offset) (l.before + l.i) (drop l.i l.run)
+invariant-loop-i g l =
+    position_from (has l.offset) l.before (map g.T.Stretched.stretch_of l.run)
+    ≡ position_from (has l.offset) (l.before + l.i) (drop l.i (map g.T.Stretched.stretch_of l.run))
