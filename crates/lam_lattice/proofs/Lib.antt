@@ -3,6 +3,7 @@ pub mod Arrows
 pub mod FieldBounds
 pub mod Existing
 pub mod Orders
+pub mod OneInOrder
 pub mod SideBySide
 pub mod OnNumbers
 pub mod Answering

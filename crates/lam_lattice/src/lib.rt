@@ -8,7 +8,9 @@ mod matching;
 mod numbers;
 
 pub use bounds::{join, meet};
-pub use laws::{each_pair_has_a_meet_or_nothing_below, every_pair_has_a_join};
+pub use laws::{
+    bounds_in_order_are_one, each_pair_has_a_meet_or_nothing_below, every_pair_has_a_join,
+};
 pub use numbers::{join_no, meet_no};
 
 #[cfg(test)]
