@@ -1,7 +1,6 @@
 -- The places of terms that stand within one another nest, and of those that have a byte the first is within all.
-use Rattle.std.proofs.Common.{◌≡◌, ℕ, ◌+◌, ◌<◌, ◌≤◌, List, [], ◌∷◌, ◌++◌, length, length-append, zero, suc, refl, ap, sym, ◌∙◌, subst, arith, inl, inr, Option, Some, None, Bool, true, false, ltb, position}
+use Rattle.std.proofs.Common.{◌≡◌, ℕ, ◌+◌, ◌<◌, ◌≤◌, List, [], ◌∷◌, ◌++◌, length, length-append, zero, suc, refl, ap, sym, ◌∙◌, subst, arith, inl, inr, Option, Some, None, Bool, true, false, ltb}
 use Rattle.std.specs.Prelude.{◌⊎◌, if◌then◌else◌}
-use Rattle.std.specs.Option.{option_map}
 use Rattle.std.proofs.lemmas.Bool.Decides.{nat_tests}
 use Rattle.std.proofs.lemmas.List.{append-nil}
 use Rattle.std.proofs.lemmas.List.Quantifiers.{position-Some}
@@ -11,7 +10,7 @@ use Rattle.lam_token.specs.declared.span.Span.{Span}
 use Rattle.lam_syntax.specs.Trees as tree
 use Rattle.lam_syntax.specs.Trees.{word, bound, TypeTree, TermTree, term_tree, TermNode, CommandTree, definition, declaration, evaluation, term_span}
 use Rattle.lam_scope.specs.declared.numbers.Origin.TheVariants.{Declaration, TypeName}
-use Rattle.lam_scope.specs.Tables.{TextPlace, Table, ◌⊕◌, Entry, entry, binder_row, place_row, root, behind, roots, below, binders_in, type_uses, term_table, node_table, fields_table, letrec_rows, lambda_at, term_at, command_table, commands_table, table, types_seen_after, names_seen_after, binders_in_command, places_in_command, is_over, place_in, place_at, no_span}
+use Rattle.lam_scope.specs.Tables.{TextPlace, Table, ◌⊕◌, Entry, entry, binder_row, place_row, root, behind, roots, below, binders_in, type_uses, term_table, node_table, fields_table, letrec_rows, lambda_at, term_at, commands_table, table, is_over, place_in, place_at, no_span}
 use Rattle.lam_scope.specs.Nesting.{IsWithin, Nests, NestsInAll, AreNested, StandsBetween, PartsStand, FieldsStand, CommandsStand, AreSpelledFrom, IsInnermost}
 use Rattle.lam_scope.proofs.SpelledTerms.{spelled_stand}
 use Rattle.lam_scope.proofs.PlaceCounts.{type_places}

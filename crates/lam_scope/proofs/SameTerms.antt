@@ -1,8 +1,8 @@
 -- The row and the place of a number are of one term.
-use Rattle.std.proofs.Common.{◌≡◌, ℕ, ◌+◌, List, [], ◌∷◌, ◌++◌, length, length-append, refl, ap, sym, ◌∙◌, arith, map, Option, Some, None, true, false}
+use Rattle.std.proofs.Common.{◌≡◌, ℕ, ◌+◌, List, [], ◌∷◌, ◌++◌, length, refl, ap, sym, ◌∙◌, arith, map, Option, Some, None, true, false}
 use Rattle.std.proofs.lemmas.List.{append-nil, map-append}
 use Rattle.lam_token.specs.declared.span.Span.{Span}
-use Rattle.lam_rules.specs.Terms.{Term, lambda, fix, letrec_in}
+use Rattle.lam_rules.specs.Terms.{Term, lambda, fix}
 use Rattle.lam_syntax.specs.declared.terms.Prefix.{Prefix}
 use Rattle.lam_syntax.specs.declared.terms.Prefix.TheVariants as prefix
 use Rattle.lam_syntax.specs.Trees as tree
@@ -10,9 +10,9 @@ use Rattle.lam_syntax.specs.Trees.{word, bound, TypeTree, TermTree, term_tree, T
 use Rattle.lam_scope.specs.declared.numbers.Origin.TheVariants.{Declaration, TypeName}
 use Rattle.lam_scope.specs.Names.{Name, count}
 use Rattle.lam_scope.specs.Expansions.{Abbreviation, expansion}
-use Rattle.lam_scope.specs.Nameless.{use_counted, prefixed, nameless, nameless_node, nameless_fields, statements, abbreviations_after, names_after}
+use Rattle.lam_scope.specs.Nameless.{use_counted, prefixed, nameless, nameless_node, nameless_fields, statements, abbreviations_after}
 use Rattle.lam_scope.specs.Places.{Scope, written, of_term, Place, places, places_in, places_of}
-use Rattle.lam_scope.specs.Tables.{TextPlace, Table, ◌⊕◌, Entry, entry, binder_row, place_row, root, behind, roots, below, binders_in, type_uses, term_table, node_table, fields_table, letrec_rows, lambda_at, term_at, commands_table, table, types_seen_after, names_seen_after, binders_in_command, places_in_command}
+use Rattle.lam_scope.specs.Tables.{TextPlace, Table, ◌⊕◌, Entry, entry, binder_row, place_row, root, behind, roots, below, binders_in, type_uses, term_table, node_table, fields_table, letrec_rows, lambda_at, term_at, commands_table, table}
 use Rattle.lam_scope.specs.PlacedTerms.{PlacedTerm, placed, terms_placed, parts_placed, fields_placed, commands_placed}
 use Rattle.lam_scope.proofs.PlaceCounts.{type_places}
 

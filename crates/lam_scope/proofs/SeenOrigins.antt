@@ -1,6 +1,6 @@
 -- The binders that the table gives a place take their types from where the nameless form says.
 use Rattle.std.proofs.Common.{◌≡◌, ℕ, ◌+◌, ◌<◌, ◌≤◌, List, [], ◌∷◌, ◌++◌, length, length-append, zero, suc, refl, ap, sym, ◌∙◌, subst, arith, map, reverse, get_or, Option, Some, None, true, false}
-use Rattle.std.proofs.lemmas.List.{append-nil, map-append, reverse-append, get_or_default}
+use Rattle.std.proofs.lemmas.List.{append-nil, get_or_default}
 use Rattle.lam_rules.specs.Terms.{Term}
 use Rattle.lam_syntax.specs.declared.terms.Prefix.{Prefix}
 use Rattle.lam_syntax.specs.declared.terms.Prefix.TheVariants as prefix

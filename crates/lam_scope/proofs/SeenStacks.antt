@@ -1,10 +1,8 @@
 -- How a stack of the binders that are seen is seen.
-use Rattle.std.proofs.Common.{◌≡◌, List, [], ◌∷◌, ◌++◌, refl, ap, sym, ◌∙◌}
+use Rattle.std.proofs.Common.{◌≡◌, List, [], ◌∷◌, ◌++◌}
 use Rattle.lam_scope.specs.declared.seen.SeenBinder.{SeenBinder}
-use Rattle.lam_scope.specs.Names.{Name}
-use Rattle.lam_scope.specs.Stacks.{outside}
-use Rattle.lam_scope.specs.TableViews.{entry_of, entries_of, entry_names}
-use Rattle.lam_scope.proofs.StackViews.{stacked-push, stacked-popped}
+use Rattle.lam_scope.specs.TableViews.{entry_of, entries_of}
+use Rattle.lam_scope.proofs.StackViews.{stacked-push}
 
 pub entries_of-push : (stack : List SeenBinder) (b : SeenBinder) → entries_of (stack ++ b ∷ []) ≡ entry_of b ∷ entries_of stack
 entries_of-push stack b = stacked-push entry_of [] stack b

@@ -1,6 +1,5 @@
 -- Tokens that stand one behind the other spell terms that nest.
 use Rattle.std.proofs.Common.{ℕ, ◌≤◌, List, [], ◌∷◌, arith}
-use Rattle.lam_token.specs.declared.kind.Kind.TheVariants as kind
 use Rattle.lam_token.specs.declared.span.Span.{Span}
 use Rattle.lam_token.specs.Lexeme.{Lexeme, lexeme}
 use Rattle.lam_syntax.specs.Trees.{Bound, TypeTree, type_tree, TypeFields, TermTree, term_tree, TermNode, TermFields, CommandTree, definition, declaration, abbreviation, evaluation, type_span, term_span, spanning_type, spanning_term, from_to}

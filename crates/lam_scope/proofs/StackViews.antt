@@ -1,6 +1,5 @@
 -- How stacks are seen.
-use Rattle.std.proofs.Common.{◌≡◌, ◌⊎◌, inl, inr, ℕ, ◌+◌, ◌-◌, ◌<◌, ◌≤◌, arith, List, [], ◌∷◌, ◌++◌, length, get_or, zero, suc, refl, ap, sym, ◌∙◌}
-use Rattle.std.proofs.lemmas.Bool.{cases_lt}
+use Rattle.std.proofs.Common.{◌≡◌, ℕ, ◌+◌, ◌-◌, ◌<◌, arith, List, [], ◌∷◌, ◌++◌, length, get_or, zero, suc, refl, ap, sym, ◌∙◌}
 use Rattle.lam_scope.specs.Stacks.{stacked, outside}
 
 pub stacked-push : {X Y : Type 0} (f : X → Y) (ys : List Y) (xs : List X) (x : X) → stacked f ys (xs ++ x ∷ []) ≡ f x ∷ stacked f ys xs

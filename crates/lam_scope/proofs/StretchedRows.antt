@@ -1,5 +1,5 @@
 -- What is found among the stretches of rows is what the rows say.
-use Rattle.std.proofs.Common.{◌≡◌, ℕ, ◌+◌, ◌-◌, ◌<◌, ◌≤◌, arith, Bool, true, false, cond, ltb, List, [], ◌∷◌, length, get_or, zero, suc, refl, ap, sym, ◌∙◌, subst, map, Option, Some, None, position, ◌==◌}
+use Rattle.std.proofs.Common.{◌≡◌, ℕ, ◌+◌, ◌-◌, ◌<◌, ◌≤◌, arith, Bool, true, false, cond, ltb, List, [], ◌∷◌, length, get_or, zero, suc, refl, ap, sym, ◌∙◌, map, Option, Some, None, position, ◌==◌}
 use Rattle.std.specs.Prelude.{if◌then◌else◌}
 use Rattle.std.specs.List.{position_from}
 use Rattle.std.specs.Option.{option_map}
@@ -14,7 +14,7 @@ use Rattle.lam_scope.specs.declared.rows.UseRow.{UseRow}
 use Rattle.lam_scope.specs.TableViews.{text_binder, text_use, text_place, binder_number}
 use Rattle.lam_scope.specs.Stretches.{has, no_bytes, one_byte}
 use Rattle.lam_scope.specs.RowStretches.{place_stretch, binder_stretch, use_stretch, answer_at, used_at}
-use Rattle.lam_scope.specs.Tables.{TextBinder, TextUse, has_name, is_over, is_token_at, binder_token_at, binder_used_at, binder_in}
+use Rattle.lam_scope.specs.Tables.{TextBinder, TextUse, has_name, is_over, is_token_at, binder_token_at, binder_used_at}
 
 -- which stretch has which byte
 

@@ -1,5 +1,5 @@
 -- How many nodes a term has, by which walks over it end.
-use Rattle.std.proofs.Common.{◌≡◌, ℕ, ◌+◌, ◌<◌, ◌≤◌, arith, List, [], ◌∷◌, length, get_or, zero, suc, ap, subst}
+use Rattle.std.proofs.Common.{◌≡◌, ℕ, ◌+◌, ◌<◌, arith, List, [], ◌∷◌, length, get_or, zero, suc, ap}
 use Rattle.lam_syntax.specs.declared.terms.TmField.{TmField}
 use Rattle.lam_syntax.specs.Trees.{TermTree, term_tree, TermNode, lambda, if_term, let_term, letrec_term, prefixed, apply, project, ascribe, record_term, TermFields, no_fields, field}
 use Rattle.lam_syntax.specs.Views.{term_of, fields_of}

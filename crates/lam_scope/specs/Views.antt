@@ -1,5 +1,5 @@
 -- What the values of this crate stand for.
-use Rattle.std.specs.Prelude.{List, length, [], ◌∷◌, ℕ, map, Option, Some, None, Result, Ok, Err, ◌≡◌, Vec, String}
+use Rattle.std.specs.Prelude.{List, length, map, Option, Some, None, Result, Ok, Err, ◌≡◌, Vec, String}
 use Rattle.std.specs.Borrow.{Bor}
 use Rattle.std.specs.Option.{option_map}
 use Rattle.std.specs.declared.alloc.Global.{Global}
@@ -22,7 +22,6 @@ use Rattle.lam_scope.specs.declared.resolved.Resolved.{Resolved}
 use Rattle.lam_scope.specs.declared.scopes.Scopes.{Scopes}
 use Rattle.lam_scope.specs.Tables.{Table, table, tokens_by}
 use Rattle.lam_scope.specs.TableViews.{rows_of, span_lists}
-use Rattle.lam_scope.specs.Names.{Name}
 use Rattle.lam_scope.specs.Expansions.{Abbreviation}
 use Rattle.lam_scope.specs.Abbreviations.{abbreviations_in}
 use Rattle.lam_scope.specs.Places.{Statement, defines, declares, abbreviates, states}
