@@ -32,6 +32,7 @@ fn walk_commands(alloc: Global, commands: &[Command]) -> Result<Rows, AllocError
         let command = &commands[i];
         walk_command(alloc, &mut rows, &mut types, &mut names, i, command)?;
     }
+    rows.trim();
     Ok(rows)
 }
 

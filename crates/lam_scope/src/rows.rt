@@ -168,6 +168,16 @@ impl Rows {
         }
     }
 
+    /// Gives back the room that no row has: up to half of a vector that grew.
+    pub(crate) fn trim(&mut self)
+        ensures { rows_of self.new ≡ rows_of self.old }
+    {
+        self.binders.shrink_to_fit();
+        self.uses.shrink_to_fit();
+        self.places.shrink_to_fit();
+        self.terms.shrink_to_fit();
+    }
+
     /// Tells where a binder takes its type from.
     pub(crate) fn set_origin(&mut self, binder: Binder, origin: Origin)
         requires { binder.0 < length self.old.binders.items }

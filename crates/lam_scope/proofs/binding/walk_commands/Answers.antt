@@ -21,4 +21,4 @@ loop-i-preserved c =
     c.loop-i.invariant
 
 pub returns : goal.returns
-returns c = commands_walked (rows_of c.loop-i.rows) _ _ _ _ _ _ c.args.commands.now c.loop-i.i c.loop-i-test.false c.loop-i.invariant
+returns c = c.trim.ensures ∙ commands_walked (rows_of c.loop-i.rows) _ _ _ _ _ _ c.args.commands.now c.loop-i.i c.loop-i-test.false c.loop-i.invariant
