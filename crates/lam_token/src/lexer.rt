@@ -20,7 +20,8 @@ pub fn lex<'a>(alloc: Global, text: &'a str) -> Result<Vec<Token<'a>>, AllocErro
     ensures whole_characters { IfOk result (λ found. All (StandsIn text.now) found.items) }
     ensures ascend { IfOk result (λ found. IsStrictlyIncreasing (map start_of found.items)) }
 {
-    let mut tokens = Vec::new(alloc);
+    // Most tokens take two bytes or more, and a vector that grows leaves room behind that fits little else.
+    let mut tokens = Vec::with_capacity(alloc, text.len() / 2)?;
     let mut rest = text;
     let mut start = 0;
     while let Some((segment, after)) = next_segment(rest) {
