@@ -20,7 +20,7 @@ pub fn lex<'a>(alloc: Global, text: &'a str) -> Result<Vec<Token<'a>>, AllocErro
     ensures whole_characters { IfOk result (λ found. All (StandsIn text.now) found.items) }
     ensures ascend { IfOk result (λ found. IsStrictlyIncreasing (map start_of found.items)) }
 {
-    // Most tokens take two bytes or more, and a vector that grows leaves room behind that fits little else.
+    // Most tokens take two bytes or more, so the vector seldom grows, and its tokens are seldom copied.
     let mut tokens = Vec::with_capacity(alloc, text.len() / 2)?;
     let mut rest = text;
     let mut start = 0;
