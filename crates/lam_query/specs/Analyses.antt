@@ -3,7 +3,6 @@ use Rattle.std.specs.Prelude.{◌≡◌, ℕ, List, [], map, All, Option, None}
 use Rattle.lam_token.specs.Cut as token
 use Rattle.lam_rules.specs.declared.rules.Dialect.{Dialect}
 use Rattle.lam_syntax.specs.Trees.{CommandTree}
-use Rattle.lam_syntax.specs.Views.{command_of}
 use Rattle.lam_scope.specs.declared.resolved.Resolved.{Resolved}
 use Rattle.lam_scope.specs.Nameless.{first_too_large, faults}
 use Rattle.lam_scope.specs.Tables.{table}
@@ -35,21 +34,19 @@ abbrev pub AreTypesOf : List CommandTree → Types → Dialect → Type 0
 AreTypesOf commands (TooLarge s) d = IsSizeFault commands s d
 AreTypesOf commands (Found resolved typing) d = AreFoundOf commands resolved typing d
 
--- the commands that an analysis holds, and the dialect that it was made in
-abbrev pub commands_held : Analysis → List CommandTree
-commands_held a = map command_of a.commands.items
-
+-- the dialect that it was made in
 abbrev pub dialect_of : Analysis → Dialect
 dialect_of a = a.dialect
 
--- An analysis is of a text: its commands are those of the text's tokens, places included, its faults of syntax are theirs, and all else in it is of the commands. The tokens
--- begin and end between characters.
+-- An analysis is of a text: all in it is of the commands of the text's tokens, places included, and its faults of syntax are those of the tokens, which begin and end
+-- between characters.
 pub record IsAnalysisOf (text : List ℕ) (a : Analysis) : Type 0 where
-  pub commands : AreCommandsOfText text (commands_held a)
-  pub whole : All (token.StandsIn text) commands.tokens
-  pub syntax : AreSyntaxFaults commands.tokens (map fault_of a.syntax.items)
-  pub scopes : AreScopesOf a.scopes (commands_held a)
-  pub types : AreTypesOf (commands_held a) a.types a.dialect
+  pub commands : List CommandTree
+  pub are_commands : AreCommandsOfText text commands
+  pub whole : All (token.StandsIn text) are_commands.tokens
+  pub syntax : AreSyntaxFaults are_commands.tokens (map fault_of a.syntax.items)
+  pub scopes : AreScopesOf a.scopes commands
+  pub types : AreTypesOf commands a.types a.dialect
 
 -- an answer about an offset of a text is one about that offset in the commands of the text
 pub record IsShownIn (text : List ℕ) (offset : ℕ) (shown : Option Shown) (d : Dialect) : Type 0 where

@@ -1,6 +1,7 @@
 //! What is known of a text, and what is answered about it.
-ghost use Rattle.std.specs.Prelude.{◌≡◌, map, All, IfOk, IfSome};
+ghost use Rattle.std.specs.Prelude.{◌≡◌, List, map, All, IfOk, IfSome};
 ghost use Rattle.std.specs.Option.{option_map};
+ghost use Rattle.lam_syntax.specs.Trees.{CommandTree};
 ghost use Rattle.lam_syntax.specs.Views.{command_of};
 ghost use Rattle.lam_scope.specs.Views.{AreScopesOf};
 ghost use Rattle.lam_query.specs.TextFaults.{AreFaults, AreTypeFaults};
@@ -21,11 +22,10 @@ use lam_token::{Span, lex};
 use lam_typing::{Typing, TypingFault, analyse};
 use std::alloc::{AllocError, Global};
 
-/// The commands of a text, what their names are bound to, and the types of their terms. It holds no part of the text:
-/// each method takes the text that the analysis is of.
+/// What the names of a text's commands are bound to, and the types of their terms. It holds no part of the text: each
+/// method takes the text that the analysis is of. Nor does it hold the commands, since no answer reads them.
 #[derive(Drop)]
 pub struct Analysis {
-    commands: Vec<Command>,
     /// The faults that tokens and the grammar decide.
     syntax: Vec<Fault>,
     scopes: Scopes,
@@ -52,9 +52,8 @@ impl Analysis {
             read(alloc, &tokens)?
         };
         let scopes = bind(alloc, &parsed.commands)?;
-        let types = types_of(alloc, &parsed.commands, &scopes, dialect)?;
+        let types = types_of(alloc, parsed.commands, &scopes, dialect)?;
         Ok(Analysis {
-            commands: parsed.commands,
             syntax: parsed.faults,
             scopes,
             types,
@@ -129,11 +128,9 @@ impl Analysis {
         Ok(Some(Derivation { context, steps }))
     }
 
-    /// The faults that types decide.
+    /// The faults that types decide, in the commands that all of it is of.
     fn type_faults(&self, alloc: Global) -> Result<Vec<Fault>, AllocError>
-        requires scopes { AreScopesOf self.now.scopes (map command_of self.now.commands.items) }
-        requires types { AreTypesOf (map command_of self.now.commands.items) self.now.types self.now.dialect }
-        ensures { IfOk result (λ found. AreTypeFaults (map command_of self.now.commands.items) (map fault_of found.items) self.now.dialect) }
+        ensures { IfOk result (λ found. (commands : List CommandTree) → AreScopesOf self.now.scopes commands → AreTypesOf commands self.now.types self.now.dialect → AreTypeFaults commands (map fault_of found.items) self.now.dialect) }
     {
         match &self.types {
             Types::TooLarge(span) => {
@@ -157,18 +154,20 @@ impl Analysis {
 /// The types of the terms of these commands, or the place of the first type that is too large.
 fn types_of(
     alloc: Global,
-    commands: &[Command],
+    commands: Vec<Command>,
     scopes: &Scopes,
     dialect: Dialect,
 ) -> Result<Types, AllocError>
-    requires { AreScopesOf scopes.now (map command_of commands.now) }
-    ensures { IfOk result (λ types. AreTypesOf (map command_of commands.now) types dialect) }
+    requires { AreScopesOf scopes.now (map command_of commands.items) }
+    ensures { IfOk result (λ types. AreTypesOf (map command_of commands.items) types dialect) }
 {
-    let resolved = match resolve(alloc, commands, scopes) {
+    let resolved = match resolve(alloc, &commands, scopes) {
         Ok(resolved) => resolved,
         Err(ScopeFault::TooLarge(span)) => return Ok(Types::TooLarge(span)),
         Err(ScopeFault::Memory) => return Err(AllocError),
     };
+    // The trees are dropped before types are found beside the tables.
+    drop(commands);
     match analyse(alloc, &resolved, dialect) {
         Ok(typing) => Ok(Types::Found(resolved, typing)),
         Err(TypingFault::TooLarge(place)) => Ok(Types::TooLarge(scopes.span_of(place))),
