@@ -53,7 +53,7 @@ fn read_pieces(alloc: Global, pieces: &[&[Token<'_>]]) -> Result<Parsed, AllocEr
     ensures commands { IfOk result (λ p. AreCommandsOf (map (λ q. q.now) pieces.now) (map command_of p.commands.items)) }
     ensures faults { IfOk result (λ p. PieceFaults (map (λ q. q.now) pieces.now) (map fault_of p.faults.items)) }
 {
-    let mut commands = Vec::new(alloc);
+    let mut commands = Vec::with_capacity(alloc, pieces.len())?;
     let mut faults = Vec::new(alloc);
     for piece in pieces {
         match read_piece(alloc, piece)? {
@@ -62,8 +62,6 @@ fn read_pieces(alloc: Global, pieces: &[&[Token<'_>]]) -> Result<Parsed, AllocEr
             Piece::Spoiled => {}
         }
     }
-    // An analysis keeps them, and up to half of a vector that grew is spare.
-    commands.shrink_to_fit();
     Ok(Parsed { commands, faults })
 }
 

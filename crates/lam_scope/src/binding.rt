@@ -5,6 +5,7 @@ ghost use Rattle.lam_scope.specs.Tables.{table, tokens_by};
 ghost use Rattle.lam_scope.specs.TableViews.{text_use, rows_of, span_lists, noted, empty_lists};
 ghost use Rattle.lam_scope.specs.Views.{AreScopesOf};
 
+use crate::room::room_of;
 use crate::rows::{Rows, Spans, UseRow};
 use crate::scopes::Scopes;
 use crate::seen::Seen;
@@ -16,7 +17,9 @@ use std::alloc::{AllocError, Global};
 pub fn bind(alloc: Global, commands: &[Command]) -> Result<Scopes, AllocError>
     ensures { IfOk result (λ s. AreScopesOf s (map command_of commands.now)) }
 {
-    let rows = walk_commands(alloc, commands)?;
+    let mut rows = walk_commands(alloc, commands)?;
+    // Behind the walk, whose names are dropped by then.
+    rows.trim();
     let tokens = group_tokens(alloc, rows.binders.len(), &rows.uses)?;
     Scopes::new(alloc, rows, tokens)
 }
@@ -25,14 +28,13 @@ pub fn bind(alloc: Global, commands: &[Command]) -> Result<Scopes, AllocError>
 fn walk_commands(alloc: Global, commands: &[Command]) -> Result<Rows, AllocError>
     ensures { IfOk result (λ rows. rows_of rows ≡ table (map command_of commands.now)) }
 {
-    let mut rows = Rows::new(alloc);
+    let mut rows = Rows::with_room(alloc, room_of(commands))?;
     let mut types = Seen::new(alloc);
-    let mut names = Seen::new(alloc);
+    let mut names = Seen::with_capacity(alloc, commands.len())?;
     for i in 0..commands.len() {
         let command = &commands[i];
         walk_command(alloc, &mut rows, &mut types, &mut names, i, command)?;
     }
-    rows.trim();
     Ok(rows)
 }
 

@@ -28,9 +28,7 @@ pub fn resolve(alloc: Global, commands: &[Command], scopes: &Scopes) -> Result<R
     ensures well_formed { IfOk result (λ r. AreWellFormedStatements (statements_of r)) }
     ensures limit { IsLimit (first_too_large [] (map command_of commands.now)) result }
 {
-    let mut resolver = resolve_all(alloc, commands)?;
-    // They are kept, and up to half of a vector that grew is spare.
-    resolver.statements.shrink_to_fit();
+    let resolver = resolve_all(alloc, commands)?;
     let Ok(origins) = origins_in(alloc, &scopes.rows.binders) else {
         return Err(ScopeFault::Memory);
     };
@@ -47,7 +45,9 @@ fn resolve_all<'a>(alloc: Global, commands: &'a [Command]) -> Result<Resolver<'a
     ensures faults { IfOk result (λ r. r.faults.items ≡ faults [] (map command_of commands.now)) }
     ensures limit { IsLimit (first_too_large [] (map command_of commands.now)) result }
 {
-    let mut resolver = Resolver::new(alloc);
+    let Ok(mut resolver) = Resolver::with_capacity(alloc, commands.len()) else {
+        return Err(ScopeFault::Memory);
+    };
     for i in 0..commands.len() {
         let command = &commands[i];
         resolver.add(alloc, command)?;

@@ -16,6 +16,7 @@ mod names;
 mod numbers;
 mod resolved;
 mod resolver;
+mod room;
 mod row_stretches;
 mod rows;
 mod scopes;

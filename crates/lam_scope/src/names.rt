@@ -1,5 +1,5 @@
 //! The binders of names that a term sees.
-ghost use Rattle.std.specs.Prelude.{◌≡◌, ◌∷◌, [], OnOk, OnErr, string_bytes};
+ghost use Rattle.std.specs.Prelude.{◌≡◌, ◌∷◌, [], IfOk, OnOk, OnErr, string_bytes};
 ghost use Rattle.std.specs.Option.{option_map};
 ghost use Rattle.lam_scope.specs.Names.{count};
 ghost use Rattle.lam_scope.specs.Stacks.{outside};
@@ -48,6 +48,17 @@ impl<'a> Names<'a> {
             stack: Vec::new(alloc),
             innermost: HashMap::new(alloc),
         }
+    }
+
+    /// No binder is seen, and there is room for so many: names that grow take up to three times the memory.
+    #[tactic(auto, using(crate::proofs::NameStacks::name_stacks))]
+    pub(crate) fn with_capacity(alloc: Global, capacity: usize) -> Result<Names<'a>, AllocError>
+        ensures { IfOk result (λ n. n ≡ []) }
+    {
+        Ok(Names {
+            stack: Vec::with_capacity(alloc, capacity)?,
+            innermost: HashMap::with_capacity(alloc, capacity)?,
+        })
     }
 
     /// One more binder is seen, inside of the others. An underscore has no name.

@@ -25,19 +25,19 @@ pub(crate) struct Resolver<'a> {
 }
 
 impl<'a> Resolver<'a> {
-    /// No command stands before.
-    pub(crate) fn new(alloc: Global) -> Resolver<'a>
-        ensures abbreviations { abbreviations_of result.abbreviations ≡ [] }
-        ensures names { result.names ≡ [] }
-        ensures faults { result.faults.items ≡ [] }
-        ensures statements { map statement_of result.statements.items ≡ [] }
+    /// No command stands before, and there is room for so many behind.
+    pub(crate) fn with_capacity(alloc: Global, commands: usize) -> Result<Resolver<'a>, AllocError>
+        ensures abbreviations { IfOk result (λ r. abbreviations_of r.abbreviations ≡ []) }
+        ensures names { IfOk result (λ r. r.names ≡ []) }
+        ensures faults { IfOk result (λ r. r.faults.items ≡ []) }
+        ensures statements { IfOk result (λ r. map statement_of r.statements.items ≡ []) }
     {
-        Resolver {
+        Ok(Resolver {
             abbreviations: Abbreviations::new(alloc),
-            names: Names::new(alloc),
+            names: Names::with_capacity(alloc, commands)?,
             faults: Vec::new(alloc),
-            statements: Vec::new(alloc),
-        }
+            statements: Vec::with_capacity(alloc, commands)?,
+        })
     }
 
     /// One more command.

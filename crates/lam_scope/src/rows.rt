@@ -4,6 +4,7 @@ ghost use Rattle.std.specs.Option.{option_map};
 ghost use Rattle.lam_scope.specs.Tables.{◌⊕◌, empty_table, binder_row, use_row, place_row, place_row_numbered};
 
 use crate::numbers::{Binder, Origin, Place};
+use crate::room::Room;
 use crate::seen::Seen;
 use lam_syntax::Identifier;
 use lam_token::Span;
@@ -63,16 +64,16 @@ pub(crate) struct Rows {
 impl Rows {
     ghost use Rattle.lam_scope.specs.TableViews.{place_number, rows_of, with_origin};
 
-    /// Nothing was walked.
-    pub(crate) fn new(alloc: Global) -> Rows
-        ensures { rows_of result ≡ empty_table }
+    /// Nothing was walked, and there is that room.
+    pub(crate) fn with_room(alloc: Global, room: Room) -> Result<Rows, AllocError>
+        ensures { IfOk result (λ rows. rows_of rows ≡ empty_table) }
     {
-        Rows {
-            binders: Vec::new(alloc),
-            uses: Vec::new(alloc),
-            places: Vec::new(alloc),
-            terms: Vec::new(alloc),
-        }
+        Ok(Rows {
+            binders: Vec::with_capacity(alloc, room.binders)?,
+            uses: Vec::with_capacity(alloc, room.uses)?,
+            places: Vec::with_capacity(alloc, room.places)?,
+            terms: Vec::with_capacity(alloc, room.places)?,
+        })
     }
 
     /// How many binders there are.
@@ -168,7 +169,7 @@ impl Rows {
         }
     }
 
-    /// Gives back the room that no row has: up to half of a vector that grew.
+    /// Gives back the room that no row has.
     pub(crate) fn trim(&mut self)
         ensures { rows_of self.new ≡ rows_of self.old }
     {

@@ -1,5 +1,5 @@
 //! The binders of one kind that a term sees.
-ghost use Rattle.std.specs.Prelude.{◌≡◌, ◌∷◌, [], OnOk};
+ghost use Rattle.std.specs.Prelude.{◌≡◌, ◌∷◌, [], IfOk, OnOk};
 ghost use Rattle.std.specs.Option.{option_map};
 ghost use Rattle.lam_scope.specs.Stacks.{outside};
 ghost use Rattle.lam_scope.specs.Tables.{innermost, bound_to};
@@ -48,6 +48,16 @@ impl<'a> Seen<'a> {
             stack: Vec::new(alloc),
             names: Names::new(alloc),
         }
+    }
+
+    /// No binder is seen, and there is room for so many.
+    pub(crate) fn with_capacity(alloc: Global, capacity: usize) -> Result<Seen<'a>, AllocError>
+        ensures { IfOk result (λ s. s ≡ []) }
+    {
+        Ok(Seen {
+            stack: Vec::with_capacity(alloc, capacity)?,
+            names: Names::with_capacity(alloc, capacity)?,
+        })
     }
 
     /// One more binder is seen, inside of the others.

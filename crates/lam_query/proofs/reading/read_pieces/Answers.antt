@@ -9,7 +9,7 @@ use Rattle.lam_query.proofs.reading.read_pieces.Goals.{in-Command+in_ok-push-in-
 pub loop-piece-preserved : goal.loop-piece-preserved
 loop-piece-preserved c =
     let left = pieces-drop c.args.pieces.now c.loop-piece.piece-index c.piece-item.result c.loop-piece-test.true c.piece-item.is in
-    elim c.match-branch-2.branch [
+    elim c.match-branch-3.branch [
       | in-Command+in_ok-push-in-Command w ↦
           rw (ap (λ v. v.items) w.faults-is)
           (command_read _ c.loop-piece.commands.items _ c.loop-piece.faults.items _ _ _ w.in-Command.command left
@@ -28,8 +28,7 @@ loop-piece-preserved c =
 
 pub returns-clause-commands : goal.returns-clause-commands
 returns-clause-commands c =
-    rw c.shrink_to_fit.ensures.items
-    (all_found _ c.loop-piece.commands.items _ (ap (map (λ p. p.now)) (drop_of_length-le c.args.pieces.now c.loop-piece-test.false)) c.loop-piece.invariant.commands_are)
+    all_found _ c.loop-piece.commands.items _ (ap (map (λ p. p.now)) (drop_of_length-le c.args.pieces.now c.loop-piece-test.false)) c.loop-piece.invariant.commands_are
 
 pub returns-clause-faults : goal.returns-clause-faults
 returns-clause-faults c =

@@ -8,10 +8,10 @@ use Rattle.lam_scope.proofs.binding.walk_commands.Goals as goal
 
 pub loop-i-init : goal.loop-i-init
 loop-i-init c =
-    let r = c.new-rows.result in
-    let binders : length r.binders.items ≡ 0 = sym (length-map r.binders.items text_binder) ∙ ap (λ t. length t.binders) c.new-rows.ensures in
-    let places : length r.places.items ≡ 0 = sym (length-map r.places.items (text_place r.terms.items)) ∙ ap (λ t. length t.places) c.new-rows.ensures in
-    (λ i. c.new-rows.ensures i ⊕ commands_table (c.new-types.ensures i) (c.new-names.ensures i) (binders i) (places i) 0 (map command_of c.args.commands.now))
+    let r = c.in_ok-rows.rows in
+    let binders : length r.binders.items ≡ 0 = sym (length-map r.binders.items text_binder) ∙ ap (λ t. length t.binders) c.in_ok-rows.ensures in
+    let places : length r.places.items ≡ 0 = sym (length-map r.places.items (text_place r.terms.items)) ∙ ap (λ t. length t.places) c.in_ok-rows.ensures in
+    (λ i. c.in_ok-rows.ensures i ⊕ commands_table (c.new-types.ensures i) (c.in_ok-names.ensures i) (binders i) (places i) 0 (map command_of c.args.commands.now))
     ∙ empty_plus (table (map command_of c.args.commands.now))
 
 pub loop-i-preserved : goal.loop-i-preserved
@@ -21,4 +21,4 @@ loop-i-preserved c =
     c.loop-i.invariant
 
 pub returns : goal.returns
-returns c = c.trim.ensures ∙ commands_walked (rows_of c.loop-i.rows) _ _ _ _ _ _ c.args.commands.now c.loop-i.i c.loop-i-test.false c.loop-i.invariant
+returns c = commands_walked (rows_of c.loop-i.rows) _ _ _ _ _ _ c.args.commands.now c.loop-i.i c.loop-i-test.false c.loop-i.invariant

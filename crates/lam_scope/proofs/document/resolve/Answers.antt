@@ -14,5 +14,4 @@ returns-clause-origins c =
 
 pub returns-clause-places : goal.returns-clause-places
 returns-clause-places c =
-    rw c.shrink_to_fit.ensures.items
     (ap (λ ss. length (places_of [] ss)) c.in_ok-resolver.ensures.statements ∙ as_many_places (map command_of c.args.commands.now))

@@ -1,0 +1,82 @@
+//! How much room the rows of a document take. Nothing rests on it: rows that have too little grow, and what is spare
+//! is given back. But rows that grow beside each other leave holes behind, as large together as the rows.
+
+use lam_syntax::{Command, Letrec, Tm, TmField, TmNode};
+
+/// How many rows of each kind there are. The uses of type names are not counted, and no more than `usize` holds is.
+#[derive(Clone, Copy)]
+pub(crate) struct Room {
+    pub(crate) binders: usize,
+    pub(crate) uses: usize,
+    pub(crate) places: usize,
+}
+
+/// The room that the rows of these commands take.
+pub(crate) fn room_of(commands: &[Command]) -> Room {
+    let mut room = Room {
+        binders: commands.len(),
+        uses: 0,
+        places: 0,
+    };
+    for command in commands {
+        match command {
+            Command::Definition(_, term) => add_term(&mut room, term),
+            Command::Declaration(..) => {}
+            Command::Abbreviation(..) => {}
+            Command::Evaluation(term) => add_term(&mut room, term),
+        }
+    }
+    room
+}
+
+#[cycle(room)]
+fn add_term(room: &mut Room, term: &Tm) {
+    room.places = room.places.saturating_add(1);
+    match &*term.node {
+        TmNode::True => {}
+        TmNode::False => {}
+        TmNode::Unit => {}
+        TmNode::Numeral(_) => {}
+        TmNode::Variable(_) => room.uses = room.uses.saturating_add(1),
+        TmNode::Lambda(lambda) => {
+            room.binders = room.binders.saturating_add(1);
+            add_term(room, &lambda.body);
+        }
+        TmNode::If(conditional) => {
+            add_term(room, &conditional.condition);
+            add_term(room, &conditional.one);
+            add_term(room, &conditional.other);
+        }
+        TmNode::Let(parts) => {
+            room.binders = room.binders.saturating_add(1);
+            add_term(room, &parts.bound);
+            add_term(room, &parts.body);
+        }
+        TmNode::Letrec(parts) => add_letrec(room, parts),
+        TmNode::Prefixed(_, operand) => add_term(room, operand),
+        TmNode::Apply(function, argument) => {
+            add_term(room, function);
+            add_term(room, argument);
+        }
+        TmNode::Project(projection) => add_term(room, &projection.record),
+        TmNode::Ascribe(operand, _) => add_term(room, operand),
+        TmNode::Record(fields) => add_fields(room, fields),
+    }
+}
+
+/// It stands for a let of the fix of a lambda.
+#[cycle(room)]
+fn add_letrec(room: &mut Room, term: &Letrec) {
+    room.binders = room.binders.saturating_add(2);
+    room.places = room.places.saturating_add(2);
+    add_term(room, &term.bound);
+    add_term(room, &term.body);
+}
+
+#[cycle(room)]
+fn add_fields(room: &mut Room, fields: &[TmField]) {
+    for i in 0..fields.len() {
+        let field = &fields[i];
+        add_term(room, &field.term);
+    }
+}
