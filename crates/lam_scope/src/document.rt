@@ -28,14 +28,22 @@ pub fn resolve(alloc: Global, commands: &[Command], scopes: &Scopes) -> Result<R
     ensures well_formed { IfOk result (λ r. AreWellFormedStatements (statements_of r)) }
     ensures limit { IsLimit (first_too_large [] (map command_of commands.now)) result }
 {
-    let resolver = resolve_all(alloc, commands)?;
+    let Resolver {
+        abbreviations,
+        names,
+        faults,
+        statements,
+    } = resolve_all(alloc, commands)?;
+    // They are dropped before there is one list more: memory is at its peak here.
+    drop(abbreviations);
+    drop(names);
     let Ok(origins) = origins_in(alloc, &scopes.rows.binders) else {
         return Err(ScopeFault::Memory);
     };
     Ok(Resolved {
-        statements: resolver.statements,
+        statements,
         origins,
-        faults: resolver.faults,
+        faults,
     })
 }
 

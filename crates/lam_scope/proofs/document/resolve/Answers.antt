@@ -14,4 +14,4 @@ returns-clause-origins c =
 
 pub returns-clause-places : goal.returns-clause-places
 returns-clause-places c =
-    (ap (λ ss. length (places_of [] ss)) c.in_ok-resolver.ensures.statements ∙ as_many_places (map command_of c.args.commands.now))
+    (ap (λ ss. length (places_of [] ss)) c.in_ok-abbreviations.ensures.statements ∙ as_many_places (map command_of c.args.commands.now))
