@@ -41,6 +41,17 @@ pub record IsMeetOf (ts : List Typ) (d : Dialect) (pair : TyNo × TyNo) (found :
 abbrev pub equal_pairs : TyNo × TyNo → TyNo × TyNo → Bool
 equal_pairs p q = eqb p.0.index q.0.index && eqb p.1.index q.1.index
 
+-- what is kept of a pair
+
+abbrev pub verdict_kept : Verdicts → TyNo × TyNo → Option Bool
+verdict_kept verdicts = get equal_pairs verdicts.below
+
+abbrev pub join_kept : Verdicts → TyNo × TyNo → Option TyNo
+join_kept verdicts = get equal_pairs verdicts.joins
+
+abbrev pub meet_kept : Verdicts → TyNo × TyNo → Option (Option TyNo)
+meet_kept verdicts = get equal_pairs verdicts.meets
+
 -- what a map keeps of each pair is such an answer on it
 abbrev pub AllKept : {X : Type 0} → (TyNo × TyNo → X → Type 0) → HashMap (TyNo × TyNo) X (BuildHasherDefault FoldHasher) → Type 0
 AllKept IsAnswer map = (pair : TyNo × TyNo) → IfSome (get equal_pairs map pair) (IsAnswer pair)

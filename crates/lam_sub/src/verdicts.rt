@@ -1,9 +1,9 @@
 //! What was once found of two types of a table, by their numbers.
 
-ghost use Rattle.std.specs.Prelude.{◌≡◌, List, IfSome};
+ghost use Rattle.std.specs.Prelude.{◌≡◌, List, Some, IfSome, OnOk};
 ghost use Rattle.lam_rules.specs.Types.{Typ};
 ghost use Rattle.lam_rules.specs.Numbers.{Keeps};
-ghost use Rattle.lam_sub.specs.Remembered.{IsVerdict, IsJoinOf, IsMeetOf, AreRight};
+ghost use Rattle.lam_sub.specs.Remembered.{IsVerdict, IsJoinOf, IsMeetOf, AreRight, verdict_kept, join_kept, meet_kept};
 ghost use Rattle.lam_sub.specs.declared.verdicts.Verdicts.{Verdicts};
 
 use lam_rules::{Dialect, TyNo};
@@ -41,7 +41,8 @@ impl Verdicts {
 
     /// What is kept of whether the first type is below the second.
     pub fn known_verdict(&self, lower: TyNo, upper: TyNo) -> Option<bool>
-        ensures { (ts : List Typ) → AreRight ts self.now → IfSome result (IsVerdict ts self.now.dialect (lower, upper)) }
+        ensures kept { result ≡ verdict_kept self.now (lower, upper) }
+        ensures right { (ts : List Typ) → AreRight ts self.now → IfSome result (IsVerdict ts self.now.dialect (lower, upper)) }
     {
         self.below.get(&(lower, upper)).copied()
     }
@@ -53,6 +54,7 @@ impl Verdicts {
         upper: TyNo,
         is_below: bool,
     ) -> Result<(), AllocError>
+        ensures kept { OnOk result (verdict_kept self.new (lower, upper) ≡ Some is_below) }
         ensures dialect { self.new.dialect ≡ self.old.dialect }
         ensures right { (ts : List Typ) → AreRight ts self.old → IsVerdict ts self.old.dialect (lower, upper) is_below → AreRight ts self.new }
     {
@@ -62,13 +64,15 @@ impl Verdicts {
 
     /// What is kept as the join of two types.
     pub fn known_join(&self, left: TyNo, right: TyNo) -> Option<TyNo>
-        ensures { (ts : List Typ) → AreRight ts self.now → IfSome result (IsJoinOf ts self.now.dialect (left, right)) }
+        ensures kept { result ≡ join_kept self.now (left, right) }
+        ensures right { (ts : List Typ) → AreRight ts self.now → IfSome result (IsJoinOf ts self.now.dialect (left, right)) }
     {
         self.joins.get(&(left, right)).copied()
     }
 
     /// Keeps a join of two types.
     pub fn keep_join(&mut self, left: TyNo, right: TyNo, number: TyNo) -> Result<(), AllocError>
+        ensures kept { OnOk result (join_kept self.new (left, right) ≡ Some number) }
         ensures dialect { self.new.dialect ≡ self.old.dialect }
         ensures right { (ts : List Typ) → AreRight ts self.old → IsJoinOf ts self.old.dialect (left, right) number → AreRight ts self.new }
     {
@@ -78,7 +82,8 @@ impl Verdicts {
 
     /// What is kept as the meet of two types: some none where it is known that there is no meet.
     pub fn known_meet(&self, left: TyNo, right: TyNo) -> Option<Option<TyNo>>
-        ensures { (ts : List Typ) → AreRight ts self.now → IfSome result (IsMeetOf ts self.now.dialect (left, right)) }
+        ensures kept { result ≡ meet_kept self.now (left, right) }
+        ensures right { (ts : List Typ) → AreRight ts self.now → IfSome result (IsMeetOf ts self.now.dialect (left, right)) }
     {
         self.meets.get(&(left, right)).copied()
     }
@@ -90,6 +95,7 @@ impl Verdicts {
         right: TyNo,
         found: Option<TyNo>,
     ) -> Result<(), AllocError>
+        ensures kept { OnOk result (meet_kept self.new (left, right) ≡ Some found) }
         ensures dialect { self.new.dialect ≡ self.old.dialect }
         ensures right { (ts : List Typ) → AreRight ts self.old → IsMeetOf ts self.old.dialect (left, right) found → AreRight ts self.new }
     {

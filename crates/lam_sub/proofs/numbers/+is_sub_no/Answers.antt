@@ -14,7 +14,7 @@ use Rattle.lam_sub.proofs.numbers.+is_sub_no.Goals as goal
 pub is_sub_no-returns-in-Some-clause-verdict : goal.is_sub_no-returns-in-Some-clause-verdict
 is_sub_no-returns-in-Some-clause-verdict t c =
     sorted_verdict (type_of c.args.table.now c.args.lower) (type_of c.args.table.now c.args.upper) _ _ c.args.verdicts.now.dialect c.in-Some.known (c.types_differ.ensures.wf c.args.lower.index c.requires.lower) (c.types_differ.ensures.wf c.args.upper.index c.requires.upper)
-    c.sorted-lower_sorted.ensures.sorted c.sorted-upper_sorted.ensures.sorted (c.in-Some.ensures c.args.table.now c.requires.right).verdict
+    c.sorted-lower_sorted.ensures.sorted c.sorted-upper_sorted.ensures.sorted (c.in-Some.ensures.right c.args.table.now c.requires.right).verdict
 
 pub is_sub_no-returns-then-lower_sorted-upper_sorted-clause-verdict : goal.is_sub_no-returns-then-lower_sorted-upper_sorted-clause-verdict
 is_sub_no-returns-then-lower_sorted-upper_sorted-clause-verdict t c =
