@@ -1,7 +1,5 @@
 //! The columns of changes, in each of the three units.
-use crate::{Config, Session};
-use lam_rpc::classify;
-use lam_rules::Dialect;
+use crate::tests::{answered, fresh};
 use std::alloc::{AllocError, Global};
 use std::test::Fail;
 
@@ -24,9 +22,9 @@ fn change(alloc: Global, start: u64, end: u64) -> Result<String, AllocError> {
 
 /// The text of the document after these messages.
 fn text_after(alloc: Global, bodies: &[&str]) -> Result<String, AllocError> {
-    let mut session = Session::new(alloc, Config::new(Dialect::One));
+    let mut session = fresh(alloc);
     for body in bodies {
-        drop(session.step(classify(alloc, body.as_bytes())?)?);
+        drop(answered(alloc, &mut session, body)?);
     }
     String::from_str(alloc, session.text("file:///a").unwrap_or("closed"))
 }

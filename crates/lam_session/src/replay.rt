@@ -1,20 +1,25 @@
 //! What editors really sent, played again: the text before the close is the file that was saved.
+use crate::Session;
 use crate::recordings::{Recording, URI, emacs_cr_lf, emacs_lf, neovim_cr_lf, neovim_lf};
-use crate::{Config, Session};
-use lam_rpc::classify;
-use lam_rules::Dialect;
+use crate::tests::{answered, fresh};
 use std::alloc::{AllocError, Global};
 use std::test::Fail;
 
+/// Keeps the document's text, while it is open.
+fn keep_text(alloc: Global, session: &Session, last: &mut String) -> Result<(), AllocError> {
+    if let Some(text) = session.text(URI) {
+        *last = String::from_str(alloc, text)?;
+    }
+    Ok(())
+}
+
 /// The text before the close, and how the session ended.
 fn replayed(alloc: Global, recording: &Recording) -> Result<(String, Option<u8>), AllocError> {
-    let mut session = Session::new(alloc, Config::new(Dialect::One));
+    let mut session = fresh(alloc);
     let mut last = String::new(alloc);
     for body in recording.bodies.lines() {
-        drop(session.step(classify(alloc, body.as_bytes())?)?);
-        if let Some(text) = session.text(URI) {
-            last = String::from_str(alloc, text)?;
-        }
+        drop(answered(alloc, &mut session, body)?);
+        keep_text(alloc, &session, &mut last)?;
     }
     Ok((last, session.ended()))
 }
