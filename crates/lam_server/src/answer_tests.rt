@@ -1,9 +1,8 @@
 //! What is told of texts through whole runs: their faults, and the types at columns, in both dialects.
 use crate::faults::RunFault;
-use crate::run::run;
-use lam_frame::{BytesIn, BytesOut};
+use crate::tests::ran;
+use lam_frame::BytesOut;
 use lam_rules::Dialect;
-use lam_session::Config;
 use std::alloc::{AllocError, Global};
 use std::process::Abort;
 use std::test::Fail;
@@ -90,10 +89,7 @@ fn written(
     bodies: &[String],
 ) -> Result<(Result<u8, RunFault>, BytesOut), AllocError> {
     let input = frames(alloc, bodies)?;
-    let mut reader = BytesIn::new(input.as_bytes());
-    let mut writer = BytesOut::new(alloc);
-    let outcome = run(alloc, &mut reader, &mut writer, Config::new(dialect));
-    Ok((outcome, writer))
+    Ok(ran(alloc, dialect, input.as_bytes()))
 }
 
 /// Opens the text, asks at each column, and compares every byte.

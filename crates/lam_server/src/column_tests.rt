@@ -1,8 +1,6 @@
 //! The columns of what is published, in each of the three units, through whole runs.
-use crate::run::run;
-use lam_frame::{BytesIn, BytesOut};
+use crate::tests::ran;
 use lam_rules::Dialect;
-use lam_session::Config;
 use std::alloc::{AllocError, Global};
 use std::test::Fail;
 
@@ -49,9 +47,8 @@ fn ends_with(alloc: Global, bodies: &[&str], notice: &str) -> Result<bool, Fail>
         let frame = format!(in alloc; "Content-Length: {length}\r\n\r\n{body}")?;
         input.push_str(frame.as_str())?;
     }
-    let mut reader = BytesIn::new(input.as_bytes());
-    let mut writer = BytesOut::new(alloc);
-    run(alloc, &mut reader, &mut writer, Config::new(Dialect::One))?;
+    let (outcome, writer) = ran(alloc, Dialect::One, input.as_bytes());
+    outcome?;
     Ok(writer.bytes().ends_with(notice.as_bytes()))
 }
 

@@ -41,6 +41,14 @@ fn frames(alloc: Global, bodies: &[&str]) -> Result<String, AllocError> {
     Ok(text)
 }
 
+/// A run on these bytes in memory: its outcome, and what is written.
+pub fn ran(alloc: Global, dialect: Dialect, input: &[u8]) -> (Result<u8, RunFault>, BytesOut) {
+    let mut reader = BytesIn::new(input);
+    let mut writer = BytesOut::new(alloc);
+    let outcome = run(alloc, &mut reader, &mut writer, Config::new(dialect));
+    (outcome, writer)
+}
+
 /// Runs on these bytes in memory, and compares the outcome and the output.
 fn check_bytes(
     rt: &impl Abort,
@@ -49,55 +57,55 @@ fn check_bytes(
     outcome: Result<u8, RunFault>,
     output: &str,
 ) {
-    let mut reader = BytesIn::new(input);
-    let mut writer = BytesOut::new(alloc);
-    let found = run(alloc, &mut reader, &mut writer, Config::new(Dialect::One));
+    let (found, writer) = ran(alloc, Dialect::One, input);
     assert_eq!(rt; found, outcome);
     assert_eq!(rt; writer.bytes(), output.as_bytes());
 }
 
+/// Bytes, the outcome of a run on them, and its output.
+const HEADERS: &[(&str, Result<u8, RunFault>, &str)] = &[
+    ("", Ok(1), ""),
+    (
+        "Content-Length: 44\r\n\r\n{\"jsonrpc\":\"2.0\",\"id\":1,\"method\":\"shutdown\"}",
+        Ok(1),
+        "Content-Length: 83\r\n\r\n{\"error\":{\"code\":-32002,\"message\":\"server not initialized\"},\"id\":1,\"jsonrpc\":\"2.0\"}",
+    ),
+    (
+        "Content-Length: 10\r\n\r\n123456789",
+        Err(RunFault::Header(FrameFault::Truncated)),
+        "",
+    ),
+    (
+        "Content-Length: 2\r\nContent-Length: 2\r\n\r\n{}",
+        Err(RunFault::Header(FrameFault::BadLength)),
+        "",
+    ),
+    (
+        "Content-Length: 67108865\r\n\r\n",
+        Err(RunFault::Header(FrameFault::TooLong)),
+        "",
+    ),
+    ("content-length:\t2 \r\n\r\n{}", Ok(1), INVALID),
+    ("Content-Length: 2\r\n\r\n[]", Ok(1), INVALID),
+    ("Content-Length: 1\r\n\r\n{", Ok(1), UNREADABLE),
+    // The reply stands, and then comes the fault.
+    (
+        "Content-Length: 1\r\n\r\n{Content-Length 1\r\n\r\n{",
+        Err(RunFault::Header(FrameFault::BadHeader)),
+        UNREADABLE,
+    ),
+    (
+        "Content-Length: 1\r\n\r\n{\r\n",
+        Err(RunFault::Header(FrameFault::NoLength)),
+        UNREADABLE,
+    ),
+];
+
 #[test]
 fn headers(rt: HostRuntime) -> Result<(), Fail> {
     let alloc = rt.alloc();
-    let rows = [
-        ("", Ok(1), ""),
-        (
-            "Content-Length: 44\r\n\r\n{\"jsonrpc\":\"2.0\",\"id\":1,\"method\":\"shutdown\"}",
-            Ok(1),
-            "Content-Length: 83\r\n\r\n{\"error\":{\"code\":-32002,\"message\":\"server not initialized\"},\"id\":1,\"jsonrpc\":\"2.0\"}",
-        ),
-        (
-            "Content-Length: 10\r\n\r\n123456789",
-            Err(RunFault::Header(FrameFault::Truncated)),
-            "",
-        ),
-        (
-            "Content-Length: 2\r\nContent-Length: 2\r\n\r\n{}",
-            Err(RunFault::Header(FrameFault::BadLength)),
-            "",
-        ),
-        (
-            "Content-Length: 67108865\r\n\r\n",
-            Err(RunFault::Header(FrameFault::TooLong)),
-            "",
-        ),
-        ("content-length:\t2 \r\n\r\n{}", Ok(1), INVALID),
-        ("Content-Length: 2\r\n\r\n[]", Ok(1), INVALID),
-        ("Content-Length: 1\r\n\r\n{", Ok(1), UNREADABLE),
-        // The reply stands, and then comes the fault.
-        (
-            "Content-Length: 1\r\n\r\n{Content-Length 1\r\n\r\n{",
-            Err(RunFault::Header(FrameFault::BadHeader)),
-            UNREADABLE,
-        ),
-        (
-            "Content-Length: 1\r\n\r\n{\r\n",
-            Err(RunFault::Header(FrameFault::NoLength)),
-            UNREADABLE,
-        ),
-    ];
-    for (input, outcome, output) in rows {
-        check_bytes(&rt, alloc, input.as_bytes(), outcome, output);
+    for (input, outcome, output) in HEADERS {
+        check_bytes(&rt, alloc, input.as_bytes(), *outcome, output);
     }
     Ok(())
 }
@@ -124,81 +132,102 @@ fn header_limit(rt: HostRuntime) -> Result<(), Fail> {
     Ok(())
 }
 
-/// Runs on the frames of these bodies, up to an empty one.
-fn check_bodies(
-    rt: &impl Abort,
-    alloc: Global,
-    bodies: &[&str],
-    status: u8,
-    output: &str,
-) -> Result<(), AllocError> {
+/// Bodies, the status of a run on their frames, and the frames that are written.
+type Row<'a> = (&'a [&'a str], u8, &'a [&'a str]);
+
+fn check_row(rt: &impl Abort, alloc: Global, row: &Row) -> Result<(), AllocError> {
+    let (bodies, status, written) = *row;
     let input = frames(alloc, bodies)?;
-    check_bytes(rt, alloc, input.as_bytes(), Ok(status), output);
+    let mut output = String::new(alloc);
+    for frame in written {
+        output.push_str(frame)?;
+    }
+    check_bytes(rt, alloc, input.as_bytes(), Ok(status), output.as_str());
     Ok(())
 }
+
+fn check_rows(rt: &impl Abort, alloc: Global, rows: &[Row]) -> Result<(), AllocError> {
+    for row in rows {
+        check_row(rt, alloc, row)?;
+    }
+    Ok(())
+}
+
+const SESSIONS: &[Row] = &[
+    (&[INITIALIZE, SHUTDOWN, EXIT], 0, &[INITIALIZED, SHUT_DOWN]),
+    // Without a shutdown, without an exit, and with more behind the exit.
+    (&[INITIALIZE, EXIT], 1, &[INITIALIZED]),
+    (&[INITIALIZE, SHUTDOWN], 1, &[INITIALIZED, SHUT_DOWN]),
+    (&[EXIT, INITIALIZE], 1, &[]),
+    // Replies and notices that are not heeded.
+    (
+        &[
+            r#"{"result":0}"#,
+            r#"{"method":"initialize"}"#,
+            r#"{"method":"initialized","params":{}}"#,
+        ],
+        1,
+        &[],
+    ),
+];
 
 #[test]
 fn whole_session(rt: HostRuntime) -> Result<(), Fail> {
-    let alloc = rt.alloc();
-    let both = format!(in alloc; "{INITIALIZED}{SHUT_DOWN}")?;
-    check_bodies(&rt, alloc, &[INITIALIZE, SHUTDOWN, EXIT], 0, both.as_str())?;
-    // Without a shutdown, without an exit, and with more behind the exit.
-    check_bodies(&rt, alloc, &[INITIALIZE, EXIT], 1, INITIALIZED)?;
-    check_bodies(&rt, alloc, &[INITIALIZE, SHUTDOWN], 1, both.as_str())?;
-    check_bodies(&rt, alloc, &[EXIT, INITIALIZE], 1, "")?;
-    // Replies and notices that are not heeded.
-    let quiet = [
-        r#"{"result":0}"#,
-        r#"{"method":"initialize"}"#,
-        r#"{"method":"initialized","params":{}}"#,
-    ];
-    check_bodies(&rt, alloc, &quiet, 1, "")?;
+    check_rows(&rt, rt.alloc(), SESSIONS)?;
     Ok(())
 }
 
+const EXIT_REQUEST: &str = r#"{"id":1,"method":"exit"}"#;
+
+const INITIALIZE_AGAIN: &str = r#"{"id":1,"method":"initialize"}"#;
+
+const REFUSALS: &[Row] = &[
+    (
+        &[r#"{"id":18446744073709551615,"method":"shutdown"}"#],
+        1,
+        &[
+            "Content-Length: 102\r\n\r\n{\"error\":{\"code\":-32002,\"message\":\"server not initialized\"},\"id\":18446744073709551615,\"jsonrpc\":\"2.0\"}",
+        ],
+    ),
+    (&[r#"{"id":1.5,"method":"shutdown"}"#], 1, &[INVALID]),
+    (&[r#"{"id":null,"method":"shutdown"}"#], 1, &[INVALID]),
+    (
+        &[EXIT_REQUEST],
+        1,
+        &[
+            "Content-Length: 83\r\n\r\n{\"error\":{\"code\":-32002,\"message\":\"server not initialized\"},\"id\":1,\"jsonrpc\":\"2.0\"}",
+        ],
+    ),
+    (
+        &[INITIALIZE, EXIT_REQUEST],
+        1,
+        &[
+            INITIALIZED,
+            "Content-Length: 77\r\n\r\n{\"error\":{\"code\":-32601,\"message\":\"method not found\"},\"id\":1,\"jsonrpc\":\"2.0\"}",
+        ],
+    ),
+    (
+        &[INITIALIZE, INITIALIZE_AGAIN],
+        1,
+        &[
+            INITIALIZED,
+            "Content-Length: 80\r\n\r\n{\"error\":{\"code\":-32600,\"message\":\"already initialized\"},\"id\":1,\"jsonrpc\":\"2.0\"}",
+        ],
+    ),
+    (
+        &[INITIALIZE, SHUTDOWN, INITIALIZE_AGAIN, EXIT],
+        0,
+        &[
+            INITIALIZED,
+            SHUT_DOWN,
+            "Content-Length: 80\r\n\r\n{\"error\":{\"code\":-32600,\"message\":\"server is shut down\"},\"id\":1,\"jsonrpc\":\"2.0\"}",
+        ],
+    ),
+];
+
 #[test]
 fn refusals(rt: HostRuntime) -> Result<(), Fail> {
-    let alloc = rt.alloc();
-    let fresh = [
-        (
-            r#"{"id":18446744073709551615,"method":"shutdown"}"#,
-            "Content-Length: 102\r\n\r\n{\"error\":{\"code\":-32002,\"message\":\"server not initialized\"},\"id\":18446744073709551615,\"jsonrpc\":\"2.0\"}",
-        ),
-        (r#"{"id":1.5,"method":"shutdown"}"#, INVALID),
-        (r#"{"id":null,"method":"shutdown"}"#, INVALID),
-        (
-            r#"{"id":1,"method":"exit"}"#,
-            "Content-Length: 83\r\n\r\n{\"error\":{\"code\":-32002,\"message\":\"server not initialized\"},\"id\":1,\"jsonrpc\":\"2.0\"}",
-        ),
-    ];
-    for (body, reply) in fresh {
-        check_bodies(&rt, alloc, &[body], 1, reply)?;
-    }
-    let running = [
-        (
-            r#"{"id":1,"method":"exit"}"#,
-            "Content-Length: 77\r\n\r\n{\"error\":{\"code\":-32601,\"message\":\"method not found\"},\"id\":1,\"jsonrpc\":\"2.0\"}",
-        ),
-        (
-            r#"{"id":1,"method":"initialize"}"#,
-            "Content-Length: 80\r\n\r\n{\"error\":{\"code\":-32600,\"message\":\"already initialized\"},\"id\":1,\"jsonrpc\":\"2.0\"}",
-        ),
-    ];
-    for (body, reply) in running {
-        let output = format!(in alloc; "{INITIALIZED}{reply}")?;
-        check_bodies(&rt, alloc, &[INITIALIZE, body], 1, output.as_str())?;
-    }
-    let late = r#"{"id":1,"method":"initialize"}"#;
-    let refused =
-        "Content-Length: 80\r\n\r\n{\"error\":{\"code\":-32600,\"message\":\"server is shut down\"},\"id\":1,\"jsonrpc\":\"2.0\"}";
-    let output = format!(in alloc; "{INITIALIZED}{SHUT_DOWN}{refused}")?;
-    check_bodies(
-        &rt,
-        alloc,
-        &[INITIALIZE, SHUTDOWN, late, EXIT],
-        0,
-        output.as_str(),
-    )?;
+    check_rows(&rt, rt.alloc(), REFUSALS)?;
     Ok(())
 }
 
@@ -215,26 +244,29 @@ fn position_encodings(rt: HostRuntime) -> Result<(), Fail> {
         let output = format!(in alloc;
             "Content-Length: {length}\r\n\r\n{{\"id\":0,\"jsonrpc\":\"2.0\",\"result\":{{\"capabilities\":{{\"hoverProvider\":true,\"positionEncoding\":\"{chosen}\",\"textDocumentSync\":{{\"change\":2,\"openClose\":true}}}}}}}}"
         )?;
-        check_bodies(&rt, alloc, &[body.as_str()], 1, output.as_str())?;
+        check_row(&rt, alloc, &(&[body.as_str()], 1, &[output.as_str()]))?;
     }
     Ok(())
 }
 
-#[test]
-fn documents(rt: HostRuntime) -> Result<(), Fail> {
-    let alloc = rt.alloc();
-    let bodies = [
+const DOCUMENTS: &[Row] = &[(
+    &[
         INITIALIZE,
         r#"{"method":"textDocument/didOpen","params":{"textDocument":{"uri":"file:///a","version":1,"text":""}}}"#,
         r#"{"method":"textDocument/didClose","params":{"textDocument":{"uri":"file:///a"}}}"#,
         r#"{"method":"textDocument/didClose","params":{"textDocument":{"uri":"file:///a"}}}"#,
-    ];
-    let opened =
-        "Content-Length: 118\r\n\r\n{\"jsonrpc\":\"2.0\",\"method\":\"textDocument/publishDiagnostics\",\"params\":{\"diagnostics\":[],\"uri\":\"file:///a\",\"version\":1}}";
-    let closed =
-        "Content-Length: 106\r\n\r\n{\"jsonrpc\":\"2.0\",\"method\":\"textDocument/publishDiagnostics\",\"params\":{\"diagnostics\":[],\"uri\":\"file:///a\"}}";
-    let output = format!(in alloc; "{INITIALIZED}{opened}{closed}")?;
-    check_bodies(&rt, alloc, &bodies, 1, output.as_str())?;
+    ],
+    1,
+    &[
+        INITIALIZED,
+        "Content-Length: 118\r\n\r\n{\"jsonrpc\":\"2.0\",\"method\":\"textDocument/publishDiagnostics\",\"params\":{\"diagnostics\":[],\"uri\":\"file:///a\",\"version\":1}}",
+        "Content-Length: 106\r\n\r\n{\"jsonrpc\":\"2.0\",\"method\":\"textDocument/publishDiagnostics\",\"params\":{\"diagnostics\":[],\"uri\":\"file:///a\"}}",
+    ],
+)];
+
+#[test]
+fn documents(rt: HostRuntime) -> Result<(), Fail> {
+    check_rows(&rt, rt.alloc(), DOCUMENTS)?;
     Ok(())
 }
 
@@ -346,18 +378,12 @@ impl Sink for Hearer<'_> {
     }
 }
 
-#[test]
-fn answers_before_it_pulls_again(rt: HostRuntime) -> Result<(), Fail> {
-    let alloc = rt.alloc();
-    let output = format!(in alloc; "{INITIALIZED}{SHUT_DOWN}")?;
-    let mut messages = Vec::new(alloc);
-    for body in [INITIALIZE, SHUTDOWN, EXIT] {
-        messages.push(frames(alloc, &[body])?)?;
-    }
+/// A run that is asked for one message at a time: its outcome, and what is written.
+fn asked(alloc: Global, frames: &[String], owed: &[usize]) -> (Result<u8, RunFault>, BytesOut) {
     let answered = Cell::new(0);
     let mut reader = Asker {
-        frames: messages.as_slice(),
-        owed: &[0, 1, 2, 2],
+        frames,
+        owed,
         given: 0,
         answered: &answered,
         failures: 0,
@@ -367,9 +393,21 @@ fn answers_before_it_pulls_again(rt: HostRuntime) -> Result<(), Fail> {
         unflushed: false,
         answered: &answered,
     };
-    let found = run(alloc, &mut reader, &mut writer, Config::new(Dialect::One));
+    let outcome = run(alloc, &mut reader, &mut writer, Config::new(Dialect::One));
+    (outcome, writer.inner)
+}
+
+#[test]
+fn answers_before_it_pulls_again(rt: HostRuntime) -> Result<(), Fail> {
+    let alloc = rt.alloc();
+    let output = format!(in alloc; "{INITIALIZED}{SHUT_DOWN}")?;
+    let mut messages = Vec::new(alloc);
+    for body in [INITIALIZE, SHUTDOWN, EXIT] {
+        messages.push(frames(alloc, &[body])?)?;
+    }
+    let (found, writer) = asked(alloc, messages.as_slice(), &[0, 1, 2, 2]);
     assert_eq!(rt; found, Ok(0));
-    assert_eq!(rt; writer.inner.bytes(), output.as_bytes());
+    assert_eq!(rt; writer.bytes(), output.as_bytes());
     Ok(())
 }
 
@@ -386,76 +424,77 @@ fn kind_of(alloc: Global, words: &[&str]) -> &'static str {
     }
 }
 
+const WORDS: &[(&[&str], &str)] = &[
+    (&[], "one"),
+    (&["lam_server"], "one"),
+    (&["lam_server", "--help"], "help"),
+    (&["lam_server", "-h"], "help"),
+    (&["lam_server", "--stdio"], "one"),
+    (&["lam_server", "--stdio", "--clientProcessId", "7"], "one"),
+    (&["lam_server", "--clientProcessId"], "usage"),
+    (&["lam_server", "--port"], "usage"),
+    (&["lam_server", "file"], "usage"),
+    (&["lam_server", "--stdio", "--stdio"], "usage"),
+    (&["lam_server", "--dialect", "1"], "one"),
+    (&["lam_server", "--dialect", "2"], "two"),
+    (&["lam_server", "--dialect", "3"], "usage"),
+    (&["lam_server", "--dialect", ""], "usage"),
+    (&["lam_server", "--dialect=2"], "two"),
+];
+
 #[test]
 fn words(rt: HostRuntime) {
-    let alloc = rt.alloc();
-    let none: [&str; 0] = [];
-    assert_eq!(rt; kind_of(alloc, &none), "one");
-    assert_eq!(rt; kind_of(alloc, &["lam_server"]), "one");
-    assert_eq!(rt; kind_of(alloc, &["lam_server", "--help"]), "help");
-    assert_eq!(rt; kind_of(alloc, &["lam_server", "-h"]), "help");
-    assert_eq!(rt; kind_of(alloc, &["lam_server", "--stdio"]), "one");
-    let editor = ["lam_server", "--stdio", "--clientProcessId", "7"];
-    assert_eq!(rt; kind_of(alloc, &editor), "one");
-    assert_eq!(rt;
-        kind_of(alloc, &["lam_server", "--clientProcessId"]),
-        "usage"
-    );
-    assert_eq!(rt; kind_of(alloc, &["lam_server", "--port"]), "usage");
-    assert_eq!(rt; kind_of(alloc, &["lam_server", "file"]), "usage");
-    assert_eq!(rt;
-        kind_of(alloc, &["lam_server", "--stdio", "--stdio"]),
-        "usage"
-    );
-    for (dialect, kind) in [("1", "one"), ("2", "two"), ("3", "usage"), ("", "usage")] {
-        assert_eq!(rt; kind_of(alloc, &["lam_server", "--dialect", dialect]), kind);
+    for (words, kind) in WORDS {
+        let count = words.len();
+        assert_eq!(rt; kind_of(rt.alloc(), words), *kind, "of {count} words");
     }
-    assert_eq!(rt; kind_of(alloc, &["lam_server", "--dialect=2"]), "two");
 }
+
+/// Faults, and the status and the line that a program ends with.
+const ENDS: &[(RunFault, u8, &str)] = &[
+    (
+        RunFault::Header(FrameFault::NoLength),
+        3,
+        "lam_server: F1 NoLength",
+    ),
+    (
+        RunFault::Header(FrameFault::BadLength),
+        3,
+        "lam_server: F2 BadLength",
+    ),
+    (
+        RunFault::Header(FrameFault::TooLong),
+        3,
+        "lam_server: F3 TooLong",
+    ),
+    (
+        RunFault::Header(FrameFault::BadHeader),
+        3,
+        "lam_server: F4 BadHeader",
+    ),
+    (
+        RunFault::Header(FrameFault::Truncated),
+        3,
+        "lam_server: F5 Truncated",
+    ),
+    (
+        RunFault::Header(FrameFault::Memory),
+        5,
+        "lam_server: F7 Memory",
+    ),
+    (
+        RunFault::Header(FrameFault::Spent),
+        4,
+        "lam_server: F6 Device",
+    ),
+    (RunFault::Device, 4, "lam_server: F6 Device"),
+    (RunFault::Memory, 5, "lam_server: F7 Memory"),
+];
 
 #[test]
 fn ends(rt: HostRuntime) {
-    let rows = [
-        (
-            RunFault::Header(FrameFault::NoLength),
-            3,
-            "lam_server: F1 NoLength",
-        ),
-        (
-            RunFault::Header(FrameFault::BadLength),
-            3,
-            "lam_server: F2 BadLength",
-        ),
-        (
-            RunFault::Header(FrameFault::TooLong),
-            3,
-            "lam_server: F3 TooLong",
-        ),
-        (
-            RunFault::Header(FrameFault::BadHeader),
-            3,
-            "lam_server: F4 BadHeader",
-        ),
-        (
-            RunFault::Header(FrameFault::Truncated),
-            3,
-            "lam_server: F5 Truncated",
-        ),
-        (
-            RunFault::Header(FrameFault::Memory),
-            5,
-            "lam_server: F7 Memory",
-        ),
-        (
-            RunFault::Header(FrameFault::Spent),
-            4,
-            "lam_server: F6 Device",
-        ),
-        (RunFault::Device, 4, "lam_server: F6 Device"),
-        (RunFault::Memory, 5, "lam_server: F7 Memory"),
-    ];
-    for (fault, status, line) in rows {
-        assert_eq!(rt; status_of(&fault), status);
-        assert_eq!(rt; line_of(&fault), line);
+    for (fault, status, line) in ENDS {
+        assert_eq!(rt; status_of(fault), *status);
+        assert_eq!(rt; line_of(fault), *line);
     }
 }
