@@ -2,6 +2,7 @@
 use crate::tests::ran;
 use lam_rules::Dialect;
 use std::alloc::{AllocError, Global};
+use std::process::Abort;
 use std::test::Fail;
 
 const EMOJI: &str =
@@ -17,6 +18,11 @@ const TWO_CHANGES: &str =
 /// Without its `;`.
 const SWAPPED: &str =
     r#"{"method":"textDocument/didChange","params":{"textDocument":{"uri":"file:///a"},"contentChanges":[{"range":{"start":{"line":7,"character":0},"end":{"line":1,"character":10}},"text":""}]}}"#;
+
+fn frame(alloc: Global, body: &str) -> Result<String, AllocError> {
+    let length = body.len();
+    format!(in alloc; "Content-Length: {length}\r\n\r\n{body}")
+}
 
 fn initialize(alloc: Global, encoding: &str) -> Result<String, AllocError> {
     format!(in alloc;
@@ -39,40 +45,48 @@ fn notice(alloc: Global, line: u64, start: u64) -> Result<String, AllocError> {
     )
 }
 
-/// Whether this is the end of what is written in a run on the frames of these bodies.
-fn ends_with(alloc: Global, bodies: &[&str], notice: &str) -> Result<bool, Fail> {
-    let mut input = String::new(alloc);
+/// The frames of a beginning in this unit and of these bodies.
+fn frames(alloc: Global, encoding: &str, bodies: &[&str]) -> Result<String, AllocError> {
+    let mut text = frame(alloc, initialize(alloc, encoding)?.as_str())?;
     for body in bodies {
-        let length = body.len();
-        let frame = format!(in alloc; "Content-Length: {length}\r\n\r\n{body}")?;
-        input.push_str(frame.as_str())?;
+        text.push_str(frame(alloc, body)?.as_str())?;
     }
+    Ok(text)
+}
+
+/// Runs on these bodies behind a beginning in this unit, and finds the notice of a fault at this
+/// place at the end of what is written.
+fn check_end(
+    rt: &impl Abort,
+    alloc: Global,
+    encoding: &str,
+    bodies: &[&str],
+    (line, start): (u64, u64),
+) -> Result<(), Fail> {
+    let input = frames(alloc, encoding, bodies)?;
     let (outcome, writer) = ran(alloc, Dialect::One, input.as_bytes());
     outcome?;
-    Ok(writer.bytes().ends_with(notice.as_bytes()))
+    let notice = notice(alloc, line, start)?;
+    let found = writer.bytes().ends_with(notice.as_bytes());
+    assert!(rt; found, "in {encoding}");
+    Ok(())
 }
 
 #[test]
 fn behind_an_emoji(rt: HostRuntime) -> Result<(), Fail> {
     let alloc = rt.alloc();
+    let change = change(alloc, 0, 3, "*/#")?;
     // Where the stray character stands, and where it comes to stand behind the first three units,
     // which end inside the emoji's bytes, inside its pair, and behind it.
-    let rows = [("utf-8", 9, 4), ("utf-16", 7, 4), ("utf-32", 6, 5)];
-    for (encoding, opened, changed) in rows {
-        let initialize = initialize(alloc, encoding)?;
-        let change = change(alloc, 0, 3, "*/#")?;
-        let expected = notice(alloc, 0, opened)?;
-        let opening = [initialize.as_str(), EMOJI];
-        assert!(rt;
-            ends_with(alloc, &opening, expected.as_str())?,
-            "in {encoding}"
-        );
-        let expected = notice(alloc, 0, changed)?;
-        let changing = [initialize.as_str(), EMOJI, change.as_str()];
-        assert!(rt;
-            ends_with(alloc, &changing, expected.as_str())?,
-            "in {encoding}"
-        );
+    for (encoding, opened, changed) in [("utf-8", 9, 4), ("utf-16", 7, 4), ("utf-32", 6, 5)] {
+        check_end(&rt, alloc, encoding, &[EMOJI], (0, opened))?;
+        check_end(
+            &rt,
+            alloc,
+            encoding,
+            &[EMOJI, change.as_str()],
+            (0, changed),
+        )?;
     }
     Ok(())
 }
@@ -80,39 +94,15 @@ fn behind_an_emoji(rt: HostRuntime) -> Result<(), Fail> {
 #[test]
 fn behind_changes_of_two_lines(rt: HostRuntime) -> Result<(), Fail> {
     let alloc = rt.alloc();
+    let past_the_line = change(alloc, 0, 99, "#")?;
+    let past_the_text = change(alloc, 7, 0, "#")?;
+    let typed = [TWO_LINES, past_the_line.as_str()];
+    let changed = [TWO_LINES, TWO_CHANGES, past_the_text.as_str()];
+    let swapped = [TWO_LINES, TWO_CHANGES, SWAPPED, past_the_text.as_str()];
     for encoding in ["utf-8", "utf-16", "utf-32"] {
-        let initialize = initialize(alloc, encoding)?;
-        let past_the_line = change(alloc, 0, 99, "#")?;
-        let past_the_text = change(alloc, 7, 0, "#")?;
-        let expected = notice(alloc, 0, 6)?;
-        let bodies = [initialize.as_str(), TWO_LINES, past_the_line.as_str()];
-        assert!(rt;
-            ends_with(alloc, &bodies, expected.as_str())?,
-            "in {encoding}"
-        );
-        let expected = notice(alloc, 1, 11)?;
-        let bodies = [
-            initialize.as_str(),
-            TWO_LINES,
-            TWO_CHANGES,
-            past_the_text.as_str(),
-        ];
-        assert!(rt;
-            ends_with(alloc, &bodies, expected.as_str())?,
-            "in {encoding}"
-        );
-        let expected = notice(alloc, 1, 10)?;
-        let bodies = [
-            initialize.as_str(),
-            TWO_LINES,
-            TWO_CHANGES,
-            SWAPPED,
-            past_the_text.as_str(),
-        ];
-        assert!(rt;
-            ends_with(alloc, &bodies, expected.as_str())?,
-            "in {encoding}"
-        );
+        check_end(&rt, alloc, encoding, &typed, (0, 6))?;
+        check_end(&rt, alloc, encoding, &changed, (1, 11))?;
+        check_end(&rt, alloc, encoding, &swapped, (1, 10))?;
     }
     Ok(())
 }
