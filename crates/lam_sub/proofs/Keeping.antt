@@ -1,5 +1,5 @@
 -- Answers that are kept stay right: one more is, and a table grows.
-use Rattle.std.proofs.Common.{◌≡◌, ◌<◌, ◌↔◌, List, Bool, true, false, ◌&&◌, cond, IsTrue, length, sym, refl, subst, arith, Option, Some, None, IfSome, IfNone}
+use Rattle.std.proofs.Common.{◌≡◌, ◌↔◌, List, Bool, true, false, ◌&&◌, cond, IsTrue, sym, refl, subst, arith, Option, Some, None, IfSome, IfNone}
 use Rattle.std.specs.Prelude.{eqb}
 use Rattle.std.specs.HashMap.{HashMap, get, Updates, IsUnchanged}
 use Rattle.std.specs.Map.{lookup}

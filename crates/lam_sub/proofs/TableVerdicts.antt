@@ -5,11 +5,11 @@ use Rattle.std.specs.declared.alloc.Global.{Global}
 use Rattle.lam_rules.specs.Types.{Label, Typ, bool, nat, unit, top, arrow, record_of, Fields, no_fields, field, joined, Has, IsAbsent, nodes, nodes_in, IsWellFormed}
 use Rattle.lam_rules.specs.Texts.{is_not_after, placed, sorted, sorted_fields}
 use Rattle.lam_rules.specs.Subtyping.{IsBelow}
-use Rattle.lam_rules.specs.Numbers.{type_at, type_of, Keeps, fields_over, shaped, IsOver, AreBelow as AreNumbersBelow}
+use Rattle.lam_rules.specs.Numbers.{type_of, fields_over, shaped, IsOver, AreBelow as AreNumbersBelow}
 use Rattle.lam_rules.specs.declared.rules.Dialect.{Dialect}
 use Rattle.lam_rules.specs.declared.table.TyNo.{TyNo}
 use Rattle.lam_rules.specs.declared.table.Shape.{Shape}
-use Rattle.lam_rules.proofs.Tables.{kept_type, keeps_length, below_more}
+use Rattle.lam_rules.proofs.Tables.{below_more}
 use Rattle.lam_rules.proofs.SortedBelow.{below_sorted, sorted_below}
 use Rattle.lam_rules.proofs.ByShape.{below_wf}
 use Rattle.lam_rules.proofs.Composing.{below_refl, below_trans}

@@ -1,5 +1,5 @@
 -- Answers on pairs of numbers that were given once and are kept.
-use Rattle.std.specs.Prelude.{◌↔◌, ◌&&◌, ◌<◌, Bool, List, length, Option, IfSome, IfNone, IsTrue, eqb}
+use Rattle.std.specs.Prelude.{◌↔◌, ◌&&◌, Bool, List, Option, IfSome, IfNone, IsTrue, eqb}
 use Rattle.std.specs.HashMap.{HashMap, get}
 use Rattle.std.specs.declared.hash.FoldHasher.{FoldHasher}
 use Rattle.std.specs.declared.hash.BuildHasherDefault.{BuildHasherDefault}

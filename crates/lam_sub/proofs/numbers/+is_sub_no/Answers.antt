@@ -3,7 +3,6 @@ use Rattle.std.proofs.lemmas.Result.{IfOk-weaker}
 use Rattle.lam_rules.specs.Types.{Has, IsAbsent, IsWellFormed, record_of, nodes}
 use Rattle.lam_rules.specs.Numbers.{type_at, type_of, fields_over}
 use Rattle.lam_rules.specs.Subtyping.{IsBelow}
-use Rattle.lam_sub.specs.Remembered.{AreRight}
 use Rattle.lam_sub.proofs.Below.{no_field, nodes_of_field, record_iff}
 use Rattle.lam_sub.proofs.ByVariant.{field_fails, field_holds, found_field, not_true, arrows_fail, arrows_rest}
 use Rattle.lam_sub.proofs.TableVerdicts.{nodes_sorted, sorted_verdict, equal_sorted, arrow_numbers, record_of_numbers, not_arrow_numbers, not_record_numbers, stand_in, number_first, number_item, number_has}
