@@ -3,7 +3,7 @@ use Rattle.std.proofs.Common.{◌≡◌, ◌∙◌, ℕ, ◌<◌, ◌++◌, List
 use Rattle.std.specs.declared.alloc.Global.{Global}
 use Rattle.lam_rules.specs.Types.{Typ, top, arrow, record_of, Fields, joined, IsWellFormed, AreWellFormed}
 use Rattle.lam_rules.specs.Subtyping.{IsBelow}
-use Rattle.lam_rules.specs.Numbers.{type_of, Keeps, fields_over, shaped, IsOver, AreBelow, HaveDistinctLabels}
+use Rattle.lam_rules.specs.Numbers.{type_of, Keeps, fields_over, shaped, IsOver, AreEarlier, HaveDistinctLabels}
 use Rattle.lam_rules.specs.declared.rules.Dialect.{Dialect}
 use Rattle.lam_rules.specs.declared.table.TyNo.{TyNo}
 use Rattle.lam_rules.specs.declared.table.Shape.{Shape}
@@ -125,14 +125,14 @@ join_labels old now s t fs gs items d is_s is_t ws wt are =
     let join = record_join old now s t (record_of (fields_over now items)) fs gs items d is_s is_t ws wt are refl in
     distinct_of now items (below_wf s (record_of (fields_over now items)) d join.left).1
 
-fields_met : (old now : List Typ) (fs gs met more items : List (String Global × TyNo)) → Keeps old now → AreBelow (length old) more
+fields_met : (old now : List Typ) (fs gs met more items : List (String Global × TyNo)) → Keeps old now → AreEarlier (length old) more
     → fields_over old more ≡ other_fields (fields_over old gs) (fields_over old fs) → items ≡ met ++ more
     → joined (fields_over now met) (other_fields (fields_over old gs) (fields_over old fs)) ≡ fields_over now items
 fields_met old now fs gs met more items keeps below others is =
     sym (ap (λ xs. fields_over now xs) is ∙ fields_over-append now met more ∙ ap (λ x. joined (fields_over now met) x) (kept_fields old now more keeps below ∙ others))
 
 pub record_meet : (old now : List Typ) (s t u : Typ) (fs gs met more items : List (String Global × TyNo)) (d : Dialect) → s ≡ record_of (fields_over old fs) → t ≡ record_of (fields_over old gs)
-    → IsWellFormed s → IsWellFormed t → Keeps old now → AreMet (OrderlyMeets d) (fields_over old gs) (fields_over old fs) (fields_over now met) → AreBelow (length old) more
+    → IsWellFormed s → IsWellFormed t → Keeps old now → AreMet (OrderlyMeets d) (fields_over old gs) (fields_over old fs) (fields_over now met) → AreEarlier (length old) more
     → fields_over old more ≡ other_fields (fields_over old gs) (fields_over old fs) → items ≡ met ++ more
     → u ≡ record_of (fields_over now items) → IsMeet s t u d
 record_meet old now s t u fs gs met more items d is_s is_t ws wt keeps are below others is is_u =
@@ -141,7 +141,7 @@ record_meet old now s t u fs gs met more items d is_s is_t ws wt keeps are below
     (are_meets d (fields_over old gs) (fields_over old fs) (fields_over now met) are))
 
 pub meet_labels : (old now : List Typ) (s t : Typ) (fs gs met more items : List (String Global × TyNo)) (d : Dialect) → s ≡ record_of (fields_over old fs) → t ≡ record_of (fields_over old gs)
-    → IsWellFormed s → IsWellFormed t → Keeps old now → AreMet (OrderlyMeets d) (fields_over old gs) (fields_over old fs) (fields_over now met) → AreBelow (length old) more
+    → IsWellFormed s → IsWellFormed t → Keeps old now → AreMet (OrderlyMeets d) (fields_over old gs) (fields_over old fs) (fields_over now met) → AreEarlier (length old) more
     → fields_over old more ≡ other_fields (fields_over old gs) (fields_over old fs) → items ≡ met ++ more → HaveDistinctLabels items
 meet_labels old now s t fs gs met more items d is_s is_t ws wt keeps are below others is =
     let meet = record_meet old now s t (record_of (fields_over now items)) fs gs met more items d is_s is_t ws wt keeps are below others is refl in
@@ -180,13 +180,13 @@ record_join_order old now s t u fs gs items d is_s is_t are is_u =
     order_seen JoinsInOrder s t u _ _ _ (sym is_s) (sym is_t) (sym is_u) (join_of_records (joins_are_ordered d (fields_over old gs) (fields_over old fs) (fields_over now items) are))
 
 pub record_meet_order : (old now : List Typ) (s t u : Typ) (fs gs met more items : List (String Global × TyNo)) (d : Dialect) → s ≡ record_of (fields_over old fs) → t ≡ record_of (fields_over old gs)
-    → Keeps old now → AreMet (OrderlyMeets d) (fields_over old gs) (fields_over old fs) (fields_over now met) → AreBelow (length old) more
+    → Keeps old now → AreMet (OrderlyMeets d) (fields_over old gs) (fields_over old fs) (fields_over now met) → AreEarlier (length old) more
     → fields_over old more ≡ other_fields (fields_over old gs) (fields_over old fs) → items ≡ met ++ more
     → u ≡ record_of (fields_over now items) → MeetsInOrder s t u
 record_meet_order old now s t u fs gs met more items d is_s is_t keeps are below others is is_u =
     order_seen MeetsInOrder s t u _ _ _ (sym is_s) (sym is_t) (ap record_of (fields_met old now fs gs met more items keeps below others is) ∙ sym is_u)
     (meet_of_records (meets_are_ordered d (fields_over old gs) (fields_over old fs) (fields_over now met) are))
 
-pub below_append : (n : ℕ) (fs gs : List (String Global × TyNo)) → AreBelow n fs → AreBelow n gs → AreBelow n (fs ++ gs)
+pub below_append : (n : ℕ) (fs gs : List (String Global × TyNo)) → AreEarlier n fs → AreEarlier n gs → AreEarlier n (fs ++ gs)
 below_append n [] gs one other = other
 below_append n (f ∷ fs) gs one other = (one.0, below_append n fs gs one.1 other)

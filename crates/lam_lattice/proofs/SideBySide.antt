@@ -3,7 +3,7 @@ use Rattle.std.proofs.Common.{◌≡◌, ◌∙◌, ℕ, ◌+◌, ◌<◌, ◌�
 use Rattle.std.proofs.lemmas.List.{drop_all, take_more}
 use Rattle.std.specs.declared.alloc.Global.{Global}
 use Rattle.lam_rules.specs.Types.{Label, Typ, record_of, Fields, no_fields, field, joined, Has, IsAbsent}
-use Rattle.lam_rules.specs.Numbers.{type_of, Keeps, fields_over, AreBelow}
+use Rattle.lam_rules.specs.Numbers.{type_of, Keeps, fields_over, AreEarlier}
 use Rattle.lam_rules.specs.declared.rules.Dialect.{Dialect}
 use Rattle.lam_rules.specs.declared.table.TyNo.{TyNo}
 use Rattle.lam_rules.proofs.Tables.{keeps_same, kept_type, kept_fields}
@@ -56,11 +56,11 @@ some_then : {X : Type 0} (A B : X → Type 0) (o : Option X) → ((x : X) → A 
 some_then A B (Some x) f a = f x a
 some_then A B None f a = tt
 
-pub matches_below : (n : ℕ) (right left : List (String Global × TyNo)) (ms : List Match) → AreMatches right left ms → AreBelow n left → AreBelow n right → AreMatchesBelow n ms
+pub matches_below : (n : ℕ) (right left : List (String Global × TyNo)) (ms : List Match) → AreMatches right left ms → AreEarlier n left → AreEarlier n right → AreMatchesBelow n ms
 matches_below n right [] [] are one other = tt
 matches_below n right (f ∷ fs) (m ∷ ms) are one other = (
   let same = ap (λ x. x.index) are.0.left in let here = one.0 in omega arith,
-  some_then (λ number. (k : ℕ) → AreBelow k right → number.index < k) (λ number. number.index < n) m.right (λ number below. below n other) are.0.below,
+  some_then (λ number. (k : ℕ) → AreEarlier k right → number.index < k) (λ number. number.index < n) m.right (λ number below. below n other) are.0.below,
   matches_below n right fs ms are.1 one.1 other,
 )
 matches_below n right [] (m ∷ ms) are one other = absurd are
@@ -80,7 +80,7 @@ abbrev pub bound_of : List Match → ℕ
 bound_of [] = 0
 bound_of (m ∷ ms) = max (m.left.index + 1) (bound_of ms)
 
-pub matches_bound : (n : ℕ) (right left : List (String Global × TyNo)) (ms : List Match) → AreMatches right left ms → AreBelow n left → bound_of ms ≤ n
+pub matches_bound : (n : ℕ) (right left : List (String Global × TyNo)) (ms : List Match) → AreMatches right left ms → AreEarlier n left → bound_of ms ≤ n
 matches_bound n right [] [] are below = omega arith
 matches_bound n right (f ∷ fs) (m ∷ ms) are below =
     let rest = matches_bound n right fs ms are.1 below.1 in
@@ -98,7 +98,7 @@ match_bound (o ∷ ms) (suc i) m lt is = let rest = match_bound ms i m (omega ar
 -- what is made, with what will be made of the rest, is made of the whole
 
 pushed_number : (before now : List Typ) (made more : List (String Global × TyNo)) (label : String Global) (number : TyNo) (l : Label) (hs : Fields)
-    → Keeps before now → AreBelow (length before) made → more ≡ made ++ (label, number) ∷ [] → string_bytes label ≡ l
+    → Keeps before now → AreEarlier (length before) made → more ≡ made ++ (label, number) ∷ [] → string_bytes label ≡ l
     → joined (fields_over now more) hs ≡ joined (fields_over before made) (field l (type_of now number) hs)
 pushed_number before now made more label number l hs keeps below pushed same =
     ap (λ xs. joined (fields_over now xs) hs) pushed
@@ -113,7 +113,7 @@ JoinsSoFar IsMade old now ms i made = (left right : List (String Global × TyNo)
 
 pub joins_more : (IsMade : Typ → Typ → Typ → Type 0) (old before now : List Typ) (ms : List Match) (i : ℕ) (m : Match) (made more : List (String Global × TyNo)) (label : String Global) (r number : TyNo)
     → AreMatchesBelow (length old) ms → i < length ms → m ≡ get_or ms i m → m.right ≡ Some r
-    → Keeps old before → Keeps before now → AreBelow (length before) made
+    → Keeps old before → Keeps before now → AreEarlier (length before) made
     → IsMade (type_of before m.left) (type_of before r) (type_of now number)
     → more ≡ made ++ (label, number) ∷ [] → string_bytes label ≡ string_bytes m.label
     → JoinsSoFar IsMade old before ms i made → JoinsSoFar IsMade old now ms (i + 1) more
@@ -155,7 +155,7 @@ MeetsSoFar IsMade old now ms i made = (left right : List (String Global × TyNo)
 
 pub meets_more : (IsMade : Typ → Typ → Typ → Type 0) (old before now : List Typ) (ms : List Match) (i : ℕ) (m : Match) (made more : List (String Global × TyNo)) (label : String Global) (r number : TyNo)
     → AreMatchesBelow (length old) ms → i < length ms → m ≡ get_or ms i m → m.right ≡ Some r
-    → Keeps old before → Keeps before now → AreBelow (length before) made
+    → Keeps old before → Keeps before now → AreEarlier (length before) made
     → IsMade (type_of before m.left) (type_of before r) (type_of now number)
     → more ≡ made ++ (label, number) ∷ [] → string_bytes label ≡ string_bytes m.label
     → MeetsSoFar IsMade old before ms i made → MeetsSoFar IsMade old now ms (i + 1) more
@@ -175,7 +175,7 @@ meets_more IsMade old before now ms i m made more label r number stand lt is is_
 
 pub meets_alone : (IsMade : Typ → Typ → Typ → Type 0) (old now : List Typ) (ms : List Match) (i : ℕ) (m : Match) (made more : List (String Global × TyNo)) (label : String Global)
     → AreMatchesBelow (length old) ms → i < length ms → m ≡ get_or ms i m → m.right ≡ None
-    → Keeps old now → AreBelow (length now) made → more ≡ made ++ (label, m.left) ∷ [] → string_bytes label ≡ string_bytes m.label
+    → Keeps old now → AreEarlier (length now) made → more ≡ made ++ (label, m.left) ∷ [] → string_bytes label ≡ string_bytes m.label
     → MeetsSoFar IsMade old now ms i made → MeetsSoFar IsMade old now ms (i + 1) more
 meets_alone IsMade old now ms i m made more label stand lt is is_none first below pushed same so_far left right are hs rest =
     let at = match_at right left ms i m are lt is in

@@ -2,7 +2,7 @@
 use Rattle.std.specs.Prelude.{◌≡◌, ℕ, ◌<◌, List, [], ◌∷◌, String, string_bytes, IfSome, IfNone}
 use Rattle.std.specs.declared.alloc.Global.{Global}
 use Rattle.lam_rules.specs.Types.{Typ, Has, IsAbsent}
-use Rattle.lam_rules.specs.Numbers.{type_of, fields_over, AreBelow}
+use Rattle.lam_rules.specs.Numbers.{type_of, fields_over, AreEarlier}
 use Rattle.lam_rules.specs.declared.table.TyNo.{TyNo}
 use Rattle.lam_lattice.specs.declared.matching.Match.{Match}
 
@@ -10,7 +10,7 @@ use Rattle.lam_lattice.specs.declared.matching.Match.{Match}
 pub record IsMatch (right : List (String Global × TyNo)) (f : String Global × TyNo) (m : Match) : Type 0 where
   pub label : string_bytes m.label ≡ string_bytes f.0
   pub left : m.left ≡ f.1
-  pub below : IfSome m.right (λ number. (n : ℕ) → AreBelow n right → number.index < n)
+  pub below : IfSome m.right (λ number. (n : ℕ) → AreEarlier n right → number.index < n)
   pub some : IfSome m.right (λ number. (ts : List Typ) → Has (string_bytes f.0) (type_of ts number) (fields_over ts right))
   pub none : IfNone m.right ((ts : List Typ) → IsAbsent (string_bytes f.0) (fields_over ts right))
 

@@ -2,7 +2,7 @@
 
 ghost use Rattle.std.specs.Prelude.{◌≡◌, ℕ, List, IfOk};
 ghost use Rattle.lam_rules.specs.Types.{Typ};
-ghost use Rattle.lam_rules.specs.Numbers.{fields_over, AreBelow};
+ghost use Rattle.lam_rules.specs.Numbers.{fields_over, AreEarlier};
 ghost use Rattle.lam_sub.specs.OtherFields.{other_fields};
 ghost use Rattle.lam_lattice.specs.Matches.{AreMatches};
 
@@ -46,7 +46,7 @@ pub(crate) fn others(
     left: &[(String, TyNo)],
     right: &[(String, TyNo)],
 ) -> Result<Vec<(String, TyNo)>, AllocError>
-    ensures below { IfOk result (λ made. (n : ℕ) → AreBelow n right.now → AreBelow n made.items) }
+    ensures below { IfOk result (λ made. (n : ℕ) → AreEarlier n right.now → AreEarlier n made.items) }
     ensures others { IfOk result (λ made. (ts : List Typ) → fields_over ts made.items ≡ other_fields (fields_over ts right.now) (fields_over ts left.now)) }
 {
     let mut made = Vec::new(alloc);

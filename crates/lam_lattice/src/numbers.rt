@@ -4,7 +4,7 @@
 ghost use Rattle.std.specs.Prelude.{◌≡◌, List, String, length, IfOk, IfSome, IfNone};
 ghost use Rattle.std.specs.declared.alloc.Global.{Global};
 ghost use Rattle.lam_rules.specs.Types.{record_of};
-ghost use Rattle.lam_rules.specs.Numbers.{type_of, Stands, Keeps, fields_over, AreBelow};
+ghost use Rattle.lam_rules.specs.Numbers.{type_of, Stands, Keeps, fields_over, AreEarlier};
 ghost use Rattle.lam_rules.specs.declared.table.TyNo.{TyNo};
 ghost use Rattle.lam_sub.specs.Remembered.{AreRight};
 ghost use Rattle.lam_lattice.specs.Bounds.{IsJoin, IsMeet, HaveNoMeet, JoinsInOrder, MeetsInOrder};
@@ -102,7 +102,7 @@ fn join_fields(
     ensures keeps { Keeps table.old table.new }
     ensures dialect { verdicts.new.dialect ≡ verdicts.old.dialect }
     ensures verdicts_right { AreRight table.new verdicts.new }
-    ensures stand { IfOk result (λ made. AreBelow (length table.new) made.items) }
+    ensures stand { IfOk result (λ made. AreEarlier (length table.new) made.items) }
     ensures joined { IfOk result (λ made. (left right : List (String Global × TyNo)) → AreMatches right left matches.now → AreJoined (OrderlyJoins verdicts.old.dialect) (fields_over table.old right) (fields_over table.old left) (fields_over table.new made.items)) }
 {
     let mut made = Vec::new(verdicts.alloc);
@@ -242,7 +242,7 @@ fn meet_fields(
     ensures keeps { Keeps table.old table.new }
     ensures dialect { verdicts.new.dialect ≡ verdicts.old.dialect }
     ensures verdicts_right { AreRight table.new verdicts.new }
-    ensures stand { IfOk result (λ found. IfSome found (λ made. AreBelow (length table.new) made.items)) }
+    ensures stand { IfOk result (λ found. IfSome found (λ made. AreEarlier (length table.new) made.items)) }
     ensures some { IfOk result (λ found. IfSome found (λ made. (left right : List (String Global × TyNo)) → AreMatches right left matches.now → AreMet (OrderlyMeets verdicts.old.dialect) (fields_over table.old right) (fields_over table.old left) (fields_over table.new made.items))) }
     ensures none { IfOk result (λ found. IfNone found ((left right : List (String Global × TyNo)) → AreMatches right left matches.now → HaveNoMeet (record_of (fields_over table.old left)) (record_of (fields_over table.old right)) verdicts.old.dialect)) }
 {

@@ -98,12 +98,12 @@ pub no_var : (term : Core) → ((n : ℕ) → term ≡ (Var n) → ⊥)
     → (g : Context) (t : Typ) (ps : TypingTrees) (d : Dialect) → ByTypeRule TypeRule.Var None g (term_of term) t ps d → ⊥
 no_var term = not_var (seen term)
 
-not_abs : {term : Core} {u : Term} → Seen term u → ((w : Option Ty) (e : Box Core Global) → term ≡ (Abs w e) → ⊥)
+not_abs : {term : Core} {u : Term} → Seen term u → ((w : Box (Option Ty) Global) (e : Box Core Global) → term ≡ (Abs w e) → ⊥)
     → (g : Context) (t : Typ) (ps : TypingTrees) (d : Dialect) → ByTypeRule TypeRule.Abs None g u t ps d → ⊥
 not_abs (seen_Abs w e) other g t ps d h = other w e refl
 not_abs _ other g t ps d h = h
 
-pub no_abs : (term : Core) → ((w : Option Ty) (e : Box Core Global) → term ≡ (Abs w e) → ⊥)
+pub no_abs : (term : Core) → ((w : Box (Option Ty) Global) (e : Box Core Global) → term ≡ (Abs w e) → ⊥)
     → (g : Context) (t : Typ) (ps : TypingTrees) (d : Dialect) → ByTypeRule TypeRule.Abs None g (term_of term) t ps d → ⊥
 no_abs term = not_abs (seen term)
 
@@ -125,12 +125,12 @@ pub no_unit : (term : Core) → (term ≡ UnitTerm → ⊥)
     → (g : Context) (t : Typ) (ps : TypingTrees) (d : Dialect) → ByTypeRule TypeRule.Unit None g (term_of term) t ps d → ⊥
 no_unit term = not_unit (seen term)
 
-not_ascribe : {term : Core} {u : Term} → Seen term u → ((e : Box Core Global) (w : Option Ty) → term ≡ (Ascribe e w) → ⊥)
+not_ascribe : {term : Core} {u : Term} → Seen term u → ((e : Box Core Global) (w : Box (Option Ty) Global) → term ≡ (Ascribe e w) → ⊥)
     → (g : Context) (t : Typ) (ps : TypingTrees) (d : Dialect) → ByTypeRule TypeRule.Ascribe None g u t ps d → ⊥
 not_ascribe (seen_Ascribe e w) other g t ps d h = other e w refl
 not_ascribe _ other g t ps d h = h
 
-pub no_ascribe : (term : Core) → ((e : Box Core Global) (w : Option Ty) → term ≡ (Ascribe e w) → ⊥)
+pub no_ascribe : (term : Core) → ((e : Box Core Global) (w : Box (Option Ty) Global) → term ≡ (Ascribe e w) → ⊥)
     → (g : Context) (t : Typ) (ps : TypingTrees) (d : Dialect) → ByTypeRule TypeRule.Ascribe None g (term_of term) t ps d → ⊥
 no_ascribe term = not_ascribe (seen term)
 

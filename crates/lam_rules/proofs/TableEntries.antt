@@ -7,7 +7,7 @@ use Rattle.std.proofs.lemmas.List.{get_or_append_left, get_or_push, get_or_defau
 use Rattle.std.proofs.lemmas.Bool.{cases_lt}
 use Rattle.lam_rules.specs.Types.{Typ, top, record_of, field, nodes, IsAbsent, IsWellFormed, AreWellFormed}
 use Rattle.lam_rules.specs.Texts.{sorted}
-use Rattle.lam_rules.specs.Numbers.{type_at, type_of, IsNumberOf, Keeps, fields_over, shaped, AreBelow, IsOver, IsNotAmong, HaveDistinctLabels, HasDistinctLabels}
+use Rattle.lam_rules.specs.Numbers.{type_at, type_of, IsNumberOf, Keeps, fields_over, shaped, AreEarlier, IsOver, IsNotAmong, HaveDistinctLabels, HasDistinctLabels}
 use Rattle.lam_rules.specs.Entries.{types_from, types_of, IsEntryOf, IsTable, AreSame, IsSame, IsAt, IsNowhere}
 use Rattle.lam_rules.specs.declared.table.TyNo.{TyNo}
 use Rattle.lam_rules.specs.declared.table.Shape.{Shape}
@@ -63,7 +63,7 @@ shaped_same ts _ _ same = absurd same
 abbrev AreDistinct : List Typ → ℕ → Type 0
 AreDistinct ts n = (i j : ℕ) → i < n → j < n → type_at ts i ≡ type_at ts j → i ≡ j
 
-same_fields_over : (ts : List Typ) (n : ℕ) → AreDistinct ts n → (fs gs : List (String Global × TyNo)) → AreBelow n fs → AreBelow n gs
+same_fields_over : (ts : List Typ) (n : ℕ) → AreDistinct ts n → (fs gs : List (String Global × TyNo)) → AreEarlier n fs → AreEarlier n gs
     → fields_over ts fs ≡ fields_over ts gs → AreSame fs gs
 same_fields_over ts n distinct [] [] bf bg e = tt
 same_fields_over ts n distinct (f ∷ fs) (g ∷ gs) bf bg e =
@@ -232,7 +232,7 @@ distinct_at es ts i j view table li lj e =
     let long : length ts ≡ length es = sym (ap length view) ∙ length-types_of es in
     table.distinct i j (rw long at li) (rw long at lj) (subst (λ x. type_at x i ≡ type_at x j) (sym view) e)
 
-fields_wf : (ts : List Typ) → ((i : ℕ) → i < length ts → IsWellFormed (type_at ts i)) → (fs : List (String Global × TyNo)) → AreBelow (length ts) fs → HaveDistinctLabels fs → AreWellFormed (fields_over ts fs)
+fields_wf : (ts : List Typ) → ((i : ℕ) → i < length ts → IsWellFormed (type_at ts i)) → (fs : List (String Global × TyNo)) → AreEarlier (length ts) fs → HaveDistinctLabels fs → AreWellFormed (fields_over ts fs)
 fields_wf ts each [] below distinct = tt
 fields_wf ts each (f ∷ fs) below distinct = (each f.1.index below.0, absent fs distinct.0, fields_wf ts each fs below.1 distinct.1)
   where
@@ -299,7 +299,7 @@ pub fields_over-drop : (ts : List Typ) (fs : List (String Global × TyNo)) (i : 
     → i < length fs → f ≡ get_or fs i f → fields_over ts (drop i fs) ≡ field (string_bytes f.0) (type_of ts f.1) (fields_over ts (drop (i + 1) fs))
 fields_over-drop ts fs i f lt is = ap (fields_over ts) (drop_more_read fs i f lt is)
 
-pub below_read : (n : ℕ) (fs : List (String Global × TyNo)) (i : ℕ) (f : String Global × TyNo) → AreBelow n fs → i < length fs → f ≡ get_or fs i f → f.1.index < n
+pub below_read : (n : ℕ) (fs : List (String Global × TyNo)) (i : ℕ) (f : String Global × TyNo) → AreEarlier n fs → i < length fs → f ≡ get_or fs i f → f.1.index < n
 below_read n [] i f below lt is = omega arith
 below_read n (g ∷ fs) zero f below lt is = rw is below.0
 below_read n (g ∷ fs) (suc i) f below lt is = below_read n fs i f below.1 (omega arith) is

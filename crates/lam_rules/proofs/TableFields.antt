@@ -12,7 +12,7 @@ use Rattle.lam_rules.specs.TypeViews.{typ_of, fields_of}
 use Rattle.lam_rules.specs.Texts.{sorted, sorted_fields}
 use Rattle.lam_rules.specs.Sorting.{IsSorting, fields_by}
 use Rattle.lam_rules.proofs.SortedForms.{sorted_inside, one_sorting}
-use Rattle.lam_rules.specs.Numbers.{type_of, IsNumberOf, Keeps, fields_over, AreBelow, IsNotAmong, HaveDistinctLabels, fields_given, AllStand, IsNotGiven, AreGivenApart}
+use Rattle.lam_rules.specs.Numbers.{type_of, IsNumberOf, Keeps, fields_over, AreEarlier, IsNotAmong, HaveDistinctLabels, fields_given, AllStand, IsNotGiven, AreGivenApart}
 use Rattle.std.specs.Prelude.{IfSome, Option, Some, None}
 use Rattle.lam_rules.specs.Entries.{AreCopies}
 use Rattle.lam_rules.specs.declared.types.Ty.{Ty}
@@ -31,7 +31,7 @@ copies_push (x ∷ fs) (y ∷ gs) f g same label number = (same.0, same.1, copie
 copies_push [] (y ∷ gs) f g same label number = absurd same
 copies_push (x ∷ fs) [] f g same label number = absurd same
 
-pub copied_below : (ts : List Typ) (fs : List (String Global × TyNo)) (gs : List (Bor (List ℕ) × TyNo)) → AreCopies fs gs → AllStand ts gs → AreBelow (length ts) fs
+pub copied_below : (ts : List Typ) (fs : List (String Global × TyNo)) (gs : List (Bor (List ℕ) × TyNo)) → AreCopies fs gs → AllStand ts gs → AreEarlier (length ts) fs
 copied_below ts [] [] same stand = tt
 copied_below ts (f ∷ fs) (g ∷ gs) same stand = (rw same.1 stand.0, copied_below ts fs gs same.2 stand.1)
 copied_below ts [] (g ∷ gs) same stand = absurd same
@@ -84,8 +84,8 @@ absent_more l ts fs i f lt is other so_far =
     rw (fields_over-drop ts fs i f lt is) at so_far in
     (λ h. (step.0 h).1, λ h. step.1 (other, h))
 
-pub some_below : (o : Option TyNo) (fs : List (String Global × TyNo)) (n : ℕ) → AreBelow n fs
-    → IfSome o (λ x. (m : ℕ) → AreBelow m fs → x.index < m) → IfSome o (λ x. x.index < n)
+pub some_below : (o : Option TyNo) (fs : List (String Global × TyNo)) (n : ℕ) → AreEarlier n fs
+    → IfSome o (λ x. (m : ℕ) → AreEarlier m fs → x.index < m) → IfSome o (λ x. x.index < n)
 some_below None fs n below h = tt
 some_below (Some x) fs n below h = h n below
 
@@ -116,7 +116,7 @@ abbrev pub bound_of : List (String Global × TyNo) → ℕ
 bound_of [] = 0
 bound_of (f ∷ fs) = max (f.1.index + 1) (bound_of fs)
 
-pub bound_below : (n : ℕ) (fs : List (String Global × TyNo)) → AreBelow n fs → bound_of fs ≤ n
+pub bound_below : (n : ℕ) (fs : List (String Global × TyNo)) → AreEarlier n fs → bound_of fs ≤ n
 bound_below n [] below = omega arith
 bound_below n (f ∷ fs) below = let rest = bound_below n fs below.1 in let here = below.0 in omega arith
 
@@ -127,7 +127,7 @@ bound_read (g ∷ fs) (suc i) f lt is = let rest = bound_read fs i f (omega arit
 
 -- fields that are added from their front
 
-pub below-push : (n : ℕ) (fs : List (String Global × TyNo)) (f : String Global × TyNo) → AreBelow n fs → f.1.index < n → AreBelow n (fs ++ f ∷ [])
+pub below-push : (n : ℕ) (fs : List (String Global × TyNo)) (f : String Global × TyNo) → AreEarlier n fs → f.1.index < n → AreEarlier n (fs ++ f ∷ [])
 below-push n [] f below lt = (lt, tt)
 below-push n (g ∷ fs) f below lt = (below.0, below-push n fs f below.1 lt)
 
@@ -149,7 +149,7 @@ wf_read (g ∷ fs) (suc i) f wf lt is = wf_read fs i f wf.2 (omega arith) is
 -- what an addition leaves, field by field
 pub record AreAdded (old now : List Typ) (items : List (String Global × TyNo)) (rest all : Fields) : Type 0 where
   pub keeps : Keeps old now
-  pub below : AreBelow (length now) items
+  pub below : AreEarlier (length now) items
   pub fields : joined (fields_over now items) rest ≡ all
 
 pub added_more : (old before now : List Typ) (items more : List (String Global × TyNo)) (fs : List (String Global × Ty)) (i : ℕ) (f : String Global × Ty) (label : String Global) (number : TyNo) (all : Fields)
@@ -193,12 +193,12 @@ made_all ts items fs i le so_far = sym (joined-none (fields_of items)) ∙ (rw (
 
 pub inside_more : (ts : List Typ) (made more fs : List (String Global × TyNo)) (i : ℕ) (f : String Global × TyNo) (label : String Global) (number : TyNo)
     → i < length fs → f ≡ get_or fs i f → more ≡ made ++ (label, number) ∷ [] → string_bytes label ≡ string_bytes f.0
-    → number.index ≤ f.1.index → type_of ts number ≡ sorted (type_of ts f.1) → AreBelow (length ts) fs
-    → AreBelow (length ts) made × (joined (fields_over ts made) (sorted_inside (fields_over ts (drop i fs))) ≡ sorted_inside (fields_over ts fs))
-    → AreBelow (length ts) more × (joined (fields_over ts more) (sorted_inside (fields_over ts (drop (i + 1) fs))) ≡ sorted_inside (fields_over ts fs))
+    → number.index ≤ f.1.index → type_of ts number ≡ sorted (type_of ts f.1) → AreEarlier (length ts) fs
+    → AreEarlier (length ts) made × (joined (fields_over ts made) (sorted_inside (fields_over ts (drop i fs))) ≡ sorted_inside (fields_over ts fs))
+    → AreEarlier (length ts) more × (joined (fields_over ts more) (sorted_inside (fields_over ts (drop (i + 1) fs))) ≡ sorted_inside (fields_over ts fs))
 inside_more ts made more fs i f label number lt is pushed same_label le is_sorted below so_far =
     let here = below_read (length ts) fs i f below lt is in (
-      subst (AreBelow (length ts)) (sym pushed) (below-push (length ts) made (label, number) so_far.0 (omega arith)),
+      subst (AreEarlier (length ts)) (sym pushed) (below-push (length ts) made (label, number) so_far.0 (omega arith)),
       rw (pushed, fields_over-push ts made (label, number) (sorted_inside (fields_over ts (drop (i + 1) fs))), same_label, is_sorted) (rw (fields_over-drop ts fs i f lt is) at so_far.1),
     )
 
@@ -220,15 +220,15 @@ sorted_numbers ts made more fs sorting inside =
     fields_by-over ts [] = refl
     fields_by-over ts (g ∷ gs) = ap (λ r. field (string_bytes g.0) (type_of ts g.1) r) (fields_by-over ts gs)
 
-below_each : (n : ℕ) (fs : List (String Global × TyNo)) → AreBelow n fs → AllByRecursion (λ f. f.1.index < n) fs
+below_each : (n : ℕ) (fs : List (String Global × TyNo)) → AreEarlier n fs → AllByRecursion (λ f. f.1.index < n) fs
 below_each n [] below = tt
 below_each n (f ∷ fs) below = (below.0, below_each n fs below.1)
 
-each_below : (n : ℕ) (fs : List (String Global × TyNo)) → All (λ f. f.1.index < n) fs → AreBelow n fs
+each_below : (n : ℕ) (fs : List (String Global × TyNo)) → All (λ f. f.1.index < n) fs → AreEarlier n fs
 each_below n [] each = tt
 each_below n (f ∷ fs) each = (All-head (λ f. f.1.index < n) f fs each, each_below n fs (All-tail (λ f. f.1.index < n) f fs each))
 
-pub below_permutation : (n : ℕ) (fs gs : List (String Global × TyNo)) → IsPermutation fs gs → AreBelow n fs → AreBelow n gs
+pub below_permutation : (n : ℕ) (fs gs : List (String Global × TyNo)) → IsPermutation fs gs → AreEarlier n fs → AreEarlier n gs
 below_permutation n fs gs moved below =
     each_below n gs (All-permutation (λ f. f.1.index < n) fs gs moved (All-from_recursion (λ f. f.1.index < n) fs (below_each n fs below)))
 

@@ -3,7 +3,7 @@ use Rattle.std.proofs.Common.{◌≡◌, ℕ, ◌<◌, ◌≤◌, List, [], ◌�
 use Rattle.std.specs.declared.alloc.Global.{Global}
 use Rattle.std.proofs.lemmas.List.{append-nil, get_or_append_left}
 use Rattle.lam_rules.specs.Types.{Typ, top, record_of}
-use Rattle.lam_rules.specs.Numbers.{type_at, IsNumberOf, Keeps, fields_over, shaped, AreBelow, IsOver}
+use Rattle.lam_rules.specs.Numbers.{type_at, IsNumberOf, Keeps, fields_over, shaped, AreEarlier, IsOver}
 use Rattle.lam_rules.specs.declared.table.TyNo.{TyNo}
 use Rattle.lam_rules.specs.declared.table.Shape.{Shape}
 
@@ -32,7 +32,7 @@ kept_number old now number t k h =
     let here = h.stands in
     record { stands = omega arith; type = kept_type old now number.index k here ∙ h.type }
 
-pub kept_fields : (old now : List Typ) (fs : List (String Global × TyNo)) → Keeps old now → AreBelow (length old) fs → fields_over now fs ≡ fields_over old fs
+pub kept_fields : (old now : List Typ) (fs : List (String Global × TyNo)) → Keeps old now → AreEarlier (length old) fs → fields_over now fs ≡ fields_over old fs
 kept_fields old now [] k below = refl
 kept_fields old now (f ∷ fs) k below = rw (kept_type old now f.1.index k below.0, kept_fields old now fs k below.1)
 
@@ -46,7 +46,7 @@ kept_shaped old now (Shape.Record fs) k over = ap record_of (kept_fields old now
 
 -- numbers below one bound are below a greater one
 
-pub below_more : (m n : ℕ) (fs : List (String Global × TyNo)) → AreBelow m fs → m ≤ n → AreBelow n fs
+pub below_more : (m n : ℕ) (fs : List (String Global × TyNo)) → AreEarlier m fs → m ≤ n → AreEarlier n fs
 below_more m n [] below le = tt
 below_more m n (f ∷ fs) below le = let here = below.0 in (omega arith, below_more m n fs below.1 le)
 

@@ -50,7 +50,7 @@ pub term_of-Free : (s : String Global) → term_of (Free s) ≡ free (string_byt
 unfolding term_of
 term_of-Free s = ap term_of (sym (rolls-Free s)) ∙ fold-roll-Core Term term_step (Core-F.Free s)
 
-pub term_of-Abs : (w : Option Ty) (e : Box Core Global) → term_of (Abs w e) ≡ lambda (written_of w) (term_of e.value)
+pub term_of-Abs : (w : Box (Option Ty) Global) (e : Box Core Global) → term_of (Abs w e) ≡ lambda (written_of w.value) (term_of e.value)
 unfolding term_of
 term_of-Abs w e = ap term_of (sym (rolls-Abs w e)) ∙ fold-roll-Core Term term_step (Core-F.Abs w e)
 
@@ -62,7 +62,7 @@ pub term_of-Unit : term_of UnitTerm ≡ unit_term
 unfolding term_of
 term_of-Unit = ap term_of (sym rolls-Unit) ∙ fold-roll-Core Term term_step Core-F.Unit
 
-pub term_of-Ascribe : (e : Box Core Global) (w : Option Ty) → term_of (Ascribe e w) ≡ ascribe (term_of e.value) (written_of w)
+pub term_of-Ascribe : (e : Box Core Global) (w : Box (Option Ty) Global) → term_of (Ascribe e w) ≡ ascribe (term_of e.value) (written_of w.value)
 unfolding term_of
 term_of-Ascribe e w = ap term_of (sym (rolls-Ascribe e w)) ∙ fold-roll-Core Term term_step (Core-F.Ascribe e w)
 
@@ -93,10 +93,10 @@ pub data Seen : Core → Term → Type 0 where
   seen_IsZero : (e : Box Core Global) → Seen (IsZero e) (is_zero (term_of e.value))
   seen_Var : (n : ℕ) → Seen (Var n) (variable n)
   seen_Free : (s : String Global) → Seen (Free s) (free (string_bytes s))
-  seen_Abs : (w : Option Ty) (e : Box Core Global) → Seen (Abs w e) (lambda (written_of w) (term_of e.value))
+  seen_Abs : (w : Box (Option Ty) Global) (e : Box Core Global) → Seen (Abs w e) (lambda (written_of w.value) (term_of e.value))
   seen_App : (e1 : Box Core Global) (e2 : Box Core Global) → Seen (App e1 e2) (apply (term_of e1.value) (term_of e2.value))
   seen_Unit : Seen UnitTerm unit_term
-  seen_Ascribe : (e : Box Core Global) (w : Option Ty) → Seen (Ascribe e w) (ascribe (term_of e.value) (written_of w))
+  seen_Ascribe : (e : Box Core Global) (w : Box (Option Ty) Global) → Seen (Ascribe e w) (ascribe (term_of e.value) (written_of w.value))
   seen_Let : (e1 : Box Core Global) (e2 : Box Core Global) → Seen (Let e1 e2) (let_in (term_of e1.value) (term_of e2.value))
   seen_Record : (fs : Vec (String Global × Core) Global) → Seen (Record fs) (record_term (terms_of fs.items))
   seen_Proj : (e : Box Core Global) (s : String Global) → Seen (Proj e s) (project (term_of e.value) (string_bytes s))

@@ -15,6 +15,7 @@ abbrev pub types_from : List Typ → List Entry → List Typ
 types_from ts [] = ts
 types_from ts (e ∷ es) = types_from (ts ++ shaped ts e.shape ∷ []) es
 
+-- the types of all numbers of a table
 unfoldable pub types_of : List Entry → List Typ
 types_of es = types_from [] es
 
@@ -32,15 +33,17 @@ pub record IsTable (es : List Entry) : Type 0 where
   pub each : (i : ℕ) (e : Entry) → i < length es → e ≡ slice_index_or es i e → IsEntryOf (types_of es) i e
   pub distinct : (i j : ℕ) → i < length es → j < length es → type_at (types_of es) i ≡ type_at (types_of es) j → i ≡ j
 
--- the same outermost form over the same numbers
+-- the same label and the same number
 abbrev pub IsSameField : String Global × TyNo → String Global × TyNo → Type 0
 IsSameField f g = (string_bytes f.0 ≡ string_bytes g.0) × (f.1.index ≡ g.1.index)
 
+-- the same fields in the same order
 abbrev pub AreSame : List (String Global × TyNo) → List (String Global × TyNo) → Type 0
 AreSame [] [] = Unit {0}
 AreSame (f ∷ fs) (g ∷ gs) = IsSameField f g × AreSame fs gs
 AreSame _ _ = ⊥
 
+-- the same outermost form over the same numbers
 abbrev pub IsSame : Shape → Shape → Type 0
 IsSame Shape.Bool Shape.Bool = Unit {0}
 IsSame Shape.Nat Shape.Nat = Unit {0}

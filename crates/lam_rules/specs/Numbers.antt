@@ -7,10 +7,11 @@ use Rattle.lam_rules.specs.Types.{Label, Typ, bool, nat, unit, top, arrow, recor
 use Rattle.lam_rules.specs.declared.table.TyNo.{TyNo}
 use Rattle.lam_rules.specs.declared.table.Shape.{Shape}
 
--- the type of a number that stands
+-- the type that the number of that index stands for
 abbrev pub type_at : List Typ → ℕ → Typ
 type_at ts n = slice_index_or ts n top
 
+-- the type that a number stands for
 abbrev pub type_of : List Typ → TyNo → Typ
 type_of ts number = type_at ts number.index
 
@@ -42,46 +43,53 @@ shaped ts Shape.Top = top
 shaped ts (Shape.Arrow parameter outcome) = arrow (type_of ts parameter) (type_of ts outcome)
 shaped ts (Shape.Record fields) = record_of (fields_over ts fields.items)
 
--- each number is below the bound
-abbrev pub AreBelow : ℕ → List (String Global × TyNo) → Type 0
-AreBelow n [] = Unit {0}
-AreBelow n (f ∷ fs) = (f.1.index < n) × AreBelow n fs
+-- the numbers of these fields come before the number of that index
+abbrev pub AreEarlier : ℕ → List (String Global × TyNo) → Type 0
+AreEarlier n [] = Unit {0}
+AreEarlier n (f ∷ fs) = (f.1.index < n) × AreEarlier n fs
 
+-- the numbers of a shape come before the number of that index
 abbrev pub IsOver : ℕ → Shape → Type 0
 IsOver n Shape.Bool = Unit {0}
 IsOver n Shape.Nat = Unit {0}
 IsOver n Shape.Unit = Unit {0}
 IsOver n Shape.Top = Unit {0}
 IsOver n (Shape.Arrow parameter outcome) = (parameter.index < n) × (outcome.index < n)
-IsOver n (Shape.Record fields) = AreBelow n fields.items
+IsOver n (Shape.Record fields) = AreEarlier n fields.items
 
--- no two labels are equal
+-- no field has the label
 abbrev pub IsNotAmong : Label → List (String Global × TyNo) → Type 0
 IsNotAmong l [] = Unit {0}
 IsNotAmong l (f ∷ fs) = (l ≡ string_bytes f.0 → ⊥) × IsNotAmong l fs
 
+-- no two fields have one label
 abbrev pub HaveDistinctLabels : List (String Global × TyNo) → Type 0
 HaveDistinctLabels [] = Unit {0}
 HaveDistinctLabels (f ∷ fs) = IsNotAmong (string_bytes f.0) fs × HaveDistinctLabels fs
 
+-- no two fields of the shape, if it is that of a record type, have one label
 abbrev pub HasDistinctLabels : Shape → Type 0
 HasDistinctLabels (Shape.Record fields) = HaveDistinctLabels fields.items
 HasDistinctLabels _ = Unit {0}
 
--- the same of labelled numbers that a caller gives
+-- Labelled numbers that a caller gives, whose labels are borrowed.
 
+-- their fields
 abbrev pub fields_given : List Typ → List (Bor (List ℕ) × TyNo) → Fields
 fields_given ts [] = no_fields
 fields_given ts (f ∷ fs) = field f.0.now (type_of ts f.1) (fields_given ts fs)
 
+-- each number stands for a type
 abbrev pub AllStand : List Typ → List (Bor (List ℕ) × TyNo) → Type 0
 AllStand ts [] = Unit {0}
 AllStand ts (f ∷ fs) = Stands ts f.1 × AllStand ts fs
 
+-- none has the label
 abbrev pub IsNotGiven : Label → List (Bor (List ℕ) × TyNo) → Type 0
 IsNotGiven l [] = Unit {0}
 IsNotGiven l (f ∷ fs) = (l ≡ f.0.now → ⊥) × IsNotGiven l fs
 
+-- no two have one label
 abbrev pub AreGivenApart : List (Bor (List ℕ) × TyNo) → Type 0
 AreGivenApart [] = Unit {0}
 AreGivenApart (f ∷ fs) = IsNotGiven f.0.now fs × AreGivenApart fs

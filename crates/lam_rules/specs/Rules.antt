@@ -4,6 +4,7 @@ use Rattle.lam_rules.specs.Texts.{Text}
 use Rattle.lam_rules.specs.declared.rules.SubRule.{SubRule}
 use Rattle.lam_rules.specs.declared.rules.TypeRule.{TypeRule}
 
+-- those of subtyping
 abbrev pub name_of_sub_rule : SubRule → Text
 name_of_sub_rule SubRule.Refl = codes "S-Refl"
 name_of_sub_rule SubRule.Trans = codes "S-Trans"
@@ -14,6 +15,7 @@ name_of_sub_rule SubRule.RcdDepth = codes "S-RcdDepth"
 name_of_sub_rule SubRule.RcdPerm = codes "S-RcdPerm"
 name_of_sub_rule SubRule.BoolNat = codes "S-BoolNat"
 
+-- those of typing
 abbrev pub name_of_type_rule : TypeRule → Text
 name_of_type_rule TypeRule.True = codes "T-True"
 name_of_type_rule TypeRule.False = codes "T-False"

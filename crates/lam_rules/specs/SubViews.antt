@@ -13,18 +13,20 @@ sub_trees_made (p ∷ ps) = sub_first p (sub_trees_made ps)
 abbrev pub sub_tree_step : SubProof-F SubTree → SubTree
 sub_tree_step p = sub_step p.rule (typ_of p.lower) (typ_of p.upper) (sub_trees_made p.premises.items)
 
--- the tree of a `SubProof`, and of several
+-- the tree of a `SubProof`
 unfoldable pub sub_tree_of : SubProof → SubTree
 sub_tree_of = fold-SubProof SubTree sub_tree_step
 
+-- the trees of several
 abbrev pub sub_trees_of : List SubProof → SubTrees
 sub_trees_of [] = no_subs
 sub_trees_of (p ∷ ps) = sub_first (sub_tree_of p) (sub_trees_of ps)
 
--- what a `SubProof` says that it concludes, and what several say
+-- what a `SubProof` says that it concludes
 abbrev pub claim_of : SubProof → Claim
 claim_of p = record { lower = typ_of (out-SubProof p).lower; upper = typ_of (out-SubProof p).upper }
 
+-- what several say
 abbrev pub claims_of : List SubProof → List Claim
 claims_of [] = []
 claims_of (p ∷ ps) = claim_of p ∷ claims_of ps

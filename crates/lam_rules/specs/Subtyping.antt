@@ -63,10 +63,11 @@ mutual
     no_subs : SubTrees
     sub_first : (first : SubTree) (rest : SubTrees) → SubTrees
 
--- what a tree concludes, and what several conclude
+-- what a tree concludes
 abbrev pub conclusion : SubTree → Claim
 conclusion (sub_step r s t ps) = record { lower = s; upper = t }
 
+-- what several conclude
 abbrev pub conclusions : SubTrees → List Claim
 conclusions no_subs = []
 conclusions (sub_first p ps) = conclusion p ∷ conclusions ps

@@ -48,8 +48,10 @@ mutual
       field (label_code.inj l k (ap head e) i) (code_of-injective t u (ap (λ g. head (tail g)) e) i) (fields_code-injective fs gs (ap (λ g. tail (tail g)) e) i)
   fields_code-injective _ _ e = cc
 
+-- types are told apart by their codes
 abbrev pub coded_type : Coded Typ
 coded_type = record { code = code_of; inj = code_of-injective }
 
+-- and so are lists of types
 abbrev pub coded_types : Coded (List Typ)
 coded_types = coded_list coded_type

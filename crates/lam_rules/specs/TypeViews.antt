@@ -20,6 +20,7 @@ typ_step Ty-F.Top = top
 typ_step (Ty-F.Arrow s t) = arrow s.value t.value
 typ_step (Ty-F.Record fs) = record_of fs
 
+-- the fields of one level, with the type of each already seen as its tree
 abbrev pub fields_step : Fields-F Typ Fields → Fields
 fields_step fs = fields_made fs.items.items
 

@@ -16,11 +16,12 @@ IsEntry n [] t = ⊥
 IsEntry zero (entry ∷ context) t = entry ≡ Some t
 IsEntry (suc n) (entry ∷ context) t = IsEntry n context t
 
--- in each type of a context the labels are distinct at every depth
+-- in the type of an entry, if it has one, the labels are distinct at every depth
 abbrev pub IsWellFormedEntry : Option Typ → Type 0
 IsWellFormedEntry None = Unit {0}
 IsWellFormedEntry (Some t) = IsWellFormed t
 
+-- in each type of a context they are
 abbrev pub IsWellFormedContext : Context → Type 0
 IsWellFormedContext [] = Unit {0}
 IsWellFormedContext (entry ∷ context) = IsWellFormedEntry entry × IsWellFormedContext context

@@ -15,11 +15,12 @@ abbrev pub context_of : List (Option Ty) → Context
 context_of [] = []
 context_of (entry ∷ inner) = context_of inner ++ written_of entry ∷ []
 
--- the context of entries that were given, and of those bound since
+-- one level: the context of entries that were given, and of one more inside
 abbrev pub entries_step : Entries-F Context → Context
 entries_step (Entries-F.Given outer) = context_of outer.now
 entries_step (Entries-F.Under ty rest) = Some (typ_of ty.now) ∷ rest.now
 
+-- the context of entries that were given, and of those bound since
 unfoldable pub entries_of : Entries → Context
 entries_of = fold-Entries Context entries_step
 
@@ -32,10 +33,11 @@ typings_made (p ∷ ps) = typing_first p (typings_made ps)
 abbrev pub typing_tree_step : TypeProof-F TypingTree → TypingTree
 typing_tree_step p = typing_step p.rule (typ_of p.ty) (typings_made p.typing.items) (option_map (λ q. sub_tree_of q.value) p.sub)
 
--- the tree of a `TypeProof`, and of several
+-- the tree of a `TypeProof`
 unfoldable pub typing_tree_of : TypeProof → TypingTree
 typing_tree_of = fold-TypeProof TypingTree typing_tree_step
 
+-- the trees of several
 abbrev pub typings_of : List TypeProof → TypingTrees
 typings_of [] = no_typings
 typings_of (p ∷ ps) = typing_first (typing_tree_of p) (typings_of ps)

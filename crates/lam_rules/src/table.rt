@@ -6,7 +6,7 @@ ghost use Rattle.lam_rules.specs.TypeViews.{typ_of, fields_of};
 ghost use Rattle.lam_rules.specs.Texts.{sorted as sorted_form, sorted_fields, text};
 ghost use Rattle.lam_rules.specs.Subtyping.{IsBelow};
 ghost use Rattle.lam_rules.specs.Typing.{HasField};
-ghost use Rattle.lam_rules.specs.Numbers.{type_at, type_of, Stands, IsNumberOf, Keeps, fields_over, shaped, AreBelow, IsOver, IsNotAmong, HaveDistinctLabels, HasDistinctLabels, fields_given, AllStand, AreGivenApart};
+ghost use Rattle.lam_rules.specs.Numbers.{type_at, type_of, Stands, IsNumberOf, Keeps, fields_over, shaped, AreEarlier, IsOver, IsNotAmong, HaveDistinctLabels, HasDistinctLabels, fields_given, AllStand, AreGivenApart};
 ghost use Rattle.lam_rules.specs.Entries.{IsEntryOf, AreSame, IsSame, AreCopies};
 ghost use Rattle.lam_rules.specs.ShapeIndex.{IsIndexOf};
 ghost use Rattle.lam_rules.specs.declared.rules.Dialect.{Dialect};
@@ -207,7 +207,7 @@ impl TyTable {
     fn add_fields(&mut self, fields: &[(String, Ty)]) -> Result<Vec<(String, TyNo)>, AllocError>
         requires { AreWellFormed (fields_of fields.now) }
         ensures keeps { Keeps self.old self.new }
-        ensures over { IfOk result (λ items. AreBelow (length self.new) items.items) }
+        ensures over { IfOk result (λ items. AreEarlier (length self.new) items.items) }
         ensures fields { IfOk result (λ items. fields_over self.new items.items ≡ fields_of fields.now) }
     {
         let mut items = Vec::new(self.alloc);
@@ -246,7 +246,7 @@ impl TyTable {
     #[cycle(tree)]
     #[tactic(auto, using(crate::proofs::TypeShapes::shapes, crate::proofs::TableEntries::field_lists))]
     fn tree_fields(&self, fields: &[(String, TyNo)]) -> Result<Vec<(String, Ty)>, AllocError>
-        requires { AreBelow (length self.now) fields.now }
+        requires { AreEarlier (length self.now) fields.now }
         ensures { IfOk result (λ items. fields_of items.items ≡ fields_over self.now fields.now) }
     {
         let mut items = Vec::new(self.alloc);
@@ -337,7 +337,7 @@ impl TyTable {
 
     #[tactic(auto, using(crate::proofs::TableEntries::field_lists))]
     fn size_of_fields(&self, fields: &[(String, TyNo)]) -> u64
-        requires { AreBelow (length self.now) fields.now }
+        requires { AreEarlier (length self.now) fields.now }
         ensures { result ≡ min (nodes_in (fields_over self.now fields.now)) 4097 }
     {
         let mut total = 0;
@@ -412,8 +412,8 @@ impl TyTable {
 
     #[tactic(auto, using(crate::proofs::TableEntries::field_lists))]
     fn sorted_fields(&self, fields: &[(String, TyNo)]) -> Result<Vec<(String, TyNo)>, AllocError>
-        requires { AreBelow (length self.now) fields.now }
-        ensures over { IfOk result (λ made. AreBelow (length self.now) made.items) }
+        requires { AreEarlier (length self.now) fields.now }
+        ensures over { IfOk result (λ made. AreEarlier (length self.now) made.items) }
         ensures sorted { IfOk result (λ made. fields_over self.now made.items ≡ sorted_fields (fields_over self.now fields.now)) }
     {
         let mut made = Vec::new(self.alloc);
@@ -430,7 +430,7 @@ impl TyTable {
 /// The number under a label.
 #[tactic(auto, using(crate::proofs::TableFields::found_fields))]
 pub fn number_under(label: &str, fields: &[(String, TyNo)]) -> Option<TyNo>
-    ensures below { IfSome result (λ number. (n : ℕ) → AreBelow n fields.now → number.index < n) }
+    ensures below { IfSome result (λ number. (n : ℕ) → AreEarlier n fields.now → number.index < n) }
     ensures some { IfSome result (λ number. (ts : List Typ) → Has label.now (type_of ts number) (fields_over ts fields.now)) }
     ensures none { IfNone result ((ts : List Typ) → IsAbsent label.now (fields_over ts fields.now)) }
 {

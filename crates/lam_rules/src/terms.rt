@@ -22,12 +22,13 @@ pub enum Core {
     Var(usize),
     /// A name that no binder in sight has, by its letters.
     Free(String),
-    /// A lambda. The type is what the written one stands for, or none where it stands for no type.
-    Abs(Option<Ty>, Box<Core>),
+    /// A lambda. The type is what the written one stands for, or none where it stands for no type. It is boxed: few terms
+    /// have one, and each would take the room of it.
+    Abs(Box<Option<Ty>>, Box<Core>),
     App(Box<Core>, Box<Core>),
     Unit,
     /// An ascription, with its type as in a lambda.
-    Ascribe(Box<Core>, Option<Ty>),
+    Ascribe(Box<Core>, Box<Option<Ty>>),
     /// A let: the term that is bound, and the one under its binder.
     Let(Box<Core>, Box<Core>),
     Record(Vec<(String, Core)>),
@@ -46,7 +47,7 @@ pub fn make_letrec(
 ) -> Result<Core, AllocError>
     ensures { IfOk result (λ made. term_of made ≡ letrec_in (written_of written) (term_of bound) (term_of body)) }
 {
-    let lambda = Core::Abs(written, Box::new(alloc, bound)?);
+    let lambda = Core::Abs(Box::new(alloc, written)?, Box::new(alloc, bound)?);
     let fixed = Core::Fix(Box::new(alloc, lambda)?);
     Ok(Core::Let(Box::new(alloc, fixed)?, Box::new(alloc, body)?))
 }

@@ -402,7 +402,7 @@ fn by_abs(premises: &[TypeProof], entries: &Entries, term: &Core, ty: &Ty, diale
     let Core::Abs(written, body) = term else {
         return false;
     };
-    let Some(parameter) = written else {
+    let Some(parameter) = &**written else {
         return false;
     };
     let [premise] = premises else {
@@ -463,7 +463,7 @@ fn by_ascribe(
     let Core::Ascribe(operand, written) = term else {
         return false;
     };
-    let Some(ascribed) = written else {
+    let Some(ascribed) = &**written else {
         return false;
     };
     let [premise] = premises else {

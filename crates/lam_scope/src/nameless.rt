@@ -99,7 +99,7 @@ fn lambda_of<'a>(
 {
     let written = expand(alloc, seen, &term.ty)?;
     let form = under(alloc, seen, names, &term.binder, &term.body)?;
-    Ok(Core::Abs(written, Box::new(alloc, form)?))
+    Ok(Core::Abs(Box::new(alloc, written)?, Box::new(alloc, form)?))
 }
 
 #[cycle(nameless)]
@@ -215,7 +215,7 @@ fn ascribe_of<'a>(
 {
     let form = boxed(alloc, seen, names, operand)?;
     let written = expand(alloc, seen, ty)?;
-    Ok(Core::Ascribe(form, written))
+    Ok(Core::Ascribe(form, Box::new(alloc, written)?))
 }
 
 #[cycle(nameless)]

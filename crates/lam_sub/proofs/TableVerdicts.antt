@@ -5,7 +5,7 @@ use Rattle.std.specs.declared.alloc.Global.{Global}
 use Rattle.lam_rules.specs.Types.{Label, Typ, bool, nat, unit, top, arrow, record_of, Fields, no_fields, field, joined, Has, IsAbsent, nodes, nodes_in, IsWellFormed}
 use Rattle.lam_rules.specs.Texts.{is_not_after, placed, sorted, sorted_fields}
 use Rattle.lam_rules.specs.Subtyping.{IsBelow}
-use Rattle.lam_rules.specs.Numbers.{type_of, fields_over, shaped, IsOver, AreBelow as AreNumbersBelow}
+use Rattle.lam_rules.specs.Numbers.{type_of, fields_over, shaped, IsOver, AreEarlier}
 use Rattle.lam_rules.specs.declared.rules.Dialect.{Dialect}
 use Rattle.lam_rules.specs.declared.table.TyNo.{TyNo}
 use Rattle.lam_rules.specs.declared.table.Shape.{Shape}
@@ -133,14 +133,14 @@ pub number_in_neither : (ts : List Typ) (fs : List (String Global × TyNo)) (n :
     → IsAbsent l (fields_over ts (take n fs)) → IsAbsent l (fields_over ts (drop n fs)) → IsAbsent l (fields_over ts fs)
 number_in_neither ts fs n l a b = subst (λ r. IsAbsent l r) (fields_over-cut ts fs n) (absent_in_both (fields_over ts (take n fs)) (fields_over ts (drop n fs)) l a b)
 
-numbers_split : (n : ℕ) (fs gs : List (String Global × TyNo)) → AreNumbersBelow n (fs ++ gs) → AreNumbersBelow n fs × AreNumbersBelow n gs
+numbers_split : (n : ℕ) (fs gs : List (String Global × TyNo)) → AreEarlier n (fs ++ gs) → AreEarlier n fs × AreEarlier n gs
 numbers_split n [] gs below = (tt, below)
 numbers_split n (f ∷ fs) gs below = let rest = numbers_split n fs gs below.1 in ((below.0, rest.0), rest.1)
 
-pub numbers_cut : (n : ℕ) (fs : List (String Global × TyNo)) (k : ℕ) → AreNumbersBelow n fs → AreNumbersBelow n (take k fs) × AreNumbersBelow n (drop k fs)
-numbers_cut n fs k below = numbers_split n (take k fs) (drop k fs) (subst (λ gs. AreNumbersBelow n gs) (sym (take-append-drop k fs)) below)
+pub numbers_cut : (n : ℕ) (fs : List (String Global × TyNo)) (k : ℕ) → AreEarlier n fs → AreEarlier n (take k fs) × AreEarlier n (drop k fs)
+numbers_cut n fs k below = numbers_split n (take k fs) (drop k fs) (subst (λ gs. AreEarlier n gs) (sym (take-append-drop k fs)) below)
 
-pub number_item : (n : ℕ) (fs : List (String Global × TyNo)) (i : ℕ) (f : String Global × TyNo) → AreNumbersBelow n fs → i < length fs → f ≡ get_or fs i f → f.1.index < n
+pub number_item : (n : ℕ) (fs : List (String Global × TyNo)) (i : ℕ) (f : String Global × TyNo) → AreEarlier n fs → i < length fs → f ≡ get_or fs i f → f.1.index < n
 number_item n [] i f below lt is = absurd (omega arith)
 number_item n (g ∷ fs) zero f below lt is = subst (λ x. x.1.index < n) (sym is) below.0
 number_item n (g ∷ fs) (suc i) f below lt is = number_item n fs i f below.1 (omega arith) is
@@ -195,9 +195,9 @@ not_record_numbers ts s t x y gs d is_s is_t is_y n =
     subst (λ u. IsTrue false ↔ IsBelow u t d) (sym is_s)
     (subst (λ u. IsTrue false ↔ IsBelow (shaped ts x) u d) (sym (is_t ∙ ap (shaped ts) is_y)) (shape_no_record ts x (fields_over ts gs.items) d n))
 
-pub stand_in : (n m : ℕ) (x : Shape) (fs : Vec (String Global × TyNo) Global) (xs : List (String Global × TyNo)) → IsOver n x → n < m → x ≡ Shape.Record fs → xs ≡ fs.items → AreNumbersBelow m xs
+pub stand_in : (n m : ℕ) (x : Shape) (fs : Vec (String Global × TyNo) Global) (xs : List (String Global × TyNo)) → IsOver n x → n < m → x ≡ Shape.Record fs → xs ≡ fs.items → AreEarlier m xs
 stand_in n m x fs xs over lt is_x is_xs =
-    subst (λ ys. AreNumbersBelow m ys) (sym is_xs) (below_more n m fs.items (subst (λ s. IsOver n s) is_x over) (omega arith))
+    subst (λ ys. AreEarlier m ys) (sym is_xs) (below_more n m fs.items (subst (λ s. IsOver n s) is_x over) (omega arith))
 
 -- types with one sorted form are below each other
 pub equal_sorted : (s t x y : Typ) (d : Dialect) → IsWellFormed s → IsWellFormed t → x ≡ sorted s → y ≡ sorted t → x ≡ y → IsTrue true ↔ IsBelow s t d

@@ -3,7 +3,7 @@
 ghost use Rattle.std.specs.Prelude.{◌≡◌, ◌↔◌, ◌<◌, ℕ, List, length, IsTrue, IfOk, IfSome, IfNone};
 ghost use Rattle.lam_rules.specs.Types.{Typ, IsWellFormed, AreWellFormed, Has, IsAbsent};
 ghost use Rattle.lam_rules.specs.Subtyping.{IsBelow};
-ghost use Rattle.lam_rules.specs.Numbers.{type_of, Stands, fields_over, shaped, AreBelow as AreNumbersBelow};
+ghost use Rattle.lam_rules.specs.Numbers.{type_of, Stands, fields_over, shaped, AreEarlier};
 ghost use Rattle.lam_rules.specs.declared.rules.Dialect.{Dialect};
 ghost use Rattle.lam_sub.specs.FieldsBelow.{AreBelow};
 ghost use Rattle.lam_sub.specs.Remembered.{AreRight, IsConstant};
@@ -89,8 +89,8 @@ fn are_fields_sub_no(
     lower: &[(String, TyNo)],
     upper: &[(String, TyNo)],
 ) -> Result<bool, AllocError>
-    requires lower_stand { AreNumbersBelow (length table.now) lower.now }
-    requires upper_stand { AreNumbersBelow (length table.now) upper.now }
+    requires lower_stand { AreEarlier (length table.now) lower.now }
+    requires upper_stand { AreEarlier (length table.now) upper.now }
     requires lower { AreWellFormed (fields_over table.now lower.now) }
     requires right { AreRight table.now verdicts.old }
     ensures dialect { verdicts.new.dialect ≡ verdicts.old.dialect }
@@ -135,7 +135,7 @@ fn is_below_constant(lower: &Shape, upper: &Shape, dialect: Dialect) -> bool
 
 /// The number at a label. The look-up begins at the place `near` and goes on from the front.
 pub fn field_number(label: &str, fields: &[(String, TyNo)], near: usize) -> Option<TyNo>
-    ensures below { IfSome result (λ number. (n : ℕ) → AreNumbersBelow n fields.now → number.index < n) }
+    ensures below { IfSome result (λ number. (n : ℕ) → AreEarlier n fields.now → number.index < n) }
     ensures found { IfSome result (λ number. (ts : List Typ) → Has label.now (type_of ts number) (fields_over ts fields.now)) }
     ensures absent { IfNone result ((ts : List Typ) → IsAbsent label.now (fields_over ts fields.now)) }
 {

@@ -6,7 +6,7 @@ use Rattle.lam_rules.specs.Types.{bool, nat, unit}
 use Rattle.lam_rules.specs.Terms.{Term, TermFields}
 use Rattle.lam_rules.specs.Texts.{Text}
 use Rattle.lam_rules.specs.Typing.{Context}
-use Rattle.lam_rules.specs.Numbers.{IsNumberOf, Keeps, AreBelow, fields_over}
+use Rattle.lam_rules.specs.Numbers.{IsNumberOf, Keeps, AreEarlier, fields_over}
 use Rattle.lam_rules.specs.declared.rules.Dialect.{Dialect}
 use Rattle.lam_rules.specs.declared.table.TyNo.{TyNo}
 use Rattle.lam_scope.specs.Places.{Scope, Place, places, places_in, Statement, places_of}
@@ -85,7 +85,7 @@ pub record FieldsWalked (old now : Walk) (es : TermFields) (before after : List 
   pub entries : now.entries.items ≡ old.entries.items
   pub parts : List (String Global × TyNo)
   pub parts_are : after ≡ before ++ parts
-  pub stand : AreBelow (length now.table) parts
+  pub stand : AreEarlier (length now.table) parts
   pub went : Went (entries_of old) (λ s. places_in s es) (progress_of old) (progress_of now) d
   pub fields : (s : Scope) → IsLowest s (entries_of old) d → AreFieldsAt s es (if_all all (fields_over now.table parts)) d
 

@@ -6,7 +6,7 @@ ghost use Rattle.lam_rules.specs.Types.{Typ, arrow, bool, nat, IsWellFormed};
 ghost use Rattle.lam_rules.specs.TermViews.{written_of};
 ghost use Rattle.lam_rules.specs.Typing.{IsWellFormedEntry};
 ghost use Rattle.lam_rules.specs.Subtyping.{IsBelow};
-ghost use Rattle.lam_rules.specs.Numbers.{type_of, Stands, IsNumberOf, Keeps, AreBelow, fields_over};
+ghost use Rattle.lam_rules.specs.Numbers.{type_of, Stands, IsNumberOf, Keeps, AreEarlier, fields_over};
 ghost use Rattle.lam_lattice.specs.Bounds.{IsJoin};
 ghost use Rattle.lam_typing.specs.Answers.{answer, StandsIn};
 ghost use Rattle.lam_typing.specs.Progress.{if_all};
@@ -271,7 +271,7 @@ pub(crate) fn recorded(
     all: bool,
     fields: Vec<(String, TyNo)>,
 ) -> Result<Option<TyNo>, AllocError>
-    requires { AreBelow (length table.old) fields.items }
+    requires { AreEarlier (length table.old) fields.items }
     ensures keeps { Keeps table.old table.new }
     ensures stands { IfOk result (λ found. StandsIn table.new found) }
     ensures rule { IfOk result (λ found. RecordRule (if_all all (fields_over table.old fields.items)) (answer table.new found)) }

@@ -1,6 +1,6 @@
 use Rattle.std.proofs.Common.{sym, subst}
 use Rattle.lam_rules.specs.Types.{Has, IsAbsent}
-use Rattle.lam_rules.specs.Numbers.{type_of, fields_over, AreBelow}
+use Rattle.lam_rules.specs.Numbers.{type_of, fields_over, AreEarlier}
 use Rattle.lam_rules.proofs.TableFields.{below-push}
 use Rattle.lam_sub.proofs.LookUps.{some_there, none_there}
 use Rattle.lam_sub.proofs.TableVerdicts.{number_item}
@@ -22,7 +22,7 @@ loop-i-preserved c =
     let absent = none_there c.field_number.result c.is_some.result c.is_some.ensures c.if-is_some.false c.field_number.ensures.absent in
     record {
       below = λ n below.
-          subst (λ fs. AreBelow n fs) (sym c.in_ok-push.ensures.items)
+          subst (λ fs. AreEarlier n fs) (sym c.in_ok-push.ensures.items)
           (below-push n c.loop-i.made.items (c.in_ok-label.label, c.index-right-i.result.1) (c.loop-i.invariant.below n below)
           (number_item n c.args.right.now c.loop-i.i c.index-right-i.result below c.loop-i-test.true c.index-right-i.is));
       others = λ ts.

@@ -3,7 +3,7 @@ use Rattle.std.proofs.lemmas.Result.{IfOk-weaker}
 use Rattle.std.specs.declared.alloc.Global.{Global}
 use Rattle.lam_rules.specs.Types.{record_of}
 use Rattle.lam_rules.specs.declared.table.TyNo.{TyNo}
-use Rattle.lam_rules.specs.Numbers.{type_at, type_of, Stands, fields_over, IsOver, AreBelow}
+use Rattle.lam_rules.specs.Numbers.{type_at, type_of, Stands, fields_over, IsOver, AreEarlier}
 use Rattle.lam_rules.specs.Subtyping.{IsBelow}
 use Rattle.lam_rules.proofs.Composing.{below_refl}
 use Rattle.lam_rules.proofs.Tables.{keeps_trans, keeps_length, below_more}
@@ -169,7 +169,7 @@ meet_by_shape-returns-in_ok-number-in-Arrow-clause-order t c =
 pub join_by_shape-join_fields-requires : goal.join_by_shape-join_fields-requires
 join_by_shape-join_fields-requires t c =
     let are = subst (λ ms. AreMatches c.deref-in-Record.result.now c.deref.result.now ms) (sym c.deref-in-Record-2.ensures.value) c.in_ok-matches-in-Record.ensures in
-    let bound = matches_bound c.args.left.index c.deref-in-Record.result.now c.deref.result.now c.deref-in-Record-2.result.now are (subst (λ fs. AreBelow c.args.left.index fs) (sym c.deref.ensures.value) (subst (λ s. IsOver c.args.left.index s) c.in-Record.is c.shape.ensures.earlier)) in (
+    let bound = matches_bound c.args.left.index c.deref-in-Record.result.now c.deref.result.now c.deref-in-Record-2.result.now are (subst (λ fs. AreEarlier c.args.left.index fs) (sym c.deref.ensures.value) (subst (λ s. IsOver c.args.left.index s) c.in-Record.is c.shape.ensures.earlier)) in (
       omega (arith, c.decreases, bound),
       (
         matches_below _ c.deref-in-Record.result.now c.deref.result.now c.deref-in-Record-2.result.now are
@@ -210,7 +210,7 @@ join_by_shape-returns-in_ok-items-in-Record-clause-order t c =
 pub meet_by_shape-meet_fields-requires : goal.meet_by_shape-meet_fields-requires
 meet_by_shape-meet_fields-requires t c =
     let are = subst (λ ms. AreMatches c.deref-in-Record.result.now c.deref.result.now ms) (sym c.deref-in-Record-4.ensures.value) c.in_ok-matches-in-Record.ensures in
-    let bound = matches_bound c.args.left.index c.deref-in-Record.result.now c.deref.result.now c.deref-in-Record-4.result.now are (subst (λ fs. AreBelow c.args.left.index fs) (sym c.deref.ensures.value) (subst (λ s. IsOver c.args.left.index s) c.in-Record.is c.shape.ensures.earlier)) in (
+    let bound = matches_bound c.args.left.index c.deref-in-Record.result.now c.deref.result.now c.deref-in-Record-4.result.now are (subst (λ fs. AreEarlier c.args.left.index fs) (sym c.deref.ensures.value) (subst (λ s. IsOver c.args.left.index s) c.in-Record.is c.shape.ensures.earlier)) in (
       omega (arith, c.decreases, bound),
       (
         matches_below _ c.deref-in-Record.result.now c.deref.result.now c.deref-in-Record-4.result.now are
@@ -234,8 +234,8 @@ pub meet_by_shape-intern-requires-clause-over : goal.meet_by_shape-intern-requir
 meet_by_shape-intern-requires-clause-over t c =
     let more = c.in_ok-more-in-Record.ensures.below (length c.args.table.now)
     (stand_in c.args.right.index _ c.shape-in-Record.result.now _ c.deref-in-Record-3.result.now c.shape-in-Record.ensures.earlier c.requires.right c.in-Record-shape.is c.deref-in-Record-3.ensures.value) in
-    let stand = subst (λ o. IfSome o (λ made. AreBelow (length c.meet_fields.new.table) made.items)) c.in-Some-2.is c.in_ok-met-in-Record.ensures.stand in
-    subst (λ fs. AreBelow (length c.meet_fields.new.table) fs) (sym c.in_ok-append-in-Record.ensures.items)
+    let stand = subst (λ o. IfSome o (λ made. AreEarlier (length c.meet_fields.new.table) made.items)) c.in-Some-2.is c.in_ok-met-in-Record.ensures.stand in
+    subst (λ fs. AreEarlier (length c.meet_fields.new.table) fs) (sym c.in_ok-append-in-Record.ensures.items)
     (below_append (length c.meet_fields.new.table) c.in-Some-2.met.items c.in_ok-more-in-Record.more.items stand
     (below_more (length c.args.table.now) (length c.meet_fields.new.table) c.in_ok-more-in-Record.more.items more (keeps_length c.args.table.now c.meet_fields.new.table c.in_ok-met-in-Record.ensures.keeps)))
 
@@ -320,7 +320,7 @@ join_fields-loop-i-preserved t c = record {
   keeps = keeps_trans c.args.table.now c.loop-i.table c.join_no.new.table c.loop-i.invariant.keeps c.in_ok-number.ensures.keeps;
   dialect = c.in_ok-number.ensures.dialect ∙ c.loop-i.invariant.dialect;
   right = c.in_ok-number.ensures.verdicts_right;
-  stand = subst (λ fs. AreBelow (length c.join_no.new.table) fs) (sym c.in_ok-push.ensures.items)
+  stand = subst (λ fs. AreEarlier (length c.join_no.new.table) fs) (sym c.in_ok-push.ensures.items)
       (below-push (length c.join_no.new.table) c.loop-i.made.items (c.in_ok-label.label, c.in_ok-number.number)
       (below_more (length c.loop-i.table) (length c.join_no.new.table) c.loop-i.made.items c.loop-i.invariant.stand (keeps_length c.loop-i.table c.join_no.new.table c.in_ok-number.ensures.keeps)) c.in_ok-number.ensures.stands);
   joins = joins_more (OrderlyJoins c.args.verdicts.now.dialect) c.args.table.now c.loop-i.table c.join_no.new.table c.args.matches.now c.loop-i.i c.index-matches-i.result c.loop-i.made.items c.push.new.self.items c.in_ok-label.label c.in-Some.right c.in_ok-number.number
@@ -340,7 +340,7 @@ meet_fields-loop-i-preserved-in_default t c =
       keeps = c.loop-i.invariant.keeps;
       dialect = c.loop-i.invariant.dialect;
       right = c.loop-i.invariant.right;
-      stand = subst (λ fs. AreBelow (length c.loop-i.table) fs) (sym c.in_ok-push.ensures.items)
+      stand = subst (λ fs. AreEarlier (length c.loop-i.table) fs) (sym c.in_ok-push.ensures.items)
           (below-push (length c.loop-i.table) c.loop-i.made.items (c.in_ok-label.label, c.index-matches-i.result.left) c.loop-i.invariant.stand (omega (arith, left, longer)));
       meets = meets_alone (OrderlyMeets c.args.verdicts.now.dialect) c.args.table.now c.loop-i.table c.args.matches.now c.loop-i.i c.index-matches-i.result c.loop-i.made.items c.push.new.self.items c.in_ok-label.label
           c.requires.stand c.loop-i-test.true c.index-matches-i.is c.in_default.is c.loop-i.invariant.keeps c.loop-i.invariant.stand c.in_ok-push.ensures.items c.in_ok-label.ensures.cases c.loop-i.invariant.meets;
@@ -363,7 +363,7 @@ meet_fields-loop-i-preserved t c =
       keeps = keeps_trans c.args.table.now c.loop-i.table c.meet_no.new.table c.loop-i.invariant.keeps c.in_ok-number.ensures.keeps;
       dialect = c.in_ok-number.ensures.dialect ∙ c.loop-i.invariant.dialect;
       right = c.in_ok-number.ensures.verdicts_right;
-      stand = subst (λ fs. AreBelow (length c.meet_no.new.table) fs) (sym c.in_ok-push-2.ensures.items)
+      stand = subst (λ fs. AreEarlier (length c.meet_no.new.table) fs) (sym c.in_ok-push-2.ensures.items)
           (below-push (length c.meet_no.new.table) c.loop-i.made.items (c.in_ok-label.label, c.in-Some-2.number)
           (below_more (length c.loop-i.table) (length c.meet_no.new.table) c.loop-i.made.items c.loop-i.invariant.stand (keeps_length c.loop-i.table c.meet_no.new.table c.in_ok-number.ensures.keeps)) stands);
       meets = meets_more (OrderlyMeets c.args.verdicts.now.dialect) c.args.table.now c.loop-i.table c.meet_no.new.table c.args.matches.now c.loop-i.i c.index-matches-i.result c.loop-i.made.items c.push-in-loop-i.new.self.items c.in_ok-label.label c.in-Some.right c.in-Some-2.number

@@ -1,5 +1,5 @@
 use Rattle.std.proofs.Common.{◌≡◌, ◌+◌, ◌*◌, length}
-use Rattle.lam_rules.specs.Numbers.{Keeps, AreBelow}
+use Rattle.lam_rules.specs.Numbers.{Keeps, AreEarlier}
 use Rattle.lam_sub.specs.Remembered.{AreRight}
 use Rattle.lam_lattice.specs.Records.{OrderlyJoins, OrderlyMeets}
 use Rattle.lam_lattice.proofs.SideBySide.{bound_of, JoinsSoFar, MeetsSoFar}
@@ -10,7 +10,7 @@ invariant-join_fields-loop-i l = record {
   keeps : Keeps l.fn.table l.table;
   dialect : l.verdicts.dialect ≡ l.fn.verdicts.dialect;
   right : AreRight l.table l.verdicts;
-  stand : AreBelow (length l.table) l.made.items;
+  stand : AreEarlier (length l.table) l.made.items;
   joins : JoinsSoFar (OrderlyJoins l.fn.verdicts.dialect) l.fn.table l.table l.matches l.i l.made.items;
 }
 
@@ -19,7 +19,7 @@ invariant-meet_fields-loop-i l = record {
   keeps : Keeps l.fn.table l.table;
   dialect : l.verdicts.dialect ≡ l.fn.verdicts.dialect;
   right : AreRight l.table l.verdicts;
-  stand : AreBelow (length l.table) l.made.items;
+  stand : AreEarlier (length l.table) l.made.items;
   meets : MeetsSoFar (OrderlyMeets l.fn.verdicts.dialect) l.fn.table l.table l.matches l.i l.made.items;
 }
 

@@ -71,7 +71,7 @@ by_app-returns t c =
 
 pub by_ascribe-returns : goal.by_ascribe-returns
 by_ascribe-returns t c =
-    let here = here_ascribe _ c.in-Ascribe.operand c.in-Ascribe.written _ _ c.in-Ascribe.is c.deref.ensures c.in-Some.is _ _ c.in-len1.len_at_least c.in-len1.len_below c.premise-item.is _ _ _ in (
+    let here = here_ascribe _ c.in-Ascribe.operand c.in-Ascribe.written _ _ _ c.in-Ascribe.is c.deref-2.ensures c.deref.ensures c.in-Some.is _ _ c.in-len1.len_at_least c.in-len1.len_below c.premise-item.is _ _ _ in (
       λ r. let h = c.proves.ensures.0 r in here.1 (h.0, h.1, c.if-not-same.ensures.0 refl),
       λ b. let h = here.0 b in c.proves.ensures.1 (h.0, h.1),
     )
@@ -132,10 +132,10 @@ by_let-returns t c =
 
 pub by_abs-returns : goal.by_abs-returns
 by_abs-returns t c =
-    let here = here_abs _ c.in-Abs.written c.in-Abs.body _ _ c.in-Abs.is c.deref-2.ensures c.in-Some.is _ _ c.in-len1.len_at_least c.in-len1.len_below c.premise-item.is _ _ _ in
+    let here = here_abs _ c.in-Abs.written c.in-Abs.body _ _ _ c.in-Abs.is c.deref-3.ensures c.deref.ensures c.in-Some.is _ _ c.in-len1.len_at_least c.in-len1.len_below c.premise-item.is _ _ _ in
     let shape = ap typ_of c.in-Arrow.is ∙ typ_of-Arrow c.in-Arrow.from c.in-Arrow.to in
-    let from = ap typ_of (sym c.deref.ensures) ∙ c.if-not-same.ensures.0 refl in
-    let to = ap typ_of c.deref-3.ensures in (
+    let from = ap typ_of (sym c.deref-2.ensures) ∙ c.if-not-same.ensures.0 refl in
+    let to = ap typ_of c.deref-4.ensures in (
       λ r. let h = c.proves_under.ensures.0 r in here.1 (h.0, shape ∙ (rw (from, h.1, to))),
       λ b. let h = here.0 b in c.proves_under.ensures.1 (h.0, (let whole = sym shape ∙ h.1 in (cc))),
     )

@@ -1,12 +1,12 @@
 use Rattle.std.proofs.Common.{sym, subst}
 use Rattle.std.proofs.lemmas.Option.{IfSome_then}
 use Rattle.lam_rules.specs.Types.{Has, IsAbsent}
-use Rattle.lam_rules.specs.Numbers.{type_of, fields_over, AreBelow as AreNumbersBelow}
+use Rattle.lam_rules.specs.Numbers.{type_of, fields_over, AreEarlier}
 use Rattle.lam_sub.proofs.TableVerdicts.{numbers_cut, number_in_front, number_in_back, number_in_neither, none_then}
 use Rattle.lam_sub.proofs.numbers.field_number.Goals as goal
 
 pub returns-in-Some-clause-below : goal.returns-in-Some-clause-below
-returns-in-Some-clause-below c = λ n below. c.in-Some.ensures.below n (subst (λ gs. AreNumbersBelow n gs) (sym c.split_at.ensures.back) (numbers_cut n c.args.fields.now c.min.result below).1)
+returns-in-Some-clause-below c = λ n below. c.in-Some.ensures.below n (subst (λ gs. AreEarlier n gs) (sym c.split_at.ensures.back) (numbers_cut n c.args.fields.now c.min.result below).1)
 
 pub returns-in-Some-clause-found : goal.returns-in-Some-clause-found
 returns-in-Some-clause-found c = λ ts.
@@ -16,7 +16,7 @@ returns-in-Some-clause-found c = λ ts.
 pub returns-clause-below : goal.returns-clause-below
 returns-clause-below c =
     IfSome_then c.number_under-2.result c.number_under-2.ensures.below
-    (λ number h n below. h n (subst (λ gs. AreNumbersBelow n gs) (sym c.split_at.ensures.front) (numbers_cut n c.args.fields.now c.min.result below).0))
+    (λ number h n below. h n (subst (λ gs. AreEarlier n gs) (sym c.split_at.ensures.front) (numbers_cut n c.args.fields.now c.min.result below).0))
 
 pub returns-clause-found : goal.returns-clause-found
 returns-clause-found c =

@@ -234,7 +234,7 @@ prove_form-returns-in-Free-clause-proves t c =
 
 pub prove_form-returns-in-Abs-clause-proves : goal.prove_form-returns-in-Abs-clause-proves
 prove_form-returns-in-Abs-clause-proves t c =
-    rw (ap term_of c.in-Abs.is ∙ term_of-Abs c.in-Abs.written c.in-Abs.body ∙ (λ i. lambda (written_of c.in-Abs.written) (term_of (sym c.deref-in-Abs.ensures i)))) c.prove_lambda.ensures.proves
+    rw (ap term_of c.in-Abs.is ∙ term_of-Abs c.in-Abs.written c.in-Abs.body ∙ (λ i. lambda (written_of (sym c.deref-in-Abs.ensures i)) (term_of (sym c.deref-in-Abs-2.ensures i)))) c.prove_lambda.ensures.proves
 
 pub prove_form-returns-in-App-clause-proves : goal.prove_form-returns-in-App-clause-proves
 prove_form-returns-in-App-clause-proves t c =
@@ -246,7 +246,7 @@ prove_form-returns-in-Unit-clause-proves t c =
 
 pub prove_form-returns-in-Ascribe-clause-proves : goal.prove_form-returns-in-Ascribe-clause-proves
 prove_form-returns-in-Ascribe-clause-proves t c =
-    rw (ap term_of c.in-Ascribe.is ∙ term_of-Ascribe c.in-Ascribe.operand c.in-Ascribe.written ∙ (λ i. ascribe (term_of (sym c.deref-in-Ascribe.ensures i)) (written_of c.in-Ascribe.written))) c.prove_ascribe.ensures.proves
+    rw (ap term_of c.in-Ascribe.is ∙ term_of-Ascribe c.in-Ascribe.operand c.in-Ascribe.written ∙ (λ i. ascribe (term_of (sym c.deref-in-Ascribe.ensures i)) (written_of (sym c.deref-in-Ascribe-2.ensures i)))) c.prove_ascribe.ensures.proves
 
 pub prove_form-returns-in-Let-clause-proves : goal.prove_form-returns-in-Let-clause-proves
 prove_form-returns-in-Let-clause-proves t c =

@@ -2,7 +2,7 @@ use Rattle.std.proofs.Common.{[], ◌∷◌, ◌++◌, length, Some, None, strin
 use Rattle.lam_rules.specs.Types.{bool, nat, unit}
 use Rattle.lam_rules.specs.Terms.{if_then_else, succ, pred, is_zero, lambda, apply, ascribe, let_in, record_term, project, fix, numeral, free, true_term, false_term, unit_term, term_field}
 use Rattle.lam_rules.specs.TermViews.{term_of, terms_of, written_of}
-use Rattle.lam_rules.specs.Numbers.{fields_over, AreBelow}
+use Rattle.lam_rules.specs.Numbers.{fields_over, AreEarlier}
 use Rattle.lam_rules.proofs.TermShapes.{term_of-True, term_of-False, term_of-Num, term_of-Free, term_of-Unit}
 use Rattle.lam_rules.proofs.Tables.{keeps_same}
 use Rattle.lam_scope.specs.Places.{written, of_term, places, places_in}
@@ -344,7 +344,7 @@ walk_record-returns-clause-stopped t c =
     c.settle.ensures.stopped
 
 pub walk_record-recorded-requires : goal.walk_record-recorded-requires
-walk_record-recorded-requires t c = subst (λ items. AreBelow (length c.walk_fields.new.w.table) items) (sym (parts_empty _ _ _ c.in_ok-all.ensures.walked.parts_are c.new-parts.ensures.items)) c.in_ok-all.ensures.walked.stand
+walk_record-recorded-requires t c = subst (λ items. AreEarlier (length c.walk_fields.new.w.table) items) (sym (parts_empty _ _ _ c.in_ok-all.ensures.walked.parts_are c.new-parts.ensures.items)) c.in_ok-all.ensures.walked.stand
 
 pub walk_fields-returns-in_default-clause-walked : goal.walk_fields-returns-in_default-clause-walked
 walk_fields-returns-in_default-clause-walked t c = no_fields_walked c.args.w.now c.args.fields.now c.args.parts.now.items c.args.dialect c.in_default.ensures.cases

@@ -1,5 +1,5 @@
 use Rattle.std.proofs.Common.{subst, sym, arith}
-use Rattle.lam_rules.specs.Numbers.{AreBelow, IsOver}
+use Rattle.lam_rules.specs.Numbers.{AreEarlier, IsOver}
 use Rattle.lam_rules.proofs.Tables.{below_more}
 use Rattle.lam_rules.proofs.TableEntries.{below_read}
 use Rattle.lam_rules.proofs.TableFields.{bound_below, bound_read, made_more, made_all}
@@ -7,7 +7,7 @@ use Rattle.lam_rules.proofs.table.TyTable.+tree.Goals as goal
 
 pub tree-tree_fields-requires : goal.tree-tree_fields-requires
 tree-tree_fields-requires t c =
-    let earlier = subst (AreBelow c.args.number.index) (sym c.deref.ensures.value) (subst (IsOver c.args.number.index) c.in-Record.is c.shape.ensures.earlier) in
+    let earlier = subst (AreEarlier c.args.number.index) (sym c.deref.ensures.value) (subst (IsOver c.args.number.index) c.in-Record.is c.shape.ensures.earlier) in
     let bound = bound_below _ _ earlier in
     let stands = c.requires in
     (omega (arith, c.decreases), below_more _ _ _ earlier (omega arith))

@@ -1,9 +1,9 @@
 use Rattle.std.proofs.Common.{subst, sym}
-use Rattle.lam_rules.specs.Numbers.{AreBelow, IsOver}
+use Rattle.lam_rules.specs.Numbers.{AreEarlier, IsOver}
 use Rattle.lam_rules.proofs.TableFields.{some_below}
 use Rattle.lam_rules.proofs.table.TyTable.field.Goals as goal
 
 pub returns-in-Record-clause-earlier : goal.returns-in-Record-clause-earlier
 returns-in-Record-clause-earlier c =
-    some_below _ _ _ (subst (AreBelow c.args.number.index) (sym c.deref.ensures.value) (subst (IsOver c.args.number.index) c.in-Record.is c.shape.ensures.earlier))
+    some_below _ _ _ (subst (AreEarlier c.args.number.index) (sym c.deref.ensures.value) (subst (IsOver c.args.number.index) c.in-Record.is c.shape.ensures.earlier))
     c.number_under.ensures.below
