@@ -362,22 +362,13 @@ fn walk_fix<'a>(
     rows.add_binder(alloc, seen.name, token, names, of_let, Origin::TypeName)?;
     walk_type(alloc, rows, types, &term.ty)?;
     let place = walk_under(alloc, rows, types, names, &term.bound, seen)?;
-    let fixed = add_derived(
-        alloc,
-        rows,
-        names,
-        term.bound.span,
-        place,
-        of_lambda,
-        of_let,
-    )?;
+    let fixed = add_derived(rows, names, term.bound.span, place, of_lambda, of_let)?;
     Ok(fixed)
 }
 
 /// The derived lambda and fix of a letrec, whose first term is at that place.
 #[tactic(auto, using(crate::proofs::TableRows::walks))]
 fn add_derived(
-    alloc: Global,
     rows: &mut Rows,
     names: &Seen<'_>,
     span: Span,
@@ -392,10 +383,8 @@ fn add_derived(
     ensures binders { OnOk result (length rows.new.binders.items ≡ length rows.old.binders.items) }
     ensures places { OnOk result (length rows.new.places.items ≡ length rows.old.places.items + 2) }
 {
-    let terms_of_lambda = listed(alloc, &[bound])?;
-    let function = rows.add_place(span, true, &terms_of_lambda, names)?;
-    let terms_of_fix = listed(alloc, &[function])?;
-    let fixed = rows.add_place(span, true, &terms_of_fix, names)?;
+    let function = rows.add_place(span, true, &[bound], names)?;
+    let fixed = rows.add_place(span, true, &[function], names)?;
     rows.set_origin(of_lambda, Origin::Lambda(function));
     rows.set_origin(of_let, Origin::Term(fixed));
     Ok(fixed)
