@@ -11,6 +11,7 @@ pub mod SeenStacks
 pub mod Finding
 pub mod WellFormedForms
 pub mod PlaceTerms
+pub mod Slices
 pub mod TableRows
 pub mod Grouping
 pub mod Reading

@@ -7,11 +7,14 @@ use Rattle.lam_scope.specs.declared.numbers.Place.{Place}
 use Rattle.std.proofs.Math.ListN.{get_or-eq_default}
 use Rattle.lam_scope.specs.declared.numbers.Origin.TheVariants.{TypeName}
 use Rattle.lam_scope.specs.declared.rows.Spans.{Spans}
+use Rattle.std.specs.List.{slice_range}
+use Rattle.lam_scope.specs.Slices.{first_start, AreInOrder}
 use Rattle.lam_scope.specs.Tables.{TextBinder, binder_in, place_in, seen_in, no_span}
 use Rattle.lam_scope.specs.declared.rows.BinderRow.{BinderRow}
 use Rattle.lam_scope.specs.declared.rows.PlaceRow.{PlaceRow}
-use Rattle.lam_scope.specs.TableViews.{binder_number, text_binder, text_place, span_lists}
+use Rattle.lam_scope.specs.TableViews.{binder_number, text_binder, text_place, text_places, terms_start, span_lists}
 use Rattle.lam_scope.proofs.Grouping.{uses-drop}
+use Rattle.lam_scope.proofs.Slices.{first_start-at, first_start-past, in_order-at, in_order-within, sliced-at, sliced-past}
 
 pub binders-drop : (bs : List BinderRow) (i : ℕ) (b : BinderRow) → i < length bs → b ≡ get_or bs i b
     → map text_binder (drop i bs) ≡ text_binder b ∷ map text_binder (drop (i + 1) bs)
@@ -30,11 +33,32 @@ binder-at bs n b lt is = get_or-mapped text_binder bs n b _ lt is
 pub binder-past : (bs : List BinderRow) (n : ℕ) → length bs ≤ n → binder_in (map text_binder bs) n ≡ record { name = None; token = no_span; outer = None; answer = n; origin = TypeName }
 binder-past bs n le = get_or-eq_default (map text_binder bs) _ (rw (length-map bs text_binder) le)
 
-pub place-at : (ts : List Place) (ps : List PlaceRow) (n : ℕ) (p : PlaceRow) → n < length ps → p ≡ get_or ps n p → place_in (map (text_place ts) ps) n ≡ text_place ts p
-place-at ts ps n p lt is = get_or-mapped (text_place ts) ps n p _ lt is
+pub place-at : (ts : List Place) (ps : List PlaceRow) (n : ℕ) (p : PlaceRow) → n < length ps → p ≡ get_or ps n p
+    → place_in (text_places ts ps) n ≡ text_place p (slice_range ts p.terms_start (first_start terms_start (drop (n + 1) ps) (length ts)))
+place-at ts ps n p lt is = rw add-one (sliced-at terms_start text_place ts ps n p _ lt is)
 
-pub place-past : (ts : List Place) (ps : List PlaceRow) (n : ℕ) → length ps ≤ n → place_in (map (text_place ts) ps) n ≡ record { span = no_span; derived = true; terms = []; inner = None }
-place-past ts ps n le = get_or-eq_default (map (text_place ts) ps) _ (rw (length-map ps (text_place ts)) le)
+pub place-span : (ts : List Place) (ps : List PlaceRow) (n : ℕ) (p : PlaceRow) → n < length ps → p ≡ get_or ps n p → (place_in (text_places ts ps) n).span ≡ p.span
+place-span ts ps n p lt is = ap (λ q. q.span) (place-at ts ps n p lt is)
+
+pub place-inner : (ts : List Place) (ps : List PlaceRow) (n : ℕ) (p : PlaceRow) → n < length ps → p ≡ get_or ps n p → (place_in (text_places ts ps) n).inner ≡ option_map binder_number p.inner
+place-inner ts ps n p lt is = ap (λ q. q.inner) (place-at ts ps n p lt is)
+
+pub place-past : (ts : List Place) (ps : List PlaceRow) (n : ℕ) → length ps ≤ n → place_in (text_places ts ps) n ≡ record { span = no_span; derived = true; terms = []; inner = None }
+place-past ts ps n le = sliced-past terms_start text_place ts ps n _ le
+
+-- where the immediate terms of a place end
+
+pub terms-start : (ps : List PlaceRow) (end n : ℕ) (p : PlaceRow) → n < length ps → p ≡ get_or ps n p → first_start terms_start (drop n ps) end ≡ p.terms_start
+terms-start ps end n p lt is = first_start-at terms_start end ps n p lt is
+
+pub terms-end : (ps : List PlaceRow) (end n : ℕ) → length ps ≤ n → first_start terms_start (drop n ps) end ≡ end
+terms-end ps end n le = first_start-past terms_start end ps n le
+
+pub terms-order : (ps : List PlaceRow) (end n : ℕ) (p : PlaceRow) → AreInOrder terms_start end ps → n < length ps → p ≡ get_or ps n p → p.terms_start ≤ first_start terms_start (drop (n + 1) ps) end
+terms-order ps end n p order lt is = rw add-one (in_order-at terms_start end ps n p order lt is)
+
+pub terms-within : (ps : List PlaceRow) (end n : ℕ) → AreInOrder terms_start end ps → first_start terms_start (drop n ps) end ≤ end
+terms-within ps end n order = in_order-within terms_start end ps n order
 
 pub list-at : (ls : List Spans) (n : ℕ) (l : Spans) → n < length ls → l ≡ get_or ls n l → get_or (span_lists ls) n [] ≡ l.items.items
 list-at ls n l lt is = get_or-mapped (λ k. k.items.items) ls n l [] lt is
@@ -64,4 +88,6 @@ chain_more rows found more b next now len i all lt is pushed outer so_far =
     ∙ (λ j. map binder_number found ++ seen_in rows (one_less j) (option_map binder_number (sym is j)))
     ∙ so_far
 
-pub ruleset reading = (binders-drop, uses-drop, drop_all, binder-at, binder-past, place-at, place-past, list-at, list-past)
+pub ruleset reading = (binders-drop, uses-drop, drop_all, binder-at, binder-past, place-span, place-inner, place-past, list-at, list-past)
+
+pub ruleset terms_reading = (place-at, place-past, terms-start, terms-end, terms-order, terms-within)

@@ -1,7 +1,7 @@
 -- What is found among the stretches of rows is what the rows say.
 use Rattle.std.proofs.Common.{◌≡◌, ℕ, ◌+◌, ◌-◌, ◌<◌, ◌≤◌, arith, Bool, true, false, cond, ltb, List, [], ◌∷◌, length, get_or, zero, suc, refl, ap, sym, ◌∙◌, map, Option, Some, None, position, ◌==◌}
 use Rattle.std.specs.Prelude.{if◌then◌else◌}
-use Rattle.std.specs.List.{position_from}
+use Rattle.std.specs.List.{position_from, slice_range}
 use Rattle.std.specs.Option.{option_map}
 use Rattle.std.proofs.lemmas.Bool.Decides.{nat_tests}
 use Rattle.std.proofs.lemmas.Iterator.Adapters.{position_from-zero}
@@ -11,7 +11,8 @@ use Rattle.lam_scope.specs.declared.rows.BinderRow.{BinderRow}
 use Rattle.lam_scope.specs.declared.numbers.Place.{Place}
 use Rattle.lam_scope.specs.declared.rows.PlaceRow.{PlaceRow}
 use Rattle.lam_scope.specs.declared.rows.UseRow.{UseRow}
-use Rattle.lam_scope.specs.TableViews.{text_binder, text_use, text_place, binder_number}
+use Rattle.lam_scope.specs.TableViews.{text_binder, text_use, text_place, text_places, terms_start, binder_number}
+use Rattle.lam_scope.specs.Slices.{first_start}
 use Rattle.lam_scope.specs.Stretches.{has, no_bytes, one_byte}
 use Rattle.lam_scope.specs.RowStretches.{place_stretch, binder_stretch, use_stretch, answer_at, used_at}
 use Rattle.lam_scope.specs.Tables.{TextBinder, TextUse, has_name, is_over, is_token_at, binder_token_at, binder_used_at}
@@ -62,7 +63,7 @@ empty_span a b o e = by (ltb o a) refl
     by true f = ap (λ c. if c then false else ltb o b) f
     by false f = ap (λ c. if c then false else ltb o b) f ∙ past a b o e f
 
-place_has : (o : ℕ) (ts : List Place) (p : PlaceRow) → has o (place_stretch p) ≡ is_over o (text_place ts p)
+place_has : (o : ℕ) (ts : List Place) (p : PlaceRow) → has o (place_stretch p) ≡ is_over o (text_place p ts)
 place_has o ts p = by p.derived (ltb p.span.start p.span.end) refl
   where
     by : (d c : Bool) → ltb p.span.start p.span.end ≡ c
@@ -128,11 +129,16 @@ first_mapped o f g q same (x ∷ xs) = λ i. if same x i then Some 0 else option
 
 -- places
 
-pub first_place : (o : ℕ) (ts : List Place) (ps : List PlaceRow) → position (has o) (map place_stretch ps) ≡ position (is_over o) (map (text_place ts) ps)
+first_sliced : (o : ℕ) (ts : List Place) (ps : List PlaceRow) → first_at (has o) (map place_stretch ps) ≡ first_at (is_over o) (text_places ts ps)
+first_sliced o ts [] = refl
+first_sliced o ts (p ∷ ps) = λ i.
+    if place_has o (slice_range ts p.terms_start (first_start terms_start ps (length ts))) p i then Some 0 else option_map suc (first_sliced o ts ps i)
+
+pub first_place : (o : ℕ) (ts : List Place) (ps : List PlaceRow) → position (has o) (map place_stretch ps) ≡ position (is_over o) (text_places ts ps)
 first_place o ts ps =
     position_first (has o) (map place_stretch ps)
-    ∙ first_mapped o place_stretch (text_place ts) (is_over o) (place_has o ts) ps
-    ∙ sym (position_first (is_over o) (map (text_place ts) ps))
+    ∙ first_sliced o ts ps
+    ∙ sym (position_first (is_over o) (text_places ts ps))
 
 -- tokens of binders, and of uses
 

@@ -20,9 +20,11 @@ use Rattle.lam_scope.specs.declared.rows.BinderRow.{BinderRow}
 use Rattle.lam_scope.specs.declared.rows.UseRow.{UseRow}
 use Rattle.lam_scope.specs.declared.rows.PlaceRow.{PlaceRow}
 use Rattle.lam_scope.specs.Names.{Name}
+use Rattle.lam_scope.specs.Slices.{AreInOrder}
 use Rattle.lam_scope.specs.Tables.{TextBinder, Table, ◌⊕◌, empty_table, Entry, entry, lambda_at, term_at, letrec_rows, innermost, bound_to, binder_row, use_row, place_row, root, behind, roots_of_fields, binders_in, binders_in_fields, below_fields, field_uses, term_table, fields_table, command_table, types_seen_after, names_seen_after, binders_in_command, places_in_command, commands_table}
-use Rattle.lam_scope.specs.TableViews.{binder_number, place_number, text_binder, text_use, text_place, rows_table, originated, with_origin}
+use Rattle.lam_scope.specs.TableViews.{binder_number, place_number, text_binder, text_use, text_place, text_places, terms_start, rows_table, originated, with_origin}
 use Rattle.lam_scope.proofs.Resolving.{commands-drop}
+use Rattle.lam_scope.proofs.Slices.{in_order-longer, in_order-pushed, sliced-pushed}
 use Rattle.lam_scope.proofs.Walks.{fields_of-drop}
 use Rattle.lam_scope.proofs.WrittenTypes.{type_fields_of-drop}
 
@@ -49,7 +51,7 @@ unfolding ◌⊕◌
 new_binder bs more us ps ts b x seen pushed named outer = λ i. record {
   binders = (ap (map text_binder) pushed ∙ map-append text_binder bs (b ∷ []) ∙ (λ j. map text_binder bs ++ record { name = named j; token = b.token; outer = outer j; answer = b.answer.0; origin = b.origin } ∷ [])) i;
   uses = sym (append-nil (map text_use us)) i;
-  places = sym (append-nil (map (text_place ts) ps)) i;
+  places = sym (append-nil (text_places ts ps)) i;
 }
 
 pub new_use : (bs : List BinderRow) (us more : List UseRow) (ps : List PlaceRow) (ts : List Place) (u : UseRow) (x : Name) (seen : List Entry)
@@ -59,52 +61,28 @@ unfolding ◌⊕◌
 new_use bs us more ps ts u x seen pushed own = λ i. record {
   binders = sym (append-nil (map text_binder bs)) i;
   uses = (ap (map text_use) pushed ∙ map-append text_use us (u ∷ []) ∙ (λ j. map text_use us ++ record { token = u.token; binder = own j } ∷ [])) i;
-  places = sym (append-nil (map (text_place ts) ps)) i;
+  places = sym (append-nil (text_places ts ps)) i;
 }
-
--- the immediate terms of places stand among so many
-abbrev pub StandWithin : ℕ → List PlaceRow → Type 0
-StandWithin n ps = All (λ p. (p.terms_start ≤ p.terms_end) × (p.terms_end ≤ n)) ps
-
-pub stand_longer : (ps : List PlaceRow) (n m : ℕ) → n ≤ m → StandWithin n ps → StandWithin m ps
-stand_longer ps n m le within = λ k d lt. let at = within k d lt in (at.0, omega (arith, at.1, le))
-
-pub stand_pushed : (ps more : List PlaceRow) (p : PlaceRow) (n : ℕ) → more ≡ ps ++ p ∷ [] → p.terms_start ≤ p.terms_end → p.terms_end ≤ n → StandWithin n ps → StandWithin n more
-stand_pushed ps more p n pushed rise end within =
-    let P : PlaceRow → Type 0 = λ q. (q.terms_start ≤ q.terms_end) × (q.terms_end ≤ n) in
-    All-same P more (ps ++ p ∷ []) pushed (All-push P ps p within (rise, end))
-
-range_kept : (ts new : List Place) (a b : ℕ) → a ≤ b → b ≤ length ts → slice_range (ts ++ new) a b ≡ slice_range ts a b
-range_kept ts new a b le within =
-    let rest = length-drop a ts in
-    ap (take (b - a)) (drop-append-le a ts new (omega arith)) ∙ take-append-le (b - a) (drop a ts) new (omega arith)
-
-range_new : (ts new : List Place) (a b : ℕ) → a ≡ length ts → b ≡ length (ts ++ new) → slice_range (ts ++ new) a b ≡ new
-range_new ts new a b start end =
-    let all = length-append ts new in
-    let count : b - a ≡ length new = omega arith in
-    (λ i. take (count i) (drop (start i) (ts ++ new))) ∙ ap (take (length new)) (drop-append_seam ts new) ∙ take-length new
-
-places_kept : (ts new : List Place) (ps : List PlaceRow) → StandWithin (length ts) ps → map (text_place (ts ++ new)) ps ≡ map (text_place ts) ps
-places_kept ts new [] within = refl
-places_kept ts new (p ∷ ps) within =
-    let P : PlaceRow → Type 0 = λ q. (q.terms_start ≤ q.terms_end) × (q.terms_end ≤ length ts) in
-    let own = All-head P p ps within in
-    λ i. record { span = p.span; derived = p.derived; terms = map place_number (range_kept ts new p.terms_start p.terms_end own.0 own.1 i); inner = option_map binder_number p.inner }
-    ∷ places_kept ts new ps (All-tail P p ps within) i
 
 pub new_place : (bs : List BinderRow) (us : List UseRow) (ps more : List PlaceRow) (ts longer new : List Place) (p : PlaceRow) (seen : List Entry)
-    → StandWithin (length ts) ps → longer ≡ ts ++ new → p.terms_start ≡ length ts → p.terms_end ≡ length longer → more ≡ ps ++ p ∷ [] → option_map binder_number p.inner ≡ innermost seen
+    → AreInOrder terms_start (length ts) ps → more ≡ ps ++ p ∷ [] → longer ≡ ts ++ new → p.terms_start ≡ length ts → option_map binder_number p.inner ≡ innermost seen
     → rows_table bs us more longer ≡ rows_table bs us ps ts ⊕ place_row p.span p.derived (map place_number new) seen
 unfolding ◌⊕◌
-new_place bs us ps more ts longer new p seen within grown start end pushed inner = λ i. record {
+new_place bs us ps more ts longer new p seen order pushed grown start inner = λ i. record {
   binders = sym (append-nil (map text_binder bs)) i;
   uses = sym (append-nil (map text_use us)) i;
-  places = ((λ j. map (text_place (grown j)) (pushed j))
-      ∙ map-append (text_place (ts ++ new)) ps (p ∷ [])
-      ∙ (λ j. places_kept ts new ps within j
-      ++ record { span = p.span; derived = p.derived; terms = map place_number (range_new ts new p.terms_start p.terms_end start (end ∙ ap length grown) j); inner = inner j } ∷ [])) i;
+  places = ((λ j. text_places (grown j) (pushed j))
+      ∙ sliced-pushed terms_start text_place ts new ps p order start
+      ∙ (λ j. text_places ts ps ++ record { span = p.span; derived = p.derived; terms = map place_number new; inner = inner j } ∷ [])) i;
 }
+
+-- the immediate terms stay in order
+
+pub terms-longer : (ps : List PlaceRow) (n m : ℕ) → n ≤ m → AreInOrder terms_start n ps → AreInOrder terms_start m ps
+terms-longer ps n m le order = in_order-longer terms_start n m ps le order
+
+pub terms-pushed : (ps more : List PlaceRow) (p : PlaceRow) (n : ℕ) → more ≡ ps ++ p ∷ [] → p.terms_start ≡ n → AreInOrder terms_start n ps → AreInOrder terms_start n more
+terms-pushed ps more p n pushed is order = rw pushed (in_order-pushed terms_start n ps p is order)
 
 -- the origin of a binder
 

@@ -6,6 +6,7 @@ pub mod NameStacks
 pub mod Expansions
 pub mod Nameless
 pub mod Tables
+pub mod Slices
 pub mod TableViews
 pub mod WellFormed
 pub mod Found

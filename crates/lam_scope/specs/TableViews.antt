@@ -1,6 +1,5 @@
 -- How the rows of the tables and the binders that are seen stand for those of the definitions.
 use Rattle.std.specs.Prelude.{List, [], ◌∷◌, ◌++◌, ℕ, zero, suc, map, Option, None, Some, string_bytes}
-use Rattle.std.specs.List.{slice_range}
 use Rattle.std.specs.Option.{option_map}
 use Rattle.lam_scope.specs.declared.numbers.Binder.{Binder}
 use Rattle.lam_scope.specs.declared.numbers.Place.{Place}
@@ -13,6 +12,7 @@ use Rattle.lam_scope.specs.declared.rows.Spans.{Spans}
 use Rattle.lam_scope.specs.declared.rows.PlaceRow.{PlaceRow}
 use Rattle.lam_scope.specs.declared.seen.SeenBinder.{SeenBinder}
 use Rattle.lam_scope.specs.Names.{Name}
+use Rattle.lam_scope.specs.Slices.{sliced}
 use Rattle.lam_scope.specs.Stacks.{stacked}
 use Rattle.lam_scope.specs.Tables.{Entry, entry, TextBinder, TextUse, TextPlace, Table}
 
@@ -39,12 +39,19 @@ text_binder r = record { name = option_map (λ s. string_bytes s) r.name; token 
 abbrev pub text_use : UseRow → TextUse
 text_use r = record { token = r.token; binder = option_map binder_number r.binder }
 
--- a place, whose immediate terms stand in one list with those of the others
-abbrev pub text_place : List Place → PlaceRow → TextPlace
-text_place ts r = record { span = r.span; derived = r.derived; terms = map place_number (slice_range ts r.terms_start r.terms_end); inner = option_map binder_number r.inner }
+-- a place, and its immediate terms
+abbrev pub text_place : PlaceRow → List Place → TextPlace
+text_place r ts = record { span = r.span; derived = r.derived; terms = map place_number ts; inner = option_map binder_number r.inner }
+
+abbrev pub terms_start : PlaceRow → ℕ
+terms_start r = r.terms_start
+
+-- places, whose immediate terms stand one behind the other in one list
+abbrev pub text_places : List Place → List PlaceRow → List TextPlace
+text_places = sliced terms_start text_place
 
 abbrev pub rows_table : List BinderRow → List UseRow → List PlaceRow → List Place → Table
-rows_table bs us ps ts = record { binders = map text_binder bs; uses = map text_use us; places = map (text_place ts) ps }
+rows_table bs us ps ts = record { binders = map text_binder bs; uses = map text_use us; places = text_places ts ps }
 
 abbrev pub rows_of : Rows → Table
 rows_of r = rows_table r.binders.items r.uses.items r.places.items r.terms.items

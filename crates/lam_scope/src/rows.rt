@@ -1,6 +1,7 @@
 //! The rows of the tables that binding fills.
-ghost use Rattle.std.specs.Prelude.{◌≡◌, ◌+◌, ◌<◌, ◌≤◌, length, map, All, IfOk, OnOk, string_bytes};
+ghost use Rattle.std.specs.Prelude.{◌≡◌, ◌+◌, ◌<◌, length, map, drop, IfOk, OnOk, string_bytes};
 ghost use Rattle.std.specs.Option.{option_map};
+ghost use Rattle.lam_scope.specs.Slices.{first_start, AreInOrder, AreInOrder-prop};
 ghost use Rattle.lam_scope.specs.Tables.{◌⊕◌, empty_table, binder_row, use_row, place_row, place_row_numbered};
 
 use crate::numbers::{Binder, Origin, Place};
@@ -37,9 +38,8 @@ pub(crate) struct PlaceRow {
     pub(crate) span: Span,
     /// Whether it stands for a letrec's lambda or fix, which are not written.
     pub(crate) derived: bool,
-    /// Where its immediate terms stand among those of all places: from the first of them to the one behind the last.
+    /// Where its immediate terms start among those of all places. They end where those of the next place start.
     pub(crate) terms_start: usize,
-    pub(crate) terms_end: usize,
     /// The innermost of the binders of names that it sees.
     pub(crate) inner: Option<Binder>,
 }
@@ -58,11 +58,11 @@ pub(crate) struct Rows {
     pub(crate) places: Vec<PlaceRow>,
     /// The immediate terms of all places.
     terms: Vec<Place>,
-    ghost terms_stand: { All (λ p. (p.terms_start ≤ p.terms_end) × (p.terms_end ≤ length terms.items)) places.items },
+    ghost terms_in_order: { AreInOrder (λ p. p.terms_start) (length terms.items) places.items } by { AreInOrder-prop (λ p. p.terms_start) (length terms.items) places.items },
 }
 
 impl Rows {
-    ghost use Rattle.lam_scope.specs.TableViews.{place_number, rows_of, with_origin};
+    ghost use Rattle.lam_scope.specs.TableViews.{place_number, rows_of, terms_start, with_origin};
 
     /// Nothing was walked, and there is that room.
     pub(crate) fn with_room(alloc: Global, room: Room) -> Result<Rows, AllocError>
@@ -145,27 +145,37 @@ impl Rows {
         ensures places { OnOk result (length self.new.places.items ≡ length self.old.places.items + 1) }
     {
         let number = Place(self.places.len());
-        let terms_start = self.terms.len();
-        self.terms.extend_from_slice(terms)?;
         let row = PlaceRow {
             span,
             derived,
-            terms_start,
-            terms_end: self.terms.len(),
+            terms_start: self.terms.len(),
             inner: seen.innermost(),
         };
         self.places.push(row)?;
+        self.terms.extend_from_slice(terms)?;
         Ok(number)
     }
 
     /// The immediate terms of a place.
-    #[tactic(auto, using(crate::proofs::Reading::reading))]
+    #[tactic(auto, using(crate::proofs::Reading::terms_reading))]
     pub(crate) fn terms_of(&self, place: Place) -> &[Place]
         ensures { map place_number result.now ≡ (place_row_numbered (rows_of self.now) place.0).terms }
     {
         match self.places.get(place.0) {
-            Some(row) => &self.terms[row.terms_start..row.terms_end],
+            Some(row) => &self.terms[row.terms_start..self.terms_end(place)],
             None => &[],
+        }
+    }
+
+    /// Where the immediate terms of a place end.
+    #[tactic(auto, using(crate::proofs::Reading::terms_reading))]
+    fn terms_end(&self, place: Place) -> usize
+        requires { place.0 < length self.now.places.items }
+        ensures { result ≡ first_start terms_start (drop (place.0 + 1) self.now.places.items) (length self.now.terms.items) }
+    {
+        match self.places.get(place.0 + 1) {
+            Some(next) => next.terms_start,
+            None => self.terms.len(),
         }
     }
 

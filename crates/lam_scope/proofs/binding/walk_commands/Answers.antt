@@ -1,4 +1,5 @@
-use Rattle.lam_scope.specs.TableViews.{rows_of, text_binder, text_place}
+use Rattle.lam_scope.specs.TableViews.{rows_of, text_binder, text_place, terms_start}
+use Rattle.lam_scope.proofs.Slices.{sliced-length}
 use Rattle.lam_scope.proofs.TableRows.{commands_more, commands_walked, empty_plus}
 use Rattle.std.proofs.Common.{◌≡◌, ap, sym, ◌∙◌, map, length}
 use Rattle.std.proofs.lemmas.List.{length-map}
@@ -10,7 +11,7 @@ pub loop-i-init : goal.loop-i-init
 loop-i-init c =
     let r = c.in_ok-rows.rows in
     let binders : length r.binders.items ≡ 0 = sym (length-map r.binders.items text_binder) ∙ ap (λ t. length t.binders) c.in_ok-rows.ensures in
-    let places : length r.places.items ≡ 0 = sym (length-map r.places.items (text_place r.terms.items)) ∙ ap (λ t. length t.places) c.in_ok-rows.ensures in
+    let places : length r.places.items ≡ 0 = sym (sliced-length terms_start text_place r.terms.items r.places.items) ∙ ap (λ t. length t.places) c.in_ok-rows.ensures in
     (λ i. c.in_ok-rows.ensures i ⊕ commands_table (c.new-types.ensures i) (c.in_ok-names.ensures i) (binders i) (places i) 0 (map command_of c.args.commands.now))
     ∙ empty_plus (table (map command_of c.args.commands.now))
 
