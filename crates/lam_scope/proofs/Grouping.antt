@@ -5,8 +5,11 @@ use Rattle.std.proofs.lemmas.Bool.Decides.{nat_tests}
 use Rattle.lam_token.specs.declared.span.Span.{Span}
 use Rattle.lam_scope.specs.declared.rows.UseRow.{UseRow}
 use Rattle.lam_scope.specs.declared.rows.Spans.{Spans}
+use Rattle.std.specs.List.{slice_range}
+use Rattle.lam_scope.specs.Slices.{first_start, sliced, AreInOrder}
+use Rattle.lam_scope.proofs.Slices.{first_start-at, first_start-past, in_order-longer, in_order-pushed, in_order-at, in_order-within, sliced-pushed, sliced-at, sliced-past}
 use Rattle.lam_scope.specs.Tables.{TextUse, is_number, is_use_of, tokens_of, tokens_by}
-use Rattle.lam_scope.specs.TableViews.{text_use, span_lists, noted, noted_for, noted_at, empty_lists}
+use Rattle.lam_scope.specs.TableViews.{text_use, span_lists, list_start, listed, noted, noted_for, noted_at, empty_lists}
 
 -- lists of tokens, and those of the uses behind them
 
@@ -102,5 +105,55 @@ grouped_more us i d ls more all lt e so_far =
 
 pub grouped_all : (us : List UseRow) (i : ℕ) (ls all : List (List Span)) → length us ≤ i → with_tokens 0 (map text_use (drop i us)) ls ≡ all → ls ≡ all
 grouped_all us i ls all le so_far = sym (with_tokens-none 0 ls) ∙ (rw (drop_all i us le) at so_far)
+
+-- lists behind one another in one
+
+joined_more-drop : (ls : List Spans) (i : ℕ) (l : Spans) → i < length ls → l ≡ get_or ls i l → span_lists (drop i ls) ≡ l.items.items ∷ span_lists (drop (i + 1) ls)
+joined_more-drop ls i l lt is = rw add-one (rw (drop-cons ls i l lt) (ap (λ k. k.items.items ∷ span_lists (drop (suc i) ls)) (sym is)))
+
+pub joined_more : (ls : List Spans) (i : ℕ) (l : Spans) (before after all : List (List Span)) → i < length ls → l ≡ get_or ls i l → after ≡ before ++ l.items.items ∷ []
+    → before ++ span_lists (drop i ls) ≡ all → after ++ span_lists (drop (i + 1) ls) ≡ all
+joined_more ls i l before after all lt is added so_far =
+    ap (λ ks. ks ++ span_lists (drop (i + 1) ls)) added
+    ∙ append_assoc before (l.items.items ∷ []) (span_lists (drop (i + 1) ls))
+    ∙ ap (λ ks. before ++ ks) (sym (joined_more-drop ls i l lt is))
+    ∙ so_far
+
+pub joined_all : (ls : List Spans) (i : ℕ) (before all : List (List Span)) → length ls ≤ i → before ++ span_lists (drop i ls) ≡ all → before ≡ all
+joined_all ls i before all le so_far = sym (append-nil before) ∙ (rw (drop_all i ls le) at so_far)
+
+pub list-pushed : (ts longer new : List Span) (starts more : List ℕ) (s : ℕ) → AreInOrder list_start (length ts) starts → more ≡ starts ++ s ∷ [] → longer ≡ ts ++ new → s ≡ length ts
+    → sliced list_start listed longer more ≡ sliced list_start listed ts starts ++ new ∷ []
+list-pushed ts longer new starts more s order pushed grown is =
+    (λ i. sliced list_start listed (grown i) (pushed i)) ∙ sliced-pushed list_start listed ts new starts s order is
+
+pub starts-longer : (starts : List ℕ) (n m : ℕ) → n ≤ m → AreInOrder list_start n starts → AreInOrder list_start m starts
+starts-longer starts n m le order = in_order-longer list_start n m starts le order
+
+pub starts-pushed : (starts more : List ℕ) (s n : ℕ) → more ≡ starts ++ s ∷ [] → s ≡ n → AreInOrder list_start n starts → AreInOrder list_start n more
+starts-pushed starts more s n pushed is order = rw pushed (in_order-pushed list_start n starts s is order)
+
+-- the list of a number, or none
+
+pub list-at : (ts : List Span) (starts : List ℕ) (n s : ℕ) → n < length starts → s ≡ get_or starts n s
+    → get_or (sliced list_start listed ts starts) n [] ≡ slice_range ts s (first_start list_start (drop (n + 1) starts) (length ts))
+list-at ts starts n s lt is = rw add-one (sliced-at list_start listed ts starts n s [] lt is)
+
+pub list-past : (ts : List Span) (starts : List ℕ) (n : ℕ) → length starts ≤ n → get_or (sliced list_start listed ts starts) n [] ≡ []
+list-past ts starts n le = sliced-past list_start listed ts starts n [] le
+
+pub starts-at : (starts : List ℕ) (end n s : ℕ) → n < length starts → s ≡ get_or starts n s → first_start list_start (drop n starts) end ≡ s
+starts-at starts end n s lt is = first_start-at list_start end starts n s lt is
+
+pub starts-past : (starts : List ℕ) (end n : ℕ) → length starts ≤ n → first_start list_start (drop n starts) end ≡ end
+starts-past starts end n le = first_start-past list_start end starts n le
+
+pub starts-order : (starts : List ℕ) (end n s : ℕ) → AreInOrder list_start end starts → n < length starts → s ≡ get_or starts n s → s ≤ first_start list_start (drop (n + 1) starts) end
+starts-order starts end n s order lt is = rw add-one (in_order-at list_start end starts n s order lt is)
+
+pub starts-within : (starts : List ℕ) (end n : ℕ) → AreInOrder list_start end starts → first_start list_start (drop n starts) end ≤ end
+starts-within starts end n order = in_order-within list_start end starts n order
+
+pub ruleset listing = (list-at, list-past, starts-at, starts-past, starts-order, starts-within)
 
 pub ruleset grouping = (with_tokens-empty, with_tokens-none, span_lists-push, empty_lists-more, uses-drop)

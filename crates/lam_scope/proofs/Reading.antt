@@ -6,13 +6,12 @@ use Rattle.lam_scope.specs.declared.numbers.Binder.{Binder}
 use Rattle.lam_scope.specs.declared.numbers.Place.{Place}
 use Rattle.std.proofs.Math.ListN.{get_or-eq_default}
 use Rattle.lam_scope.specs.declared.numbers.Origin.TheVariants.{TypeName}
-use Rattle.lam_scope.specs.declared.rows.Spans.{Spans}
 use Rattle.std.specs.List.{slice_range}
 use Rattle.lam_scope.specs.Slices.{first_start, AreInOrder}
 use Rattle.lam_scope.specs.Tables.{TextBinder, binder_in, place_in, seen_in, no_span}
 use Rattle.lam_scope.specs.declared.rows.BinderRow.{BinderRow}
 use Rattle.lam_scope.specs.declared.rows.PlaceRow.{PlaceRow}
-use Rattle.lam_scope.specs.TableViews.{binder_number, text_binder, text_place, text_places, terms_start, span_lists}
+use Rattle.lam_scope.specs.TableViews.{binder_number, text_binder, text_place, text_places, terms_start}
 use Rattle.lam_scope.proofs.Grouping.{uses-drop}
 use Rattle.lam_scope.proofs.Slices.{first_start-at, first_start-past, in_order-at, in_order-within, sliced-at, sliced-past}
 
@@ -60,12 +59,6 @@ terms-order ps end n p order lt is = rw add-one (in_order-at terms_start end ps 
 pub terms-within : (ps : List PlaceRow) (end n : ℕ) → AreInOrder terms_start end ps → first_start terms_start (drop n ps) end ≤ end
 terms-within ps end n order = in_order-within terms_start end ps n order
 
-pub list-at : (ls : List Spans) (n : ℕ) (l : Spans) → n < length ls → l ≡ get_or ls n l → get_or (span_lists ls) n [] ≡ l.items.items
-list-at ls n l lt is = get_or-mapped (λ k. k.items.items) ls n l [] lt is
-
-pub list-past : (ls : List Spans) (n : ℕ) → length ls ≤ n → get_or (span_lists ls) n [] ≡ []
-list-past ls n le = get_or-eq_default (span_lists ls) [] (rw (length-map ls (λ k. k.items.items)) le)
-
 pub map-reverse : {A B : Type 0} (f : A → B) (xs : List A) → map f (reverse xs) ≡ reverse (map f xs)
 map-reverse f [] = refl
 map-reverse f (x ∷ xs) =
@@ -88,6 +81,6 @@ chain_more rows found more b next now len i all lt is pushed outer so_far =
     ∙ (λ j. map binder_number found ++ seen_in rows (one_less j) (option_map binder_number (sym is j)))
     ∙ so_far
 
-pub ruleset reading = (binders-drop, uses-drop, drop_all, binder-at, binder-past, place-span, place-inner, place-past, list-at, list-past)
+pub ruleset reading = (binders-drop, uses-drop, drop_all, binder-at, binder-past, place-span, place-inner, place-past)
 
 pub ruleset terms_reading = (place-at, place-past, terms-start, terms-end, terms-order, terms-within)

@@ -1,10 +1,6 @@
 -- How rows are added to tables.
-use Rattle.std.proofs.Common.{◌≡◌, ℕ, ◌+◌, ◌<◌, ◌≤◌, List, [], ◌∷◌, ◌++◌, length, drop, get_or, slice_set, zero, suc, refl, ap, sym, ◌∙◌, append_assoc, length-append, map, arith, Option, true, string_bytes, ◌-◌, take}
-use Rattle.std.proofs.lemmas.List.{append-nil, map-append, drop_all, drop-append-le, take-append-le, length-drop}
-use Rattle.std.proofs.lemmas.List.Elements.{All-head, All-tail, All-same, All-push}
-use Rattle.std.proofs.Math.Seq.{drop-append_seam, take-length}
-use Rattle.std.specs.Prelude.{All}
-use Rattle.std.specs.List.{slice_range}
+use Rattle.std.proofs.Common.{◌≡◌, ℕ, ◌+◌, ◌<◌, ◌≤◌, List, [], ◌∷◌, ◌++◌, length, drop, get_or, slice_set, zero, suc, refl, ap, sym, ◌∙◌, append_assoc, length-append, map, arith, Option, true, string_bytes}
+use Rattle.std.proofs.lemmas.List.{append-nil, map-append, drop_all}
 use Rattle.std.specs.Option.{option_map}
 use Rattle.lam_token.specs.declared.span.Span.{Span}
 use Rattle.lam_syntax.specs.declared.terms.Command.{Command}

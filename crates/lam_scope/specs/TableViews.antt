@@ -9,6 +9,7 @@ use Rattle.lam_token.specs.declared.span.Span.{Span}
 use Rattle.lam_scope.specs.declared.numbers.Origin.{Origin}
 use Rattle.lam_scope.specs.declared.rows.Rows.{Rows}
 use Rattle.lam_scope.specs.declared.rows.Spans.{Spans}
+use Rattle.lam_scope.specs.declared.token_lists.TokenLists.{TokenLists}
 use Rattle.lam_scope.specs.declared.rows.PlaceRow.{PlaceRow}
 use Rattle.lam_scope.specs.declared.seen.SeenBinder.{SeenBinder}
 use Rattle.lam_scope.specs.Names.{Name}
@@ -65,6 +66,17 @@ originated (suc n) o (b ∷ bs) = b ∷ originated n o bs
 
 abbrev pub with_origin : ℕ → Origin → Table → Table
 with_origin n o t = record { binders = originated n o t.binders; uses = t.uses; places = t.places }
+
+-- lists of tokens, one behind the other in one list
+
+abbrev pub list_start : ℕ → ℕ
+list_start s = s
+
+abbrev pub listed : ℕ → List Span → List Span
+listed s ts = ts
+
+abbrev pub lists_in : TokenLists → List (List Span)
+lists_in l = sliced list_start listed l.tokens.items l.starts.items
 
 -- the tokens of the uses of each binder
 abbrev pub span_lists : List Spans → List (List Span)

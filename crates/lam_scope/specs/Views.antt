@@ -21,7 +21,7 @@ use Rattle.lam_scope.specs.declared.numbers.Origin.{Origin}
 use Rattle.lam_scope.specs.declared.resolved.Resolved.{Resolved}
 use Rattle.lam_scope.specs.declared.scopes.Scopes.{Scopes}
 use Rattle.lam_scope.specs.Tables.{Table, table, tokens_by}
-use Rattle.lam_scope.specs.TableViews.{rows_of, span_lists}
+use Rattle.lam_scope.specs.TableViews.{rows_of, lists_in}
 use Rattle.lam_scope.specs.Expansions.{Abbreviation}
 use Rattle.lam_scope.specs.Abbreviations.{abbreviations_in}
 use Rattle.lam_scope.specs.Places.{Statement, defines, declares, abbreviates, states}
@@ -49,7 +49,7 @@ abbrev pub table_of : Scopes → Table
 table_of s = rows_of s.rows
 
 abbrev pub uses_in : Scopes → List (List Span)
-uses_in s = span_lists s.tokens.items
+uses_in s = lists_in s.tokens
 
 -- scopes are of these commands
 pub record AreScopesOf (s : Scopes) (cs : List CommandTree) : Type 0 where

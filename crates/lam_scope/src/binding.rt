@@ -2,13 +2,14 @@
 ghost use Rattle.std.specs.Prelude.{◌≡◌, length, map, IfOk, OnOk};
 ghost use Rattle.lam_syntax.specs.Views.{command_of};
 ghost use Rattle.lam_scope.specs.Tables.{table, tokens_by};
-ghost use Rattle.lam_scope.specs.TableViews.{text_use, rows_of, span_lists, noted, empty_lists};
+ghost use Rattle.lam_scope.specs.TableViews.{text_use, rows_of, span_lists, lists_in, noted, empty_lists};
 ghost use Rattle.lam_scope.specs.Views.{AreScopesOf};
 
 use crate::room::room_of;
 use crate::rows::{Rows, Spans, UseRow};
 use crate::scopes::Scopes;
 use crate::seen::Seen;
+use crate::token_lists::TokenLists;
 use crate::walk::walk_command;
 use lam_syntax::Command;
 use std::alloc::{AllocError, Global};
@@ -39,8 +40,16 @@ fn walk_commands(alloc: Global, commands: &[Command]) -> Result<Rows, AllocError
 }
 
 /// The tokens of the uses of each of so many binders, in the order of the text.
+fn group_tokens(alloc: Global, binders: usize, uses: &[UseRow]) -> Result<TokenLists, AllocError>
+    ensures { IfOk result (λ lists. lists_in lists ≡ tokens_by 0 binders (map text_use uses.now)) }
+{
+    let lists = apart(alloc, binders, uses)?;
+    in_one(alloc, &lists, uses.len())
+}
+
+/// The same in a block of memory for each binder, which are too many to be kept.
 #[tactic(auto, using(crate::proofs::Grouping::grouping))]
-fn group_tokens(alloc: Global, binders: usize, uses: &[UseRow]) -> Result<Vec<Spans>, AllocError>
+fn apart(alloc: Global, binders: usize, uses: &[UseRow]) -> Result<Vec<Spans>, AllocError>
     ensures { IfOk result (λ lists. span_lists lists.items ≡ tokens_by 0 binders (map text_use uses.now)) }
 {
     let counts = use_counts(alloc, binders, uses)?;
@@ -101,4 +110,17 @@ fn note_use(lists: &mut Vec<Spans>, used: &UseRow) -> Result<(), AllocError>
         lists[binder.0].items.push(used.token)?;
     }
     Ok(())
+}
+
+/// The same lists in one block, with room for so many tokens.
+#[tactic(auto, using(crate::proofs::Grouping::grouping))]
+fn in_one(alloc: Global, lists: &[Spans], tokens: usize) -> Result<TokenLists, AllocError>
+    ensures { IfOk result (λ all. lists_in all ≡ span_lists lists.now) }
+{
+    let mut all = TokenLists::with_room(alloc, lists.len(), tokens)?;
+    for i in 0..lists.len() {
+        let list = &lists[i];
+        all.add(&list.items)?;
+    }
+    Ok(all)
 }

@@ -27,6 +27,7 @@ mod statement;
 mod stretches;
 #[cfg(test)]
 mod tests;
+mod token_lists;
 mod walk;
 mod written;
 

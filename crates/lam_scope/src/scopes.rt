@@ -2,13 +2,14 @@
 ghost use Rattle.std.specs.Prelude.{◌≡◌, [], length, slice_index_or, map, IfOk, string_bytes};
 ghost use Rattle.std.specs.Option.{option_map};
 ghost use Rattle.lam_scope.specs.Tables.{binder_numbered, place_row_numbered, binder_at, binder_token_at, binder_used_at, visible_at, seen_in, binder_in, place_at, shown_name};
-ghost use Rattle.lam_scope.specs.TableViews.{binder_number, place_number, text_binder, text_use, rows_of, span_lists};
+ghost use Rattle.lam_scope.specs.TableViews.{binder_number, place_number, text_binder, text_use, rows_of};
 ghost use Rattle.lam_scope.specs.Stretches.{AreRuns, AreRuns-prop};
 ghost use Rattle.lam_scope.specs.RowStretches.{place_stretch, binder_stretch, use_stretch, answer_at, used_at};
 
 use crate::numbers::{Binder, Place};
-use crate::rows::{BinderRow, Rows, Spans, UseRow};
+use crate::rows::{BinderRow, Rows, UseRow};
 use crate::stretches::{Stretch, first_with, runs_of};
+use crate::token_lists::TokenLists;
 use lam_token::Span;
 use std::alloc::{AllocError, Global};
 
@@ -17,7 +18,7 @@ use std::alloc::{AllocError, Global};
 pub struct Scopes {
     pub(crate) rows: Rows,
     /// The tokens of the uses of each binder, by its number.
-    pub(crate) tokens: Vec<Spans>,
+    pub(crate) tokens: TokenLists,
     /// The runs by which the places are searched for a byte of the text, the tokens of the binders, and of the uses.
     place_runs: Vec<Stretch>,
     binder_runs: Vec<Stretch>,
@@ -31,7 +32,7 @@ impl Scopes {
     ghost use Rattle.lam_scope.specs.Views.{table_of, uses_in};
 
     /// The scopes of these rows, whose binders have those uses.
-    pub(crate) fn new(alloc: Global, rows: Rows, tokens: Vec<Spans>) -> Result<Scopes, AllocError>
+    pub(crate) fn new(alloc: Global, rows: Rows, tokens: TokenLists) -> Result<Scopes, AllocError>
         ensures rows { IfOk result (λ s. s.rows ≡ rows) }
         ensures tokens { IfOk result (λ s. s.tokens ≡ tokens) }
     {
@@ -65,7 +66,7 @@ impl Scopes {
         ensures { result.now ≡ slice_index_or (uses_in self.now) (binder_numbered (table_of self.now) binder.0).answer [] }
     {
         let answer = answer_of(&self.rows.binders, binder);
-        tokens_at(&self.tokens, answer)
+        self.tokens.get(answer.0)
     }
 
     /// The binders of names that a place sees, shadowed ones and underscores too, the outermost first.
@@ -153,16 +154,6 @@ fn answer_of(binders: &[BinderRow], binder: Binder) -> Binder
     match binders.get(binder.0) {
         Some(row) => row.answer,
         None => binder,
-    }
-}
-
-#[tactic(auto, using(crate::proofs::Reading::reading))]
-fn tokens_at(lists: &[Spans], binder: Binder) -> &[Span]
-    ensures { result.now ≡ slice_index_or (span_lists lists.now) binder.0 [] }
-{
-    match lists.get(binder.0) {
-        Some(list) => &list.items,
-        None => &[],
     }
 }
 

@@ -1,6 +1,6 @@
 use Rattle.lam_scope.specs.TableViews.{span_lists}
 use Rattle.lam_scope.proofs.Grouping.{grouped_more, grouped_all}
-use Rattle.lam_scope.proofs.binding.group_tokens.Goals as goal
+use Rattle.lam_scope.proofs.binding.apart.Goals as goal
 
 pub loop-i-preserved : goal.loop-i-preserved
 loop-i-preserved c =
