@@ -41,6 +41,7 @@ pub record FailedPush {S : Type 0} (taken : S → Option (List ℕ)) (flushed fa
   pub kept : Keeps (taken old) (taken new)
   pub unflushed : flushed new ≡ flushed old
 
+-- a push: it took so many of the bytes, or failed
 abbrev pub Pushes : {S : Type 0} → (S → Option (List ℕ)) → (S → ℕ) → (S → ℕ) → S → Result ℕ DeviceFault → List ℕ → S → Type 0
 Pushes taken flushed failed old (Ok n) bytes new = Took taken flushed failed bytes n old new
 Pushes taken flushed failed old (Err _) bytes new = FailedPush taken flushed failed old new
@@ -50,11 +51,13 @@ abbrev pub IsFlushed : Option (List ℕ) → ℕ → Type 0
 IsFlushed None flushed = Unit {0}
 IsFlushed (Some bytes) flushed = flushed ≡ length bytes
 
+-- a sink took nothing, and flushed all that it has
 pub record Flushed {S : Type 0} (taken : S → Option (List ℕ)) (flushed failed : S → ℕ) (old new : S) : Type 0 where
   pub unfailed : failed new ≡ failed old
   pub kept : Keeps (taken old) (taken new)
   pub all : IsFlushed (taken new) (flushed new)
 
+-- a flush: all is flushed, or it failed
 abbrev pub Flushes : {S : Type 0} → (S → Option (List ℕ)) → (S → ℕ) → (S → ℕ) → S → Result (Unit {0}) DeviceFault → S → Type 0
 Flushes taken flushed failed old (Ok _) new = Flushed taken flushed failed old new
 Flushes taken flushed failed old (Err _) new = FailedPush taken flushed failed old new

@@ -26,12 +26,13 @@ pub record StartsBody (bytes : List ℕ) (len size : ℕ) : Type 0 where
   pub says : body_length lines ≡ Ok size
   pub within : len ≤ length bytes
 
+-- the bytes begin with a header part, with one that is not over, or with a fault
 abbrev pub IsStart : List ℕ → Start → Type 0
 IsStart bytes (Whole len size) = StartsBody bytes len size
 IsStart bytes Open = IsUnfinished bytes × (length bytes < header_limit)
 IsStart bytes (Faulty fault) = HasFault bytes fault × IsByteFault fault
 
--- one pull behind the bytes held
+-- one pull, whose piece stands behind the bytes held
 pub record PulledPiece {S : Type 0} (coming : S → Option (List ℕ)) (failed : S → ℕ) (gave : S → List ℕ → S → Type 0) (held : List ℕ) (source : S) (n : ℕ) (held_after : List ℕ) (source_after : S) : Type 0 where
   pub piece : List ℕ
   pub given : Gave coming failed gave source piece source_after
@@ -39,6 +40,7 @@ pub record PulledPiece {S : Type 0} (coming : S → Option (List ℕ)) (failed :
   pub small : n ≤ 65536
   pub added : held_after ≡ held ++ piece
 
+-- a pull behind the bytes held, or one that failed
 abbrev pub PullsBehind : {S : Type 0} → (S → Option (List ℕ)) → (S → ℕ) → (S → List ℕ → S → Type 0) → List ℕ → S → Result ℕ DeviceFault → List ℕ → S → Type 0
 PullsBehind coming failed gave held source (Ok n) held_after source_after = PulledPiece coming failed gave held source n held_after source_after
 PullsBehind coming failed gave held source (Err _) held_after source_after = FailedPull coming failed source source_after
@@ -57,12 +59,13 @@ PullsMore coming failed gave held pulls source (Err _) held_after pulls_after so
 abbrev pub NoneEmpty : List (List ℕ) → Type 0
 NoneEmpty pieces = AllByRecursion (λ (piece : List ℕ). 0 < length piece) pieces
 
--- what reading a header part says: a body of some size follows, or the clean end is there
+-- a header part was read, behind which a body of this size follows
 pub record HeaderIsRead (heard : List ℕ) (size : ℕ) (held : List ℕ) : Type 0 where
   pub lines : List (List ℕ)
   pub header : HasHeader heard lines held
   pub says : body_length lines ≡ Ok size
 
+-- what reading a header part says: a body of some size follows, or the clean end is there, or why neither is known
 abbrev pub SaysHeader : List ℕ → List (List ℕ) → Result (Option ℕ) FrameFault → List ℕ → Type 0
 SaysHeader heard pieces (Ok (Some size)) held = HeaderIsRead heard size held × NoneEmpty pieces
 SaysHeader heard pieces (Ok None) held = (heard ≡ []) × EndsEmpty pieces

@@ -30,6 +30,7 @@ pub record AreFoundOf (commands : List CommandTree) (resolved : Resolved) (typin
   pub entries : AreEntries (statements_of resolved) (origins_of resolved) typing
   pub dialect : dialect_of_types typing ≡ d
 
+-- what is known of types is that of these commands: their size fault, or else their nameless form and their types
 abbrev pub AreTypesOf : List CommandTree → Types → Dialect → Type 0
 AreTypesOf commands (TooLarge s) d = IsSizeFault commands s d
 AreTypesOf commands (Found resolved typing) d = AreFoundOf commands resolved typing d
@@ -48,12 +49,13 @@ pub record IsAnalysisOf (text : List ℕ) (a : Analysis) : Type 0 where
   pub scopes : AreScopesOf a.scopes commands
   pub types : AreTypesOf commands a.types a.dialect
 
--- an answer about an offset of a text is one about that offset in the commands of the text
+-- what is shown of an offset of a text: what is shown of that offset in the text's commands
 pub record IsShownIn (text : List ℕ) (offset : ℕ) (shown : Option Shown) (d : Dialect) : Type 0 where
   pub commands : List CommandTree
   pub are_commands : AreCommandsOfText text commands
   pub answer : IsHover commands offset shown d
 
+-- what is derived for an offset of a text: what is derived for that offset in the text's commands
 pub record IsDerivedIn (text : List ℕ) (offset : ℕ) (derived : Option Derivation) (d : Dialect) : Type 0 where
   pub commands : List CommandTree
   pub are_commands : AreCommandsOfText text commands

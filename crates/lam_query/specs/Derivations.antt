@@ -15,6 +15,7 @@ pub record Entry : Type 0 where
   pub name : Text
   pub type : Option Typ
 
+-- why a term has a type: the binders that it sees, and the steps of a proof
 pub record Derivation : Type 0 where
   -- from the outermost binder to the innermost
   pub context : List Entry

@@ -27,9 +27,11 @@ fault_codes =
     codes "B1" ∷ codes "B2" ∷ codes "P1" ∷ codes "P2" ∷ codes "L1" ∷ codes "L2" ∷ codes "Y1" ∷ codes "Y2" ∷ codes "E1"
     ∷ codes "E2" ∷ codes "E3" ∷ codes "E4" ∷ codes "E5" ∷ codes "E6" ∷ codes "E7" ∷ codes "E8" ∷ codes "E9" ∷ []
 
+-- the text is one of these
 abbrev pub is_among : Text → List Text → Bool
 is_among code [] = false
 is_among code (c ∷ cs) = if bytes_eq code c then true else is_among code cs
 
+-- the fault has one of the codes that faults have
 abbrev pub HasKnownCode : Fault → Type 0
 HasKnownCode f = is_among f.code fault_codes ≡ true

@@ -23,15 +23,17 @@ mutual
   pub data Proof : Type 0 where
     concludes : Conclusion → (premises : Proofs) → Proof
 
+  -- the proofs of premises, from left to right
   pub data Proofs : Type 0 where
     no_proofs : Proofs
     proof_first : (first : Proof) → (rest : Proofs) → Proofs
 
--- how many steps stand before the last one of a proof, and how many several proofs have
+-- how many steps stand before the last one of a proof
 abbrev mutual
   pub steps_before : Proof → ℕ
   steps_before (concludes c premises) = number_of_steps premises
 
+  -- how many steps several proofs have
   pub number_of_steps : Proofs → ℕ
   number_of_steps no_proofs = 0
   number_of_steps (proof_first p ps) = steps_before p + 1 + number_of_steps ps
@@ -41,20 +43,22 @@ abbrev pub last_steps : (n : ℕ) → Proofs → List ℕ
 last_steps n no_proofs = []
 last_steps n (proof_first p ps) = (n + steps_before p) ∷ last_steps (n + steps_before p + 1) ps
 
--- the steps of a proof, and of several one behind the other, where the first step has the number n
+-- the steps of a proof, where the first one has the number n
 abbrev mutual
   pub steps_of : (n : ℕ) → Proof → List Step
   steps_of n (concludes c premises) = steps_of_each n premises ++ record { conclusion = c; premises = last_steps n premises } ∷ []
 
+  -- the steps of several proofs, one behind the other
   pub steps_of_each : (n : ℕ) → Proofs → List Step
   steps_of_each n no_proofs = []
   steps_of_each n (proof_first p ps) = steps_of n p ++ steps_of_each (n + steps_before p + 1) ps
 
--- a proof of subtyping
+-- a proof of subtyping as a tree of conclusions
 abbrev mutual
   pub sub_proof : SubTree → Proof
   sub_proof (sub_step rule lower upper premises) = concludes (subtyping rule lower upper) (sub_proofs premises)
 
+  -- those of its premises
   pub sub_proofs : SubTrees → Proofs
   sub_proofs no_subs = no_proofs
   sub_proofs (sub_first p ps) = proof_first (sub_proof p) (sub_proofs ps)
@@ -65,6 +69,7 @@ with_side ps None = ps
 with_side no_proofs (Some q) = proof_first (sub_proof q) no_proofs
 with_side (proof_first p ps) (Some q) = proof_first p (with_side ps (Some q))
 
+-- the rule is T-Sub
 abbrev pub is_sub : TypeRule → Bool
 is_sub TypeRule.Sub = true
 is_sub rule = false
@@ -73,13 +78,13 @@ is_sub rule = false
 abbrev pub premise_places : Table → (place : ℕ) → TypeRule → List ℕ
 premise_places t place rule = if is_sub rule then [] else (place_row_numbered t place).terms
 
--- A proof of typing of the term at a place, and proofs of premises of one: each is about the next of the terms, and about the term itself where none is left, as is
--- the premise of T-Sub.
+-- a proof of typing as a tree of conclusions, where the term is the one of this place
 abbrev mutual
   pub typing_proof : Table → (place : ℕ) → TypingTree → Proof
   typing_proof t place (typing_step rule type premises side) =
       concludes (typing rule (place_row_numbered t place).span type) (with_side (typing_proofs t place (premise_places t place rule) premises) side)
 
+  -- those of its premises: each is about the next of these terms, and about the term of the place where none is left, as is the premise of T-Sub
   pub typing_proofs : Table → (place : ℕ) → (terms : List ℕ) → TypingTrees → Proofs
   typing_proofs t place terms no_typings = no_proofs
   typing_proofs t place [] (typing_first p ps) = proof_first (typing_proof t place p) (typing_proofs t place [] ps)

@@ -11,6 +11,7 @@ use Rattle.lam_syntax.specs.Grammar.{Spells}
 use Rattle.lam_syntax.specs.Answers.{token_limit, has_bad, IsTaken, GoesWrongAt, EndsEarly, pieces_of}
 use Rattle.lam_query.specs.Faults.{Fault}
 
+-- the fault with this code at this span
 abbrev pub fault_at : Text → Span → Fault
 fault_at code span = record { code = code; span = span }
 

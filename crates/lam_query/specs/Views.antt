@@ -15,19 +15,24 @@ use Rattle.lam_query.specs.Steps.{Step, typing, subtyping}
 use Rattle.lam_query.specs.Hovers.{Shown}
 use Rattle.lam_query.specs.Derivations.{Entry, Derivation}
 
+-- the code and the span of a `Fault`
 abbrev pub fault_of : RustFault → Fault
 fault_of f = record { code = f.code.now; span = f.span }
 
+-- the text and the span of a `Hover`
 abbrev pub shown_of : Hover → Shown
 shown_of h = record { text = string_bytes h.text; span = h.span }
 
+-- what a `Step` concludes, and from which steps
 abbrev pub step_of : RustStep → Step
 step_of (rust.Typing rule span ty premises) = record { conclusion = typing rule span (typ_of ty); premises = premises.items }
 step_of (rust.Sub rule lower upper premises) = record { conclusion = subtyping rule (typ_of lower) (typ_of upper); premises = premises.items }
 
+-- a binder of a context, as its name and its type or none
 abbrev pub entry_of : String Global × Option Ty → Entry
 entry_of e = record { name = string_bytes e.0; type = written_of e.1 }
 
+-- the context and the steps of a `Derivation`
 abbrev pub derivation_of : RustDerivation → Derivation
 derivation_of d = record { context = map entry_of d.context.items; steps = map step_of d.steps.items }
 

@@ -39,12 +39,12 @@ asked_position params = position_at (codes "position") params
 abbrev pub named_uri : Data → Option (List ℕ)
 named_uri params = option_and_then (text_at (codes "uri")) (get (codes "textDocument") params)
 
--- a change without a range, or with a null one, replaces the whole text
+-- the range that a `range` member is; null means the whole text
 abbrev pub changed_range : Data → Option (Option Range)
 changed_range null = Some None
 changed_range d = option_map (λ range. Some range) (range_of d)
 
--- the range of a change, which may be missing
+-- the range of a change; where it is missing, the whole text is meant
 abbrev pub range_at : Option Data → Option (Option Range)
 range_at None = Some None
 range_at (Some d) = changed_range d

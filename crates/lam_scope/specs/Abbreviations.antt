@@ -6,6 +6,7 @@ use Rattle.lam_scope.specs.Names.{Name}
 use Rattle.lam_scope.specs.Stacks.{stacked}
 use Rattle.lam_scope.specs.Expansions.{Abbreviation, abbreviation}
 
+-- the type name and what it stands for, or none
 abbrev pub abbreviation_of : RustAbbreviation → Abbreviation
 abbreviation_of a = abbreviation a.name.now (written_of a.expansion)
 
@@ -13,9 +14,10 @@ abbreviation_of a = abbreviation a.name.now (written_of a.expansion)
 abbrev pub abbreviations_in : List RustAbbreviation → List Abbreviation
 abbreviations_in = stacked abbreviation_of []
 
--- the names of abbreviations
+-- the type name that an abbreviation binds
 abbrev pub name_of_one : Abbreviation → Option Name
 name_of_one (abbreviation x t) = Some x
 
+-- the type names that abbreviations bind, in their order
 abbrev pub names_in : List Abbreviation → List (Option Name)
 names_in = map name_of_one

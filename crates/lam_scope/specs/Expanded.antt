@@ -9,7 +9,7 @@ abbrev pub HasExpansion : Option Typ → Type 0
 HasExpansion (Some t) = Unit {0}
 HasExpansion None = ⊥
 
--- everywhere in a term
+-- each type that is written in a term stands for a type
 abbrev mutual
   pub HasExpansions : Term → Type 0
   HasExpansions (if_then_else c a b) = HasExpansions c × HasExpansions a × HasExpansions b
@@ -30,11 +30,12 @@ abbrev mutual
   HasExpansions (variable n) = Unit {0}
   HasExpansions (free x) = Unit {0}
 
+  -- each that is written in the terms of a record
   pub HaveExpansions : TermFields → Type 0
   HaveExpansions no_terms = Unit {0}
   HaveExpansions (term_field l e es) = HasExpansions e × HaveExpansions es
 
--- everywhere in a document
+-- each type that is written in a document stands for a type
 abbrev pub IsExpanded : List Statement → Type 0
 IsExpanded [] = Unit {0}
 IsExpanded (defines e ∷ rest) = HasExpansions e × IsExpanded rest

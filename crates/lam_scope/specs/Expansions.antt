@@ -19,10 +19,12 @@ abbrev pub meaning : Name → List Abbreviation → Option Typ
 meaning x [] = None
 meaning x (abbreviation y t ∷ bs) = if bytes_eq y x then t else meaning x bs
 
+-- whether an abbreviation binds the type name
 abbrev pub is_bound : Name → List Abbreviation → Bool
 is_bound x [] = false
 is_bound x (abbreviation y t ∷ bs) = if bytes_eq y x then true else is_bound x bs
 
+-- whether one of the fields has the label
 abbrev pub has_label : Label → TypeFields → Bool
 has_label l no_type_fields = false
 has_label l (type_field (word k s) t rest) = bytes_eq k l || has_label l rest
@@ -38,6 +40,7 @@ abbrev mutual
   pub expansion : List Abbreviation → TypeTree → Option Typ
   expansion bs (type_tree s n) = expansion_of_node bs n
 
+  -- the type that the form of a written type stands for
   pub expansion_of_node : List Abbreviation → TypeNode → Option Typ
   expansion_of_node bs bool = Some rules.bool
   expansion_of_node bs nat = Some rules.nat
@@ -47,6 +50,7 @@ abbrev mutual
   expansion_of_node bs (arrow a b) = both rules.arrow (expansion bs a) (expansion bs b)
   expansion_of_node bs (record_type fs) = option_map rules.record_of (expansion_of_fields bs fs)
 
+  -- the fields that written ones stand for; none where a label stands twice, or a type of them stands for none
   pub expansion_of_fields : List Abbreviation → TypeFields → Option Fields
   expansion_of_fields bs no_type_fields = Some rules.no_fields
   expansion_of_fields bs (type_field (word l s) t rest) =
@@ -61,12 +65,14 @@ abbrev mutual
   pub type_faults : List Abbreviation → TypeTree → List TypeFault
   type_faults bs (type_tree s n) = node_faults bs n
 
+  -- those in the form of a written type
   pub node_faults : List Abbreviation → TypeNode → List TypeFault
   node_faults bs (named (word x s)) = if is_bound x bs then [] else UnboundTypeName s ∷ []
   node_faults bs (arrow a b) = type_faults bs a ++ type_faults bs b
   node_faults bs (record_type fs) = field_faults bs no_type_fields fs
   node_faults bs n = []
 
+  -- those in the fields of a record type, where others stand before them
   pub field_faults : List Abbreviation → (earlier : TypeFields) → TypeFields → List TypeFault
   field_faults bs earlier no_type_fields = []
   field_faults bs earlier (type_field l t rest) =
@@ -76,14 +82,16 @@ abbrev mutual
 abbrev pub node_limit : ℕ
 node_limit = 4096
 
+-- whether an expansion has more nodes than that
 abbrev pub is_over_limit : Option Typ → Bool
 is_over_limit None = false
 is_over_limit (Some t) = ltb node_limit (nodes t)
 
--- how many nodes there are, as far as one more than may be
+-- how many nodes an expansion has, as far as one more than may be
 abbrev pub capped_nodes : Option Typ → Option ℕ
 capped_nodes = option_map (λ t. min (nodes t) 4097)
 
+-- how many nodes the types of fields have, as far as one more than may be
 abbrev pub capped_nodes_in : Option Fields → Option ℕ
 capped_nodes_in = option_map (λ fs. min (nodes_in fs) 4097)
 

@@ -22,16 +22,19 @@ abbrev mutual
   terms_at (fix e) = terms_at e ++ fix e ∷ []
   terms_at e = e ∷ []
 
+  -- those at the places of a record's terms
   pub terms_at_fields : TermFields → List Term
   terms_at_fields no_terms = []
   terms_at_fields (term_field l e es) = terms_at e ++ terms_at_fields es
 
+-- the terms at the places of a statement
 abbrev pub terms_stated : Statement → List Term
 terms_stated (defines e) = terms_at e
 terms_stated (declares w) = []
 terms_stated (abbreviates w) = []
 terms_stated (states e) = terms_at e
 
+-- the terms at the places of statements
 abbrev pub terms_in : List Statement → List Term
 terms_in [] = []
 terms_in (s ∷ ss) = terms_stated s ++ terms_in ss
@@ -41,6 +44,7 @@ pub data Sought : Type 0 where
   here : Term → Sought
   behind : ℕ → Sought
 
+-- the search among terms for the one of a number, counted from 0
 abbrev pub seek : List Term → ℕ → Sought
 seek [] n = behind n
 seek (t ∷ ts) zero = here t
@@ -51,6 +55,7 @@ abbrev pub seek_on : Sought → List Term → Sought
 seek_on (here t) ts = here t
 seek_on (behind n) ts = seek ts n
 
+-- what a `Found` stands for
 abbrev pub sought_of : Found → Sought
 sought_of (Here c) = here (term_of c.now)
 sought_of (Behind n) = behind n

@@ -10,6 +10,7 @@ use Rattle.lam_scope.specs.declared.names.Named.{Named}
 use Rattle.lam_scope.specs.Names.{Name, binds}
 use Rattle.lam_scope.specs.Stacks.{stacked}
 
+-- the name of a binder; an underscore has none
 abbrev pub name_in : Named → Option Name
 name_in b = option_map (λ x. x.now) b.name
 
@@ -17,10 +18,11 @@ name_in b = option_map (λ x. x.now) b.name
 abbrev pub names_of : List Named → List (Option Name)
 names_of = stacked name_in []
 
--- where the innermost binder of each name stands in a stack
+-- where the innermost binder of each name stands in a stack, counted from the outermost one, or none where no binder has the name
 abbrev pub Standing : Type 0
 Standing = Name → Option ℕ
 
+-- no name has a binder
 abbrev pub nowhere : Standing
 nowhere x = None
 
@@ -28,13 +30,16 @@ nowhere x = None
 abbrev pub with_binder : Option Name → (n : ℕ) → Standing → Standing
 with_binder b n f x = if binds b x then Some n else f x
 
+-- more binders stand from n on, the outermost first
 abbrev pub standing_on : Standing → (n : ℕ) → List Named → Standing
 standing_on f n [] = f
 standing_on f n (b ∷ more) = standing_on (with_binder (name_in b) n f) (n + 1) more
 
+-- where the innermost binder of each name stands in this stack
 abbrev pub standing : List Named → Standing
 standing stack = standing_on nowhere 0 stack
 
+-- where the name of a binder stands, if it has one
 abbrev pub at_name : Standing → Option Name → Option ℕ
 at_name f None = None
 at_name f (Some x) = f x
@@ -52,13 +57,16 @@ AreShadowed f n (b ∷ more) = (b.shadowed ≡ at_name f (name_in b)) × AreShad
 abbrev pub NameIndex : Type 0
 NameIndex = HashMap (Bor (List ℕ)) (Option ℕ) (BuildHasherDefault FoldHasher)
 
+-- what an entry of the index says; a name without an entry has no binder either
 abbrev pub flattened : Option (Option ℕ) → Option ℕ
 flattened None = None
 flattened (Some o) = o
 
+-- where the index says that the names stand
 abbrev pub found_in : NameIndex → Standing
 found_in index x = flattened (get_by (λ k. bytes_eq x k.now) index)
 
+-- the binders know what they shadow, and the index says where each name stands in the stack
 pub record IsNameStack (stack : List Named) (index : NameIndex) : Type 0 where
   pub shadowed : AreShadowed nowhere 0 stack
   pub found : (x : Name) → found_in index x ≡ standing stack x

@@ -11,10 +11,12 @@ use Rattle.lam_scope.specs.Names.{Name, count}
 use Rattle.lam_scope.specs.Expansions.{Abbreviation, abbreviation, expansion, type_faults, is_over_limit}
 use Rattle.lam_scope.specs.Places.{Statement, defines, declares, abbreviates, states}
 
+-- a use of a name: its count of binders, or the name itself where it is unbound
 abbrev pub use_counted : Name → Option ℕ → Term
 use_counted x None = free x
 use_counted x (Some n) = variable n
 
+-- a word before a term, as the term of that form
 abbrev pub prefixed : Prefix → Term → Term
 prefixed prefix.Fix e = fix e
 prefixed prefix.Succ e = succ e
@@ -26,6 +28,7 @@ abbrev mutual
   pub nameless : List Abbreviation → List (Option Name) → TermTree → Term
   nameless bs xs (term_tree s n) = nameless_node bs xs n
 
+  -- that of the form of a term
   pub nameless_node : List Abbreviation → List (Option Name) → TermNode → Term
   nameless_node bs xs tree.true_term = true_term
   nameless_node bs xs tree.false_term = false_term
@@ -42,6 +45,7 @@ abbrev mutual
   nameless_node bs xs (tree.ascribe t u) = ascribe (nameless bs xs t) (expansion bs u)
   nameless_node bs xs (tree.record_term fs) = record_term (nameless_fields bs xs fs)
 
+  -- that of the terms of a record, with their labels
   pub nameless_fields : List Abbreviation → List (Option Name) → tree.TermFields → TermFields
   nameless_fields bs xs tree.no_fields = no_terms
   nameless_fields bs xs (tree.field (word l s) t fs) = term_field l (nameless bs xs t) (nameless_fields bs xs fs)
@@ -53,11 +57,12 @@ statement bs xs (declaration w u) = declares (expansion bs u)
 statement bs xs (tree.abbreviation w u) = abbreviates (expansion bs u)
 statement bs xs (evaluation t) = states (nameless bs xs t)
 
--- the abbreviations that the commands after one see, and the binders of names
+-- the abbreviations that the commands after one see
 abbrev pub abbreviations_after : List Abbreviation → CommandTree → List Abbreviation
 abbreviations_after bs (tree.abbreviation (word x s) u) = abbreviation x (expansion bs u) ∷ bs
 abbreviations_after bs c = bs
 
+-- the binders of names that the commands after one see
 abbrev pub names_after : List (Option Name) → CommandTree → List (Option Name)
 names_after xs (definition (word x s) t) = Some x ∷ xs
 names_after xs (declaration (word x s) u) = Some x ∷ xs
@@ -73,6 +78,7 @@ abbrev mutual
   pub written_in : TermTree → List TypeTree
   written_in (term_tree s n) = written_in_node n
 
+  -- those in the form of a term
   pub written_in_node : TermNode → List TypeTree
   written_in_node (tree.lambda b u t) = u ∷ written_in t
   written_in_node (tree.if_term c t u) = written_in c ++ written_in t ++ written_in u
@@ -85,10 +91,12 @@ abbrev mutual
   written_in_node (tree.record_term fs) = written_in_fields fs
   written_in_node n = []
 
+  -- those in the terms of a record
   pub written_in_fields : tree.TermFields → List TypeTree
   written_in_fields tree.no_fields = []
   written_in_fields (tree.field l t fs) = written_in t ++ written_in_fields fs
 
+-- the written types of a command, as they stand in the text
 abbrev pub written_in_command : CommandTree → List TypeTree
 written_in_command (definition w t) = written_in t
 written_in_command (declaration w u) = u ∷ []

@@ -14,10 +14,12 @@ IsWithin s t = (t.start ≤ s.start) × (s.end ≤ t.end)
 abbrev pub Nests : TextPlace → TextPlace → Type 0
 Nests p q = IsWithin p.span q.span ⊎ (p.span.end ≤ q.span.start)
 
+-- an earlier place stands so to each of the later ones
 abbrev pub NestsInAll : TextPlace → List TextPlace → Type 0
 NestsInAll p [] = Unit {0}
 NestsInAll p (q ∷ qs) = Nests p q × NestsInAll p qs
 
+-- of any two of the places, the earlier stands so to the later
 abbrev pub AreNested : List TextPlace → Type 0
 AreNested [] = Unit {0}
 AreNested (p ∷ ps) = NestsInAll p ps × AreNested ps
@@ -31,6 +33,7 @@ abbrev mutual
   pub StandsBetween : (low high : ℕ) → TermTree → Type 0
   StandsBetween low high (term_tree s n) = (low ≤ s.start) × (s.start ≤ s.end) × (s.end ≤ high) × PartsStand s.start s.end n
 
+  -- the parts of a term, between two bytes
   pub PartsStand : (low high : ℕ) → TermNode → Type 0
   PartsStand low high (lambda b u t) = StandsBetween low high t
   PartsStand low high (if_term c t u) = StandsBetween low high c × StandsBetween (term_span c).end high t × StandsBetween (term_span t).end high u
@@ -43,6 +46,7 @@ abbrev mutual
   PartsStand low high (record_term fs) = FieldsStand low high fs
   PartsStand low high n = Unit {0}
 
+  -- the terms of a record, between two bytes
   pub FieldsStand : (low high : ℕ) → TermFields → Type 0
   FieldsStand low high no_fields = Unit {0}
   FieldsStand low high (field l t fs) = StandsBetween low high t × FieldsStand (term_span t).end high fs

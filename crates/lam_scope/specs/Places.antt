@@ -33,6 +33,7 @@ abbrev mutual
   places s (fix e) = places s e ++ record { scope = s; here = fix e } ∷ []
   places s e = record { scope = s; here = e } ∷ []
 
+  -- those of the terms of a record, from left to right
   pub places_in : Scope → TermFields → List Place
   places_in s no_terms = []
   places_in s (term_field l e es) = places s e ++ places_in s es

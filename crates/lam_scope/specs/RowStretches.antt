@@ -9,24 +9,25 @@ use Rattle.lam_scope.specs.Stretches.{no_bytes, one_byte}
 use Rattle.lam_scope.specs.Tables.{TextBinder, TextUse, has_name}
 use Rattle.lam_scope.specs.TableViews.{text_binder}
 
--- a place that is not written has none
+-- the bytes of a place; one that is not written has none
 abbrev pub place_stretch : PlaceRow → Stretch
 place_stretch p = if p.derived then no_bytes else (if ltb p.span.start p.span.end then record { lowest = p.span.start; highest = p.span.end - 1 } else no_bytes)
 
--- an underscore has none
+-- the byte where the name of a binder starts; an underscore has none
 abbrev pub binder_stretch : BinderRow → Stretch
 binder_stretch b = if has_name (text_binder b).name then one_byte b.token.start else no_bytes
 
+-- the byte where the name of a use starts
 abbrev pub use_stretch : UseRow → Stretch
 use_stretch u = one_byte u.token.start
 
--- what the token of the binder of a number is told as, and the binder of the use of a number
-
+-- the binder that the token of the binder of a number is told as
 abbrev pub answer_at : List TextBinder → ℕ → Option ℕ
 answer_at [] n = None
 answer_at (b ∷ bs) zero = Some b.answer
 answer_at (b ∷ bs) (suc n) = answer_at bs n
 
+-- the binder of the use of a number, if it is bound
 abbrev pub used_at : List TextUse → ℕ → Option ℕ
 used_at [] n = None
 used_at (u ∷ us) zero = u.binder

@@ -25,20 +25,24 @@ abbrev mutual
   inside (fix e) = inside e + 1
   inside e = 0
 
+  -- how many places the terms of a record have, their own among them
   pub inside_fields : TermFields → ℕ
   inside_fields no_terms = 0
   inside_fields (term_field l e es) = inside e + 1 + inside_fields es
 
--- the place of a term whose first place is k, and the place behind it
+-- the place of a term whose first place is k
 abbrev pub place_of_term : ℕ → Term → ℕ
 place_of_term k e = k + inside e
 
+-- the place behind that of a term whose first place is k
 abbrev pub behind_term : ℕ → Term → ℕ
 behind_term k e = place_of_term k e + 1
 
+-- the origin of the binder of the lambda at a place
 abbrev pub lambda_at : ℕ → Origin
 lambda_at k = Lambda (record { 0 = k })
 
+-- the origin of a binder that takes its type from the term at a place
 abbrev pub term_at : ℕ → Origin
 term_at k = TermAt (record { 0 = k })
 
@@ -58,6 +62,7 @@ abbrev mutual
   sights k s (fix e) = sights k s e ++ s ∷ []
   sights k s e = s ∷ []
 
+  -- what each place of a record's terms sees
   pub sights_in : (k : ℕ) → Sight → TermFields → List Sight
   sights_in k s no_terms = []
   sights_in k s (term_field l e es) = sights k s e ++ sights_in (behind_term k e) s es

@@ -17,12 +17,15 @@ use Rattle.lam_scope.specs.Slices.{sliced}
 use Rattle.lam_scope.specs.Stacks.{stacked}
 use Rattle.lam_scope.specs.Tables.{Entry, entry, TextBinder, TextUse, TextPlace, Table}
 
+-- the number of a binder, counted from 0
 abbrev pub binder_number : Binder → ℕ
 binder_number b = b.0
 
+-- the number of a place, counted from 0
 abbrev pub place_number : Place → ℕ
 place_number p = p.0
 
+-- a `SeenBinder`, as the terms under it see it; an underscore has no name
 abbrev pub entry_of : SeenBinder → Entry
 entry_of b = entry (option_map (λ x. x.now) b.name) b.number.0 b.answer.0
 
@@ -30,20 +33,23 @@ entry_of b = entry (option_map (λ x. x.now) b.name) b.number.0 b.answer.0
 abbrev pub entries_of : List SeenBinder → List Entry
 entries_of = stacked entry_of []
 
--- their names
+-- the names of binders that are seen, in their order; an underscore has none
 abbrev pub entry_names : List Entry → List (Option Name)
 entry_names = map (λ e. e.name)
 
+-- the binder that a `BinderRow` tells of
 abbrev pub text_binder : BinderRow → TextBinder
 text_binder r = record { name = option_map (λ s. string_bytes s) r.name; token = r.token; outer = option_map binder_number r.outer; answer = r.answer.0; origin = r.origin }
 
+-- the use that a `UseRow` tells of
 abbrev pub text_use : UseRow → TextUse
 text_use r = record { token = r.token; binder = option_map binder_number r.binder }
 
--- a place, and its immediate terms
+-- the place that a `PlaceRow` tells of, with these immediate terms
 abbrev pub text_place : PlaceRow → List Place → TextPlace
 text_place r ts = record { span = r.span; derived = r.derived; terms = map place_number ts; inner = option_map binder_number r.inner }
 
+-- where the immediate terms of a place start among those of all places
 abbrev pub terms_start : PlaceRow → ℕ
 terms_start r = r.terms_start
 
@@ -51,51 +57,56 @@ terms_start r = r.terms_start
 abbrev pub text_places : List Place → List PlaceRow → List TextPlace
 text_places = sliced terms_start text_place
 
+-- the table of these rows, where the immediate terms of all places are one list
 abbrev pub rows_table : List BinderRow → List UseRow → List PlaceRow → List Place → Table
 rows_table bs us ps ts = record { binders = map text_binder bs; uses = map text_use us; places = text_places ts ps }
 
+-- the table that `Rows` hold
 abbrev pub rows_of : Rows → Table
 rows_of r = rows_table r.binders.items r.uses.items r.places.items r.terms.items
 
--- binders of which one, by its number, takes its type from there
-
+-- binders of which the one of this number takes its type from there
 abbrev pub originated : ℕ → Origin → List TextBinder → List TextBinder
 originated n o [] = []
 originated zero o (b ∷ bs) = record b { origin = o } ∷ bs
 originated (suc n) o (b ∷ bs) = b ∷ originated n o bs
 
+-- a table in which the binder of this number takes its type from there
 abbrev pub with_origin : ℕ → Origin → Table → Table
 with_origin n o t = record { binders = originated n o t.binders; uses = t.uses; places = t.places }
 
--- lists of tokens, one behind the other in one list
-
+-- where a list starts among the tokens of all lists; its row is that number alone
 abbrev pub list_start : ℕ → ℕ
 list_start s = s
 
+-- the tokens of a list, wherever it starts
 abbrev pub listed : ℕ → List Span → List Span
 listed s ts = ts
 
+-- the lists of tokens that `TokenLists` hold, in their order
 abbrev pub lists_in : TokenLists → List (List Span)
 lists_in l = sliced list_start listed l.tokens.items l.starts.items
 
--- the tokens of the uses of each binder
+-- the tokens that each of some `Spans` holds
 abbrev pub span_lists : List Spans → List (List Span)
 span_lists = map (λ l. l.items.items)
 
--- the token of a use behind those of its binder, if that is among these
-
+-- lists of tokens, with one more token at the end of the list of this number, if there is one
 abbrev pub noted_at : ℕ → Span → List (List Span) → List (List Span)
 noted_at n s [] = []
 noted_at zero s (l ∷ ls) = (l ++ s ∷ []) ∷ ls
 noted_at (suc n) s (l ∷ ls) = l ∷ noted_at n s ls
 
+-- the tokens of the uses of each binder, with one more for this binder; that of an unbound use is left out
 abbrev pub noted_for : Option ℕ → Span → List (List Span) → List (List Span)
 noted_for None s ls = ls
 noted_for (Some n) s ls = noted_at n s ls
 
+-- the tokens of the uses of each binder, with that of this use behind those of its binder, if that is among these
 abbrev pub noted : TextUse → List (List Span) → List (List Span)
 noted u ls = noted_for u.binder u.token ls
 
+-- so many lists without a token
 abbrev pub empty_lists : ℕ → List (List Span)
 empty_lists zero = []
 empty_lists (suc n) = [] ∷ empty_lists n

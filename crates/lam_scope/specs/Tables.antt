@@ -21,7 +21,7 @@ pub record TextBinder : Type 0 where
 -- a use of a name or of a type name, in the order of the text
 pub record TextUse : Type 0 where
   pub token : Span
-  -- its own, or none where it is unbound
+  -- the one that it is told to have, or none where it is unbound
   pub binder : Option ℕ
 
 -- a term of a command, in the order of places
@@ -34,16 +34,18 @@ pub record TextPlace : Type 0 where
   -- the innermost of the binders of names that it sees
   pub inner : Option ℕ
 
+-- the binders, the uses and the places of a document or of a part of one, each kind in its order
 pub record Table : Type 0 where
   pub binders : List TextBinder
   pub uses : List TextUse
   pub places : List TextPlace
 
--- one table, and another behind it
 infixl 60 ◌⊕◌
+-- one table, and another behind it
 unfoldable pub ◌⊕◌ : Table → Table → Table
 s ⊕ t = record { binders = s.binders ++ t.binders; uses = s.uses ++ t.uses; places = s.places ++ t.places }
 
+-- the table without a row
 abbrev pub empty_table : Table
 empty_table = record { binders = []; uses = []; places = [] }
 
@@ -53,32 +55,38 @@ pub record Entry : Type 0 where
   pub number : ℕ
   pub answer : ℕ
 
+-- the binder of this name and this number, whose uses are told as those of the answer
 abbrev pub entry : Option Name → (number answer : ℕ) → Entry
 entry x n a = record { name = x; number = n; answer = a }
 
--- the innermost of the binders that are seen
+-- the innermost of the binders that are seen, if any is
 abbrev pub innermost : List Entry → Option ℕ
 innermost [] = None
 innermost (e ∷ es) = Some e.number
 
--- the binder of a use: the innermost one of its name
+-- the binder that a use of this name is told to have, by the innermost one of the name; none where it is unbound
 abbrev pub bound_to : Name → List Entry → Option ℕ
 bound_to x [] = None
 bound_to x (e ∷ es) = if binds e.name x then Some e.answer else bound_to x es
 
+-- the table of one binder, inside of those of its kind that are seen
 abbrev pub binder_row : Option Name → Span → List Entry → (answer : ℕ) → Origin → Table
 binder_row x s seen a o = record { binders = record { name = x; token = s; outer = innermost seen; answer = a; origin = o } ∷ []; uses = []; places = [] }
 
+-- the table of one use, of a name that sees these binders of its kind
 abbrev pub use_row : Name → Span → List Entry → Table
 use_row x s seen = record { binders = []; uses = record { token = s; binder = bound_to x seen } ∷ []; places = [] }
 
+-- the table of one place, which sees these binders of names
 abbrev pub place_row : Span → (derived : Bool) → (terms : List ℕ) → List Entry → Table
 place_row s d ts seen = record { binders = []; uses = []; places = record { span = s; derived = d; terms = ts; inner = innermost seen } ∷ [] }
 
+-- whether a binder has a name; an underscore has none
 abbrev pub has_name : Option Name → Bool
 has_name None = false
 has_name (Some x) = true
 
+-- whether there is a binder, and it has this number
 abbrev pub is_number : ℕ → Option ℕ → Bool
 is_number n None = false
 is_number n (Some m) = m == n
@@ -88,6 +96,7 @@ abbrev mutual
   pub binders_in : TermTree → ℕ
   binders_in (term_tree s n) = binders_in_node n
 
+  -- how many the form of a term has
   pub binders_in_node : TermNode → ℕ
   binders_in_node (lambda b u t) = 1 + binders_in t
   binders_in_node (if_term c t u) = binders_in c + binders_in t + binders_in u
@@ -100,6 +109,7 @@ abbrev mutual
   binders_in_node (record_term fs) = binders_in_fields fs
   binders_in_node n = 0
 
+  -- how many the terms of a record have
   pub binders_in_fields : TermFields → ℕ
   binders_in_fields no_fields = 0
   binders_in_fields (field l t fs) = binders_in t + binders_in_fields fs
@@ -109,6 +119,7 @@ abbrev mutual
   pub below : TermTree → ℕ
   below (term_tree s n) = below_node n
 
+  -- how many places there are in the form of a term
   pub below_node : TermNode → ℕ
   below_node (lambda b u t) = below t + 1
   below_node (if_term c t u) = below c + 1 + below t + 1 + below u + 1
@@ -121,14 +132,16 @@ abbrev mutual
   below_node (record_term fs) = below_fields fs
   below_node n = 0
 
+  -- how many places the terms of a record have, their own among them
   pub below_fields : TermFields → ℕ
   below_fields no_fields = 0
   below_fields (field l t fs) = below t + 1 + below_fields fs
 
--- the place of a term whose first place is k, and the place behind it
+-- the place of a term whose first place is k
 abbrev pub root : ℕ → TermTree → ℕ
 root k t = k + below t
 
+-- the place behind that of a term whose first place is k
 abbrev pub behind : ℕ → TermTree → ℕ
 behind k t = root k t + 1
 
@@ -137,21 +150,24 @@ abbrev mutual
   pub type_uses : List Entry → TypeTree → Table
   type_uses types (type_tree s n) = node_uses types n
 
+  -- those in the form of a written type
   pub node_uses : List Entry → TypeNode → Table
   node_uses types (named (word x s)) = use_row x s types
   node_uses types (arrow a b) = type_uses types a ⊕ type_uses types b
   node_uses types (record_type fs) = field_uses types fs
   node_uses types n = empty_table
 
+  -- those in the fields of a record type
   pub field_uses : List Entry → TypeFields → Table
   field_uses types no_type_fields = empty_table
   field_uses types (type_field l t fs) = type_uses types t ⊕ field_uses types fs
 
--- the places of the immediate terms of a term whose first place is k
+-- the places of the terms of a record, where the first of all places in them is k
 abbrev pub roots_of_fields : (k : ℕ) → TermFields → List ℕ
 roots_of_fields k no_fields = []
 roots_of_fields k (field l t fs) = root k t ∷ roots_of_fields (behind k t) fs
 
+-- the places of the immediate terms of a term whose first place is k; those of a letrec are its derived fix and its body
 abbrev pub roots : (k : ℕ) → TermNode → List ℕ
 roots k (lambda b u t) = root k t ∷ []
 roots k (if_term c t u) = root k c ∷ root (behind k c) t ∷ root (behind (behind k c) t) u ∷ []
@@ -164,9 +180,11 @@ roots k (ascribe t u) = root k t ∷ []
 roots k (record_term fs) = roots_of_fields k fs
 roots k node = []
 
+-- the origin of the binder of the lambda at a place
 abbrev pub lambda_at : ℕ → Origin
 lambda_at k = Lambda (record { 0 = k })
 
+-- the origin of a binder that takes its type from the term at a place
 abbrev pub term_at : ℕ → Origin
 term_at k = Term (record { 0 = k })
 
@@ -211,6 +229,7 @@ abbrev mutual
   node_table types names n k (record_term fs) = fields_table types names n k fs
   node_table types names n k node = empty_table
 
+  -- the table of the terms of a record
   pub fields_table : (types names : List Entry) → (n k : ℕ) → TermFields → Table
   fields_table types names n k no_fields = empty_table
   fields_table types names n k (field l t fs) =
@@ -223,55 +242,61 @@ command_table types names n k i (declaration (word x s) u) = binder_row (Some x)
 command_table types names n k i (abbreviation (word x s) u) = binder_row (Some x) s types n TypeName ⊕ type_uses types u
 command_table types names n k i (evaluation t) = term_table types names n k t
 
--- the binders of type names, and of names, that the commands behind one see
-
+-- the binders of type names that the commands behind one see, where n binders are before it
 abbrev pub types_seen_after : (n : ℕ) → List Entry → CommandTree → List Entry
 types_seen_after n types (abbreviation (word x s) u) = entry (Some x) n n ∷ types
 types_seen_after n types c = types
 
+-- the binders of names that the commands behind one see, where n binders are before it
 abbrev pub names_seen_after : (n : ℕ) → List Entry → CommandTree → List Entry
 names_seen_after n names (definition (word x s) t) = entry (Some x) n n ∷ names
 names_seen_after n names (declaration (word x s) u) = entry (Some x) n n ∷ names
 names_seen_after n names c = names
 
+-- how many binders a command has, its own among them
 abbrev pub binders_in_command : CommandTree → ℕ
 binders_in_command (definition w t) = 1 + binders_in t
 binders_in_command (declaration w u) = 1
 binders_in_command (abbreviation w u) = 1
 binders_in_command (evaluation t) = binders_in t
 
+-- how many places a command has: those of its term, if it has one
 abbrev pub places_in_command : CommandTree → ℕ
 places_in_command (definition w t) = below t + 1
 places_in_command (declaration w u) = 0
 places_in_command (abbreviation w u) = 0
 places_in_command (evaluation t) = below t + 1
 
--- the table of the commands of a document, each of which sees the binders of those before it
+-- the table of commands that see these binders, and each those of the commands before it too, where n binders, k places and i commands are before the first
 abbrev pub commands_table : (types names : List Entry) → (n k i : ℕ) → List CommandTree → Table
 commands_table types names n k i [] = empty_table
 commands_table types names n k i (c ∷ cs) =
     command_table types names n k i c
     ⊕ commands_table (types_seen_after n types c) (names_seen_after n names c) (n + binders_in_command c) (k + places_in_command c) (i + 1) cs
 
+-- the table of all commands of a document
 abbrev pub table : List CommandTree → Table
 table cs = commands_table [] [] 0 0 0 cs
 
 -- What is read off a table.
 
+-- the span of what is not there
 abbrev pub no_span : Span
 no_span = record { start = 0; end = 0 }
 
--- the binder, and the place, of a number
-
+-- the binder of a number, counted from 0; past the last one, a binder without a name
 abbrev pub binder_in : List TextBinder → ℕ → TextBinder
 binder_in bs n = get_or bs n (record { name = None; token = no_span; outer = None; answer = n; origin = TypeName })
 
+-- the place of a number, counted from 0; past the last one, a place that is not written
 abbrev pub place_in : List TextPlace → ℕ → TextPlace
 place_in ps n = get_or ps n (record { span = no_span; derived = true; terms = []; inner = None })
 
+-- the binder of a number in a table
 abbrev pub binder_numbered : Table → ℕ → TextBinder
 binder_numbered t n = binder_in t.binders n
 
+-- the place of a number in a table
 abbrev pub place_row_numbered : Table → ℕ → TextPlace
 place_row_numbered t n = place_in t.places n
 
@@ -285,43 +310,47 @@ seen_in bs (suc n) (Some b) = b ∷ seen_in bs n (binder_in bs b).outer
 abbrev pub visible_at : Table → ℕ → List ℕ
 visible_at t p = reverse (seen_in t.binders (length t.binders) (place_row_numbered t p).inner)
 
--- the binder whose name has its token there
+-- whether the name of a binder starts at byte o; an underscore has none
 abbrev pub is_token_at : ℕ → TextBinder → Bool
 is_token_at o b = if has_name b.name then b.token.start == o else false
 
+-- what the binder whose name starts at byte o is told as, if there is one
 abbrev pub binder_token_at : ℕ → List TextBinder → Option ℕ
 binder_token_at o [] = None
 binder_token_at o (b ∷ bs) = if is_token_at o b then Some b.answer else binder_token_at o bs
 
--- the binder of the use whose token is there
+-- the binder of the use whose name starts at byte o, if there is one and it is bound
 abbrev pub binder_used_at : ℕ → List TextUse → Option ℕ
 binder_used_at o [] = None
 binder_used_at o (u ∷ us) = if u.token.start == o then u.binder else binder_used_at o us
 
+-- the first of two binders, where there is one, or else the second
 abbrev pub first_of : Option ℕ → Option ℕ → Option ℕ
 first_of None b = b
 first_of (Some a) b = Some a
 
--- the binder that the name or type name there is or uses
+-- the binder that the name or type name that starts at byte o is or uses
 abbrev pub binder_at : Table → ℕ → Option ℕ
 binder_at t o = first_of (binder_token_at o t.binders) (binder_used_at o t.uses)
 
--- the tokens of the uses of a binder
+-- whether a use is of the binder of this number
 abbrev pub is_use_of : ℕ → TextUse → Bool
 is_use_of n u = is_number n u.binder
 
+-- the tokens of the uses of the binder of this number, in the order of the text
 abbrev pub tokens_of : ℕ → List TextUse → List Span
 tokens_of n us = map (λ u. u.token) (filter (is_use_of n) us)
 
--- the same for each of some binders, from the n-th on
+-- the tokens of the uses of each of so many binders, from the one of number n on
 abbrev pub tokens_by : (n count : ℕ) → List TextUse → List (List Span)
 tokens_by n zero us = []
 tokens_by n (suc count) us = tokens_of n us ∷ tokens_by (n + 1) count us
 
--- The innermost place of an offset. Each term stands behind those in it in the order of places, so it is the first that has it.
+-- whether a place has byte o; one that is not written has none
 abbrev pub is_over : ℕ → TextPlace → Bool
 is_over o p = if p.derived then false else if ltb o p.span.start then false else ltb o p.span.end
 
+-- the first place that has byte o, which is the innermost: each term stands behind those in it in the order of places
 abbrev pub place_at : Table → ℕ → Option ℕ
 place_at t o = position (is_over o) t.places
 

@@ -26,28 +26,30 @@ use Rattle.lam_scope.specs.Expansions.{Abbreviation}
 use Rattle.lam_scope.specs.Abbreviations.{abbreviations_in}
 use Rattle.lam_scope.specs.Places.{Statement, defines, declares, abbreviates, states}
 
+-- what a `Statement` says: a term, or a type, which is none where the written one is faulty
 abbrev pub statement_of : RustStatement → Statement
 statement_of (rust.Definition e) = defines (term_of e)
 statement_of (rust.Declaration w) = declares (written_of w)
 statement_of (rust.Abbreviation w) = abbreviates (written_of w)
 statement_of (rust.Evaluation e) = states (term_of e)
 
--- what a nameless document states, where its binders take their types from, and its faults
-
+-- what the commands of a nameless document state, in their order
 abbrev pub statements_of : Resolved → List Statement
 statements_of r = map statement_of r.statements.items
 
+-- where each binder of a nameless document takes its type from, by the number of the binder
 abbrev pub origins_of : Resolved → List Origin
 origins_of r = r.origins.items
 
+-- the faults of the written types of a nameless document, in the order of the text
 abbrev pub faults_of : Resolved → List TypeFault
 faults_of r = r.faults.items
 
--- the table that scopes are, and the tokens of the uses of each binder
-
+-- the table that `Scopes` hold
 abbrev pub table_of : Scopes → Table
 table_of s = rows_of s.rows
 
+-- for each binder, by its number, the tokens of the uses that are told as its own
 abbrev pub uses_in : Scopes → List (List Span)
 uses_in s = lists_in s.tokens
 
@@ -64,6 +66,7 @@ abbreviations_of a = abbreviations_in a.items.items
 abbrev pub expanded_fields_of : Option (Vec (String Global × Ty) Global) → Option Fields
 expanded_fields_of = option_map (λ v. fields_of v.items)
 
+-- written types, as they stand in the text
 abbrev pub written_trees : List (Bor WrittenTy) → List TypeTree
 written_trees = map (λ t. type_of t.now)
 

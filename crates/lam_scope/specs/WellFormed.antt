@@ -25,15 +25,17 @@ abbrev mutual
   IsWellFormedTerm (variable n) = Unit {0}
   IsWellFormedTerm (free x) = Unit {0}
 
+  -- each that is written in the terms of a record
   pub AreWellFormedTerms : TermFields → Type 0
   AreWellFormedTerms no_terms = Unit {0}
   AreWellFormedTerms (term_field l e es) = IsWellFormedTerm e × AreWellFormedTerms es
 
--- each type that a binder of a scope takes from what is written
+-- each type that is written in what a binder takes its type from
 abbrev pub IsWellFormedBinding : Binding → Type 0
 IsWellFormedBinding (written w) = IsWellFormedEntry w
 IsWellFormedBinding (of_term e) = IsWellFormedTerm e
 
+-- each that is written for a binder of a scope
 abbrev pub IsWellFormedScope : Scope → Type 0
 IsWellFormedScope [] = Unit {0}
 IsWellFormedScope (b ∷ outside) = IsWellFormedBinding b × IsWellFormedScope outside
@@ -45,6 +47,7 @@ IsWellFormedStatement (declares w) = IsWellFormedEntry w
 IsWellFormedStatement (abbreviates w) = IsWellFormedEntry w
 IsWellFormedStatement (states e) = IsWellFormedTerm e
 
+-- each type that is written in statements
 abbrev pub AreWellFormedStatements : List Statement → Type 0
 AreWellFormedStatements [] = Unit {0}
 AreWellFormedStatements (statement ∷ rest) = IsWellFormedStatement statement × AreWellFormedStatements rest

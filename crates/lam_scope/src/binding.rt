@@ -112,7 +112,7 @@ fn note_use(lists: &mut Vec<Spans>, used: &UseRow) -> Result<(), AllocError>
     Ok(())
 }
 
-/// The same lists in one block, with room for so many tokens.
+/// The same lists with their tokens in one block, which has room for so many.
 #[tactic(auto, using(crate::proofs::Grouping::grouping))]
 fn in_one(alloc: Global, lists: &[Spans], tokens: usize) -> Result<TokenLists, AllocError>
     ensures { IfOk result (λ all. lists_in all ≡ span_lists lists.now) }

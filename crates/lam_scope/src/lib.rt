@@ -1,7 +1,7 @@
 //! Who binds what: the binders of names and of type names, the uses of each, what each place sees, the nameless form
 //! of a document's commands and the expansions of its written types.
 //!
-//! `bind` reads the commands once and keeps no part of them. `resolve` gives the terms that typing speaks of.
+//! `bind` reads the commands and keeps no part of them. `resolve` gives the terms that typing speaks of.
 #![tactic(auto)]
 
 mod abbreviations;

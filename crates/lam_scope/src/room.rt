@@ -3,7 +3,8 @@
 
 use lam_syntax::{Command, Letrec, Tm, TmField, TmNode};
 
-/// How many rows of each kind there are. The uses of type names are not counted, and no more than `usize` holds is.
+/// How many rows of each kind there are. Each command counts as a binder, though an evaluation is none; the uses of
+/// type names are not counted, and no more than `usize` holds is.
 #[derive(Clone, Copy)]
 pub(crate) struct Room {
     pub(crate) binders: usize,

@@ -28,7 +28,7 @@ pub(crate) struct BinderRow {
 #[derive(Drop)]
 pub(crate) struct UseRow {
     pub(crate) token: Span,
-    /// Its own, or none where it is unbound.
+    /// The one that it is told to have, or none where it is unbound.
     pub(crate) binder: Option<Binder>,
 }
 
@@ -38,13 +38,14 @@ pub(crate) struct PlaceRow {
     pub(crate) span: Span,
     /// Whether it stands for a letrec's lambda or fix, which are not written.
     pub(crate) derived: bool,
-    /// Where its immediate terms start among those of all places. They end where those of the next place start.
+    /// Where its immediate terms start among those of all places. They end where those of the next place start, those
+    /// of the last place where all end.
     pub(crate) terms_start: usize,
     /// The innermost of the binders of names that it sees.
     pub(crate) inner: Option<Binder>,
 }
 
-/// Places in the text, one behind the other.
+/// The tokens of the uses of one binder, in the order of the text. It is kept no longer than uses are grouped.
 #[derive(Drop)]
 pub(crate) struct Spans {
     pub(crate) items: Vec<Span>,

@@ -17,7 +17,7 @@ use std::alloc::{AllocError, Global};
 #[derive(Drop)]
 pub struct Scopes {
     pub(crate) rows: Rows,
-    /// The tokens of the uses of each binder, by its number.
+    /// The tokens of the uses of each binder, by its number. Those of a letrec are all at the let's binder.
     pub(crate) tokens: TokenLists,
     /// The runs by which the places are searched for a byte of the text, the tokens of the binders, and of the uses.
     place_runs: Vec<Stretch>,
@@ -134,7 +134,7 @@ impl Scopes {
     }
 }
 
-/// The place of no term.
+/// The span of what is not there: a place or a token past the last.
 const NO_SPAN: Span = Span { start: 0, end: 0 };
 
 fn shown_name(name: &Option<String>) -> &str

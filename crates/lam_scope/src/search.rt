@@ -5,7 +5,7 @@ ghost use Rattle.lam_scope.specs.Found.{seek, seek_on, sought_of, terms_at, term
 
 use lam_rules::Core;
 
-/// A place of a term, or how many places behind the term's own it is.
+/// The term at the place that is sought, or the number of that place, counted from the first behind those searched.
 #[derive(Clone, Copy)]
 pub(crate) enum Found<'t> {
     Here(&'t Core),

@@ -1,4 +1,4 @@
-//! Lists of tokens in one block of memory.
+//! Lists of tokens, with the tokens of all lists in one block of memory.
 ghost use Rattle.std.specs.Prelude.{◌≡◌, ◌+◌, ◌<◌, [], ◌∷◌, ◌++◌, length, drop, slice_index_or, IfOk, OnOk};
 ghost use Rattle.lam_scope.specs.Slices.{first_start, AreInOrder, AreInOrder-prop};
 
@@ -10,7 +10,7 @@ use std::alloc::{AllocError, Global};
 pub(crate) struct TokenLists {
     /// The tokens of all lists, one list behind the other.
     tokens: Vec<Span>,
-    /// Where each list starts among them. It ends where the next starts.
+    /// Where each list starts among them. It ends where the next starts, the last where all end.
     starts: Vec<usize>,
     ghost starts_in_order: { AreInOrder (λ s. s) (length tokens.items) starts.items } by { AreInOrder-prop (λ s. s) (length tokens.items) starts.items },
 }

@@ -32,9 +32,11 @@ pub record IsDialect (rule : Rule) : Type 0 where
   pub dialects : AreDialects names
   pub is : rule ≡ dialect names
 
+-- the program with its three options, of which this one is the dialect
 abbrev pub command_line : Rule → App
 command_line rule = with_rule (with_rule (with_rule (new_app (codes "lam_server")) stdio) client) rule
 
+-- the command is that program
 pub record IsCommandLine (command : Command) : Type 0 where
   pub rule : Rule
   pub dialect_rule : IsDialect rule

@@ -86,13 +86,14 @@ pub record AnswersFront (start : State) (input left : List ℕ) (taken taken_aft
   pub front : IsFront start read out
   pub appended : Appends taken taken_after out
 
+-- what the sink took, by the answer of a run over this input: a whole output, or a front of one where a device failed or memory was wanting
 abbrev pub AnswersTold : State → List ℕ → List ℕ → Result ℕ RunFault → Option (List ℕ) → Option (List ℕ) → Type 0
 AnswersTold start input left (Ok status) taken taken_after = AnswersInput start input (Ok status) taken taken_after
 AnswersTold start input left (Err (Header fault)) taken taken_after = AnswersInput start input (Err fault) taken taken_after
 AnswersTold start input left (Err Device) taken taken_after = AnswersFront start input left taken taken_after
 AnswersTold start input left (Err Memory) taken taken_after = AnswersFront start input left taken taken_after
 
--- where the source tells its bytes
+-- the same, where the source tells its bytes
 abbrev pub AnswersWhereTold : State → Option (List ℕ) → Option (List ℕ) → Result ℕ RunFault → Option (List ℕ) → Option (List ℕ) → Type 0
 AnswersWhereTold start None left answer taken taken_after = Unit {0}
 AnswersWhereTold start (Some input) None answer taken taken_after = ⊥

@@ -9,6 +9,6 @@ pub record Waiting : Type 0 where
   pub pulls : ℕ
   pub state : State
 
--- it has less to do than the other: fewer pulls to make, or fewer bytes held
+-- less work is left to it than to the other: pulls not made yet, and bytes held
 abbrev pub HasLessWork : Waiting → Waiting → Type 0
 HasLessWork new old = work_left new.pulls new.held < work_left old.pulls old.held

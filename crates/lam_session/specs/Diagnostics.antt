@@ -34,10 +34,11 @@ abbrev pub message_beside : List ℕ → List (List ℕ × List ℕ) → List �
 message_beside code [] = []
 message_beside code (m ∷ ms) = if bytes_eq code m.0 then m.1 else message_beside code ms
 
+-- what a person reads of a code
 abbrev pub message_of : List ℕ → List ℕ
 message_of code = message_beside code messages
 
--- every fault is an error (severity 1)
+-- a fault of a text; every one is an error (severity 1)
 abbrev pub diagnostic : Encoding → List ℕ → Fault → Data
 diagnostic encoding text fault =
     object (member (codes "code") (string fault.code)
@@ -46,5 +47,6 @@ diagnostic encoding text fault =
     (member (codes "severity") (number (unsigned 1))
     (member (codes "source") (string (codes "fullsub")) no_members)))))
 
+-- the faults of a text, in their order
 abbrev pub diagnostics : Encoding → List ℕ → List Fault → Items
 diagnostics encoding text faults = items_of (map (diagnostic encoding text) faults)

@@ -10,7 +10,7 @@ use Rattle.lam_session.specs.Documents.{OpenDocument, HeldDocument}
 abbrev pub document_of : String Global × HeldDocument → OpenDocument
 document_of e = record { uri = string_bytes e.0; text = e.1.text; version = e.1.version }
 
--- all of them
+-- the documents that entries hold, in their order
 abbrev pub documents_of : List (String Global × HeldDocument) → List OpenDocument
 documents_of entries = map document_of entries
 

@@ -31,7 +31,7 @@ offered params =
 abbrev pub encoding_of : Data → Option Encoding
 encoding_of offer = option_and_then encoding_named (as_str offer)
 
--- the first one, where there is one
+-- the earlier of two, where there is one, or else the later
 abbrev pub or_else : Option Encoding → Option Encoding → Option Encoding
 or_else None later = later
 or_else (Some encoding) later = Some encoding
@@ -41,7 +41,7 @@ abbrev pub first_known : Items → Option Encoding
 first_known no_items = None
 first_known (item offer offers) = or_else (encoding_of offer) (first_known offers)
 
--- without such an offer columns count UTF-16 units, as the protocol has it
+-- the unit that is chosen: that of the first such offer; without one columns count UTF-16 units, as the protocol has it
 abbrev pub chosen : Data → Encoding
 chosen params = unwrap_or (option_and_then first_known (offered params)) Utf16
 

@@ -6,7 +6,7 @@ use Rattle.lam_session.specs.declared.methods.RequestMethod.TheVariants.{Initial
 use Rattle.lam_session.specs.declared.methods.NoticeMethod.{NoticeMethod}
 use Rattle.lam_session.specs.declared.methods.NoticeMethod.TheVariants.{Exit, DidOpen, DidChange, DidClose, UnknownNotice}
 
--- the requests that are served
+-- the request that a name means
 abbrev pub request_method : List ℕ → RequestMethod
 request_method name =
     if bytes_eq name (codes "initialize") then Initialize
@@ -15,7 +15,7 @@ request_method name =
     else (if bytes_eq name (codes "fullsub/derivation") then Derivation
     else UnknownRequest)))
 
--- the notices that are heeded
+-- the notice that a name means
 abbrev pub notice_method : List ℕ → NoticeMethod
 notice_method name =
     if bytes_eq name (codes "exit") then Exit

@@ -37,13 +37,16 @@ pub record AnswersOf (question : Question) (s : State) (id : Data) (position : P
   pub right : question text (offset_of s.encoding text position) value
   pub does : Does (result_reply id value ∷ []) s sent next
 
+-- a question about a position in a document, whose text this is; refused where it is not open
 abbrev pub AsksOpen : Question → State → Data → Position → Option (List ℕ) → List Data → State → Type 0
 AsksOpen question s id position None = Refuses s id DocumentNotOpen
 AsksOpen question s id position (Some text) = AnswersOf question s id position text
 
+-- a question about this position in the document of this uri; refused where the params lack either
 abbrev pub AsksAs : Question → State → Data → Option Position → Option (List ℕ) → List Data → State → Type 0
 AsksAs question s id (Some position) (Some uri) = AsksOpen question s id position (open_text uri s.documents)
 AsksAs question s id _ _ = Refuses s id InvalidParams
 
+-- a question with these params
 abbrev pub Asks : Question → State → Data → Data → List Data → State → Type 0
 Asks question s id params = AsksAs question s id (asked_position params) (named_uri params)

@@ -6,6 +6,7 @@ use Rattle.lam_text.specs.declared.units.Encoding.{Encoding}
 use Rattle.lam_text.specs.declared.places.Position.{Position}
 use Rattle.lam_text.specs.Positions.{position_of}
 
+-- a line and a column, both counted from 0
 abbrev pub position_value : Position → Data
 position_value p =
     object (member (codes "character") (number (unsigned p.character)) (member (codes "line") (number (unsigned p.line)) no_members))

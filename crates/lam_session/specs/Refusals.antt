@@ -16,6 +16,7 @@ code_of MethodNotFound = negsuc 32600
 code_of InvalidParams = negsuc 32601
 code_of DocumentNotOpen = negsuc 32601
 
+-- what a person reads of a refusal
 abbrev pub text_of : Refusal → List ℕ
 text_of UnreadableMessage = codes "unreadable message"
 text_of InvalidMessage = codes "invalid message"

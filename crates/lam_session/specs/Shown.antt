@@ -13,9 +13,11 @@ use Rattle.lam_session.specs.Ranges.{range_value}
 
 -- ---- a type
 
+-- a text that a client shows as it is (LSP 3.17, MarkupKind plaintext)
 abbrev pub plain_contents : List ℕ → Data
 plain_contents text = object (member (codes "kind") (string (codes "plaintext")) (member (codes "value") (string text) no_members))
 
+-- the text of the type and the range of its term; null where there is none
 abbrev pub hover_value : Encoding → List ℕ → Option Shown → Data
 hover_value encoding text None = null
 hover_value encoding text (Some shown) =
@@ -23,17 +25,20 @@ hover_value encoding text (Some shown) =
 
 -- ---- a derivation
 
--- an entry's type, with the fields in their own order
+-- the text of an entry's type, with the fields in their own order; null where it has none
 abbrev pub type_value : Option Typ → Data
 type_value None = null
 type_value (Some t) = string (plain_text t)
 
+-- a binder of the context, by its name and its type
 abbrev pub entry_value : Entry → Data
 entry_value e = object (member (codes "name") (string e.name) (member (codes "type") (type_value e.type) no_members))
 
+-- the numbers of the steps that a step follows from
 abbrev pub premises_value : List ℕ → Data
 premises_value numbers = array (items_of (map (λ n. number (unsigned n)) numbers))
 
+-- what a step concludes by its rule, and from which steps
 abbrev pub conclusion_value : Encoding → List ℕ → List ℕ → Conclusion → Data
 conclusion_value encoding text premises (typing rule span type) =
     object (member (codes "from") (premises_value premises)
@@ -46,9 +51,11 @@ conclusion_value encoding text premises (subtyping rule lower upper) =
     (member (codes "rule") (string (name_of_sub_rule rule))
     (member (codes "upper") (string (plain_text upper)) no_members))))
 
+-- a step of a proof
 abbrev pub step_value : Encoding → List ℕ → Step → Data
 step_value encoding text step = conclusion_value encoding text step.premises step.conclusion
 
+-- the context and the steps; null where nothing is derived
 abbrev pub derivation_value : Encoding → List ℕ → Option Derivation → Data
 derivation_value encoding text None = null
 derivation_value encoding text (Some d) =

@@ -47,36 +47,41 @@ abbrev pub Holds : State → OpenDocument → List Data → State → Type 0
 Holds s document sent next =
     Tells s.encoding s.dialect document sent × (next ≡ record s { documents = with_document document s.documents })
 
--- a document is opened, anew where one of its uri is open
+-- a document is opened with this uri and this text, anew where one of that uri is open; a notice without either is ignored
 abbrev pub OpensAs : State → Option (List ℕ) → Option (List ℕ) → Option ℤ → List Data → State → Type 0
 OpensAs s (Some uri) (Some text) version = Holds s (record { uri = uri; text = text; version = version })
 OpensAs s _ _ version = Ignores s
 
+-- a document is opened, as the params say
 abbrev pub Opens : State → Data → List Data → State → Type 0
 Opens s params = OpensAs s (named_uri params) (opened_text params) (given_version params)
 
--- the open text is changed, each change in what the one before left
+-- the open text is changed, each change in what the one before left; changes of a document that is not open are ignored
 abbrev pub ChangesText : State → List ℕ → Option (List ℕ) → List Edit → Option ℤ → List Data → State → Type 0
 ChangesText s uri None edits version = Ignores s
 ChangesText s uri (Some text) edits version =
     Holds s (record { uri = uri; text = text_after s.encoding text edits; version = version })
 
+-- the document of this uri is changed so; a notice without uri or without a list of changes is ignored
 abbrev pub ChangesAs : State → Option (List ℕ) → Option (List Edit) → Option ℤ → List Data → State → Type 0
 ChangesAs s (Some uri) (Some edits) version = ChangesText s uri (open_text uri s.documents) edits version
 ChangesAs s _ _ version = Ignores s
 
+-- a document is changed, as the params say
 abbrev pub Changes : State → Data → List Data → State → Type 0
 Changes s params = ChangesAs s (named_uri params) (listed_changes params) (given_version params)
 
--- an open document is closed, and no fault of it stays
+-- an open document is closed, and no fault of it stays; a notice about one that is not open is ignored
 abbrev pub ClosesOpen : State → List ℕ → Option (List ℕ) → List Data → State → Type 0
 ClosesOpen s uri None = Ignores s
 ClosesOpen s uri (Some text) =
     Does (published uri None no_items ∷ []) (record s { documents = without_document uri s.documents })
 
+-- the document of this uri is closed; a notice without one is ignored
 abbrev pub ClosesAs : State → Option (List ℕ) → List Data → State → Type 0
 ClosesAs s None = Ignores s
 ClosesAs s (Some uri) = ClosesOpen s uri (open_text uri s.documents)
 
+-- a document is closed, as the params say
 abbrev pub Closes : State → Data → List Data → State → Type 0
 Closes s params = ClosesAs s (named_uri params)

@@ -41,14 +41,15 @@ pub record IsMeetOf (ts : List Typ) (d : Dialect) (pair : TyNo × TyNo) (found :
 abbrev pub equal_pairs : TyNo × TyNo → TyNo × TyNo → Bool
 equal_pairs p q = eqb p.0.index q.0.index && eqb p.1.index q.1.index
 
--- what is kept of a pair
-
+-- whether the first of a pair is below the second, if that is kept
 abbrev pub verdict_kept : Verdicts → TyNo × TyNo → Option Bool
 verdict_kept verdicts = get equal_pairs verdicts.below
 
+-- the number of the join of a pair, if it is kept
 abbrev pub join_kept : Verdicts → TyNo × TyNo → Option TyNo
 join_kept verdicts = get equal_pairs verdicts.joins
 
+-- what is kept of the meet of a pair, if anything is: its number, or that there is none
 abbrev pub meet_kept : Verdicts → TyNo × TyNo → Option (Option TyNo)
 meet_kept verdicts = get equal_pairs verdicts.meets
 

@@ -21,6 +21,7 @@ is_bad kind.BadCharacter = true
 is_bad kind.BadComment = true
 is_bad k = false
 
+-- one of the tokens is no lexeme
 abbrev pub has_bad : List Lexeme → Bool
 has_bad ts = list_any (λ t. is_bad (kind_of t)) ts
 
@@ -56,10 +57,12 @@ Accepts c (Err e) = ⊥
 
 -- A list of tokens is divided at each semicolon; its pieces are the parts that have tokens.
 
+-- the kind of token that ends a piece
 abbrev pub ends_piece : Kind → Bool
 ends_piece kind.Semicolon = true
 ends_piece k = false
 
+-- the token ends a piece
 abbrev pub is_semicolon : Lexeme → Bool
 is_semicolon t = ends_piece (kind_of t)
 
@@ -73,9 +76,11 @@ abbrev pub runs_of : List Lexeme → List (List Lexeme)
 runs_of [] = [] ∷ []
 runs_of (t ∷ ts) = if is_semicolon t then [] ∷ runs_of ts else onto_first t (runs_of ts)
 
+-- the run is not empty
 abbrev pub has_tokens : List Lexeme → Bool
 has_tokens [] = false
 has_tokens (t ∷ ts) = true
 
+-- the pieces, in the order of the text
 abbrev pub pieces_of : List Lexeme → List (List Lexeme)
 pieces_of ts = filter has_tokens (runs_of ts)

@@ -45,10 +45,11 @@ Expects kind tokens (Ok r) = Front kind tokens r.0 r.1.now
 Expects kind tokens (Err (At left)) = (left.now ≡ tokens) × NoFront kind tokens
 Expects kind tokens (Err Memory) = ⊥
 
--- what follows a type that was read
+-- what follows a whole type that was read
 abbrev pub behind_type : InType → WrittenTy → List Lexeme → Outcome
 behind_type k t rest = look rest (λ o. ended_type o (type_of t) k)
 
+-- what follows an atomic type that was read
 abbrev pub behind_atype : InType → WrittenTy → List Lexeme → Outcome
 behind_atype k t rest = run rest (after_atype (type_of t) k)
 
@@ -58,6 +59,7 @@ type_fields_next (Some (lexeme kind.Comma x e)) s fs k = go (next_type_field s f
 type_fields_next (Some (lexeme kind.CloseBrace x e)) s fs k = go (after_atype (type_tree (from_to s e) (record_type fs)) k)
 type_fields_next o s fs k = stop
 
+-- what follows a field of a record type that was read behind others
 abbrev pub behind_type_field : Span → TypeFields → InType → TyField → List Lexeme → Outcome
 behind_type_field s before k f rest = look rest (λ o. type_fields_next o s (joined_types before (type_field (word_of f.label) (type_of f.ty) no_type_fields)) k)
 
@@ -72,20 +74,23 @@ Starts (lexeme kind.Numeral x s ∷ ts) = Unit {0}
 Starts (lexeme kind.OpenBrace x s ∷ ts) = Unit {0}
 Starts ts = ⊥
 
--- what follows a binder, an atom, an atom with its type, a path, and a term that were read
-
+-- what follows a binder that was read
 abbrev pub behind_binder : Purpose → Span → InTerm → Binder → List Lexeme → Outcome
 behind_binder p s k b rest = run rest (after_binder p s (bound_of b) k)
 
+-- what follows an atom that was read
 abbrev pub behind_atom : InPath → Tm → List Lexeme → Outcome
 behind_atom k t rest = run rest (after_atom (term_of t) k)
 
+-- what follows an ascription that was read: an atom, perhaps with a type written to it
 abbrev pub behind_asc : InPath → Tm → List Lexeme → Outcome
 behind_asc k t rest = look rest (λ o. ended_asc o (term_of t) k)
 
+-- what follows a whole path that was read
 abbrev pub behind_path : InPath → Tm → List Lexeme → Outcome
 behind_path k t rest = look rest (λ o. ended_app o (applied (term_of t) k) (outside k))
 
+-- what follows a whole term that was read
 abbrev pub behind_term : InTerm → Tm → List Lexeme → Outcome
 behind_term k t rest = look rest (λ o. ended_term o (term_of t) k)
 
@@ -94,6 +99,7 @@ abbrev pub placed : Option (Prefix × Span) → InTerm → InPath
 placed None k = as_head k
 placed (Some q) k = as_operand q.1 q.0 k
 
+-- a path behind a prefix, or behind none, as a term
 abbrev pub prefixed_by : Option (Prefix × Span) → TermTree → TermTree
 prefixed_by None t = t
 prefixed_by (Some q) t = term_tree (from_to q.1 (term_span t)) (prefixed q.0 t)
@@ -104,6 +110,7 @@ fields_next (Some (lexeme kind.Comma x e)) s fs k = go (next_field s fs k)
 fields_next (Some (lexeme kind.CloseBrace x e)) s fs k = go (after_atom (term_tree (from_to s e) (record_term fs)) k)
 fields_next o s fs k = stop
 
+-- what follows a field of a record that was read behind others
 abbrev pub behind_field : Span → TermFields → InPath → TmField → List Lexeme → Outcome
 behind_field s before k f rest = look rest (λ o. fields_next o s (joined before (field (word_of f.label) (term_of f.term) no_fields)) k)
 

@@ -99,12 +99,13 @@ applied t (as_head k) = t
 applied t (as_operand s p k) = term_tree (from_to s (term_span t)) (prefixed p t)
 applied a (as_argument f k) = term_tree (from_to (term_span f) (term_span a)) (apply f a)
 
+-- what is begun round such a path
 abbrev pub outside : InPath → InTerm
 outside (as_head k) = k
 outside (as_operand s p k) = k
 outside (as_argument f k) = k
 
--- an atom
+-- the first token of an atom
 abbrev pub begin_atom : Option Lexeme → InPath → Next
 begin_atom (Some (lexeme kind.OpenParen x s)) k = go (need_term (in_parens s k))
 begin_atom (Some (lexeme kind.True x s)) k = go (after_atom (term_tree s true_term) k)
@@ -154,7 +155,7 @@ abbrev pub ended_atype : Option Lexeme → TypeTree → InType → Next
 ended_atype (Some (lexeme kind.Arrow x s)) t k = go (need_type (right_of t k))
 ended_atype o t k = ended_type o t k
 
--- a type
+-- the first token of a type
 abbrev pub begin_type : Option Lexeme → InType → Next
 begin_type (Some (lexeme kind.OpenParen x s)) k = go (need_type (in_type_parens s k))
 begin_type (Some (lexeme kind.BoolType x s)) k = go (after_atype (type_tree s bool) k)
@@ -165,7 +166,7 @@ begin_type (Some (lexeme kind.TypeName x s)) k = go (after_atype (type_tree s (n
 begin_type (Some (lexeme kind.OpenBrace x s)) k = go (need_type_field s k)
 begin_type o k = stop
 
--- an application
+-- the first token of an application
 abbrev pub begin_app : Option Lexeme → InTerm → Next
 begin_app (Some (lexeme kind.Fix x s)) k = go (need_path (as_operand s prefix.Fix k))
 begin_app (Some (lexeme kind.Succ x s)) k = go (need_path (as_operand s prefix.Succ k))
@@ -173,7 +174,7 @@ begin_app (Some (lexeme kind.Pred x s)) k = go (need_path (as_operand s prefix.P
 begin_app (Some (lexeme kind.IsZero x s)) k = go (need_path (as_operand s prefix.IsZero k))
 begin_app o k = begin_atom o (as_head k)
 
--- a term
+-- the first token of a term
 abbrev pub begin_term : Option Lexeme → InTerm → Next
 begin_term (Some (lexeme kind.Lambda x s)) k = go (need_binder for_lambda s k)
 begin_term (Some (lexeme kind.If x s)) k = go (need_term (in_condition s k))
@@ -200,42 +201,49 @@ begin_command (Some (lexeme kind.Name x s)) = go (after_name (word x s))
 begin_command (Some (lexeme kind.TypeName x s)) = go (after_type_name (word x s))
 begin_command o = begin_term o of_evaluation
 
--- the place of a word, and its variable
+-- a name as a variable
 abbrev pub variable_at : Word → TermTree
 variable_at (word x s) = term_tree s (variable (word x s))
 
+-- what follows a name that begins a command: it is defined or declared, or is the first atom of a term
 abbrev pub name_next : Option Lexeme → Word → Next
 name_next (Some (lexeme kind.Equals x s)) n = go (need_term (of_definition n))
 name_next (Some (lexeme kind.Colon x s)) n = go (need_type (of_declaration n))
 name_next o n = ended_atom o (variable_at n) (as_head of_evaluation)
 
+-- what follows a type name that begins a command: it is abbreviated
 abbrev pub type_name_next : Option Lexeme → Word → Next
 type_name_next (Some (lexeme kind.Equals x s)) n = go (need_type (of_abbreviation n))
 type_name_next o n = stop
 
--- the labels of record types and of records
+-- what follows the opening brace of a record type: a label, or the closing brace
 abbrev pub begin_type_field : Option Lexeme → Span → InType → Next
 begin_type_field (Some (lexeme kind.CloseBrace x e)) s k = go (after_atype (type_tree (from_to s e) (record_type no_type_fields)) k)
 begin_type_field (Some (lexeme kind.Name l r)) s k = go (after_type_label s no_type_fields (word l r) k)
 begin_type_field o s k = stop
 
+-- what follows a comma in a record type: a label
 abbrev pub more_type_field : Option Lexeme → Span → TypeFields → InType → Next
 more_type_field (Some (lexeme kind.Name l r)) s before k = go (after_type_label s before (word l r) k)
 more_type_field o s before k = stop
 
+-- what follows a label in a record type: a colon
 abbrev pub type_label_next : Option Lexeme → Span → TypeFields → Word → InType → Next
 type_label_next (Some (lexeme kind.Colon x c)) s before l k = go (need_type (in_type_field s before l k))
 type_label_next o s before l k = stop
 
+-- what follows the opening brace of a record: a label, or the closing brace
 abbrev pub begin_field : Option Lexeme → Span → InPath → Next
 begin_field (Some (lexeme kind.CloseBrace x e)) s k = go (after_atom (term_tree (from_to s e) (record_term no_fields)) k)
 begin_field (Some (lexeme kind.Name l r)) s k = go (after_label s no_fields (word l r) k)
 begin_field o s k = stop
 
+-- what follows a comma in a record: a label
 abbrev pub more_field : Option Lexeme → Span → TermFields → InPath → Next
 more_field (Some (lexeme kind.Name l r)) s before k = go (after_label s before (word l r) k)
 more_field o s before k = stop
 
+-- what follows a label in a record: an equals sign
 abbrev pub label_next : Option Lexeme → Span → TermFields → Word → InPath → Next
 label_next (Some (lexeme kind.Equals x c)) s before l k = go (need_term (in_field s before l k))
 label_next o s before l k = stop

@@ -12,9 +12,11 @@ pub data Bound : Type 0 where
   bound : (name : Option (List ℕ)) → Span → Bound
 
 mutual
+  -- a written type and its place
   pub data TypeTree : Type 0 where
     type_tree : Span → TypeNode → TypeTree
 
+  -- the form of a written type
   pub data TypeNode : Type 0 where
     bool : TypeNode
     nat : TypeNode
@@ -24,14 +26,17 @@ mutual
     arrow : TypeTree → TypeTree → TypeNode
     record_type : TypeFields → TypeNode
 
+  -- the fields of a written record type, in the order written
   pub data TypeFields : Type 0 where
     no_type_fields : TypeFields
     type_field : Word → TypeTree → TypeFields → TypeFields
 
 mutual
+  -- a term and its place
   pub data TermTree : Type 0 where
     term_tree : Span → TermNode → TermTree
 
+  -- the form of a term
   pub data TermNode : Type 0 where
     true_term : TermNode
     false_term : TermNode
@@ -48,10 +53,12 @@ mutual
     ascribe : TermTree → TypeTree → TermNode
     record_term : TermFields → TermNode
 
+  -- the fields of a record, in the order written
   pub data TermFields : Type 0 where
     no_fields : TermFields
     field : Word → TermTree → TermFields → TermFields
 
+-- a command: a name and its term, a name and its type, a type name and what it stands for, or a term
 pub data CommandTree : Type 0 where
   definition : Word → TermTree → CommandTree
   declaration : Word → TypeTree → CommandTree
@@ -62,24 +69,28 @@ pub data CommandTree : Type 0 where
 abbrev pub from_to : Span → Span → Span
 from_to a b = record { start = a.start; end = b.end }
 
+-- the place of a written type
 abbrev pub type_span : TypeTree → Span
 type_span (type_tree s n) = s
 
+-- the place of a term
 abbrev pub term_span : TermTree → Span
 term_span (term_tree s n) = s
 
--- the tree with another place, as parentheses round it give it
+-- a written type with another place, as parentheses round it give it
 abbrev pub spanning_type : Span → TypeTree → TypeTree
 spanning_type s (type_tree r n) = type_tree s n
 
+-- a term with another place, as parentheses round it give it
 abbrev pub spanning_term : Span → TermTree → TermTree
 spanning_term s (term_tree r n) = term_tree s n
 
--- fields, and more behind them
+-- fields of a record type, and more behind them
 abbrev pub joined_types : TypeFields → TypeFields → TypeFields
 joined_types no_type_fields gs = gs
 joined_types (type_field l t fs) gs = type_field l t (joined_types fs gs)
 
+-- fields of a record, and more behind them
 abbrev pub joined : TermFields → TermFields → TermFields
 joined no_fields gs = gs
 joined (field l t fs) gs = field l t (joined fs gs)

@@ -15,18 +15,22 @@ use Rattle.lam_syntax.specs.declared.terms.TmField.{TmField}
 use Rattle.lam_syntax.specs.declared.terms.Command.{Command}
 use Rattle.lam_syntax.specs.declared.terms.Command.TheVariants as command
 
+-- the text of a name, a type name, a label or a numeral, with its place
 abbrev pub word_of : Identifier → Word
 word_of i = word (string_bytes i.text) i.span
 
+-- the name of a binder, none for an underscore, with its place
 abbrev pub bound_of : Binder → Bound
 bound_of b = bound (option_map (λ s. string_bytes s) b.name) b.span
 
--- one level of a written type, with each type inside already seen as its tree
+-- One level of a written type, with each type inside already seen as its tree.
 
+-- labelled types as fields
 abbrev pub type_fields_made : List (Word × TypeTree) → TypeFields
 type_fields_made [] = no_type_fields
 type_fields_made (f ∷ fs) = type_field f.0 f.1 (type_fields_made fs)
 
+-- the form of a type
 abbrev pub type_node_step : TyNode-F TypeNode (Word × TypeTree) TypeTree → TypeNode
 type_node_step TyNode-F.Bool = bool
 type_node_step TyNode-F.Nat = nat
@@ -36,45 +40,55 @@ type_node_step (TyNode-F.Named x) = named (word_of x)
 type_node_step (TyNode-F.Arrow a b) = arrow a b
 type_node_step (TyNode-F.Record fs) = record_type (type_fields_made fs.items)
 
+-- a label and its type
 abbrev pub type_field_step : TyField-F TypeNode (Word × TypeTree) TypeTree → Word × TypeTree
 type_field_step f = (word_of f.label, f.ty)
 
+-- a type with its place
 abbrev pub type_tree_step : WrittenTy-F TypeNode (Word × TypeTree) TypeTree → TypeTree
 type_tree_step t = type_tree t.span t.node.value
 
--- the tree of what a written type is, of a written type, and of the fields of a record type
-
+-- the tree of the form of a written type
 unfoldable pub type_node_of : TyNode → TypeNode
 type_node_of = fold-TyNode TypeNode (Word × TypeTree) TypeTree type_node_step type_field_step type_tree_step
 
+-- the tree of a written type
 abbrev pub type_of : WrittenTy → TypeTree
 type_of t = type_tree t.span (type_node_of t.node.value)
 
+-- the trees of the fields of a record type
 abbrev pub type_fields_of : List TyField → TypeFields
 type_fields_of [] = no_type_fields
 type_fields_of (f ∷ fs) = type_field (word_of f.label) (type_of f.ty) (type_fields_of fs)
 
--- one level of a term, with each term inside already seen as its tree
+-- One level of a term, with each term inside already seen as its tree.
 
+-- labelled terms as fields
 abbrev pub fields_made : List (Word × TermTree) → TermFields
 fields_made [] = no_fields
 fields_made (f ∷ fs) = field f.0 f.1 (fields_made fs)
 
+-- the form of an if
 abbrev pub conditional_step : Conditional-F TermNode TermNode TermNode TermNode TermNode TermNode TermTree (Word × TermTree) → TermNode
 conditional_step c = if_term c.condition c.one c.other
 
+-- the form of a lambda
 abbrev pub lambda_step : Lambda-F TermNode TermNode TermNode TermNode TermNode TermNode TermTree (Word × TermTree) → TermNode
 lambda_step l = lambda (bound_of l.binder) (type_of l.ty) l.body
 
+-- the form of a let
 abbrev pub let_step : Let-F TermNode TermNode TermNode TermNode TermNode TermNode TermTree (Word × TermTree) → TermNode
 let_step l = let_term (bound_of l.binder) l.bound l.body
 
+-- the form of a letrec
 abbrev pub letrec_step : Letrec-F TermNode TermNode TermNode TermNode TermNode TermNode TermTree (Word × TermTree) → TermNode
 letrec_step l = letrec_term (bound_of l.binder) (type_of l.ty) l.bound l.body
 
+-- the form of a projection
 abbrev pub projection_step : Projection-F TermNode TermNode TermNode TermNode TermNode TermNode TermTree (Word × TermTree) → TermNode
 projection_step p = project p.record (word_of p.label)
 
+-- the form of any term
 abbrev pub node_step : TmNode-F TermNode TermNode TermNode TermNode TermNode TermNode TermTree (Word × TermTree) → TermNode
 node_step TmNode-F.True = true_term
 node_step TmNode-F.False = false_term
@@ -91,20 +105,23 @@ node_step (TmNode-F.Project p) = p.value
 node_step (TmNode-F.Ascribe t u) = ascribe t (type_of u)
 node_step (TmNode-F.Record fs) = record_term (fields_made fs.items)
 
+-- a label and its term
 abbrev pub field_step : TmField-F TermNode TermNode TermNode TermNode TermNode TermNode TermTree (Word × TermTree) → Word × TermTree
 field_step f = (word_of f.label, f.term)
 
+-- a term with its place
 abbrev pub tree_step : Tm-F TermNode TermNode TermNode TermNode TermNode TermNode TermTree (Word × TermTree) → TermTree
 tree_step t = term_tree t.span t.node.value
 
--- the tree of what a term is, of a term, and of the fields of a record
-
+-- the tree of the form of a term
 unfoldable pub term_node_of : TmNode → TermNode
 term_node_of = fold-TmNode TermNode TermNode TermNode TermNode TermNode TermNode TermTree (Word × TermTree) node_step conditional_step lambda_step let_step letrec_step projection_step tree_step field_step
 
+-- the tree of a term
 abbrev pub term_of : Tm → TermTree
 term_of t = term_tree t.span (term_node_of t.node.value)
 
+-- the trees of the fields of a record
 abbrev pub fields_of : List TmField → TermFields
 fields_of [] = no_fields
 fields_of (f ∷ fs) = field (word_of f.label) (term_of f.term) (fields_of fs)

@@ -4,6 +4,7 @@ use Rattle.std.specs.List.{list_all}
 use Rattle.lam_text.specs.declared.index.Mark.{Mark}
 use Rattle.lam_text.specs.Lines.{Line, Lines, Cut, content, line_bytes, lines_of}
 
+-- each of the bytes is an ASCII character
 abbrev pub all_ascii : List ℕ → Bool
 all_ascii bytes = list_all (λ b. nat_lt b 128) bytes
 
@@ -13,6 +14,7 @@ marks_in start [] last = record { start = start; ascii = all_ascii last } ∷ []
 marks_in start (line ∷ lines) last =
     record { start = start; ascii = all_ascii (content line) } ∷ marks_in (start + length (line_bytes line)) lines last
 
+-- the marks of all lines of a text, the last one among them
 abbrev pub marks_on : ℕ → Lines → List Mark
 marks_on start (Cut lines last) = marks_in start lines last
 

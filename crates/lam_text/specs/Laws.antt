@@ -10,11 +10,12 @@ pub record IsLongestFront (encoding : Encoding) (room : ℕ) (cs front : List �
   pub fits : units encoding front ≤ room
   pub longest : (other back : List ℕ) → cs ≡ other ++ back → units encoding other ≤ room → length other ≤ length front
 
--- the bytes behind which the line ends of some lines end, the first of which starts at byte `start`
+-- the offsets at which the line ends of some lines end, the first of which starts at byte `start`
 abbrev pub ends_in : ℕ → List Line → List ℕ
 ends_in start [] = []
 ends_in start (line ∷ lines) = (start + length (line_bytes line)) ∷ ends_in (start + length (line_bytes line)) lines
 
+-- the same of all lines of a text; the last one has no line end
 abbrev pub ends_on : Lines → List ℕ
 ends_on (Cut lines last) = ends_in 0 lines
 

@@ -8,6 +8,7 @@ pub data LineEnd : Type 0 where
   Lf : LineEnd
   Cr : LineEnd
 
+-- the bytes of a line end
 abbrev pub end_bytes : LineEnd → List ℕ
 end_bytes CrLf = 13 ∷ 10 ∷ []
 end_bytes Lf = 10 ∷ []
@@ -17,9 +18,11 @@ end_bytes Cr = 13 ∷ []
 pub data Line : Type 0 where
   Ended : List ℕ → LineEnd → Line
 
+-- the bytes of a line without its end
 abbrev pub content : Line → List ℕ
 content (Ended bytes ending) = bytes
 
+-- the bytes of a line and of its end
 abbrev pub line_bytes : Line → List ℕ
 line_bytes (Ended bytes ending) = bytes ++ end_bytes ending
 

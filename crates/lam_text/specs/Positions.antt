@@ -14,6 +14,7 @@ offset_in encoding (line ∷ lines) last zero character = bytes_within encoding 
 offset_in encoding (line ∷ lines) last (suc n) character =
     length (line_bytes line) + offset_in encoding lines last n character
 
+-- the byte offset of a position in a text of these lines
 abbrev pub offset_on : Encoding → Lines → Position → ℕ
 offset_on encoding (Cut lines last) position = offset_in encoding lines last position.line position.character
 
@@ -33,6 +34,7 @@ position_in encoding (line ∷ lines) last offset =
     then record { line = 0; character = units_in encoding (take offset (content line)) }
     else one_line_down (position_in encoding lines last (offset - length (line_bytes line)))
 
+-- the position of a byte offset in a text of these lines
 abbrev pub position_on : Encoding → Lines → ℕ → Position
 position_on encoding (Cut lines last) offset = position_in encoding lines last offset
 

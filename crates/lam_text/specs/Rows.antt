@@ -2,7 +2,7 @@
 use Rattle.std.specs.Prelude.{ℕ, zero, suc, ◌+◌, List, [], ◌∷◌, length}
 use Rattle.lam_text.specs.Lines.{Line, Lines, Cut, content, line_bytes, lines_of}
 
--- the bytes of the lines before the line number `n`
+-- how many bytes the lines before the line number `n` have
 abbrev pub start_in : List Line → ℕ → ℕ
 start_in [] n = 0
 start_in (line ∷ lines) zero = 0
@@ -14,9 +14,11 @@ content_in [] last n = last
 content_in (line ∷ lines) last zero = content line
 content_in (line ∷ lines) last (suc n) = content_in lines last n
 
+-- where the line number `n` starts in a text of these lines
 abbrev pub start_on : Lines → ℕ → ℕ
 start_on (Cut lines last) n = start_in lines n
 
+-- what the line number `n` holds in a text of these lines
 abbrev pub content_on : Lines → ℕ → List ℕ
 content_on (Cut lines last) n = content_in lines last n
 

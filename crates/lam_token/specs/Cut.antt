@@ -12,7 +12,7 @@ use Rattle.lam_token.specs.Shape.{shape_of, opens_comment}
 abbrev pub NothingBegins : List ℕ → Type 0
 NothingBegins text = (front after : List ℕ) → text ≡ front ++ after → shape_of front ≡ None
 
--- no longer front of the text has one
+-- no front of the text that is longer than these characters has a shape
 abbrev pub NothingLonger : List ℕ → List ℕ → Type 0
 NothingLonger text cs = (front after : List ℕ) → text ≡ front ++ after → length cs < length front → shape_of front ≡ None
 

@@ -7,12 +7,15 @@ use Rattle.lam_token.specs.declared.span.Span.{Span}
 pub data Lexeme : Type 0 where
   lexeme : (kind : Kind) → (text : List ℕ) → (span : Span) → Lexeme
 
+-- what kind of token it is
 abbrev pub kind_of : Lexeme → Kind
 kind_of (lexeme kind text span) = kind
 
+-- the bytes of its text
 abbrev pub text_of : Lexeme → List ℕ
 text_of (lexeme kind text span) = text
 
+-- its place, from its first byte to behind its last
 abbrev pub span_of : Lexeme → Span
 span_of (lexeme kind text span) = span
 

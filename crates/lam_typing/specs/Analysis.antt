@@ -12,11 +12,12 @@ AreLeast (p ∷ ps) (o ∷ os) d = IsLeastAt p.scope p.here o d × AreLeast ps o
 AreLeast [] (o ∷ os) d = ⊥
 AreLeast (p ∷ ps) [] d = ⊥
 
--- at most so many nodes as a shown type may have
+-- a type, if there is one, of at most as many nodes as one that is shown may have
 abbrev pub IsSmall : Option Typ → Type 0
 IsSmall None = Unit {0}
 IsSmall (Some t) = nodes t ≤ 4096
 
+-- none of the types that were found has more nodes than that
 abbrev pub AreSmall : List (Option Typ) → Type 0
 AreSmall [] = Unit {0}
 AreSmall (o ∷ os) = IsSmall o × AreSmall os
@@ -25,7 +26,7 @@ AreSmall (o ∷ os) = IsSmall o × AreSmall os
 abbrev pub IsTooLarge : Place → Dialect → Type 0
 IsTooLarge p d = (t : Typ) × IsLeastAt p.scope p.here (Some t) d × (4096 < nodes t)
 
--- the place of this number is the first one of them
+-- the place of this number, counted from 0, is the first one that is too large
 abbrev pub IsFirstTooLarge : List Place → ℕ → Dialect → Type 0
 IsFirstTooLarge [] n d = ⊥
 IsFirstTooLarge (p ∷ ps) zero d = IsTooLarge p d

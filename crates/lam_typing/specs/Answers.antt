@@ -10,23 +10,26 @@ abbrev pub answer : List Typ → Option TyNo → Option Typ
 answer ts None = None
 answer ts (Some number) = Some (type_of ts number)
 
+-- the types that numbers stand for, or none, one by one
 abbrev pub answers : List Typ → List (Option TyNo) → List (Option Typ)
 answers ts [] = []
 answers ts (o ∷ os) = answer ts o ∷ answers ts os
 
--- each number is one of the table
+-- the number, if there is one, is one of the table
 abbrev pub StandsIn : List Typ → Option TyNo → Type 0
 StandsIn ts None = Unit {0}
 StandsIn ts (Some number) = Stands ts number
 
+-- each number among them is one of the table
 abbrev pub AllStandIn : List Typ → List (Option TyNo) → Type 0
 AllStandIn ts [] = Unit {0}
 AllStandIn ts (o ∷ os) = StandsIn ts o × AllStandIn ts os
 
--- entries that were put onto a context one by one, the outermost first
+-- a context with entries put onto it one by one, so that the last of them is the innermost
 abbrev pub under_entries : List Typ → Context → List (Option TyNo) → Context
 under_entries ts g [] = g
 under_entries ts g (o ∷ os) = under_entries ts (answer ts o ∷ g) os
 
+-- the context of these entries alone, which begin with the outermost
 abbrev pub context_under : List Typ → List (Option TyNo) → Context
 context_under ts os = under_entries ts [] os

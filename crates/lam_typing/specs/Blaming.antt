@@ -25,6 +25,7 @@ abbrev mutual
   ArePartsTyped s (fix e) d = IsTyped s e d
   ArePartsTyped s _ d = Unit {0}
 
+  -- each term of a record has a type
   pub AreFieldsTyped : Scope → TermFields → Dialect → Type 0
   AreFieldsTyped s no_terms d = Unit {0}
   AreFieldsTyped s (term_field l e es) d = IsTyped s e d × AreFieldsTyped s es d

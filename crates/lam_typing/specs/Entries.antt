@@ -16,11 +16,12 @@ AreLeastEntries (b ∷ outside) (entry ∷ g) d = IsLeastEntry outside b entry d
 AreLeastEntries [] (entry ∷ g) d = ⊥
 AreLeastEntries (b ∷ outside) [] d = ⊥
 
--- what is written at a lambda, and in a declaration
+-- the type that is written at a lambda, if it has no fault; other terms have none
 abbrev pub written_in : Term → Option Typ
 written_in (lambda w e) = w
 written_in _ = None
 
+-- the type that is written in a declaration, if it has no fault; other statements have none
 abbrev pub declared_in : Statement → Option Typ
 declared_in (declares w) = w
 declared_in _ = None
@@ -37,7 +38,7 @@ abbrev pub HasTermAmong : Origin → ℕ → Type 0
 HasTermAmong (TermAt p) n = p.0 < n
 HasTermAmong _ n = Unit {0}
 
--- the entry of such a binder, where these are the types that were found of the places
+-- the entry of a binder that takes its type from there, where these types were found of the places
 abbrev pub entry_from : List Statement → List (Option Typ) → Origin → Option Typ
 entry_from ss found (Lambda p) = written_in (place_numbered ss p.0).here
 entry_from ss found (TermAt p) = get_or found p.0 None

@@ -12,14 +12,14 @@ IsNarrowerEntry entry None d = Unit {0}
 IsNarrowerEntry (Some s) (Some t) d = IsBelow s t d
 IsNarrowerEntry None (Some t) d = ⊥
 
--- two contexts of one length, entry by entry
+-- the first context is as long as the second, and narrower entry by entry
 abbrev pub IsNarrower : Context → Context → Dialect → Type 0
 IsNarrower [] [] d = Unit {0}
 IsNarrower (a ∷ g) (b ∷ h) d = IsNarrowerEntry a b d × IsNarrower g h d
 IsNarrower [] (b ∷ h) d = ⊥
 IsNarrower (a ∷ g) [] d = ⊥
 
--- what a term has in a context it has in each narrower one
+-- each type that a term has in the second context it has in the first, where that is narrower
 abbrev pub Narrows : Context → Context → Dialect → Type 0
 Narrows g h d =
     IsWellFormedContext g → IsWellFormedContext h → IsNarrower g h d → (e : Term) (t : Typ) → HasType h e t d → HasType g e t d

@@ -14,19 +14,21 @@ use Rattle.lam_typing.specs.declared.noting.Note.{Note}
 use Rattle.lam_typing.specs.declared.noting.Note.TheVariants.{Written, Bound, Nothing}
 use Rattle.lam_typing.specs.declared.noting.Notes.{Notes}
 
+-- what is noted of a place: of a lambda the type that is written, of a variable the entry of the binder that it counts to
 pub record Noted : Type 0 where
   pub written : Option Typ
   pub bound : Option Typ
 
--- the entry of the binder of a variable
+-- the entry of the binder that a variable counts to; other terms have none
 abbrev pub bound_in : Context → Term → Option Typ
 bound_in g (variable n) = entry_at n g
 bound_in g _ = None
 
+-- what is noted of a term in this context
 abbrev pub note : Context → Term → Noted
 note g e = record { written = written_in e; bound = bound_in g e }
 
--- of the places of a term in this context, where the first one has the number k and these types were found of all places
+-- the notes of the places of a term in this context, where the first one has the number k and these types were found of all places
 abbrev mutual
   pub notes : (k : ℕ) → List (Option Typ) → Context → Term → List Noted
   notes k found g (if_then_else c a b) =
@@ -43,11 +45,12 @@ abbrev mutual
   notes k found g (fix e) = notes k found g e ++ note g (fix e) ∷ []
   notes k found g e = note g e ∷ []
 
+  -- the notes of the places of a record's terms
   pub notes_in : (k : ℕ) → List (Option Typ) → Context → TermFields → List Noted
   notes_in k found g no_terms = []
   notes_in k found g (term_field l e es) = notes k found g e ++ notes_in (behind_term k e) found g es
 
--- of the places of statements
+-- the notes of the places of statements, in this context
 abbrev pub notes_of : (k : ℕ) → List (Option Typ) → Context → List Statement → List Noted
 notes_of k found g [] = []
 notes_of k found g (defines e ∷ rest) = notes k found g e ++ notes_of (behind_term k e) found (get_or found (place_of_term k e) None ∷ g) rest
@@ -55,35 +58,39 @@ notes_of k found g (declares w ∷ rest) = notes_of k found (w ∷ g) rest
 notes_of k found g (abbreviates w ∷ rest) = notes_of k found g rest
 notes_of k found g (states e ∷ rest) = notes k found g e ++ notes_of (behind_term k e) found g rest
 
--- the number that a note has of what is written, and the one of the entry of the binder that is counted to
+-- the number of the type that is written, where the note is one of a lambda
 abbrev pub written_by : Note → Option TyNo
 written_by (Written number) = Some number
 written_by _ = None
 
+-- the number of the entry of the binder that is counted to, where the note is one of a variable
 abbrev pub bound_by : Note → Option TyNo
 bound_by (Bound number) = Some number
 bound_by _ = None
 
--- what notes say by the numbers of a table
+-- what a note says by the numbers of a table
 abbrev pub noted_as : List Typ → Note → Noted
 noted_as ts n = record { written = answer ts (written_by n); bound = answer ts (bound_by n) }
 
+-- what notes say by the numbers of a table, one by one
 abbrev pub noted_by : List Typ → List Note → List Noted
 noted_by ts [] = []
 noted_by ts (n ∷ ns) = noted_as ts n ∷ noted_by ts ns
 
--- the numbers in the note of a place
+-- the number of what is written, in the note of a place
 abbrev pub written_number : List Note → ℕ → Option TyNo
 written_number ns k = written_by (get_or ns k Nothing)
 
+-- the number of the entry that is counted to, in the note of a place
 abbrev pub bound_number : List Note → ℕ → Option TyNo
 bound_number ns k = bound_by (get_or ns k Nothing)
 
--- each number in them is one of the table
+-- each number in the notes is one of the table
 abbrev pub AllNoted : List Typ → List Note → Type 0
 AllNoted ts [] = Unit {0}
 AllNoted ts (n ∷ ns) = StandsIn ts (written_by n) × StandsIn ts (bound_by n) × AllNoted ts ns
 
+-- each number that is kept is one of the table
 pub record AreSoundNotes (ts : List Typ) (ns : Notes) : Type 0 where
   pub entries : AllStandIn ts ns.entries.items
   pub noted : AllNoted ts ns.noted.items
@@ -103,6 +110,7 @@ pub record NotesTerm (old now : List Typ) (before after : Notes) (found : List (
   pub more : NotesMore old now before after (notes (length before.noted.items) (answers old found) (context_under old before.entries.items) e) (inside e + 1)
   pub place_is : place ≡ place_of_term (length before.noted.items) e
 
+-- the notes of the terms of a record were put there
 abbrev pub NotesFields : List Typ → List Typ → Notes → Notes → List (Option TyNo) → TermFields → Type 0
 NotesFields old now before after found es =
     NotesMore old now before after (notes_in (length before.noted.items) (answers old found) (context_under old before.entries.items) es) (inside_fields es)
@@ -114,7 +122,7 @@ pub record NotesOne (before after : Notes) (own : Note) (place : ℕ) : Type 0 w
   pub noted : after.noted.items ≡ before.noted.items ++ own ∷ []
   pub place_is : place ≡ length before.noted.items
 
--- terms without parts but variables, and those of one part that bind nothing
+-- a term without parts, but no variable
 abbrev pub IsLeaf : Term → Type 0
 IsLeaf true_term = Unit {0}
 IsLeaf false_term = Unit {0}
@@ -123,6 +131,7 @@ IsLeaf (free name) = Unit {0}
 IsLeaf unit_term = Unit {0}
 IsLeaf _ = ⊥
 
+-- the first term has one part, which is the second, and binds nothing round it
 abbrev pub IsOver : Term → Term → Type 0
 IsOver (succ e) operand = e ≡ operand
 IsOver (pred e) operand = e ≡ operand

@@ -48,6 +48,7 @@ pub data Cause : Type 0 where
   next_is_too_large : Cause
   enough : Cause
 
+-- of the places that are left, the first one is too large, if that is the cause
 abbrev pub NextIs : Cause → List Place → Dialect → Type 0
 NextIs next_is_too_large [] d = ⊥
 NextIs next_is_too_large (p ∷ ps) d = IsTooLarge p d
@@ -90,6 +91,7 @@ abbrev pub IsApplicationCode : Text → Option Typ → Type 0
 IsApplicationCode code None = Unit {0}
 IsApplicationCode code (Some t) = code ≡ application_code t
 
+-- a type of more nodes than one that is shown may have
 abbrev pub IsLarge : Option Typ → Type 0
 IsLarge None = ⊥
 IsLarge (Some t) = 4096 < nodes t

@@ -17,6 +17,7 @@ use Rattle.lam_typing.specs.declared.typing.Typing.{Typing}
 use Rattle.lam_typing.specs.declared.proving.Proven.{Proven}
 use Rattle.lam_typing.specs.declared.proving.ProvenFields.{ProvenFields}
 
+-- the tree of a proof that was built
 abbrev pub tree_in : Proven → TypingTree
 tree_in m = typing_tree_of m.proof
 
@@ -31,16 +32,18 @@ ProvesFound (Some p) (Some t) g e d = ProvesTyping p g e t d
 ProvesFound None None g e d = Unit {0}
 ProvesFound _ _ g e d = ⊥
 
+-- what is built for a term, whose places were analysed and end before this number: a proof exactly where a type was found of it, and of this very type
 abbrev pub IsProvenTerm : Typing → Term → ℕ → Option TypingTree → Type 0
 IsProvenTerm t e behind o =
     (all : List Place) (k : ℕ) (s : Scope) (g : Context) → IsSetting t all s g → Sees all (found_of t) (noted_in t) k s g e → behind ≡ behind_term k e → behind ≤ length (found_of t)
     → ProvesFound o (get_or (found_of t) (place_of_term k e) None) g e (dialect_of t)
 
--- a proof of this type, where it is the one that was found
+-- there is a proof, and it is of this type
 abbrev pub ProvesThis : Option TypingTree → Typ → Context → Term → Dialect → Type 0
 ProvesThis (Some p) t g e d = ProvesTyping p g e t d
 ProvesThis None t g e d = ⊥
 
+-- what is built for a term at this place, of which this type was found: a proof of it
 abbrev pub IsProvenForm : Typing → Term → ℕ → Typ → Option TypingTree → Type 0
 IsProvenForm t e place type o =
     (all : List Place) (k : ℕ) (s : Scope) (g : Context) → IsSetting t all s g → Sees all (found_of t) (noted_in t) k s g e → place ≡ place_of_term k e → place < length (found_of t)
@@ -51,6 +54,7 @@ abbrev pub ProvesWide : Option TypingTree → Typ → Context → Term → Diale
 ProvesWide (Some p) t g e d = ProvesTyping p g e t d
 ProvesWide None t g e d = HasType g e t d → ⊥
 
+-- what is built for a term, whose places were analysed and end before this number: a proof that it has this type, or none where it has it not
 abbrev pub IsProvenAs : Typing → Term → ℕ → Typ → Option TypingTree → Type 0
 IsProvenAs t e behind type o =
     (all : List Place) (k : ℕ) (s : Scope) (g : Context) → IsSetting t all s g → Sees all (found_of t) (noted_in t) k s g e → behind ≡ behind_term k e → behind ≤ length (found_of t)
@@ -61,7 +65,7 @@ abbrev pub IsWidened : TypingTree → Typ → Option TypingTree → Dialect → 
 IsWidened p t (Some q) d = (g : Context) (e : Term) → IsTyping g e p d → ProvesTyping q g e t d
 IsWidened p t None d = (g : Context) (e : Term) → IsTyping g e p d → IsBelow (type_in p) t d → ⊥
 
--- the rules without premises, but that of variables, and those of one operand below Nat, with the types that they conclude
+-- a rule without premises, but that of variables, concludes this type of this term
 abbrev pub IsLeafBy : TypeRule → Term → Typ → Type 0
 IsLeafBy TypeRule.True true_term t = t ≡ bool
 IsLeafBy TypeRule.False false_term t = t ≡ bool
@@ -69,6 +73,7 @@ IsLeafBy TypeRule.Num (numeral digits) t = t ≡ nat
 IsLeafBy TypeRule.Unit unit_term t = t ≡ unit
 IsLeafBy _ _ t = ⊥
 
+-- T-Succ, T-Pred or T-IsZero concludes this type of this term, which has this operand
 abbrev pub IsNatBy : TypeRule → Term → Term → Typ → Type 0
 IsNatBy TypeRule.Succ (succ e) operand t = (e ≡ operand) × (t ≡ nat)
 IsNatBy TypeRule.Pred (pred e) operand t = (e ≡ operand) × (t ≡ nat)
@@ -80,13 +85,16 @@ pub record FieldTrees : Type 0 where
   pub trees : TypingTrees
   pub types : Fields
 
+-- the proofs and the types of a record's terms, in the order of the terms
 abbrev pub trees_in : ProvenFields → FieldTrees
 trees_in m = record { trees = typings_of (reverse m.proofs.items); types = fields_of (reverse m.types.items) }
 
+-- by T-Rcd the proofs give the record these types, which are the least ones of its terms; there are none where one of the terms has no type
 abbrev pub ProveFields : Option FieldTrees → Scope → Context → TermFields → Dialect → Type 0
 ProveFields (Some ps) s g es d = ByTypeRule TypeRule.Rcd None g (record_term es) (record_of ps.types) ps.trees d × AreFieldsAt s es (Some ps.types) d
 ProveFields None s g es d = AreFieldsAt s es None d
 
+-- what is built for the terms of a record, whose places were analysed and end before this number: proofs where all of them have types
 abbrev pub AreProvenFields : Typing → TermFields → ℕ → Option FieldTrees → Type 0
 AreProvenFields t es behind o =
     (all : List Place) (k : ℕ) (s : Scope) (g : Context) → IsSetting t all s g → SeesFields all (found_of t) (noted_in t) k s g es → behind ≡ k + inside_fields es → behind ≤ length (found_of t)

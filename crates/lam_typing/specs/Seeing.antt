@@ -10,9 +10,11 @@ use Rattle.lam_typing.specs.LeastTypes.{IsLeastAt}
 use Rattle.lam_typing.specs.Steps.{entry_at}
 use Rattle.lam_typing.specs.Notes.{Noted}
 
+-- the place of a number, counted from 0
 abbrev pub place_among : List Place → ℕ → Place
 place_among all n = get_or all n (record { scope = []; here = unit_term })
 
+-- the note of the place of a number
 abbrev pub note_among : List Noted → ℕ → Noted
 note_among ns n = get_or ns n (record { written = None; bound = None })
 
@@ -49,6 +51,7 @@ abbrev mutual
   Sees all found ns k s g (free x) = IsPlace all (place_of_term k (free x)) s (free x) × Unit {0}
   Sees all found ns k s g unit_term = IsPlace all (place_of_term k unit_term) s unit_term × Unit {0}
 
+  -- the same of the terms of a record
   pub SeesFields : List Place → List (Option Typ) → List Noted → (k : ℕ) → Scope → Context → TermFields → Type 0
   SeesFields all found ns k s g no_terms = Unit {0}
   SeesFields all found ns k s g (term_field l e es) = Sees all found ns k s g e × SeesFields all found ns (behind_term k e) s g es

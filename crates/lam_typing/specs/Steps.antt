@@ -24,12 +24,13 @@ LambdaRule (Some w) (Some t) o = o ≡ Some (arrow w t)
 LambdaRule (Some w) None o = o ≡ None
 LambdaRule None y o = o ≡ None
 
--- an argument below the parameter
+-- a first term that is a function, and an argument below its parameter
 abbrev pub ArrowRule : Typ → Typ → Option Typ → Dialect → Type 0
 ArrowRule (arrow p r) s (Some t) d = (t ≡ r) × IsBelow s p d
 ArrowRule (arrow p r) s None d = IsBelow s p d → ⊥
 ArrowRule _ s o d = o ≡ None
 
+-- a first term and an argument that both have types, of which the first takes the other
 abbrev pub ApplyRule : Option Typ → Option Typ → Option Typ → Dialect → Type 0
 ApplyRule None y o d = o ≡ None
 ApplyRule (Some f) None o d = o ≡ None
@@ -62,12 +63,13 @@ FixRule (Some (arrow p r)) (Some t) d = (t ≡ r) × IsBelow r p d
 FixRule (Some (arrow p r)) None d = IsBelow r p d → ⊥
 FixRule (Some _) o d = o ≡ None
 
--- a field of a record type
+-- the type of a field of a record type
 abbrev pub FieldRule : Label → Typ → Option Typ → Type 0
 FieldRule l (record_of fs) (Some t) = Has l t fs
 FieldRule l (record_of fs) None = IsAbsent l fs
 FieldRule l _ o = o ≡ None
 
+-- a term that has a type, and the field of that type
 abbrev pub ProjectRule : Label → Option Typ → Option Typ → Type 0
 ProjectRule l None o = o ≡ None
 ProjectRule l (Some t) o = FieldRule l t o

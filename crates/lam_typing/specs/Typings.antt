@@ -37,10 +37,11 @@ blamed_in t = blames_of t.walk.blames.items
 abbrev pub dialect_of : Typing → Dialect
 dialect_of t = t.dialect
 
--- what is noted of each place, and what each statement declares
+-- what is noted of each place, in the order of places
 abbrev pub noted_in : Typing → List Noted
 noted_in t = noted_by t.walk.table t.notes.noted.items
 
+-- the type that each statement declares, or none, in the order of statements
 abbrev pub declared_by : Typing → List (Option Typ)
 declared_by t = answers t.walk.table t.notes.declared.items
 

@@ -19,13 +19,16 @@ use Rattle.lam_typing.specs.declared.blame.Blame.{Blame}
 use Rattle.lam_typing.specs.declared.walking.Walk.{Walk}
 use Rattle.lam_typing.specs.declared.walking.Stop.{Stop}
 
+-- what a `Blame` stands for
 abbrev pub blamed_of : Blame → Blamed
 blamed_of b = record { number = b.place.0; code = b.code.now }
 
+-- what several stand for, in their order
 abbrev pub blames_of : List Blame → List Blamed
 blames_of [] = []
 blames_of (b ∷ bs) = blamed_of b ∷ blames_of bs
 
+-- the types that a walk has found so far, and the places that it blames
 abbrev pub progress_of : Walk → Progress
 progress_of w = record { found = answers w.table w.found.items; blames = blames_of w.blames.items }
 
@@ -33,11 +36,12 @@ progress_of w = record { found = answers w.table w.found.items; blames = blames_
 abbrev pub entries_of : Walk → Context
 entries_of w = context_under w.table w.entries.items
 
--- a number of a place lies behind the last one that is asked for, or up to it
+-- a place of this number lies behind the last one that is asked for
 abbrev pub IsBehind : Option PlaceNumber → ℕ → Type 0
 IsBehind None n = ⊥
 IsBehind (Some last) n = last.0 < n
 
+-- a place of this number is the last one that is asked for, or before it
 abbrev pub IsUpTo : Option PlaceNumber → ℕ → Type 0
 IsUpTo None n = Unit {0}
 IsUpTo (Some last) n = n ≤ last.0
@@ -68,15 +72,17 @@ pub record WalkedOver (old now : Walk) (e : Term) (found : Option TyNo) (d : Dia
   pub stands : StandsIn now.table found
   pub over : WentOver (entries_of old) e (progress_of old) (progress_of now) (answer now.table found) d
 
--- it stopped for want of memory, or as said above
+-- it stopped among these places: before one that is too large, or that lies behind the last one asked for, or wherever memory was wanting
 abbrev pub HasStoppedAmong : Stop → Context → (Scope → List Place) → Walk → Walk → Dialect → Type 0
 HasStoppedAmong Stop.TooLarge g ps old now d = StoppedIn g ps (progress_of old) (progress_of now) next_is_too_large d × IsUpTo now.last (length now.found.items)
 HasStoppedAmong Stop.Enough g ps old now d = StoppedIn g ps (progress_of old) (progress_of now) enough d × IsBehind now.last (length now.found.items)
 HasStoppedAmong Stop.Memory g ps old now d = Unit {0}
 
+-- it stopped among the places of a term
 abbrev pub HasStopped : Stop → Walk → Walk → Term → Dialect → Type 0
 HasStopped stop old now e d = HasStoppedAmong stop (entries_of old) (λ s. places s e) old now d
 
+-- it stopped among the places of a record's terms
 abbrev pub HasStoppedInFields : Stop → Walk → Walk → TermFields → Dialect → Type 0
 HasStoppedInFields stop old now es d = HasStoppedAmong stop (entries_of old) (λ s. places_in s es) old now d
 
