@@ -20,8 +20,8 @@ pub fn lex<'a>(alloc: Global, text: &'a str) -> Result<Vec<Token<'a>>, AllocErro
     ensures whole_characters { IfOk result (λ found. All (StandsIn text.now) found.items) }
     ensures ascend { IfOk result (λ found. IsStrictlyIncreasing (map start_of found.items)) }
 {
-    // Most tokens take two bytes or more, so the vector seldom grows, and its tokens are seldom copied.
-    let mut tokens = Vec::with_capacity(alloc, text.len() / 2)?;
+    // Few texts have more than two tokens in five bytes, so the vector seldom grows, and its tokens are seldom copied.
+    let mut tokens = Vec::with_capacity(alloc, text.len() / 5 * 2)?;
     let mut rest = text;
     let mut start = 0;
     while let Some((segment, after)) = next_segment(rest) {
