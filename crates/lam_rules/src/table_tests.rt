@@ -1,7 +1,7 @@
 //! Numbers for types: what stands under one number, and what is not kept twice.
 ghost use Rattle.std.specs.Prelude.{IfOk};
 ghost use Rattle.lam_rules.specs.TypeViews.{typ_of};
-ghost use Rattle.lam_rules.specs.Numbers.{IsNumberOf, Keeps};
+ghost use Rattle.lam_rules.specs.Numbers.{IsNumberOf, Keeps, Stands};
 
 use crate::{
     Shape, Ty, TyNo, TyTable, labels_differ, make_arrow, make_record, number_under, same, wf,
@@ -33,30 +33,35 @@ fn number_of(rt: &impl Abort, table: &mut TyTable, ty: &Ty) -> Result<TyNo, Allo
     table.add(ty)
 }
 
+/// A type that is added twice has one number, by which its text and its tree are told.
+fn check_given_back(
+    rt: &impl Abort,
+    table: &mut TyTable,
+    ty: &Ty,
+    text: &str,
+) -> Result<(), AllocError> {
+    let number = number_of(rt, table, ty)?;
+    let again = number_of(rt, table, ty)?;
+    assert_eq!(rt; number, again, "a type has one number");
+    assert_eq!(rt; table.text(number)?.as_str(), text);
+    let tree = table.tree(number)?;
+    assert!(rt; same(&tree, ty), "the tree of {text}");
+    Ok(())
+}
+
 #[test]
-#[tactic(auto, using(crate::proofs::Tables::numbers))]
 fn gives_types_back(rt: HostRuntime) -> Result<(), Fail> {
     let alloc = rt.alloc();
     let mut table = TyTable::new(alloc);
-    let inner = pair(alloc, "y", Ty::Bool, "x", Ty::Unit)?;
+    let empty = make_record(Vec::new(alloc));
     let left = make_arrow(alloc, make_arrow(alloc, Ty::Nat, Ty::Top)?, Ty::Bool)?;
-    for (ty, text) in [
-        (Ty::Nat, "Nat"),
-        (Ty::Top, "Top"),
-        (make_record(Vec::new(alloc)), "{}"),
-        (left, "(Nat->Top)->Bool"),
-        (
-            pair(alloc, "b", inner, "a", Ty::Nat)?,
-            "{a:Nat, b:{x:Unit, y:Bool}}",
-        ),
-    ] {
-        let number = number_of(&rt, &mut table, &ty)?;
-        let again = number_of(&rt, &mut table, &ty)?;
-        assert_eq!(rt; number, again, "a type has one number");
-        assert_eq!(rt; table.text(number)?.as_str(), text);
-        let tree = table.tree(number)?;
-        assert!(rt; same(&tree, &ty), "the tree of {text}");
-    }
+    let inner = pair(alloc, "y", Ty::Bool, "x", Ty::Unit)?;
+    let outer = pair(alloc, "b", inner, "a", Ty::Nat)?;
+    check_given_back(&rt, &mut table, &Ty::Nat, "Nat")?;
+    check_given_back(&rt, &mut table, &Ty::Top, "Top")?;
+    check_given_back(&rt, &mut table, &empty, "{}")?;
+    check_given_back(&rt, &mut table, &left, "(Nat->Top)->Bool")?;
+    check_given_back(&rt, &mut table, &outer, "{a:Nat, b:{x:Unit, y:Bool}}")?;
     Ok(())
 }
 
@@ -87,6 +92,36 @@ fn doubles_a_type_forty_times(rt: HostRuntime) -> Result<(), Fail> {
     Ok(())
 }
 
+/// The arrow from the one type to the other is read as such, and has no field.
+fn check_arrow(rt: &impl Abort, table: &TyTable, arrow: TyNo, from: TyNo, to: TyNo)
+    requires { Stands table.now arrow }
+{
+    assert_eq!(rt; table.field(arrow, "f"), None);
+    match table.shape(arrow) {
+        Shape::Arrow(parameter, outcome) => {
+            assert_eq!(rt; *parameter, from);
+            assert_eq!(rt; *outcome, to);
+        }
+        _ => assert!(rt; false, "an arrow"),
+    }
+}
+
+/// The record type with the fields `f` and `n` of these types is read as such, and has no field `g`.
+fn check_record(rt: &impl Abort, table: &TyTable, record: TyNo, first: TyNo, second: TyNo)
+    requires { Stands table.now record }
+{
+    assert_eq!(rt; table.field(record, "f"), Some(first));
+    assert_eq!(rt; table.field(record, "n"), Some(second));
+    assert_eq!(rt; table.field(record, "g"), None);
+    match table.shape(record) {
+        Shape::Record(fields) => {
+            assert_eq!(rt; number_under("n", fields), Some(second));
+            assert!(rt; labels_differ(fields));
+        }
+        _ => assert!(rt; false, "a record"),
+    }
+}
+
 #[test]
 #[tactic(auto, using(crate::proofs::Tables::numbers))]
 fn reads_the_outermost_form(rt: HostRuntime) -> Result<(), Fail> {
@@ -95,25 +130,9 @@ fn reads_the_outermost_form(rt: HostRuntime) -> Result<(), Fail> {
     let nat = table.intern(Shape::Nat)?;
     let bool_type = table.intern(Shape::Bool)?;
     let arrow = table.arrow(nat, bool_type)?;
+    check_arrow(&rt, &table, arrow, nat, bool_type);
     let record = table.record(&[("f", arrow), ("n", nat)])?;
-    assert_eq!(rt; table.field(record, "f"), Some(arrow));
-    assert_eq!(rt; table.field(record, "n"), Some(nat));
-    assert_eq!(rt; table.field(record, "g"), None);
-    assert_eq!(rt; table.field(arrow, "f"), None);
-    match table.shape(arrow) {
-        Shape::Arrow(parameter, outcome) => {
-            assert_eq!(rt; *parameter, nat);
-            assert_eq!(rt; *outcome, bool_type);
-        }
-        _ => assert!(rt; false, "an arrow"),
-    }
-    match table.shape(record) {
-        Shape::Record(fields) => {
-            assert_eq!(rt; number_under("n", fields), Some(nat));
-            assert!(rt; labels_differ(fields));
-        }
-        _ => assert!(rt; false, "a record"),
-    }
+    check_record(&rt, &table, record, arrow, nat);
     Ok(())
 }
 

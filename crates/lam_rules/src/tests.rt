@@ -253,7 +253,10 @@ fn lifted(alloc: Global, typing: TypeProof, sub: SubProof) -> Result<TypeProof, 
 fn projecting(alloc: Global) -> Result<Core, AllocError> {
     let label = String::from_str(alloc, "x")?;
     let body = Core::Proj(Box::new(alloc, Core::Var(0))?, label);
-    let function = Core::Abs(Box::new(alloc, Some(of_nat(alloc, &["x"])?))?, Box::new(alloc, body)?);
+    let function = Core::Abs(
+        Box::new(alloc, Some(of_nat(alloc, &["x"])?))?,
+        Box::new(alloc, body)?,
+    );
     let mut terms = Vec::new(alloc);
     terms.push((String::from_str(alloc, "y")?, Core::True))?;
     terms.push((
@@ -410,7 +413,10 @@ fn takes_subtyping_at_t_sub_alone(rt: HostRuntime) -> Result<(), Fail> {
 #[test]
 fn checks_letrec(rt: HostRuntime) -> Result<(), Fail> {
     let alloc = rt.alloc();
-    let identity = Core::Abs(Box::new(alloc, Some(Ty::Nat))?, Box::new(alloc, Core::Var(0))?);
+    let identity = Core::Abs(
+        Box::new(alloc, Some(Ty::Nat))?,
+        Box::new(alloc, Core::Var(0))?,
+    );
     let arrow = make_arrow(alloc, Ty::Nat, Ty::Nat)?;
     let term = make_letrec(alloc, Some(copy_of(alloc, &arrow)?), identity, Core::Var(0))?;
     let inner = node(alloc, TypeRule::Var, &Ty::Nat, Vec::new(alloc))?;
