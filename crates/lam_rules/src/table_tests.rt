@@ -107,13 +107,13 @@ fn check_arrow(rt: &impl Abort, table: &TyTable, arrow: TyNo, from: TyNo, to: Ty
 }
 
 /// The record type with the fields `f` and `n` of these types is read as such, and has no field `g`.
-fn check_record(rt: &impl Abort, table: &TyTable, record: TyNo, first: TyNo, second: TyNo)
-    requires { Stands table.now record }
+fn check_record(rt: &impl Abort, table: &TyTable, both: TyNo, first: TyNo, second: TyNo)
+    requires { Stands table.now both }
 {
-    assert_eq!(rt; table.field(record, "f"), Some(first));
-    assert_eq!(rt; table.field(record, "n"), Some(second));
-    assert_eq!(rt; table.field(record, "g"), None);
-    match table.shape(record) {
+    assert_eq!(rt; table.field(both, "f"), Some(first));
+    assert_eq!(rt; table.field(both, "n"), Some(second));
+    assert_eq!(rt; table.field(both, "g"), None);
+    match table.shape(both) {
         Shape::Record(fields) => {
             assert_eq!(rt; number_under("n", fields), Some(second));
             assert!(rt; labels_differ(fields));
