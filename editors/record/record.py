@@ -122,12 +122,12 @@ def main():
         print(f"{name}: status {status}, {len(messages)} messages", file=sys.stderr)
         line_end = "\r\n" if "\\r\\n" in "".join(messages) else "\n"
         editor = "Neovim 0.7.2" if "neovim" in name else "Emacs 28.2 with eglot"
-        ending = "a line feed" if line_end == "\n" else "a carriage return and a line feed"
+        ending = "a line feed" if ends == "\n" else "a carriage return and a line feed"
         print(f"\n/// {editor}, with a file whose lines end with {ending}.")
-        print(f"pub fn {name}() -> Recording {{\n    Recording {{")
-        print(f"        bodies: {raw(chr(10).join(messages))},")
-        print(f"        line_end: {escaped(line_end)},")
-        print(f"        saved: {escaped(saved)},\n    }}\n}}")
+        print(f"pub const {name.upper()}: Recording = Recording {{")
+        print(f"    bodies: {raw(chr(10).join(messages))},")
+        print(f"    line_end: {escaped(line_end)},")
+        print(f"    saved: {escaped(saved)},\n}};")
     shutil.rmtree(ROOM)
 
 

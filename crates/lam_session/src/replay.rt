@@ -1,6 +1,6 @@
 //! What editors really sent, played again: the text before the close is the file that was saved.
 use crate::Session;
-use crate::recordings::{Recording, URI, emacs_cr_lf, emacs_lf, neovim_cr_lf, neovim_lf};
+use crate::recordings::{EMACS_CR_LF, EMACS_LF, NEOVIM_CR_LF, NEOVIM_LF, Recording, URI};
 use crate::tests::{answered, fresh};
 use std::alloc::{AllocError, Global};
 use std::test::Fail;
@@ -28,10 +28,10 @@ fn replayed(alloc: Global, recording: &Recording) -> Result<(String, Option<u8>)
 fn recorded_sessions(rt: HostRuntime) -> Result<(), Fail> {
     let alloc = rt.alloc();
     let rows = [
-        ("neovim, LF", neovim_lf()),
-        ("neovim, CR LF", neovim_cr_lf()),
-        ("emacs, LF", emacs_lf()),
-        ("emacs, CR LF", emacs_cr_lf()),
+        ("neovim, LF", NEOVIM_LF),
+        ("neovim, CR LF", NEOVIM_CR_LF),
+        ("emacs, LF", EMACS_LF),
+        ("emacs, CR LF", EMACS_CR_LF),
     ];
     for (editor, recording) in &rows {
         let (text, status) = replayed(alloc, recording)?;
