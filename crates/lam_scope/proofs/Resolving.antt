@@ -9,7 +9,7 @@ use Rattle.lam_syntax.specs.declared.terms.Command.{Command}
 use Rattle.lam_syntax.specs.Trees.{CommandTree}
 use Rattle.lam_syntax.specs.Views.{type_of, command_of}
 use Rattle.lam_scope.specs.declared.statement.Statement.{Statement as RustStatement}
-use Rattle.lam_scope.specs.Expansions.{Abbreviation, is_over_limit, capped_nodes, is_capped}
+use Rattle.lam_scope.specs.Expansions.{Abbreviation, node_limit, is_over_limit, capped_nodes, is_capped}
 use Rattle.lam_scope.specs.Nameless.{first_over_limit, first_too_large, abbreviations_after, written_in_command}
 use Rattle.lam_scope.specs.declared.rows.BinderRow.{BinderRow}
 use Rattle.lam_scope.specs.TableViews.{text_binder}
@@ -19,7 +19,7 @@ pub written_trees-drop : (us : List (Bor WrittenTy)) (i : ℕ) (u : Bor WrittenT
     → written_trees (drop i us) ≡ type_of u.now ∷ written_trees (drop (i + 1) us)
 written_trees-drop us i u lt is = rw add-one (rw (drop-cons us i u lt) (ap (λ v. type_of v.now ∷ written_trees (drop (suc i) us)) (sym is)))
 
-ltb-capped : (n : ℕ) → ltb 4096 (min n 4097) ≡ ltb 4096 n
+ltb-capped : (n : ℕ) → ltb node_limit (min n (node_limit + 1)) ≡ ltb node_limit n
 ltb-capped n = grind (arith, nat_tests)
 
 pub is_capped-nodes : (o : Option Typ) → is_capped (capped_nodes o) ≡ is_over_limit o

@@ -1,5 +1,5 @@
 -- What written types stand for, and their faults.
-use Rattle.std.specs.Prelude.{ℕ, List, [], ◌∷◌, ◌++◌, Bool, true, false, ◌||◌, Option, Some, None, if◌then◌else◌, min}
+use Rattle.std.specs.Prelude.{ℕ, ◌+◌, List, [], ◌∷◌, ◌++◌, Bool, true, false, ◌||◌, Option, Some, None, if◌then◌else◌, min}
 use Rattle.std.specs.Option.{option_map}
 use Rattle.std.specs.Str.{bytes_eq}
 use Rattle.std.proofs.Math.Dec.{ltb}
@@ -78,7 +78,7 @@ abbrev mutual
   field_faults bs earlier (type_field l t rest) =
       label_fault l earlier ++ type_faults bs t ++ field_faults bs (joined_types earlier (type_field l t no_type_fields)) rest
 
--- how many nodes the expansion of a written type may have
+-- how many nodes a type of a document may have: the expansion of a written one, and the type of a place
 abbrev pub node_limit : ℕ
 node_limit = 4096
 
@@ -89,11 +89,11 @@ is_over_limit (Some t) = ltb node_limit (nodes t)
 
 -- how many nodes an expansion has, as far as one more than may be
 abbrev pub capped_nodes : Option Typ → Option ℕ
-capped_nodes = option_map (λ t. min (nodes t) 4097)
+capped_nodes = option_map (λ t. min (nodes t) (node_limit + 1))
 
 -- how many nodes the types of fields have, as far as one more than may be
 abbrev pub capped_nodes_in : Option Fields → Option ℕ
-capped_nodes_in = option_map (λ fs. min (nodes_in fs) 4097)
+capped_nodes_in = option_map (λ fs. min (nodes_in fs) (node_limit + 1))
 
 -- whether there are more nodes than may be
 abbrev pub is_capped : Option ℕ → Bool

@@ -87,10 +87,14 @@ fn has_label(label: &str, fields: &[TyField]) -> bool
     false
 }
 
-/// Where sizes stop counting: one more than an expansion may have.
-const SIZE_CAP: u64 = 4_097;
+/// The most nodes that a type of a document may have, the expansion of a written type as the type of a
+/// place: in place of types, a document with a larger one shows the fault that it is too large.
+pub const NODE_LIMIT: u64 = 4_096;
 
-/// How many nodes the expansion of a written type has, or 4,097 where it has more. There is none where it is faulty.
+/// Where sizes stop counting: one node over the limit, as `lam_rules` counts.
+const SIZE_CAP: u64 = NODE_LIMIT + 1;
+
+/// How many nodes the expansion of a written type has, or `SIZE_CAP` where it has more. There is none where it is faulty.
 #[cycle(sizes)]
 #[tactic(auto, using(crate::proofs::WrittenTypes::written_types))]
 pub(crate) fn expanded_size(seen: &Abbreviations<'_>, ty: &WrittenTy) -> Option<u64>

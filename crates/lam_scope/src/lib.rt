@@ -33,6 +33,7 @@ mod written;
 
 pub use binding::bind;
 pub use document::resolve;
+pub use expansion::NODE_LIMIT;
 pub use fault::{ScopeFault, TypeFault};
 pub use laws::{faultless_is_expanded, innermost_place, one_binder, one_sight, one_term};
 pub use numbers::{Binder, Origin, Place};

@@ -6,7 +6,7 @@ ghost use Rattle.lam_scope.specs.Expansions.{is_capped};
 ghost use Rattle.lam_scope.specs.Views.{statement_of, abbreviations_of, written_trees, IsLimit};
 
 use crate::abbreviations::Abbreviations;
-use crate::expansion::{collect_faults, copy_of_written, expand, expanded_size};
+use crate::expansion::{NODE_LIMIT, collect_faults, copy_of_written, expand, expanded_size};
 use crate::fault::{ScopeFault, TypeFault};
 use crate::nameless::nameless;
 use crate::names::Names;
@@ -96,9 +96,6 @@ impl<'a> Resolver<'a> {
         }
     }
 }
-
-/// How many nodes the expansion of a written type may have.
-const NODE_LIMIT: u64 = 4_096;
 
 /// The faults of written types, unless one of them is too large: its size is known before anything is built.
 #[tactic(auto, using(crate::proofs::Resolving::resolving))]
