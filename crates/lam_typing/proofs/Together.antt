@@ -6,6 +6,7 @@ use Rattle.lam_rules.specs.Terms.{Term}
 use Rattle.lam_rules.specs.Texts.{Text}
 use Rattle.lam_rules.specs.Typing.{Context}
 use Rattle.lam_rules.specs.declared.rules.Dialect.{Dialect}
+use Rattle.lam_scope.specs.Expansions.{node_limit}
 use Rattle.lam_scope.specs.Places.{Binding, Scope, Place}
 use Rattle.lam_typing.specs.LeastTypes.{IsLeastAt}
 use Rattle.lam_typing.specs.Blaming.{ArePartsTyped, IsExcused, IsBlamed, IsBlamedFor, Blamed, AreBlamed}
@@ -174,7 +175,7 @@ went_here g e o blames old now d found_is blames_are small least blamed = record
 }
 
 -- its type is too large
-pub stopped_here : (g : Context) (e : Term) (t : Typ) (now : Progress) (d : Dialect) → 4096 < nodes t
+pub stopped_here : (g : Context) (e : Term) (t : Typ) (now : Progress) (d : Dialect) → node_limit < nodes t
     → ((s : Scope) → IsLowest s g d → IsLeastAt s e (Some t) d)
     → StoppedIn g (λ s. record { scope = s; here = e } ∷ []) now now next_is_too_large d
 stopped_here g e t now d large least = record {
@@ -225,7 +226,7 @@ ready_went g e ps old mid now o blames d ready found_is blames_are small =
     (went_here g e o blames mid now d found_is blames_are small ready.least ready.blamed)
 
 pub ready_too_large : (g : Context) (e : Term) (ps : Scope → List Place) (old mid : Progress) (t : Typ) (blames : List Blamed) (d : Dialect)
-    → IsReady g e ps old mid (Some t) blames d → 4096 < nodes t
+    → IsReady g e ps old mid (Some t) blames d → node_limit < nodes t
     → StoppedIn g (λ s. ps s ++ record { scope = s; here = e } ∷ []) old mid next_is_too_large d
 ready_too_large g e ps old mid t blames d ready large =
     stopped_behind g ps (λ s. record { scope = s; here = e } ∷ []) old mid mid next_is_too_large d ready.went (stopped_here g e t mid d large ready.least)

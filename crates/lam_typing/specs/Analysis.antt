@@ -2,6 +2,7 @@
 use Rattle.std.specs.Prelude.{◌<◌, ◌≤◌, ℕ, zero, suc, List, [], ◌∷◌, Option, Some, None}
 use Rattle.lam_rules.specs.Types.{Typ, nodes}
 use Rattle.lam_rules.specs.declared.rules.Dialect.{Dialect}
+use Rattle.lam_scope.specs.Expansions.{node_limit}
 use Rattle.lam_scope.specs.Places.{Place}
 use Rattle.lam_typing.specs.LeastTypes.{IsLeastAt}
 
@@ -15,7 +16,7 @@ AreLeast (p ∷ ps) [] d = ⊥
 -- a type, if there is one, of at most as many nodes as one that is shown may have
 abbrev pub IsSmall : Option Typ → Type 0
 IsSmall None = Unit {0}
-IsSmall (Some t) = nodes t ≤ 4096
+IsSmall (Some t) = nodes t ≤ node_limit
 
 -- none of the types that were found has more nodes than that
 abbrev pub AreSmall : List (Option Typ) → Type 0
@@ -24,7 +25,7 @@ AreSmall (o ∷ os) = IsSmall o × AreSmall os
 
 -- a place with a least type of more nodes
 abbrev pub IsTooLarge : Place → Dialect → Type 0
-IsTooLarge p d = (t : Typ) × IsLeastAt p.scope p.here (Some t) d × (4096 < nodes t)
+IsTooLarge p d = (t : Typ) × IsLeastAt p.scope p.here (Some t) d × (node_limit < nodes t)
 
 -- the place of this number, counted from 0, is the first one that is too large
 abbrev pub IsFirstTooLarge : List Place → ℕ → Dialect → Type 0

@@ -5,6 +5,7 @@ use Rattle.lam_rules.specs.Terms.{Term, TermFields, no_terms, term_field}
 use Rattle.lam_rules.specs.Texts.{Text}
 use Rattle.lam_rules.specs.Typing.{Context, IsWellFormedContext}
 use Rattle.lam_rules.specs.declared.rules.Dialect.{Dialect}
+use Rattle.lam_scope.specs.Expansions.{node_limit}
 use Rattle.lam_scope.specs.Places.{Scope, Place, places}
 use Rattle.lam_typing.specs.Contexts.{IsContext}
 use Rattle.lam_typing.specs.LeastTypes.{IsLeastAt}
@@ -94,4 +95,4 @@ IsApplicationCode code (Some t) = code ≡ application_code t
 -- a type of more nodes than one that is shown may have
 abbrev pub IsLarge : Option Typ → Type 0
 IsLarge None = ⊥
-IsLarge (Some t) = 4096 < nodes t
+IsLarge (Some t) = node_limit < nodes t

@@ -20,11 +20,8 @@ use crate::steps::{
     abstracted, added, applied, ascribed, bound_in, chosen, fixed, of_number, projected, recorded,
 };
 use lam_rules::{Core, Dialect, Shape, Ty, TyNo, TyTable};
-use lam_scope::{Place, Statement};
+use lam_scope::{NODE_LIMIT, Place, Statement};
 use std::alloc::{AllocError, AllocFailed, Global};
-
-/// The most nodes that the type of a place may have.
-const LARGEST: u64 = 4096;
 
 /// Why a walk ends before its last place.
 pub(crate) enum Stop {
@@ -572,5 +569,5 @@ fn is_large(table: &TyTable, found: Option<TyNo>) -> bool
     let Some(number) = found else {
         return false;
     };
-    table.size(number) > LARGEST
+    table.size(number) > NODE_LIMIT
 }
