@@ -4,7 +4,7 @@ use Rattle.std.proofs.lemmas.List.{append-nil, map-append, drop_all, get_or_defa
 use Rattle.std.proofs.lemmas.Bool.Decides.{nat_tests}
 use Rattle.lam_token.specs.declared.span.Span.{Span}
 use Rattle.lam_scope.specs.declared.rows.UseRow.{UseRow}
-use Rattle.lam_scope.specs.declared.rows.Spans.{Spans}
+use Rattle.lam_scope.specs.declared.binding.Spans.{Spans}
 use Rattle.std.specs.List.{slice_range}
 use Rattle.lam_scope.specs.Slices.{first_start, sliced, AreInOrder}
 use Rattle.lam_scope.proofs.Slices.{first_start-at, first_start-past, in_order-longer, in_order-pushed, in_order-at, in_order-within, sliced-pushed, sliced-at, sliced-past}

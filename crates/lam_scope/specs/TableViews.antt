@@ -8,7 +8,7 @@ use Rattle.lam_scope.specs.declared.rows.UseRow.{UseRow}
 use Rattle.lam_token.specs.declared.span.Span.{Span}
 use Rattle.lam_scope.specs.declared.numbers.Origin.{Origin}
 use Rattle.lam_scope.specs.declared.rows.Rows.{Rows}
-use Rattle.lam_scope.specs.declared.rows.Spans.{Spans}
+use Rattle.lam_scope.specs.declared.binding.Spans.{Spans}
 use Rattle.lam_scope.specs.declared.token_lists.TokenLists.{TokenLists}
 use Rattle.lam_scope.specs.declared.rows.PlaceRow.{PlaceRow}
 use Rattle.lam_scope.specs.declared.seen.SeenBinder.{SeenBinder}

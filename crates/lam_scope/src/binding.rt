@@ -6,12 +6,13 @@ ghost use Rattle.lam_scope.specs.TableViews.{text_use, rows_of, span_lists, list
 ghost use Rattle.lam_scope.specs.Views.{AreScopesOf};
 
 use crate::room::room_of;
-use crate::rows::{Rows, Spans, UseRow};
+use crate::rows::{Rows, UseRow};
 use crate::scopes::Scopes;
 use crate::seen::Seen;
 use crate::token_lists::TokenLists;
 use crate::walk::walk_command;
 use lam_syntax::Command;
+use lam_token::Span;
 use std::alloc::{AllocError, Global};
 
 /// What the names and type names of these commands are bound to.
@@ -37,6 +38,12 @@ fn walk_commands(alloc: Global, commands: &[Command]) -> Result<Rows, AllocError
         walk_command(alloc, &mut rows, &mut types, &mut names, i, command)?;
     }
     Ok(rows)
+}
+
+/// The tokens of the uses of one binder, in the order of the text.
+#[derive(Drop)]
+struct Spans {
+    items: Vec<Span>,
 }
 
 /// The tokens of the uses of each of so many binders, in the order of the text.

@@ -45,12 +45,6 @@ pub(crate) struct PlaceRow {
     pub(crate) inner: Option<Binder>,
 }
 
-/// The tokens of the uses of one binder, in the order of the text. It is kept no longer than uses are grouped.
-#[derive(Drop)]
-pub(crate) struct Spans {
-    pub(crate) items: Vec<Span>,
-}
-
 /// The tables of what was walked so far.
 #[derive(Drop)]
 pub(crate) struct Rows {
