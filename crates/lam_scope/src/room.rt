@@ -1,10 +1,11 @@
-//! How much room the rows of a document take. Nothing rests on it: rows that have too little grow, and what is spare
-//! is given back. But rows that grow beside each other leave holes behind, as large together as the rows.
+//! How much room the rows of a document take, so that each table is allocated once. No contract rests on it: a table
+//! with too little room grows, and what is spare is given back. But tables that grow beside each other leave behind the
+//! blocks that they grew out of, which together are as large as the tables.
 
 use lam_syntax::{Command, Letrec, Tm, TmField, TmNode};
 
-/// How many rows of each kind there are. Each command counts as a binder, though an evaluation is none; the uses of
-/// type names are not counted, and no more than `usize` holds is.
+/// About how many rows of each kind there are: each command counts as a binder, though an evaluation is none, and the
+/// uses of type names are not counted. Counts stop at the largest `usize`.
 #[derive(Clone, Copy)]
 pub(crate) struct Room {
     pub(crate) binders: usize,
