@@ -8,11 +8,12 @@ use Rattle.std.proofs.lemmas.Bool.{cases_lt}
 use Rattle.std.proofs.Math.ListN.{get_or-eq_default}
 use Rattle.lam_token.specs.declared.span.Span.{Span}
 use Rattle.lam_syntax.specs.Trees as tree
-use Rattle.lam_syntax.specs.Trees.{word, bound, TypeTree, TermTree, term_tree, TermNode, CommandTree, definition, declaration, evaluation, term_span}
+use Rattle.lam_syntax.specs.Trees.{word, bound, TermTree, term_tree, TermNode, CommandTree, definition, declaration, evaluation, term_span}
 use Rattle.lam_scope.specs.declared.numbers.Origin.TheVariants.{Declaration, TypeName}
-use Rattle.lam_scope.specs.Tables.{TextPlace, Table, ◌⊕◌, Entry, entry, binder_row, place_row, root, behind, roots, below, binders_in, type_uses, term_table, node_table, fields_table, letrec_rows, lambda_at, term_at, commands_table, table, is_over, place_in, place_at, no_span}
-use Rattle.lam_scope.specs.Nesting.{IsWithin, Nests, NestsInAll, AreNested, StandsBetween, PartsStand, FieldsStand, CommandsStand, AreSpelledFrom, IsInnermost}
-use Rattle.lam_scope.proofs.SpelledTerms.{spelled_stand}
+use Rattle.lam_scope.specs.Sights.{lambda_at, term_at}
+use Rattle.lam_scope.specs.Tables.{TextPlace, Table, ◌⊕◌, Entry, entry, binder_row, place_row, root, behind, roots, below, binders_in, type_uses, term_table, node_table, fields_table, letrec_rows, commands_table, table, is_over, place_in, place_at, no_span}
+use Rattle.lam_scope.specs.Nesting.{IsWithin, Nests, NestsInAll, AreNested, AreSpelledFrom, IsInnermost}
+use Rattle.lam_scope.proofs.SpelledTerms.{StandsBetween, PartsStand, FieldsStand, CommandsStand, spelled_stand}
 use Rattle.lam_scope.proofs.PlaceCounts.{type_places}
 
 -- places between two bytes

@@ -10,8 +10,8 @@ use Rattle.lam_scope.specs.Names.{Name, count}
 use Rattle.lam_scope.specs.Expansions.{Abbreviation, expansion}
 use Rattle.lam_scope.specs.Nameless.{use_counted, prefixed, nameless, nameless_node, nameless_fields, statements, abbreviations_after, names_after}
 use Rattle.lam_scope.specs.Places.{written, of_term, Scope, Place, places, places_in, places_of}
-use Rattle.lam_scope.specs.Sights.{inside, inside_fields}
-use Rattle.lam_scope.specs.Tables.{Table, ◌⊕◌, Entry, entry, binder_row, place_row, root, behind, roots, below, below_node, below_fields, binders_in, type_uses, node_uses, field_uses, term_table, node_table, fields_table, lambda_at, term_at, command_table, commands_table, table, types_seen_after, names_seen_after, binders_in_command, places_in_command}
+use Rattle.lam_scope.specs.Sights.{inside, inside_fields, lambda_at, term_at}
+use Rattle.lam_scope.specs.Tables.{Table, ◌⊕◌, Entry, entry, binder_row, place_row, root, behind, roots, below, below_node, below_fields, binders_in, type_uses, node_uses, field_uses, term_table, node_table, fields_table, command_table, commands_table, table, types_seen_after, names_seen_after, binders_in_command, places_in_command}
 
 -- of tables behind one another
 

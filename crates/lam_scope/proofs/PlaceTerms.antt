@@ -3,9 +3,14 @@ use Rattle.std.proofs.Common.{◌≡◌, ℕ, ◌+◌, ◌<◌, List, [], ◌∷
 use Rattle.lam_rules.specs.Terms.{Term, true_term, false_term, if_then_else, numeral, succ, pred, is_zero, variable, free, lambda, apply, unit_term, ascribe, let_in, record_term, project, fix, TermFields, no_terms, term_field}
 use Rattle.lam_scope.specs.declared.statement.Statement.{Statement as RustStatement}
 use Rattle.lam_scope.specs.Places.{written, of_term, Scope, Place, places, places_in, Statement, defines, declares, abbreviates, states, places_of, place_numbered}
-use Rattle.lam_scope.specs.Found.{terms_at, terms_at_fields, terms_stated, terms_in, here, behind, seek, seek_on}
+use Rattle.lam_scope.specs.Found.{terms_at, terms_at_fields, terms_stated, here, behind, seek, seek_on}
 use Rattle.lam_scope.specs.Views.{statement_of}
 use Rattle.lam_scope.proofs.Finding.{seek-append}
+
+-- the terms at the places of statements
+abbrev pub terms_in : List Statement → List Term
+terms_in [] = []
+terms_in (s ∷ ss) = terms_stated s ++ terms_in ss
 
 abbrev terms_of_places : List Place → List Term
 terms_of_places [] = []

@@ -12,7 +12,8 @@ use Rattle.lam_scope.specs.Names.{Name, count}
 use Rattle.lam_scope.specs.Expansions.{Abbreviation, expansion}
 use Rattle.lam_scope.specs.Nameless.{use_counted, prefixed, nameless, nameless_node, nameless_fields, statements, abbreviations_after}
 use Rattle.lam_scope.specs.Places.{Scope, written, of_term, Place, places, places_in, places_of}
-use Rattle.lam_scope.specs.Tables.{TextPlace, Table, ◌⊕◌, Entry, entry, binder_row, place_row, root, behind, roots, below, binders_in, type_uses, term_table, node_table, fields_table, letrec_rows, lambda_at, term_at, commands_table, table}
+use Rattle.lam_scope.specs.Sights.{lambda_at, term_at}
+use Rattle.lam_scope.specs.Tables.{TextPlace, Table, ◌⊕◌, Entry, entry, binder_row, place_row, root, behind, roots, below, binders_in, type_uses, term_table, node_table, fields_table, letrec_rows, commands_table, table}
 use Rattle.lam_scope.specs.PlacedTerms.{PlacedTerm, placed, terms_placed, parts_placed, fields_placed, commands_placed}
 use Rattle.lam_scope.proofs.PlaceCounts.{type_places}
 

@@ -12,8 +12,8 @@ use Rattle.lam_scope.specs.declared.numbers.Origin.TheVariants.{Declaration, Typ
 use Rattle.lam_scope.specs.Names.{Name, count}
 use Rattle.lam_scope.specs.Expansions.{Abbreviation}
 use Rattle.lam_scope.specs.Nameless.{use_counted, prefixed, nameless, nameless_node, nameless_fields, statements, abbreviations_after}
-use Rattle.lam_scope.specs.Sights.{Sight, inside, place_of_term, behind_term, sights, sights_in, sights_of, sight_numbered}
-use Rattle.lam_scope.specs.Tables.{TextBinder, TextPlace, Table, ◌⊕◌, Entry, entry, innermost, binder_row, place_row, root, behind, roots, below, binders_in, binders_in_node, binders_in_fields, type_uses, node_uses, field_uses, term_table, node_table, fields_table, letrec_rows, lambda_at, term_at, commands_table, table, binder_in, place_in, seen_in, visible_at}
+use Rattle.lam_scope.specs.Sights.{Sight, inside, place_of_term, behind_term, lambda_at, term_at, sights, sights_in, sights_of, sight_numbered}
+use Rattle.lam_scope.specs.Tables.{TextBinder, TextPlace, Table, ◌⊕◌, Entry, entry, innermost, binder_row, place_row, root, behind, roots, below, binders_in, binders_in_node, binders_in_fields, type_uses, node_uses, field_uses, term_table, node_table, fields_table, letrec_rows, commands_table, table, binder_in, place_in, seen_in, visible_at}
 use Rattle.lam_scope.proofs.PlaceCounts.{type_places, inside-nameless}
 use Rattle.lam_scope.proofs.Reading.{map-reverse}
 

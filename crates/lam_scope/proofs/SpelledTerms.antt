@@ -4,7 +4,38 @@ use Rattle.lam_token.specs.declared.span.Span.{Span}
 use Rattle.lam_token.specs.Lexeme.{Lexeme, lexeme}
 use Rattle.lam_syntax.specs.Trees.{Bound, TypeTree, type_tree, TypeFields, TermTree, term_tree, TermNode, TermFields, CommandTree, definition, declaration, abbreviation, evaluation, type_span, term_span, spanning_type, spanning_term, from_to}
 use Rattle.lam_syntax.specs.Grammar.{BinderIs, name_binder, blank_binder, TypeIs, atype_type, arrow_type, ATypeIs, parens_atype, bool_atype, nat_atype, unit_atype, top_atype, name_atype, empty_atype, record_atype, TypeFieldsAre, last_type_field, more_type_fields, TermIs, lambda_is, if_is, let_is, letrec_is, app_is, AppIs, head_app, argument_app, HeadIs, path_head, fix_head, succ_head, pred_head, iszero_head, PathIs, asc_path, label_path, AscIs, atom_asc, typed_asc, AtomIs, parens_atom, true_atom, false_atom, unit_atom, name_atom, numeral_atom, empty_atom, record_atom, FieldsAre, last_field, more_fields, Spells, definition_command, declaration_command, abbreviation_command, evaluation_command}
-use Rattle.lam_scope.specs.Nesting.{StandsBetween, PartsStand, FieldsStand, CommandsStand, TokensStand, AreSpelledFrom}
+use Rattle.lam_scope.specs.Nesting.{TokensStand, AreSpelledFrom}
+
+-- a term that stands between two bytes, with its parts within it, each behind those before it
+abbrev mutual
+  pub StandsBetween : (low high : ℕ) → TermTree → Type 0
+  StandsBetween low high (term_tree s n) = (low ≤ s.start) × (s.start ≤ s.end) × (s.end ≤ high) × PartsStand s.start s.end n
+
+  -- the parts of a term, between two bytes
+  pub PartsStand : (low high : ℕ) → TermNode → Type 0
+  PartsStand low high (TermNode.lambda b u t) = StandsBetween low high t
+  PartsStand low high (TermNode.if_term c t u) = StandsBetween low high c × StandsBetween (term_span c).end high t × StandsBetween (term_span t).end high u
+  PartsStand low high (TermNode.let_term b t u) = StandsBetween low high t × StandsBetween (term_span t).end high u
+  PartsStand low high (TermNode.letrec_term b w t u) = StandsBetween low high t × StandsBetween (term_span t).end high u
+  PartsStand low high (TermNode.prefixed p t) = StandsBetween low high t
+  PartsStand low high (TermNode.apply t u) = StandsBetween low high t × StandsBetween (term_span t).end high u
+  PartsStand low high (TermNode.project t l) = StandsBetween low high t
+  PartsStand low high (TermNode.ascribe t u) = StandsBetween low high t
+  PartsStand low high (TermNode.record_term fs) = FieldsStand low high fs
+  PartsStand low high n = Unit {0}
+
+  -- the terms of a record, between two bytes
+  pub FieldsStand : (low high : ℕ) → TermFields → Type 0
+  FieldsStand low high TermFields.no_fields = Unit {0}
+  FieldsStand low high (TermFields.field l t fs) = StandsBetween low high t × FieldsStand (term_span t).end high fs
+
+-- the terms of commands, each behind those before it
+abbrev pub CommandsStand : (low : ℕ) → List CommandTree → Type 0
+CommandsStand low [] = Unit {0}
+CommandsStand low (definition w t ∷ cs) = StandsBetween low (term_span t).end t × CommandsStand (term_span t).end cs
+CommandsStand low (declaration w u ∷ cs) = CommandsStand low cs
+CommandsStand low (abbreviation w u ∷ cs) = CommandsStand low cs
+CommandsStand low (evaluation t ∷ cs) = StandsBetween low (term_span t).end t × CommandsStand (term_span t).end cs
 
 abbrev node_in : TermTree → TermNode
 node_in (term_tree s n) = n

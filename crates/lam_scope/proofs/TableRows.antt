@@ -17,7 +17,8 @@ use Rattle.lam_scope.specs.declared.rows.UseRow.{UseRow}
 use Rattle.lam_scope.specs.declared.rows.PlaceRow.{PlaceRow}
 use Rattle.lam_scope.specs.Names.{Name}
 use Rattle.lam_scope.specs.Slices.{AreInOrder}
-use Rattle.lam_scope.specs.Tables.{TextBinder, Table, ◌⊕◌, empty_table, Entry, entry, lambda_at, term_at, letrec_rows, innermost, bound_to, binder_row, use_row, place_row, root, behind, roots_of_fields, binders_in, binders_in_fields, below_fields, field_uses, term_table, fields_table, command_table, types_seen_after, names_seen_after, binders_in_command, places_in_command, commands_table}
+use Rattle.lam_scope.specs.Sights.{lambda_at, term_at}
+use Rattle.lam_scope.specs.Tables.{TextBinder, Table, ◌⊕◌, empty_table, Entry, entry, letrec_rows, innermost, bound_to, binder_row, use_row, place_row, root, behind, roots_of_fields, binders_in, binders_in_fields, below_fields, field_uses, term_table, fields_table, command_table, types_seen_after, names_seen_after, binders_in_command, places_in_command, commands_table}
 use Rattle.lam_scope.specs.TableViews.{binder_number, place_number, text_binder, text_use, text_place, text_places, terms_start, rows_table, originated, with_origin}
 use Rattle.lam_scope.proofs.Resolving.{commands-drop}
 use Rattle.lam_scope.proofs.Slices.{in_order-longer, in_order-pushed, sliced-pushed}

@@ -1,5 +1,5 @@
 -- Lists that a walk over terms adds to.
-use Rattle.std.proofs.Common.{◌≡◌, ℕ, ◌+◌, ◌<◌, List, [], ◌∷◌, ◌++◌, length, drop, get_or, suc, refl, ap, sym, drop-cons, add-one, append_assoc, map, Bor}
+use Rattle.std.proofs.Common.{◌≡◌, ℕ, ◌+◌, ◌<◌, List, [], ◌∷◌, ◌++◌, length, drop, get_or, suc, refl, ap, sym, drop-cons, add-one, append_assoc, Bor}
 use Rattle.std.proofs.lemmas.List.{append-nil}
 use Rattle.lam_syntax.specs.declared.terms.TmField.{TmField}
 use Rattle.lam_syntax.specs.declared.types.WrittenTy.{WrittenTy}

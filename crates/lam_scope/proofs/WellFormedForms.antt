@@ -4,7 +4,7 @@ use Rattle.std.specs.Option.{option_map}
 use Rattle.std.specs.Str.{bytes_eq}
 use Rattle.std.proofs.lemmas.Slice.Eq.{bytes_eq-Decides}
 use Rattle.lam_rules.specs.Types as rules
-use Rattle.lam_rules.specs.Types.{Typ, Fields, Label, IsWellFormed, AreWellFormed, IsAbsent}
+use Rattle.lam_rules.specs.Types.{Typ, Fields, Label, AreWellFormed, IsAbsent}
 use Rattle.lam_rules.specs.Typing.{IsWellFormedEntry}
 use Rattle.lam_syntax.specs.declared.terms.Prefix.{Prefix}
 use Rattle.lam_syntax.specs.declared.terms.Prefix.TheVariants as prefix

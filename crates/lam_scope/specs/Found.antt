@@ -34,11 +34,6 @@ terms_stated (declares w) = []
 terms_stated (abbreviates w) = []
 terms_stated (states e) = terms_at e
 
--- the terms at the places of statements
-abbrev pub terms_in : List Statement → List Term
-terms_in [] = []
-terms_in (s ∷ ss) = terms_stated s ++ terms_in ss
-
 -- what a search among terms comes to: the term of the number that was sought, or how far behind them it is
 pub data Sought : Type 0 where
   here : Term → Sought

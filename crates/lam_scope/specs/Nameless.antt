@@ -1,5 +1,6 @@
 -- The document without names: each use is a count of binders, each written type its expansion.
 use Rattle.std.specs.Prelude.{ℕ, List, [], ◌∷◌, ◌++◌, Option, Some, None, if◌then◌else◌}
+use Rattle.std.specs.Option.{option_or}
 use Rattle.lam_token.specs.declared.span.Span.{Span}
 use Rattle.lam_rules.specs.Terms.{Term, true_term, false_term, if_then_else, numeral, succ, pred, is_zero, variable, free, lambda, apply, unit_term, ascribe, let_in, record_term, project, fix, TermFields, no_terms, term_field, letrec_in}
 use Rattle.lam_syntax.specs.declared.terms.Prefix.{Prefix}
@@ -118,12 +119,7 @@ abbrev pub faults : List Abbreviation → List CommandTree → List TypeFault
 faults bs [] = []
 faults bs (c ∷ cs) = faults_in bs (written_in_command c) ++ faults (abbreviations_after bs c) cs
 
--- one that is there, else another
-abbrev pub or_else : Option Span → Option Span → Option Span
-or_else None o = o
-or_else (Some s) o = Some s
-
 -- the first written type of a document whose expansion has too many nodes
 abbrev pub first_too_large : List Abbreviation → List CommandTree → Option Span
 first_too_large bs [] = None
-first_too_large bs (c ∷ cs) = or_else (first_over_limit bs (written_in_command c)) (first_too_large (abbreviations_after bs c) cs)
+first_too_large bs (c ∷ cs) = option_or (first_over_limit bs (written_in_command c)) (first_too_large (abbreviations_after bs c) cs)

@@ -3,7 +3,7 @@ use Rattle.std.specs.Prelude.{ℕ, ◌≤◌, ◌≡◌, ◌⊎◌, true, List, 
 use Rattle.lam_token.specs.declared.span.Span.{Span}
 use Rattle.lam_token.specs.Lexeme.{Lexeme, lexeme}
 use Rattle.lam_syntax.specs.Grammar.{Spells}
-use Rattle.lam_syntax.specs.Trees.{TermTree, term_tree, TermNode, lambda, if_term, let_term, letrec_term, prefixed, apply, project, ascribe, record_term, TermFields, no_fields, field, CommandTree, definition, declaration, abbreviation, evaluation, term_span}
+use Rattle.lam_syntax.specs.Trees.{CommandTree}
 use Rattle.lam_scope.specs.Tables.{TextPlace, Table, is_over, place_row_numbered}
 
 -- one span within another
@@ -27,37 +27,6 @@ AreNested (p ∷ ps) = NestsInAll p ps × AreNested ps
 -- each place that has a byte is around this one
 abbrev pub IsInnermost : (offset : ℕ) → Table → ℕ → Type 0
 IsInnermost o t p = (q : ℕ) → is_over o (place_row_numbered t q) ≡ true → IsWithin (place_row_numbered t p).span (place_row_numbered t q).span
-
--- a term that stands between two bytes, with its parts within it, each behind those before it
-abbrev mutual
-  pub StandsBetween : (low high : ℕ) → TermTree → Type 0
-  StandsBetween low high (term_tree s n) = (low ≤ s.start) × (s.start ≤ s.end) × (s.end ≤ high) × PartsStand s.start s.end n
-
-  -- the parts of a term, between two bytes
-  pub PartsStand : (low high : ℕ) → TermNode → Type 0
-  PartsStand low high (lambda b u t) = StandsBetween low high t
-  PartsStand low high (if_term c t u) = StandsBetween low high c × StandsBetween (term_span c).end high t × StandsBetween (term_span t).end high u
-  PartsStand low high (let_term b t u) = StandsBetween low high t × StandsBetween (term_span t).end high u
-  PartsStand low high (letrec_term b w t u) = StandsBetween low high t × StandsBetween (term_span t).end high u
-  PartsStand low high (prefixed p t) = StandsBetween low high t
-  PartsStand low high (apply t u) = StandsBetween low high t × StandsBetween (term_span t).end high u
-  PartsStand low high (project t l) = StandsBetween low high t
-  PartsStand low high (ascribe t u) = StandsBetween low high t
-  PartsStand low high (record_term fs) = FieldsStand low high fs
-  PartsStand low high n = Unit {0}
-
-  -- the terms of a record, between two bytes
-  pub FieldsStand : (low high : ℕ) → TermFields → Type 0
-  FieldsStand low high no_fields = Unit {0}
-  FieldsStand low high (field l t fs) = StandsBetween low high t × FieldsStand (term_span t).end high fs
-
--- the terms of commands, each behind those before it
-abbrev pub CommandsStand : (low : ℕ) → List CommandTree → Type 0
-CommandsStand low [] = Unit {0}
-CommandsStand low (definition w t ∷ cs) = StandsBetween low (term_span t).end t × CommandsStand (term_span t).end cs
-CommandsStand low (declaration w u ∷ cs) = CommandsStand low cs
-CommandsStand low (abbreviation w u ∷ cs) = CommandsStand low cs
-CommandsStand low (evaluation t ∷ cs) = StandsBetween low (term_span t).end t × CommandsStand (term_span t).end cs
 
 -- tokens between two bytes, each behind those before it
 abbrev pub TokensStand : (low : ℕ) → List Lexeme → (high : ℕ) → Type 0

@@ -1,11 +1,13 @@
 -- What the names of a document are bound to: its binders, uses and places by number, each kind in its order.
 use Rattle.std.specs.Prelude.{ℕ, zero, suc, ◌+◌, List, [], ◌∷◌, ◌++◌, map, Bool, true, false, ◌==◌, Option, Some, None, if◌then◌else◌, length, get_or, reverse, filter, position, codes}
+use Rattle.std.specs.Option.{option_or}
 use Rattle.std.proofs.Math.Dec.{ltb}
 use Rattle.lam_token.specs.declared.span.Span.{Span}
 use Rattle.lam_syntax.specs.Trees.{word, bound, TypeTree, type_tree, TypeNode, named, arrow, record_type, TypeFields, no_type_fields, type_field, TermTree, term_tree, TermNode, variable, lambda, if_term, let_term, letrec_term, prefixed, apply, project, ascribe, record_term, TermFields, no_fields, field, CommandTree, definition, declaration, abbreviation, evaluation, term_span}
 use Rattle.lam_scope.specs.declared.numbers.Origin.{Origin}
-use Rattle.lam_scope.specs.declared.numbers.Origin.TheVariants.{Lambda, Term, Declaration, TypeName}
+use Rattle.lam_scope.specs.declared.numbers.Origin.TheVariants.{Declaration, TypeName}
 use Rattle.lam_scope.specs.Names.{Name, binds}
+use Rattle.lam_scope.specs.Sights.{lambda_at, term_at}
 
 -- A binder of names or of type names, in the order of the text. A letrec's token is two: the derived lambda's, and the let's behind it.
 pub record TextBinder : Type 0 where
@@ -180,14 +182,6 @@ roots k (ascribe t u) = root k t ∷ []
 roots k (record_term fs) = roots_of_fields k fs
 roots k node = []
 
--- the origin of the binder of the lambda at a place
-abbrev pub lambda_at : ℕ → Origin
-lambda_at k = Lambda (record { 0 = k })
-
--- the origin of a binder that takes its type from the term at a place
-abbrev pub term_at : ℕ → Origin
-term_at k = Term (record { 0 = k })
-
 -- what stands before the body of a letrec: its two binders, its type, its first term, whose place is p, and the places of its lambda and fix
 abbrev pub letrec_rows : Option Name → Span → (names : List Entry) → (n p : ℕ) → Span → (type term : Table) → Table
 letrec_rows x r names n p s u t =
@@ -324,14 +318,9 @@ abbrev pub binder_used_at : ℕ → List TextUse → Option ℕ
 binder_used_at o [] = None
 binder_used_at o (u ∷ us) = if u.token.start == o then u.binder else binder_used_at o us
 
--- the first of two binders, where there is one, or else the second
-abbrev pub first_of : Option ℕ → Option ℕ → Option ℕ
-first_of None b = b
-first_of (Some a) b = Some a
-
 -- the binder that the name or type name that starts at byte o is or uses
 abbrev pub binder_at : Table → ℕ → Option ℕ
-binder_at t o = first_of (binder_token_at o t.binders) (binder_used_at o t.uses)
+binder_at t o = option_or (binder_token_at o t.binders) (binder_used_at o t.uses)
 
 -- whether a use is of the binder of this number
 abbrev pub is_use_of : ℕ → TextUse → Bool

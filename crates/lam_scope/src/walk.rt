@@ -4,7 +4,8 @@ ghost use Rattle.std.specs.Prelude.{◌≡◌, ◌∷◌, [], ◌+◌, ◌<◌, 
 ghost use Rattle.std.specs.Option.{option_map};
 ghost use Rattle.lam_syntax.specs.Trees.{lambda, if_term, let_term, letrec_term, apply};
 ghost use Rattle.lam_syntax.specs.Views.{bound_of, type_of, type_fields_of, term_of, term_node_of, fields_of, command_of};
-ghost use Rattle.lam_scope.specs.Tables.{◌⊕◌, entry, binder_row, place_row, lambda_at, term_at, root, behind, roots, roots_of_fields, binders_in, binders_in_node, binders_in_fields, below_node, below_fields, type_uses, field_uses, term_table, node_table, letrec_rows, fields_table, command_table, types_seen_after, names_seen_after, binders_in_command, places_in_command};
+ghost use Rattle.lam_scope.specs.Sights.{lambda_at, term_at};
+ghost use Rattle.lam_scope.specs.Tables.{◌⊕◌, entry, binder_row, place_row, root, behind, roots, roots_of_fields, binders_in, binders_in_node, binders_in_fields, below_node, below_fields, type_uses, field_uses, term_table, node_table, letrec_rows, fields_table, command_table, types_seen_after, names_seen_after, binders_in_command, places_in_command};
 ghost use Rattle.lam_scope.specs.TableViews.{place_number, rows_of, entry_of, with_origin};
 
 use crate::names::name_of;
@@ -17,6 +18,10 @@ use lam_syntax::{
 };
 use lam_token::Span;
 use std::alloc::{AllocError, Global};
+
+/// What stands for the origin of a binder of a name until the walk has gone over the term that gives it a type, or is
+/// its lambda: only then that place has its number.
+const NOT_YET_KNOWN: Origin = Origin::TypeName;
 
 /// Adds the uses of type names in a written type.
 #[cycle(types)]
@@ -301,7 +306,7 @@ fn walk_bound<'a>(
     ensures names { OnOk result (names.new ≡ names.old) }
 {
     let number = Binder(rows.binder_count());
-    rows.add_binder(alloc, name, token, names, number, Origin::TypeName)?;
+    rows.add_binder(alloc, name, token, names, number, NOT_YET_KNOWN)?;
     let place = walk_term(alloc, rows, types, names, bound)?;
     rows.set_origin(number, Origin::Term(place));
     Ok(place)
@@ -326,7 +331,7 @@ fn walk_lambda<'a>(
     let number = Binder(rows.binder_count());
     let seen = seen_as(&term.binder, number.0);
     let token = term.binder.span;
-    rows.add_binder(alloc, seen.name, token, names, number, Origin::TypeName)?;
+    rows.add_binder(alloc, seen.name, token, names, number, NOT_YET_KNOWN)?;
     walk_type(alloc, rows, types, &term.ty)?;
     let place = walk_under(alloc, rows, types, names, &term.body, seen)?;
     rows.set_origin(number, Origin::Lambda(Place(rows.place_count())));
@@ -358,8 +363,8 @@ fn walk_fix<'a>(
         answer: of_let,
     };
     let token = term.binder.span;
-    rows.add_binder(alloc, seen.name, token, names, of_let, Origin::TypeName)?;
-    rows.add_binder(alloc, seen.name, token, names, of_let, Origin::TypeName)?;
+    rows.add_binder(alloc, seen.name, token, names, of_let, NOT_YET_KNOWN)?;
+    rows.add_binder(alloc, seen.name, token, names, of_let, NOT_YET_KNOWN)?;
     walk_type(alloc, rows, types, &term.ty)?;
     let place = walk_under(alloc, rows, types, names, &term.bound, seen)?;
     let fixed = add_derived(rows, names, term.bound.span, place, of_lambda, of_let)?;

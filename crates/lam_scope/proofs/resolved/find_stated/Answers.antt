@@ -1,8 +1,8 @@
 use Rattle.std.proofs.Common.{◌∙◌, ap, ◌+◌, map, drop}
 use Rattle.std.proofs.lemmas.List.{drop_all}
-use Rattle.lam_scope.specs.Found.{seek, terms_in}
+use Rattle.lam_scope.specs.Found.{seek}
 use Rattle.lam_scope.specs.Views.{statement_of}
-use Rattle.lam_scope.proofs.PlaceTerms.{sought_here, sought_behind, sought_nowhere, statements-drop}
+use Rattle.lam_scope.proofs.PlaceTerms.{terms_in, sought_here, sought_behind, sought_nowhere, statements-drop}
 use Rattle.lam_scope.proofs.resolved.find_stated.Goals as goal
 
 pub returns-in-Here : goal.returns-in-Here

@@ -1,6 +1,7 @@
 use Rattle.std.proofs.Common.{◌≡◌, map, drop}
-use Rattle.lam_scope.specs.Found.{seek, terms_in}
+use Rattle.lam_scope.specs.Found.{seek}
 use Rattle.lam_scope.specs.Views.{statement_of}
+use Rattle.lam_scope.proofs.PlaceTerms.{terms_in}
 use Rattle.lam_scope.proofs.resolved.find_stated.Given as goal
 
 abbrev pub invariant-loop-i : goal.invariant-loop-i

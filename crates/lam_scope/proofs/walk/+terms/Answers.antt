@@ -2,7 +2,8 @@ use Rattle.std.proofs.Common.{sym, ◌∙◌, ap, length, ◌≡◌, ◌+◌, �
 use Rattle.std.specs.Option.{option_map}
 use Rattle.lam_syntax.specs.Views.{term_of}
 use Rattle.lam_scope.specs.declared.numbers.Origin.TheVariants.{TypeName}
-use Rattle.lam_scope.specs.Tables.{◌⊕◌, entry, root, behind, lambda_at, term_at, binder_row, term_table}
+use Rattle.lam_scope.specs.Sights.{lambda_at, term_at}
+use Rattle.lam_scope.specs.Tables.{◌⊕◌, entry, root, behind, binder_row, term_table}
 use Rattle.std.proofs.lemmas.List.{length-map}
 use Rattle.lam_scope.specs.TableViews.{rows_of, text_binder}
 use Rattle.lam_scope.proofs.TableRows.{fields_more, roots_more, binders_more, places_more, fields_walked, bound_rows, lambda_rows, letrec_walked}
