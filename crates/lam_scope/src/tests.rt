@@ -1,5 +1,5 @@
 //! Rows: documents, what their names are bound to, and what their written types stand for.
-use crate::{Binder, Place, ScopeFault, TypeFault, bind, resolve};
+use crate::{Binder, Origin, Place, ScopeFault, TypeFault, bind, resolve};
 use lam_syntax::{Command, parse, pieces};
 use lam_token::{Span, lex};
 use std::alloc::Global;
@@ -222,15 +222,23 @@ fn expansions_have_a_limit(rt: HostRuntime) -> Result<(), Fail> {
 }
 
 #[test]
-fn nameless_forms_count_binders(rt: HostRuntime) -> Result<(), Fail> {
+fn binders_take_their_types_from_places_and_statements(rt: HostRuntime) -> Result<(), Fail> {
     let alloc = rt.alloc();
-    let commands = commands_of(&rt, alloc, "x = 0; T = Nat; lambda _:T. lambda y:T. x y z")?;
+    let text = "x = 0; T = Nat; y : T; lambda _:T. let z = x in z";
+    let commands = commands_of(&rt, alloc, text)?;
     let scopes = bind(alloc, &commands)?;
     let resolved = resolve(alloc, &commands, &scopes)
         .ok()
         .expect(&rt, "its forms");
-    assert_eq!(rt; resolved.statements().len(), 3);
-    assert_eq!(rt; resolved.origins().len(), 4);
+    let origins = [
+        Origin::Term(Place(0)),
+        Origin::TypeName,
+        Origin::Declaration(2),
+        Origin::Lambda(Place(4)),
+        Origin::Term(Place(1)),
+    ];
+    assert_eq!(rt; resolved.statements().len(), 4);
+    assert_eq!(rt; resolved.origins(), origins.as_slice());
     Ok(())
 }
 
