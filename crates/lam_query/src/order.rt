@@ -1,5 +1,5 @@
 //! The order of faults.
-ghost use Rattle.std.specs.Prelude.{◌≡◌, map, OnOk};
+ghost use Rattle.std.specs.Prelude.{map, OnOk};
 ghost use Rattle.lam_query.specs.Faults.{AreInOrder};
 ghost use Rattle.lam_query.specs.Views.{fault_of};
 

@@ -3,11 +3,11 @@ ghost use Rattle.std.specs.Prelude.{◌≡◌, ℕ, ◌+◌, ◌++◌, map, leng
 ghost use Rattle.std.specs.Option.{option_map};
 ghost use Rattle.lam_rules.specs.SubViews.{sub_tree_of, sub_trees_of};
 ghost use Rattle.lam_rules.specs.TypingViews.{typing_tree_of, typings_of};
+ghost use Rattle.lam_scope.specs.Tables.{place_row_numbered};
 ghost use Rattle.lam_scope.specs.TableViews.{place_number};
 ghost use Rattle.lam_scope.specs.Views.{table_of};
 ghost use Rattle.lam_query.specs.declared.answers.Step.{Step as RustStep};
 ghost use Rattle.lam_query.specs.Steps.{Proofs, steps_of, steps_before, sub_proof, sub_proofs, with_side, is_sub, premise_places, typing_proof, typing_proofs};
-ghost use Rattle.lam_scope.specs.Tables.{place_row_numbered};
 ghost use Rattle.lam_query.specs.Within.{StandsIn};
 ghost use Rattle.lam_query.specs.Views.{step_of, StepStandsIn};
 ghost use Rattle.lam_query.specs.Listing.{AreListed};
@@ -18,7 +18,7 @@ use lam_scope::{Place, Scopes};
 use std::alloc::{AllocError, Global};
 
 /// The steps of a proof about the term at a place, each behind those of its premises; the last one concludes the proof.
-pub fn steps_of_proof(
+pub(crate) fn steps_of_proof(
     alloc: Global,
     scopes: &Scopes,
     place: Place,
