@@ -24,7 +24,8 @@ use Rattle.lam_query.specs.Sizes.{IsSizeFault, of_written_type, of_place}
 use Rattle.lam_query.specs.SyntaxFaults.{fault_of_token, PieceFault, too_long, spoiled, a_command, goes_wrong, ends_early, PieceFaults, AreSyntaxFaults}
 use Rattle.lam_query.specs.TextFaults.{written_fault, blame_fault, AreTypeFaults, too_large, small}
 use Rattle.lam_query.specs.Views.{fault_of}
-use Rattle.lam_query.specs.Within.{StandsIn, InCommands}
+use Rattle.lam_query.specs.Within.{StandsIn}
+use Rattle.lam_query.proofs.TreePlaces.{InCommands}
 use Rattle.lam_query.proofs.Spans.{InTokens, Spreads}
 use Rattle.lam_query.proofs.TextPlaces.{InPieces, in_pieces, tokens_stand, stands_spread}
 use Rattle.lam_query.proofs.Within.{InFaults, in_faults, in_place, in_too_large}

@@ -3,6 +3,7 @@ pub mod Flat
 pub mod Ordered
 pub mod Small
 pub mod Hovering
+pub mod TreePlaces
 pub mod Spans
 pub mod Within
 pub mod Collected

@@ -9,7 +9,8 @@ use Rattle.lam_token.specs.Cut as token
 use Rattle.lam_syntax.specs.Trees.{CommandTree}
 use Rattle.lam_syntax.specs.Answers.{is_semicolon, onto_first, runs_of, has_tokens, pieces_of}
 use Rattle.lam_query.specs.Commands.{AreCommandsOf}
-use Rattle.lam_query.specs.Within.{StandsIn, InCommands}
+use Rattle.lam_query.specs.Within.{StandsIn}
+use Rattle.lam_query.proofs.TreePlaces.{InCommands}
 use Rattle.lam_query.proofs.Spans.{InTokens, Spreads, in_command}
 
 abbrev pub InPieces : (Span → Type 0) → List (List Lexeme) → Type 0

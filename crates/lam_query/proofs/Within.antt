@@ -1,15 +1,17 @@
 -- The places of a document's table, and of its faults, are those in the trees of its commands.
 use Rattle.std.proofs.Common.{◌≡◌, ℕ, zero, suc, ◌+◌, List, [], ◌∷◌, ◌++◌, get_or, Bool, true, false, if◌then◌else◌, Option, Some, None, refl}
+use Rattle.std.specs.Option.{option_or}
 use Rattle.lam_token.specs.declared.span.Span.{Span}
 use Rattle.lam_syntax.specs.Trees.{word, bound, TypeTree, type_tree, TypeNode, bool, nat, unit, top, named, arrow, record_type, TypeFields, no_type_fields, type_field, joined_types, TermTree, term_tree, TermNode, true_term, false_term, unit_term, variable, numeral, lambda, if_term, let_term, letrec_term, prefixed, apply, project, ascribe, record_term, TermFields, no_fields, field, CommandTree, definition, declaration, abbreviation, evaluation, type_span, term_span}
 use Rattle.lam_scope.specs.Expansions.{Abbreviation, expansion, is_bound, has_label, label_fault, type_faults, node_faults, field_faults, is_over_limit}
-use Rattle.lam_scope.specs.Nameless.{written_in, written_in_node, written_in_fields, written_in_command, faults_in, first_over_limit, faults, or_else, first_too_large, abbreviations_after}
+use Rattle.lam_scope.specs.Nameless.{written_in, written_in_node, written_in_fields, written_in_command, faults_in, first_over_limit, faults, first_too_large, abbreviations_after}
 use Rattle.lam_scope.specs.declared.fault.TypeFault.{TypeFault}
 use Rattle.lam_scope.specs.declared.fault.TypeFault.TheVariants.{UnboundTypeName, RepeatedLabel}
 use Rattle.lam_scope.specs.declared.numbers.Origin.TheVariants.{Declaration, TypeName}
 use Rattle.lam_scope.specs.Names.{Name}
-use Rattle.lam_scope.specs.Tables.{Entry, entry, TextPlace, Table, ◌⊕◌, binder_row, place_row, letrec_rows, binders_in, root, behind, type_uses, node_uses, field_uses, term_table, node_table, fields_table, command_table, types_seen_after, names_seen_after, binders_in_command, places_in_command, commands_table, table, roots, lambda_at, term_at, no_span, place_row_numbered}
-use Rattle.lam_query.specs.Within.{InType, InTypeNode, InTypeFields, InTerm, InNode, InFields, InCommand, InCommands}
+use Rattle.lam_scope.specs.Sights.{lambda_at, term_at}
+use Rattle.lam_scope.specs.Tables.{Entry, entry, TextPlace, Table, ◌⊕◌, binder_row, place_row, letrec_rows, binders_in, root, behind, type_uses, node_uses, field_uses, term_table, node_table, fields_table, command_table, types_seen_after, names_seen_after, binders_in_command, places_in_command, commands_table, table, roots, no_span, place_row_numbered}
+use Rattle.lam_query.proofs.TreePlaces.{InType, InTypeNode, InTypeFields, InTerm, InNode, InFields, InCommand, InCommands}
 use Rattle.lam_query.proofs.Spans.{type_place, term_place}
 
 -- the rows of a table
@@ -80,7 +82,7 @@ mutual
   in_node_rows Q types names n k (numeral (word x r)) h = tt
   in_node_rows Q types names n k (lambda (bound b r) u t) h =
       in_tables Q (binder_row b r names n (lambda_at (behind k t)) ⊕ type_uses types u) (term_table types (entry b n n ∷ names) (n + 1) k t)
-      (in_tables Q (binder_row b r names n (lambda_at (behind k t))) (type_uses types u) tt (in_type_rows Q types u)) (in_term_rows Q types (entry b n n ∷ names) (n + 1) k t h.1)
+      (in_tables Q (binder_row b r names n (lambda_at (behind k t))) (type_uses types u) tt (in_type_rows Q types u)) (in_term_rows Q types (entry b n n ∷ names) (n + 1) k t h.2)
   in_node_rows Q types names n k (if_term c t u) h =
       in_tables Q (term_table types names n k c ⊕ term_table types names (n + binders_in c) (behind k c) t)
       (term_table types names (n + binders_in c + binders_in t) (behind (behind k c) t) u)
@@ -90,19 +92,19 @@ mutual
   in_node_rows Q types names n k (let_term (bound b r) t u) h =
       in_tables Q (binder_row b r names n (term_at (root k t)) ⊕ term_table types names (n + 1) k t)
       (term_table types (entry b n n ∷ names) (n + 1 + binders_in t) (behind k t) u)
-      (in_tables Q (binder_row b r names n (term_at (root k t))) (term_table types names (n + 1) k t) tt (in_term_rows Q types names (n + 1) k t h.0))
-      (in_term_rows Q types (entry b n n ∷ names) (n + 1 + binders_in t) (behind k t) u h.1)
+      (in_tables Q (binder_row b r names n (term_at (root k t))) (term_table types names (n + 1) k t) tt (in_term_rows Q types names (n + 1) k t h.1))
+      (in_term_rows Q types (entry b n n ∷ names) (n + 1 + binders_in t) (behind k t) u h.2)
   in_node_rows Q types names n k (letrec_term (bound b r) w t u) h =
       in_tables Q (letrec_rows b r names n (root k t) (term_span t) (type_uses types w) (term_table types (entry b n (n + 1) ∷ names) (n + 2) k t))
       (term_table types (entry b (n + 1) (n + 1) ∷ names) (n + 2 + binders_in t) (root k t + 3) u)
       (in_letrec_rows Q b r names n (root k t) (term_span t) (type_uses types w) (term_table types (entry b n (n + 1) ∷ names) (n + 2) k t)
-      (term_place Q t h.1) (in_type_rows Q types w) (in_term_rows Q types (entry b n (n + 1) ∷ names) (n + 2) k t h.1))
-      (in_term_rows Q types (entry b (n + 1) (n + 1) ∷ names) (n + 2 + binders_in t) (root k t + 3) u h.2)
+      (term_place Q t h.2) (in_type_rows Q types w) (in_term_rows Q types (entry b n (n + 1) ∷ names) (n + 2) k t h.2))
+      (in_term_rows Q types (entry b (n + 1) (n + 1) ∷ names) (n + 2 + binders_in t) (root k t + 3) u h.3)
   in_node_rows Q types names n k (prefixed p t) h = in_term_rows Q types names n k t h
   in_node_rows Q types names n k (apply t u) h =
       in_tables Q (term_table types names n k t) (term_table types names (n + binders_in t) (behind k t) u)
       (in_term_rows Q types names n k t h.0) (in_term_rows Q types names (n + binders_in t) (behind k t) u h.1)
-  in_node_rows Q types names n k (project t l) h = in_term_rows Q types names n k t h
+  in_node_rows Q types names n k (project t l) h = in_term_rows Q types names n k t h.0
   in_node_rows Q types names n k (ascribe t u) h =
       in_tables Q (term_table types names n k t) (type_uses types u) (in_term_rows Q types names n k t h.0) (in_type_rows Q types u)
   in_node_rows Q types names n k (record_term fs) h = in_field_rows Q types names n k fs h
@@ -111,11 +113,11 @@ mutual
   in_field_rows Q types names n k no_fields h = tt
   in_field_rows Q types names n k (field l t fs) h =
       in_tables Q (term_table types names n k t) (fields_table types names (n + binders_in t) (behind k t) fs)
-      (in_term_rows Q types names n k t h.0) (in_field_rows Q types names (n + binders_in t) (behind k t) fs h.1)
+      (in_term_rows Q types names n k t h.1) (in_field_rows Q types names (n + binders_in t) (behind k t) fs h.2)
 
 in_command_rows : (Q : Span → Type 0) (types names : List Entry) (n k i : ℕ) (c : CommandTree) → InCommand Q c → InRows Q (command_table types names n k i c).places
 in_command_rows Q types names n k i (definition (word x r) t) h =
-    in_tables Q (binder_row (Some x) r names n (term_at (root k t))) (term_table types names (n + 1) k t) tt (in_term_rows Q types names (n + 1) k t h)
+    in_tables Q (binder_row (Some x) r names n (term_at (root k t))) (term_table types names (n + 1) k t) tt (in_term_rows Q types names (n + 1) k t h.1)
 in_command_rows Q types names n k i (declaration (word x r) u) h = in_tables Q (binder_row (Some x) r names n (Declaration i)) (type_uses types u) tt (in_type_rows Q types u)
 in_command_rows Q types names n k i (abbreviation (word x r) u) h = in_tables Q (binder_row (Some x) r types n TypeName) (type_uses types u) tt (in_type_rows Q types u)
 in_command_rows Q types names n k i (evaluation t) h = in_term_rows Q types names n k t h
@@ -192,26 +194,26 @@ mutual
   in_written_node Q unit_term h = tt
   in_written_node Q (variable x) h = tt
   in_written_node Q (numeral x) h = tt
-  in_written_node Q (lambda b u t) h = (h.0, in_written Q t h.1)
+  in_written_node Q (lambda b u t) h = (h.1, in_written Q t h.2)
   in_written_node Q (if_term c t u) h =
       in_both_types Q (written_in c ++ written_in t) (written_in u)
       (in_both_types Q (written_in c) (written_in t) (in_written Q c h.0) (in_written Q t h.1)) (in_written Q u h.2)
-  in_written_node Q (let_term b t u) h = in_both_types Q (written_in t) (written_in u) (in_written Q t h.0) (in_written Q u h.1)
-  in_written_node Q (letrec_term b w t u) h = (h.0, in_both_types Q (written_in t) (written_in u) (in_written Q t h.1) (in_written Q u h.2))
+  in_written_node Q (let_term b t u) h = in_both_types Q (written_in t) (written_in u) (in_written Q t h.1) (in_written Q u h.2)
+  in_written_node Q (letrec_term b w t u) h = (h.1, in_both_types Q (written_in t) (written_in u) (in_written Q t h.2) (in_written Q u h.3))
   in_written_node Q (prefixed p t) h = in_written Q t h
   in_written_node Q (apply t u) h = in_both_types Q (written_in t) (written_in u) (in_written Q t h.0) (in_written Q u h.1)
-  in_written_node Q (project t l) h = in_written Q t h
+  in_written_node Q (project t l) h = in_written Q t h.0
   in_written_node Q (ascribe t u) h = in_both_types Q (written_in t) (u ∷ []) (in_written Q t h.0) (h.1, tt)
   in_written_node Q (record_term fs) h = in_written_fields Q fs h
 
   in_written_fields : (Q : Span → Type 0) (fs : TermFields) → InFields Q fs → InTypes Q (written_in_fields fs)
   in_written_fields Q no_fields h = tt
-  in_written_fields Q (field l t fs) h = in_both_types Q (written_in t) (written_in_fields fs) (in_written Q t h.0) (in_written_fields Q fs h.1)
+  in_written_fields Q (field l t fs) h = in_both_types Q (written_in t) (written_in_fields fs) (in_written Q t h.1) (in_written_fields Q fs h.2)
 
 in_written_command : (Q : Span → Type 0) (c : CommandTree) → InCommand Q c → InTypes Q (written_in_command c)
-in_written_command Q (definition x t) h = in_written Q t h
-in_written_command Q (declaration x u) h = (h, tt)
-in_written_command Q (abbreviation x u) h = (h, tt)
+in_written_command Q (definition x t) h = in_written Q t h.1
+in_written_command Q (declaration x u) h = (h.1, tt)
+in_written_command Q (abbreviation x u) h = (h.1, tt)
 in_written_command Q (evaluation t) h = in_written Q t h
 
 in_faults_in : (Q : Span → Type 0) (bs : List Abbreviation) (us : List TypeTree) → InTypes Q us → InFaults Q (faults_in bs us)
@@ -239,14 +241,14 @@ in_first_over Q bs [] h = tt
 in_first_over Q bs (u ∷ us) h =
     in_if_over Q (is_over_limit (expansion bs u)) (Some (type_span u)) (first_over_limit bs us) (type_place Q u h.0) (in_first_over Q bs us h.1)
 
-in_or_else : (Q : Span → Type 0) (x y : Option Span) → InOption Q x → InOption Q y → InOption Q (or_else x y)
-in_or_else Q None y p q = q
-in_or_else Q (Some s) y p q = p
+in_one_or_other : (Q : Span → Type 0) (x y : Option Span) → InOption Q x → InOption Q y → InOption Q (option_or x y)
+in_one_or_other Q None y p q = q
+in_one_or_other Q (Some s) y p q = p
 
 in_first : (Q : Span → Type 0) (bs : List Abbreviation) (cs : List CommandTree) → InCommands Q cs → InOption Q (first_too_large bs cs)
 in_first Q bs [] h = tt
 in_first Q bs (c ∷ cs) h =
-    in_or_else Q (first_over_limit bs (written_in_command c)) (first_too_large (abbreviations_after bs c) cs)
+    in_one_or_other Q (first_over_limit bs (written_in_command c)) (first_too_large (abbreviations_after bs c) cs)
     (in_first_over Q bs (written_in_command c) (in_written_command Q c h.0)) (in_first Q (abbreviations_after bs c) cs h.1)
 
 pub in_too_large : (Q : Span → Type 0) (cs : List CommandTree) (s : Span) → first_too_large [] cs ≡ Some s → InCommands Q cs → Q s
