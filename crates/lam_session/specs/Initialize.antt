@@ -1,5 +1,6 @@
 -- What `initialize` settles: the unit of columns, and what the server says that it can do.
 use Rattle.std.specs.Prelude.{ℕ, List, codes, true, if◌then◌else◌, Option, Some, None, option_and_then, unwrap_or}
+use Rattle.std.specs.Option.{option_or}
 use Rattle.std.specs.Str.{bytes_eq}
 use Rattle.serde_json.specs.Data.{Data, boolean, number, unsigned, string, object, Items, no_items, item, member, no_members}
 use Rattle.serde_json.specs.Find.{get, as_array, as_str}
@@ -31,15 +32,10 @@ offered params =
 abbrev pub encoding_of : Data → Option Encoding
 encoding_of offer = option_and_then encoding_named (as_str offer)
 
--- the earlier of two, where there is one, or else the later
-abbrev pub or_else : Option Encoding → Option Encoding → Option Encoding
-or_else None later = later
-or_else (Some encoding) later = Some encoding
-
 -- the first offer that names an encoding
 abbrev pub first_known : Items → Option Encoding
 first_known no_items = None
-first_known (item offer offers) = or_else (encoding_of offer) (first_known offers)
+first_known (item offer offers) = option_or (encoding_of offer) (first_known offers)
 
 -- the unit that is chosen: that of the first such offer; without one columns count UTF-16 units, as the protocol has it
 abbrev pub chosen : Data → Encoding
