@@ -113,95 +113,99 @@ fn bodies(alloc: Global, input: &[u8], step: usize) -> Result<(Vec<u8>, Option<F
     Ok((seen, Some(FrameFault::TooManyTurns)))
 }
 
+/// An input, its bodies, each with a `|` behind it, and the fault at their end.
+type Row = (&'static [u8], &'static [u8], Option<FrameFault>);
+
+static INPUTS: [Row; 24] = [
+    (b"", b"", None),
+    (b"Content-Length: 2\r\n\r\n{}", b"{}|", None),
+    (b"content-length: \t2 \r\n\r\n{}", b"{}|", None),
+    (
+        b"X: y\r\nCONTENT-LENGTH:007\r\n\r\n1234567",
+        b"1234567|",
+        None,
+    ),
+    (
+        b"Content-Length: 0\r\n\r\nContent-Length: 1\r\n\r\nx",
+        b"|x|",
+        None,
+    ),
+    (
+        b"Content-Length: 1\r\n\r\nxContent-",
+        b"x|",
+        Some(FrameFault::Truncated),
+    ),
+    (
+        b"Content-Length: 10\r\n\r\n123456789",
+        b"",
+        Some(FrameFault::Truncated),
+    ),
+    (
+        b"Content-Length: 67108864\r\n\r\n123",
+        b"",
+        Some(FrameFault::Truncated),
+    ),
+    (
+        b"Content-Length: 67108865\r\n\r\n",
+        b"",
+        Some(FrameFault::TooLong),
+    ),
+    (
+        b"Content-Length: 2\r\nContent-Length: 2\r\n\r\n{}",
+        b"",
+        Some(FrameFault::BadLength),
+    ),
+    (
+        b"Content-Length: +5\r\n\r\n",
+        b"",
+        Some(FrameFault::BadLength),
+    ),
+    (
+        b"Content-Length: 5 5\r\n\r\n",
+        b"",
+        Some(FrameFault::BadLength),
+    ),
+    (b"Content-Length:\r\n\r\n", b"", Some(FrameFault::BadLength)),
+    (
+        b"Content-Length: 00000000000000000005\r\n\r\n",
+        b"",
+        Some(FrameFault::BadLength),
+    ),
+    (
+        b"Content-Length: \x0b5\r\n\r\n",
+        b"",
+        Some(FrameFault::BadLength),
+    ),
+    (
+        b"Content-Length : 5\r\n\r\n",
+        b"",
+        Some(FrameFault::NoLength),
+    ),
+    (b"\r\n", b"", Some(FrameFault::NoLength)),
+    (
+        b"Content-Length: 2\r\nno colon\r\n\r\n{}",
+        b"",
+        Some(FrameFault::BadHeader),
+    ),
+    (b"no colon\r\n\x80", b"", Some(FrameFault::BadHeader)),
+    (b"no colon\r\n", b"", Some(FrameFault::Truncated)),
+    (b"Content-Length: 2\r", b"", Some(FrameFault::Truncated)),
+    (b"Content-Length: 2\r\r\n", b"", Some(FrameFault::BadHeader)),
+    (b"Content-Length: 2\n", b"", Some(FrameFault::BadHeader)),
+    (
+        b"Content-Length: \xc3\xa9\r\n",
+        b"",
+        Some(FrameFault::BadHeader),
+    ),
+];
+
 #[test]
 fn bodies_and_faults_do_not_depend_on_the_pieces(rt: HostRuntime) -> Result<(), Fail> {
-    let rows: [(&[u8], &[u8], Option<FrameFault>); 24] = [
-        (b"", b"", None),
-        (b"Content-Length: 2\r\n\r\n{}", b"{}|", None),
-        (b"content-length: \t2 \r\n\r\n{}", b"{}|", None),
-        (
-            b"X: y\r\nCONTENT-LENGTH:007\r\n\r\n1234567",
-            b"1234567|",
-            None,
-        ),
-        (
-            b"Content-Length: 0\r\n\r\nContent-Length: 1\r\n\r\nx",
-            b"|x|",
-            None,
-        ),
-        (
-            b"Content-Length: 1\r\n\r\nxContent-",
-            b"x|",
-            Some(FrameFault::Truncated),
-        ),
-        (
-            b"Content-Length: 10\r\n\r\n123456789",
-            b"",
-            Some(FrameFault::Truncated),
-        ),
-        (
-            b"Content-Length: 67108864\r\n\r\n123",
-            b"",
-            Some(FrameFault::Truncated),
-        ),
-        (
-            b"Content-Length: 67108865\r\n\r\n",
-            b"",
-            Some(FrameFault::TooLong),
-        ),
-        (
-            b"Content-Length: 2\r\nContent-Length: 2\r\n\r\n{}",
-            b"",
-            Some(FrameFault::BadLength),
-        ),
-        (
-            b"Content-Length: +5\r\n\r\n",
-            b"",
-            Some(FrameFault::BadLength),
-        ),
-        (
-            b"Content-Length: 5 5\r\n\r\n",
-            b"",
-            Some(FrameFault::BadLength),
-        ),
-        (b"Content-Length:\r\n\r\n", b"", Some(FrameFault::BadLength)),
-        (
-            b"Content-Length: 00000000000000000005\r\n\r\n",
-            b"",
-            Some(FrameFault::BadLength),
-        ),
-        (
-            b"Content-Length: \x0b5\r\n\r\n",
-            b"",
-            Some(FrameFault::BadLength),
-        ),
-        (
-            b"Content-Length : 5\r\n\r\n",
-            b"",
-            Some(FrameFault::NoLength),
-        ),
-        (b"\r\n", b"", Some(FrameFault::NoLength)),
-        (
-            b"Content-Length: 2\r\nno colon\r\n\r\n{}",
-            b"",
-            Some(FrameFault::BadHeader),
-        ),
-        (b"no colon\r\n\x80", b"", Some(FrameFault::BadHeader)),
-        (b"no colon\r\n", b"", Some(FrameFault::Truncated)),
-        (b"Content-Length: 2\r", b"", Some(FrameFault::Truncated)),
-        (b"Content-Length: 2\r\r\n", b"", Some(FrameFault::BadHeader)),
-        (b"Content-Length: 2\n", b"", Some(FrameFault::BadHeader)),
-        (
-            b"Content-Length: \xc3\xa9\r\n",
-            b"",
-            Some(FrameFault::BadHeader),
-        ),
-    ];
-    for (input, want, end) in rows {
-        for step in [1, 7, 100] {
+    for step in [1, 7, 100] {
+        for (input, want, end) in &INPUTS {
             let (seen, fault) = bodies(rt.alloc(), input, step)?;
-            assert_eq!(rt; seen.as_slice(), want, "at {input:?}");
-            assert_eq!(rt; fault, end, "at {input:?}");
+            assert_eq!(rt; seen.as_slice(), *want, "at {input:?}");
+            assert_eq!(rt; fault, *end, "at {input:?}");
         }
     }
     Ok(())

@@ -2,7 +2,10 @@
 use crate::answers::Step;
 use crate::{derivation, faults, hover};
 use Dialect::{One, Two};
-use lam_rules::{Dialect, SubProof, Ty, TypeProof, check_type, copy_of, plain_text_of, text_of};
+use lam_rules::{
+    Dialect, SubProof, SubRule, Ty, TypeProof, TypeRule, check_type, copy_of, plain_text_of,
+    text_of,
+};
 use lam_scope::{bind, resolve};
 use lam_syntax::{Command, parse, pieces};
 use lam_token::{Span, lex};
@@ -37,59 +40,60 @@ fn expect_faults(
     Ok(())
 }
 
+static FAULTS: [Faulty; 30] = [
+    ("r = {b=true, a=0}; r.", One, &[("P2", 20, 21)]),
+    ("lambda x:Q. x;", One, &[("Y1", 9, 10)]),
+    ("y = succ true; z = y;", One, &[("E6", 4, 13)]),
+    ("y = succ true; z = y;", Two, &[]),
+    ("/*😀*/ x", One, &[("E1", 9, 10)]),
+    ("x = 0; (; y = x;", One, &[("P2", 7, 8)]),
+    ("x = # 0; y = 1", One, &[("B1", 4, 5)]),
+    ("/* a", One, &[("B2", 0, 4)]),
+    ("succ 0 )", One, &[("P1", 7, 8)]),
+    (
+        "f : {a:Nat}->Nat; f {a=0, b=true}; f {}",
+        One,
+        &[("E3", 35, 39)],
+    ),
+    ("{a=0, a=1}", One, &[("E9", 0, 10)]),
+    ("lambda x:Nat. x 0", One, &[("E2", 14, 17)]),
+    ("{a=0}.b", One, &[("E4", 0, 7)]),
+    ("if 0 then 1 else 2", One, &[("E5", 0, 18)]),
+    ("if 0 then 1 else 2", Two, &[("E5", 0, 18)]),
+    ("0 as Bool", One, &[("E7", 0, 9)]),
+    ("{a=true} as {a:Nat}", One, &[("E7", 0, 19)]),
+    ("{a=true} as {a:Nat}", Two, &[]),
+    ("fix (lambda x:Nat. true)", One, &[("E8", 0, 24)]),
+    ("fix (lambda x:Nat. true)", Two, &[]),
+    ("letrec x:Nat = true in x", One, &[("E8", 15, 19)]),
+    ("letrec x:Nat = true in x", Two, &[]),
+    ("letrec x:Q = 0 in x", One, &[("Y1", 9, 10)]),
+    (
+        "lambda x:{a:Nat, a:Q}. x",
+        One,
+        &[("Y2", 17, 18), ("Y1", 19, 20)],
+    ),
+    ("T = Q; lambda x:T. x", One, &[("Y1", 4, 5)]),
+    ("z", One, &[("E1", 0, 1)]),
+    ("", One, &[]),
+    // One of each layer, in the order of the text.
+    (
+        "succ true; (; x = #",
+        One,
+        &[("E6", 0, 9), ("P2", 11, 12), ("B1", 18, 19)],
+    ),
+    ("letrec f:Nat->Top = lambda n:Nat. n in f", One, &[]),
+    (
+        "fix (lambda f:Nat->Nat. lambda n:Nat. f (pred n))",
+        One,
+        &[],
+    ),
+];
+
 #[test]
 fn faults_of_texts(rt: HostRuntime) -> Result<(), Fail> {
-    let rows: [Faulty; 30] = [
-        ("r = {b=true, a=0}; r.", One, &[("P2", 20, 21)]),
-        ("lambda x:Q. x;", One, &[("Y1", 9, 10)]),
-        ("y = succ true; z = y;", One, &[("E6", 4, 13)]),
-        ("y = succ true; z = y;", Two, &[]),
-        ("/*😀*/ x", One, &[("E1", 9, 10)]),
-        ("x = 0; (; y = x;", One, &[("P2", 7, 8)]),
-        ("x = # 0; y = 1", One, &[("B1", 4, 5)]),
-        ("/* a", One, &[("B2", 0, 4)]),
-        ("succ 0 )", One, &[("P1", 7, 8)]),
-        (
-            "f : {a:Nat}->Nat; f {a=0, b=true}; f {}",
-            One,
-            &[("E3", 35, 39)],
-        ),
-        ("{a=0, a=1}", One, &[("E9", 0, 10)]),
-        ("lambda x:Nat. x 0", One, &[("E2", 14, 17)]),
-        ("{a=0}.b", One, &[("E4", 0, 7)]),
-        ("if 0 then 1 else 2", One, &[("E5", 0, 18)]),
-        ("if 0 then 1 else 2", Two, &[("E5", 0, 18)]),
-        ("0 as Bool", One, &[("E7", 0, 9)]),
-        ("{a=true} as {a:Nat}", One, &[("E7", 0, 19)]),
-        ("{a=true} as {a:Nat}", Two, &[]),
-        ("fix (lambda x:Nat. true)", One, &[("E8", 0, 24)]),
-        ("fix (lambda x:Nat. true)", Two, &[]),
-        ("letrec x:Nat = true in x", One, &[("E8", 15, 19)]),
-        ("letrec x:Nat = true in x", Two, &[]),
-        ("letrec x:Q = 0 in x", One, &[("Y1", 9, 10)]),
-        (
-            "lambda x:{a:Nat, a:Q}. x",
-            One,
-            &[("Y2", 17, 18), ("Y1", 19, 20)],
-        ),
-        ("T = Q; lambda x:T. x", One, &[("Y1", 4, 5)]),
-        ("z", One, &[("E1", 0, 1)]),
-        ("", One, &[]),
-        // One of each layer, in the order of the text.
-        (
-            "succ true; (; x = #",
-            One,
-            &[("E6", 0, 9), ("P2", 11, 12), ("B1", 18, 19)],
-        ),
-        ("letrec f:Nat->Top = lambda n:Nat. n in f", One, &[]),
-        (
-            "fix (lambda f:Nat->Nat. lambda n:Nat. f (pred n))",
-            One,
-            &[],
-        ),
-    ];
-    for (text, dialect, wanted) in rows {
-        expect_faults(&rt, rt.alloc(), text, dialect, wanted)?;
+    for (text, dialect, wanted) in &FAULTS {
+        expect_faults(&rt, rt.alloc(), text, *dialect, wanted)?;
     }
     Ok(())
 }
@@ -185,155 +189,206 @@ type Shown = (
     Option<(&'static str, usize, usize)>,
 );
 
+const CHOSEN: &str = "lambda c:Bool. if c then (lambda x:Nat. x) else (lambda x:Bool. 0)";
+
+const RECORD: &str = "let y = {b=0, a=true} in if y.a then y else {a=false}";
+
+const DOWN: &str =
+    "letrec down:Nat->Bool = lambda n:Nat. if iszero n then true else down (pred n) in down 3";
+
+const RECURSIVE: &str = "letrec f:Nat->Nat = lambda n:Nat. f n in f";
+
+const WIDENED: &str = "let y = {a=0, b=true} in lambda c:Bool. if c then y else {b=false}";
+
+static TYPES_SHOWN: [Shown; 36] = [
+    ("if true then {a=0} else {b=0}", One, 0, Some(("{}", 0, 29))),
+    ("fix (lambda x:Top. 0)", One, 0, Some(("Nat", 0, 21))),
+    ("fix (lambda x:Top. 0)", One, 4, Some(("Top->Nat", 4, 21))),
+    (CHOSEN, One, 15, Some(("Top", 15, 66))),
+    (CHOSEN, One, 0, Some(("Bool->Top", 0, 66))),
+    (CHOSEN, Two, 15, Some(("Bool->Nat", 15, 66))),
+    (CHOSEN, Two, 0, Some(("Bool->Bool->Nat", 0, 66))),
+    (
+        "(lambda r:{x:Nat}. r.x) {y=true, x=0};",
+        One,
+        23,
+        Some(("Nat", 0, 37)),
+    ),
+    ("lambda x:Q. x;", One, 12, None),
+    ("lambda x:Q. x;", One, 0, None),
+    ("y = succ true; z = y;", Two, 19, Some(("Nat", 19, 20))),
+    ("y = succ true; z = y;", One, 19, None),
+    ("x = 0; (; y = x;", One, 14, Some(("Nat", 14, 15))),
+    (
+        "f : {a:Nat}->Nat; f {a=0, b=true}; f {}",
+        One,
+        18,
+        Some(("{a:Nat}->Nat", 18, 19)),
+    ),
+    (RECORD, One, 25, Some(("{a:Bool}", 25, 53))),
+    (RECORD, One, 28, Some(("{a:Bool, b:Nat}", 28, 29))),
+    (
+        "lambda f:Nat->Nat. f",
+        One,
+        0,
+        Some(("(Nat->Nat)->Nat->Nat", 0, 20)),
+    ),
+    ("if true then 0 else false", One, 0, Some(("Top", 0, 25))),
+    ("if true then 0 else false", Two, 0, Some(("Nat", 0, 25))),
+    ("fix (lambda x:Nat. true)", Two, 0, Some(("Bool", 0, 24))),
+    ("{a=true} as {a:Nat}", Two, 9, Some(("{a:Nat}", 0, 19))),
+    (DOWN, One, 0, Some(("Bool", 0, 88))),
+    (
+        "letrec f:Nat->Top = lambda n:Nat. n in f",
+        One,
+        39,
+        Some(("Nat->Nat", 39, 40)),
+    ),
+    (
+        "letrec f:Nat->Top = lambda n:Nat. n in f",
+        One,
+        0,
+        Some(("Nat->Nat", 0, 40)),
+    ),
+    ("letrec x:Nat = true in x", One, 23, None),
+    ("letrec x:Nat = true in x", Two, 23, Some(("Bool", 23, 24))),
+    (WIDENED, One, 0, Some(("Bool->{b:Bool}", 0, 66))),
+    (RECURSIVE, One, 20, Some(("Nat->Nat", 20, 37))),
+    (RECURSIVE, One, 34, Some(("Nat->Nat", 34, 35))),
+    (RECURSIVE, One, 36, Some(("Nat", 36, 37))),
+    ("x : {a:Nat}; x. /* c */ a", One, 18, Some(("Nat", 13, 25))),
+    ("f : Nat; f", One, 9, Some(("Nat", 9, 10))),
+    ("f : Nat; f", One, 0, None),
+    // A binder of a command, and what stands between commands, is no part of a term.
+    ("x = 0; 1", One, 0, None),
+    ("x = 0; 1", One, 6, None),
+    (
+        "lambda x:Nat. /* - */ x",
+        One,
+        18,
+        Some(("Nat->Nat", 0, 23)),
+    ),
+];
+
+fn expect_shown(
+    rt: &impl Abort,
+    alloc: Global,
+    text: &str,
+    dialect: Dialect,
+    offset: usize,
+    wanted: Option<(&str, usize, usize)>,
+) -> Result<(), Fail> {
+    let found = hover(alloc, text, offset, dialect)?;
+    let Some((shown, start, end)) = wanted else {
+        assert!(rt; found.is_none(), "at {offset} of {text:?}");
+        return Ok(());
+    };
+    let found = found.expect(rt, "a type");
+    assert_eq!(rt; found.text.as_str(), shown, "at {offset} of {text:?}");
+    assert_eq!(rt; found.span, Span { start, end }, "at {offset} of {text:?}");
+    Ok(())
+}
+
 #[test]
 fn types_at_offsets(rt: HostRuntime) -> Result<(), Fail> {
-    let chosen = "lambda c:Bool. if c then (lambda x:Nat. x) else (lambda x:Bool. 0)";
-    let record = "let y = {b=0, a=true} in if y.a then y else {a=false}";
-    let down =
-        "letrec down:Nat->Bool = lambda n:Nat. if iszero n then true else down (pred n) in down 3";
-    let recursive = "letrec f:Nat->Nat = lambda n:Nat. f n in f";
-    let widened = "let y = {a=0, b=true} in lambda c:Bool. if c then y else {b=false}";
-    let rows: [Shown; 36] = [
-        ("if true then {a=0} else {b=0}", One, 0, Some(("{}", 0, 29))),
-        ("fix (lambda x:Top. 0)", One, 0, Some(("Nat", 0, 21))),
-        ("fix (lambda x:Top. 0)", One, 4, Some(("Top->Nat", 4, 21))),
-        (chosen, One, 15, Some(("Top", 15, 66))),
-        (chosen, One, 0, Some(("Bool->Top", 0, 66))),
-        (chosen, Two, 15, Some(("Bool->Nat", 15, 66))),
-        (chosen, Two, 0, Some(("Bool->Bool->Nat", 0, 66))),
-        (
-            "(lambda r:{x:Nat}. r.x) {y=true, x=0};",
-            One,
-            23,
-            Some(("Nat", 0, 37)),
-        ),
-        ("lambda x:Q. x;", One, 12, None),
-        ("lambda x:Q. x;", One, 0, None),
-        ("y = succ true; z = y;", Two, 19, Some(("Nat", 19, 20))),
-        ("y = succ true; z = y;", One, 19, None),
-        ("x = 0; (; y = x;", One, 14, Some(("Nat", 14, 15))),
-        (
-            "f : {a:Nat}->Nat; f {a=0, b=true}; f {}",
-            One,
-            18,
-            Some(("{a:Nat}->Nat", 18, 19)),
-        ),
-        (record, One, 25, Some(("{a:Bool}", 25, 53))),
-        (record, One, 28, Some(("{a:Bool, b:Nat}", 28, 29))),
-        (
-            "lambda f:Nat->Nat. f",
-            One,
-            0,
-            Some(("(Nat->Nat)->Nat->Nat", 0, 20)),
-        ),
-        ("if true then 0 else false", One, 0, Some(("Top", 0, 25))),
-        ("if true then 0 else false", Two, 0, Some(("Nat", 0, 25))),
-        ("fix (lambda x:Nat. true)", Two, 0, Some(("Bool", 0, 24))),
-        ("{a=true} as {a:Nat}", Two, 9, Some(("{a:Nat}", 0, 19))),
-        (down, One, 0, Some(("Bool", 0, 88))),
-        (
-            "letrec f:Nat->Top = lambda n:Nat. n in f",
-            One,
-            39,
-            Some(("Nat->Nat", 39, 40)),
-        ),
-        (
-            "letrec f:Nat->Top = lambda n:Nat. n in f",
-            One,
-            0,
-            Some(("Nat->Nat", 0, 40)),
-        ),
-        ("letrec x:Nat = true in x", One, 23, None),
-        ("letrec x:Nat = true in x", Two, 23, Some(("Bool", 23, 24))),
-        (widened, One, 0, Some(("Bool->{b:Bool}", 0, 66))),
-        (recursive, One, 20, Some(("Nat->Nat", 20, 37))),
-        (recursive, One, 34, Some(("Nat->Nat", 34, 35))),
-        (recursive, One, 36, Some(("Nat", 36, 37))),
-        ("x : {a:Nat}; x. /* c */ a", One, 18, Some(("Nat", 13, 25))),
-        ("f : Nat; f", One, 9, Some(("Nat", 9, 10))),
-        ("f : Nat; f", One, 0, None),
-        // A binder of a command, and what stands between commands, is no part of a term.
-        ("x = 0; 1", One, 0, None),
-        ("x = 0; 1", One, 6, None),
-        (
-            "lambda x:Nat. /* - */ x",
-            One,
-            18,
-            Some(("Nat->Nat", 0, 23)),
-        ),
-    ];
-    for (text, dialect, offset, wanted) in rows {
-        let found = hover(rt.alloc(), text, offset, dialect)?;
-        match wanted {
-            None => assert!(rt; found.is_none(), "at {offset} of {text:?}"),
-            Some((shown, start, end)) => {
-                let found = found.expect(&rt, "a type");
-                assert_eq!(rt; found.text.as_str(), shown, "at {offset} of {text:?}");
-                assert_eq!(rt; found.span, Span { start, end }, "at {offset} of {text:?}");
-            }
-        }
+    for (text, dialect, offset, wanted) in &TYPES_SHOWN {
+        expect_shown(&rt, rt.alloc(), text, *dialect, *offset, *wanted)?;
     }
     Ok(())
 }
 
+/// What a step stands for.
+#[derive(Drop)]
+enum Proof {
+    Typing(TypeProof),
+    Sub(SubProof),
+}
+
+/// The proof that the step of this number stands for, which is no premise of two.
+fn taken(rt: &impl Abort, made: &mut Vec<Option<Proof>>, number: usize) -> Proof {
+    let proof = made.get_mut(number).expect(rt, "a step before this one");
+    proof.take().expect(rt, "a premise of one step")
+}
+
+fn typing_of(
+    rt: &impl Abort,
+    alloc: Global,
+    made: &mut Vec<Option<Proof>>,
+    rule: TypeRule,
+    ty: &Ty,
+    premises: &[usize],
+) -> Result<TypeProof, Fail> {
+    let mut typing = Vec::new(alloc);
+    let mut sub = None;
+    for number in premises {
+        match taken(rt, made, *number) {
+            Proof::Typing(proof) => typing.push(proof)?,
+            Proof::Sub(proof) => sub = Some(Box::new(alloc, proof)?),
+        }
+    }
+    let ty = copy_of(alloc, ty)?;
+    Ok(TypeProof {
+        rule,
+        ty,
+        typing,
+        sub,
+    })
+}
+
+fn subtyping_of(
+    rt: &impl Abort,
+    alloc: Global,
+    made: &mut Vec<Option<Proof>>,
+    rule: SubRule,
+    sides: (&Ty, &Ty),
+    numbers: &[usize],
+) -> Result<SubProof, Fail> {
+    let mut premises = Vec::new(alloc);
+    for number in numbers {
+        match taken(rt, made, *number) {
+            Proof::Sub(proof) => premises.push(proof)?,
+            Proof::Typing(_) => assert!(rt; false, "a typing is no premise of subtyping"),
+        }
+    }
+    let lower = copy_of(alloc, sides.0)?;
+    let upper = copy_of(alloc, sides.1)?;
+    Ok(SubProof {
+        rule,
+        lower,
+        upper,
+        premises,
+    })
+}
+
 /// The proof that the steps are.
 fn proof_of(rt: &impl Abort, alloc: Global, steps: &[Step]) -> Result<TypeProof, Fail> {
-    let mut typings: Vec<Option<TypeProof>> = Vec::new(alloc);
-    let mut subs: Vec<Option<SubProof>> = Vec::new(alloc);
+    let mut made = Vec::new(alloc);
     for step in steps {
-        match step {
+        let proof = match step {
             Step::Typing {
                 rule,
                 ty,
                 premises,
                 ..
-            } => {
-                let mut typing = Vec::new(alloc);
-                let mut sub = None;
-                for number in premises {
-                    if let Some(proof) = typings.get_mut(*number).expect(rt, "a step").take() {
-                        typing.push(proof)?;
-                    } else {
-                        let proof = subs.get_mut(*number).expect(rt, "a step").take();
-                        sub = Some(Box::new(alloc, proof.expect(rt, "a premise"))?);
-                    }
-                }
-                let ty = copy_of(alloc, ty)?;
-                let rule = *rule;
-                typings.push(Some(TypeProof {
-                    rule,
-                    ty,
-                    typing,
-                    sub,
-                }))?;
-                subs.push(None)?;
-            }
+            } => Proof::Typing(typing_of(rt, alloc, &mut made, *rule, ty, premises)?),
             Step::Sub {
                 rule,
                 lower,
                 upper,
-                premises: numbers,
+                premises,
             } => {
-                let mut premises = Vec::new(alloc);
-                for number in numbers {
-                    let proof = subs.get_mut(*number).expect(rt, "a step").take();
-                    premises.push(proof.expect(rt, "a premise"))?;
-                }
-                let lower = copy_of(alloc, lower)?;
-                let upper = copy_of(alloc, upper)?;
-                let rule = *rule;
-                subs.push(Some(SubProof {
-                    rule,
-                    lower,
-                    upper,
-                    premises,
-                }))?;
-                typings.push(None)?;
+                let sides = (lower, upper);
+                Proof::Sub(subtyping_of(rt, alloc, &mut made, *rule, sides, premises)?)
             }
-        }
+        };
+        made.push(Some(proof))?;
     }
-    let last = typings.pop().expect(rt, "a last step");
-    Ok(last.expect(rt, "a typing"))
+    let last = made.pop().expect(rt, "a last step");
+    let typing = match last.expect(rt, "a step that is no premise") {
+        Proof::Typing(proof) => Some(proof),
+        Proof::Sub(_proof) => None,
+    };
+    Ok(typing.expect(rt, "a typing as the last step"))
 }
 
 /// Whether the checker accepts the proof for the term at the offset.

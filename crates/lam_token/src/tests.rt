@@ -19,13 +19,11 @@ fn expect_tokens(rt: &impl Abort, alloc: Global, text: &str, expected: &[Row]) -
     Ok(())
 }
 
-#[test]
-fn longest_lexemes(rt: HostRuntime) -> Result<(), Fail> {
-    expect_tokens(&rt, rt.alloc(), "", &[])?;
-    expect_tokens(&rt, rt.alloc(), " \t\r\n", &[])?;
-    expect_tokens(
-        &rt,
-        rt.alloc(),
+/// Texts and their tokens.
+static LONGEST: [(&str, &[Row]); 6] = [
+    ("", &[]),
+    (" \t\r\n", &[]),
+    (
         "0x _ _a x' lambda_",
         &[
             (Kind::Numeral, "0", 0, 1),
@@ -35,20 +33,16 @@ fn longest_lexemes(rt: HostRuntime) -> Result<(), Fail> {
             (Kind::Name, "x'", 8, 10),
             (Kind::Name, "lambda_", 11, 18),
         ],
-    )?;
-    expect_tokens(
-        &rt,
-        rt.alloc(),
+    ),
+    (
         "Nat->Bool",
         &[
             (Kind::NatType, "Nat", 0, 3),
             (Kind::Arrow, "->", 3, 5),
             (Kind::BoolType, "Bool", 5, 9),
         ],
-    )?;
-    expect_tokens(
-        &rt,
-        rt.alloc(),
+    ),
+    (
         "-->0.1",
         &[
             (Kind::BadCharacter, "-", 0, 1),
@@ -57,10 +51,8 @@ fn longest_lexemes(rt: HostRuntime) -> Result<(), Fail> {
             (Kind::Dot, ".", 4, 5),
             (Kind::Numeral, "1", 5, 6),
         ],
-    )?;
-    expect_tokens(
-        &rt,
-        rt.alloc(),
+    ),
+    (
         ";=:,(){}",
         &[
             (Kind::Semicolon, ";", 0, 1),
@@ -72,7 +64,15 @@ fn longest_lexemes(rt: HostRuntime) -> Result<(), Fail> {
             (Kind::OpenBrace, "{", 6, 7),
             (Kind::CloseBrace, "}", 7, 8),
         ],
-    )
+    ),
+];
+
+#[test]
+fn longest_lexemes(rt: HostRuntime) -> Result<(), Fail> {
+    for (text, tokens) in &LONGEST {
+        expect_tokens(&rt, rt.alloc(), text, tokens)?;
+    }
+    Ok(())
 }
 
 #[test]

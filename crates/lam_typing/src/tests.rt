@@ -1,5 +1,11 @@
 //! Rows: documents, the types of their places, and what is to blame.
+ghost use Rattle.std.specs.Prelude.{IfOk};
+ghost use Rattle.lam_scope.specs.Views.{statements_of};
+ghost use Rattle.lam_scope.specs.WellFormed.{AreWellFormedStatements};
+ghost use Rattle.lam_typing.specs.Typings.{IsTypingOf};
+
 use crate::{Typing, TypingFault, analyse, analyse_to};
+use Dialect::{One, Two};
 use lam_rules::{Dialect, Ty, check_type, text_of};
 use lam_scope::{Binder, Place, Resolved, Scopes, Statement, bind, resolve};
 use lam_syntax::{Command, parse, pieces};
@@ -20,152 +26,168 @@ fn commands_of(rt: &impl Abort, alloc: Global, text: &str) -> Result<Vec<Command
     Ok(commands)
 }
 
+/// What the names of a text are bound to, and its commands without names.
+fn forms_of(rt: &impl Abort, alloc: Global, text: &str) -> Result<(Scopes, Resolved), Fail>
+    ensures { IfOk result (λ forms. AreWellFormedStatements (statements_of forms.1)) }
+{
+    let commands = commands_of(rt, alloc, text)?;
+    let scopes = bind(alloc, &commands)?;
+    let resolved = resolve(alloc, &commands, &scopes)
+        .ok()
+        .expect(rt, "expansions within the limit");
+    Ok((scopes, resolved))
+}
+
+/// A text and the types of its places.
+#[derive(Drop)]
+struct Analysis {
+    scopes: Scopes,
+    resolved: Resolved,
+    typing: Typing,
+}
+
+fn analysed(rt: &impl Abort, alloc: Global, text: &str, dialect: Dialect) -> Result<Analysis, Fail>
+    ensures { IfOk result (λ found. IsTypingOf (statements_of found.resolved) found.typing) }
+{
+    let (scopes, resolved) = forms_of(rt, alloc, text)?;
+    let typing = analyse(alloc, &resolved, dialect)
+        .ok()
+        .expect(rt, "types within the limit");
+    Ok(Analysis {
+        scopes,
+        resolved,
+        typing,
+    })
+}
+
 /// The text of the type of the innermost place around an offset.
-fn shown_at(
-    rt: &impl Abort,
-    scopes: &Scopes,
-    typing: &Typing,
-    offset: usize,
-) -> Result<Option<String>, Fail> {
-    let place = scopes.place_at(offset).expect(rt, "a place");
-    match typing.type_at(place) {
-        Some(number) => Ok(Some(typing.table().text(number)?)),
+fn shown_at(rt: &impl Abort, found: &Analysis, offset: usize) -> Result<Option<String>, Fail> {
+    let place = found.scopes.place_at(offset).expect(rt, "a place");
+    match found.typing.type_at(place) {
+        Some(number) => Ok(Some(found.typing.table().text(number)?)),
         None => Ok(None),
     }
 }
 
+/// A text, an offset in it, and the type that is shown there.
+type Shown = (&'static str, Dialect, usize, Option<&'static str>);
+
 /// Analyses the text of each row, and compares what is shown at its offset.
-fn expect_shown(
-    rt: &impl Abort,
-    alloc: Global,
-    rows: &[(&str, Dialect, usize, Option<&str>)],
-) -> Result<(), Fail> {
+fn expect_shown(rt: &impl Abort, alloc: Global, rows: &[Shown]) -> Result<(), Fail> {
     for row in rows {
         let (text, dialect, offset, expected) = *row;
-        let commands = commands_of(rt, alloc, text)?;
-        let scopes = bind(alloc, &commands)?;
-        let resolved = resolve(alloc, &commands, &scopes)
-            .ok()
-            .expect(rt, "expansions within the limit");
-        let typing = analyse(alloc, &resolved, dialect)
-            .ok()
-            .expect(rt, "types within the limit");
-        let shown = shown_at(rt, &scopes, &typing, offset)?;
+        let found = analysed(rt, alloc, text, dialect)?;
+        let shown = shown_at(rt, &found, offset)?;
         assert_eq!(rt; shown.as_deref(), expected, "{offset} in {text:?}");
     }
     Ok(())
 }
 
+const FUNCTIONS: &str = "lambda c:Bool. if c then (lambda x:Nat. x) else (lambda x:Bool. 0)";
+
+const RECORDS: &str = "let y = {a=0, b=true} in lambda c:Bool. if c then y else {b=false}";
+
+static BRANCHES: [Shown; 6] = [
+    ("if true then {a=0} else {b=0}", One, 0, Some("{}")),
+    (FUNCTIONS, One, 0, Some("Bool->Top")),
+    (FUNCTIONS, Two, 0, Some("Bool->Bool->Nat")),
+    (RECORDS, One, 0, Some("Bool->{b:Bool}")),
+    ("if true then 0 else false", One, 0, Some("Top")),
+    ("if true then 0 else false", Two, 0, Some("Nat")),
+];
+
 #[test]
 fn branches_are_joined(rt: HostRuntime) -> Result<(), Fail> {
-    let one = Dialect::One;
-    let two = Dialect::Two;
-    let functions = "lambda c:Bool. if c then (lambda x:Nat. x) else (lambda x:Bool. 0)";
-    let records = "let y = {a=0, b=true} in lambda c:Bool. if c then y else {b=false}";
-    let rows = [
-        ("if true then {a=0} else {b=0}", one, 0, Some("{}")),
-        (functions, one, 0, Some("Bool->Top")),
-        (functions, two, 0, Some("Bool->Bool->Nat")),
-        (records, one, 0, Some("Bool->{b:Bool}")),
-        ("if true then 0 else false", one, 0, Some("Top")),
-        ("if true then 0 else false", two, 0, Some("Nat")),
-    ];
-    expect_shown(&rt, rt.alloc(), &rows)
+    expect_shown(&rt, rt.alloc(), BRANCHES.as_slice())
 }
+
+const WIDER: &str = "(lambda r:{x:Nat}. r.x) {y=true, x=0}";
+
+const LOOPS: &str = "fix (lambda f:Nat->Nat. lambda n:Nat. f (pred n))";
+
+static FUNCTIONS_SHOWN: [Shown; 9] = [
+    ("fix (lambda x:Top. 0)", One, 0, Some("Nat")),
+    ("fix (lambda x:Top. 0)", One, 4, Some("Top->Nat")),
+    (WIDER, One, 23, Some("Nat")),
+    ("lambda x:Q. x", One, 12, None),
+    ("lambda x:Q. x", One, 0, None),
+    ("lambda f:Nat->Nat. f", One, 0, Some("(Nat->Nat)->Nat->Nat")),
+    ("(lambda x:Top. x) 0", One, 17, Some("Top")),
+    (LOOPS, One, 0, Some("Nat->Nat")),
+    ("fix (lambda x:Nat. true)", Two, 0, Some("Bool")),
+];
 
 #[test]
 fn functions_show_their_outcome(rt: HostRuntime) -> Result<(), Fail> {
-    let one = Dialect::One;
-    let two = Dialect::Two;
-    let wider = "(lambda r:{x:Nat}. r.x) {y=true, x=0}";
-    let loops = "fix (lambda f:Nat->Nat. lambda n:Nat. f (pred n))";
-    let rows = [
-        ("fix (lambda x:Top. 0)", one, 0, Some("Nat")),
-        ("fix (lambda x:Top. 0)", one, 4, Some("Top->Nat")),
-        (wider, one, 23, Some("Nat")),
-        ("lambda x:Q. x", one, 12, None),
-        ("lambda x:Q. x", one, 0, None),
-        ("lambda f:Nat->Nat. f", one, 0, Some("(Nat->Nat)->Nat->Nat")),
-        ("(lambda x:Top. x) 0", one, 17, Some("Top")),
-        (loops, one, 0, Some("Nat->Nat")),
-        ("fix (lambda x:Nat. true)", two, 0, Some("Bool")),
-    ];
-    expect_shown(&rt, rt.alloc(), &rows)
+    expect_shown(&rt, rt.alloc(), FUNCTIONS_SHOWN.as_slice())
 }
+
+const DECLARED: &str = "f : {a:Nat}->Nat; f {a=0, b=true}; f {}";
+
+const WIDE: &str = "let y = {b=0, a=true} in if y.a then y else {a=false}";
+
+const FUNCTION: &str = "let f = lambda x:{a:Nat}. x.a in f {b=0, a=1}";
+
+const RECURSIVE: &str = "letrec f:Nat->Top = lambda n:Nat. n in f";
+
+static NAMES: [Shown; 7] = [
+    (DECLARED, One, 18, Some("{a:Nat}->Nat")),
+    (WIDE, One, 25, Some("{a:Bool}")),
+    (WIDE, One, 28, Some("{a:Bool, b:Nat}")),
+    (FUNCTION, One, 0, Some("Nat")),
+    ("y = succ true; z = y", Two, 19, Some("Nat")),
+    (RECURSIVE, One, 39, Some("Nat->Nat")),
+    ("letrec x:Nat = true in x", One, 23, None),
+];
 
 #[test]
 fn names_have_the_least_type_of_their_term(rt: HostRuntime) -> Result<(), Fail> {
-    let one = Dialect::One;
-    let two = Dialect::Two;
-    let declared = "f : {a:Nat}->Nat; f {a=0, b=true}; f {}";
-    let wide = "let y = {b=0, a=true} in if y.a then y else {a=false}";
-    let function = "let f = lambda x:{a:Nat}. x.a in f {b=0, a=1}";
-    let recursive = "letrec f:Nat->Top = lambda n:Nat. n in f";
-    let rows = [
-        (declared, one, 18, Some("{a:Nat}->Nat")),
-        (wide, one, 25, Some("{a:Bool}")),
-        (wide, one, 28, Some("{a:Bool, b:Nat}")),
-        (function, one, 0, Some("Nat")),
-        ("y = succ true; z = y", two, 19, Some("Nat")),
-        (recursive, one, 39, Some("Nat->Nat")),
-        ("letrec x:Nat = true in x", one, 23, None),
-    ];
-    expect_shown(&rt, rt.alloc(), &rows)
+    expect_shown(&rt, rt.alloc(), NAMES.as_slice())
 }
 
-/// Analyses the text of each row, and compares what is blamed: its code, and where it stands.
-fn expect_blamed(
-    rt: &impl Abort,
-    alloc: Global,
-    rows: &[(&str, Dialect, Option<(&str, usize, usize)>)],
-) -> Result<(), Fail> {
+/// A text, and what is blamed in it: its code, and where it stands.
+type Blamed = (&'static str, Dialect, Option<(&'static str, usize, usize)>);
+
+/// Analyses the text of each row, and compares what is blamed.
+fn expect_blamed(rt: &impl Abort, alloc: Global, rows: &[Blamed]) -> Result<(), Fail> {
     for row in rows {
         let (text, dialect, expected) = *row;
-        let commands = commands_of(rt, alloc, text)?;
-        let scopes = bind(alloc, &commands)?;
-        let resolved = resolve(alloc, &commands, &scopes)
-            .ok()
-            .expect(rt, "expansions within the limit");
-        let typing = analyse(alloc, &resolved, dialect)
-            .ok()
-            .expect(rt, "types within the limit");
-        let found = match typing.blamed() {
+        let found = analysed(rt, alloc, text, dialect)?;
+        let told = match found.typing.blamed() {
             [] => None,
             [blame] => {
-                let span = scopes.span_of(blame.place);
+                let span = found.scopes.span_of(blame.place);
                 Some((blame.code, span.start, span.end))
             }
             _ => Some(("several", 0, 0)),
         };
-        assert_eq!(rt; found, expected, "{text:?}");
+        assert_eq!(rt; told, expected, "{text:?}");
     }
     Ok(())
 }
 
+static BLAMES: [Blamed; 16] = [
+    ("0 as Nat; succ 0", One, None),
+    ("z", One, Some(("E1", 0, 1))),
+    ("lambda x:Nat. x 0", One, Some(("E2", 14, 17))),
+    (DECLARED, One, Some(("E3", 35, 39))),
+    ("{a=0}.b", One, Some(("E4", 0, 7))),
+    ("if 0 then 1 else 2", One, Some(("E5", 0, 18))),
+    ("if 0 then 1 else 2", Two, Some(("E5", 0, 18))),
+    ("y = succ true; z = y", One, Some(("E6", 4, 13))),
+    ("y = succ true; z = y", Two, None),
+    ("0 as Bool", One, Some(("E7", 0, 9))),
+    ("{a=true} as {a:Nat}", One, Some(("E7", 0, 19))),
+    ("{a=true} as {a:Nat}", Two, None),
+    ("fix (lambda x:Nat. true)", One, Some(("E8", 0, 24))),
+    ("letrec x:Nat = true in x", One, Some(("E8", 15, 19))),
+    ("{a=0, a=1}", One, Some(("E9", 0, 10))),
+    ("lambda x:Q. x", One, None),
+];
+
 #[test]
 fn the_first_wrong_term_is_to_blame_and_no_term_around_it(rt: HostRuntime) -> Result<(), Fail> {
-    let one = Dialect::One;
-    let two = Dialect::Two;
-    let declared = "f : {a:Nat}->Nat; f {a=0, b=true}; f {}";
-    let rows: [(&str, Dialect, Option<(&str, usize, usize)>); 16] = [
-        ("0 as Nat; succ 0", one, None),
-        ("z", one, Some(("E1", 0, 1))),
-        ("lambda x:Nat. x 0", one, Some(("E2", 14, 17))),
-        (declared, one, Some(("E3", 35, 39))),
-        ("{a=0}.b", one, Some(("E4", 0, 7))),
-        ("if 0 then 1 else 2", one, Some(("E5", 0, 18))),
-        ("if 0 then 1 else 2", two, Some(("E5", 0, 18))),
-        ("y = succ true; z = y", one, Some(("E6", 4, 13))),
-        ("y = succ true; z = y", two, None),
-        ("0 as Bool", one, Some(("E7", 0, 9))),
-        ("{a=true} as {a:Nat}", one, Some(("E7", 0, 19))),
-        ("{a=true} as {a:Nat}", two, None),
-        ("fix (lambda x:Nat. true)", one, Some(("E8", 0, 24))),
-        ("letrec x:Nat = true in x", one, Some(("E8", 15, 19))),
-        ("{a=0, a=1}", one, Some(("E9", 0, 10))),
-        ("lambda x:Q. x", one, None),
-    ];
-    expect_blamed(&rt, rt.alloc(), &rows)
+    expect_blamed(&rt, rt.alloc(), BLAMES.as_slice())
 }
 
 /// x0 = {a=0, b=0}; and so on to x10, whose type has 4,095 nodes.
@@ -178,20 +200,17 @@ fn doubled(alloc: Global) -> Result<String, Fail> {
     Ok(text)
 }
 
+/// Where the first place starts, up to a last one, whose type is too large.
 fn first_too_large(
     rt: &impl Abort,
     alloc: Global,
     text: &str,
     last: Option<Place>,
 ) -> Result<Option<usize>, Fail> {
-    let commands = commands_of(rt, alloc, text)?;
-    let scopes = bind(alloc, &commands)?;
-    let resolved: Resolved = resolve(alloc, &commands, &scopes)
-        .ok()
-        .expect(rt, "expansions within the limit");
+    let (scopes, resolved) = forms_of(rt, alloc, text)?;
     let typing = match last {
-        Some(place) => analyse_to(alloc, &resolved, place, Dialect::One),
-        None => analyse(alloc, &resolved, Dialect::One),
+        Some(place) => analyse_to(alloc, &resolved, place, One),
+        None => analyse(alloc, &resolved, One),
     };
     match typing {
         Ok(_) => Ok(None),
@@ -216,17 +235,12 @@ fn the_first_type_that_is_too_large_is_refused(rt: HostRuntime) -> Result<(), Fa
 }
 
 /// The entries of the binders that a place sees, the outermost first.
-fn context_of(
-    alloc: Global,
-    scopes: &Scopes,
-    typing: &Typing,
-    place: Place,
-) -> Result<Vec<Option<Ty>>, Fail> {
-    let binders = scopes.visible_at(alloc, place)?;
+fn context_of(alloc: Global, found: &Analysis, place: Place) -> Result<Vec<Option<Ty>>, Fail> {
+    let binders = found.scopes.visible_at(alloc, place)?;
     let mut context = Vec::new(alloc);
     for binder in &binders {
-        let entry = match typing.type_of_binder(*binder) {
-            Some(number) => Some(typing.table().tree(number)?),
+        let entry = match found.typing.type_of_binder(*binder) {
+            Some(number) => Some(found.typing.table().tree(number)?),
             None => None,
         };
         context.push(entry)?;
@@ -252,20 +266,13 @@ fn proved_type(
     text: &str,
     dialect: Dialect,
 ) -> Result<Option<String>, Fail> {
-    let commands = commands_of(rt, alloc, text)?;
-    let scopes = bind(alloc, &commands)?;
-    let resolved = resolve(alloc, &commands, &scopes)
-        .ok()
-        .expect(rt, "expansions within the limit");
-    let typing = analyse(alloc, &resolved, dialect)
-        .ok()
-        .expect(rt, "types within the limit");
-    let place = last_place(&scopes);
-    let Some(proof) = typing.prove_at(alloc, &resolved, place)? else {
+    let found = analysed(rt, alloc, text, dialect)?;
+    let place = last_place(&found.scopes);
+    let Some(proof) = found.typing.prove_at(alloc, &found.resolved, place)? else {
         return Ok(None);
     };
-    let context = context_of(alloc, &scopes, &typing, place)?;
-    let Some(Statement::Evaluation(term)) = resolved.statements().last() else {
+    let context = context_of(alloc, &found, place)?;
+    let Some(Statement::Evaluation(term)) = found.resolved.statements().last() else {
         return Ok(None);
     };
     if !check_type(&context, term, &proof, dialect) {
@@ -274,41 +281,39 @@ fn proved_type(
     Ok(Some(text_of(alloc, &proof.ty)?))
 }
 
+static PROVED: [(&str, Dialect, Option<&str>); 13] = [
+    ("if true then {a=0} else {b=0}", One, Some("{}")),
+    ("fix (lambda x:Top. 0)", One, Some("Nat")),
+    (
+        "lambda c:Bool. if c then (lambda x:Nat. x) else (lambda x:Bool. 0)",
+        Two,
+        Some("Bool->Bool->Nat"),
+    ),
+    ("(lambda r:{x:Nat}. r.x) {y=true, x=0}", One, Some("Nat")),
+    ("f : {a:Nat}->Nat; r = {b=true, a=0}; f r", One, Some("Nat")),
+    (
+        "let y = {b=0, a=true} in if y.a then y else {a=false}",
+        One,
+        Some("{a:Bool}"),
+    ),
+    ("Y = Q; z : Y; lambda x:Nat. x", One, Some("Nat->Nat")),
+    ("(iszero (succ (pred 0))) as Top", One, Some("Top")),
+    ("succ true", Two, Some("Nat")),
+    ("letrec f:Nat->Top = lambda n:Nat. n in f unit", One, None),
+    (
+        "letrec f:Nat->Top = lambda n:Nat. n in f 0",
+        One,
+        Some("Nat"),
+    ),
+    ("unit false", One, None),
+    ("{a=0, a=1}", One, None),
+];
+
 #[test]
 fn each_proof_is_one_of_the_type_that_is_shown(rt: HostRuntime) -> Result<(), Fail> {
-    let one = Dialect::One;
-    let two = Dialect::Two;
-    let rows = [
-        ("if true then {a=0} else {b=0}", one, Some("{}")),
-        ("fix (lambda x:Top. 0)", one, Some("Nat")),
-        (
-            "lambda c:Bool. if c then (lambda x:Nat. x) else (lambda x:Bool. 0)",
-            two,
-            Some("Bool->Bool->Nat"),
-        ),
-        ("(lambda r:{x:Nat}. r.x) {y=true, x=0}", one, Some("Nat")),
-        ("f : {a:Nat}->Nat; r = {b=true, a=0}; f r", one, Some("Nat")),
-        (
-            "let y = {b=0, a=true} in if y.a then y else {a=false}",
-            one,
-            Some("{a:Bool}"),
-        ),
-        ("Y = Q; z : Y; lambda x:Nat. x", one, Some("Nat->Nat")),
-        ("(iszero (succ (pred 0))) as Top", one, Some("Top")),
-        ("succ true", two, Some("Nat")),
-        ("letrec f:Nat->Top = lambda n:Nat. n in f unit", one, None),
-        (
-            "letrec f:Nat->Top = lambda n:Nat. n in f 0",
-            one,
-            Some("Nat"),
-        ),
-        ("unit false", one, None),
-        ("{a=0, a=1}", one, None),
-    ];
-    let alloc = rt.alloc();
-    for (text, dialect, expected) in rows {
-        let shown = proved_type(&rt, alloc, text, dialect)?;
-        assert_eq!(rt; shown.as_deref(), expected, "{text:?}");
+    for (text, dialect, expected) in &PROVED {
+        let shown = proved_type(&rt, rt.alloc(), text, *dialect)?;
+        assert_eq!(rt; shown.as_deref(), *expected, "{text:?}");
     }
     Ok(())
 }
@@ -325,15 +330,8 @@ fn each_binder_has_its_least_entry(rt: HostRuntime) -> Result<(), Fail> {
         None,
         None,
     ];
-    let alloc = rt.alloc();
-    let commands = commands_of(&rt, alloc, text)?;
-    let scopes = bind(alloc, &commands)?;
-    let resolved = resolve(alloc, &commands, &scopes)
-        .ok()
-        .expect(&rt, "expansions within the limit");
-    let typing = analyse(alloc, &resolved, Dialect::One)
-        .ok()
-        .expect(&rt, "types within the limit");
+    let found = analysed(&rt, rt.alloc(), text, One)?;
+    let typing = &found.typing;
     for number in 0..expected.len() {
         let shown = match typing.type_of_binder(Binder(number)) {
             Some(entry) => Some(typing.table().text(entry)?),
@@ -379,24 +377,11 @@ fn the_deepest_commands_are_analysed_and_proved(rt: HostRuntime) -> Result<(), F
         (nested(alloc, "{a=", 499, "0", "}")?, Some(499)),
     ];
     for (text, last) in &rows {
-        let tokens = lex(alloc, text)?;
-        let parts = pieces(alloc, tokens.as_slice())?;
-        let mut commands = Vec::new(alloc);
-        for piece in &parts {
-            if let Ok(command) = parse(alloc, piece) {
-                commands.push(command)?;
-            }
-        }
-        let scopes = bind(alloc, &commands)?;
-        let resolved = resolve(alloc, &commands, &scopes)
-            .ok()
-            .expect(&rt, "expansions within the limit");
-        let typing = analyse(alloc, &resolved, Dialect::One)
-            .ok()
-            .expect(&rt, "types within the limit");
+        let found = analysed(&rt, alloc, text, One)?;
         if let Some(place) = last {
-            let proof = typing.prove_at(alloc, &resolved, Place(*place))?;
-            assert!(rt; proof.is_some(), "place {place}");
+            let place = Place(*place);
+            let proof = found.typing.prove_at(alloc, &found.resolved, place)?;
+            assert!(rt; proof.is_some(), "{place:?}");
         }
     }
     Ok(())
