@@ -221,24 +221,43 @@ fn expansions_have_a_limit(rt: HostRuntime) -> Result<(), Fail> {
     Ok(())
 }
 
+/// A text, the number of its statements, and where each of its binders takes its type from.
+static ORIGINS: [(&str, usize, &[Origin]); 2] = [
+    (
+        "x = 0; T = Nat; y : T; lambda _:T. let z = x in z",
+        4,
+        &[
+            Origin::Term(Place(0)),
+            Origin::TypeName,
+            Origin::Declaration(2),
+            Origin::Lambda(Place(4)),
+            Origin::Term(Place(1)),
+        ],
+    ),
+    (
+        "x = 0; T = Nat; lambda _:T. lambda y:T. x y z",
+        3,
+        &[
+            Origin::Term(Place(0)),
+            Origin::TypeName,
+            Origin::Lambda(Place(7)),
+            Origin::Lambda(Place(6)),
+        ],
+    ),
+];
+
 #[test]
 fn binders_take_their_types_from_places_and_statements(rt: HostRuntime) -> Result<(), Fail> {
     let alloc = rt.alloc();
-    let text = "x = 0; T = Nat; y : T; lambda _:T. let z = x in z";
-    let commands = commands_of(&rt, alloc, text)?;
-    let scopes = bind(alloc, &commands)?;
-    let resolved = resolve(alloc, &commands, &scopes)
-        .ok()
-        .expect(&rt, "its forms");
-    let origins = [
-        Origin::Term(Place(0)),
-        Origin::TypeName,
-        Origin::Declaration(2),
-        Origin::Lambda(Place(4)),
-        Origin::Term(Place(1)),
-    ];
-    assert_eq!(rt; resolved.statements().len(), 4);
-    assert_eq!(rt; resolved.origins(), origins.as_slice());
+    for (text, statements, origins) in &ORIGINS {
+        let commands = commands_of(&rt, alloc, text)?;
+        let scopes = bind(alloc, &commands)?;
+        let resolved = resolve(alloc, &commands, &scopes)
+            .ok()
+            .expect(&rt, "its forms");
+        assert_eq!(rt; resolved.statements().len(), *statements, "of {text:?}");
+        assert_eq!(rt; resolved.origins(), *origins, "of {text:?}");
+    }
     Ok(())
 }
 
