@@ -124,12 +124,12 @@ none_wide p u o d is wide = subst (λ q. IsWidened p u (option_map typing_tree_o
 
 -- from a form to the term, by what was found
 
-pub found_type : (t : Typing) (place : ℕ) (r : Option TyNo) (number : TyNo) (ty : Typ) → r ≡ get_or t.walk.found.items place None → r ≡ Some number → ty ≡ type_of t.walk.table number
+pub found_type : (t : Typing) (place : ℕ) (r : Option TyNo) (number : TyNo) (ty : Typ) → r ≡ get_or t.found.items place None → r ≡ Some number → ty ≡ type_of t.table number
     → get_or (found_of t) place None ≡ Some ty
-found_type t place r number ty is some type = sym (answers_at t.walk.table t.walk.found.items place) ∙ ap (λ o. answer t.walk.table o) (sym is ∙ some) ∙ ap Some (sym type)
+found_type t place r number ty is some type = sym (answers_at t.table t.found.items place) ∙ ap (λ o. answer t.table o) (sym is ∙ some) ∙ ap Some (sym type)
 
-pub found_none : (t : Typing) (place : ℕ) (r : Option TyNo) → r ≡ get_or t.walk.found.items place None → r ≡ None → get_or (found_of t) place None ≡ None
-found_none t place r is none = sym (answers_at t.walk.table t.walk.found.items place) ∙ ap (λ o. answer t.walk.table o) (sym is ∙ none)
+pub found_none : (t : Typing) (place : ℕ) (r : Option TyNo) → r ≡ get_or t.found.items place None → r ≡ None → get_or (found_of t) place None ≡ None
+found_none t place r is none = sym (answers_at t.table t.found.items place) ∙ ap (λ o. answer t.table o) (sym is ∙ none)
 
 this_found : (o : Option TypingTree) (type : Typ) (g : Context) (e : Term) (d : Dialect) → ProvesThis o type g e d → ProvesFound o (Some type) g e d
 this_found (Some p) type g e d h = h

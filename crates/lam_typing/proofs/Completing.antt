@@ -22,28 +22,31 @@ use Rattle.lam_typing.specs.declared.walking.Stop.{Stop}
 use Rattle.lam_typing.proofs.Growing.{answers_keep}
 use Rattle.lam_typing.proofs.Glue.{progress_same, retabled_grows, grows_same}
 use Rattle.lam_typing.proofs.Together.{least_length}
-use Rattle.lam_typing.proofs.Finishing.{analysed, stopped_behind_last, stopped_at_large}
+use Rattle.lam_typing.proofs.Finishing.{HasWalked, analysed, stopped_behind_last, stopped_at_large}
 use Rattle.lam_typing.proofs.Sighted.{written_noted}
 
 -- the analysis, by the later table
 
+has_walked : (w : Walk) (ss : List Statement) (origins : List Origin) (t : Typing) (d : Dialect) → Completes w ss origins t d → HasWalked (record w { table = t.table }) t
+has_walked w ss origins t d completes = record { table = refl; found = completes.found; blames = completes.blames }
+
 pub analysis_of_all : (w0 w : Walk) (last : Option PlaceNumber) (ss : List Statement) (origins : List Origin) (t : Typing) (d : Dialect) → Begins w0 last → Grows w0 w
     → Went (entries_of w0) (λ s. places_of s ss) (progress_of w0) (progress_of w) d → Completes w ss origins t d → IsAnalysis (up_to last (places_of [] ss)) t d
 analysis_of_all w0 w last ss origins t d begins grows went completes =
-    let now = t.walk.table in
-    let keeps = completes.notes.keeps in
+    let now = t.table in
+    let keeps = completes.keeps in
     let same = progress_same w (record w { table = now }) grows.sound keeps refl refl in
     analysed w0 (record w { table = now }) last ss t d begins (retabled_grows w0 w now grows keeps)
-    (subst (λ p. Went (entries_of w0) (λ s. places_of s ss) (progress_of w0) p d) (sym same) went) completes.walk
+    (subst (λ p. Went (entries_of w0) (λ s. places_of s ss) (progress_of w0) p d) (sym same) went) (has_walked w ss origins t d completes)
 
 pub analysis_of_some : (w0 w : Walk) (last : Option PlaceNumber) (ss : List Statement) (origins : List Origin) (t : Typing) (d : Dialect) → Begins w0 last → Grows w0 w
     → HasStoppedAmong Stop.Enough (entries_of w0) (λ s. places_of s ss) w0 w d → Completes w ss origins t d → IsAnalysis (up_to last (places_of [] ss)) t d
 analysis_of_some w0 w last ss origins t d begins grows stopped completes =
-    let now = t.walk.table in
-    let keeps = completes.notes.keeps in
+    let now = t.table in
+    let keeps = completes.keeps in
     let same = progress_same w (record w { table = now }) grows.sound keeps refl refl in
     stopped_behind_last w0 (record w { table = now }) last ss t d begins (retabled_grows w0 w now grows keeps)
-    (rw same stopped.0, stopped.1) completes.walk
+    (rw same stopped.0, stopped.1) (has_walked w ss origins t d completes)
 
 -- a typing of the document
 
@@ -65,14 +68,14 @@ taken_up_to (Some last) ps n e = taken_again ps (last.0 + 1) n e
 pub typing_of : (w : Walk) (last : Option PlaceNumber) (ss : List Statement) (origins : List Origin) (t : Typing) (d : Dialect) → AreWellFormedStatements ss → Grows w w
     → IsAnalysis (up_to last (places_of [] ss)) t d → Completes w ss origins t d → IsTypingOf ss t
 typing_of w last ss origins t d wf grows analysis completes =
-    let same : found_of t ≡ answers w.table w.found.items = ap (λ v. answers t.walk.table v.found.items) completes.walk ∙ answers_keep w.table t.walk.table w.found.items completes.notes.keeps grows.sound.found in
+    let same : found_of t ≡ answers w.table w.found.items = ap (λ os. answers t.table os) completes.found ∙ answers_keep w.table t.table w.found.items completes.keeps grows.sound.found in
     let taken = taken_up_to last (places_of [] ss) (length (found_of t)) (sym (least_length (up_to last (places_of [] ss)) (found_of t) d analysis.least)) in
     record {
       wf = wf;
       stand = analysis.stand;
       least = subst (λ ps. AreLeast ps (found_of t) (dialect_of t)) (sym taken) (subst (λ e. AreLeast (up_to last (places_of [] ss)) (found_of t) e) (sym completes.dialect) analysis.least);
-      noted = completes.notes.noted ∙ ap (λ found. notes_of 0 found [] ss) (sym same);
-      declared = completes.notes.declared;
+      noted = completes.noted ∙ ap (λ found. notes_of 0 found [] ss) (sym same);
+      declared = completes.declared;
     }
 
 -- its entries

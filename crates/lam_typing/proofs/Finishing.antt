@@ -5,12 +5,12 @@ use Rattle.lam_rules.specs.declared.rules.Dialect.{Dialect}
 use Rattle.lam_rules.specs.declared.table.TyNo.{TyNo}
 use Rattle.lam_scope.specs.Places.{Place, Statement, places_of}
 use Rattle.lam_scope.specs.declared.numbers.Place.{Place as PlaceNumber}
-use Rattle.lam_typing.specs.Blaming.{Blamed}
+use Rattle.lam_typing.specs.Blaming.{Blamed, AreBlamed}
 use Rattle.lam_typing.specs.Analysis.{AreLeast, AreSmall, IsTooLarge, IsFirstTooLarge}
 use Rattle.lam_typing.specs.Answers.{answer, answers, StandsIn, AllStandIn}
 use Rattle.lam_typing.specs.Progress.{IsLowest, Shown, Went, next_is_too_large, NextIs}
-use Rattle.lam_typing.specs.Walk.{entries_of, progress_of, IsSoundWalk, Grows, IsBehind, IsUpTo, IsWithin, HasStoppedAmong}
-use Rattle.lam_typing.specs.Typings.{IsAnalysis, up_to, Begins}
+use Rattle.lam_typing.specs.Walk.{blames_of, entries_of, progress_of, IsSoundWalk, Grows, IsBehind, IsUpTo, IsWithin, HasStoppedAmong}
+use Rattle.lam_typing.specs.Typings.{found_of, IsAnalysis, up_to, Begins}
 use Rattle.lam_typing.specs.declared.typing.Typing.{Typing}
 use Rattle.lam_typing.specs.declared.walking.Walk.{Walk}
 use Rattle.lam_typing.specs.declared.walking.Stop.{Stop}
@@ -67,9 +67,23 @@ shows_all w0 w last ps found blames d begins found_is blames_are shown =
     let n : length (progress_of w0).found ≡ 0 = ap (λ p. length p.found) none in
     rw (f, b) (subst (λ m. Shown ps m found blames d) n shown)
 
-analysis : (ps : List Place) (t : Typing) (d : Dialect) → IsSoundWalk t.walk → Shows ps t.walk d → IsAnalysis ps t d
+-- the typing has what the walk found
+pub record HasWalked (w : Walk) (t : Typing) : Type 0 where
+  pub table : t.table ≡ w.table
+  pub found : t.found.items ≡ w.found.items
+  pub blames : t.blames.items ≡ w.blames.items
+
+analysis : (ps : List Place) (w : Walk) (t : Typing) (d : Dialect) → HasWalked w t → IsSoundWalk w → Shows ps w d → IsAnalysis ps t d
 unfolding Shows
-analysis ps t d sound shows = record { stand = sound.found; least = shows.least; small = shows.small; blames = shows.blamed }
+analysis ps w t d has sound shows = record {
+  stand = rw (has.table, has.found) sound.found;
+  least = subst (λ os. AreLeast ps os d) (sym found_is) shows.least;
+  small = subst (λ os. AreSmall os) (sym found_is) shows.small;
+  blames = subst (λ bs. AreBlamed 0 ps bs d) (sym (ap (λ bs. blames_of bs) has.blames)) shows.blamed;
+}
+  where
+    found_is : found_of t ≡ (progress_of w).found
+    found_is = λ i. answers (has.table i) (has.found i)
 
 found_length : (ps : List Place) (w : Walk) (d : Dialect) → Shows ps w d → length ps ≡ length w.found.items
 unfolding Shows
@@ -91,27 +105,27 @@ next_first front (q ∷ rest) w d shows next =
 
 -- it went through
 pub analysed : (w0 w : Walk) (last : Option PlaceNumber) (statements : List Statement) (t : Typing) (d : Dialect) → Begins w0 last → Grows w0 w
-    → Went (entries_of w0) (λ s. places_of s statements) (progress_of w0) (progress_of w) d → t.walk ≡ w
+    → Went (entries_of w0) (λ s. places_of s statements) (progress_of w0) (progress_of w) d → HasWalked w t
     → IsAnalysis (up_to last (places_of [] statements)) t d
-analysed w0 w last statements t d begins grows went is =
+analysed w0 w last statements t d begins grows went has =
     let ps = places_of [] statements in
     let shows : Shows ps w d = shows_all w0 w last ps went.found went.blames d begins went.found_is went.blames_are (went.shown [] (outermost w0 last d begins)) in
     let same : w.last ≡ last = grows.last ∙ begins.last in
     let within : IsWithin last (length w.found.items) = subst (λ l. IsWithin l (length w.found.items)) same grows.sound.room in
     subst (λ qs. IsAnalysis qs t d) (sym (whole last ps (length w.found.items) (found_length ps w d shows) within))
-    (analysis ps t d (subst (λ v. IsSoundWalk v) (sym is) grows.sound) (subst (λ v. Shows ps v d) (sym is) shows))
+    (analysis ps w t d has grows.sound shows)
 
 -- it stopped behind the last place that was asked for
 pub stopped_behind_last : (w0 w : Walk) (last : Option PlaceNumber) (statements : List Statement) (t : Typing) (d : Dialect) → Begins w0 last → Grows w0 w
-    → HasStoppedAmong Stop.Enough (entries_of w0) (λ s. places_of s statements) w0 w d → t.walk ≡ w → IsAnalysis (up_to last (places_of [] statements)) t d
-stopped_behind_last w0 w last statements t d begins grows stopped is =
+    → HasStoppedAmong Stop.Enough (entries_of w0) (λ s. places_of s statements) w0 w d → HasWalked w t → IsAnalysis (up_to last (places_of [] statements)) t d
+stopped_behind_last w0 w last statements t d begins grows stopped has =
     let h = stopped.0.shown [] (outermost w0 last d begins) in
     let shows : Shows h.front w d = shows_all w0 w last h.front stopped.0.found stopped.0.blames d begins stopped.0.found_is stopped.0.blames_are h.shown in
     let same : w.last ≡ last = grows.last ∙ begins.last in
     let within : IsWithin last (length w.found.items) = subst (λ l. IsWithin l (length w.found.items)) same grows.sound.room in
     let behind : IsBehind last (length w.found.items) = subst (λ l. IsBehind l (length w.found.items)) same stopped.1 in
     let asked : up_to last (places_of [] statements) ≡ h.front = ap (λ ps. up_to last ps) h.are ∙ front_of last h.front h.rest (length w.found.items) (found_length h.front w d shows) within behind in
-    subst (λ qs. IsAnalysis qs t d) (sym asked) (analysis h.front t d (subst (λ v. IsSoundWalk v) (sym is) grows.sound) (subst (λ v. Shows h.front v d) (sym is) shows))
+    subst (λ qs. IsAnalysis qs t d) (sym asked) (analysis h.front w t d has grows.sound shows)
 
 -- it stopped at a place that is too large
 pub stopped_at_large : (w0 w : Walk) (last : Option PlaceNumber) (statements : List Statement) (d : Dialect) → Begins w0 last → Grows w0 w

@@ -38,19 +38,19 @@ taken_shorter [] (suc n) = omega arith
 taken_shorter (p ∷ ps) (suc n) = let le = taken_shorter ps n in omega arith
 
 -- each place that was analysed is one of the document
-pub place_within : (ss : List Statement) (t : Typing) (n : ℕ) → IsTypingOf ss t → n < length t.walk.found.items → n < length (places_of [] ss)
+pub place_within : (ss : List Statement) (t : Typing) (n : ℕ) → IsTypingOf ss t → n < length t.found.items → n < length (places_of [] ss)
 place_within ss t n typing lt =
     let same = least_length (take (length (found_of t)) (places_of [] ss)) (found_of t) (dialect_of t) typing.least in
-    let count = length-answers t.walk.table t.walk.found.items in
+    let count = length-answers t.table t.found.items in
     let le = taken_shorter (places_of [] ss) (length (found_of t)) in
     omega arith
 
-seen_at : (ss : List Statement) (t : Typing) (n : ℕ) → IsTypingOf ss t → n < length t.walk.found.items → Seen ss (found_of t) (noted_in t) (dialect_of t) n (place_numbered ss n) (sight_numbered ss n)
+seen_at : (ss : List Statement) (t : Typing) (n : ℕ) → IsTypingOf ss t → n < length t.found.items → Seen ss (found_of t) (noted_in t) (dialect_of t) n (place_numbered ss n) (sight_numbered ss n)
 seen_at ss t n typing lt =
     place_seen ss (found_of t) (noted_in t) (dialect_of t) n (least_among (places_of [] ss) (found_of t) (dialect_of t) typing.least) typing.wf typing.noted (place_within ss t n typing lt)
 
 -- the places of a term end with its own
-pub inside_within : (ss : List Statement) (t : Typing) (n : ℕ) (e : Term) → IsTypingOf ss t → n < length t.walk.found.items → e ≡ (place_numbered ss n).here → inside e < n + 1
+pub inside_within : (ss : List Statement) (t : Typing) (n : ℕ) (e : Term) → IsTypingOf ss t → n < length t.found.items → e ≡ (place_numbered ss n).here → inside e < n + 1
 inside_within ss t n e typing lt is =
     let seen = seen_at ss t n typing lt in
     let at = seen.is in
@@ -66,11 +66,11 @@ found_proof None None ss t n e is found least proves = (tt, found)
 found_proof (Some p) None ss t n e is found least proves = absurd proves
 found_proof None (Some u) ss t n e is found least proves = absurd proves
 
-pub proof_at : (ss : List Statement) (t : Typing) (n : ℕ) (e : Term) (o : Option TypingTree) → IsTypingOf ss t → n < length t.walk.found.items → e ≡ (place_numbered ss n).here → IsProvenTerm t e (n + 1) o
+pub proof_at : (ss : List Statement) (t : Typing) (n : ℕ) (e : Term) (o : Option TypingTree) → IsTypingOf ss t → n < length t.found.items → e ≡ (place_numbered ss n).here → IsProvenTerm t e (n + 1) o
     → IfSome o (λ p. IsProofAt ss t n p) × IfNone o (get_or (found_of t) n None ≡ None)
 proof_at ss t n e o typing lt is proven =
     let seen = seen_at ss t n typing lt in
-    let count = length-answers t.walk.table t.walk.found.items in
+    let count = length-answers t.table t.found.items in
     let entries = seen.entries (omega (arith, lt, count)) in
     let low = entries_lowest (place_numbered ss n).scope (context_at ss t n) (dialect_of t) seen.wf entries in
     let at = seen.is in
@@ -80,8 +80,8 @@ proof_at ss t n e o typing lt is proven =
     (record { least = least_among (places_of [] ss) (found_of t) (dialect_of t) typing.least; low = low }) sees (omega (arith, here)) (omega (arith, lt, count)) in
     found_proof o (get_or (found_of t) (place_of_term seen.first e) None) ss t n e is (ap (λ k. get_or (found_of t) k None) here) entries proves
 
-pub past_all : (t : Typing) (n : ℕ) → length t.walk.found.items ≤ n → get_or (found_of t) n None ≡ None
-past_all t n le = let count = length-answers t.walk.table t.walk.found.items in past (found_of t) n (omega (arith, le, count))
+pub past_all : (t : Typing) (n : ℕ) → length t.found.items ≤ n → get_or (found_of t) n None ≡ None
+past_all t n le = let count = length-answers t.table t.found.items in past (found_of t) n (omega (arith, le, count))
   where
     past : (os : List (Option Typ)) (n : ℕ) → length os ≤ n → get_or os n None ≡ None
     past [] n le = refl

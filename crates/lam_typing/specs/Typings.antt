@@ -2,6 +2,7 @@
 use Rattle.std.specs.Prelude.{◌≡◌, ℕ, ◌+◌, List, [], length, map, take, get_or, Option, Some, None, Result, Ok, Err}
 use Rattle.lam_rules.specs.Types.{Typ}
 use Rattle.lam_rules.specs.Typing.{Context, TypingTree, type_in, IsTyping}
+use Rattle.lam_rules.specs.Numbers.{Keeps}
 use Rattle.lam_rules.specs.declared.rules.Dialect.{Dialect}
 use Rattle.lam_scope.specs.Places.{Place, Statement, places_of, place_numbered}
 use Rattle.lam_scope.specs.Sights.{sight_numbered}
@@ -12,7 +13,7 @@ use Rattle.lam_scope.specs.declared.numbers.Origin.TheVariants.{Lambda, Term as 
 use Rattle.lam_typing.specs.Blaming.{Blamed, AreBlamed}
 use Rattle.lam_typing.specs.Analysis.{AreLeast, AreSmall, IsFirstTooLarge}
 use Rattle.lam_typing.specs.Entries.{AreLeastEntries, declared_in, IsLeastFrom, HasTermAmong, entry_from}
-use Rattle.lam_typing.specs.Notes.{Noted, noted_by, notes_of, NotesDocument}
+use Rattle.lam_typing.specs.Notes.{Noted, noted_by, notes_of}
 use Rattle.lam_typing.specs.Seeing.{note_among}
 use Rattle.lam_typing.specs.Answers.{answers, AllStandIn}
 use Rattle.lam_typing.specs.Walk.{blames_of}
@@ -23,15 +24,15 @@ use Rattle.lam_typing.specs.declared.walking.Stop.{Stop}
 
 -- the types of its table, by number
 abbrev pub types_of : Typing → List Typ
-types_of t = t.walk.table
+types_of t = t.table
 
 -- the type of each place that was analysed, in the order of places
 abbrev pub found_of : Typing → List (Option Typ)
-found_of t = answers t.walk.table t.walk.found.items
+found_of t = answers t.table t.found.items
 
 -- the places that are to blame, each with its code
 abbrev pub blamed_in : Typing → List Blamed
-blamed_in t = blames_of t.walk.blames.items
+blamed_in t = blames_of t.blames.items
 
 -- the dialect that it was analysed in
 abbrev pub dialect_of : Typing → Dialect
@@ -39,11 +40,11 @@ dialect_of t = t.dialect
 
 -- what is noted of each place, in the order of places
 abbrev pub noted_in : Typing → List Noted
-noted_in t = noted_by t.walk.table t.notes.noted.items
+noted_in t = noted_by t.table t.noted.items
 
 -- the type that each statement declares, or none, in the order of statements
 abbrev pub declared_by : Typing → List (Option Typ)
-declared_by t = answers t.walk.table t.notes.declared.items
+declared_by t = answers t.table t.declared.items
 
 -- the entry of a binder that takes its type from there
 abbrev pub entry_by : Typing → Origin → Option Typ
@@ -59,7 +60,7 @@ entries_in t = map (entry_by t) t.origins.items
 -- these places and no others were analysed: each has its least type or none, of no more nodes than a place may show, and
 -- those to blame are told in their order
 pub record IsAnalysis (ps : List Place) (t : Typing) (d : Dialect) : Type 0 where
-  pub stand : AllStandIn t.walk.table t.walk.found.items
+  pub stand : AllStandIn t.table t.found.items
   pub least : AreLeast ps (found_of t) d
   pub small : AreSmall (found_of t)
   pub blames : AreBlamed 0 ps (blamed_in t) d
@@ -84,7 +85,7 @@ pub record Begins (w : Walk) (asked : Option PlaceNumber) : Type 0 where
 -- A typing is one of this document: its types were found of the first places of it, as many as there are, and its notes are of all of them.
 pub record IsTypingOf (ss : List Statement) (t : Typing) : Type 0 where
   pub wf : AreWellFormedStatements ss
-  pub stand : AllStandIn t.walk.table t.walk.found.items
+  pub stand : AllStandIn t.table t.found.items
   pub least : AreLeast (take (length (found_of t)) (places_of [] ss)) (found_of t) (dialect_of t)
   pub noted : noted_in t ≡ notes_of 0 (found_of t) [] ss
   pub declared : declared_by t ≡ map declared_in ss
@@ -104,10 +105,13 @@ pub record IsProofAt (ss : List Statement) (t : Typing) (n : ℕ) (p : TypingTre
   pub proof : IsTyping (context_at ss t n) (place_numbered ss n).here p (dialect_of t)
   pub type : get_or (found_of t) n None ≡ Some (type_in p)
 
--- a walk with the notes of the document that it went over
+-- what a walk found, with the notes of the document that it went over
 pub record Completes (w : Walk) (ss : List Statement) (origins : List Origin) (t : Typing) (d : Dialect) : Type 0 where
-  pub walk : t.walk ≡ record w { table = t.walk.table }
-  pub notes : NotesDocument w.table t.walk.table t.notes w.found.items ss
+  pub keeps : Keeps w.table t.table
+  pub found : t.found.items ≡ w.found.items
+  pub blames : t.blames.items ≡ w.blames.items
+  pub noted : noted_in t ≡ notes_of 0 (answers w.table w.found.items) [] ss
+  pub declared : declared_by t ≡ map declared_in ss
   pub origins_are : t.origins.items ≡ origins
   pub dialect : t.dialect ≡ d
 

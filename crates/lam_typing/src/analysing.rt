@@ -87,7 +87,7 @@ fn end(
     }
 }
 
-/// What a walk found, with the entries that the places speak of.
+/// What a walk found, with the entries that the places speak of. What the walk held beside it is given back.
 fn complete(
     alloc: Global,
     walk: Walk,
@@ -101,29 +101,28 @@ fn complete(
 {
     let Walk {
         mut table,
-        leaves,
+        leaves: _leaves,
         entries,
-        found,
+        mut found,
         blames,
-        last,
+        last: _last,
     } = walk;
+    // The entries of a pass are of no use behind it, and up to half of a list that grew is spare.
+    drop(entries);
+    found.shrink_to_fit();
     let Ok(notes) = note_statements(alloc, &mut table, &found, resolved.statements()) else {
         return Err(TypingFault::Memory);
     };
+    drop(notes.entries);
     let Ok(origins) = resolved.origins().to_vec(alloc) else {
         return Err(TypingFault::Memory);
     };
-    let walk = Walk {
+    Ok(Typing {
         table,
-        leaves,
-        entries,
         found,
         blames,
-        last,
-    };
-    Ok(Typing {
-        walk,
-        notes,
+        noted: notes.noted,
+        declared: notes.declared,
         origins,
         dialect,
     })

@@ -77,9 +77,9 @@ pub(crate) fn note_statements(
     ensures { IfOk result (λ made. NotesDocument table.old table.new made found.now (map statement_of statements.now)) }
 {
     let mut notes = Notes {
-        entries: Vec::new(alloc),
-        noted: Vec::new(alloc),
-        declared: Vec::new(alloc),
+        entries: Vec::with_capacity(alloc, statements.len())?,
+        noted: Vec::with_capacity(alloc, found.len())?,
+        declared: Vec::with_capacity(alloc, statements.len())?,
     };
     for i in 0..statements.len() {
         note_statement(table, &mut notes, found, &statements[i])?;

@@ -49,10 +49,10 @@ pub(crate) fn prove_term(
     ensures proves { IfOk result (λ made. IsProvenTerm typing.now (term_of term.now) behind (option_map tree_in made)) }
 {
     let place = behind - 1;
-    let Some(number) = type_of_place(&typing.walk.found, place) else {
+    let Some(number) = type_of_place(&typing.found, place) else {
         return Ok(None);
     };
-    let ty = typing.walk.table.tree(number)?;
+    let ty = typing.table.tree(number)?;
     prove_form(alloc, typing, term, place, &ty)
 }
 
@@ -129,10 +129,10 @@ fn prove_variable(
     ensures first { IfOk result (λ made. IfSome made (λ m. m.first ≡ place)) }
     ensures proves { IfOk result (λ made. (count : ℕ) → IsProvenForm typing.now (variable count) place (typ_of ty.now) (option_map tree_in made)) }
 {
-    let Some(number) = bound_at(&typing.notes.noted, place) else {
+    let Some(number) = bound_at(&typing.noted, place) else {
         return Ok(None);
     };
-    let entry = typing.walk.table.tree(number)?;
+    let entry = typing.table.tree(number)?;
     let premises = Vec::new(alloc);
     finish(
         alloc,

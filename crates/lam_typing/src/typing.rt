@@ -5,10 +5,9 @@ ghost use Rattle.lam_rules.specs.declared.table.TyNo.{TyNo as Number};
 ghost use Rattle.lam_typing.specs.Notes.{written_number, bound_number};
 
 use crate::blame::Blame;
-use crate::noting::Notes;
+use crate::noting::Note;
 use crate::proving::prove_term;
 use crate::reading::{type_of_place, written_at};
-use crate::walking::Walk;
 use lam_rules::{Dialect, TyNo, TyTable, TypeProof};
 use lam_scope::{Binder, Origin, Place, Resolved};
 use std::alloc::{AllocError, Global};
@@ -17,15 +16,21 @@ use std::alloc::{AllocError, Global};
 /// blame for having none.
 #[derive(Drop)]
 pub struct Typing {
-    pub(crate) walk: Walk,
-    pub(crate) notes: Notes,
+    pub(crate) table: TyTable,
+    /// The type of each place that was analysed, in the order of places.
+    pub(crate) found: Vec<Option<TyNo>>,
+    pub(crate) blames: Vec<Blame>,
+    /// The note of each place, in the order of places.
+    pub(crate) noted: Vec<Note>,
+    /// What each statement declares, in their order.
+    pub(crate) declared: Vec<Option<TyNo>>,
     /// Where each binder takes its type from, by its number.
     pub(crate) origins: Vec<Origin>,
     pub(crate) dialect: Dialect,
-    pub ghost stand: { (i : ℕ) (number : Number) → get_or walk.found.items i None ≡ Some number → number.index < length walk.table },
-    pub ghost written: { (i : ℕ) (number : Number) → written_number notes.noted.items i ≡ Some number → number.index < length walk.table },
-    pub ghost bound: { (i : ℕ) (number : Number) → bound_number notes.noted.items i ≡ Some number → number.index < length walk.table },
-    pub ghost declared: { (i : ℕ) (number : Number) → get_or notes.declared.items i None ≡ Some number → number.index < length walk.table },
+    pub ghost each_found: { (i : ℕ) (number : Number) → get_or found.items i None ≡ Some number → number.index < length table },
+    pub ghost each_written: { (i : ℕ) (number : Number) → written_number noted.items i ≡ Some number → number.index < length table },
+    pub ghost each_bound: { (i : ℕ) (number : Number) → bound_number noted.items i ≡ Some number → number.index < length table },
+    pub ghost each_declared: { (i : ℕ) (number : Number) → get_or declared.items i None ≡ Some number → number.index < length table },
 }
 
 impl Typing {
@@ -40,7 +45,7 @@ impl Typing {
         ensures found { answer (types_of self.now) result ≡ get_or (found_of self.now) place.0 None }
         ensures stands { StandsIn (types_of self.now) result }
     {
-        type_of_place(&self.walk.found, place.0)
+        type_of_place(&self.found, place.0)
     }
 
     /// The least entry of a binder: what is written of it, or the least type of its term, if that was analysed. The
@@ -67,7 +72,7 @@ impl Typing {
         ensures some { IfOk result (λ found. IfSome found (λ proof. IsProofAt (statements_of resolved.now) self.now place.0 (typing_tree_of proof))) }
         ensures none { IfOk result (λ found. IfNone found (get_or (found_of self.now) place.0 None ≡ None)) }
     {
-        if place.0 >= self.walk.found.len() {
+        if place.0 >= self.found.len() {
             return Ok(None);
         }
         let term = resolved.core_at(place);
@@ -81,14 +86,14 @@ impl Typing {
     pub fn blamed(&self) -> &[Blame]
         ensures { blames_of result.now ≡ blamed_in self.now }
     {
-        &self.walk.blames
+        &self.blames
     }
 
     /// The table that the numbers of types are of.
     pub fn table(&self) -> &TyTable
         ensures { result.now ≡ types_of self.now }
     {
-        &self.walk.table
+        &self.table
     }
 
     /// The entry of a binder that takes its type from there.
@@ -97,9 +102,9 @@ impl Typing {
         ensures stands { StandsIn (types_of self.now) result }
     {
         match origin {
-            Origin::Lambda(place) => written_at(&self.notes.noted, place.0),
-            Origin::Term(place) => type_of_place(&self.walk.found, place.0),
-            Origin::Declaration(statement) => type_of_place(&self.notes.declared, statement),
+            Origin::Lambda(place) => written_at(&self.noted, place.0),
+            Origin::Term(place) => type_of_place(&self.found, place.0),
+            Origin::Declaration(statement) => type_of_place(&self.declared, statement),
             Origin::TypeName => None,
         }
     }

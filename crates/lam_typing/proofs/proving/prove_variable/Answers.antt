@@ -12,9 +12,9 @@ use Rattle.lam_typing.proofs.proving.prove_variable.Goals as goal
 
 pub returns-in_default-clause-proves : goal.returns-in_default-clause-proves
 returns-in_default-clause-proves c = λ count. variable_none c.args.typing.now count c.args.place (typ_of c.args.ty.now)
-    (sym (bound_answer c.args.typing.now.walk.table c.args.typing.now.notes.noted.items c.args.place) ∙ ap (λ o. answer c.args.typing.now.walk.table o) (sym (c.bound_at.ensures ∙ ap (λ ns. bound_number ns c.args.place) c.deref.ensures.value) ∙ c.in_default.is))
+    (sym (bound_answer c.args.typing.now.table c.args.typing.now.noted.items c.args.place) ∙ ap (λ o. answer c.args.typing.now.table o) (sym (c.bound_at.ensures ∙ ap (λ ns. bound_number ns c.args.place) c.deref.ensures.value) ∙ c.in_default.is))
 
 pub returns-clause-proves : goal.returns-clause-proves
 returns-clause-proves c = ok_map c.finish.result _ _ (λ made wide count. variable_form c.args.typing.now count c.args.place (typ_of c.in_ok-entry.entry) (typ_of c.args.ty.now) (option_map tree_in made)
-    (sym (bound_answer c.args.typing.now.walk.table c.args.typing.now.notes.noted.items c.args.place) ∙ ap (λ o. answer c.args.typing.now.walk.table o) (sym (c.bound_at.ensures ∙ ap (λ ns. bound_number ns c.args.place) c.deref.ensures.value) ∙ c.in-Some.is) ∙ ap Some (sym c.in_ok-entry.ensures))
+    (sym (bound_answer c.args.typing.now.table c.args.typing.now.noted.items c.args.place) ∙ ap (λ o. answer c.args.typing.now.table o) (sym (c.bound_at.ensures ∙ ap (λ ns. bound_number ns c.args.place) c.deref.ensures.value) ∙ c.in-Some.is) ∙ ap Some (sym c.in_ok-entry.ensures))
     (step_as TypeRule.Var _ _ _ _ (typ_of c.args.ty.now) (option_map tree_in made) c.args.typing.now.dialect refl (none_pushed c.new-premises.result.items c.new-premises.ensures.items) wide)) c.finish.ensures.wide
