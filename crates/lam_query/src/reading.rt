@@ -10,7 +10,7 @@ ghost use Rattle.lam_query.specs.Reading.{IsCommandRead, fault_read};
 ghost use Rattle.lam_query.specs.Views.{fault_of};
 
 use crate::answers::Fault;
-use lam_syntax::{Command, ParseFault, parse, pieces};
+use lam_syntax::{Command, Interner, ParseFault, parse_interning, pieces};
 use lam_token::{Kind, Span, Token};
 use std::alloc::{AllocError, Global};
 
@@ -48,15 +48,16 @@ pub(crate) fn read(alloc: Global, tokens: &[Token<'_>]) -> Result<Parsed, AllocE
 }
 
 /// The commands among pieces, and the faults that pieces have as wholes.
-fn read_pieces(alloc: Global, pieces: &[&[Token<'_>]]) -> Result<Parsed, AllocError>
+fn read_pieces<'t>(alloc: Global, pieces: &[&[Token<'t>]]) -> Result<Parsed, AllocError>
     requires { All (λ p. 0 < length p.now) pieces.now }
     ensures commands { IfOk result (λ p. AreCommandsOf (map (λ q. q.now) pieces.now) (map command_of p.commands.items)) }
     ensures faults { IfOk result (λ p. PieceFaults (map (λ q. q.now) pieces.now) (map fault_of p.faults.items)) }
 {
+    let mut interner = Interner::new(alloc);
     let mut commands = Vec::with_capacity(alloc, pieces.len())?;
     let mut faults = Vec::new(alloc);
     for piece in pieces {
-        match read_piece(alloc, piece)? {
+        match read_piece(alloc, &mut interner, piece)? {
             Piece::Command(command) => commands.push(command)?,
             Piece::Fault(fault) => faults.push(fault)?,
             Piece::Spoiled => {}
@@ -65,14 +66,18 @@ fn read_pieces(alloc: Global, pieces: &[&[Token<'_>]]) -> Result<Parsed, AllocEr
     Ok(Parsed { commands, faults })
 }
 
-fn read_piece(alloc: Global, piece: &[Token<'_>]) -> Result<Piece, AllocError>
+fn read_piece<'t>(
+    alloc: Global,
+    interner: &mut Interner<'t>,
+    piece: &[Token<'t>],
+) -> Result<Piece, AllocError>
     requires { 0 < length piece.now }
     ensures command { IfOk result (IsCommandRead piece.now) }
     ensures fault { IfOk result (λ p. PieceFault piece.now (fault_read p)) }
 {
     let first = piece[0].span();
     let last = piece[piece.len() - 1].span();
-    match parse(alloc, piece) {
+    match parse_interning(alloc, interner, piece) {
         Ok(command) => Ok(Piece::Command(command)),
         Err(ParseFault::TooManyTokens) => Ok(Piece::Fault(Fault {
             code: "L2",

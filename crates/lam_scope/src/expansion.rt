@@ -219,7 +219,7 @@ fn expand_fields(
         let Some(ty) = expand(alloc, seen, &field.ty)? else {
             return Ok(None);
         };
-        let label = field.label.text.clone()?;
+        let label = String::from_str(alloc, &field.label.text)?;
         items.push((label, ty))?;
     }
     Ok(Some(items))

@@ -1,6 +1,7 @@
 //! The nameless forms of terms. Each level of nesting takes the frame of the match and of one arm, so that the deepest
 //! term of a command fits on the stack.
-ghost use Rattle.std.specs.Prelude.{◌≡◌, ◌∷◌, IfOk, OnOk, string_bytes};
+ghost use Rattle.std.specs.Prelude.{◌≡◌, ◌∷◌, IfOk, OnOk};
+ghost use Rattle.std.specs.Rc.{rc_str_bytes};
 ghost use Rattle.std.specs.Option.{option_map};
 ghost use Rattle.lam_rules.specs.TermViews.{term_of, terms_of};
 ghost use Rattle.lam_rules.specs.Terms.{numeral, record_term};
@@ -12,7 +13,7 @@ ghost use Rattle.lam_scope.specs.Views.{abbreviations_of};
 
 use crate::abbreviations::Abbreviations;
 use crate::expansion::expand;
-use crate::names::{Names, name_of};
+use crate::names::{Names, name_of, text_of};
 use lam_rules::{Core, make_letrec};
 use lam_syntax::{
     Binder, Conditional, Identifier, Lambda, Let, Letrec, Prefix, Projection, Tm, TmField, TmNode,
@@ -36,8 +37,8 @@ pub(crate) fn nameless<'a>(
         TmNode::True => Ok(Core::True),
         TmNode::False => Ok(Core::False),
         TmNode::Unit => Ok(Core::Unit),
-        TmNode::Variable(name) => use_of(name, names),
-        TmNode::Numeral(digits) => numeral_of(digits),
+        TmNode::Variable(name) => use_of(alloc, name, names),
+        TmNode::Numeral(digits) => numeral_of(alloc, digits),
         TmNode::Lambda(lambda) => lambda_of(alloc, seen, names, lambda),
         TmNode::If(conditional) => if_of(alloc, seen, names, conditional),
         TmNode::Let(parts) => let_of(alloc, seen, names, parts),
@@ -77,10 +78,10 @@ fn under<'a>(
     binder: &'a Binder,
     body: &'a Tm,
 ) -> Result<Core, AllocError>
-    ensures form { IfOk result (λ e. term_of e ≡ nameless (abbreviations_of seen.now) (option_map (λ s. string_bytes s) binder.now.name ∷ names.old) (tree_of body.now)) }
+    ensures form { IfOk result (λ e. term_of e ≡ nameless (abbreviations_of seen.now) (option_map (λ s. rc_str_bytes s) binder.now.name ∷ names.old) (tree_of body.now)) }
     ensures names { OnOk result (names.new ≡ names.old) }
 {
-    names.enter(name_of(binder))?;
+    names.enter(text_of(name_of(binder)))?;
     let form = nameless(alloc, seen, names, body)?;
     names.leave();
     Ok(form)
@@ -197,7 +198,7 @@ fn project_of<'a>(
     ensures names { OnOk result (names.new ≡ names.old) }
 {
     let form = boxed(alloc, seen, names, &term.record)?;
-    let copy = term.label.text.clone()?;
+    let copy = String::from_str(alloc, &term.label.text)?;
     Ok(Core::Proj(form, copy))
 }
 
@@ -248,7 +249,7 @@ fn nameless_fields<'a>(
     for i in 0..fields.len() {
         let field = &fields[i];
         let form = nameless(alloc, seen, names, &field.term)?;
-        let label = field.label.text.clone()?;
+        let label = String::from_str(alloc, &field.label.text)?;
         forms.push((label, form))?;
     }
     Ok(forms)
@@ -256,23 +257,23 @@ fn nameless_fields<'a>(
 
 /// The count of a use, or its name where it is unbound.
 #[tactic(auto, using(crate::proofs::Forms::forms))]
-fn use_of(name: &Identifier, names: &Names<'_>) -> Result<Core, AllocError>
-    ensures { IfOk result (λ e. term_of e ≡ use_counted (string_bytes name.now.text) (count (string_bytes name.now.text) names.now)) }
+fn use_of(alloc: Global, name: &Identifier, names: &Names<'_>) -> Result<Core, AllocError>
+    ensures { IfOk result (λ e. term_of e ≡ use_counted (rc_str_bytes name.now.text) (count (rc_str_bytes name.now.text) names.now)) }
 {
     match names.count(&name.text) {
         Some(count) => Ok(Core::Var(count)),
         None => {
-            let copy = name.text.clone()?;
+            let copy = String::from_str(alloc, &name.text)?;
             Ok(Core::Free(copy))
         }
     }
 }
 
 #[tactic(auto, using(crate::proofs::Forms::forms))]
-fn numeral_of(digits: &Identifier) -> Result<Core, AllocError>
-    ensures { IfOk result (λ e. term_of e ≡ numeral (string_bytes digits.now.text)) }
+fn numeral_of(alloc: Global, digits: &Identifier) -> Result<Core, AllocError>
+    ensures { IfOk result (λ e. term_of e ≡ numeral (rc_str_bytes digits.now.text)) }
 {
-    let copy = digits.text.clone()?;
+    let copy = String::from_str(alloc, &digits.text)?;
     Ok(Core::Num(copy))
 }
 

@@ -1,5 +1,6 @@
 //! The binders of names that a term sees.
-ghost use Rattle.std.specs.Prelude.{◌≡◌, ◌∷◌, [], IfOk, OnOk, OnErr, string_bytes};
+ghost use Rattle.std.specs.Prelude.{◌≡◌, ◌∷◌, [], IfOk, OnOk, OnErr};
+ghost use Rattle.std.specs.Rc.{rc_str_bytes};
 ghost use Rattle.std.specs.Option.{option_map};
 ghost use Rattle.lam_scope.specs.Names.{count};
 ghost use Rattle.lam_scope.specs.Stacks.{outside};
@@ -9,6 +10,7 @@ use lam_syntax::Binder;
 use std::alloc::{AllocError, Global};
 use std::collections::HashMap;
 use std::marker::Model;
+use std::rc::RcStr;
 
 /// A binder on a stack: its name, if it is no underscore, and where the binder stands that the name had before.
 #[derive(Drop)]
@@ -85,11 +87,18 @@ impl<'a> Names<'a> {
 }
 
 /// The name of a binder, if it is no underscore.
-pub(crate) fn name_of<'a>(binder: &'a Binder) -> Option<&'a str>
-    ensures { option_map (λ x. x.now) result ≡ option_map (λ s. string_bytes s) binder.now.name }
+pub(crate) fn name_of<'a>(binder: &'a Binder) -> Option<&'a RcStr<Global>>
+    ensures { option_map (λ x. rc_str_bytes x.now) result ≡ option_map (λ s. rc_str_bytes s) binder.now.name }
 {
-    match &binder.name {
+    binder.name.as_ref()
+}
+
+/// The letters of a name, if there is one.
+pub(crate) fn text_of<'a>(name: Option<&'a RcStr<Global>>) -> Option<&'a str>
+    ensures { option_map (λ x. x.now) result ≡ option_map (λ x. rc_str_bytes x.now) name.entry }
+{
+    match name {
         None => None,
-        Some(name) => Some(name.as_str()),
+        Some(shared) => Some(shared.as_str()),
     }
 }

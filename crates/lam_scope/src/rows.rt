@@ -1,5 +1,6 @@
 //! The rows of the tables that binding fills.
-ghost use Rattle.std.specs.Prelude.{◌≡◌, ◌+◌, ◌<◌, length, map, drop, IfOk, OnOk, string_bytes};
+ghost use Rattle.std.specs.Prelude.{◌≡◌, ◌+◌, ◌<◌, length, map, drop, IfOk, OnOk};
+ghost use Rattle.std.specs.Rc.{rc_str_bytes};
 ghost use Rattle.std.specs.Option.{option_map};
 ghost use Rattle.lam_scope.specs.Slices.{first_start, AreInOrder, AreInOrder-prop};
 ghost use Rattle.lam_scope.specs.Tables.{◌⊕◌, empty_table, binder_row, use_row, place_row, place_row_numbered};
@@ -10,12 +11,13 @@ use crate::seen::Seen;
 use lam_syntax::Identifier;
 use lam_token::Span;
 use std::alloc::{AllocError, Global};
+use std::rc::RcStr;
 
 /// A binder of a name or of a type name.
 #[derive(Drop)]
 pub(crate) struct BinderRow {
     /// An underscore has none.
-    pub(crate) name: Option<String>,
+    pub(crate) name: Option<RcStr<Global>>,
     pub(crate) token: Span,
     /// The binder of its kind just outside of it.
     pub(crate) outer: Option<Binder>,
@@ -88,21 +90,20 @@ impl Rows {
     /// One more binder, inside of those that are seen.
     pub(crate) fn add_binder(
         &mut self,
-        alloc: Global,
-        name: Option<&str>,
+        name: Option<&RcStr<Global>>,
         token: Span,
         seen: &Seen<'_>,
         answer: Binder,
         origin: Origin,
     ) -> Result<(), AllocError>
-        ensures table { OnOk result (rows_of self.new ≡ rows_of self.old ⊕ binder_row (option_map (λ x. x.now) name.entry) token seen.now answer.0 origin) }
+        ensures table { OnOk result (rows_of self.new ≡ rows_of self.old ⊕ binder_row (option_map (λ x. rc_str_bytes x.now) name.entry) token seen.now answer.0 origin) }
         ensures binders { OnOk result (length self.new.binders.items ≡ length self.old.binders.items + 1) }
         ensures places { self.new.places ≡ self.old.places }
     {
-        let copy = copy_of_name(alloc, name)?;
+        let shared = shared_name(name)?;
         let outer = seen.innermost();
         let row = BinderRow {
-            name: copy,
+            name: shared,
             token,
             outer,
             answer,
@@ -114,7 +115,7 @@ impl Rows {
 
     /// A use of a name or of a type name that sees these binders of its kind.
     pub(crate) fn add_use(&mut self, used: &Identifier, seen: &Seen<'_>) -> Result<(), AllocError>
-        ensures table { OnOk result (rows_of self.new ≡ rows_of self.old ⊕ use_row (string_bytes used.now.text) used.now.span seen.now) }
+        ensures table { OnOk result (rows_of self.new ≡ rows_of self.old ⊕ use_row (rc_str_bytes used.now.text) used.now.span seen.now) }
         ensures binders { self.new.binders ≡ self.old.binders }
         ensures places { self.new.places ≡ self.old.places }
     {
@@ -195,15 +196,15 @@ impl Rows {
     }
 }
 
-/// The same name in memory of its own.
-fn copy_of_name(alloc: Global, name: Option<&str>) -> Result<Option<String>, AllocError>
-    ensures { IfOk result (λ copy. option_map (λ s. string_bytes s) copy ≡ option_map (λ x. x.now) name.entry) }
+/// The same name in the same memory.
+fn shared_name(name: Option<&RcStr<Global>>) -> Result<Option<RcStr<Global>>, AllocError>
+    ensures { IfOk result (λ shared. option_map (λ s. rc_str_bytes s) shared ≡ option_map (λ x. rc_str_bytes x.now) name.entry) }
 {
     match name {
         None => Ok(None),
         Some(text) => {
-            let copy = String::from_str(alloc, text)?;
-            Ok(Some(copy))
+            let shared = text.clone()?;
+            Ok(Some(shared))
         }
     }
 }

@@ -1,20 +1,22 @@
 //! The binders of one kind that a term sees.
 ghost use Rattle.std.specs.Prelude.{◌≡◌, ◌∷◌, [], IfOk, OnOk};
 ghost use Rattle.std.specs.Option.{option_map};
+ghost use Rattle.std.specs.Rc.{rc_str_bytes};
 ghost use Rattle.lam_scope.specs.Stacks.{outside};
 ghost use Rattle.lam_scope.specs.Tables.{innermost, bound_to};
 ghost use Rattle.lam_scope.specs.TableViews.{entry_of, entries_of, entry_names, binder_number};
 
-use crate::names::Names;
+use crate::names::{Names, text_of};
 use crate::numbers::Binder;
 use crate::stacks::item_under;
 use std::alloc::{AllocError, Global};
 use std::marker::Model;
+use std::rc::RcStr;
 
 /// A binder that is seen: its name, if it is no underscore, its number, and the binder that its uses are told as.
 #[derive(Drop)]
 pub(crate) struct SeenBinder<'a> {
-    pub(crate) name: Option<&'a str>,
+    pub(crate) name: Option<&'a RcStr<Global>>,
     pub(crate) number: Binder,
     pub(crate) answer: Binder,
 }
@@ -101,7 +103,7 @@ fn enter_in<'a>(
 {
     // With its room made first the push cannot fail, and leave a name without its binder.
     stack.reserve(1)?;
-    names.enter(binder.name)?;
+    names.enter(text_of(binder.name))?;
     stack.push(binder)?;
     Ok(())
 }

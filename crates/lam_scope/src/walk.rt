@@ -1,6 +1,7 @@
 //! The walk over terms that binding makes: the binders and the uses in the order of the text, the places each behind
 //! its immediate terms.
-ghost use Rattle.std.specs.Prelude.{◌≡◌, ◌∷◌, [], ◌+◌, ◌<◌, length, map, true, Some, IfOk, OnOk, string_bytes};
+ghost use Rattle.std.specs.Prelude.{◌≡◌, ◌∷◌, [], ◌+◌, ◌<◌, length, map, true, Some, IfOk, OnOk};
+ghost use Rattle.std.specs.Rc.{rc_str_bytes};
 ghost use Rattle.std.specs.Option.{option_map};
 ghost use Rattle.lam_syntax.specs.Trees.{lambda, if_term, let_term, letrec_term, apply};
 ghost use Rattle.lam_syntax.specs.Views.{bound_of, type_of, type_fields_of, term_of, term_node_of, fields_of, command_of};
@@ -18,6 +19,7 @@ use lam_syntax::{
 };
 use lam_token::Span;
 use std::alloc::{AllocError, Global};
+use std::rc::RcStr;
 
 /// What stands for the origin of a binder of a name until the walk has gone over the term that gives it a type, or is
 /// its lambda: only then that place has its number.
@@ -296,17 +298,17 @@ fn walk_bound<'a>(
     types: &Seen<'_>,
     names: &mut Seen<'a>,
     bound: &'a Tm,
-    name: Option<&str>,
+    name: Option<&RcStr<Global>>,
     token: Span,
 ) -> Result<Place, AllocError>
-    ensures table { OnOk result (rows_of rows.new ≡ rows_of rows.old ⊕ (binder_row (option_map (λ x. x.now) name.entry) token names.old (length rows.old.binders.items) (term_at (root (length rows.old.places.items) (term_of bound.now))) ⊕ term_table types.now names.old (length rows.old.binders.items + 1) (length rows.old.places.items) (term_of bound.now))) }
+    ensures table { OnOk result (rows_of rows.new ≡ rows_of rows.old ⊕ (binder_row (option_map (λ x. rc_str_bytes x.now) name.entry) token names.old (length rows.old.binders.items) (term_at (root (length rows.old.places.items) (term_of bound.now))) ⊕ term_table types.now names.old (length rows.old.binders.items + 1) (length rows.old.places.items) (term_of bound.now))) }
     ensures place { IfOk result (λ p. p.0 ≡ root (length rows.old.places.items) (term_of bound.now)) }
     ensures binders { OnOk result (length rows.new.binders.items ≡ length rows.old.binders.items + 1 + binders_in (term_of bound.now)) }
     ensures places { OnOk result (length rows.new.places.items ≡ behind (length rows.old.places.items) (term_of bound.now)) }
     ensures names { OnOk result (names.new ≡ names.old) }
 {
     let number = Binder(rows.binder_count());
-    rows.add_binder(alloc, name, token, names, number, NOT_YET_KNOWN)?;
+    rows.add_binder(name, token, names, number, NOT_YET_KNOWN)?;
     let place = walk_term(alloc, rows, types, names, bound)?;
     rows.set_origin(number, Origin::Term(place));
     Ok(place)
@@ -331,7 +333,7 @@ fn walk_lambda<'a>(
     let number = Binder(rows.binder_count());
     let seen = seen_as(&term.binder, number.0);
     let token = term.binder.span;
-    rows.add_binder(alloc, seen.name, token, names, number, NOT_YET_KNOWN)?;
+    rows.add_binder(seen.name, token, names, number, NOT_YET_KNOWN)?;
     walk_type(alloc, rows, types, &term.ty)?;
     let place = walk_under(alloc, rows, types, names, &term.body, seen)?;
     rows.set_origin(number, Origin::Lambda(Place(rows.place_count())));
@@ -349,7 +351,7 @@ fn walk_fix<'a>(
     names: &mut Seen<'a>,
     term: &'a Letrec,
 ) -> Result<Place, AllocError>
-    ensures table { OnOk result (rows_of rows.new ≡ rows_of rows.old ⊕ letrec_rows (option_map (λ s. string_bytes s) term.now.binder.name) term.now.binder.span names.old (length rows.old.binders.items) (root (length rows.old.places.items) (term_of term.now.bound)) term.now.bound.span (type_uses types.now (type_of term.now.ty)) (term_table types.now (entry (option_map (λ s. string_bytes s) term.now.binder.name) (length rows.old.binders.items) (length rows.old.binders.items + 1) ∷ names.old) (length rows.old.binders.items + 2) (length rows.old.places.items) (term_of term.now.bound))) }
+    ensures table { OnOk result (rows_of rows.new ≡ rows_of rows.old ⊕ letrec_rows (option_map (λ s. rc_str_bytes s) term.now.binder.name) term.now.binder.span names.old (length rows.old.binders.items) (root (length rows.old.places.items) (term_of term.now.bound)) term.now.bound.span (type_uses types.now (type_of term.now.ty)) (term_table types.now (entry (option_map (λ s. rc_str_bytes s) term.now.binder.name) (length rows.old.binders.items) (length rows.old.binders.items + 1) ∷ names.old) (length rows.old.binders.items + 2) (length rows.old.places.items) (term_of term.now.bound))) }
     ensures place { IfOk result (λ p. p.0 ≡ root (length rows.old.places.items) (term_of term.now.bound) + 2) }
     ensures binders { OnOk result (length rows.new.binders.items ≡ length rows.old.binders.items + 2 + binders_in (term_of term.now.bound)) }
     ensures places { OnOk result (length rows.new.places.items ≡ root (length rows.old.places.items) (term_of term.now.bound) + 3) }
@@ -363,8 +365,8 @@ fn walk_fix<'a>(
         answer: of_let,
     };
     let token = term.binder.span;
-    rows.add_binder(alloc, seen.name, token, names, of_let, NOT_YET_KNOWN)?;
-    rows.add_binder(alloc, seen.name, token, names, of_let, NOT_YET_KNOWN)?;
+    rows.add_binder(seen.name, token, names, of_let, NOT_YET_KNOWN)?;
+    rows.add_binder(seen.name, token, names, of_let, NOT_YET_KNOWN)?;
     walk_type(alloc, rows, types, &term.ty)?;
     let place = walk_under(alloc, rows, types, names, &term.bound, seen)?;
     let fixed = add_derived(rows, names, term.bound.span, place, of_lambda, of_let)?;
@@ -397,8 +399,8 @@ fn add_derived(
 
 /// A binder as the terms under it see it.
 fn seen_as<'a>(binder: &'a BoundName, number: usize) -> SeenBinder<'a>
-    ensures entry { entry_of result ≡ entry (option_map (λ s. string_bytes s) binder.now.name) number number }
-    ensures name { option_map (λ x. x.now) result.name ≡ option_map (λ s. string_bytes s) binder.now.name }
+    ensures entry { entry_of result ≡ entry (option_map (λ s. rc_str_bytes s) binder.now.name) number number }
+    ensures name { option_map (λ x. rc_str_bytes x.now) result.name ≡ option_map (λ s. rc_str_bytes s) binder.now.name }
 {
     SeenBinder {
         name: name_of(binder),
@@ -439,7 +441,6 @@ pub(crate) fn walk_command<'a>(
         Command::Declaration(name, ty) => {
             let seen = named(name, own);
             rows.add_binder(
-                alloc,
                 seen.name,
                 name.span,
                 names,
@@ -451,7 +452,7 @@ pub(crate) fn walk_command<'a>(
         }
         Command::Abbreviation(name, ty) => {
             let seen = named(name, own);
-            rows.add_binder(alloc, seen.name, name.span, types, own, Origin::TypeName)?;
+            rows.add_binder(seen.name, name.span, types, own, Origin::TypeName)?;
             walk_type(alloc, rows, types, ty)?;
             types.enter(seen)
         }
@@ -464,11 +465,11 @@ pub(crate) fn walk_command<'a>(
 
 /// The binder of a command, as those behind it see it.
 fn named<'a>(name: &'a Identifier, own: Binder) -> SeenBinder<'a>
-    ensures entry { entry_of result ≡ entry (Some (string_bytes name.now.text)) own.0 own.0 }
-    ensures name { option_map (λ x. x.now) result.name ≡ Some (string_bytes name.now.text) }
+    ensures entry { entry_of result ≡ entry (Some (rc_str_bytes name.now.text)) own.0 own.0 }
+    ensures name { option_map (λ x. rc_str_bytes x.now) result.name ≡ Some (rc_str_bytes name.now.text) }
 {
     SeenBinder {
-        name: Some(name.text.as_str()),
+        name: Some(&name.text),
         number: own,
         answer: own,
     }

@@ -2,11 +2,12 @@
 //!
 //! Semicolons divide a document's tokens into pieces, and a fault in one of them leaves the others as they are.
 //! `parse` answers the one tree of a piece, or the token at which the piece stops being the start of a command.
-//! The trees keep the place of each term, type, name and binder.
+//! The trees keep the place of each term, type, name and binder; names that are alike share their memory.
 #![tactic(auto)]
 
 mod fault;
 mod identifier;
+mod interner;
 mod laws;
 mod parse_terms;
 mod parse_types;
@@ -22,8 +23,9 @@ mod types;
 
 pub use fault::ParseFault;
 pub use identifier::{Binder, Identifier};
+pub use interner::Interner;
 pub use laws::one_answer;
-pub use parser::parse;
+pub use parser::{parse, parse_interning};
 pub use splitting::pieces;
 pub use terms::{
     Command, Conditional, Lambda, Let, Letrec, Prefix, Projection, Tm, TmField, TmNode,

@@ -1,8 +1,9 @@
 //! Rows of texts, the trees that they spell and their faults.
-use crate::{Command, ParseFault, TmNode, TyNode, parse, pieces};
+use crate::{Command, Interner, ParseFault, TmNode, TyNode, parse, parse_interning, pieces};
 use lam_token::{Span, lex};
 use std::alloc::Global;
 use std::process::Abort;
+use std::rc::RcStr;
 use std::test::Fail;
 
 /// The fault of the text's one piece, with the place of the token that it names.
@@ -123,6 +124,34 @@ fn spans_and_groups(rt: HostRuntime) -> Result<(), Fail> {
     let left = Span { start: 4, end: 7 };
     let right = Span { start: 9, end: 13 };
     assert_eq!(rt; arrow_spans(&declared), Some([whole, left, right]));
+    Ok(())
+}
+
+/// The name that a text's command gives, as this interner has it.
+fn given_name<'t>(
+    rt: &impl Abort,
+    alloc: Global,
+    interner: &mut Interner<'t>,
+    text: &'t str,
+) -> Result<RcStr<Global>, Fail> {
+    let tokens = lex(alloc, text)?;
+    let found = parse_interning(alloc, interner, tokens.as_slice());
+    match found.ok().expect(rt, "a command") {
+        Command::Definition(name, _term) => Ok(name.text),
+        _other => rt.abort(),
+    }
+}
+
+#[test]
+fn names_that_are_alike_share_their_memory(rt: HostRuntime) -> Result<(), Fail> {
+    let mut interner = Interner::new(rt.alloc());
+    let first = given_name(&rt, rt.alloc(), &mut interner, "x = 0")?;
+    let other = given_name(&rt, rt.alloc(), &mut interner, "y = x")?;
+    let again = given_name(&rt, rt.alloc(), &mut interner, "x = y")?;
+    assert_eq!(rt; first.as_str(), "x");
+    assert_eq!(rt; other.as_str(), "y");
+    assert_eq!(rt; RcStr::ptr_eq(&first, &again), true);
+    assert_eq!(rt; RcStr::ptr_eq(&first, &other), false);
     Ok(())
 }
 

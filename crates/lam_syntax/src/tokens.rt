@@ -6,9 +6,10 @@ ghost use Rattle.lam_syntax.specs.Views.{word_of};
 ghost use Rattle.lam_syntax.specs.Reads.{Takes, Expects, Names};
 
 use crate::identifier::Identifier;
+use crate::interner::Interner;
 use crate::stop::Stop;
 use lam_token::{Kind, Span, Token};
-use std::alloc::{AllocError, Global};
+use std::alloc::AllocError;
 
 /// The place of the first token and those behind it, if it is of this kind.
 pub(crate) fn take<'a, 'b>(tokens: &'a [Token<'b>], kind: Kind) -> Option<(Span, &'a [Token<'b>])>
@@ -36,18 +37,21 @@ pub(crate) fn expect<'a, 'b>(
 }
 
 /// The token's text and place.
-pub(crate) fn identifier_of(alloc: Global, token: &Token<'_>) -> Result<Identifier, AllocError>
+pub(crate) fn identifier_of<'b>(
+    interner: &mut Interner<'b>,
+    token: &Token<'b>,
+) -> Result<Identifier, AllocError>
     ensures { IfOk result (λ i. word_of i ≡ word (text_of token.now) (span_of token.now)) }
 {
     Ok(Identifier {
-        text: String::from_str(alloc, token.text())?,
+        text: interner.intern(token.text())?,
         span: token.span(),
     })
 }
 
 /// A name with its text, where another token stops the reading.
 pub(crate) fn expect_name<'a, 'b>(
-    alloc: Global,
+    interner: &mut Interner<'b>,
     tokens: &'a [Token<'b>],
 ) -> Result<(Identifier, &'a [Token<'b>]), Stop<'a, 'b>>
     ensures named { Names tokens.now result }
@@ -58,6 +62,6 @@ pub(crate) fn expect_name<'a, 'b>(
     if first.kind() != Kind::Name {
         return Err(Stop::At(tokens));
     }
-    let name = identifier_of(alloc, first)?;
+    let name = identifier_of(interner, first)?;
     Ok((name, rest))
 }
