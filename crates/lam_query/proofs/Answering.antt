@@ -31,7 +31,7 @@ use Rattle.lam_query.specs.TextFaults.{written_fault, blame_fault, AreTypeFaults
 use Rattle.lam_query.specs.Hovers.{Shown, IsTypedAround}
 use Rattle.lam_query.specs.Views.{fault_of}
 use Rattle.lam_query.specs.Within.{StandsIn}
-use Rattle.lam_query.specs.Analyses.{AreFoundOf, AreTypesOf, IsAnalysisOf, IsShownIn}
+use Rattle.lam_query.specs.Analyses.{AreFoundOf, AreTypesOf, IsAnalysisOf, IsShownIn, commands_in}
 use Rattle.lam_query.proofs.Within.{in_place}
 use Rattle.lam_query.proofs.TextPlaces.{commands_stand}
 use Rattle.lam_query.proofs.FaultPlaces.{faults_stand}
@@ -67,12 +67,12 @@ of_types_found cs resolved typing d t written blamed all ws bs is_table h are to
     rw (joined, map-append fault_of written blamed, first, second) every
 
 pub text_faults : (text : List ℕ) (a : Analysis) (of_types all ordered : List RustFault)
-    → (h : IsAnalysisOf text a) → AreTypeFaults h.commands (map fault_of of_types) a.dialect
+    → (h : IsAnalysisOf text a) → AreTypeFaults (commands_in a) (map fault_of of_types) a.dialect
     → all ≡ a.syntax.items ++ of_types → AreInOrder (map fault_of all) (map fault_of ordered) → AreFaults text (map fault_of ordered) a.dialect
 text_faults text a of_types all ordered h types joined order = record {
   tokens = h.are_commands.tokens;
   are_tokens = h.are_commands.are_tokens;
-  commands = h.commands;
+  commands = commands_in a;
   are_commands = h.are_commands.are_commands;
   of_syntax = map fault_of a.syntax.items;
   are_of_syntax = h.syntax;
@@ -85,53 +85,53 @@ pub starts_stand : (text : List ℕ) → IsUtf8 text → StandsIn text no_span
 starts_stand text is_text = (IsCharBoundary-start text is_text, IsCharBoundary-start text is_text)
 
 pub whole_faults : (text : List ℕ) (a : Analysis) (of_types all ordered : List RustFault)
-    → IsUtf8 text → (h : IsAnalysisOf text a) → AreTypeFaults h.commands (map fault_of of_types) a.dialect
+    → IsUtf8 text → (h : IsAnalysisOf text a) → AreTypeFaults (commands_in a) (map fault_of of_types) a.dialect
     → all ≡ a.syntax.items ++ of_types → AreInOrder (map fault_of all) (map fault_of ordered) → All (λ f. StandsIn text f.span) ordered
 whole_faults text a of_types all ordered is_text h types joined order =
-    faults_stand text h.commands a.dialect h.are_commands.tokens a.syntax.items of_types all ordered (starts_stand text is_text) h.whole
-    (commands_stand text h.are_commands.tokens h.commands h.whole h.are_commands.are_commands) h.syntax types joined order
+    faults_stand text (commands_in a) a.dialect h.are_commands.tokens a.syntax.items of_types all ordered (starts_stand text is_text) h.whole
+    (commands_stand text h.are_commands.tokens (commands_in a) h.whole h.are_commands.are_commands) h.syntax types joined order
 
 -- what is shown
 
-pub types_held : (text : List ℕ) (a : Analysis) (types : Types) → (h : IsAnalysisOf text a) → a.types ≡ types → AreTypesOf h.commands types a.dialect
+pub types_held : (text : List ℕ) (a : Analysis) (types : Types) → (h : IsAnalysisOf text a) → a.types ≡ types → AreTypesOf (commands_in a) types a.dialect
 types_held text a types h is = rw is at h.types
 
 pub shown_too_large : (text : List ℕ) (a : Analysis) (s : Span) (o : ℕ) → IsAnalysisOf text a → a.types ≡ TooLarge s → IsShownIn text o None a.dialect
 shown_too_large text a s o h is = record {
-  commands = h.commands;
+  commands = commands_in a;
   are_commands = h.are_commands;
-  answer = too_large_around h.commands s o a.dialect (types_held text a (TooLarge s) h is);
+  answer = too_large_around (commands_in a) s o a.dialect (types_held text a (TooLarge s) h is);
 }
 
 pub shown_nowhere : (text : List ℕ) (a : Analysis) (o : ℕ) → IsAnalysisOf text a → None ≡ place_at (table_of a.scopes) o → IsShownIn text o None a.dialect
 shown_nowhere text a o h at = record {
-  commands = h.commands;
+  commands = commands_in a;
   are_commands = h.are_commands;
-  answer = let here = subst (λ t. None ≡ place_at t o) h.scopes.same_table at in nothing_around h.commands o a.dialect (sym here);
+  answer = let here = subst (λ t. None ≡ place_at t o) h.scopes.same_table at in nothing_around (commands_in a) o a.dialect (sym here);
 }
 
 pub shown_untyped : (text : List ℕ) (a : Analysis) (resolved : Resolved) (typing : Typing) (o n : ℕ)
     → IsAnalysisOf text a → a.types ≡ Found resolved typing → Some n ≡ place_at (table_of a.scopes) o → get_or (found_of typing) n None ≡ None → IsShownIn text o None a.dialect
 shown_untyped text a resolved typing o n h is at none = record {
-  commands = h.commands;
+  commands = commands_in a;
   are_commands = h.are_commands;
   answer =
       let here = subst (λ t. Some n ≡ place_at t o) h.scopes.same_table at in
-      untyped_around h.commands resolved typing a.dialect o n (types_held text a (Found resolved typing) h is) (sym here) none;
+      untyped_around (commands_in a) resolved typing a.dialect o n (types_held text a (Found resolved typing) h is) (sym here) none;
 }
 
 pub typed_in : (text : List ℕ) (a : Analysis) (resolved : Resolved) (typing : Typing) (o n : ℕ) (t : Typ)
     → (h : IsAnalysisOf text a) → a.types ≡ Found resolved typing → Some n ≡ place_at (table_of a.scopes) o → get_or (found_of typing) n None ≡ Some t
-    → IsTypedAround h.commands o n t a.dialect
+    → IsTypedAround (commands_in a) o n t a.dialect
 typed_in text a resolved typing o n t h is at found =
     let here = subst (λ t. Some n ≡ place_at t o) h.scopes.same_table at in
-    typed_around h.commands resolved typing a.dialect o n t (types_held text a (Found resolved typing) h is) (sym here) found
+    typed_around (commands_in a) resolved typing a.dialect o n t (types_held text a (Found resolved typing) h is) (sym here) found
 
 pub shown_type : (text : List ℕ) (a : Analysis) (resolved : Resolved) (typing : Typing) (o n : ℕ) (t : Typ) (shown : Shown)
     → IsAnalysisOf text a → a.types ≡ Found resolved typing → Some n ≡ place_at (table_of a.scopes) o → get_or (found_of typing) n None ≡ Some t
     → shown.text ≡ text_of_type t → shown.span ≡ (place_row_numbered (table_of a.scopes) n).span → IsShownIn text o (Some shown) a.dialect
 shown_type text a resolved typing o n t shown h is at found is_text is_span = record {
-  commands = h.commands;
+  commands = commands_in a;
   are_commands = h.are_commands;
   answer = (n, t, typed_in text a resolved typing o n t h is at found, is_text, subst (λ t. shown.span ≡ (place_row_numbered t n).span) h.scopes.same_table is_span);
 }
@@ -141,4 +141,4 @@ shown_type text a resolved typing o n t shown h is at found is_text is_span = re
 pub place_stands : (text : List ℕ) (a : Analysis) (n : ℕ) (s : Span) → IsUtf8 text → IsAnalysisOf text a → s ≡ (place_row_numbered (table_of a.scopes) n).span → StandsIn text s
 place_stands text a n s is_text h is =
     let same = subst (λ t. s ≡ (place_row_numbered t n).span) h.scopes.same_table is in
-    rw same (in_place (StandsIn text) h.commands (starts_stand text is_text) (commands_stand text h.are_commands.tokens h.commands h.whole h.are_commands.are_commands) n)
+    rw same (in_place (StandsIn text) (commands_in a) (starts_stand text is_text) (commands_stand text h.are_commands.tokens (commands_in a) h.whole h.are_commands.are_commands) n)

@@ -30,7 +30,7 @@ use Rattle.lam_query.specs.Derivations.{Entry, Derivation, IsDerivationAround}
 use Rattle.lam_query.specs.Contexts.{entry_shown}
 use Rattle.lam_query.specs.Within.{StandsIn}
 use Rattle.lam_query.specs.Views.{StepStandsIn}
-use Rattle.lam_query.specs.Analyses.{AreFoundOf, IsAnalysisOf, IsShownIn, IsDerivedIn}
+use Rattle.lam_query.specs.Analyses.{AreFoundOf, IsAnalysisOf, IsShownIn, IsDerivedIn, commands_in}
 use Rattle.lam_query.proofs.Hovering.{typed_around}
 use Rattle.lam_query.proofs.Answering.{types_held, place_stands}
 
@@ -94,13 +94,13 @@ pub derived_type : (text : List ℕ) (a : Analysis) (resolved : Resolved) (typin
     → derived.context ≡ map (entry_shown (table_of a.scopes) (entries_in typing)) (visible_at (table_of a.scopes) n)
     → derived.steps ≡ steps_of 0 (typing_proof (table_of a.scopes) n tree) → IsDerivedIn text o (Some derived) a.dialect
 derived_type text a resolved typing o n tree derived h is at proof told steps = record {
-  commands = h.commands;
+  commands = commands_in a;
   are_commands = h.are_commands;
   answer =
       let at_place = subst (λ t. Some n ≡ place_at t o) h.scopes.same_table at in
       let told_there = subst (λ t. derived.context ≡ map (entry_shown t (entries_in typing)) (visible_at t n)) h.scopes.same_table told in
       let steps_there = subst (λ t. derived.steps ≡ steps_of 0 (typing_proof t n tree)) h.scopes.same_table steps in
-      derivation_around h.commands resolved typing a.dialect o n tree derived (types_held text a (Found resolved typing) h is) (sym at_place) proof told_there steps_there;
+      derivation_around (commands_in a) resolved typing a.dialect o n tree derived (types_held text a (Found resolved typing) h is) (sym at_place) proof told_there steps_there;
 }
 
 -- where nothing is shown, nothing is derived

@@ -3,6 +3,7 @@ use Rattle.std.specs.Prelude.{◌≡◌, ℕ, List, [], map, All, Option, None}
 use Rattle.lam_token.specs.Cut as token
 use Rattle.lam_rules.specs.declared.rules.Dialect.{Dialect}
 use Rattle.lam_syntax.specs.Trees.{CommandTree}
+use Rattle.lam_syntax.specs.Views.{command_of}
 use Rattle.lam_scope.specs.declared.resolved.Resolved.{Resolved}
 use Rattle.lam_scope.specs.Nameless.{first_too_large, faults}
 use Rattle.lam_scope.specs.Tables.{table}
@@ -39,15 +40,18 @@ AreTypesOf commands (Found resolved typing) d = AreFoundOf commands resolved typ
 abbrev pub dialect_of : Analysis → Dialect
 dialect_of a = a.dialect
 
--- An analysis is of a text: all in it is of the commands of the text's tokens, places included, and its faults of syntax are those of the tokens, which begin and end
--- between characters.
+-- the commands that it holds
+abbrev pub commands_in : Analysis → List CommandTree
+commands_in a = map command_of a.commands.items
+
+-- An analysis is of a text: its commands are those of the text's tokens, places included, and the rest is of its commands; its faults of syntax are those of the tokens,
+-- which begin and end between characters.
 pub record IsAnalysisOf (text : List ℕ) (a : Analysis) : Type 0 where
-  pub commands : List CommandTree
-  pub are_commands : AreCommandsOfText text commands
+  pub are_commands : AreCommandsOfText text (commands_in a)
   pub whole : All (token.StandsIn text) are_commands.tokens
   pub syntax : AreSyntaxFaults are_commands.tokens (map fault_of a.syntax.items)
-  pub scopes : AreScopesOf a.scopes commands
-  pub types : AreTypesOf commands a.types a.dialect
+  pub scopes : AreScopesOf a.scopes (commands_in a)
+  pub types : AreTypesOf (commands_in a) a.types a.dialect
 
 -- what is shown of an offset of a text: what is shown of that offset in the text's commands
 pub record IsShownIn (text : List ℕ) (offset : ℕ) (shown : Option Shown) (d : Dialect) : Type 0 where

@@ -1,13 +1,12 @@
 //! What is known of a text, and what is answered about it.
-ghost use Rattle.std.specs.Prelude.{◌≡◌, List, map, All, IfOk, IfSome};
+ghost use Rattle.std.specs.Prelude.{◌≡◌, map, All, IfOk, IfSome};
 ghost use Rattle.std.specs.Option.{option_map};
-ghost use Rattle.lam_syntax.specs.Trees.{CommandTree};
 ghost use Rattle.lam_syntax.specs.Views.{command_of};
 ghost use Rattle.lam_scope.specs.Views.{AreScopesOf};
 ghost use Rattle.lam_query.specs.TextFaults.{AreFaults, AreTypeFaults};
 ghost use Rattle.lam_query.specs.Within.{StandsIn};
 ghost use Rattle.lam_query.specs.Views.{fault_of, shown_of, derivation_of, StepStandsIn};
-ghost use Rattle.lam_query.specs.Analyses.{AreTypesOf, IsAnalysisOf, dialect_of, IsShownIn, IsDerivedIn};
+ghost use Rattle.lam_query.specs.Analyses.{AreTypesOf, IsAnalysisOf, commands_in, dialect_of, IsShownIn, IsDerivedIn};
 
 use crate::answers::{Derivation, Fault, Hover};
 use crate::contexts::context_at;
@@ -22,10 +21,12 @@ use lam_token::{Span, lex};
 use lam_typing::{Typing, TypingFault, analyse};
 use std::alloc::{AllocError, Global};
 
-/// What the names of a text's commands are bound to, and the types of their terms. It holds no part of the text: each
-/// method takes the text that the analysis is of. Nor does it hold the commands, since no answer reads them.
+/// The commands of a text, what their names are bound to, and the types of their terms. It holds no part of the text
+/// itself: each method takes the text that the analysis is of.
 #[derive(Drop)]
 pub struct Analysis {
+    /// Those that all the rest is of.
+    commands: Vec<Command>,
     /// The faults that tokens and the grammar decide.
     syntax: Vec<Fault>,
     scopes: Scopes,
@@ -52,8 +53,9 @@ impl Analysis {
             read(alloc, &tokens)?
         };
         let scopes = bind(alloc, &parsed.commands)?;
-        let types = types_of(alloc, parsed.commands, &scopes, dialect)?;
+        let types = types_of(alloc, &parsed.commands, &scopes, dialect)?;
         Ok(Analysis {
+            commands: parsed.commands,
             syntax: parsed.faults,
             scopes,
             types,
@@ -128,9 +130,11 @@ impl Analysis {
         Ok(Some(Derivation { context, steps }))
     }
 
-    /// The faults that types decide, in the commands that all of it is of.
+    /// The faults that types decide.
     fn type_faults(&self, alloc: Global) -> Result<Vec<Fault>, AllocError>
-        ensures { IfOk result (λ found. (commands : List CommandTree) → AreScopesOf self.now.scopes commands → AreTypesOf commands self.now.types self.now.dialect → AreTypeFaults commands (map fault_of found.items) self.now.dialect) }
+        requires scopes { AreScopesOf self.now.scopes (commands_in self.now) }
+        requires types { AreTypesOf (commands_in self.now) self.now.types self.now.dialect }
+        ensures { IfOk result (λ found. AreTypeFaults (commands_in self.now) (map fault_of found.items) self.now.dialect) }
     {
         match &self.types {
             Types::TooLarge(span) => {
@@ -154,20 +158,18 @@ impl Analysis {
 /// The types of the terms of these commands, or the place of the first type that is too large.
 fn types_of(
     alloc: Global,
-    commands: Vec<Command>,
+    commands: &[Command],
     scopes: &Scopes,
     dialect: Dialect,
 ) -> Result<Types, AllocError>
-    requires { AreScopesOf scopes.now (map command_of commands.items) }
-    ensures { IfOk result (λ types. AreTypesOf (map command_of commands.items) types dialect) }
+    requires { AreScopesOf scopes.now (map command_of commands.now) }
+    ensures { IfOk result (λ types. AreTypesOf (map command_of commands.now) types dialect) }
 {
-    let resolved = match resolve(alloc, &commands, scopes) {
+    let resolved = match resolve(alloc, commands, scopes) {
         Ok(resolved) => resolved,
         Err(ScopeFault::TooLarge(span)) => return Ok(Types::TooLarge(span)),
         Err(ScopeFault::Memory) => return Err(AllocError),
     };
-    // The trees are dropped before types are found beside the tables.
-    drop(commands);
     match analyse(alloc, &resolved, dialect) {
         Ok(typing) => Ok(Types::Found(resolved, typing)),
         Err(TypingFault::TooLarge(place)) => Ok(Types::TooLarge(scopes.span_of(place))),

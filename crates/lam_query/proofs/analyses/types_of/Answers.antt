@@ -4,13 +4,10 @@ use Rattle.lam_query.proofs.analyses.types_of.Goals as goal
 
 pub returns-in-Err-TooLarge : goal.returns-in-Err-TooLarge
 returns-in-Err-TooLarge c =
-    let told = rw c.in-Err-TooLarge.field-0-is at c.in-Err-TooLarge.ensures.limit in
-    let limit = rw c.deref.ensures.value at told in
+    let limit = rw c.in-Err-TooLarge.field-0-is at c.in-Err-TooLarge.ensures.limit in
     rw c.in-Err-TooLarge.field-0-is (of_written_type limit)
 
 pub returns-in-Err-TooLarge-analyse : goal.returns-in-Err-TooLarge-analyse
 returns-in-Err-TooLarge-analyse c =
     let large = rw c.in-Err-TooLarge-analyse.field-0-is at c.in-Err-TooLarge-analyse.ensures.fault in
-    let statements = rw c.deref.ensures.value at c.in-Ok.ensures.statements in
-    let limit = rw c.deref.ensures.value at c.in-Ok.ensures.limit in
-    large_place _ _ _ _ _ _ c.requires.same_table statements limit large c.span_of.ensures
+    large_place _ _ _ _ _ _ c.requires.same_table c.in-Ok.ensures.statements c.in-Ok.ensures.limit large c.span_of.ensures
