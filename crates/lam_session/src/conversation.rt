@@ -98,7 +98,7 @@ impl Conversation {
             }
             Incoming::Notice { method, params } => {
                 let method = notice_method(method.as_str());
-                self.notice(method, &params)
+                self.notice(method, params)
             }
             Incoming::Reply => Ok(Vec::new(self.alloc)),
             Incoming::Unreadable => refuse(self.alloc, Value::Null, Refusal::UnreadableMessage),
@@ -221,9 +221,9 @@ impl Conversation {
         answer(self.alloc, id, value)
     }
 
-    fn notice(&mut self, method: NoticeMethod, params: &Value) -> Result<Vec<Value>, AllocError>
+    fn notice(&mut self, method: NoticeMethod, params: Value) -> Result<Vec<Value>, AllocError>
         requires { self.old.analysed ≡ true }
-        ensures steps { IfOk result (λ values. Noticed self.old.state.life self.old.state method (view params.now) (map view values.items) self.new.state) }
+        ensures steps { IfOk result (λ values. Noticed self.old.state.life self.old.state method (view params) (map view values.items) self.new.state) }
         ensures analysed { IfOk result (λ _. self.new.analysed ≡ true) }
         ensures life { OnErr result (self.new.state.life ≡ self.old.state.life) }
         ensures lives { OnErr result (ended_status self.old.state.life ≡ None) }
@@ -234,17 +234,17 @@ impl Conversation {
         }
     }
 
-    fn heed(&mut self, method: NoticeMethod, params: &Value) -> Result<Vec<Value>, AllocError>
+    fn heed(&mut self, method: NoticeMethod, params: Value) -> Result<Vec<Value>, AllocError>
         requires { self.old.analysed ≡ true }
-        ensures steps { IfOk result (λ values. Heeds self.old.state method (view params.now) (map view values.items) self.new.state) }
+        ensures steps { IfOk result (λ values. Heeds self.old.state method (view params) (map view values.items) self.new.state) }
         ensures analysed { IfOk result (λ _. self.new.analysed ≡ true) }
         ensures life { OnErr result (self.new.state.life ≡ self.old.state.life) }
     {
         match method {
             NoticeMethod::Exit => Ok(self.exit()),
-            NoticeMethod::DidOpen => self.open_document(params),
+            NoticeMethod::DidOpen => self.open_document(&params),
             NoticeMethod::DidChange => self.change_document(params),
-            NoticeMethod::DidClose => self.close_document(params),
+            NoticeMethod::DidClose => self.close_document(&params),
             NoticeMethod::UnknownNotice => Ok(Vec::new(self.alloc)),
         }
     }
@@ -286,26 +286,29 @@ impl Conversation {
         self.tell(uri, version)
     }
 
-    fn change_document(&mut self, params: &Value) -> Result<Vec<Value>, AllocError>
+    fn change_document(&mut self, params: Value) -> Result<Vec<Value>, AllocError>
         requires { self.old.analysed ≡ true }
-        ensures steps { IfOk result (λ values. Changes self.old.state (view params.now) (map view values.items) self.new.state) }
+        ensures steps { IfOk result (λ values. Changes self.old.state (view params) (map view values.items) self.new.state) }
         ensures analysed { IfOk result (λ _. self.new.analysed ≡ true) }
         ensures life { OnErr result (self.new.state.life ≡ self.old.state.life) }
     {
-        let Ok(uri) = read_uri(params) else {
+        let Ok(uri) = read_uri(&params) else {
             return Ok(Vec::new(self.alloc));
         };
         if self.documents.document(uri).is_none() {
             return Ok(Vec::new(self.alloc));
         }
-        let changes = match read_changes(self.alloc, params) {
+        let changes = match read_changes(self.alloc, &params) {
             Ok(changes) => changes,
             Err(ChangesFault::BadParams) => return Ok(Vec::new(self.alloc)),
             Err(ChangesFault::Memory) => return Err(AllocError),
         };
-        let version = given_version(params);
-        self.documents.change(uri, &changes, version)?;
-        self.tell(uri, version)
+        let version = given_version(&params);
+        let uri = String::from_str(self.alloc, uri)?;
+        // Blocks of the message would else lie in the room that the old analysis leaves to the new one.
+        drop(params);
+        self.documents.change(&uri, &changes, version)?;
+        self.tell(&uri, version)
     }
 
     fn close_document(&mut self, params: &Value) -> Result<Vec<Value>, AllocError>
