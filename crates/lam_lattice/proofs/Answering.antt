@@ -3,7 +3,7 @@ use Rattle.std.proofs.Common.{◌≡◌, ◌<◌, List, length, sym, subst, arit
 use Rattle.lam_rules.specs.Types.{Typ}
 use Rattle.lam_rules.specs.Numbers.{type_of, Stands, Keeps}
 use Rattle.lam_rules.specs.declared.rules.Dialect.{Dialect}
-use Rattle.lam_rules.specs.declared.table.TyNo.{TyNo}
+use Rattle.lam_rules.specs.declared.numbers.TyNo.{TyNo}
 use Rattle.lam_sub.specs.Remembered.{IsJoinOf, IsMeetOf}
 use Rattle.lam_sub.proofs.Keeping.{both_kept, pair_kept}
 use Rattle.lam_lattice.specs.Bounds.{IsJoin, IsMeet, HaveNoMeet, JoinsInOrder, MeetsInOrder}

@@ -5,8 +5,8 @@ use Rattle.lam_rules.specs.Types.{Typ, top, arrow, record_of, Fields, joined, Is
 use Rattle.lam_rules.specs.Subtyping.{IsBelow}
 use Rattle.lam_rules.specs.Numbers.{type_of, Keeps, fields_over, shaped, IsOver, AreEarlier, HaveDistinctLabels}
 use Rattle.lam_rules.specs.declared.rules.Dialect.{Dialect}
-use Rattle.lam_rules.specs.declared.table.TyNo.{TyNo}
-use Rattle.lam_rules.specs.declared.table.Shape.{Shape}
+use Rattle.lam_rules.specs.declared.numbers.TyNo.{TyNo}
+use Rattle.lam_rules.specs.declared.numbers.Shape.{Shape}
 use Rattle.lam_rules.proofs.ByShape.{below_wf}
 use Rattle.lam_rules.proofs.Tables.{kept_type, kept_fields}
 use Rattle.lam_rules.proofs.TableFields.{distinct_of}

@@ -5,7 +5,7 @@ use Rattle.std.specs.declared.alloc.Global.{Global}
 use Rattle.lam_rules.specs.Types.{Label, Typ, record_of, Fields, no_fields, field, joined, Has, IsAbsent}
 use Rattle.lam_rules.specs.Numbers.{type_of, Keeps, fields_over, AreEarlier}
 use Rattle.lam_rules.specs.declared.rules.Dialect.{Dialect}
-use Rattle.lam_rules.specs.declared.table.TyNo.{TyNo}
+use Rattle.lam_rules.specs.declared.numbers.TyNo.{TyNo}
 use Rattle.lam_rules.proofs.Tables.{keeps_same, kept_type, kept_fields}
 use Rattle.lam_rules.proofs.TableFields.{fields_over-push}
 use Rattle.lam_rules.proofs.TypeShapes.{joined-none}

@@ -3,7 +3,7 @@ use Rattle.std.specs.Prelude.{◌≡◌, ℕ, ◌<◌, List, [], ◌∷◌, Stri
 use Rattle.std.specs.declared.alloc.Global.{Global}
 use Rattle.lam_rules.specs.Types.{Typ, Has, IsAbsent}
 use Rattle.lam_rules.specs.Numbers.{type_of, fields_over, AreEarlier}
-use Rattle.lam_rules.specs.declared.table.TyNo.{TyNo}
+use Rattle.lam_rules.specs.declared.numbers.TyNo.{TyNo}
 use Rattle.lam_lattice.specs.declared.matching.Match.{Match}
 
 -- a field of the first, with the number that the second has under its label, if it has one

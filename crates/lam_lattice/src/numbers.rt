@@ -5,7 +5,7 @@ ghost use Rattle.std.specs.Prelude.{◌≡◌, List, String, length, IfOk, IfSom
 ghost use Rattle.std.specs.declared.alloc.Global.{Global};
 ghost use Rattle.lam_rules.specs.Types.{record_of};
 ghost use Rattle.lam_rules.specs.Numbers.{type_of, Stands, Keeps, fields_over, AreEarlier};
-ghost use Rattle.lam_rules.specs.declared.table.TyNo.{TyNo};
+ghost use Rattle.lam_rules.specs.declared.numbers.TyNo.{TyNo};
 ghost use Rattle.lam_sub.specs.Remembered.{AreRight};
 ghost use Rattle.lam_lattice.specs.Bounds.{IsJoin, IsMeet, HaveNoMeet, JoinsInOrder, MeetsInOrder};
 ghost use Rattle.lam_lattice.specs.Matches.{AreMatches, AreMatchesBelow};

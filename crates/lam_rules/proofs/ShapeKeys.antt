@@ -15,8 +15,8 @@ use borrow.Author.Tests.{eqb-true, eq-eqb}
 use denote.Ref.{Bor}
 use Rattle.lam_rules.specs.Entries.{IsSameField, AreSame, IsSame, IsAt, IsNowhere}
 use Rattle.lam_rules.specs.ShapeIndex.{equal_shapes, IsIndexOf}
-use Rattle.lam_rules.specs.declared.table.TyNo.{TyNo}
-use Rattle.lam_rules.specs.declared.table.Shape.{Shape}
+use Rattle.lam_rules.specs.declared.numbers.TyNo.{TyNo}
+use Rattle.lam_rules.specs.declared.numbers.Shape.{Shape}
 use Rattle.lam_rules.specs.declared.table.Entry.{Entry}
 
 -- the same as a third

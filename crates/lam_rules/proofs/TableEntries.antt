@@ -9,8 +9,8 @@ use Rattle.lam_rules.specs.Types.{Typ, top, record_of, field, nodes, IsAbsent, I
 use Rattle.lam_rules.specs.Texts.{sorted}
 use Rattle.lam_rules.specs.Numbers.{type_at, type_of, IsNumberOf, Keeps, fields_over, shaped, AreEarlier, IsOver, IsNotAmong, HaveDistinctLabels, HasDistinctLabels}
 use Rattle.lam_rules.specs.Entries.{types_from, types_of, IsEntryOf, IsTable, AreSame, IsSame, IsAt, IsNowhere}
-use Rattle.lam_rules.specs.declared.table.TyNo.{TyNo}
-use Rattle.lam_rules.specs.declared.table.Shape.{Shape}
+use Rattle.lam_rules.specs.declared.numbers.TyNo.{TyNo}
+use Rattle.lam_rules.specs.declared.numbers.Shape.{Shape}
 use Rattle.lam_rules.specs.declared.table.Entry.{Entry}
 use Rattle.lam_rules.specs.Subtyping.{IsBelow}
 use Rattle.lam_rules.specs.declared.rules.Dialect.{Dialect}

@@ -16,7 +16,7 @@ use Rattle.lam_rules.specs.Numbers.{type_of, IsNumberOf, Keeps, fields_over, Are
 use Rattle.std.specs.Prelude.{IfSome, Option, Some, None}
 use Rattle.lam_rules.specs.Entries.{AreCopies}
 use Rattle.lam_rules.specs.declared.types.Ty.{Ty}
-use Rattle.lam_rules.specs.declared.table.TyNo.{TyNo}
+use Rattle.lam_rules.specs.declared.numbers.TyNo.{TyNo}
 use Rattle.lam_rules.proofs.Permutations.{absent_not}
 use Rattle.lam_rules.proofs.TypeShapes.{fields_of-drop, joined-none, joined-push}
 use Rattle.lam_rules.proofs.Tables.{keeps_trans, keeps_length, kept_fields, below_more}

@@ -4,8 +4,8 @@ use Rattle.std.specs.declared.alloc.Global.{Global}
 use Rattle.std.proofs.lemmas.List.{append-nil, get_or_append_left}
 use Rattle.lam_rules.specs.Types.{Typ, top, record_of}
 use Rattle.lam_rules.specs.Numbers.{type_at, IsNumberOf, Keeps, fields_over, shaped, AreEarlier, IsOver}
-use Rattle.lam_rules.specs.declared.table.TyNo.{TyNo}
-use Rattle.lam_rules.specs.declared.table.Shape.{Shape}
+use Rattle.lam_rules.specs.declared.numbers.TyNo.{TyNo}
+use Rattle.lam_rules.specs.declared.numbers.Shape.{Shape}
 
 -- a table that grows
 

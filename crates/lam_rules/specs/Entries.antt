@@ -5,8 +5,8 @@ use Rattle.lam_rules.specs.Types.{Typ, nodes, IsWellFormed}
 use Rattle.lam_rules.specs.Texts.{sorted}
 use Rattle.lam_rules.specs.Numbers.{type_at, type_of, shaped, IsOver}
 use Rattle.lam_rules.specs.declared.table.Entry.{Entry}
-use Rattle.lam_rules.specs.declared.table.TyNo.{TyNo}
-use Rattle.lam_rules.specs.declared.table.Shape.{Shape}
+use Rattle.lam_rules.specs.declared.numbers.TyNo.{TyNo}
+use Rattle.lam_rules.specs.declared.numbers.Shape.{Shape}
 use Rattle.std.specs.declared.alloc.Global.{Global}
 use denote.Ref.{Bor}
 

@@ -4,10 +4,10 @@ use Rattle.std.specs.HashMap.{HashMap, get}
 use Rattle.std.specs.declared.hash.FoldHasher.{FoldHasher}
 use Rattle.std.specs.declared.hash.BuildHasherDefault.{BuildHasherDefault}
 use Rattle.lam_rules.specs.Entries.{IsAt, IsNowhere}
-use Rattle.lam_rules.specs.declared.table.TyNo.{TyNo}
-use Rattle.lam_rules.specs.declared.table.Shape.{Shape}
+use Rattle.lam_rules.specs.declared.numbers.TyNo.{TyNo}
+use Rattle.lam_rules.specs.declared.numbers.Shape.{Shape}
 use Rattle.lam_rules.specs.declared.table.Entry.{Entry}
-use Rattle.lam_rules.specs.contracts.table.ShapePartialEq.TheImpl as shape_eq
+use Rattle.lam_rules.specs.contracts.numbers.ShapePartialEq.TheImpl as shape_eq
 
 -- what `==` answers of two shapes
 abbrev pub equal_shapes : Shape → Shape → Bool

@@ -8,6 +8,7 @@
 #![tactic(auto)]
 
 mod laws;
+mod numbers;
 mod rules;
 mod sorting;
 mod subtyping;
@@ -18,9 +19,10 @@ mod types;
 mod typing;
 
 pub use laws::types_below_each_other_have_one_size;
+pub use numbers::{Shape, TyNo, labels_differ, number_under};
 pub use rules::{Dialect, SubRule, TypeRule};
 pub use subtyping::{SubProof, check_sub};
-pub use table::{Shape, TyNo, TyTable, labels_differ, number_under};
+pub use table::TyTable;
 pub use terms::{Core, make_letrec};
 pub use texts::{one_sorted_form, plain_text_of, sorted_of, text_of};
 pub use types::{

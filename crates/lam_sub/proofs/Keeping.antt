@@ -10,7 +10,7 @@ use Rattle.lam_rules.specs.Types.{Typ}
 use Rattle.lam_rules.specs.Numbers.{type_of, Stands, Keeps}
 use Rattle.lam_rules.specs.Subtyping.{IsBelow}
 use Rattle.lam_rules.specs.declared.rules.Dialect.{Dialect}
-use Rattle.lam_rules.specs.declared.table.TyNo.{TyNo}
+use Rattle.lam_rules.specs.declared.numbers.TyNo.{TyNo}
 use Rattle.lam_rules.proofs.Tables.{kept_type, keeps_length}
 use Rattle.lam_sub.specs.BoundOrder.{JoinsInOrder, MeetsInOrder}
 use Rattle.lam_sub.specs.Bounds.{IsJoin, IsMeet, HaveNoMeet}

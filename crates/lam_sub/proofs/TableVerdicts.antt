@@ -7,8 +7,8 @@ use Rattle.lam_rules.specs.Texts.{is_not_after, placed, sorted, sorted_fields}
 use Rattle.lam_rules.specs.Subtyping.{IsBelow}
 use Rattle.lam_rules.specs.Numbers.{type_of, fields_over, shaped, IsOver, AreEarlier}
 use Rattle.lam_rules.specs.declared.rules.Dialect.{Dialect}
-use Rattle.lam_rules.specs.declared.table.TyNo.{TyNo}
-use Rattle.lam_rules.specs.declared.table.Shape.{Shape}
+use Rattle.lam_rules.specs.declared.numbers.TyNo.{TyNo}
+use Rattle.lam_rules.specs.declared.numbers.Shape.{Shape}
 use Rattle.lam_rules.proofs.Tables.{below_more}
 use Rattle.lam_rules.proofs.SortedBelow.{below_sorted, sorted_below}
 use Rattle.lam_rules.proofs.ByShape.{below_wf}

@@ -7,8 +7,8 @@ use Rattle.lam_rules.specs.Types.{Typ}
 use Rattle.lam_rules.specs.Numbers.{type_of, Stands}
 use Rattle.lam_rules.specs.Subtyping.{IsBelow}
 use Rattle.lam_rules.specs.declared.rules.Dialect.{Dialect}
-use Rattle.lam_rules.specs.declared.table.TyNo.{TyNo}
-use Rattle.lam_rules.specs.declared.table.Shape.{Shape}
+use Rattle.lam_rules.specs.declared.numbers.TyNo.{TyNo}
+use Rattle.lam_rules.specs.declared.numbers.Shape.{Shape}
 use Rattle.lam_sub.specs.BoundOrder.{JoinsInOrder, MeetsInOrder}
 use Rattle.lam_sub.specs.Bounds.{IsJoin, IsMeet, HaveNoMeet}
 use Rattle.lam_sub.specs.declared.verdicts.Verdicts.{Verdicts}

@@ -11,7 +11,7 @@ use Rattle.lam_rules.specs.Terms.{Term, TermFields, no_terms}
 use Rattle.lam_rules.specs.TermViews.{terms_of}
 use Rattle.lam_rules.specs.declared.terms.Core.{Core}
 use Rattle.lam_rules.specs.Numbers.{type_of}
-use Rattle.lam_rules.specs.declared.table.TyNo.{TyNo}
+use Rattle.lam_rules.specs.declared.numbers.TyNo.{TyNo}
 use Rattle.lam_rules.specs.declared.types.Fields.{Fields as RustFields, out-Fields}
 use Rattle.lam_rules.specs.declared.types.Ty.TheVariants.{Arrow, Record}
 use Rattle.lam_rules.proofs.TypeShapes.{typ_of-Arrow, typ_of-Record, no_arrow, no_record}

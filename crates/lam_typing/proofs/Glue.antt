@@ -12,7 +12,7 @@ use Rattle.lam_rules.specs.Numbers.{Keeps, IsNumberOf, type_of, fields_over}
 use Rattle.lam_rules.specs.declared.rules.Dialect.{Dialect}
 use Rattle.lam_rules.specs.declared.terms.Core.{Core}
 use Rattle.lam_rules.specs.TermViews.{terms_of}
-use Rattle.lam_rules.specs.declared.table.TyNo.{TyNo}
+use Rattle.lam_rules.specs.declared.numbers.TyNo.{TyNo}
 use Rattle.lam_rules.proofs.Tables.{keeps_same, keeps_trans, keeps_length, kept_number}
 use Rattle.lam_scope.specs.Places.{Binding, written, of_term, Scope, Place, places, places_in}
 use Rattle.lam_scope.specs.declared.numbers.Place.{Place as PlaceNumber}

@@ -3,7 +3,7 @@ use Rattle.std.proofs.Common.{◌≡◌, ℕ, ◌+◌, ◌-◌, ◌<◌, List, [
 use Rattle.lam_rules.specs.Types.{Typ}
 use Rattle.lam_rules.specs.Typing.{Context}
 use Rattle.lam_rules.specs.Numbers.{Keeps}
-use Rattle.lam_rules.specs.declared.table.TyNo.{TyNo}
+use Rattle.lam_rules.specs.declared.numbers.TyNo.{TyNo}
 use Rattle.lam_rules.proofs.Tables.{kept_type, keeps_length}
 use Rattle.lam_typing.specs.Steps.{entry_at}
 use Rattle.lam_typing.specs.Answers.{answer, answers, StandsIn, AllStandIn, under_entries, context_under}

@@ -6,7 +6,7 @@ use Rattle.lam_rules.specs.Types.{Typ}
 use Rattle.lam_rules.specs.Terms.{Term, true_term, false_term, if_then_else, numeral, succ, pred, is_zero, variable, free, lambda, apply, unit_term, ascribe, let_in, record_term, project, fix, TermFields, term_field}
 use Rattle.lam_rules.specs.Typing.{Context}
 use Rattle.lam_rules.specs.Numbers.{Keeps}
-use Rattle.lam_rules.specs.declared.table.TyNo.{TyNo}
+use Rattle.lam_rules.specs.declared.numbers.TyNo.{TyNo}
 use Rattle.lam_rules.proofs.Tables.{keeps_same, keeps_trans}
 use Rattle.lam_scope.specs.Places.{Statement, defines, declares, abbreviates, states}
 use Rattle.lam_scope.specs.Sights.{inside, inside_fields, place_of_term, behind_term}

@@ -8,7 +8,7 @@ use Rattle.lam_rules.specs.Terms.{Term}
 use Rattle.lam_rules.specs.Typing.{IsWellFormedEntry}
 use Rattle.lam_rules.specs.Numbers.{Keeps}
 use Rattle.lam_rules.specs.declared.rules.Dialect.{Dialect}
-use Rattle.lam_rules.specs.declared.table.TyNo.{TyNo}
+use Rattle.lam_rules.specs.declared.numbers.TyNo.{TyNo}
 use Rattle.lam_rules.proofs.Tables.{keeps_same}
 use Rattle.lam_scope.specs.Places.{Scope, written, of_term, places, Statement, defines, declares, abbreviates, states, places_of}
 use Rattle.lam_scope.specs.WellFormed.{IsWellFormedStatement, AreWellFormedStatements}

@@ -4,7 +4,7 @@ use Rattle.std.specs.declared.alloc.Global.{Global}
 use Rattle.lam_rules.specs.Types.{Label, Typ, bool, nat, unit, top, arrow, record_of, Fields, no_fields, field, Has, IsAbsent, AreWellFormed}
 use Rattle.lam_rules.specs.Typing.{HasField}
 use Rattle.lam_rules.specs.Numbers.{type_of, fields_over, IsNotAmong, HaveDistinctLabels}
-use Rattle.lam_rules.specs.declared.table.TyNo.{TyNo}
+use Rattle.lam_rules.specs.declared.numbers.TyNo.{TyNo}
 use Rattle.lam_typing.specs.Answers.{answer}
 use Rattle.lam_typing.specs.Steps.{FieldRule, ProjectRule}
 

@@ -5,7 +5,7 @@ ghost use Rattle.lam_rules.specs.Types.{Typ};
 ghost use Rattle.lam_rules.specs.Terms.{Term, if_then_else, variable, lambda, apply, let_in, record_term};
 ghost use Rattle.lam_rules.specs.TermViews.{term_of, terms_of, written_of};
 ghost use Rattle.lam_rules.specs.Typing.{IsWellFormedEntry};
-ghost use Rattle.lam_rules.specs.declared.table.TyNo.{TyNo as Number};
+ghost use Rattle.lam_rules.specs.declared.numbers.TyNo.{TyNo as Number};
 ghost use Rattle.lam_scope.specs.WellFormed.{IsWellFormedTerm, AreWellFormedTerms, IsWellFormedStatement, AreWellFormedStatements};
 ghost use Rattle.lam_scope.specs.Views.{statement_of};
 ghost use Rattle.lam_typing.specs.Answers.{answer, StandsIn, AllStandIn, context_under};

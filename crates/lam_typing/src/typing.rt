@@ -1,7 +1,7 @@
 //! The types of a document's places and the entries of its binders.
 
 ghost use Rattle.std.specs.Prelude.{◌≡◌, ◌<◌, ℕ, get_or, length, Some, None, IfOk, IfSome, IfNone};
-ghost use Rattle.lam_rules.specs.declared.table.TyNo.{TyNo as Number};
+ghost use Rattle.lam_rules.specs.declared.numbers.TyNo.{TyNo as Number};
 ghost use Rattle.lam_typing.specs.Notes.{written_number, bound_number};
 
 use crate::blame::Blame;

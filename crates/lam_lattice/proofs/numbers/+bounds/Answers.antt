@@ -2,7 +2,7 @@ use Rattle.std.proofs.Common.{◌≡◌, ◌∙◌, List, String, ap, length, sy
 use Rattle.std.proofs.lemmas.Result.{IfOk-weaker}
 use Rattle.std.specs.declared.alloc.Global.{Global}
 use Rattle.lam_rules.specs.Types.{record_of}
-use Rattle.lam_rules.specs.declared.table.TyNo.{TyNo}
+use Rattle.lam_rules.specs.declared.numbers.TyNo.{TyNo}
 use Rattle.lam_rules.specs.Numbers.{type_at, type_of, Stands, fields_over, IsOver, AreEarlier}
 use Rattle.lam_rules.specs.Subtyping.{IsBelow}
 use Rattle.lam_rules.proofs.Composing.{below_refl}

@@ -1,7 +1,7 @@
 use Rattle.std.proofs.Common.{◌∙◌, sym}
 use Rattle.std.proofs.lemmas.Slice.Eq.{bytes_eq-Decides}
 use Rattle.lam_rules.proofs.TableFields.{has_read, absent_more}
-use Rattle.lam_rules.proofs.table.number_under.Goals as goal
+use Rattle.lam_rules.proofs.numbers.number_under.Goals as goal
 
 pub returns-then-eq-clause-some : goal.returns-then-eq-clause-some
 returns-then-eq-clause-some c =

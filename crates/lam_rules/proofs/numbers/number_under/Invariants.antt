@@ -1,7 +1,7 @@
 use Rattle.std.proofs.Common.{◌↔◌, List, drop}
 use Rattle.lam_rules.specs.Types.{Typ, IsAbsent}
 use Rattle.lam_rules.specs.Numbers.{fields_over}
-use Rattle.lam_rules.proofs.table.number_under.Given as goal
+use Rattle.lam_rules.proofs.numbers.number_under.Given as goal
 
 abbrev pub invariant-loop-field : goal.invariant-loop-field
 invariant-loop-field l = (ts : List Typ) → (IsAbsent l.label (fields_over ts l.fields) ↔ IsAbsent l.label (fields_over ts (drop l.field-index l.fields)))

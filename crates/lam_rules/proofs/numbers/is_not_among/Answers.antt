@@ -1,7 +1,7 @@
 use Rattle.std.proofs.Common.{◌∙◌, sym}
 use Rattle.std.proofs.lemmas.Slice.Eq.{bytes_eq-Decides}
 use Rattle.lam_rules.proofs.TableFields.{among_drop}
-use Rattle.lam_rules.proofs.table.is_not_among.Goals as goal
+use Rattle.lam_rules.proofs.numbers.is_not_among.Goals as goal
 
 pub returns-then-eq : goal.returns-then-eq
 returns-then-eq c =

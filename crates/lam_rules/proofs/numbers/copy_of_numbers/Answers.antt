@@ -1,5 +1,5 @@
 use Rattle.lam_rules.proofs.ShapeKeys.{copied_number}
-use Rattle.lam_rules.proofs.table.copy_of_numbers.Goals as goal
+use Rattle.lam_rules.proofs.numbers.copy_of_numbers.Goals as goal
 
 pub loop-i-preserved : goal.loop-i-preserved
 loop-i-preserved c =

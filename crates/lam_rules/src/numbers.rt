@@ -1,0 +1,115 @@
+//! Numbers that stand for types, and shapes over them, without the table that tells which types they are.
+
+ghost use Rattle.std.specs.Prelude.{◌↔◌, ◌<◌, ℕ, List, IsTrue, IfOk, IfSome, IfNone};
+ghost use Rattle.lam_rules.specs.Types.{Typ, Has, IsAbsent};
+ghost use Rattle.lam_rules.specs.Numbers.{type_of, fields_over, AreEarlier, IsNotAmong, HaveDistinctLabels};
+ghost use Rattle.lam_rules.specs.Entries.{AreSame, IsSame, AreCopies};
+
+use std::alloc::{AllocError, Global};
+
+/// The number of a type in a table.
+#[derive(Clone, Copy, Debug, PartialEq, Eq, Hash)]
+pub struct TyNo {
+    pub index: usize,
+}
+
+/// The outermost form of a type, over numbers of a table.
+#[derive(Drop, PartialEq, Eq, Hash)]
+pub enum Shape {
+    Bool,
+    Nat,
+    Unit,
+    Top,
+    Arrow(TyNo, TyNo),
+    /// The fields of a record type, in their own order.
+    Record(Vec<(String, TyNo)>),
+}
+
+/// The number under a label.
+#[tactic(auto, using(crate::proofs::TableFields::found_fields))]
+pub fn number_under(label: &str, fields: &[(String, TyNo)]) -> Option<TyNo>
+    ensures below { IfSome result (λ number. (n : ℕ) → AreEarlier n fields.now → number.index < n) }
+    ensures some { IfSome result (λ number. (ts : List Typ) → Has label.now (type_of ts number) (fields_over ts fields.now)) }
+    ensures none { IfNone result ((ts : List Typ) → IsAbsent label.now (fields_over ts fields.now)) }
+{
+    for field in fields {
+        if field.0.as_str() == label {
+            return Some(field.1);
+        }
+    }
+    None
+}
+
+/// Whether no two of the labels are equal.
+#[tactic(auto, using(crate::proofs::TableFields::label_lists))]
+pub fn labels_differ(fields: &[(String, TyNo)]) -> bool
+    ensures { IsTrue result ↔ HaveDistinctLabels fields.now }
+{
+    for i in 0..fields.len() {
+        let field = &fields[i];
+        if !is_not_among(&field.0, &fields[i + 1..]) {
+            return false;
+        }
+    }
+    true
+}
+
+#[tactic(auto, using(crate::proofs::TableFields::label_lists))]
+fn is_not_among(label: &str, fields: &[(String, TyNo)]) -> bool
+    ensures { IsTrue result ↔ IsNotAmong label.now fields.now }
+{
+    for field in fields {
+        if label == field.0.as_str() {
+            return false;
+        }
+    }
+    true
+}
+
+/// The same fields with labels in memory of their own.
+pub(crate) fn owned_fields(
+    alloc: Global,
+    fields: &[(&str, TyNo)],
+) -> Result<Vec<(String, TyNo)>, AllocError>
+    ensures { IfOk result (λ items. AreCopies items.items fields.now) }
+{
+    let mut items = Vec::new(alloc);
+    for i in 0..fields.len() {
+        let field = &fields[i];
+        let label = String::from_str(alloc, field.0)?;
+        items.push((label, field.1))?;
+    }
+    Ok(items)
+}
+
+/// The same shape in memory of its own.
+pub(crate) fn copy_of_shape(alloc: Global, shape: &Shape) -> Result<Shape, AllocError>
+    ensures { IfOk result (λ copy. IsSame copy shape.now) }
+{
+    match shape {
+        Shape::Bool => Ok(Shape::Bool),
+        Shape::Nat => Ok(Shape::Nat),
+        Shape::Unit => Ok(Shape::Unit),
+        Shape::Top => Ok(Shape::Top),
+        Shape::Arrow(parameter, outcome) => Ok(Shape::Arrow(*parameter, *outcome)),
+        Shape::Record(fields) => {
+            let items = copy_of_numbers(alloc, fields)?;
+            Ok(Shape::Record(items))
+        }
+    }
+}
+
+fn copy_of_numbers(
+    alloc: Global,
+    fields: &[(String, TyNo)],
+) -> Result<Vec<(String, TyNo)>, AllocError>
+    ensures { IfOk result (λ copies. AreSame copies.items fields.now) }
+{
+    let mut copies = Vec::new(alloc);
+    for i in 0..fields.len() {
+        let field = &fields[i];
+        let label = field.0.clone()?;
+        copies.push((label, field.1))?;
+    }
+    Ok(copies)
+}
