@@ -1,5 +1,5 @@
 -- Shapes as keys: `==` tells whether they are the same, and an index stays one when an entry is added.
-use Rattle.std.proofs.Common.{◌≡◌, ◌⊎◌, inl, inr, ℕ, ◌+◌, ◌<◌, ◌≤◌, List, [], ◌∷◌, ◌++◌, Bool, true, false, ◌&&◌, cond, length, take, get_or, ap, Vec, sym, ◌∙◌, refl, subst, arith, length-append, String, string_bytes, Option, Some, None}
+use Rattle.std.proofs.Common.{◌≡◌, ◌⊎◌, inl, inr, ℕ, ◌+◌, ◌<◌, ◌≤◌, List, [], ◌∷◌, ◌++◌, Bool, true, false, cond, length, take, get_or, ap, Vec, sym, ◌∙◌, refl, subst, arith, length-append, String, string_bytes, Option, Some, None}
 use Rattle.std.specs.Prelude.{MatchOption, eqb}
 use Rattle.std.specs.Option.{option_copied}
 use Rattle.std.specs.declared.alloc.Global.{Global}
@@ -9,7 +9,7 @@ use Rattle.std.specs.declared.hash.BuildHasherDefault.{BuildHasherDefault}
 use Rattle.std.proofs.lemmas.List.{get_or_append_left, get_or_push, take_more}
 use Rattle.std.specs.Str.{bytes_eq}
 use Rattle.std.specs.Cmp.Lexicographic.{pointwise}
-use Rattle.std.proofs.lemmas.Bool.{cases_lt}
+use Rattle.std.proofs.lemmas.Bool.{cases_lt, and_parts, and_from}
 use Rattle.std.proofs.lemmas.Slice.Eq.{bytes_eq-Decides}
 use borrow.Author.Tests.{eqb-true, eq-eqb}
 use denote.Ref.{Bor}
@@ -66,26 +66,17 @@ same_trans a b c p q = same_both b a c (same_turned a b p) q
 
 -- what `==` answers
 
-both_true : (a b : Bool) → (a && b) ≡ true → (a ≡ true) × (b ≡ true)
-both_true true true e = (refl, refl)
-both_true true false e = cc
-both_true false b e = cc
-
-true_both : (a b : Bool) → a ≡ true → b ≡ true → (a && b) ≡ true
-true_both true b p q = q
-true_both false b p q = cc
-
 equal_items : (E : String Global × TyNo → String Global × TyNo → Bool) → ((f g : String Global × TyNo) → E f g ≡ true → IsSameField f g)
     → (fs gs : List (String Global × TyNo)) → pointwise E fs gs ≡ true → AreSame fs gs
 equal_items E each [] [] e = tt
-equal_items E each (f ∷ fs) (g ∷ gs) e = let both = both_true (E f g) (pointwise E fs gs) e in (each f g both.0, equal_items E each fs gs both.1)
+equal_items E each (f ∷ fs) (g ∷ gs) e = let both = and_parts (E f g) (pointwise E fs gs) e in (each f g both.0, equal_items E each fs gs both.1)
 equal_items E each [] (g ∷ gs) e = cc
 equal_items E each (f ∷ fs) [] e = cc
 
 items_equal : (E : String Global × TyNo → String Global × TyNo → Bool) → ((f g : String Global × TyNo) → IsSameField f g → E f g ≡ true)
     → (fs gs : List (String Global × TyNo)) → AreSame fs gs → pointwise E fs gs ≡ true
 items_equal E each [] [] h = refl
-items_equal E each (f ∷ fs) (g ∷ gs) h = true_both (E f g) (pointwise E fs gs) (each f g h.0) (items_equal E each fs gs h.1)
+items_equal E each (f ∷ fs) (g ∷ gs) h = and_from (E f g) (pointwise E fs gs) (each f g h.0) (items_equal E each fs gs h.1)
 items_equal E each [] (g ∷ gs) h = absurd h
 items_equal E each (f ∷ fs) [] h = absurd h
 
@@ -95,11 +86,11 @@ equal_same Shape.Nat Shape.Nat e = tt
 equal_same Shape.Unit Shape.Unit e = tt
 equal_same Shape.Top Shape.Top e = tt
 equal_same (Shape.Arrow p q) (Shape.Arrow u v) e =
-    let both = both_true (eqb p.index u.index) (eqb q.index v.index) e in
+    let both = and_parts (eqb p.index u.index) (eqb q.index v.index) e in
     (eqb-true p.index u.index both.0, eqb-true q.index v.index both.1)
 equal_same (Shape.Record fs) (Shape.Record gs) e =
     equal_items _
-    (λ f g h. let both = both_true (bytes_eq (string_bytes f.0) (string_bytes g.0)) (eqb f.1.index g.1.index) h in
+    (λ f g h. let both = and_parts (bytes_eq (string_bytes f.0) (string_bytes g.0)) (eqb f.1.index g.1.index) h in
     ((bytes_eq-Decides (string_bytes f.0) (string_bytes g.0)).0 both.0, eqb-true f.1.index g.1.index both.1))
     fs.items gs.items e
 equal_same _ _ e = cc
@@ -110,10 +101,10 @@ same_equal Shape.Nat Shape.Nat h = refl
 same_equal Shape.Unit Shape.Unit h = refl
 same_equal Shape.Top Shape.Top h = refl
 same_equal (Shape.Arrow p q) (Shape.Arrow u v) h =
-    true_both (eqb p.index u.index) (eqb q.index v.index) (eq-eqb p.index u.index h.0) (eq-eqb q.index v.index h.1)
+    and_from (eqb p.index u.index) (eqb q.index v.index) (eq-eqb p.index u.index h.0) (eq-eqb q.index v.index h.1)
 same_equal (Shape.Record fs) (Shape.Record gs) h =
     items_equal _
-    (λ f g same. true_both (bytes_eq (string_bytes f.0) (string_bytes g.0)) (eqb f.1.index g.1.index)
+    (λ f g same. and_from (bytes_eq (string_bytes f.0) (string_bytes g.0)) (eqb f.1.index g.1.index)
     ((bytes_eq-Decides (string_bytes f.0) (string_bytes g.0)).1 same.0) (eq-eqb f.1.index g.1.index same.1))
     fs.items gs.items h
 same_equal _ _ h = absurd h

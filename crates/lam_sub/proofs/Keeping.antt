@@ -1,6 +1,7 @@
 -- Answers that are kept stay right: one more is, and a table grows.
-use Rattle.std.proofs.Common.{◌≡◌, ◌↔◌, List, Bool, true, false, ◌&&◌, cond, IsTrue, sym, refl, subst, arith, Option, Some, None, IfSome, IfNone}
+use Rattle.std.proofs.Common.{◌≡◌, ◌↔◌, List, Bool, true, false, cond, IsTrue, sym, refl, subst, arith, Option, Some, None, IfSome, IfNone}
 use Rattle.std.specs.Prelude.{eqb}
+use Rattle.std.proofs.lemmas.Bool.{and_parts}
 use Rattle.std.specs.HashMap.{HashMap, get, Updates, IsUnchanged}
 use Rattle.std.specs.Map.{lookup}
 use Rattle.std.specs.declared.hash.FoldHasher.{FoldHasher}
@@ -17,14 +18,9 @@ use Rattle.lam_sub.specs.Bounds.{IsJoin, IsMeet, HaveNoMeet}
 use Rattle.lam_sub.specs.Remembered.{BothStand, IsVerdict, IsJoinOf, IsMeetOf, equal_pairs, AllKept, AreRight}
 use Rattle.lam_sub.specs.declared.verdicts.Verdicts.{Verdicts}
 
-both_true : (a b : Bool) → (a && b) ≡ true → (a ≡ true) × (b ≡ true)
-both_true true true e = (refl, refl)
-both_true true false e = cc
-both_true false b e = cc
-
 same_pair : (p q : TyNo × TyNo) → equal_pairs p q ≡ true → p ≡ q
 same_pair p q e =
-    let both = both_true (eqb p.0.index q.0.index) (eqb p.1.index q.1.index) e in
+    let both = and_parts (eqb p.0.index q.0.index) (eqb p.1.index q.1.index) e in
     λ i. (record { index = eqb-true p.0.index q.0.index both.0 i }, record { index = eqb-true p.1.index q.1.index both.1 i })
 
 -- one answer more, or none where a growth was refused
