@@ -8,7 +8,7 @@ use Rattle.lam_rules.specs.declared.rules.Dialect.{Dialect}
 use Rattle.lam_rules.proofs.Permutations.{absent_not, includes_from, permutation_iff}
 use Rattle.lam_rules.proofs.SharedTexts.{one_type, has_wf}
 use Rattle.lam_rules.proofs.Composing.{EachBelow, below_trans, below_width, below_permutation, below_depth}
-use Rattle.lam_sub.specs.Arranging.{type_at, picked, HasLabelsOf}
+use Rattle.lam_sub.specs.Arranging.{type_under, picked, HasLabelsOf}
 use Rattle.lam_sub.specs.FieldsBelow.{AreBelow}
 use Rattle.lam_sub.specs.OtherFields.{other_fields}
 use Rattle.lam_sub.proofs.LookUps.{label_or, absent_from, others_are, others_have, others_wf, joined_has, has_in_first, has_in_second, joined_wf, begins_with_first}
@@ -22,17 +22,17 @@ pub fields_below : (fs gs : Fields) (d : Dialect) → ((l : Label) (t : Typ) →
 fields_below fs no_fields d each = tt
 fields_below fs (field l t gs) d each = (each l t (inl (refl, refl)), fields_below fs gs d (λ k u has. each k u (inr has)))
 
-has_type_at : (l : Label) (s : Typ) (fs : Fields) → Has l s fs → Has l (type_at l fs) fs
-has_type_at l s no_fields has = absurd has
-has_type_at l s (field k u fs) (inl e) = rw ((bytes_eq-Decides k l).1 e.0) (inl (e.0, refl))
-has_type_at l s (field k u fs) (inr has) = by (bytes_eq k l) refl (has_type_at l s fs has)
+has_type_under : (l : Label) (s : Typ) (fs : Fields) → Has l s fs → Has l (type_under l fs) fs
+has_type_under l s no_fields has = absurd has
+has_type_under l s (field k u fs) (inl e) = rw ((bytes_eq-Decides k l).1 e.0) (inl (e.0, refl))
+has_type_under l s (field k u fs) (inr has) = by (bytes_eq k l) refl (has_type_under l s fs has)
   where
-    by : (b : Bool) → bytes_eq k l ≡ b → Has l (type_at l fs) fs → Has l (if b then u else type_at l fs) (field k u fs)
+    by : (b : Bool) → bytes_eq k l ≡ b → Has l (type_under l fs) fs → Has l (if b then u else type_under l fs) (field k u fs)
     by true e h = inl ((bytes_eq-Decides k l).0 e, refl)
     by false e h = inr h
 
-pub type_at_is : (l : Label) (s : Typ) (fs : Fields) → AreWellFormed fs → Has l s fs → type_at l fs ≡ s
-type_at_is l s fs wf has = one_type fs wf l (type_at l fs) s (has_type_at l s fs has) has
+pub type_under_is : (l : Label) (s : Typ) (fs : Fields) → AreWellFormed fs → Has l s fs → type_under l fs ≡ s
+type_under_is l s fs wf has = one_type fs wf l (type_under l fs) s (has_type_under l s fs has) has
 
 -- the fields of the first, those whose labels the second has in its order, then the others in their own
 abbrev pub arranged : Fields → Fields → Fields
@@ -45,14 +45,14 @@ picked_are : (fs gs : Fields) → HasLabelsOf fs gs → (l : Label) (s : Typ) �
 picked_are fs no_fields labels l s has = absurd has
 picked_are fs (field k u gs) labels l s (inl e) =
     let found = labels k u (inl (refl, refl)) in
-    (subst (λ j. Has j s fs) e.0 (subst (λ v. Has k v fs) e.1 (has_type_at k found.0 fs found.1)), (u, inl (e.0, refl)))
+    (subst (λ j. Has j s fs) e.0 (subst (λ v. Has k v fs) e.1 (has_type_under k found.0 fs found.1)), (u, inl (e.0, refl)))
 picked_are fs (field k u gs) labels l s (inr has) =
     let rest = picked_are fs gs (λ j v h. labels j v (inr h)) l s has in
     (rest.0, (rest.1.0, inr rest.1.1))
 
 picked_have : (fs gs : Fields) → AreWellFormed fs → (l : Label) (s t : Typ) → Has l s fs → Has l t gs → Has l s (picked fs gs)
 picked_have fs no_fields wf l s t has there = absurd there
-picked_have fs (field k u gs) wf l s t has (inl e) = inl (e.0, subst (λ j. type_at j fs ≡ s) (sym e.0) (type_at_is l s fs wf has))
+picked_have fs (field k u gs) wf l s t has (inl e) = inl (e.0, subst (λ j. type_under j fs ≡ s) (sym e.0) (type_under_is l s fs wf has))
 picked_have fs (field k u gs) wf l s t has (inr there) = inr (picked_have fs gs wf l s t has there)
 
 pub picked_wf : (fs gs : Fields) → AreWellFormed fs → AreWellFormed gs → HasLabelsOf fs gs → AreWellFormed (picked fs gs)
@@ -60,7 +60,7 @@ picked_wf fs no_fields wf wg labels = tt
 picked_wf fs (field k u gs) wf wg labels =
     let found = labels k u (inl (refl, refl)) in
     let rest : HasLabelsOf fs gs = λ j v h. labels j v (inr h) in (
-      has_wf fs wf k (type_at k fs) (has_type_at k found.0 fs found.1),
+      has_wf fs wf k (type_under k fs) (has_type_under k found.0 fs found.1),
       absent_from k (picked fs gs) (λ t has. let there = (picked_are fs gs rest k t has).1 in absent_not k gs there.0 wg.1 there.1),
       picked_wf fs gs wf wg.2 rest,
     )
@@ -68,7 +68,7 @@ picked_wf fs (field k u gs) wf wg labels =
 pub picked_each : (fs gs : Fields) (d : Dialect) → AreWellFormed fs → AreBelow fs gs d → EachBelow (picked fs gs) gs d
 picked_each fs no_fields d wf below = tt
 picked_each fs (field l t gs) d wf below =
-    (refl, subst (λ s. IsBelow s t d) (sym (type_at_is l below.0.0 fs wf below.0.1)) below.0.2, picked_each fs gs d wf below.1)
+    (refl, subst (λ s. IsBelow s t d) (sym (type_under_is l below.0.0 fs wf below.0.1)) below.0.2, picked_each fs gs d wf below.1)
 
 pub arranged_wf : (fs gs : Fields) → AreWellFormed fs → AreWellFormed gs → HasLabelsOf fs gs → AreWellFormed (arranged fs gs)
 arranged_wf fs gs wf wg labels =

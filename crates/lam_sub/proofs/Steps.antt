@@ -14,7 +14,7 @@ use Rattle.lam_rules.specs.declared.types.Ty.{Ty}
 use Rattle.lam_rules.proofs.SubShapes.{sub_tree_of-node, conclusion-sub_tree_of, conclusions-sub_trees_of}
 use Rattle.lam_rules.proofs.ByShape.{below_wf}
 use Rattle.lam_rules.proofs.TypeShapes.{fields_of-drop, joined-push}
-use Rattle.lam_sub.specs.Arranging.{HasLabelsOf, type_at, picked}
+use Rattle.lam_sub.specs.Arranging.{HasLabelsOf, type_under, picked}
 use Rattle.lam_sub.specs.OtherFields.{other_fields}
 use Rattle.lam_sub.specs.Steps.{LeadsTo}
 use Rattle.lam_sub.proofs.LookUps.{begins_with_first}
@@ -94,7 +94,7 @@ no_premises ps d none = rw none tt
 -- one more field picked, one more premise proved
 
 pub picked_more : (copies more : List (String Global × Ty)) (fs : Fields) (gs : List (String Global × Ty)) (i : ℕ) (g c : String Global × Ty) (whole : Fields)
-    → i < length gs → g ≡ get_or gs i g → more ≡ copies ++ c ∷ [] → string_bytes c.0 ≡ string_bytes g.0 → typ_of c.1 ≡ type_at (string_bytes g.0) fs
+    → i < length gs → g ≡ get_or gs i g → more ≡ copies ++ c ∷ [] → string_bytes c.0 ≡ string_bytes g.0 → typ_of c.1 ≡ type_under (string_bytes g.0) fs
     → joined (fields_of copies) (picked fs (fields_of (drop i gs))) ≡ whole
     → joined (fields_of more) (picked fs (fields_of (drop (i + 1) gs))) ≡ whole
 picked_more copies more fs gs i g c whole lt is pushed same_label same_type so_far =
@@ -107,7 +107,7 @@ proofs_more made more p d pushed holds so_far rest all = rw (pushed, append_asso
 
 pub claims_more : (made more : List SubProof) (p : SubProof) (fs whole_fs whole_gs : Fields) (gs : List (String Global × Ty)) (i : ℕ) (g : String Global × Ty)
     → i < length gs → g ≡ get_or gs i g → more ≡ made ++ p ∷ []
-    → (claim_of p).lower ≡ type_at (string_bytes g.0) fs → (claim_of p).upper ≡ typ_of g.1
+    → (claim_of p).lower ≡ type_under (string_bytes g.0) fs → (claim_of p).upper ≡ typ_of g.1
     → ((rest : List SubProof) → GoesFieldByField (picked fs (fields_of (drop i gs))) (fields_of (drop i gs)) (claims_of rest) → GoesFieldByField whole_fs whole_gs (claims_of (made ++ rest)))
     → (rest : List SubProof) → GoesFieldByField (picked fs (fields_of (drop (i + 1) gs))) (fields_of (drop (i + 1) gs)) (claims_of rest) → GoesFieldByField whole_fs whole_gs (claims_of (more ++ rest))
 claims_more made more p fs whole_fs whole_gs gs i g lt is pushed starts ends so_far rest goes =

@@ -7,12 +7,12 @@ use Rattle.lam_rules.specs.Types.{Label, Typ, top, Fields, no_fields, field, Has
 abbrev pub HasLabelsOf : Fields → Fields → Type 0
 HasLabelsOf fs gs = (l : Label) (t : Typ) → Has l t gs → (s : Typ) × Has l s fs
 
--- the type of the first field with a label, and Top where there is none
-abbrev pub type_at : Label → Fields → Typ
-type_at l no_fields = top
-type_at l (field k t rest) = if bytes_eq k l then t else type_at l rest
+-- the type under a label: that of the first field that has it, and Top where there is none
+abbrev pub type_under : Label → Fields → Typ
+type_under l no_fields = top
+type_under l (field k t rest) = if bytes_eq k l then t else type_under l rest
 
 -- the labels of the second, in its order, each with the type that it has in the first
 abbrev pub picked : Fields → Fields → Fields
 picked fs no_fields = no_fields
-picked fs (field l t rest) = field l (type_at l fs) (picked fs rest)
+picked fs (field l t rest) = field l (type_under l fs) (picked fs rest)

@@ -11,7 +11,7 @@ use Rattle.lam_sub.specs.Arranging.{picked}
 use Rattle.lam_sub.specs.Steps.{LeadsTo}
 use Rattle.lam_sub.proofs.LookUps.{item_has}
 use Rattle.lam_sub.proofs.Below.{no_field, field_iff, nodes_of_field, record_inside}
-use Rattle.lam_sub.proofs.Arranging.{arranged, type_at_is, below_labels, picked_wf, arranged_wf}
+use Rattle.lam_sub.proofs.Arranging.{arranged, type_under_is, below_labels, picked_wf, arranged_wf}
 use Rattle.lam_sub.proofs.ByVariant.{not_arrow, not_record, two_arrows, record_seen, nodes_of_record, nodes_of_arrow, only_bool_and_nat, field_first}
 use Rattle.lam_sub.proofs.Steps.{concluded, concluded_arrow, claim_is, arranged_is, picked_is, permutation_by, width_by, no_premises, proofs_more, claims_more}
 use Rattle.lam_sub.proofs.proving.+prove.Goals as goal
@@ -42,7 +42,7 @@ prove_fields-loop-i-preserved t c =
       proofs = proofs_more c.loop-i.proofs.items c.push.new.self.items c.in_ok-proof.proof c.args.dialect c.in_ok-push.ensures.items c.in_ok-proof.ensures.0 c.loop-i.invariant.proofs;
       claims = claims_more c.loop-i.proofs.items c.push.new.self.items c.in_ok-proof.proof (fields_of c.args.lower.now) _ _ c.args.upper.now c.loop-i.i c.index-upper-i.result
           c.loop-i-test.true c.index-upper-i.is c.in_ok-push.ensures.items
-          (claim.0 ∙ sym (type_at_is (string_bytes c.index-upper-i.result.0) (typ_of c.in-Some.ty.now) (fields_of c.args.lower.now) c.requires.lower below))
+          (claim.0 ∙ sym (type_under_is (string_bytes c.index-upper-i.result.0) (typ_of c.in-Some.ty.now) (fields_of c.args.lower.now) c.requires.lower below))
           claim.1 c.loop-i.invariant.claims;
     }
 
