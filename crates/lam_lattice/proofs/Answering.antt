@@ -1,5 +1,5 @@
 -- What is found of two numbers is an answer that may be kept of them.
-use Rattle.std.proofs.Common.{◌≡◌, ◌<◌, List, length, sym, subst, arith, Option, Some, None, IfSome, IfNone}
+use Rattle.std.proofs.Common.{◌≡◌, ◌<◌, List, length, sym, subst, Option, IfSome, IfNone}
 use Rattle.lam_rules.specs.Types.{Typ}
 use Rattle.lam_rules.specs.Numbers.{type_of, Stands, Keeps}
 use Rattle.lam_rules.specs.declared.rules.Dialect.{Dialect}

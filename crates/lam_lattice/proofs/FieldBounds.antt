@@ -18,7 +18,15 @@ use Rattle.lam_sub.proofs.LookUps.{label_or, absent_from, others_are, others_hav
 use Rattle.lam_sub.proofs.Arranging.{field_below, fields_below, record_below}
 use Rattle.lam_sub.proofs.Below.{record_inside, below_record_is, above_record_is}
 use Rattle.lam_lattice.specs.Bounds.{IsJoin, IsMeet, HaveNoMeet}
-use Rattle.lam_lattice.specs.Records.{Joins, Meets, AreJoined, joined_none, joined_both, joined_left_out, AreMet, met_none, met_both, met_alone}
+use Rattle.lam_lattice.specs.Records.{AreJoined, joined_none, joined_both, joined_left_out, AreMet, met_none, met_both, met_alone}
+
+-- the third type is a join of the first two
+abbrev pub Joins : Dialect → Typ → Typ → Typ → Type 0
+Joins d s t j = IsJoin s t j d
+
+-- the third type is a meet of the first two
+abbrev pub Meets : Dialect → Typ → Typ → Typ → Type 0
+Meets d s t m = IsMeet s t m d
 
 -- joins: each field made is the join of a field of each side ..
 

@@ -1,8 +1,7 @@
 -- Bounds of two types that are told by numbers of a table, while the table grows.
 use Rattle.std.proofs.Common.{◌≡◌, ◌∙◌, ℕ, ◌<◌, ◌++◌, List, [], ◌∷◌, String, Vec, length, ap, sym, refl, subst}
 use Rattle.std.specs.declared.alloc.Global.{Global}
-use Rattle.lam_rules.specs.Types.{Typ, top, arrow, record_of, Fields, joined, IsWellFormed, AreWellFormed}
-use Rattle.lam_rules.specs.Subtyping.{IsBelow}
+use Rattle.lam_rules.specs.Types.{Typ, top, arrow, record_of, Fields, joined, IsWellFormed}
 use Rattle.lam_rules.specs.Numbers.{type_of, Keeps, fields_over, shaped, IsOver, AreEarlier, HaveDistinctLabels}
 use Rattle.lam_rules.specs.declared.rules.Dialect.{Dialect}
 use Rattle.lam_rules.specs.declared.numbers.TyNo.{TyNo}

@@ -9,14 +9,6 @@ AreUnlike (arrow s1 s2) (arrow t1 t2) = ⊥
 AreUnlike (record_of fs) (record_of gs) = ⊥
 AreUnlike _ _ = Unit {0}
 
--- the third type is a join of the first two
-abbrev pub Joins : Dialect → Typ → Typ → Typ → Type 0
-Joins d s t j = IsJoin s t j d
-
--- the third type is a meet of the first two
-abbrev pub Meets : Dialect → Typ → Typ → Typ → Type 0
-Meets d s t m = IsMeet s t m d
-
 -- the third type is a join of the first two and stands in the order of the first
 abbrev pub OrderlyJoins : Dialect → Typ → Typ → Typ → Type 0
 OrderlyJoins d s t j = IsJoin s t j d × JoinsInOrder s t j

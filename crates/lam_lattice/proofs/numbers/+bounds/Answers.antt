@@ -1,4 +1,4 @@
-use Rattle.std.proofs.Common.{◌≡◌, ◌∙◌, List, String, ap, length, sym, subst, arith, IfSome, IfNone}
+use Rattle.std.proofs.Common.{◌∙◌, List, String, ap, length, sym, subst, arith, IfSome, IfNone}
 use Rattle.std.proofs.lemmas.Result.{IfOk-weaker}
 use Rattle.std.specs.declared.alloc.Global.{Global}
 use Rattle.lam_rules.specs.Types.{record_of}
