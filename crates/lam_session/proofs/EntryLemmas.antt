@@ -1,5 +1,6 @@
 -- What a change of the map is to the list of documents that it is seen as.
-use Rattle.std.proofs.Common.{not, ◌&&◌, subst, true≢false, Bor, IfSome, ◌≡◌, ℕ, List, [], ◌∷◌, Bool, true, false, cond, Option, None, Some, option_map, is_some, String, Global, string_bytes, refl, sym, ap, ◌∙◌}
+use Rattle.std.proofs.Common.{not, subst, true≢false, Bor, IfSome, ◌≡◌, ℕ, List, [], ◌∷◌, Bool, true, false, cond, Option, None, Some, option_map, is_some, String, Global, string_bytes, refl, sym, ap, ◌∙◌}
+use Rattle.std.proofs.lemmas.Bool.{and_parts, and_from}
 use Rattle.std.proofs.lemmas.Slice.Eq.{bytes_eq-Decides}
 use Rattle.std.specs.Str.{bytes_eq}
 use Rattle.std.specs.Option.{option_copied}
@@ -46,25 +47,12 @@ analysed_either : (b : Bool) (xs ys : List Entry) → are_analysed xs ≡ true �
 analysed_either true xs ys h k = h
 analysed_either false xs ys h k = k
 
-and_left : (a b : Bool) → (a && b) ≡ true → a ≡ true
-and_left true b h = refl
-and_left false b h = cc
-
-and_right : (a b : Bool) → (a && b) ≡ true → b ≡ true
-and_right true b h = h
-and_right false b h = cc
-
-both : (a b : Bool) → a ≡ true → b ≡ true → (a && b) ≡ true
-both true b h k = k
-both false b h k = cc
-
 pub are_analysed-insert_entry : (es : List Entry) (k : String Global) (v : HeldDocument) → v.analysed ≡ true → are_analysed es ≡ true → are_analysed (insert_entry string_eq es k v) ≡ true
-are_analysed-insert_entry [] k v new all = both v.analysed true new refl
+are_analysed-insert_entry [] k v new all = and_from v.analysed true new refl
 are_analysed-insert_entry (e ∷ es) k v new all =
-    let first = and_left e.1.analysed (are_analysed es) all in
-    let rest = and_right e.1.analysed (are_analysed es) all in
-    analysed_either (string_eq k e.0) ((e.0, v) ∷ es) (e ∷ insert_entry string_eq es k v) (both v.analysed (are_analysed es) new rest)
-    (both e.1.analysed (are_analysed (insert_entry string_eq es k v)) first (are_analysed-insert_entry es k v new rest))
+    let parts = and_parts e.1.analysed (are_analysed es) all in
+    analysed_either (string_eq k e.0) ((e.0, v) ∷ es) (e ∷ insert_entry string_eq es k v) (and_from v.analysed (are_analysed es) new parts.1)
+    (and_from e.1.analysed (are_analysed (insert_entry string_eq es k v)) parts.0 (are_analysed-insert_entry es k v new parts.1))
 
 -- ---- a look-up
 
@@ -102,8 +90,8 @@ analysed_at false e rest o here later is = later is
 pub are_analysed-lookup : (uri : List ℕ) (es : List Entry) (o : HeldDocument) → are_analysed es ≡ true → lookup (is_uri uri) es ≡ Some o → o.analysed ≡ true
 are_analysed-lookup uri [] o all is = absurd cc
 are_analysed-lookup uri (e ∷ es) o all is =
-    analysed_at (is_uri uri e.0) e (lookup (is_uri uri) es) o (and_left e.1.analysed (are_analysed es) all)
-    (are_analysed-lookup uri es o (and_right e.1.analysed (are_analysed es) all)) is
+    let parts = and_parts e.1.analysed (are_analysed es) all in
+    analysed_at (is_uri uri e.0) e (lookup (is_uri uri) es) o parts.0 (are_analysed-lookup uri es o parts.1) is
 
 copied_text : (r : Option (Bor HeldDocument)) → option_map (λ d. d.now.text) r ≡ option_map (λ o. o.text) (option_copied r)
 copied_text None = refl
@@ -151,10 +139,9 @@ AreUnder-set_value encoding d uri (e ∷ es) w unit rules all =
 pub are_analysed-set_value : (uri : List ℕ) (es : List Entry) (w : HeldDocument) → w.analysed ≡ true → are_analysed es ≡ true → are_analysed (set_value (is_uri uri) es w) ≡ true
 are_analysed-set_value uri [] w new all = all
 are_analysed-set_value uri (e ∷ es) w new all =
-    let first = and_left e.1.analysed (are_analysed es) all in
-    let rest = and_right e.1.analysed (are_analysed es) all in
-    analysed_either (is_uri uri e.0) ((e.0, w) ∷ es) (e ∷ set_value (is_uri uri) es w) (both w.analysed (are_analysed es) new rest)
-    (both e.1.analysed (are_analysed (set_value (is_uri uri) es w)) first (are_analysed-set_value uri es w new rest))
+    let parts = and_parts e.1.analysed (are_analysed es) all in
+    analysed_either (is_uri uri e.0) ((e.0, w) ∷ es) (e ∷ set_value (is_uri uri) es w) (and_from w.analysed (are_analysed es) new parts.1)
+    (and_from e.1.analysed (are_analysed (set_value (is_uri uri) es w)) parts.0 (are_analysed-set_value uri es w new parts.1))
 
 -- ---- a removal
 
@@ -189,10 +176,9 @@ AreUnder-remove_entry encoding d uri (e ∷ es) all =
 pub are_analysed-remove_entry : (uri : List ℕ) (es : List Entry) → are_analysed es ≡ true → are_analysed (remove_entry (is_uri uri) es) ≡ true
 are_analysed-remove_entry uri [] all = all
 are_analysed-remove_entry uri (e ∷ es) all =
-    let first = and_left e.1.analysed (are_analysed es) all in
-    let rest = and_right e.1.analysed (are_analysed es) all in
-    analysed_either (is_uri uri e.0) es (e ∷ remove_entry (is_uri uri) es) rest
-    (both e.1.analysed (are_analysed (remove_entry (is_uri uri) es)) first (are_analysed-remove_entry uri es rest))
+    let parts = and_parts e.1.analysed (are_analysed es) all in
+    analysed_either (is_uri uri e.0) es (e ∷ remove_entry (is_uri uri) es) parts.1
+    (and_from e.1.analysed (are_analysed (remove_entry (is_uri uri) es)) parts.0 (are_analysed-remove_entry uri es parts.1))
 
 -- ---- the change of an open document
 
