@@ -3,6 +3,7 @@ use Rattle.std.proofs.Common.{◌≡◌, ℕ, Bool, true, false, ◌||◌, List,
 use Rattle.std.specs.Prelude.{◌↔◌, if◌then◌else◌}
 use Rattle.std.specs.Option.{option_map}
 use Rattle.std.specs.Str.{bytes_eq}
+use Rattle.std.proofs.lemmas.Bool.{or_parts}
 use Rattle.std.proofs.lemmas.Slice.Eq.{bytes_eq-Decides}
 use Rattle.lam_token.specs.declared.span.Span.{Span}
 use Rattle.lam_rules.specs.Types as rules
@@ -110,11 +111,7 @@ other_way a b e = by (bytes_eq b a) refl
 
 label_joined : (k : Label) (earlier : TypeFields) (l : Label) (s : Span) (t : TypeTree) → has_label k (joined_types earlier (type_field (word l s) t no_type_fields)) ≡ false
     → (has_label k earlier ≡ false) × (bytes_eq l k ≡ false)
-label_joined k no_type_fields l s t e = (refl, or_left (bytes_eq l k) false e)
-  where
-    or_left : (a b : Bool) → (a || b) ≡ false → a ≡ false
-    or_left true b e = cc
-    or_left false b e = refl
+label_joined k no_type_fields l s t e = (refl, (or_parts (bytes_eq l k) false e).0)
 label_joined k (type_field (word m r) u rest) l s t e = by (bytes_eq m k) (λ f. label_joined k rest l s t f) e
   where
     by : (c : Bool) → (has_label k (joined_types rest (type_field (word l s) t no_type_fields)) ≡ false → (has_label k rest ≡ false) × (bytes_eq l k ≡ false))
@@ -144,15 +141,8 @@ apart_more : (earlier fs : TypeFields) (l : Label) (s : Span) (t : TypeTree) →
     → AreApart (joined_types earlier (type_field (word l s) t no_type_fields)) fs
 apart_more earlier no_type_fields l s t h e = tt
 apart_more earlier (type_field (word k r) u rest) l s t h e =
-    (joined_label k earlier l s t h.0 (other_way k l (or_first (bytes_eq k l) (has_label l rest) e)), apart_more earlier rest l s t h.1 (or_second (bytes_eq k l) (has_label l rest) e))
-  where
-    or_first : (a b : Bool) → (a || b) ≡ false → a ≡ false
-    or_first true b e = cc
-    or_first false b e = refl
-
-    or_second : (a b : Bool) → (a || b) ≡ false → b ≡ false
-    or_second true b e = cc
-    or_second false b e = e
+    let neither = or_parts (bytes_eq k l) (has_label l rest) e in
+    (joined_label k earlier l s t h.0 (other_way k l neither.0), apart_more earlier rest l s t h.1 neither.1)
 
 not_repeated : (l : Label) (s : Span) (earlier : TypeFields) → label_fault (word l s) earlier ≡ [] → has_label l earlier ≡ false
 not_repeated l s earlier e = by (has_label l earlier) e

@@ -1,7 +1,8 @@
 -- The types in a nameless form have distinct labels at every depth.
-use Rattle.std.proofs.Common.{◌≡◌, ◌≢◌, ℕ, refl, List, [], ◌∷◌, Bool, true, false, ◌||◌, Option, Some, None, sym, if◌then◌else◌}
+use Rattle.std.proofs.Common.{◌≡◌, ◌≢◌, ℕ, refl, List, [], ◌∷◌, Bool, true, false, Option, Some, None, sym, if◌then◌else◌}
 use Rattle.std.specs.Option.{option_map}
 use Rattle.std.specs.Str.{bytes_eq}
+use Rattle.std.proofs.lemmas.Bool.{or_parts}
 use Rattle.std.proofs.lemmas.Slice.Eq.{bytes_eq-Decides}
 use Rattle.lam_rules.specs.Types as rules
 use Rattle.lam_rules.specs.Types.{Typ, Fields, Label, AreWellFormed, IsAbsent}
@@ -48,14 +49,6 @@ record-wf : (fs : Option Fields) → AreWellFormedIfAny fs → IsWellFormedEntry
 record-wf None w = tt
 record-wf (Some fs) w = w
 
-left_false : (a b : Bool) → (a || b) ≡ false → a ≡ false
-left_false true b e = e
-left_false false b e = refl
-
-right_false : (a b : Bool) → (a || b) ≡ false → b ≡ false
-right_false true b e = cc
-right_false false b e = e
-
 apart : (l k : Label) → bytes_eq k l ≡ false → l ≢ k
 apart l k e same = let yes_it_is : bytes_eq k l ≡ true = (bytes_eq-Decides k l).1 (sym same) in cc
 
@@ -71,8 +64,9 @@ absent-unless l false fs a = a
 absent : (bs : List Abbreviation) (l : Label) (fs : TypeFields) → has_label l fs ≡ false → IsAbsentIfAny l (expansion_of_fields bs fs)
 absent bs l no_type_fields e = tt
 absent bs l (type_field (word k s) t rest) e =
+    let neither = or_parts (bytes_eq k l) (has_label l rest) e in
     absent-unless l (has_label k rest) (both (rules.field k) (expansion bs t) (expansion_of_fields bs rest))
-    (absent-field l k (expansion bs t) (expansion_of_fields bs rest) (apart l k (left_false (bytes_eq k l) (has_label l rest) e)) (absent bs l rest (right_false (bytes_eq k l) (has_label l rest) e)))
+    (absent-field l k (expansion bs t) (expansion_of_fields bs rest) (apart l k neither.0) (absent bs l rest neither.1))
 
 field-wf : (l : Label) (t : Option Typ) (fs : Option Fields) → IsWellFormedEntry t → IsAbsentIfAny l fs → AreWellFormedIfAny fs → AreWellFormedIfAny (both (rules.field l) t fs)
 field-wf l None fs w a ws = tt
