@@ -1,5 +1,6 @@
 -- Numbers of a table that answer for places and binders: each stands for a type, or there is none.
-use Rattle.std.specs.Prelude.{List, [], ◌∷◌, Option, Some, None}
+use Rattle.std.specs.Prelude.{List, [], ◌∷◌, map, Option, Some, None}
+use Rattle.std.specs.Option.{option_map}
 use Rattle.lam_rules.specs.Types.{Typ}
 use Rattle.lam_rules.specs.Typing.{Context}
 use Rattle.lam_rules.specs.Numbers.{type_of, Stands}
@@ -7,13 +8,11 @@ use Rattle.lam_rules.specs.declared.numbers.TyNo.{TyNo}
 
 -- the type that a number stands for, if there is one
 abbrev pub answer : List Typ → Option TyNo → Option Typ
-answer ts None = None
-answer ts (Some number) = Some (type_of ts number)
+answer ts o = option_map (type_of ts) o
 
 -- the types that numbers stand for, or none, one by one
 abbrev pub answers : List Typ → List (Option TyNo) → List (Option Typ)
-answers ts [] = []
-answers ts (o ∷ os) = answer ts o ∷ answers ts os
+answers ts os = map (answer ts) os
 
 -- the number, if there is one, is one of the table
 abbrev pub StandsIn : List Typ → Option TyNo → Type 0
