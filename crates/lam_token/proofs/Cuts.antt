@@ -1,23 +1,23 @@
 -- A text has one cut, and its tokens are slices of it in ascending order.
 use Rattle.std.proofs.Common.{◌≡◌, ℕ, ◌+◌, ◌-◌, ◌≤◌, ◌<◌, true, false, Some, None, List, [], ◌∷◌, ◌++◌, length, take, drop, ⊎_elim, sym, refl, ap, ◌∙◌, subst, append_assoc, arith, length-append, add-one, zero, suc}
-use Rattle.std.specs.Prelude.{encode_utf8_all, map, slice_index, All, ◌==◌}
+use Rattle.std.specs.Prelude.{encode_utf8, encode_utf8_all, map, slice_index, All, ◌==◌}
 use Rattle.std.specs.List.{slice_range, AllByRecursion}
 use Rattle.std.specs.List.Sorted.{IsStrictlyIncreasing}
 use Rattle.std.specs.Str.{chars, IsUtf8, IsCharBoundary}
 use Rattle.std.proofs.lemmas.Bool.{cases_order, eqb-true, eqb-false}
 use Rattle.std.proofs.lemmas.List.{append-nil}
-use Rattle.std.proofs.lemmas.List.Elements.{All-from_recursion, All-push}
-use Rattle.std.proofs.lemmas.Str.{encodes-append, encodes-chars, chars-nil, length-le-encodes, IsCharBoundary-at_seam}
+use Rattle.std.proofs.lemmas.List.Elements.{All-from_recursion}
+use Rattle.std.proofs.lemmas.Str.{encodes-append, encodes-chars, chars-nil, length-le-encodes, IsCharBoundary-at_seam, IsUtf8-past_char}
 use Rattle.std.proofs.Math.Seq.{take-append_seam, drop-append_seam}
 use Rattle.lam_token.specs.declared.kind.Kind.{Kind}
 use Rattle.lam_token.specs.declared.kind.Kind.TheVariants.{Name, TypeName, BadCharacter, BadComment}
 use Rattle.lam_token.specs.declared.kind.Segment.{Segment}
 use Rattle.lam_token.specs.declared.kind.Segment.TheVariants.{Blank, Comment, Token}
-use Rattle.lam_token.specs.Lexeme.{Lexeme, lexeme, lexeme_at, text_of, start_of, end_of}
+use Rattle.lam_token.specs.Lexeme.{Lexeme, lexeme_at, text_of, start_of, end_of}
 use Rattle.lam_token.specs.Shape.{shape_of, opens_comment}
 use Rattle.lam_token.specs.Reading.{SegmentIs}
 use Rattle.lam_token.proofs.Reading.{length_front}
-use Rattle.lam_token.specs.Cut.{NothingLonger, IsFirst, longest, unclosed, stray, Part, IsCut, with_token, tokens_of, AreTokensOf, StandsIn, IsWholeKind}
+use Rattle.lam_token.specs.Cut.{NothingLonger, IsFirst, longest, unclosed, stray, Part, IsCut, with_token, tokens_of, AreTokensFrom, AreTokensOf, StandsIn, IsWholeKind}
 
 -- two fronts of one length of one list
 same_front : (xs ys r m : List ℕ) → xs ++ r ≡ ys ++ m → length xs ≡ length ys → (xs ≡ ys) × (r ≡ m)
@@ -95,9 +95,13 @@ one_cut text text' (p ∷ ps) (q ∷ qs) same cut cut' =
     (λ i. record { sort = found.0 i; characters = found.1 i } ∷ others i)
 
 -- a text has one list of tokens
+
+pub one_list_from : (start : ℕ) (text : List ℕ) (ts us : List Lexeme) → AreTokensFrom start text ts → AreTokensFrom start text us → us ≡ ts
+one_list_from start text ts us are are' =
+    are'.tokens_are ∙ ap (tokens_of start) (one_cut _ _ are'.parts are.parts refl are'.cut are.cut) ∙ sym are.tokens_are
+
 pub one_list : (text : List ℕ) (ts us : List Lexeme) → AreTokensOf text ts → AreTokensOf text us → us ≡ ts
-one_list text ts us are are' =
-    are'.tokens_are ∙ ap (tokens_of 0) (one_cut _ _ are'.parts are.parts refl are'.cut are.cut) ∙ sym are.tokens_are
+one_list text ts us are are' = one_list_from 0 text ts us are are'
 
 -- each token is the slice of the text between its start and its end
 
@@ -170,60 +174,88 @@ tokens_ascend text ts are =
     subst (λ l. IsStrictlyIncreasing (map start_of l)) (sym are.tokens_are)
     (starts_increase 0 _ (tokens-start 0 (chars text) are.parts are.cut))
 
--- each cut of what is left is the end of a cut of the whole, whose tokens are those so far and its own
-abbrev pub Cuts : (whole rest : List ℕ) → (start : ℕ) → (so_far : List Lexeme) → Type 0
-Cuts whole rest start so_far =
-    (ps : List Part) → IsCut (chars rest) ps → (qs : List Part) × IsCut (chars whole) qs × (tokens_of 0 qs ≡ so_far ++ tokens_of start ps)
+-- each token begins and ends between characters
 
--- one segment more
-pub cuts_next : (whole rest after : List ℕ) (s : Segment) (start end : ℕ) (ts us : List Lexeme) → (is : SegmentIs rest s after) → Cuts whole rest start ts → end ≡ start + length (encode_utf8_all is.segment) → ((others : List Lexeme) → ts ++ with_token s (encode_utf8_all is.segment) start others ≡ us ++ others) → Cuts whole after end us
-cuts_next whole rest after s start end ts us is cuts next tokens ps cut =
-    let found = cuts (record { sort = s; characters = is.segment } ∷ ps) (chars after, is.front.characters, is.is_first, cut) in
-    (found.0, found.1, found.2 ∙ tokens (tokens_of (start + length (encode_utf8_all is.segment)) ps) ∙ ap (λ n. us ++ tokens_of n ps) (sym next))
+utf8_behind : (cs text rest : List ℕ) → IsUtf8 text → text ≡ encode_utf8_all cs ++ rest → IsUtf8 rest
+utf8_behind [] text rest is_text cut = subst IsUtf8 cut is_text
+utf8_behind (c ∷ cs) text rest is_text cut =
+    let first : text ≡ encode_utf8 c ++ (encode_utf8_all cs ++ rest) = cut ∙ append_assoc (encode_utf8 c) (encode_utf8_all cs) rest in
+    utf8_behind cs (encode_utf8_all cs ++ rest) rest (IsUtf8-past_char text (encode_utf8_all cs ++ rest) c is_text first) refl
 
--- a token more
-pub token_more : (s : Segment) (kind : Kind) (bytes text : List ℕ) (start end : ℕ) (ts us : List Lexeme) → s ≡ Token kind → text ≡ bytes → end ≡ start + length bytes → us ≡ ts ++ lexeme kind text (record { start = start; end = end }) ∷ [] → (others : List Lexeme) → ts ++ with_token s bytes start others ≡ us ++ others
-token_more s kind bytes text start end ts us sort same next pushed others =
-    let token : lexeme kind text (record { start = start; end = end }) ≡ lexeme_at kind bytes start = (λ i. lexeme kind (same i) (record { start = start; end = next i })) in
-    ap (λ k. ts ++ with_token k bytes start others) sort
-    ∙ sym (append_assoc ts (lexeme_at kind bytes start ∷ []) others)
-    ∙ ap (λ t. (ts ++ t ∷ []) ++ others) (sym token)
-    ∙ ap (λ l. l ++ others) (sym pushed)
+boundary : (text before after : List ℕ) (at : ℕ) → text ≡ before ++ after → at ≡ length before → IsUtf8 after → IsCharBoundary text at
+boundary text before after at cut is is_text = subst (IsCharBoundary text) (sym is) (IsCharBoundary-at_seam text before after cut is_text)
 
--- no token more
-pub no_token_more : (s : Segment) (bytes : List ℕ) (start : ℕ) (ts : List Lexeme) → ((kind : Kind) → s ≡ Token kind → ⊥) → (others : List Lexeme) → ts ++ with_token s bytes start others ≡ ts ++ others
-no_token_more Blank bytes start ts no_token others = refl
-no_token_more Comment bytes start ts no_token others = refl
-no_token_more (Token kind) bytes start ts no_token others = absurd (no_token kind refl)
+with_standing : (text bytes : List ℕ) (start : ℕ) (s : Segment) (ts : List Lexeme) → IsCharBoundary text start → IsCharBoundary text (start + length bytes) → AllByRecursion (StandsIn text) ts → AllByRecursion (StandsIn text) (with_token s bytes start ts)
+with_standing text bytes start Blank ts first last stand = stand
+with_standing text bytes start Comment ts first last stand = stand
+with_standing text bytes start (Token kind) ts first last stand = ((first, last), stand)
 
--- the text falls into what lies before an offset and the rest
-pub record Seam (text rest : List ℕ) (start : ℕ) : Type 0 where
-  pub front : List ℕ
-  pub cut : text ≡ front ++ rest
-  pub at : start ≡ length front
+tokens-stand : (text before : List ℕ) (start : ℕ) (left : List ℕ) (ps : List Part) → IsUtf8 (encode_utf8_all left) → text ≡ before ++ encode_utf8_all left → start ≡ length before → IsCut left ps → AllByRecursion (StandsIn text) (tokens_of start ps)
+tokens-stand text before start left [] is_text whole at cut = tt
+tokens-stand text before start left (p ∷ ps) is_text whole at cut =
+    let bytes = encode_utf8_all p.characters in
+    let split : encode_utf8_all left ≡ bytes ++ encode_utf8_all cut.0 = ap encode_utf8_all cut.1 ∙ encodes-append p.characters cut.0 in
+    let is_rest = utf8_behind p.characters (encode_utf8_all left) (encode_utf8_all cut.0) is_text split in
+    let whole' : text ≡ (before ++ bytes) ++ encode_utf8_all cut.0 = whole ∙ ap (λ l. before ++ l) split ∙ sym (append_assoc before bytes (encode_utf8_all cut.0)) in
+    let next : start + length bytes ≡ length (before ++ bytes) = omega (arith, length-append before bytes) in
+    with_standing text bytes start p.sort _
+    (boundary text before (encode_utf8_all left) start whole at is_text)
+    (boundary text (before ++ bytes) (encode_utf8_all cut.0) (start + length bytes) whole' next is_rest)
+    (tokens-stand text (before ++ bytes) (start + length bytes) cut.0 ps is_rest whole' next cut.3)
 
-pub seam_next : (text rest after : List ℕ) (s : Segment) (start end : ℕ) → (is : SegmentIs rest s after) → end ≡ start + length (encode_utf8_all is.segment) → Seam text rest start → Seam text after end
-seam_next text rest after s start end is next seam = record {
-  front = seam.front ++ encode_utf8_all is.segment;
-  cut = seam.cut ∙ ap (λ l. seam.front ++ l) is.front.bytes ∙ sym (append_assoc seam.front (encode_utf8_all is.segment) after);
-  at = omega (arith, next, seam.at, length-append seam.front (encode_utf8_all is.segment));
+pub tokens_stand : (text : List ℕ) (ts : List Lexeme) → IsUtf8 text → AreTokensOf text ts → All (StandsIn text) ts
+tokens_stand text ts is_text are =
+    let same = encodes-chars text is_text in
+    subst (All (StandsIn text)) (sym are.tokens_are)
+    (All-from_recursion (StandsIn text) _ (tokens-stand text [] 0 (chars text) are.parts (subst IsUtf8 (sym same) is_text) (sym same) refl are.cut))
+
+-- the tokens from an offset on are those of the rest, of which nothing in front is one
+abbrev pub Skips : (start : ℕ) (text : List ℕ) (offset : ℕ) (rest : List ℕ) → Type 0
+Skips start text offset rest = (others : List Lexeme) → AreTokensFrom offset rest others → AreTokensFrom start text others
+
+-- a segment, and the tokens behind it
+segment_and : (text rest : List ℕ) (s : Segment) (start : ℕ) (others : List Lexeme) → (is : SegmentIs text s rest) → AreTokensFrom (start + length (encode_utf8_all is.segment)) rest others → AreTokensFrom start text (with_token s (encode_utf8_all is.segment) start others)
+segment_and text rest s start others is are = record {
+  parts = record { sort = s; characters = is.segment } ∷ are.parts;
+  cut = (chars rest, is.front.characters, is.is_first, are.cut);
+  tokens_are = ap (with_token s (encode_utf8_all is.segment) start) are.tokens_are;
 }
 
--- a character begins there, or the text ends
-pub boundary : (text rest : List ℕ) (start : ℕ) → IsUtf8 rest → Seam text rest start → IsCharBoundary text start
-boundary text rest start is_text seam =
-    subst (IsCharBoundary text) (sym seam.at) (IsCharBoundary-at_seam text seam.front rest seam.cut is_text)
+no_token : (s : Segment) (bytes : List ℕ) (start : ℕ) (others : List Lexeme) → ((kind : Kind) → s ≡ Token kind → ⊥) → with_token s bytes start others ≡ others
+no_token Blank bytes start others none = refl
+no_token Comment bytes start others none = refl
+no_token (Token kind) bytes start others none = absurd (none kind refl)
 
--- a token more that stands in the text
-pub stands_more : (text : List ℕ) (ts us : List Lexeme) (kind : Kind) (bytes : List ℕ) (start end : ℕ) → us ≡ ts ++ lexeme kind bytes (record { start = start; end = end }) ∷ [] → All (StandsIn text) ts → IsCharBoundary text start → IsCharBoundary text end → All (StandsIn text) us
-stands_more text ts us kind bytes start end pushed all first last =
-    subst (All (StandsIn text)) (sym pushed) (All-push (StandsIn text) ts (lexeme kind bytes (record { start = start; end = end })) all (first, last))
+-- one segment more that is no token
+pub skip_more : (start : ℕ) (text rest after : List ℕ) (s : Segment) (offset next : ℕ) → (is : SegmentIs rest s after) → ((kind : Kind) → s ≡ Token kind → ⊥) → next ≡ offset + length (encode_utf8_all is.segment) → Skips start text offset rest → Skips start text next after
+skip_more start text rest after s offset next is none at skips others are =
+    skips others
+    (subst (AreTokensFrom offset rest) (no_token s (encode_utf8_all is.segment) offset others none)
+    (segment_and rest after s offset others is (subst (λ n. AreTokensFrom n after others) at are)))
 
--- nothing is left
-pub cuts_end : (whole rest : List ℕ) (start : ℕ) (ts : List Lexeme) → Cuts whole rest start ts → rest ≡ [] → AreTokensOf whole ts
-cuts_end whole rest start ts cuts is_end =
-    let found = cuts [] (ap chars is_end ∙ chars-nil) in
-    record { parts = found.0; cut = found.1; tokens_are = sym (append-nil ts) ∙ sym found.2 }
+-- the token behind what was skipped is the first
+pub token_first : (start : ℕ) (text rest after : List ℕ) (s : Segment) (kind : Kind) (front : List ℕ) (offset : ℕ) (t : Lexeme) (others : List Lexeme) → (is : SegmentIs rest s after) → s ≡ Token kind → front ≡ encode_utf8_all is.segment → t ≡ lexeme_at kind front offset → Skips start text offset rest → AreTokensFrom (end_of t) after others → AreTokensFrom start text (t ∷ others)
+token_first start text rest after s kind front offset t others is sort bytes token skips are =
+    let found : t ≡ lexeme_at kind (encode_utf8_all is.segment) offset = token ∙ ap (λ l. lexeme_at kind l offset) bytes in
+    let behind : AreTokensFrom (offset + length (encode_utf8_all is.segment)) after others = subst (λ n. AreTokensFrom n after others) (ap end_of found) are in
+    let told : with_token s (encode_utf8_all is.segment) offset others ≡ t ∷ others = ap (λ k. with_token k (encode_utf8_all is.segment) offset others) sort ∙ ap (λ u. u ∷ others) (sym found) in
+    skips (t ∷ others) (subst (AreTokensFrom offset rest) told (segment_and rest after s offset others is behind))
+
+-- no token is left
+pub none_left : (start : ℕ) (text rest : List ℕ) (offset : ℕ) → rest ≡ [] → Skips start text offset rest → AreTokensFrom start text []
+none_left start text rest offset is_end skips = skips [] (record { parts = []; cut = ap chars is_end ∙ chars-nil; tokens_are = refl })
+
+-- the tokens of the whole are those so far and those of the rest
+abbrev pub GoesOn : (whole rest : List ℕ) → (start : ℕ) → (so_far : List Lexeme) → Type 0
+GoesOn whole rest start so_far = (others : List Lexeme) → AreTokensFrom start rest others → AreTokensOf whole (so_far ++ others)
+
+pub goes_on_behind : (whole rest after : List ℕ) (start : ℕ) (so_far now : List Lexeme) (t : Lexeme) → now ≡ so_far ++ t ∷ [] → ((others : List Lexeme) → AreTokensFrom (end_of t) after others → AreTokensFrom start rest (t ∷ others)) → GoesOn whole rest start so_far → GoesOn whole after (end_of t) now
+goes_on_behind whole rest after start so_far now t pushed first goes others are =
+    subst (AreTokensOf whole) (sym (append_assoc so_far (t ∷ []) others) ∙ ap (λ l. l ++ others) (sym pushed))
+    (goes (t ∷ others) (first others are))
+
+pub goes_no_further : (whole rest : List ℕ) (start : ℕ) (so_far : List Lexeme) → AreTokensFrom start rest [] → GoesOn whole rest start so_far → AreTokensOf whole so_far
+goes_no_further whole rest start so_far none goes = subst (AreTokensOf whole) (append-nil so_far) (goes [] none)
 
 -- the kind of the whole text
 

@@ -7,7 +7,10 @@ use Rattle.lam_token.specs.declared.kind.Kind.TheVariants.{BadCharacter, BadComm
 use Rattle.lam_token.specs.declared.kind.Segment.{Segment}
 use Rattle.lam_token.specs.declared.kind.Segment.TheVariants.{Token}
 use Rattle.lam_token.specs.Shape.{shape_of, opens_comment}
-use Rattle.lam_token.specs.Cut.{NothingBegins, IsFirst, longest, unclosed, stray, Part, IsCut}
+use Rattle.std.specs.Str.{chars}
+use Rattle.lam_token.specs.Lexeme.{Lexeme, end_of}
+use Rattle.lam_token.specs.Cut.{NothingBegins, IsFirst, longest, unclosed, stray, Part, IsCut, tokens_of, AreTokensFrom}
+use Rattle.lam_token.proofs.Cuts.{one_list_from}
 
 -- a text begins with a first segment that has characters
 record Begun (text : List ℕ) : Type 0 where
@@ -86,3 +89,18 @@ cut_within (suc n) (c ∷ cs) le =
 
 pub some_cut : (text : List ℕ) → (ps : List Part) × IsCut text ps
 some_cut text = cut_within (length text) text (omega arith)
+
+-- the tokens of a text whose first byte has that offset
+pub tokens_at : (start : ℕ) → List ℕ → List Lexeme
+tokens_at start text = tokens_of start (some_cut (chars text)).0
+
+pub are_tokens_at : (start : ℕ) (text : List ℕ) → AreTokensFrom start text (tokens_at start text)
+unfolding tokens_at
+are_tokens_at start text = let cut = some_cut (chars text) in record { parts = cut.0; cut = cut.1; tokens_are = refl }
+
+-- they are the first and those behind it, or none
+pub first_told : (start : ℕ) (text after : List ℕ) (t : Lexeme) → ((others : List Lexeme) → AreTokensFrom (end_of t) after others → AreTokensFrom start text (t ∷ others)) → tokens_at start text ≡ t ∷ tokens_at (end_of t) after
+first_told start text after t first = one_list_from start text _ _ (first (tokens_at (end_of t) after) (are_tokens_at (end_of t) after)) (are_tokens_at start text)
+
+pub none_told : (start : ℕ) (text : List ℕ) → AreTokensFrom start text [] → tokens_at start text ≡ []
+none_told start text none = one_list_from start text _ _ none (are_tokens_at start text)

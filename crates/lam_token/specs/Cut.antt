@@ -44,11 +44,15 @@ abbrev pub tokens_of : ℕ → List Part → List Lexeme
 tokens_of start [] = []
 tokens_of start (p ∷ ps) = let bytes = encode_utf8_all p.characters in with_token p.sort bytes start (tokens_of (start + length bytes) ps)
 
--- these are the tokens of the text that these bytes spell
-pub record AreTokensOf (text : List ℕ) (tokens : List Lexeme) : Type 0 where
+-- these are the tokens of the text that these bytes spell, where its first byte has that offset
+pub record AreTokensFrom (start : ℕ) (text : List ℕ) (tokens : List Lexeme) : Type 0 where
   pub parts : List Part
   pub cut : IsCut (chars text) parts
-  pub tokens_are : tokens ≡ tokens_of 0 parts
+  pub tokens_are : tokens ≡ tokens_of start parts
+
+-- these are the tokens of a whole text
+abbrev pub AreTokensOf : List ℕ → List Lexeme → Type 0
+AreTokensOf text tokens = AreTokensFrom 0 text tokens
 
 -- a token begins and ends between two characters of the text
 abbrev pub StandsIn : List ℕ → Lexeme → Type 0

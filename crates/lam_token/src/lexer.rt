@@ -1,16 +1,38 @@
 //! A text's tokens.
-ghost use Rattle.std.specs.Prelude.{◌≡◌, ◌↔◌, List, Some, IfOk, IsTrue, All, map};
+ghost use Rattle.std.specs.Prelude.{◌≡◌, ◌↔◌, ◌+◌, ◌<◌, ◌^◌, List, [], ◌∷◌, length, Some, IfOk, IfSome, IfNone, IsTrue, All, map};
 ghost use Rattle.std.specs.List.{slice_range};
 ghost use Rattle.std.specs.List.Sorted.{IsStrictlyIncreasing};
 ghost use Rattle.std.specs.Str.{chars};
 ghost use Rattle.lam_token.specs.Lexeme.{Lexeme, text_of, start_of, end_of};
 ghost use Rattle.lam_token.specs.Shape.{shape_of};
-ghost use Rattle.lam_token.specs.Cut.{AreTokensOf, StandsIn, IsWholeKind};
+ghost use Rattle.lam_token.specs.Cut.{AreTokensFrom, AreTokensOf, StandsIn, IsWholeKind};
 
 use crate::kind::{Kind, Segment};
 use crate::scan::next_segment;
 use crate::token::{Token, token_at};
 use std::alloc::{AllocError, Global};
+
+/// The first token of a text, and the text behind it. The text's first byte has the offset `start` in
+/// the source, and the tokens of the source are this one and those behind it.
+pub fn first_token<'a>(text: &'a str, start: usize) -> Option<(Token<'a>, &'a str)>
+    requires { start + length text.now < 2 ^ 64 }
+    ensures first { IfSome result (λ found. (others : List Lexeme) → AreTokensFrom (end_of found.0) found.1.now others → AreTokensFrom start text.now (found.0 ∷ others)) }
+    ensures behind { IfSome result (λ found. end_of found.0 + length found.1.now ≡ start + length text.now) }
+    ensures shorter { IfSome result (λ found. length found.1.now < length text.now) }
+    ensures none { IfNone result (AreTokensFrom start text.now []) }
+{
+    let mut rest = text;
+    let mut offset = start;
+    while let Some((segment, after)) = next_segment(rest) {
+        let (front, _) = rest.split_at(rest.len() - after.len());
+        if let Segment::Token(kind) = segment {
+            return Some((token_at(kind, front, offset), after));
+        }
+        offset += front.len();
+        rest = after;
+    }
+    None
+}
 
 /// The tokens of a text, in order. It fails only for want of memory.
 pub fn lex<'a>(alloc: Global, text: &'a str) -> Result<Vec<Token<'a>>, AllocError>
@@ -20,18 +42,13 @@ pub fn lex<'a>(alloc: Global, text: &'a str) -> Result<Vec<Token<'a>>, AllocErro
     ensures whole_characters { IfOk result (λ found. All (StandsIn text.now) found.items) }
     ensures ascend { IfOk result (λ found. IsStrictlyIncreasing (map start_of found.items)) }
 {
-    // Few texts have more than two tokens in five bytes, so the vector seldom grows, and its tokens are seldom copied.
-    let mut tokens = Vec::with_capacity(alloc, text.len() / 5 * 2)?;
+    let mut tokens = Vec::new(alloc);
     let mut rest = text;
     let mut start = 0;
-    while let Some((segment, after)) = next_segment(rest) {
-        let (front, _) = rest.split_at(rest.len() - after.len());
-        let end = start + front.len();
-        if let Segment::Token(kind) = segment {
-            tokens.push(token_at(kind, front, start))?;
-        }
+    while let Some((token, after)) = first_token(rest, start) {
         rest = after;
-        start = end;
+        start = token.end();
+        tokens.push(token)?;
     }
     Ok(tokens)
 }

@@ -18,6 +18,6 @@ mod token;
 
 pub use kind::Kind;
 pub use laws::{comments_nest, some_cut};
-pub use lexer::{is_name, is_type_name, lex};
+pub use lexer::{first_token, is_name, is_type_name, lex};
 pub use span::Span;
 pub use token::Token;

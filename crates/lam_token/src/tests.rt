@@ -1,5 +1,5 @@
 //! Rows of the tokens of short texts.
-use crate::{Kind, Span, is_name, is_type_name, lex};
+use crate::{Kind, Span, first_token, is_name, is_type_name, lex};
 use std::alloc::Global;
 use std::process::Abort;
 use std::test::Fail;
@@ -173,6 +173,29 @@ fn a_long_text_is_cut_to_its_end(rt: HostRuntime) -> Result<(), Fail> {
     assert_eq!(rt; tokens.len(), 40_000);
     assert_eq!(rt; tokens[39_999].end(), 69_999);
     Ok(())
+}
+
+/// A text whose first byte has the offset 7: its first token, with its place in the source, and the text behind it.
+static FIRST: [(&str, Row, &str); 4] = [
+    (" x y", (Kind::Name, "x", 8, 9), " y"),
+    ("/* a */0.1", (Kind::Numeral, "0", 14, 15), ".1"),
+    ("\té;", (Kind::Name, "é", 8, 10), ";"),
+    ("/* a", (Kind::BadComment, "/* a", 7, 11), ""),
+];
+
+#[test]
+fn first_tokens_and_the_texts_behind_them(rt: HostRuntime) {
+    for (text, row, behind) in &FIRST {
+        let (token, rest) = first_token(text, 7).expect(&rt, "a token");
+        assert_eq!(rt; token.kind(), row.0, "in {text:?}");
+        assert_eq!(rt; token.text(), row.1, "in {text:?}");
+        assert_eq!(rt; token.start(), row.2, "in {text:?}");
+        assert_eq!(rt; token.end(), row.3, "in {text:?}");
+        assert_eq!(rt; rest, *behind, "in {text:?}");
+    }
+    for none in ["", " \n", "/* a */ "] {
+        assert!(rt; first_token(none, 7).is_none(), "in {none:?}");
+    }
 }
 
 #[test]

@@ -1,0 +1,32 @@
+use Rattle.std.proofs.Common.{ℕ, ◌+◌, List, length, ◌∙◌, ap, arith}
+use Rattle.lam_token.proofs.Reading.{cut_behind, take_front, length_front}
+use Rattle.lam_token.proofs.Cuts.{skip_more, token_first, none_left, segment_shorter}
+use Rattle.lam_token.proofs.lexer.first_token.Goals as goal
+
+pub split_at-requires : goal.split_at-requires
+split_at-requires c = cut_behind _ _ _ c.in-Some.ensures.front
+
+pub loop-segment-smaller : goal.loop-segment-smaller
+loop-segment-smaller c = segment_shorter _ _ _ c.in-Some.ensures
+
+pub loop-segment-preserved : goal.loop-segment-preserved
+loop-segment-preserved c =
+    let front = c.split_at.ensures.front ∙ take_front _ _ _ c.in-Some.ensures.front in
+    let whole = length_front _ _ _ c.in-Some.ensures.front in
+    let next = ap (λ (l : List ℕ). c.loop-segment.offset + length l) front in
+    record {
+      is_text = c.in-Some.ensures.front.is_text;
+      place = omega (arith, next, whole, c.loop-segment.invariant.place);
+      no_longer = omega (arith, whole, c.loop-segment.invariant.no_longer);
+      skips = skip_more _ _ _ _ _ _ _ c.in-Some.ensures c.in_default-segment.not-Token next c.loop-segment.invariant.skips;
+    }
+
+pub returns-in-Token-clause-first : goal.returns-in-Token-clause-first
+returns-in-Token-clause-first c others are =
+    token_first _ _ _ _ _ _ _ _ _ _ c.in-Some.ensures c.in-Token.is (c.split_at.ensures.front ∙ take_front _ _ _ c.in-Some.ensures.front) c.token_at.ensures c.loop-segment.invariant.skips are
+
+pub returns-in-Token-clause-shorter : goal.returns-in-Token-clause-shorter
+returns-in-Token-clause-shorter c = omega (arith, segment_shorter _ _ _ c.in-Some.ensures, c.loop-segment.invariant.no_longer)
+
+pub returns-clause-none : goal.returns-clause-none
+returns-clause-none c = none_left _ _ _ _ c.in_default.ensures c.loop-segment.invariant.skips
