@@ -1,19 +1,12 @@
 -- The commands of pieces, one piece after the other.
-use Rattle.std.proofs.Common.{◌≡◌, ℕ, ◌+◌, ◌<◌, List, [], ◌∷◌, ◌++◌, map, length, drop, get_or, refl, sym, ap, inl, inr, suc, add-one, drop-cons, append_assoc, append-nil, Bor}
+use Rattle.std.proofs.Common.{◌≡◌, List, [], ◌∷◌, ◌++◌, map, refl, inl, inr, append_assoc, append-nil}
 use Rattle.std.proofs.lemmas.List.{map-append}
 use Rattle.lam_token.specs.Lexeme.{Lexeme}
 use Rattle.lam_syntax.specs.Trees.{CommandTree}
 use Rattle.lam_syntax.specs.Views.{command_of}
 use Rattle.lam_syntax.specs.declared.terms.Command.{Command}
 use Rattle.lam_query.specs.Commands.{IsCommandOf, AreCommandsOf}
-
-pub pieces-drop : (all : List (Bor (List Lexeme))) (i : ℕ) (piece : Bor (List Lexeme)) → i < length all → piece ≡ get_or all i piece
-    → map (λ p. p.now) (drop i all) ≡ piece.now ∷ map (λ p. p.now) (drop (i + 1) all)
-pieces-drop all i piece lt is = rw add-one (rw (drop-cons all i piece lt) (ap (λ p. p.now ∷ map (λ p. p.now) (drop (suc i) all)) (sym is)))
-
--- what is known of the commands found so far, where these pieces are left
-abbrev pub AreFound : List (List Lexeme) → List Command → List (List Lexeme) → Type 0
-AreFound all found left = (rest : List CommandTree) → AreCommandsOf left rest → AreCommandsOf all (map command_of found ++ rest)
+use Rattle.lam_query.specs.Reading.{AreFound}
 
 pub one_found : (all : List (List Lexeme)) (found now : List Command) (piece : List Lexeme) (whole left : List (List Lexeme)) (c : Command)
     → whole ≡ piece ∷ left → now ≡ found ++ c ∷ [] → IsCommandOf piece (command_of c) → AreFound all found whole → AreFound all now left

@@ -11,6 +11,7 @@ use Rattle.lam_syntax.specs.Answers.{token_limit, IsTaken, GoesWrongAt, EndsEarl
 use Rattle.lam_query.specs.declared.answers.Fault.{Fault as RustFault}
 use Rattle.lam_query.specs.Faults.{Fault}
 use Rattle.lam_query.specs.SyntaxFaults.{fault_at, fault_of_token, PieceFault, too_long, goes_wrong, ends_early, PieceFaults}
+use Rattle.lam_query.specs.Reading.{AreFaultsFound, AreTokenFaultsFound}
 use Rattle.lam_query.specs.Views.{fault_of}
 
 -- one piece
@@ -34,10 +35,6 @@ early_fault ts last s some taken early at is_s = rw is_s (ends_early taken early
 
 -- piece after piece
 
--- what the pieces to come have, behind the faults found, is what all have
-abbrev pub AreFaultsFound : List (List Lexeme) → List RustFault → List (List Lexeme) → Type 0
-AreFaultsFound all found left = (others : List Fault) → PieceFaults left others → PieceFaults all (map fault_of found ++ others)
-
 seen_more : (found : List RustFault) (o : Option RustFault) → map fault_of (found ++ option_to_list o) ≡ map fault_of found ++ option_to_list (option_map fault_of o)
 seen_more found None = map-append fault_of found []
 seen_more found (Some f) = map-append fault_of found (f ∷ [])
@@ -57,21 +54,13 @@ pieces_end all found left none so_far =
 
 -- token after token
 
-abbrev pub AreTokenFaultsFound : List Lexeme → List RustFault → List Lexeme → Type 0
-AreTokenFaultsFound all found left = map fault_of found ++ filter_map fault_of_token left ≡ filter_map fault_of_token all
-
 consed : (o : Option Fault) (fs : List Fault) → cons_option o fs ≡ option_to_list o ++ fs
 consed None fs = refl
 consed (Some f) fs = refl
 
-pub token_more : (all : List Lexeme) (found more : List RustFault) (one : Option RustFault) (t : Lexeme) (whole left : List Lexeme)
-    → whole ≡ t ∷ left → option_map fault_of one ≡ fault_of_token t → more ≡ found ++ option_to_list one
-    → AreTokenFaultsFound all found whole → AreTokenFaultsFound all more left
-token_more all found more one t whole left cut fault pushed so_far =
-    let before = rw cut at so_far in
-    let before_one = rw (consed (fault_of_token t) (filter_map fault_of_token left)) at before in
-    let before_seen = rw (sym fault) at before_one in
-    rw pushed (rw (seen_more found one) (append_assoc (map fault_of found) (option_to_list (option_map fault_of one)) (filter_map fault_of_token left) ∙ before_seen))
-
-pub tokens_end : (all : List Lexeme) (found : List RustFault) (left : List Lexeme) → left ≡ [] → AreTokenFaultsFound all found left → map fault_of found ≡ filter_map fault_of_token all
-tokens_end all found left none so_far = let k = rw none at so_far in sym (append-nil (map fault_of found)) ∙ k
+pub token_noted : (all : List Lexeme) (found now : List RustFault) (t : Lexeme) (left : List Lexeme)
+    → map fault_of now ≡ map fault_of found ++ option_to_list (fault_of_token t)
+    → AreTokenFaultsFound all found (t ∷ left) → AreTokenFaultsFound all now left
+token_noted all found now t left more so_far =
+    let before = rw (consed (fault_of_token t) (filter_map fault_of_token left)) at so_far in
+    rw more (append_assoc (map fault_of found) (option_to_list (fault_of_token t)) (filter_map fault_of_token left) ∙ before)

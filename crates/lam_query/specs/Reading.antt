@@ -1,12 +1,21 @@
--- What a piece is read as. For private functions alone.
-use Rattle.std.specs.Prelude.{List, Option, Some, None}
+-- What the tokens of a text are read as, one after another. For private functions alone.
+use Rattle.std.specs.Prelude.{◌≡◌, false, List, [], ◌∷◌, ◌++◌, ℕ, map, All, Option, Some, None, if◌then◌else◌}
+use Rattle.std.specs.Option.{option_to_list}
+use Rattle.std.specs.List.{filter_map}
 use Rattle.lam_token.specs.Lexeme.{Lexeme}
+use Rattle.lam_token.specs.Cut.{AreTokensOf, StandsIn}
 use Rattle.lam_syntax.specs.Trees.{CommandTree}
+use Rattle.lam_syntax.specs.Answers.{is_semicolon, has_tokens, pieces_of}
 use Rattle.lam_syntax.specs.Views.{command_of}
+use Rattle.lam_syntax.specs.declared.terms.Command.{Command}
+use Rattle.lam_query.specs.declared.answers.Fault.{Fault as RustFault}
 use Rattle.lam_query.specs.declared.reading.Piece.{Piece}
 use Rattle.lam_query.specs.declared.reading.Piece.TheVariants as piece
-use Rattle.lam_query.specs.Commands.{IsCommandOf}
+use Rattle.lam_query.specs.declared.reading.Parsed.{Parsed}
+use Rattle.lam_query.specs.declared.reading.Reader.{Reader}
+use Rattle.lam_query.specs.Commands.{IsCommandOf, AreCommandsOf}
 use Rattle.lam_query.specs.Faults.{Fault}
+use Rattle.lam_query.specs.SyntaxFaults.{fault_of_token, PieceFaults, AreSyntaxFaults}
 use Rattle.lam_query.specs.Views.{fault_of}
 
 -- the command that the tokens spell, or they spell none
@@ -18,3 +27,48 @@ IsCommandRead ts _ = (c : CommandTree) → IsCommandOf ts c → ⊥
 abbrev pub fault_read : Piece → Option Fault
 fault_read (piece.Fault fault) = Some (fault_of fault)
 fault_read _ = None
+
+-- these tokens in front of pieces, if there are any
+abbrev pub with_piece : List Lexeme → List (List Lexeme) → List (List Lexeme)
+with_piece ts pieces = if has_tokens ts then ts ∷ pieces else pieces
+
+-- the commands found, and those of the pieces that are left, are those of all
+abbrev pub AreFound : List (List Lexeme) → List Command → List (List Lexeme) → Type 0
+AreFound all found left = (rest : List CommandTree) → AreCommandsOf left rest → AreCommandsOf all (map command_of found ++ rest)
+
+-- the faults found, and those of the pieces that are left, are those of all
+abbrev pub AreFaultsFound : List (List Lexeme) → List RustFault → List (List Lexeme) → Type 0
+AreFaultsFound all found left = (others : List Fault) → PieceFaults left others → PieceFaults all (map fault_of found ++ others)
+
+-- the faults found, and those of the tokens that are left, are those of all
+abbrev pub AreTokenFaultsFound : List Lexeme → List RustFault → List Lexeme → Type 0
+AreTokenFaultsFound all found left = map fault_of found ++ filter_map fault_of_token left ≡ filter_map fault_of_token all
+
+-- what is known of all tokens, where these are left
+pub record AreRead (all : List Lexeme) (reader : Reader) (left : List Lexeme) : Type 0 where
+  pub one_piece : All (λ t. is_semicolon t ≡ false) reader.piece.items
+  pub commands : AreFound (pieces_of all) reader.commands.items (pieces_of (reader.piece.items ++ left))
+  pub piece_faults : AreFaultsFound (pieces_of all) reader.piece_faults.items (pieces_of (reader.piece.items ++ left))
+  pub token_faults : AreTokenFaultsFound all reader.token_faults.items left
+
+-- the fault that the token is by itself was told, and nothing else
+pub record IsNoted (t : Lexeme) (before now : Reader) : Type 0 where
+  pub token_faults : map fault_of now.token_faults.items ≡ map fault_of before.token_faults.items ++ option_to_list (fault_of_token t)
+  pub piece : now.piece ≡ before.piece
+  pub commands : now.commands ≡ before.commands
+  pub piece_faults : now.piece_faults ≡ before.piece_faults
+
+-- the piece was read, whatever other pieces follow
+pub record IsPieceRead (before now : Reader) : Type 0 where
+  pub none_left : now.piece.items ≡ []
+  pub commands : (all left : List (List Lexeme)) → AreFound all before.commands.items (with_piece before.piece.items left) → AreFound all now.commands.items left
+  pub piece_faults : (all left : List (List Lexeme)) → AreFaultsFound all before.piece_faults.items (with_piece before.piece.items left) → AreFaultsFound all now.piece_faults.items left
+  pub token_faults : now.token_faults ≡ before.token_faults
+
+-- the commands are those of the text's tokens, which begin and end between characters, and the faults are theirs
+pub record IsRead (text : List ℕ) (parsed : Parsed) : Type 0 where
+  pub tokens : List Lexeme
+  pub are_tokens : AreTokensOf text tokens
+  pub whole : All (StandsIn text) tokens
+  pub commands : AreCommandsOf (pieces_of tokens) (map command_of parsed.commands.items)
+  pub faults : AreSyntaxFaults tokens (map fault_of parsed.faults.items)

@@ -17,7 +17,7 @@ use crate::type_faults::{blame_faults, written_faults};
 use lam_rules::Dialect;
 use lam_scope::{Resolved, ScopeFault, Scopes, bind, resolve};
 use lam_syntax::Command;
-use lam_token::{Span, lex};
+use lam_token::Span;
 use lam_typing::{Typing, TypingFault, analyse};
 use std::alloc::{AllocError, Global};
 
@@ -47,11 +47,7 @@ impl Analysis {
         ensures of { IfOk result (λ made. IsAnalysisOf text.now made) }
         ensures dialect { IfOk result (λ made. dialect_of made ≡ dialect) }
     {
-        // The tokens are dropped before tables are made beside the trees.
-        let parsed = {
-            let tokens = lex(alloc, text)?;
-            read(alloc, &tokens)?
-        };
+        let parsed = read(alloc, text)?;
         let scopes = bind(alloc, &parsed.commands)?;
         let types = types_of(alloc, &parsed.commands, &scopes, dialect)?;
         Ok(Analysis {

@@ -1,20 +1,17 @@
-//! What a text's tokens are: commands, and the faults of what is none.
-ghost use Rattle.std.specs.Prelude.{◌≡◌, ◌<◌, length, map, All, IfOk};
-ghost use Rattle.std.specs.List.{filter_map};
+//! What a text is read as: commands, and the faults of what is none.
+ghost use Rattle.std.specs.Prelude.{◌≡◌, ◌∷◌, ◌<◌, List, length, IfOk};
 ghost use Rattle.std.specs.Option.{option_map};
-ghost use Rattle.lam_syntax.specs.Views.{command_of};
-ghost use Rattle.lam_syntax.specs.Answers.{pieces_of};
-ghost use Rattle.lam_query.specs.Commands.{AreCommandsOf};
-ghost use Rattle.lam_query.specs.SyntaxFaults.{fault_of_token, PieceFault, PieceFaults, AreSyntaxFaults};
-ghost use Rattle.lam_query.specs.Reading.{IsCommandRead, fault_read};
+ghost use Rattle.lam_token.specs.Lexeme.{Lexeme};
+ghost use Rattle.lam_query.specs.SyntaxFaults.{fault_of_token, PieceFault};
+ghost use Rattle.lam_query.specs.Reading.{IsCommandRead, fault_read, IsNoted, IsPieceRead, AreRead, IsRead};
 ghost use Rattle.lam_query.specs.Views.{fault_of};
 
 use crate::answers::Fault;
-use lam_syntax::{Command, Interner, ParseFault, parse_interning, pieces};
-use lam_token::{Kind, Span, Token};
+use lam_syntax::{Command, Interner, ParseFault, is_semicolon, parse_interning};
+use lam_token::{Kind, Span, Token, first_token};
 use std::alloc::{AllocError, Global};
 
-/// What was read of tokens.
+/// What was read of a text.
 #[derive(Drop)]
 pub(crate) struct Parsed {
     /// In the order of the text. A piece that spells none is passed over.
@@ -32,38 +29,84 @@ enum Piece {
     Spoiled,
 }
 
-/// The commands of the text that was cut into these tokens, and the faults that tokens and the grammar decide.
-pub(crate) fn read(alloc: Global, tokens: &[Token<'_>]) -> Result<Parsed, AllocError>
-    ensures commands { IfOk result (λ p. AreCommandsOf (pieces_of tokens.now) (map command_of p.commands.items)) }
-    ensures faults { IfOk result (λ p. AreSyntaxFaults tokens.now (map fault_of p.faults.items)) }
+/// What was read of the tokens so far. They are kept no longer than the piece that they stand in.
+#[derive(Drop)]
+struct Reader<'t> {
+    alloc: Global,
+    interner: Interner<'t>,
+    /// The tokens behind the last semicolon.
+    piece: Vec<Token<'t>>,
+    commands: Vec<Command>,
+    token_faults: Vec<Fault>,
+    piece_faults: Vec<Fault>,
+}
+
+/// The commands of a text, and the faults that its tokens and the grammar decide.
+pub(crate) fn read(alloc: Global, text: &str) -> Result<Parsed, AllocError>
+    ensures { IfOk result (IsRead text.now) }
 {
-    let pieces = pieces(alloc, tokens)?;
-    let read = read_pieces(alloc, pieces.as_slice())?;
-    let mut faults = token_faults(alloc, tokens)?;
-    faults.extend_from_slice(read.faults.as_slice())?;
+    let mut reader = Reader {
+        alloc,
+        interner: Interner::new(alloc),
+        piece: Vec::new(alloc),
+        commands: Vec::new(alloc),
+        token_faults: Vec::new(alloc),
+        piece_faults: Vec::new(alloc),
+    };
+    let mut rest = text;
+    let mut start = 0;
+    while let Some((token, after)) = first_token(rest, start) {
+        rest = after;
+        start = token.end();
+        reader.take(token)?;
+    }
+    reader.end_piece()?;
+    let mut faults = reader.token_faults;
+    faults.extend_from_slice(&reader.piece_faults)?;
     Ok(Parsed {
-        commands: read.commands,
+        commands: reader.commands,
         faults,
     })
 }
 
-/// The commands among pieces, and the faults that pieces have as wholes.
-fn read_pieces<'t>(alloc: Global, pieces: &[&[Token<'t>]]) -> Result<Parsed, AllocError>
-    requires { All (λ p. 0 < length p.now) pieces.now }
-    ensures commands { IfOk result (λ p. AreCommandsOf (map (λ q. q.now) pieces.now) (map command_of p.commands.items)) }
-    ensures faults { IfOk result (λ p. PieceFaults (map (λ q. q.now) pieces.now) (map fault_of p.faults.items)) }
-{
-    let mut interner = Interner::new(alloc);
-    let mut commands = Vec::with_capacity(alloc, pieces.len())?;
-    let mut faults = Vec::new(alloc);
-    for piece in pieces {
-        match read_piece(alloc, &mut interner, piece)? {
-            Piece::Command(command) => commands.push(command)?,
-            Piece::Fault(fault) => faults.push(fault)?,
+impl<'t> Reader<'t> {
+    /// The next token of the text.
+    fn take(&mut self, token: Token<'t>) -> Result<(), AllocError>
+        ensures { IfOk result (λ done. (all left : List Lexeme) → AreRead all self.old (token.entry ∷ left) → AreRead all self.new left) }
+    {
+        self.note(&token)?;
+        if is_semicolon(&token) {
+            return self.end_piece();
+        }
+        self.piece.push(token)?;
+        Ok(())
+    }
+
+    /// The fault that the token is by itself, if it is one.
+    fn note(&mut self, token: &Token<'_>) -> Result<(), AllocError>
+        ensures { IfOk result (λ done. IsNoted token.now self.old self.new) }
+    {
+        if let Some(fault) = fault_of_token(token) {
+            self.token_faults.push(fault)?;
+        }
+        Ok(())
+    }
+
+    /// No token of the piece follows.
+    fn end_piece(&mut self) -> Result<(), AllocError>
+        ensures { IfOk result (λ done. IsPieceRead self.old self.new) }
+    {
+        if self.piece.is_empty() {
+            return Ok(());
+        }
+        match read_piece(self.alloc, &mut self.interner, &self.piece)? {
+            Piece::Command(command) => self.commands.push(command)?,
+            Piece::Fault(fault) => self.piece_faults.push(fault)?,
             Piece::Spoiled => {}
         }
+        self.piece.clear();
+        Ok(())
     }
-    Ok(Parsed { commands, faults })
 }
 
 fn read_piece<'t>(
@@ -99,19 +142,7 @@ fn read_piece<'t>(
     }
 }
 
-/// The tokens that are faults by themselves.
-fn token_faults(alloc: Global, tokens: &[Token<'_>]) -> Result<Vec<Fault>, AllocError>
-    ensures { IfOk result (λ found. map fault_of found.items ≡ filter_map fault_of_token tokens.now) }
-{
-    let mut found = Vec::new(alloc);
-    for token in tokens {
-        if let Some(fault) = fault_of_token(token) {
-            found.push(fault)?;
-        }
-    }
-    Ok(found)
-}
-
+/// The fault that a token is by itself.
 fn fault_of_token(token: &Token<'_>) -> Option<Fault>
     ensures { option_map fault_of result ≡ fault_of_token token.now }
 {

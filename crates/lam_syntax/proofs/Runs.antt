@@ -3,7 +3,7 @@ use Rattle.std.proofs.Common.{◌≡◌, ℕ, zero, suc, ◌+◌, ◌≤◌, ◌
 use Rattle.std.proofs.lemmas.List.{drop_all, append-nil}
 use Rattle.std.specs.Prelude.{filter, All, ◌==◌}
 use Rattle.std.specs.List.{AllByRecursion}
-use Rattle.std.proofs.lemmas.List.Elements.{All-from_recursion}
+use Rattle.std.proofs.lemmas.List.Elements.{All-from_recursion, recursion_from_All}
 use Rattle.std.specs.Borrow.{Bor}
 use Rattle.std.proofs.lemmas.Bool.{eqb-true, eqb-false}
 use Rattle.lam_token.specs.Lexeme.{Lexeme}
@@ -63,6 +63,29 @@ some_piece (t ∷ piece) ps some = refl
 pub no_piece : (piece : List Lexeme) (ps : List (List Lexeme)) → length piece ≡ 0 → with_piece piece ps ≡ ps
 no_piece [] ps none = refl
 no_piece (t ∷ piece) ps none = absurd (omega arith)
+
+-- tokens without a semicolon, in front of one and at the end
+
+-- the token ends no piece
+abbrev pub GoesOn : Lexeme → Type 0
+GoesOn t = is_semicolon t ≡ false
+
+ended_run : (piece left : List Lexeme) (t : Lexeme) → AllByRecursion GoesOn piece → is_semicolon t ≡ true → runs_of (piece ++ t ∷ left) ≡ piece ∷ runs_of left
+ended_run [] left t none ends = ap (λ b. cond b ([] ∷ runs_of left) (onto_first t (runs_of left))) ends
+ended_run (p ∷ piece) left t none ends =
+    ap (λ b. cond b ([] ∷ runs_of (piece ++ t ∷ left)) (onto_first p (runs_of (piece ++ t ∷ left)))) none.0
+    ∙ ap (onto_first p) (ended_run piece left t none.1 ends)
+
+last_run : (piece : List Lexeme) → AllByRecursion GoesOn piece → runs_of piece ≡ piece ∷ []
+last_run [] none = refl
+last_run (p ∷ piece) none =
+    ap (λ b. cond b ([] ∷ runs_of piece) (onto_first p (runs_of piece))) none.0 ∙ ap (onto_first p) (last_run piece none.1)
+
+pub piece_ended : (piece left : List Lexeme) (t : Lexeme) → All GoesOn piece → is_semicolon t ≡ true → pieces_of (piece ++ t ∷ left) ≡ with_piece piece (pieces_of left)
+piece_ended piece left t none ends = ap (filter has_tokens) (ended_run piece left t (recursion_from_All GoesOn piece none) ends)
+
+pub last_piece : (piece : List Lexeme) → All GoesOn piece → pieces_of piece ≡ with_piece piece []
+last_piece piece none = ap (filter has_tokens) (last_run piece (recursion_from_All GoesOn piece none))
 
 -- one token more before the first semicolon, and none
 pub run_len-more : (ts : List Lexeme) (n : ℕ) (t : Lexeme) → n < length ts → t ≡ get_or ts n t → false ≡ is_semicolon t → run_len (drop n ts) ≡ suc (run_len (drop (n + 1) ts))

@@ -26,7 +26,7 @@ pub use identifier::{Binder, Identifier};
 pub use interner::Interner;
 pub use laws::one_answer;
 pub use parser::{parse, parse_interning};
-pub use splitting::pieces;
+pub use splitting::{is_semicolon, pieces};
 pub use terms::{
     Command, Conditional, Lambda, Let, Letrec, Prefix, Projection, Tm, TmField, TmNode,
 };

@@ -47,7 +47,8 @@ fn behind_first<'a, 'b>(tokens: &'a [Token<'b>]) -> &'a [Token<'b>]
     rest
 }
 
-fn is_semicolon(token: &Token<'_>) -> bool
+/// Whether the token ends a piece.
+pub fn is_semicolon(token: &Token<'_>) -> bool
     ensures { result ≡ is_semicolon token.now }
 {
     match token.kind() {

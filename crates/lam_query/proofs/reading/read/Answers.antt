@@ -1,0 +1,29 @@
+use Rattle.std.proofs.Common.{rules, subst, arith}
+use Rattle.lam_token.proofs.Cuts.{tokens_stand}
+use Rattle.lam_token.proofs.SomeCut.{tokens_at, are_tokens_at, first_told, none_told}
+use Rattle.lam_query.specs.Reading.{AreRead}
+use Rattle.lam_query.proofs.PiecesRead.{commands_read, faults_read}
+use Rattle.lam_query.proofs.reading.read.Goals as goal
+
+pub loop-token-preserved : goal.loop-token-preserved
+loop-token-preserved c =
+    let told = first_told _ _ _ _ c.in-Some.ensures.first in
+    let before = subst (AreRead (tokens_at 0 c.args.text.now) c.loop-token.reader) told c.loop-token.invariant.read in
+    record {
+      is_text = search rules;
+      place = omega (arith, c.end-start.ensures, c.in-Some.ensures.behind, c.loop-token.invariant.place);
+      read = rw c.end-start.ensures (c.in_ok-take.ensures _ _ before);
+    }
+
+pub returns : goal.returns
+returns c =
+    let all = tokens_at 0 c.args.text.now in
+    let are = are_tokens_at 0 c.args.text.now in
+    let read = subst (AreRead all c.loop-token.reader) (none_told _ _ c.in_default.ensures.none) c.loop-token.invariant.read in
+    record {
+      tokens = all;
+      are_tokens = are;
+      whole = tokens_stand _ _ c.utf8.text are;
+      commands = commands_read all _ _ c.in_ok-end_piece.ensures read;
+      faults = faults_read all _ _ _ c.in_ok-end_piece.ensures (rw c.deref.ensures.value at c.in_ok-extend_from_slice.ensures.items) read;
+    }
