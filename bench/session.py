@@ -14,6 +14,13 @@ import make_document
 
 URI = "file:///made.fsub"
 KEYS = 200
+RUNS = 9
+
+
+def frame_of(message):
+    """A message as it is sent, header and body."""
+    body = json.dumps({"jsonrpc": "2.0", **message}, ensure_ascii=False).encode()
+    return b"Content-Length: %d\r\n\r\n%b" % (len(body), body)
 
 
 class Client:
@@ -26,9 +33,8 @@ class Client:
         self.capabilities = self.ask("initialize", {"capabilities": {}})["capabilities"]
         self.tell("initialized", {})
 
-    def send(self, message):
-        body = json.dumps({"jsonrpc": "2.0", **message}, ensure_ascii=False).encode()
-        self.server.stdin.write(b"Content-Length: %d\r\n\r\n%b" % (len(body), body))
+    def send(self, frame):
+        self.server.stdin.write(frame)
         self.server.stdin.flush()
 
     def receive(self):
@@ -38,20 +44,28 @@ class Client:
         return self.server.stdout.read(length)
 
     def tell(self, method, params):
-        self.send({"method": method, "params": params})
+        self.send(frame_of({"method": method, "params": params}))
+
+    def request(self, method, params):
+        self.asked += 1
+        return {"id": self.asked, "method": method, "params": params}
 
     def ask(self, method, params):
-        self.asked += 1
-        self.send({"id": self.asked, "method": method, "params": params})
+        self.send(frame_of(self.request(method, params)))
         return json.loads(self.receive())["result"]
+
+    def timed(self, message):
+        """Milliseconds from the first byte of the message's frame to the last of the answer, and the answer's body."""
+        frame = frame_of(message)
+        start = time.perf_counter()
+        self.send(frame)
+        body = self.receive()
+        return 1000 * (time.perf_counter() - start), body
 
     def open(self, text):
         """Milliseconds from the frame to the published faults, and how many there are."""
         document = {"uri": URI, "languageId": "fullsub", "version": 0, "text": text}
-        start = time.perf_counter()
-        self.tell("textDocument/didOpen", {"textDocument": document})
-        published = self.receive()
-        taken = 1000 * (time.perf_counter() - start)
+        taken, published = self.timed({"method": "textDocument/didOpen", "params": {"textDocument": document}})
         return taken, len(json.loads(published)["params"]["diagnostics"])
 
     def key(self, line, end, text):
@@ -62,10 +76,7 @@ class Client:
             "textDocument": {"uri": URI, "version": self.version},
             "contentChanges": [{"range": places, "text": text}],
         }
-        start = time.perf_counter()
-        self.tell("textDocument/didChange", change)
-        self.receive()
-        return 1000 * (time.perf_counter() - start)
+        return self.timed({"method": "textDocument/didChange", "params": change})[0]
 
     def keys(self, line, count):
         """So many letters, each typed in front of a line's name and taken away again."""
@@ -77,9 +88,7 @@ class Client:
     def hover(self, line):
         """Milliseconds from the frame to the answer."""
         where = {"textDocument": {"uri": URI}, "position": {"line": line, "character": 0}}
-        start = time.perf_counter()
-        self.ask("textDocument/hover", where)
-        return 1000 * (time.perf_counter() - start)
+        return self.timed(self.request("textDocument/hover", where))[0]
 
     def peak(self):
         """The peak of the resident memory, in bytes."""
@@ -93,6 +102,15 @@ class Client:
         self.ask("shutdown", None)
         self.tell("exit", None)
         return self.server.wait()
+
+
+def open_alone(program, text):
+    """Milliseconds from the frame that opens the text to its published faults, in a run that does nothing else."""
+    client = Client(program)
+    taken, _ = client.open(text)
+    if client.close() != 0:
+        sys.exit("the program did not end with status 0")
+    return taken
 
 
 def row(name, figure):
@@ -123,13 +141,11 @@ def main():
     peak = client.peak()
     row("peak of memory after ten keys", f"{after_ten / len(text):.1f} times the text")
     row("peak of memory after a thousand more", f"{peak / len(text):.1f} times the text")
-    client.close()
-
-    client = Client(program)
-    text = make_document.document(23_700)
-    taken, faults = client.open(text)
-    row(f"open {len(text):,} bytes, {faults} faults", f"{taken:.1f} ms")
     row("the program's status", client.close())
+
+    text = make_document.document(22_950)
+    opened = [open_alone(program, text) for _ in range(RUNS)]
+    row(f"open {len(text):,} bytes, each in a run of its own, {RUNS} times", spread(opened))
 
 
 main()
