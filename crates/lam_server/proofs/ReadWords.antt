@@ -1,6 +1,7 @@
 -- The command line is one whose faults clap defines.
-use Rattle.std.proofs.Common.{◌≡◌, ◌⊎◌, ◌↔◌, inl, inr, ℕ, List, codes, Err, Bool, true, false, cond, ◌&&◌, true≢false, Option, None, Some, refl, sym, ap, ◌∙◌, subst}
+use Rattle.std.proofs.Common.{◌≡◌, ◌⊎◌, ◌↔◌, inl, inr, ℕ, List, codes, Err, Bool, true, false, cond, true≢false, Option, None, Some, refl, sym, ap, ◌∙◌, subst}
 use Rattle.std.specs.Str.{bytes_eq}
+use Rattle.std.proofs.lemmas.Bool.{and_parts}
 use Rattle.std.proofs.lemmas.Slice.Eq.{bytes_eq-Decides}
 use Rattle.clap.specs.Faults.{fault_of, is_simple_and_free, is_free_app}
 use Rattle.clap.specs.Kinds.{Kinds, IsAmong}
@@ -60,16 +61,12 @@ second (Some word) = by (bytes_eq word (codes "2")) refl
     by true is = ((λ e. ap Some ((bytes_eq-Decides word (codes "2")).0 is)), (λ e. refl))
     by false is = ((λ e. let clash : One ≡ Two = e in cc), (λ e. let same : word ≡ codes "2" = cc in absurd (true≢false (sym ((bytes_eq-Decides word (codes "2")).1 same) ∙ is))))
 
-left_true : (a b : Bool) → (a && b) ≡ true → a ≡ true
-left_true true b h = refl
-left_true false b h = cc
-
 pub chooses : (command : Command) (given words : List (List ℕ)) (m : ArgMatches) (config : Config) → IsCommandLine command → given ≡ named_words words → HasMatchesOf (app_of command) given m
     → dialect_of config ≡ dialect_named (first_value (found_of m) (codes "dialect")) → ChoosesDialect words config
 chooses command given words m config c same has named =
     let app : app_of command ≡ command_line (dialect c.dialect_rule.names) = c.is ∙ ap command_line c.dialect_rule.is in
     let simple : is_simple_and_free (app_of command) ≡ true = ap is_simple_and_free app ∙ is_simple_line c.dialect_rule.names in
-    let rows = (has (left_true (is_simple (app_of command)) (is_free_app (built (app_of command))) simple)).0 in
+    let rows = (has (and_parts (is_simple (app_of command)) (is_free_app (built (app_of command))) simple).0).0 in
     let value : first_value (found_of m) (codes "dialect") ≡ first_of (codes "dialect") (matches_of (command_line c.rule) (named_words words)) =
     first_value-rows (found_of m) (codes "dialect") ∙ ap (first_of (codes "dialect")) (rows ∙ ap (λ (a : App). matches_of a given) c.is ∙ ap (matches_of (command_line c.rule)) same) in
     let is = named ∙ ap dialect_named value in
