@@ -61,6 +61,8 @@ pub(crate) fn read(alloc: Global, text: &str) -> Result<Parsed, AllocError>
         reader.take(token)?;
     }
     reader.end_piece()?;
+    // They are kept, and what is bound is made beside them.
+    reader.commands.shrink_to_fit();
     let mut faults = reader.token_faults;
     faults.extend_from_slice(&reader.piece_faults)?;
     Ok(Parsed {

@@ -24,6 +24,6 @@ returns c =
       tokens = all;
       are_tokens = are;
       whole = tokens_stand _ _ c.utf8.text are;
-      commands = commands_read all _ _ c.in_ok-end_piece.ensures read;
+      commands = rw c.shrink_to_fit.ensures.items (commands_read all _ _ c.in_ok-end_piece.ensures read);
       faults = faults_read all _ _ _ c.in_ok-end_piece.ensures (rw c.deref.ensures.value at c.in_ok-extend_from_slice.ensures.items) read;
     }
