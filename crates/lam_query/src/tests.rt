@@ -107,6 +107,19 @@ fn only_the_innermost_wrong_term_is_to_blame(rt: HostRuntime) -> Result<(), Fail
 }
 
 #[test]
+fn a_long_text_has_all_its_faults(rt: HostRuntime) -> Result<(), Fail> {
+    let alloc = rt.alloc();
+    let name = "x".repeat(alloc, 100_000)?;
+    expect_faults(&rt, alloc, &name, One, &[("E1", 0, 100_000)])?;
+    let text = "0 0;".repeat(alloc, 10_000)?;
+    let found = faults(alloc, &text, One)?;
+    assert_eq!(rt; found.len(), 10_000);
+    assert_eq!(rt; found[9_999].span.start, 39_996);
+    assert_eq!(rt; found[9_999].span.end, 39_999);
+    Ok(())
+}
+
+#[test]
 fn parentheses_belong_to_their_term(rt: HostRuntime) -> Result<(), Fail> {
     let alloc = rt.alloc();
     let opening = "(".repeat(alloc, 999)?;
