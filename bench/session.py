@@ -1,7 +1,8 @@
 """session.py SERVER: measures the built program by the frames that an editor sends.
 
 Prints a table: opening texts of 400 KB and 1 MB, a key in the middle of the first one to its
-published faults, hovers where the program serves them, and the peak of the resident memory.
+published faults, hovers where the program serves them, the peak of the resident memory, and
+how fast the machine is.
 """
 
 import json
@@ -113,6 +114,15 @@ def open_alone(program, text):
     return taken
 
 
+def additions():
+    """Milliseconds of a million additions here, which tell how fast the machine is just then."""
+    start = time.perf_counter()
+    total = 0
+    for number in range(1_000_000):
+        total += number
+    return 1000 * (time.perf_counter() - start)
+
+
 def row(name, figure):
     print(f"| {name} | {figure} |")
 
@@ -146,6 +156,7 @@ def main():
     text = make_document.document(22_950)
     opened = [open_alone(program, text) for _ in range(RUNS)]
     row(f"open {len(text):,} bytes, each in a run of its own, {RUNS} times", spread(opened))
+    row("for comparison, a million additions in Python", spread([additions() for _ in range(RUNS)]))
 
 
 main()
