@@ -1,6 +1,6 @@
 -- Reading marks from the left finds the inside of a comment, and nothing else.
-use Rattle.std.proofs.Common.{◌≡◌, ℕ, zero, suc, ◌+◌, ◌-◌, ◌==◌, ◌↔◌, Bool, true, false, ◌&&◌, ◌||◌, Option, Some, List, [], ◌∷◌, sym, refl, ap, ◌∙◌, subst, arith}
-use Rattle.std.proofs.lemmas.Bool.{eqb-true}
+use Rattle.std.proofs.Common.{◌≡◌, ℕ, zero, suc, ◌+◌, ◌-◌, ◌==◌, ◌↔◌, Bool, true, false, Option, Some, List, [], ◌∷◌, sym, refl, ap, ◌∙◌, subst, arith}
+use Rattle.std.proofs.lemmas.Bool.{eqb-true, and_parts, or_parts}
 use Rattle.std.proofs.lemmas.Bool.Decides.{nat_tests}
 use Rattle.lam_token.specs.Shape.{rest_of_comment, is_opening, is_closing}
 use Rattle.lam_token.specs.Comment.{begins_mark, Inside, closes, nests, goes_on}
@@ -11,21 +11,13 @@ abbrev Insides : ℕ → List ℕ → List ℕ → Type 0
 Insides zero cs rest = cs ≡ rest
 Insides (suc n) cs rest = (mid : List ℕ) × Inside cs mid × Insides n mid rest
 
-both : (a b : Bool) → (a && b) ≡ true → (a ≡ true) × (b ≡ true)
-both true b e = (refl, e)
-both false b e = absurd cc
-
-neither : (a b : Bool) → (a || b) ≡ false → (a ≡ false) × (b ≡ false)
-neither true b e = absurd cc
-neither false b e = (refl, e)
-
 opening_is : (b c : ℕ) → is_opening b c ≡ true → (b ≡ 47) × (c ≡ 42)
 unfolding is_opening
-opening_is b c e = let p = both (b == 47) (c == 42) e in (eqb-true b 47 p.0, eqb-true c 42 p.1)
+opening_is b c e = let p = and_parts (b == 47) (c == 42) e in (eqb-true b 47 p.0, eqb-true c 42 p.1)
 
 closing_is : (b c : ℕ) → is_closing b c ≡ true → (b ≡ 42) × (c ≡ 47)
 unfolding is_closing
-closing_is b c e = let p = both (b == 42) (c == 47) e in (eqb-true b 42 p.0, eqb-true c 47 p.1)
+closing_is b c e = let p = and_parts (b == 42) (c == 47) e in (eqb-true b 42 p.0, eqb-true c 47 p.1)
 
 no_mark : (b c : ℕ) (cs : List ℕ) → is_opening b c ≡ false → is_closing b c ≡ false → begins_mark (b ∷ c ∷ cs) ≡ false
 no_mark b c cs e f = rw (e, f) refl
@@ -134,7 +126,7 @@ complete (goes_on {c = c} {cs = ds} {rest = rest} plain i) n b cs e =
     let others : ds ≡ cs = cc in
     let p = begun ds rest i in
     let flat : begins_mark (b ∷ p.0 ∷ p.1) ≡ false = subst (λ x. begins_mark (x ∷ p.0 ∷ p.1) ≡ false) first (subst (λ l. begins_mark (c ∷ l) ≡ false) p.2 plain) in
-    let marks = neither (is_opening b p.0) (is_closing b p.0) flat in
+    let marks = or_parts (is_opening b p.0) (is_closing b p.0) flat in
     ap (rest_of_comment (suc n) b) (sym others ∙ p.2) ∙ behind_other (suc n) b p.0 p.1 marks.0 marks.1 ∙ complete i n p.0 p.1 p.2
 
 pub inside_read : (text rest : List ℕ) → (rest_of_comment 1 32 text ≡ Some rest) ↔ Inside text rest

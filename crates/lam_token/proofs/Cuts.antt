@@ -13,11 +13,13 @@ use Rattle.lam_token.specs.declared.kind.Kind.{Kind}
 use Rattle.lam_token.specs.declared.kind.Kind.TheVariants.{Name, TypeName, BadCharacter, BadComment}
 use Rattle.lam_token.specs.declared.kind.Segment.{Segment}
 use Rattle.lam_token.specs.declared.kind.Segment.TheVariants.{Blank, Comment, Token}
+use Rattle.lam_token.specs.declared.kind.Beginning.{Beginning}
+use Rattle.lam_token.specs.declared.kind.Beginning.TheVariants as begin
 use Rattle.lam_token.specs.Lexeme.{Lexeme, lexeme_at, text_of, start_of, end_of}
-use Rattle.lam_token.specs.Shape.{shape_of, opens_comment}
+use Rattle.lam_token.specs.Shape.{beginning_of, shape_of, opened, opens_comment}
 use Rattle.lam_token.specs.Reading.{SegmentIs}
-use Rattle.lam_token.proofs.Reading.{length_front}
-use Rattle.lam_token.specs.Cut.{NothingLonger, IsFirst, longest, unclosed, stray, Part, IsCut, with_token, tokens_of, AreTokensFrom, AreTokensOf, StandsIn, IsWholeKind}
+use Rattle.lam_token.proofs.Reading.{length_front, chars_front}
+use Rattle.lam_token.specs.Cut.{NothingBegins, NothingLonger, IsFirst, longest, unclosed, stray, Part, IsCut, with_token, tokens_of, AreTokensFrom, AreTokensOf, StandsIn, IsWholeKind}
 
 -- two fronts of one length of one list
 same_front : (xs ys r m : List ℕ) → xs ++ r ≡ ys ++ m → length xs ≡ length ys → (xs ≡ ys) × (r ≡ m)
@@ -245,6 +247,28 @@ token_first start text rest after s kind front offset t others is sort bytes tok
 pub none_left : (start : ℕ) (text rest : List ℕ) (offset : ℕ) → rest ≡ [] → Skips start text offset rest → AreTokensFrom start text []
 none_left start text rest offset is_end skips = skips [] (record { parts = []; cut = ap chars is_end ∙ chars-nil; tokens_are = refl })
 
+-- a text falls into what was passed over and the rest, whose first byte has that offset where the text's has the start
+pub record StandsBehind (start : ℕ) (text : List ℕ) (offset : ℕ) (rest : List ℕ) : Type 0 where
+  pub passed : List ℕ
+  pub cut : text ≡ passed ++ rest
+  pub at : offset ≡ start + length passed
+
+-- behind one segment more
+pub stands_further : (start : ℕ) (text rest after : List ℕ) (s : Segment) (offset next : ℕ) → (is : SegmentIs rest s after) → next ≡ offset + length (encode_utf8_all is.segment) → StandsBehind start text offset rest → StandsBehind start text next after
+stands_further start text rest after s offset next is further stands =
+    let bytes = encode_utf8_all is.segment in
+    record {
+      passed = stands.passed ++ bytes;
+      cut = stands.cut ∙ ap (λ l. stands.passed ++ l) is.front.bytes ∙ sym (append_assoc stands.passed bytes after);
+      at = omega (arith, further, stands.at, length-append stands.passed bytes);
+    }
+
+-- the rest is what the text has from there on
+pub rest_of_text : (start : ℕ) (text : List ℕ) (offset : ℕ) (rest : List ℕ) → StandsBehind start text offset rest → rest ≡ drop (offset - start) text
+rest_of_text start text offset rest stands =
+    let count : offset - start ≡ length stands.passed = omega (arith, stands.at) in
+    sym (ap (λ n. drop n text) count ∙ ap (drop (length stands.passed)) stands.cut ∙ drop-append_seam stands.passed rest)
+
 -- the tokens of the whole are those so far and those of the rest
 abbrev pub GoesOn : (whole rest : List ℕ) → (start : ℕ) → (so_far : List Lexeme) → Type 0
 GoesOn whole rest start so_far = (others : List Lexeme) → AreTokensFrom start rest others → AreTokensOf whole (so_far ++ others)
@@ -256,6 +280,44 @@ goes_on_behind whole rest after start so_far now t pushed first goes others are 
 
 pub goes_no_further : (whole rest : List ℕ) (start : ℕ) (so_far : List Lexeme) → AreTokensFrom start rest [] → GoesOn whole rest start so_far → AreTokensOf whole so_far
 goes_no_further whole rest start so_far none goes = subst (AreTokensOf whole) (append-nil so_far) (goes [] none)
+
+-- a first segment is also the first one of itself alone
+
+no_more : (cs : List ℕ) → NothingLonger (cs ++ []) cs
+no_more cs front after cut longer =
+    absurd (omega (arith, longer, ap length (sym (append-nil cs) ∙ cut), length-append front after))
+
+fewer_begin : (cs rest : List ℕ) → NothingBegins (cs ++ rest) → NothingBegins (cs ++ [])
+fewer_begin cs rest none front after cut =
+    none front (after ++ rest) (ap (λ l. l ++ rest) (sym (append-nil cs) ∙ cut) ∙ append_assoc front after rest)
+
+-- a single character does not open a comment
+opened_by_nothing : (b : Beginning) → opened b [] ≡ false
+opened_by_nothing begin.Blank = refl
+opened_by_nothing begin.Slash = refl
+opened_by_nothing begin.Digit = refl
+opened_by_nothing begin.Letter = refl
+opened_by_nothing begin.Underscore = refl
+opened_by_nothing begin.Dash = refl
+opened_by_nothing (begin.Mark kind) = refl
+opened_by_nothing begin.Stray = refl
+
+opens_alone : (cs : List ℕ) → length cs ≡ 1 → opens_comment (cs ++ []) ≡ false
+opens_alone [] single = absurd (omega arith)
+opens_alone (c ∷ []) single = opened_by_nothing (beginning_of c)
+opens_alone (c ∷ d ∷ cs) single = absurd (omega arith)
+
+first_alone : (s : Segment) (cs rest : List ℕ) → IsFirst s cs rest → IsFirst s cs []
+first_alone s cs rest (longest one none_longer) = longest one (no_more cs)
+first_alone s cs rest (unclosed none is_open ends) = subst (IsFirst (Token BadComment) cs) ends (unclosed none is_open ends)
+first_alone s cs rest (stray none not_open single) = stray (fewer_begin cs rest none) (opens_alone cs single) single
+
+-- a token's kind is the one that its text has by itself
+pub segment_alone : (text rest : List ℕ) (s : Segment) (kind : Kind) (front : List ℕ) → IsUtf8 text → (is : SegmentIs text s rest) → s ≡ Token kind → front ≡ encode_utf8_all is.segment → IsWholeKind (chars front) (Some kind)
+segment_alone text rest s kind front is_text is sort bytes =
+    let spelt : chars front ≡ is.segment = ap chars bytes ∙ chars_front text is.segment rest is_text is.front in
+    subst (λ k. IsFirst k (chars front) []) sort
+    (subst (λ l. IsFirst s l []) (sym spelt) (first_alone s is.segment (chars rest) is.is_first))
 
 -- the kind of the whole text
 

@@ -2,8 +2,8 @@
 use Rattle.std.proofs.Common.{◌≡◌, ℕ, ◌+◌, ◌-◌, ◌<◌, Bool, true, false, Option, Some, None, List, [], ◌∷◌, ◌++◌, length, take, sym, refl, ap, ◌∙◌, subst, append_assoc, arith, length-append}
 use Rattle.std.specs.Prelude.{encode_utf8, encode_utf8_all, ◌==◌}
 use Rattle.std.specs.Str.{chars, IsUtf8, IsCharBoundary}
-use Rattle.std.proofs.lemmas.Str.{chars-nil, chars_past_char, IsUtf8-past_char, IsUtf8-nil, encodes-chars, IsCharBoundary-at_seam, length-le-encodes, length-encode, len_utf8_bounds}
-use Rattle.std.proofs.lemmas.List.{append-nil}
+use Rattle.std.proofs.lemmas.Str.{chars-nil, chars_past_char, IsUtf8-past_char, IsUtf8-nil, IsUtf8-take, chars-append, encodes-chars, IsCharBoundary-at_seam, length-le-encodes, length-encode, len_utf8_bounds}
+use Rattle.std.proofs.lemmas.List.{append-nil, append_cancel_right}
 use Rattle.std.proofs.Math.Seq.{take-append_seam}
 use Rattle.lam_token.specs.Shape.{rest_of_comment, is_opening, is_closing}
 use Rattle.lam_token.specs.Reading.{FirstIs, FrontIs, EndsRun, RunIs, IsBehind}
@@ -57,6 +57,14 @@ take_front text cs rest front =
     let all = length_front text cs rest front in
     let at : length text - length rest ≡ length (encode_utf8_all cs) = omega arith in
     ap (λ n. take n text) at ∙ ap (take (length (encode_utf8_all cs))) front.bytes ∙ take-append_seam (encode_utf8_all cs) rest
+
+-- the bytes of a front spell its characters
+pub chars_front : (text cs rest : List ℕ) → IsUtf8 text → FrontIs text cs rest → chars (encode_utf8_all cs) ≡ cs
+chars_front text cs rest is_text front =
+    let taken = IsUtf8-take text (length text - length rest) is_text (cut_behind text cs rest front) in
+    let is_front = subst IsUtf8 (take_front text cs rest front) taken in
+    append_cancel_right _ _ (chars rest)
+    (sym (chars-append (encode_utf8_all cs) rest is_front) ∙ ap chars (sym front.bytes) ∙ front.characters)
 
 -- a front of no bytes has no character
 pub no_front : (text cs rest : List ℕ) → FrontIs text cs rest → length rest ≡ length text → cs ≡ []

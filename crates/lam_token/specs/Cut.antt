@@ -5,7 +5,7 @@ use Rattle.lam_token.specs.declared.kind.Kind.{Kind}
 use Rattle.lam_token.specs.declared.kind.Kind.TheVariants.{BadCharacter, BadComment}
 use Rattle.lam_token.specs.declared.kind.Segment.{Segment}
 use Rattle.lam_token.specs.declared.kind.Segment.TheVariants.{Blank, Comment, Token}
-use Rattle.lam_token.specs.Lexeme.{Lexeme, lexeme_at, start_of, end_of}
+use Rattle.lam_token.specs.Lexeme.{Lexeme, kind_of, text_of, lexeme_at, start_of, end_of}
 use Rattle.lam_token.specs.Shape.{shape_of, opens_comment}
 
 -- no front of the text has a shape
@@ -62,3 +62,8 @@ StandsIn text t = IsCharBoundary text (start_of t) × IsCharBoundary text (end_o
 abbrev pub IsWholeKind : List ℕ → Option Kind → Type 0
 IsWholeKind text None = (kind : Kind) → shape_of text ≡ Some (Token kind) → ⊥
 IsWholeKind text (Some kind) = IsFirst (Token kind) text []
+
+-- what holds of each token: its place is as long as its text, and its kind is the one that its text has by itself
+pub record IsToken (t : Lexeme) : Type 0 where
+  pub ends : end_of t ≡ start_of t + length (text_of t)
+  pub kind : IsWholeKind (chars (text_of t)) (Some (kind_of t))

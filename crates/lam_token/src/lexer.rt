@@ -1,5 +1,5 @@
 //! A text's tokens.
-ghost use Rattle.std.specs.Prelude.{◌≡◌, ◌↔◌, ◌+◌, ◌<◌, ◌^◌, List, [], ◌∷◌, length, Some, IfOk, IfSome, IfNone, IsTrue, All, map};
+ghost use Rattle.std.specs.Prelude.{◌≡◌, ◌↔◌, ◌+◌, ◌-◌, ◌<◌, ◌^◌, List, [], ◌∷◌, length, drop, Some, IfOk, IfSome, IfNone, IsTrue, All, map};
 ghost use Rattle.std.specs.List.{slice_range};
 ghost use Rattle.std.specs.List.Sorted.{IsStrictlyIncreasing};
 ghost use Rattle.std.specs.Str.{chars};
@@ -17,6 +17,7 @@ use std::alloc::{AllocError, Global};
 pub fn first_token<'a>(text: &'a str, start: usize) -> Option<(Token<'a>, &'a str)>
     requires { start + length text.now < 2 ^ 64 }
     ensures first { IfSome result (λ found. (others : List Lexeme) → AreTokensFrom (end_of found.0) found.1.now others → AreTokensFrom start text.now (found.0 ∷ others)) }
+    ensures rest { IfSome result (λ found. found.1.now ≡ drop (end_of found.0 - start) text.now) }
     ensures behind { IfSome result (λ found. end_of found.0 + length found.1.now ≡ start + length text.now) }
     ensures shorter { IfSome result (λ found. length found.1.now < length text.now) }
     ensures none { IfNone result (AreTokensFrom start text.now []) }

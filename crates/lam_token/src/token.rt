@@ -1,6 +1,8 @@
 //! A token of a text, which borrows the text.
-ghost use Rattle.std.specs.Prelude.{◌≡◌, ◌+◌, ◌^◌, ◌<◌, length};
+ghost use Rattle.std.specs.Prelude.{◌≡◌, ◌+◌, ◌^◌, ◌<◌, length, Some};
+ghost use Rattle.std.specs.Str.{chars};
 ghost use Rattle.lam_token.specs.Lexeme.{kind_of, text_of, span_of, start_of, end_of, lexeme_at};
+ghost use Rattle.lam_token.specs.Cut.{IsWholeKind};
 
 use crate::kind::Kind;
 use crate::span::Span;
@@ -15,14 +17,14 @@ pub struct Token<'a> {
 }
 
 impl<'a> Model for Token<'a> {
-    ghost use Rattle.std.specs.Prelude.{◌≡◌, ◌+◌, length};
     ghost use Rattle.lam_token.specs.Lexeme.{Lexeme, lexeme};
+    ghost use Rattle.lam_token.specs.Cut.{IsToken};
 
     ghost Value = { Lexeme };
 
     ghost view = { λ t. lexeme t.kind t.text.now t.place };
 
-    ghost invariant = { λ t. t.place.end ≡ t.place.start + length t.text.now };
+    ghost invariant = { λ t. IsToken (lexeme t.kind t.text.now t.place) };
 }
 
 impl<'a> Token<'a> {
@@ -37,6 +39,7 @@ impl<'a> Token<'a> {
     pub fn text(&self) -> &'a str
         ensures text { result.now ≡ text_of self.now }
         ensures whole { end_of self.now ≡ start_of self.now + length result.now }
+        ensures kind { IsWholeKind (chars result.now) (Some (kind_of self.now)) }
     {
         self.text
     }
@@ -65,7 +68,8 @@ impl<'a> Token<'a> {
 
 /// The token with this text that begins at this byte.
 pub(crate) fn token_at<'a>(kind: Kind, text: &'a str, start: usize) -> Token<'a>
-    requires { start + length text.now < 2 ^ 64 }
+    requires place { start + length text.now < 2 ^ 64 }
+    requires kind { IsWholeKind (chars text.now) (Some kind) }
     ensures { result ≡ lexeme_at kind text.now start }
 {
     let end = start + text.len();
