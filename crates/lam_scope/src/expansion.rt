@@ -23,7 +23,7 @@ pub(crate) fn collect_faults(
 ) -> Result<(), AllocError>
     ensures { OnOk result (faults.new.items ≡ faults.old.items ++ type_faults (abbreviations_of seen.now) (type_of ty.now)) }
 {
-    match &*ty.node {
+    match &ty.node {
         TyNode::Bool => Ok(()),
         TyNode::Nat => Ok(()),
         TyNode::Unit => Ok(()),
@@ -35,9 +35,9 @@ pub(crate) fn collect_faults(
                 Ok(())
             }
         },
-        TyNode::Arrow(parameter, outcome) => {
-            collect_faults(seen, parameter, faults)?;
-            collect_faults(seen, outcome, faults)
+        TyNode::Arrow(arrow) => {
+            collect_faults(seen, &arrow.parameter, faults)?;
+            collect_faults(seen, &arrow.outcome, faults)
         }
         TyNode::Record(fields) => collect_field_faults(seen, fields, faults),
     }
@@ -100,7 +100,7 @@ const SIZE_CAP: u64 = NODE_LIMIT + 1;
 pub(crate) fn expanded_size(seen: &Abbreviations<'_>, ty: &WrittenTy) -> Option<u64>
     ensures { result ≡ capped_nodes (expansion (abbreviations_of seen.now) (type_of ty.now)) }
 {
-    match &*ty.node {
+    match &ty.node {
         TyNode::Bool => Some(1),
         TyNode::Nat => Some(1),
         TyNode::Unit => Some(1),
@@ -109,9 +109,9 @@ pub(crate) fn expanded_size(seen: &Abbreviations<'_>, ty: &WrittenTy) -> Option<
             let abbreviation = seen.find(&name.text)?;
             written_size(&abbreviation.expansion)
         }
-        TyNode::Arrow(parameter, outcome) => {
-            let parameter_size = expanded_size(seen, parameter)?;
-            let outcome_size = expanded_size(seen, outcome)?;
+        TyNode::Arrow(arrow) => {
+            let parameter_size = expanded_size(seen, &arrow.parameter)?;
+            let outcome_size = expanded_size(seen, &arrow.outcome)?;
             Some((1 + parameter_size + outcome_size).min(SIZE_CAP))
         }
         TyNode::Record(fields) => {
@@ -157,7 +157,7 @@ pub(crate) fn expand(
 ) -> Result<Option<Ty>, AllocError>
     ensures { IfOk result (λ w. written_of w ≡ expansion (abbreviations_of seen.now) (type_of ty.now)) }
 {
-    match &*ty.node {
+    match &ty.node {
         TyNode::Bool => Ok(Some(Ty::Bool)),
         TyNode::Nat => Ok(Some(Ty::Nat)),
         TyNode::Unit => Ok(Some(Ty::Unit)),
@@ -166,11 +166,11 @@ pub(crate) fn expand(
             None => Ok(None),
             Some(abbreviation) => copy_of_written(alloc, &abbreviation.expansion),
         },
-        TyNode::Arrow(parameter, outcome) => {
-            let Some(parameter_type) = expand(alloc, seen, parameter)? else {
+        TyNode::Arrow(arrow) => {
+            let Some(parameter_type) = expand(alloc, seen, &arrow.parameter)? else {
                 return Ok(None);
             };
-            let Some(outcome_type) = expand(alloc, seen, outcome)? else {
+            let Some(outcome_type) = expand(alloc, seen, &arrow.outcome)? else {
                 return Ok(None);
             };
             let made = make_arrow(alloc, parameter_type, outcome_type)?;

@@ -16,8 +16,8 @@ use crate::expansion::expand;
 use crate::names::{Names, name_of, text_of};
 use lam_rules::{Core, make_letrec};
 use lam_syntax::{
-    Binder, Conditional, Identifier, Lambda, Let, Letrec, Prefix, Projection, Tm, TmField, TmNode,
-    WrittenTy,
+    Application, Ascription, Binder, Conditional, Identifier, Lambda, Let, Letrec, Prefix,
+    Projection, Tm, TmField, TmNode,
 };
 use std::alloc::{AllocError, Global};
 
@@ -33,7 +33,7 @@ pub(crate) fn nameless<'a>(
     ensures form { IfOk result (λ e. term_of e ≡ nameless (abbreviations_of seen.now) names.old (tree_of term.now)) }
     ensures names { OnOk result (names.new ≡ names.old) }
 {
-    match &*term.node {
+    match &term.node {
         TmNode::True => Ok(Core::True),
         TmNode::False => Ok(Core::False),
         TmNode::Unit => Ok(Core::Unit),
@@ -44,9 +44,9 @@ pub(crate) fn nameless<'a>(
         TmNode::Let(parts) => let_of(alloc, seen, names, parts),
         TmNode::Letrec(parts) => letrec_of(alloc, seen, names, parts),
         TmNode::Prefixed(prefix, operand) => prefixed_of(alloc, seen, names, *prefix, operand),
-        TmNode::Apply(function, argument) => apply_of(alloc, seen, names, function, argument),
+        TmNode::Apply(application) => apply_of(alloc, seen, names, application),
         TmNode::Project(projection) => project_of(alloc, seen, names, projection),
-        TmNode::Ascribe(operand, ty) => ascribe_of(alloc, seen, names, operand, ty),
+        TmNode::Ascribe(ascription) => ascribe_of(alloc, seen, names, ascription),
         TmNode::Record(fields) => record_of(alloc, seen, names, fields),
     }
 }
@@ -175,14 +175,13 @@ fn apply_of<'a>(
     alloc: Global,
     seen: &Abbreviations<'_>,
     names: &mut Names<'a>,
-    function: &'a Tm,
-    argument: &'a Tm,
+    term: &'a Application,
 ) -> Result<Core, AllocError>
-    ensures form { IfOk result (λ e. term_of e ≡ nameless_node (abbreviations_of seen.now) names.old (apply (tree_of function.now) (tree_of argument.now))) }
+    ensures form { IfOk result (λ e. term_of e ≡ nameless_node (abbreviations_of seen.now) names.old (apply (tree_of term.now.function) (tree_of term.now.argument))) }
     ensures names { OnOk result (names.new ≡ names.old) }
 {
-    let first = boxed(alloc, seen, names, function)?;
-    let second = boxed(alloc, seen, names, argument)?;
+    let first = boxed(alloc, seen, names, &term.function)?;
+    let second = boxed(alloc, seen, names, &term.argument)?;
     Ok(Core::App(first, second))
 }
 
@@ -208,14 +207,13 @@ fn ascribe_of<'a>(
     alloc: Global,
     seen: &Abbreviations<'_>,
     names: &mut Names<'a>,
-    operand: &'a Tm,
-    ty: &WrittenTy,
+    term: &'a Ascription,
 ) -> Result<Core, AllocError>
-    ensures form { IfOk result (λ e. term_of e ≡ nameless_node (abbreviations_of seen.now) names.old (ascribe (tree_of operand.now) (type_of ty.now))) }
+    ensures form { IfOk result (λ e. term_of e ≡ nameless_node (abbreviations_of seen.now) names.old (ascribe (tree_of term.now.operand) (type_of term.now.ty))) }
     ensures names { OnOk result (names.new ≡ names.old) }
 {
-    let form = boxed(alloc, seen, names, operand)?;
-    let written = expand(alloc, seen, ty)?;
+    let form = boxed(alloc, seen, names, &term.operand)?;
+    let written = expand(alloc, seen, &term.ty)?;
     Ok(Core::Ascribe(form, Box::new(alloc, written)?))
 }
 

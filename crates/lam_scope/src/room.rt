@@ -34,7 +34,7 @@ pub(crate) fn room_of(commands: &[Command]) -> Room {
 #[cycle(room)]
 fn add_term(room: &mut Room, term: &Tm) {
     room.places = room.places.saturating_add(1);
-    match &*term.node {
+    match &term.node {
         TmNode::True => {}
         TmNode::False => {}
         TmNode::Unit => {}
@@ -56,12 +56,12 @@ fn add_term(room: &mut Room, term: &Tm) {
         }
         TmNode::Letrec(parts) => add_letrec(room, parts),
         TmNode::Prefixed(_, operand) => add_term(room, operand),
-        TmNode::Apply(function, argument) => {
-            add_term(room, function);
-            add_term(room, argument);
+        TmNode::Apply(application) => {
+            add_term(room, &application.function);
+            add_term(room, &application.argument);
         }
         TmNode::Project(projection) => add_term(room, &projection.record),
-        TmNode::Ascribe(operand, _) => add_term(room, operand),
+        TmNode::Ascribe(ascription) => add_term(room, &ascription.operand),
         TmNode::Record(fields) => add_fields(room, fields),
     }
 }

@@ -3,10 +3,10 @@
 ghost use Rattle.std.specs.Prelude.{◌≡◌, ◌∷◌, [], ◌+◌, ◌<◌, length, map, true, Some, IfOk, OnOk};
 ghost use Rattle.std.specs.Rc.{rc_str_bytes};
 ghost use Rattle.std.specs.Option.{option_map};
-ghost use Rattle.lam_syntax.specs.Trees.{lambda, if_term, let_term, letrec_term, apply};
-ghost use Rattle.lam_syntax.specs.Views.{bound_of, type_of, type_fields_of, term_of, term_node_of, fields_of, command_of};
+ghost use Rattle.lam_syntax.specs.Trees.{term_tree, lambda, if_term, let_term, letrec_term, apply};
+ghost use Rattle.lam_syntax.specs.Views.{bound_of, type_of, type_fields_of, term_of, fields_of, command_of};
 ghost use Rattle.lam_scope.specs.Sights.{lambda_at, term_at};
-ghost use Rattle.lam_scope.specs.Tables.{◌⊕◌, entry, binder_row, place_row, root, behind, roots, roots_of_fields, binders_in, binders_in_node, binders_in_fields, below_node, below_fields, type_uses, field_uses, term_table, node_table, letrec_rows, fields_table, command_table, types_seen_after, names_seen_after, binders_in_command, places_in_command};
+ghost use Rattle.lam_scope.specs.Tables.{◌⊕◌, entry, binder_row, place_row, root, behind, roots_of_fields, binders_in, binders_in_node, binders_in_fields, below_fields, type_uses, field_uses, term_table, node_table, letrec_rows, fields_table, command_table, types_seen_after, names_seen_after, binders_in_command, places_in_command};
 ghost use Rattle.lam_scope.specs.TableViews.{place_number, rows_of, entry_of, with_origin};
 
 use crate::names::name_of;
@@ -14,8 +14,8 @@ use crate::numbers::{Binder, Origin, Place};
 use crate::rows::Rows;
 use crate::seen::{Seen, SeenBinder};
 use lam_syntax::{
-    Binder as BoundName, Command, Conditional, Identifier, Lambda, Let, Letrec, Tm, TmField,
-    TmNode, TyField, TyNode, WrittenTy,
+    Application, Binder as BoundName, Command, Conditional, Identifier, Lambda, Let, Letrec, Tm,
+    TmField, TmNode, TyField, TyNode, WrittenTy,
 };
 use lam_token::Span;
 use std::alloc::{AllocError, Global};
@@ -38,15 +38,15 @@ pub(crate) fn walk_type(
     ensures binders { rows.new.binders ≡ rows.old.binders }
     ensures places { rows.new.places ≡ rows.old.places }
 {
-    match &*ty.node {
+    match &ty.node {
         TyNode::Bool => Ok(()),
         TyNode::Nat => Ok(()),
         TyNode::Unit => Ok(()),
         TyNode::Top => Ok(()),
         TyNode::Named(name) => rows.add_use(name, types),
-        TyNode::Arrow(parameter, outcome) => {
-            walk_type(alloc, rows, types, parameter)?;
-            walk_type(alloc, rows, types, outcome)
+        TyNode::Arrow(arrow) => {
+            walk_type(alloc, rows, types, &arrow.parameter)?;
+            walk_type(alloc, rows, types, &arrow.outcome)
         }
         TyNode::Record(fields) => walk_type_fields(alloc, rows, types, fields),
     }
@@ -87,53 +87,41 @@ pub(crate) fn walk_term<'a>(
     ensures places { OnOk result (length rows.new.places.items ≡ behind (length rows.old.places.items) (term_of term.now)) }
     ensures names { OnOk result (names.new ≡ names.old) }
 {
-    let terms = walk_node(alloc, rows, types, names, &term.node)?;
-    rows.add_place(term.span, false, &terms, names)
-}
-
-/// Adds the rows of a term but for its own place, and answers the places of its immediate terms.
-#[cycle(terms)]
-#[tactic(auto, using(crate::proofs::TableRows::walks))]
-fn walk_node<'a>(
-    alloc: Global,
-    rows: &mut Rows,
-    types: &Seen<'_>,
-    names: &mut Seen<'a>,
-    node: &'a TmNode,
-) -> Result<Vec<Place>, AllocError>
-    ensures table { OnOk result (rows_of rows.new ≡ rows_of rows.old ⊕ node_table types.now names.old (length rows.old.binders.items) (length rows.old.places.items) (term_node_of node.now)) }
-    ensures terms { IfOk result (λ ps. map place_number ps.items ≡ roots (length rows.old.places.items) (term_node_of node.now)) }
-    ensures binders { OnOk result (length rows.new.binders.items ≡ length rows.old.binders.items + binders_in_node (term_node_of node.now)) }
-    ensures places { OnOk result (length rows.new.places.items ≡ length rows.old.places.items + below_node (term_node_of node.now)) }
-    ensures names { OnOk result (names.new ≡ names.old) }
-{
-    match node {
-        TmNode::True => Ok(Vec::new(alloc)),
-        TmNode::False => Ok(Vec::new(alloc)),
-        TmNode::Unit => Ok(Vec::new(alloc)),
-        TmNode::Numeral(_) => Ok(Vec::new(alloc)),
+    let span = term.span;
+    match &term.node {
+        TmNode::True => rows.add_place(span, false, &[], names),
+        TmNode::False => rows.add_place(span, false, &[], names),
+        TmNode::Unit => rows.add_place(span, false, &[], names),
+        TmNode::Numeral(_) => rows.add_place(span, false, &[], names),
         TmNode::Variable(name) => {
             rows.add_use(name, names)?;
-            Ok(Vec::new(alloc))
+            rows.add_place(span, false, &[], names)
         }
         TmNode::Lambda(lambda) => {
             let place = walk_lambda(alloc, rows, types, names, lambda)?;
-            listed(alloc, &[place])
+            rows.add_place(span, false, &[place], names)
         }
-        TmNode::If(conditional) => walk_if(alloc, rows, types, names, conditional),
-        TmNode::Let(parts) => walk_let(alloc, rows, types, names, parts),
-        TmNode::Letrec(parts) => walk_letrec(alloc, rows, types, names, parts),
-        TmNode::Prefixed(_, operand) => walk_operand(alloc, rows, types, names, operand),
-        TmNode::Apply(function, argument) => {
-            walk_apply(alloc, rows, types, names, function, argument)
-        }
-        TmNode::Project(projection) => walk_operand(alloc, rows, types, names, &projection.record),
-        TmNode::Ascribe(operand, ty) => {
+        TmNode::If(conditional) => walk_if(alloc, rows, types, names, span, conditional),
+        TmNode::Let(parts) => walk_let(alloc, rows, types, names, span, parts),
+        TmNode::Letrec(parts) => walk_letrec(alloc, rows, types, names, span, parts),
+        TmNode::Prefixed(_, operand) => {
             let place = walk_term(alloc, rows, types, names, operand)?;
-            walk_type(alloc, rows, types, ty)?;
-            listed(alloc, &[place])
+            rows.add_place(span, false, &[place], names)
         }
-        TmNode::Record(fields) => walk_fields(alloc, rows, types, names, fields),
+        TmNode::Apply(application) => walk_apply(alloc, rows, types, names, span, application),
+        TmNode::Project(projection) => {
+            let place = walk_term(alloc, rows, types, names, &projection.record)?;
+            rows.add_place(span, false, &[place], names)
+        }
+        TmNode::Ascribe(ascription) => {
+            let place = walk_term(alloc, rows, types, names, &ascription.operand)?;
+            walk_type(alloc, rows, types, &ascription.ty)?;
+            rows.add_place(span, false, &[place], names)
+        }
+        TmNode::Record(fields) => {
+            let terms = walk_fields(alloc, rows, types, names, fields)?;
+            rows.add_place(span, false, &terms, names)
+        }
     }
 }
 
@@ -144,18 +132,19 @@ fn walk_if<'a>(
     rows: &mut Rows,
     types: &Seen<'_>,
     names: &mut Seen<'a>,
+    span: Span,
     term: &'a Conditional,
-) -> Result<Vec<Place>, AllocError>
-    ensures table { OnOk result (rows_of rows.new ≡ rows_of rows.old ⊕ node_table types.now names.old (length rows.old.binders.items) (length rows.old.places.items) (if_term (term_of term.now.condition) (term_of term.now.one) (term_of term.now.other))) }
-    ensures terms { IfOk result (λ ps. map place_number ps.items ≡ roots (length rows.old.places.items) (if_term (term_of term.now.condition) (term_of term.now.one) (term_of term.now.other))) }
+) -> Result<Place, AllocError>
+    ensures table { OnOk result (rows_of rows.new ≡ rows_of rows.old ⊕ term_table types.now names.old (length rows.old.binders.items) (length rows.old.places.items) (term_tree span (if_term (term_of term.now.condition) (term_of term.now.one) (term_of term.now.other)))) }
+    ensures place { IfOk result (λ p. p.0 ≡ root (length rows.old.places.items) (term_tree span (if_term (term_of term.now.condition) (term_of term.now.one) (term_of term.now.other)))) }
     ensures binders { OnOk result (length rows.new.binders.items ≡ length rows.old.binders.items + binders_in_node (if_term (term_of term.now.condition) (term_of term.now.one) (term_of term.now.other))) }
-    ensures places { OnOk result (length rows.new.places.items ≡ length rows.old.places.items + below_node (if_term (term_of term.now.condition) (term_of term.now.one) (term_of term.now.other))) }
+    ensures places { OnOk result (length rows.new.places.items ≡ behind (length rows.old.places.items) (term_tree span (if_term (term_of term.now.condition) (term_of term.now.one) (term_of term.now.other)))) }
     ensures names { OnOk result (names.new ≡ names.old) }
 {
     let first = walk_term(alloc, rows, types, names, &term.condition)?;
     let second = walk_term(alloc, rows, types, names, &term.one)?;
     let third = walk_term(alloc, rows, types, names, &term.other)?;
-    listed(alloc, &[first, second, third])
+    rows.add_place(span, false, &[first, second, third], names)
 }
 
 #[cycle(terms)]
@@ -165,19 +154,20 @@ fn walk_let<'a>(
     rows: &mut Rows,
     types: &Seen<'_>,
     names: &mut Seen<'a>,
+    span: Span,
     term: &'a Let,
-) -> Result<Vec<Place>, AllocError>
-    ensures table { OnOk result (rows_of rows.new ≡ rows_of rows.old ⊕ node_table types.now names.old (length rows.old.binders.items) (length rows.old.places.items) (let_term (bound_of term.now.binder) (term_of term.now.bound) (term_of term.now.body))) }
-    ensures terms { IfOk result (λ ps. map place_number ps.items ≡ roots (length rows.old.places.items) (let_term (bound_of term.now.binder) (term_of term.now.bound) (term_of term.now.body))) }
+) -> Result<Place, AllocError>
+    ensures table { OnOk result (rows_of rows.new ≡ rows_of rows.old ⊕ term_table types.now names.old (length rows.old.binders.items) (length rows.old.places.items) (term_tree span (let_term (bound_of term.now.binder) (term_of term.now.bound) (term_of term.now.body)))) }
+    ensures place { IfOk result (λ p. p.0 ≡ root (length rows.old.places.items) (term_tree span (let_term (bound_of term.now.binder) (term_of term.now.bound) (term_of term.now.body)))) }
     ensures binders { OnOk result (length rows.new.binders.items ≡ length rows.old.binders.items + binders_in_node (let_term (bound_of term.now.binder) (term_of term.now.bound) (term_of term.now.body))) }
-    ensures places { OnOk result (length rows.new.places.items ≡ length rows.old.places.items + below_node (let_term (bound_of term.now.binder) (term_of term.now.bound) (term_of term.now.body))) }
+    ensures places { OnOk result (length rows.new.places.items ≡ behind (length rows.old.places.items) (term_tree span (let_term (bound_of term.now.binder) (term_of term.now.bound) (term_of term.now.body)))) }
     ensures names { OnOk result (names.new ≡ names.old) }
 {
     let seen = seen_as(&term.binder, rows.binder_count());
     let token = term.binder.span;
     let first = walk_bound(alloc, rows, types, names, &term.bound, seen.name, token)?;
     let second = walk_under(alloc, rows, types, names, &term.body, seen)?;
-    listed(alloc, &[first, second])
+    rows.add_place(span, false, &[first, second], names)
 }
 
 #[cycle(terms)]
@@ -187,18 +177,19 @@ fn walk_letrec<'a>(
     rows: &mut Rows,
     types: &Seen<'_>,
     names: &mut Seen<'a>,
+    span: Span,
     term: &'a Letrec,
-) -> Result<Vec<Place>, AllocError>
-    ensures table { OnOk result (rows_of rows.new ≡ rows_of rows.old ⊕ node_table types.now names.old (length rows.old.binders.items) (length rows.old.places.items) (letrec_term (bound_of term.now.binder) (type_of term.now.ty) (term_of term.now.bound) (term_of term.now.body))) }
-    ensures terms { IfOk result (λ ps. map place_number ps.items ≡ roots (length rows.old.places.items) (letrec_term (bound_of term.now.binder) (type_of term.now.ty) (term_of term.now.bound) (term_of term.now.body))) }
+) -> Result<Place, AllocError>
+    ensures table { OnOk result (rows_of rows.new ≡ rows_of rows.old ⊕ term_table types.now names.old (length rows.old.binders.items) (length rows.old.places.items) (term_tree span (letrec_term (bound_of term.now.binder) (type_of term.now.ty) (term_of term.now.bound) (term_of term.now.body)))) }
+    ensures place { IfOk result (λ p. p.0 ≡ root (length rows.old.places.items) (term_tree span (letrec_term (bound_of term.now.binder) (type_of term.now.ty) (term_of term.now.bound) (term_of term.now.body)))) }
     ensures binders { OnOk result (length rows.new.binders.items ≡ length rows.old.binders.items + binders_in_node (letrec_term (bound_of term.now.binder) (type_of term.now.ty) (term_of term.now.bound) (term_of term.now.body))) }
-    ensures places { OnOk result (length rows.new.places.items ≡ length rows.old.places.items + below_node (letrec_term (bound_of term.now.binder) (type_of term.now.ty) (term_of term.now.bound) (term_of term.now.body))) }
+    ensures places { OnOk result (length rows.new.places.items ≡ behind (length rows.old.places.items) (term_tree span (letrec_term (bound_of term.now.binder) (type_of term.now.ty) (term_of term.now.bound) (term_of term.now.body)))) }
     ensures names { OnOk result (names.new ≡ names.old) }
 {
     let seen = seen_as(&term.binder, rows.binder_count() + 1);
     let first = walk_fix(alloc, rows, types, names, term)?;
     let second = walk_under(alloc, rows, types, names, &term.body, seen)?;
-    listed(alloc, &[first, second])
+    rows.add_place(span, false, &[first, second], names)
 }
 
 #[cycle(terms)]
@@ -208,38 +199,18 @@ fn walk_apply<'a>(
     rows: &mut Rows,
     types: &Seen<'_>,
     names: &mut Seen<'a>,
-    function: &'a Tm,
-    argument: &'a Tm,
-) -> Result<Vec<Place>, AllocError>
-    ensures table { OnOk result (rows_of rows.new ≡ rows_of rows.old ⊕ node_table types.now names.old (length rows.old.binders.items) (length rows.old.places.items) (apply (term_of function.now) (term_of argument.now))) }
-    ensures terms { IfOk result (λ ps. map place_number ps.items ≡ roots (length rows.old.places.items) (apply (term_of function.now) (term_of argument.now))) }
-    ensures binders { OnOk result (length rows.new.binders.items ≡ length rows.old.binders.items + binders_in_node (apply (term_of function.now) (term_of argument.now))) }
-    ensures places { OnOk result (length rows.new.places.items ≡ length rows.old.places.items + below_node (apply (term_of function.now) (term_of argument.now))) }
+    span: Span,
+    term: &'a Application,
+) -> Result<Place, AllocError>
+    ensures table { OnOk result (rows_of rows.new ≡ rows_of rows.old ⊕ term_table types.now names.old (length rows.old.binders.items) (length rows.old.places.items) (term_tree span (apply (term_of term.now.function) (term_of term.now.argument)))) }
+    ensures place { IfOk result (λ p. p.0 ≡ root (length rows.old.places.items) (term_tree span (apply (term_of term.now.function) (term_of term.now.argument)))) }
+    ensures binders { OnOk result (length rows.new.binders.items ≡ length rows.old.binders.items + binders_in_node (apply (term_of term.now.function) (term_of term.now.argument))) }
+    ensures places { OnOk result (length rows.new.places.items ≡ behind (length rows.old.places.items) (term_tree span (apply (term_of term.now.function) (term_of term.now.argument)))) }
     ensures names { OnOk result (names.new ≡ names.old) }
 {
-    let first = walk_term(alloc, rows, types, names, function)?;
-    let second = walk_term(alloc, rows, types, names, argument)?;
-    listed(alloc, &[first, second])
-}
-
-/// The one part of a term that has no other and binds nothing.
-#[cycle(terms)]
-#[tactic(auto, using(crate::proofs::TableRows::walks))]
-fn walk_operand<'a>(
-    alloc: Global,
-    rows: &mut Rows,
-    types: &Seen<'_>,
-    names: &mut Seen<'a>,
-    operand: &'a Tm,
-) -> Result<Vec<Place>, AllocError>
-    ensures table { OnOk result (rows_of rows.new ≡ rows_of rows.old ⊕ term_table types.now names.old (length rows.old.binders.items) (length rows.old.places.items) (term_of operand.now)) }
-    ensures terms { IfOk result (λ ps. map place_number ps.items ≡ root (length rows.old.places.items) (term_of operand.now) ∷ []) }
-    ensures binders { OnOk result (length rows.new.binders.items ≡ length rows.old.binders.items + binders_in (term_of operand.now)) }
-    ensures places { OnOk result (length rows.new.places.items ≡ behind (length rows.old.places.items) (term_of operand.now)) }
-    ensures names { OnOk result (names.new ≡ names.old) }
-{
-    let place = walk_term(alloc, rows, types, names, operand)?;
-    listed(alloc, &[place])
+    let first = walk_term(alloc, rows, types, names, &term.function)?;
+    let second = walk_term(alloc, rows, types, names, &term.argument)?;
+    rows.add_place(span, false, &[first, second], names)
 }
 
 #[cycle(terms)]
@@ -257,7 +228,7 @@ fn walk_fields<'a>(
     ensures places { OnOk result (length rows.new.places.items ≡ length rows.old.places.items + below_fields (fields_of fields.now)) }
     ensures names { OnOk result (names.new ≡ names.old) }
 {
-    let mut terms = Vec::new(alloc);
+    let mut terms = Vec::with_capacity(alloc, fields.len())?;
     for i in 0..fields.len() {
         let field = &fields[i];
         let place = walk_term(alloc, rows, types, names, &field.term)?;
@@ -407,12 +378,6 @@ fn seen_as<'a>(binder: &'a BoundName, number: usize) -> SeenBinder<'a>
         number: Binder(number),
         answer: Binder(number),
     }
-}
-
-fn listed(alloc: Global, places: &[Place]) -> Result<Vec<Place>, AllocError>
-    ensures { IfOk result (λ ps. ps.items ≡ places.now) }
-{
-    Vec::from_slice(alloc, places)
 }
 
 /// Adds the rows of a command, of that number. Those behind it then see what it binds.

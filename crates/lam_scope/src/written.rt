@@ -37,7 +37,7 @@ fn collect_type<'a>(ty: &'a WrittenTy, found: &mut Vec<&'a WrittenTy>) -> Result
 fn collect_in_term<'a>(term: &'a Tm, found: &mut Vec<&'a WrittenTy>) -> Result<(), AllocError>
     ensures { OnOk result (written_trees found.new.items ≡ written_trees found.old.items ++ written_in (term_of term.now)) }
 {
-    match &*term.node {
+    match &term.node {
         TmNode::True => Ok(()),
         TmNode::False => Ok(()),
         TmNode::Unit => Ok(()),
@@ -62,14 +62,14 @@ fn collect_in_term<'a>(term: &'a Tm, found: &mut Vec<&'a WrittenTy>) -> Result<(
             collect_in_term(&parts.body, found)
         }
         TmNode::Prefixed(_, operand) => collect_in_term(operand, found),
-        TmNode::Apply(function, argument) => {
-            collect_in_term(function, found)?;
-            collect_in_term(argument, found)
+        TmNode::Apply(application) => {
+            collect_in_term(&application.function, found)?;
+            collect_in_term(&application.argument, found)
         }
         TmNode::Project(projection) => collect_in_term(&projection.record, found),
-        TmNode::Ascribe(operand, ty) => {
-            collect_in_term(operand, found)?;
-            collect_type(ty, found)
+        TmNode::Ascribe(ascription) => {
+            collect_in_term(&ascription.operand, found)?;
+            collect_type(&ascription.ty, found)
         }
         TmNode::Record(fields) => collect_in_fields(fields, found),
     }

@@ -28,6 +28,7 @@ pub use laws::one_answer;
 pub use parser::{parse, parse_interning};
 pub use splitting::{is_semicolon, pieces};
 pub use terms::{
-    Command, Conditional, Lambda, Let, Letrec, Prefix, Projection, Tm, TmField, TmNode,
+    Application, Ascription, Command, Conditional, Lambda, Let, Letrec, Prefix, Projection, Tm,
+    TmField, TmNode,
 };
-pub use types::{TyField, TyNode, WrittenTy};
+pub use types::{ArrowTy, TyField, TyNode, WrittenTy};

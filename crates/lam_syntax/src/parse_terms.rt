@@ -15,7 +15,7 @@ use crate::parse_types::parse_type;
 use crate::stop::Stop;
 use crate::terms::{
     Prefix, Tm, TmField, TmNode, make_apply, make_ascribe, make_if, make_lambda, make_let,
-    make_letrec, make_project, make_record, spanning, term_at, with_prefix,
+    make_letrec, make_project, make_record, spanning, with_prefix,
 };
 use crate::tokens::{expect, expect_name, identifier_of, take};
 use lam_token::{Kind, Span, Token};
@@ -186,8 +186,7 @@ fn parse_atom<'a, 'b>(
         Kind::UnitTerm => TmNode::Unit,
         _ => return Err(Stop::At(tokens)),
     };
-    let term = term_at(alloc, span, node)?;
-    Ok((term, rest))
+    Ok((Tm { span, node }, rest))
 }
 
 /// A term in parentheses, behind the opening one.
@@ -219,7 +218,7 @@ fn parse_record<'a, 'b>(
     ensures shorter { IfOk result (λ r. length r.1.now < length tokens.now) }
 {
     if let Some((last, rest)) = take(tokens, Kind::CloseBrace) {
-        return Ok((make_record(alloc, first, last, Vec::new(alloc))?, rest));
+        return Ok((make_record(first, last, Vec::new(alloc)), rest));
     }
     let (field, mut rest) = parse_field(alloc, interner, tokens)?;
     let mut fields = Vec::new(alloc);
@@ -230,7 +229,7 @@ fn parse_record<'a, 'b>(
         rest = after;
     }
     let (last, rest) = expect(rest, Kind::CloseBrace)?;
-    Ok((make_record(alloc, first, last, fields)?, rest))
+    Ok((make_record(first, last, fields), rest))
 }
 
 /// A label of a record and its term.

@@ -11,7 +11,7 @@ ghost use Rattle.lam_syntax.specs.Reads.{Reads, behind_type, behind_atype, behin
 use crate::interner::Interner;
 use crate::stop::Stop;
 use crate::tokens::{expect, expect_name, identifier_of, take};
-use crate::types::{TyField, TyNode, WrittenTy, make_arrow, make_record_type, spanning, type_at};
+use crate::types::{TyField, TyNode, WrittenTy, make_arrow, make_record_type, spanning};
 use lam_token::{Kind, Span, Token};
 use std::alloc::Global;
 
@@ -59,8 +59,7 @@ fn parse_atype<'a, 'b>(
         Kind::TopType => TyNode::Top,
         _ => return Err(Stop::At(tokens)),
     };
-    let ty = type_at(alloc, span, node)?;
-    Ok((ty, rest))
+    Ok((WrittenTy { span, node }, rest))
 }
 
 /// A type in parentheses, behind the opening one.
@@ -92,7 +91,7 @@ fn parse_record_type<'a, 'b>(
     ensures shorter { IfOk result (λ r. length r.1.now < length tokens.now) }
 {
     if let Some((last, rest)) = take(tokens, Kind::CloseBrace) {
-        return Ok((make_record_type(alloc, first, last, Vec::new(alloc))?, rest));
+        return Ok((make_record_type(first, last, Vec::new(alloc)), rest));
     }
     let (field, mut rest) = parse_type_field(alloc, interner, tokens)?;
     let mut fields = Vec::new(alloc);
@@ -103,7 +102,7 @@ fn parse_record_type<'a, 'b>(
         rest = after;
     }
     let (last, rest) = expect(rest, Kind::CloseBrace)?;
-    Ok((make_record_type(alloc, first, last, fields)?, rest))
+    Ok((make_record_type(first, last, fields), rest))
 }
 
 /// A label of a record type and its type.

@@ -1,7 +1,7 @@
 //! Terms and commands.
 ghost use Rattle.std.specs.Prelude.{◌≡◌, IfOk};
 ghost use Rattle.lam_syntax.specs.Trees.{from_to, term_span, type_span, term_tree, lambda, if_term, let_term, letrec_term, apply, project, ascribe, record_term, spanning_term};
-ghost use Rattle.lam_syntax.specs.Views.{word_of, bound_of, type_of, term_of, term_node_of, fields_of};
+ghost use Rattle.lam_syntax.specs.Views.{word_of, bound_of, type_of, term_of, fields_of};
 ghost use Rattle.lam_syntax.specs.Reads.{prefixed_by};
 
 use crate::identifier::{Binder, Identifier};
@@ -11,13 +11,11 @@ use lam_token::Span;
 use std::alloc::{AllocError, Global};
 
 /// A term, its own parentheses included in its span.
-///
-/// The node is boxed, so that the functions that pass terms on need little stack at each level.
 #[cycle(terms)]
 #[derive(Drop)]
 pub struct Tm {
     pub span: Span,
-    pub node: Box<TmNode>,
+    pub node: TmNode,
 }
 
 /// The words that stand before a path.
@@ -29,7 +27,8 @@ pub enum Prefix {
     IsZero,
 }
 
-/// What a term is. Each node has the size of the widest variant, so that wider parts stand in boxes of their own.
+/// What a term is. A name or a numeral stands in the node itself; the parts of any other term stand in a box of
+/// their own, so that a node is no wider than a name.
 #[cycle(terms)]
 #[derive(Drop)]
 pub enum TmNode {
@@ -42,11 +41,10 @@ pub enum TmNode {
     If(Box<Conditional>),
     Let(Box<Let>),
     Letrec(Box<Letrec>),
-    Prefixed(Prefix, Tm),
-    /// A function and its argument.
-    Apply(Tm, Tm),
+    Prefixed(Prefix, Box<Tm>),
+    Apply(Box<Application>),
     Project(Box<Projection>),
-    Ascribe(Tm, WrittenTy),
+    Ascribe(Box<Ascription>),
     Record(Vec<TmField>),
 }
 
@@ -87,12 +85,28 @@ pub struct Letrec {
     pub body: Tm,
 }
 
+/// `function argument`
+#[cycle(terms)]
+#[derive(Drop)]
+pub struct Application {
+    pub function: Tm,
+    pub argument: Tm,
+}
+
 /// `record . label`
 #[cycle(terms)]
 #[derive(Drop)]
 pub struct Projection {
     pub record: Tm,
     pub label: Identifier,
+}
+
+/// `operand as ty`
+#[cycle(terms)]
+#[derive(Drop)]
+pub struct Ascription {
+    pub operand: Tm,
+    pub ty: WrittenTy,
 }
 
 /// A label of a record and its term.
@@ -113,16 +127,6 @@ pub enum Command {
     /// `TypeName = type`
     Abbreviation(Identifier, WrittenTy),
     Evaluation(Tm),
-}
-
-/// The term of a node in its place.
-pub(crate) fn term_at(alloc: Global, span: Span, node: TmNode) -> Result<Tm, AllocError>
-    ensures { IfOk result (λ t. term_of t ≡ term_tree span (term_node_of node)) }
-{
-    Ok(Tm {
-        span,
-        node: Box::new(alloc, node)?,
-    })
 }
 
 /// The term with the place of the parentheses round it.
@@ -148,7 +152,10 @@ pub(crate) fn make_lambda(
 {
     let span = from_to(first, body.span);
     let lambda = Lambda { binder, ty, body };
-    term_at(alloc, span, TmNode::Lambda(Box::new(alloc, lambda)?))
+    Ok(Tm {
+        span,
+        node: TmNode::Lambda(Box::new(alloc, lambda)?),
+    })
 }
 
 /// The choice between two terms.
@@ -168,7 +175,10 @@ pub(crate) fn make_if(
         one,
         other,
     };
-    term_at(alloc, span, TmNode::If(Box::new(alloc, conditional)?))
+    Ok(Tm {
+        span,
+        node: TmNode::If(Box::new(alloc, conditional)?),
+    })
 }
 
 /// The term with a name for another.
@@ -188,7 +198,10 @@ pub(crate) fn make_let(
         bound: term,
         body,
     };
-    term_at(alloc, span, TmNode::Let(Box::new(alloc, parts)?))
+    Ok(Tm {
+        span,
+        node: TmNode::Let(Box::new(alloc, parts)?),
+    })
 }
 
 /// The term with a name for another that may use it.
@@ -210,7 +223,10 @@ pub(crate) fn make_letrec(
         bound: term,
         body,
     };
-    term_at(alloc, span, TmNode::Letrec(Box::new(alloc, parts)?))
+    Ok(Tm {
+        span,
+        node: TmNode::Letrec(Box::new(alloc, parts)?),
+    })
 }
 
 /// The term behind a prefix, or behind none.
@@ -226,7 +242,10 @@ pub(crate) fn with_prefix(
         None => Ok(term),
         Some((prefix, first)) => {
             let span = from_to(first, term.span);
-            term_at(alloc, span, TmNode::Prefixed(prefix, term))
+            Ok(Tm {
+                span,
+                node: TmNode::Prefixed(prefix, Box::new(alloc, term)?),
+            })
         }
     }
 }
@@ -237,7 +256,11 @@ pub(crate) fn make_apply(alloc: Global, function: Tm, argument: Tm) -> Result<Tm
     ensures { IfOk result (λ t. term_of t ≡ term_tree (from_to (term_span (term_of function)) (term_span (term_of argument))) (apply (term_of function) (term_of argument))) }
 {
     let span = from_to(function.span, argument.span);
-    term_at(alloc, span, TmNode::Apply(function, argument))
+    let application = Application { function, argument };
+    Ok(Tm {
+        span,
+        node: TmNode::Apply(Box::new(alloc, application)?),
+    })
 }
 
 /// The field of a record.
@@ -250,7 +273,10 @@ pub(crate) fn make_project(alloc: Global, term: Tm, label: Identifier) -> Result
         record: term,
         label,
     };
-    term_at(alloc, span, TmNode::Project(Box::new(alloc, projection)?))
+    Ok(Tm {
+        span,
+        node: TmNode::Project(Box::new(alloc, projection)?),
+    })
 }
 
 /// The term with a type that is written to it.
@@ -259,20 +285,22 @@ pub(crate) fn make_ascribe(alloc: Global, term: Tm, ty: WrittenTy) -> Result<Tm,
     ensures { IfOk result (λ t. term_of t ≡ term_tree (from_to (term_span (term_of term)) (type_span (type_of ty))) (ascribe (term_of term) (type_of ty))) }
 {
     let span = from_to(term.span, ty.span);
-    term_at(alloc, span, TmNode::Ascribe(term, ty))
+    let ascription = Ascription { operand: term, ty };
+    Ok(Tm {
+        span,
+        node: TmNode::Ascribe(Box::new(alloc, ascription)?),
+    })
 }
 
 /// The record of these fields between these braces.
 #[tactic(auto, using(crate::proofs::Shapes::term_shapes))]
-pub(crate) fn make_record(
-    alloc: Global,
-    first: Span,
-    last: Span,
-    mut fields: Vec<TmField>,
-) -> Result<Tm, AllocError>
-    ensures { IfOk result (λ t. term_of t ≡ term_tree (from_to first last) (record_term (fields_of fields.items))) }
+pub(crate) fn make_record(first: Span, last: Span, mut fields: Vec<TmField>) -> Tm
+    ensures { term_of result ≡ term_tree (from_to first last) (record_term (fields_of fields.items)) }
 {
     // Up to half of a vector that grew is spare, and a document has thousands of records.
     fields.shrink_to_fit();
-    term_at(alloc, from_to(first, last), TmNode::Record(fields))
+    Tm {
+        span: from_to(first, last),
+        node: TmNode::Record(fields),
+    }
 }

@@ -90,8 +90,8 @@ fn commands(rt: HostRuntime) -> Result<(), Fail> {
 /// The places of an application and its two terms.
 fn application_spans(command: &Command) -> Option<[Span; 3]> {
     match command {
-        Command::Evaluation(term) => match &*term.node {
-            TmNode::Apply(function, argument) => Some([term.span, function.span, argument.span]),
+        Command::Evaluation(term) => match &term.node {
+            TmNode::Apply(parts) => Some([term.span, parts.function.span, parts.argument.span]),
             _ => None,
         },
         _ => None,
@@ -101,8 +101,8 @@ fn application_spans(command: &Command) -> Option<[Span; 3]> {
 /// The places of an arrow that a declaration has, and of its two types.
 fn arrow_spans(command: &Command) -> Option<[Span; 3]> {
     match command {
-        Command::Declaration(_, ty) => match &*ty.node {
-            TyNode::Arrow(left, right) => Some([ty.span, left.span, right.span]),
+        Command::Declaration(_, ty) => match &ty.node {
+            TyNode::Arrow(parts) => Some([ty.span, parts.parameter.span, parts.outcome.span]),
             _ => None,
         },
         _ => None,

@@ -1,7 +1,7 @@
 //! Types as they are written.
 ghost use Rattle.std.specs.Prelude.{◌≡◌, IfOk};
 ghost use Rattle.lam_syntax.specs.Trees.{from_to, type_span, type_tree, arrow, record_type, spanning_type};
-ghost use Rattle.lam_syntax.specs.Views.{type_of, type_node_of, type_fields_of};
+ghost use Rattle.lam_syntax.specs.Views.{type_of, type_fields_of};
 
 use crate::identifier::Identifier;
 use crate::spans::from_to;
@@ -13,7 +13,7 @@ use std::alloc::{AllocError, Global};
 #[derive(Drop)]
 pub struct WrittenTy {
     pub span: Span,
-    pub node: Box<TyNode>,
+    pub node: TyNode,
 }
 
 /// What a written type is.
@@ -25,8 +25,16 @@ pub enum TyNode {
     Unit,
     Top,
     Named(Identifier),
-    Arrow(WrittenTy, WrittenTy),
+    Arrow(Box<ArrowTy>),
     Record(Vec<TyField>),
+}
+
+/// `parameter -> outcome`
+#[cycle(types)]
+#[derive(Drop)]
+pub struct ArrowTy {
+    pub parameter: WrittenTy,
+    pub outcome: WrittenTy,
 }
 
 /// A label of a record type and its type.
@@ -35,16 +43,6 @@ pub enum TyNode {
 pub struct TyField {
     pub label: Identifier,
     pub ty: WrittenTy,
-}
-
-/// The type of a node in its place.
-pub(crate) fn type_at(alloc: Global, span: Span, node: TyNode) -> Result<WrittenTy, AllocError>
-    ensures { IfOk result (λ t. type_of t ≡ type_tree span (type_node_of node)) }
-{
-    Ok(WrittenTy {
-        span,
-        node: Box::new(alloc, node)?,
-    })
 }
 
 /// The type with the place of the parentheses round it.
@@ -61,26 +59,28 @@ pub(crate) fn spanning(ty: WrittenTy, first: Span, last: Span) -> WrittenTy
 #[tactic(auto, using(crate::proofs::Shapes::type_shapes))]
 pub(crate) fn make_arrow(
     alloc: Global,
-    from: WrittenTy,
-    to: WrittenTy,
+    parameter: WrittenTy,
+    outcome: WrittenTy,
 ) -> Result<WrittenTy, AllocError>
-    ensures { IfOk result (λ t. type_of t ≡ type_tree (from_to (type_span (type_of from)) (type_span (type_of to))) (arrow (type_of from) (type_of to))) }
+    ensures { IfOk result (λ t. type_of t ≡ type_tree (from_to (type_span (type_of parameter)) (type_span (type_of outcome))) (arrow (type_of parameter) (type_of outcome))) }
 {
-    let span = from_to(from.span, to.span);
-    type_at(alloc, span, TyNode::Arrow(from, to))
+    let span = from_to(parameter.span, outcome.span);
+    let arrow = ArrowTy { parameter, outcome };
+    Ok(WrittenTy {
+        span,
+        node: TyNode::Arrow(Box::new(alloc, arrow)?),
+    })
 }
 
 /// The record type of these fields between these braces.
 #[tactic(auto, using(crate::proofs::Shapes::type_shapes))]
-pub(crate) fn make_record_type(
-    alloc: Global,
-    first: Span,
-    last: Span,
-    mut fields: Vec<TyField>,
-) -> Result<WrittenTy, AllocError>
-    ensures { IfOk result (λ t. type_of t ≡ type_tree (from_to first last) (record_type (type_fields_of fields.items))) }
+pub(crate) fn make_record_type(first: Span, last: Span, mut fields: Vec<TyField>) -> WrittenTy
+    ensures { type_of result ≡ type_tree (from_to first last) (record_type (type_fields_of fields.items)) }
 {
     // Up to half of a vector that grew is spare, and a document has thousands of record types.
     fields.shrink_to_fit();
-    type_at(alloc, from_to(first, last), TyNode::Record(fields))
+    WrittenTy {
+        span: from_to(first, last),
+        node: TyNode::Record(fields),
+    }
 }

@@ -39,13 +39,13 @@ abbrev pub decreases-prefixed_of : goal.decreases-prefixed_of
 decreases-prefixed_of l = 4 * tree_size (term_of l.operand.now) + 2
 
 abbrev pub decreases-apply_of : goal.decreases-apply_of
-decreases-apply_of l = 4 * (tree_size (term_of l.function.now) + tree_size (term_of l.argument.now)) + 2
+decreases-apply_of l = 4 * (tree_size (term_of l.term.now.function) + tree_size (term_of l.term.now.argument)) + 2
 
 abbrev pub decreases-project_of : goal.decreases-project_of
 decreases-project_of l = 4 * tree_size (term_of l.term.now.record) + 2
 
 abbrev pub decreases-ascribe_of : goal.decreases-ascribe_of
-decreases-ascribe_of l = 4 * tree_size (term_of l.operand.now) + 2
+decreases-ascribe_of l = 4 * tree_size (term_of l.term.now.operand) + 2
 
 abbrev pub decreases-record_of : goal.decreases-record_of
 decreases-record_of l = 4 * tree_sizes (fields_of l.fields.now) + 2

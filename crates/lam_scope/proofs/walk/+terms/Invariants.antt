@@ -1,6 +1,6 @@
 use Rattle.std.proofs.Common.{◌≡◌, ◌+◌, ◌*◌, ◌++◌, length, map, drop}
-use Rattle.lam_syntax.specs.Views.{term_of, term_node_of, fields_of}
-use Rattle.lam_scope.proofs.TreeSizes.{tree_size, node_size, tree_sizes}
+use Rattle.lam_syntax.specs.Views.{term_of, fields_of}
+use Rattle.lam_scope.proofs.TreeSizes.{tree_size, tree_sizes}
 use Rattle.lam_scope.specs.Tables.{◌⊕◌, fields_table, roots_of_fields, binders_in_fields, below_fields}
 use Rattle.lam_scope.specs.TableViews.{rows_of, place_number}
 use Rattle.lam_scope.proofs.walk.+terms.Given as goal
@@ -20,9 +20,6 @@ invariant-walk_fields-loop-i l = record {
 abbrev pub decreases-walk_term : goal.decreases-walk_term
 decreases-walk_term l = 6 * tree_size (term_of l.term.now) + 1
 
-abbrev pub decreases-walk_node : goal.decreases-walk_node
-decreases-walk_node l = 6 * node_size (term_node_of l.node.now)
-
 abbrev pub decreases-walk_if : goal.decreases-walk_if
 decreases-walk_if l = 6 * (tree_size (term_of l.term.now.condition) + tree_size (term_of l.term.now.one) + tree_size (term_of l.term.now.other)) + 5
 
@@ -33,10 +30,7 @@ abbrev pub decreases-walk_letrec : goal.decreases-walk_letrec
 decreases-walk_letrec l = 6 * (tree_size (term_of l.term.now.bound) + tree_size (term_of l.term.now.body)) + 5
 
 abbrev pub decreases-walk_apply : goal.decreases-walk_apply
-decreases-walk_apply l = 6 * (tree_size (term_of l.function.now) + tree_size (term_of l.argument.now)) + 5
-
-abbrev pub decreases-walk_operand : goal.decreases-walk_operand
-decreases-walk_operand l = 6 * tree_size (term_of l.operand.now) + 5
+decreases-walk_apply l = 6 * (tree_size (term_of l.term.now.function) + tree_size (term_of l.term.now.argument)) + 5
 
 abbrev pub decreases-walk_fields : goal.decreases-walk_fields
 decreases-walk_fields l = 6 * tree_sizes (fields_of l.fields.now) + 3

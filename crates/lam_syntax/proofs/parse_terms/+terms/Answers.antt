@@ -11,7 +11,7 @@ use Rattle.lam_syntax.proofs.parse_terms.+terms.Goals as goal
 
 pub parse_record-returns-in_err-field-clause-read : goal.parse_record-returns-in_err-field-clause-read
 parse_record-returns-in_err-field-clause-read t c =
-    let p = err_from_is_err_and c.from_residual-in_err-field.result c.from_residual-in_err-field.ensures.1 in
+    let p = err_from_is_err_and c.from_residual.result c.from_residual.ensures.1 in
     rw (p.1, p.2)
     (λ k. reads_stop c.in_err-field.field-0.0 _ _ _ _ (some_fields _ _ k c.in_default.ensures.takes) (c.in_err-field.ensures.read c.args.first no_fields k))
 
