@@ -1,5 +1,6 @@
 -- What comes between does not change the answers about a document.
 use Rattle.std.proofs.Common.{not, option_and_then, ◌≡◌, ℕ, ℤ, List, [], ◌∷◌, filter, codes, Bool, true, false, cond, ◌||◌, Option, None, Some, refl, sym, ap, ◌∙◌, subst, true≢false}
+use Rattle.std.proofs.lemmas.Bool.{or_parts}
 use Rattle.std.proofs.lemmas.Slice.Eq.{bytes_eq-Decides}
 use Rattle.std.specs.Str.{bytes_eq}
 use Rattle.serde_json.specs.Data.{Data, Items, null, string, no_items}
@@ -380,30 +381,17 @@ exits_at false false true closes is e = cc
 exits_at false false false true is e = cc
 exits_at false false false false is e = cc
 
-last_false : (a b c : Bool) → (a || (b || c)) ≡ false → c ≡ false
-last_false true b c is = cc
-last_false false true c is = cc
-last_false false false c is = is
-
 not_exit : (name : List ℕ) → is_lifecycle name ≡ false → notice_method name ≡ Exit → ⊥
 not_exit name is =
     exits_at (bytes_eq name (codes "exit")) (bytes_eq name (codes "textDocument/didOpen")) (bytes_eq name (codes "textDocument/didChange")) (bytes_eq name (codes "textDocument/didClose"))
-    (last_false (bytes_eq name (codes "initialize")) (bytes_eq name (codes "shutdown")) (bytes_eq name (codes "exit")) is)
-
-first_false : (a b : Bool) → (a || b) ≡ false → a ≡ false
-first_false true b is = cc
-first_false false b is = refl
-
-second_false : (a b : Bool) → (a || b) ≡ false → b ≡ false
-second_false true b is = cc
-second_false false b is = is
+    (or_parts (bytes_eq name (codes "shutdown")) (bytes_eq name (codes "exit")) (or_parts (bytes_eq name (codes "initialize")) _ is).1).1
 
 receives_quiet : (uri : List ℕ) (s : State) (m : Message) (sent : List Data) (next : State) → concerns uri m ≡ false → Receives s m sent next → Quiet uri s sent next
 receives_quiet uri s (request id method params) sent next apart d =
-    requested_quiet uri s.life s id (request_method method) params sent next (other_request method (first_false (is_lifecycle method) (is_named uri (named_uri params)) apart)) d
+    requested_quiet uri s.life s id (request_method method) params sent next (other_request method (or_parts (is_lifecycle method) (is_named uri (named_uri params)) apart).0) d
 receives_quiet uri s (notice method params) sent next apart d =
     noticed_quiet uri s.life s (notice_method method) params sent next
-    (not_exit method (first_false (is_lifecycle method) (is_named uri (named_uri params)) apart)) (second_false (is_lifecycle method) (is_named uri (named_uri params)) apart) d
+    (not_exit method (or_parts (is_lifecycle method) (is_named uri (named_uri params)) apart).0) (or_parts (is_lifecycle method) (is_named uri (named_uri params)) apart).1 d
 receives_quiet uri s reply sent next apart d = does_quiet uri s [] s.documents sent next refl tt d
 receives_quiet uri s unreadable sent next apart d = does_quiet uri s (refused null UnreadableMessage ∷ []) s.documents sent next refl (refused_says uri null UnreadableMessage) d
 receives_quiet uri s invalid sent next apart d = does_quiet uri s (refused null InvalidMessage ∷ []) s.documents sent next refl (refused_says uri null InvalidMessage) d
