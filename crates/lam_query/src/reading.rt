@@ -33,7 +33,7 @@ enum Piece {
 #[derive(Drop)]
 struct Reader<'t> {
     alloc: Global,
-    interner: Interner<'t>,
+    interner: Interner,
     /// The tokens behind the last semicolon.
     piece: Vec<Token<'t>>,
     commands: Vec<Command>,
@@ -111,10 +111,10 @@ impl<'t> Reader<'t> {
     }
 }
 
-fn read_piece<'t>(
+fn read_piece(
     alloc: Global,
-    interner: &mut Interner<'t>,
-    piece: &[Token<'t>],
+    interner: &mut Interner,
+    piece: &[Token<'_>],
 ) -> Result<Piece, AllocError>
     requires { 0 < length piece.now }
     ensures command { IfOk result (IsCommandRead piece.now) }

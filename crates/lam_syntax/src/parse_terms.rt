@@ -25,7 +25,7 @@ use std::alloc::Global;
 #[cycle(terms)]
 pub(crate) fn parse_term<'a, 'b>(
     alloc: Global,
-    interner: &mut Interner<'b>,
+    interner: &mut Interner,
     tokens: &'a [Token<'b>],
 ) -> Result<(Tm, &'a [Token<'b>]), Stop<'a, 'b>>
     ensures read { (k : InTerm) → Reads result (run tokens.now (need_term k)) (behind_term k) }
@@ -48,7 +48,7 @@ pub(crate) fn parse_term<'a, 'b>(
 #[cycle(terms)]
 fn parse_lambda<'a, 'b>(
     alloc: Global,
-    interner: &mut Interner<'b>,
+    interner: &mut Interner,
     first: Span,
     tokens: &'a [Token<'b>],
 ) -> Result<(Tm, &'a [Token<'b>]), Stop<'a, 'b>>
@@ -68,7 +68,7 @@ fn parse_lambda<'a, 'b>(
 #[cycle(terms)]
 fn parse_if<'a, 'b>(
     alloc: Global,
-    interner: &mut Interner<'b>,
+    interner: &mut Interner,
     first: Span,
     tokens: &'a [Token<'b>],
 ) -> Result<(Tm, &'a [Token<'b>]), Stop<'a, 'b>>
@@ -88,7 +88,7 @@ fn parse_if<'a, 'b>(
 #[cycle(terms)]
 fn parse_let<'a, 'b>(
     alloc: Global,
-    interner: &mut Interner<'b>,
+    interner: &mut Interner,
     first: Span,
     tokens: &'a [Token<'b>],
 ) -> Result<(Tm, &'a [Token<'b>]), Stop<'a, 'b>>
@@ -108,7 +108,7 @@ fn parse_let<'a, 'b>(
 #[cycle(terms)]
 fn parse_letrec<'a, 'b>(
     alloc: Global,
-    interner: &mut Interner<'b>,
+    interner: &mut Interner,
     first: Span,
     tokens: &'a [Token<'b>],
 ) -> Result<(Tm, &'a [Token<'b>]), Stop<'a, 'b>>
@@ -130,7 +130,7 @@ fn parse_letrec<'a, 'b>(
 #[cycle(terms)]
 fn parse_app<'a, 'b>(
     alloc: Global,
-    interner: &mut Interner<'b>,
+    interner: &mut Interner,
     tokens: &'a [Token<'b>],
 ) -> Result<(Tm, &'a [Token<'b>]), Stop<'a, 'b>>
     ensures read { (k : InTerm) → Reads result (look tokens.now (λ o. begin_app o k)) (behind_term k) }
@@ -151,7 +151,7 @@ fn parse_app<'a, 'b>(
 #[cycle(terms)]
 fn parse_path<'a, 'b>(
     alloc: Global,
-    interner: &mut Interner<'b>,
+    interner: &mut Interner,
     tokens: &'a [Token<'b>],
 ) -> Result<(Tm, &'a [Token<'b>]), Stop<'a, 'b>>
     ensures read { (k : InPath) → Reads result (look tokens.now (λ o. begin_atom o k)) (behind_path k) }
@@ -166,7 +166,7 @@ fn parse_path<'a, 'b>(
 #[tactic(auto, using(crate::proofs::Shapes::term_shapes))]
 fn parse_atom<'a, 'b>(
     alloc: Global,
-    interner: &mut Interner<'b>,
+    interner: &mut Interner,
     tokens: &'a [Token<'b>],
 ) -> Result<(Tm, &'a [Token<'b>]), Stop<'a, 'b>>
     ensures read { (k : InPath) → Reads result (look tokens.now (λ o. begin_atom o k)) (behind_atom k) }
@@ -193,7 +193,7 @@ fn parse_atom<'a, 'b>(
 #[cycle(terms)]
 fn parse_parens<'a, 'b>(
     alloc: Global,
-    interner: &mut Interner<'b>,
+    interner: &mut Interner,
     first: Span,
     tokens: &'a [Token<'b>],
 ) -> Result<(Tm, &'a [Token<'b>]), Stop<'a, 'b>>
@@ -210,7 +210,7 @@ fn parse_parens<'a, 'b>(
 #[tactic(auto, using(crate::proofs::Shapes::term_shapes))]
 fn parse_record<'a, 'b>(
     alloc: Global,
-    interner: &mut Interner<'b>,
+    interner: &mut Interner,
     first: Span,
     tokens: &'a [Token<'b>],
 ) -> Result<(Tm, &'a [Token<'b>]), Stop<'a, 'b>>
@@ -236,7 +236,7 @@ fn parse_record<'a, 'b>(
 #[cycle(terms)]
 fn parse_field<'a, 'b>(
     alloc: Global,
-    interner: &mut Interner<'b>,
+    interner: &mut Interner,
     tokens: &'a [Token<'b>],
 ) -> Result<(TmField, &'a [Token<'b>]), Stop<'a, 'b>>
     ensures read { (s : Place) (before : TermFields) (k : InPath) → Reads result (run tokens.now (next_field s before k)) (behind_field s before k) }
@@ -250,7 +250,7 @@ fn parse_field<'a, 'b>(
 
 /// The name of a binder, or its underscore.
 fn parse_binder<'a, 'b>(
-    interner: &mut Interner<'b>,
+    interner: &mut Interner,
     tokens: &'a [Token<'b>],
 ) -> Result<(Binder, &'a [Token<'b>]), Stop<'a, 'b>>
     ensures read { (p : Purpose) (s : Place) (k : InTerm) → Reads result (run tokens.now (need_binder p s k)) (behind_binder p s k) }
@@ -310,7 +310,7 @@ fn starts_atom(tokens: &[Token<'_>]) -> bool
 /// An atom with the type that may be written to it.
 fn parse_ascription<'a, 'b>(
     alloc: Global,
-    interner: &mut Interner<'b>,
+    interner: &mut Interner,
     atom: Tm,
     tokens: &'a [Token<'b>],
 ) -> Result<(Tm, &'a [Token<'b>]), Stop<'a, 'b>>
@@ -328,7 +328,7 @@ fn parse_ascription<'a, 'b>(
 /// The type that may be written to an atom, and the labels behind it.
 fn parse_suffixes<'a, 'b>(
     alloc: Global,
-    interner: &mut Interner<'b>,
+    interner: &mut Interner,
     atom: Tm,
     tokens: &'a [Token<'b>],
 ) -> Result<(Tm, &'a [Token<'b>]), Stop<'a, 'b>>

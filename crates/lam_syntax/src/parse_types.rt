@@ -19,7 +19,7 @@ use std::alloc::Global;
 #[cycle(types)]
 pub(crate) fn parse_type<'a, 'b>(
     alloc: Global,
-    interner: &mut Interner<'b>,
+    interner: &mut Interner,
     tokens: &'a [Token<'b>],
 ) -> Result<(WrittenTy, &'a [Token<'b>]), Stop<'a, 'b>>
     ensures read { (k : InType) → Reads result (run tokens.now (need_type k)) (behind_type k) }
@@ -39,7 +39,7 @@ pub(crate) fn parse_type<'a, 'b>(
 #[tactic(auto, using(crate::proofs::Shapes::type_shapes))]
 fn parse_atype<'a, 'b>(
     alloc: Global,
-    interner: &mut Interner<'b>,
+    interner: &mut Interner,
     tokens: &'a [Token<'b>],
 ) -> Result<(WrittenTy, &'a [Token<'b>]), Stop<'a, 'b>>
     ensures read { (k : InType) → Reads result (run tokens.now (need_type k)) (behind_atype k) }
@@ -66,7 +66,7 @@ fn parse_atype<'a, 'b>(
 #[cycle(types)]
 fn parse_type_parens<'a, 'b>(
     alloc: Global,
-    interner: &mut Interner<'b>,
+    interner: &mut Interner,
     first: Span,
     tokens: &'a [Token<'b>],
 ) -> Result<(WrittenTy, &'a [Token<'b>]), Stop<'a, 'b>>
@@ -83,7 +83,7 @@ fn parse_type_parens<'a, 'b>(
 #[tactic(auto, using(crate::proofs::Shapes::type_shapes))]
 fn parse_record_type<'a, 'b>(
     alloc: Global,
-    interner: &mut Interner<'b>,
+    interner: &mut Interner,
     first: Span,
     tokens: &'a [Token<'b>],
 ) -> Result<(WrittenTy, &'a [Token<'b>]), Stop<'a, 'b>>
@@ -109,7 +109,7 @@ fn parse_record_type<'a, 'b>(
 #[cycle(types)]
 fn parse_type_field<'a, 'b>(
     alloc: Global,
-    interner: &mut Interner<'b>,
+    interner: &mut Interner,
     tokens: &'a [Token<'b>],
 ) -> Result<(TyField, &'a [Token<'b>]), Stop<'a, 'b>>
     ensures read { (s : Place) (before : TypeFields) (k : InType) → Reads result (run tokens.now (next_type_field s before k)) (behind_type_field s before k) }

@@ -34,10 +34,10 @@ pub fn parse(alloc: Global, tokens: &[Token<'_>]) -> Result<Command, ParseFault>
 }
 
 /// The same, where names that are alike share their memory with those of the commands that this interner met before.
-pub fn parse_interning<'t>(
+pub fn parse_interning(
     alloc: Global,
-    interner: &mut Interner<'t>,
-    tokens: &[Token<'t>],
+    interner: &mut Interner,
+    tokens: &[Token<'_>],
 ) -> Result<Command, ParseFault>
     ensures taken { IfOk result (λ c. IsTaken tokens.now) }
     ensures spelled { IfOk result (λ c. Spells tokens.now (command_of c)) }
@@ -91,7 +91,7 @@ fn is_bad(kind: Kind) -> bool
 /// A command, up to the end of the tokens.
 fn parse_command<'a, 'b>(
     alloc: Global,
-    interner: &mut Interner<'b>,
+    interner: &mut Interner,
     tokens: &'a [Token<'b>],
 ) -> Result<Command, Stop<'a, 'b>>
     ensures { ReadsAll result (run tokens.now need_command) }
@@ -117,7 +117,7 @@ fn parse_command<'a, 'b>(
 /// `name = term`, from the term on.
 fn parse_definition<'a, 'b>(
     alloc: Global,
-    interner: &mut Interner<'b>,
+    interner: &mut Interner,
     name: &Token<'b>,
     tokens: &'a [Token<'b>],
 ) -> Result<Command, Stop<'a, 'b>>
@@ -132,7 +132,7 @@ fn parse_definition<'a, 'b>(
 /// `name : type`, from the type on.
 fn parse_declaration<'a, 'b>(
     alloc: Global,
-    interner: &mut Interner<'b>,
+    interner: &mut Interner,
     name: &Token<'b>,
     tokens: &'a [Token<'b>],
 ) -> Result<Command, Stop<'a, 'b>>
@@ -147,7 +147,7 @@ fn parse_declaration<'a, 'b>(
 /// `TypeName = type`, from the mark on.
 fn parse_abbreviation<'a, 'b>(
     alloc: Global,
-    interner: &mut Interner<'b>,
+    interner: &mut Interner,
     name: &Token<'b>,
     tokens: &'a [Token<'b>],
 ) -> Result<Command, Stop<'a, 'b>>
@@ -163,7 +163,7 @@ fn parse_abbreviation<'a, 'b>(
 /// A term by itself.
 fn parse_evaluation<'a, 'b>(
     alloc: Global,
-    interner: &mut Interner<'b>,
+    interner: &mut Interner,
     tokens: &'a [Token<'b>],
 ) -> Result<Command, Stop<'a, 'b>>
     ensures { ReadsAll result (run tokens.now (need_term of_evaluation)) }

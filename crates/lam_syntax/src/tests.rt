@@ -128,11 +128,11 @@ fn spans_and_groups(rt: HostRuntime) -> Result<(), Fail> {
 }
 
 /// The name that a text's command gives, as this interner has it.
-fn given_name<'t>(
+fn given_name(
     rt: &impl Abort,
     alloc: Global,
-    interner: &mut Interner<'t>,
-    text: &'t str,
+    interner: &mut Interner,
+    text: &str,
 ) -> Result<RcStr<Global>, Fail> {
     let tokens = lex(alloc, text)?;
     let found = parse_interning(alloc, interner, tokens.as_slice());

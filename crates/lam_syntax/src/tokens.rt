@@ -37,9 +37,9 @@ pub(crate) fn expect<'a, 'b>(
 }
 
 /// The token's text and place.
-pub(crate) fn identifier_of<'b>(
-    interner: &mut Interner<'b>,
-    token: &Token<'b>,
+pub(crate) fn identifier_of(
+    interner: &mut Interner,
+    token: &Token<'_>,
 ) -> Result<Identifier, AllocError>
     ensures { IfOk result (λ i. word_of i ≡ word (text_of token.now) (span_of token.now)) }
 {
@@ -51,7 +51,7 @@ pub(crate) fn identifier_of<'b>(
 
 /// A name with its text, where another token stops the reading.
 pub(crate) fn expect_name<'a, 'b>(
-    interner: &mut Interner<'b>,
+    interner: &mut Interner,
     tokens: &'a [Token<'b>],
 ) -> Result<(Identifier, &'a [Token<'b>]), Stop<'a, 'b>>
     ensures named { Names tokens.now result }
