@@ -506,6 +506,20 @@ fn commands_at_the_limit(rt: HostRuntime) -> Result<(), Fail> {
 }
 
 #[test]
+fn many_faults_are_told(rt: HostRuntime) -> Result<(), Fail> {
+    let alloc = rt.alloc();
+    let mut session = started(alloc, INITIALIZE)?;
+    let mut text = String::new(alloc);
+    let mut faults = Vec::new(alloc);
+    for number in 0..2_000u64 {
+        text.push_str("0 0;")?;
+        faults.push(("E2", number * 4, number * 4 + 3))?;
+    }
+    assert_published(&rt, alloc, &mut session, &text, &faults)?;
+    Ok(())
+}
+
+#[test]
 fn columns_in_each_encoding(rt: HostRuntime) -> Result<(), Fail> {
     let alloc = rt.alloc();
     for (encoding, start, end) in [("utf-8", 9, 10), ("utf-16", 7, 8), ("utf-32", 6, 7)] {
