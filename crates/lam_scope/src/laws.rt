@@ -33,8 +33,8 @@ pub fn one_term()
     ensures terms { (cs : List CommandTree) → map (λ p. p.here) (places_of [] (statements [] [] cs)) ≡ map (λ p. p.term) (commands_placed [] [] cs) }
 {}
 
-/// The binder that a use is told to have is the one that its count names, and it has none where the count is none.
-/// (Nothing runs here: the contract is the law.)
+/// Of any binders of names that a term sees, the one that a use is told to have is the one that its count names, and it
+/// has none where the count is none. (Nothing runs here: the contract is the law.)
 pub fn one_binder()
     ensures bound { (x : Name) (seen : List Entry) (n : ℕ) (e : Entry) → count x (entry_names seen) ≡ Some n → get_or seen n e ≡ e → bound_to x seen ≡ Some e.answer }
     ensures unbound { (x : Name) (seen : List Entry) → count x (entry_names seen) ≡ None → bound_to x seen ≡ None }
