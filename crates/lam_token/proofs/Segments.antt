@@ -10,7 +10,8 @@ use Rattle.lam_token.specs.declared.kind.Segment.{Segment}
 use Rattle.lam_token.specs.declared.kind.Segment.TheVariants.{Blank, Comment, Token}
 use Rattle.lam_token.specs.declared.kind.Beginning.{Beginning}
 use Rattle.lam_token.specs.declared.kind.Beginning.TheVariants as begin
-use Rattle.lam_token.specs.Shape.{is_digit, is_continuing, beginning_of, rest_of_comment, alone, closed_at_end, begun, shape_of, opened, opens_comment, word_kind}
+use Rattle.lam_token.specs.Shape.{is_digit, is_continuing, beginning_of, rest_of_comment, alone, closed_at_end, begun, shape_of, opened, opens_comment}
+use Rattle.lam_token.specs.Words.{word_kind}
 use Rattle.lam_token.specs.Cut.{NothingBegins, NothingLonger, longest, unclosed, stray}
 use Rattle.lam_token.specs.Reading.{FirstIs, FrontIs, EndsRun, RunIs, IsBehind, SegmentIs}
 use Rattle.lam_token.proofs.Reading.{front_none, front_all, front_behind, no_front}

@@ -1,4 +1,5 @@
 pub mod Lexeme
+pub mod Words
 pub mod Shape
 pub mod Comment
 pub mod Cut

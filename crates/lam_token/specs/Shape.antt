@@ -1,14 +1,14 @@
 -- What a list of characters is by itself: a blank, a comment, a lexeme, or none of these.
-use Rattle.std.specs.Prelude.{ℕ, ◌+◌, ◌-◌, Bool, false, ◌&&◌, ◌||◌, ◌==◌, nat_le, if◌then◌else◌, Option, Some, None, List, [], ◌∷◌, codes, encode_utf8_all}
+use Rattle.std.specs.Prelude.{ℕ, ◌+◌, ◌-◌, Bool, false, ◌&&◌, ◌||◌, ◌==◌, nat_le, if◌then◌else◌, Option, Some, None, List, [], ◌∷◌, encode_utf8_all}
 use Rattle.std.specs.List.{list_all}
-use Rattle.std.specs.Str.{bytes_eq}
 use Rattle.unicode_ident.specs.Ident.{is_xid_start, is_xid_continue}
 use Rattle.lam_token.specs.declared.kind.Kind.{Kind}
-use Rattle.lam_token.specs.declared.kind.Kind.TheVariants.{Name, TypeName, Numeral, Lambda, If, Then, Else, Let, Letrec, In, Fix, Succ, Pred, IsZero, True, False, UnitTerm, As, BoolType, NatType, UnitType, TopType, Semicolon, Equals, Colon, Dot, Comma, OpenParen, CloseParen, OpenBrace, CloseBrace, Arrow, Underscore}
+use Rattle.lam_token.specs.declared.kind.Kind.TheVariants.{Name, Numeral, Semicolon, Equals, Colon, Dot, Comma, OpenParen, CloseParen, OpenBrace, CloseBrace, Arrow, Underscore}
 use Rattle.lam_token.specs.declared.kind.Segment.{Segment}
 use Rattle.lam_token.specs.declared.kind.Segment.TheVariants as segment
 use Rattle.lam_token.specs.declared.kind.Beginning.{Beginning}
 use Rattle.lam_token.specs.declared.kind.Beginning.TheVariants as first
+use Rattle.lam_token.specs.Words.{word_kind}
 
 -- space, tab, line feed, carriage return
 unfoldable pub is_blank : ℕ → Bool
@@ -18,38 +18,9 @@ is_blank c = (c == 32) || (c == 9) || (c == 10) || (c == 13)
 unfoldable pub is_digit : ℕ → Bool
 is_digit c = nat_le 48 c && nat_le c 57
 
--- A to Z
-unfoldable pub is_capital : ℕ → Bool
-is_capital c = nat_le 65 c && nat_le c 90
-
 -- what an identifier may go on with: XID_Continue, or an apostrophe
 unfoldable pub is_continuing : ℕ → Bool
 is_continuing c = (c == 39) || is_xid_continue c
-
--- the kind of a word, given as the bytes of its text: one of the words of the language, and else by its first character
-unfoldable pub word_kind : (first : ℕ) → List ℕ → Kind
-word_kind first word =
-    if bytes_eq word (codes "lambda") then Lambda
-    else if bytes_eq word (codes "if") then If
-    else if bytes_eq word (codes "then") then Then
-    else if bytes_eq word (codes "else") then Else
-    else if bytes_eq word (codes "let") then Let
-    else if bytes_eq word (codes "letrec") then Letrec
-    else if bytes_eq word (codes "in") then In
-    else if bytes_eq word (codes "fix") then Fix
-    else if bytes_eq word (codes "succ") then Succ
-    else if bytes_eq word (codes "pred") then Pred
-    else if bytes_eq word (codes "iszero") then IsZero
-    else if bytes_eq word (codes "true") then True
-    else if bytes_eq word (codes "false") then False
-    else if bytes_eq word (codes "unit") then UnitTerm
-    else if bytes_eq word (codes "as") then As
-    else if bytes_eq word (codes "Bool") then BoolType
-    else if bytes_eq word (codes "Nat") then NatType
-    else if bytes_eq word (codes "Unit") then UnitType
-    else if bytes_eq word (codes "Top") then TopType
-    else if is_capital first then TypeName
-    else Name
 
 -- what may begin with a character that is neither a blank, a digit nor a letter
 unfoldable pub mark_of : ℕ → Beginning

@@ -1,7 +1,7 @@
 //! A text as its characters, and what a character may begin or continue.
 ghost use Rattle.std.specs.Prelude.{◌≡◌, [], MatchOption};
 ghost use Rattle.std.specs.Str.{chars};
-ghost use Rattle.lam_token.specs.Shape.{is_blank, is_digit, is_capital, is_continuing, is_opening, is_closing, mark_of, beginning_of, word_kind};
+ghost use Rattle.lam_token.specs.Shape.{is_blank, is_digit, is_continuing, is_opening, is_closing, mark_of, beginning_of};
 ghost use Rattle.lam_token.specs.Reading.{FirstIs};
 
 use crate::kind::{Beginning, Kind};
@@ -28,13 +28,6 @@ pub(crate) fn is_digit(c: char) -> bool
     ensures { result ≡ is_digit c }
 {
     c >= '0' && c <= '9'
-}
-
-#[tactic(auto, unfolding(crate::specs::Shape::is_capital))]
-fn is_capital(c: char) -> bool
-    ensures { result ≡ is_capital c }
-{
-    c >= 'A' && c <= 'Z'
 }
 
 /// Whether a name goes on with the character: with `'`, or as Unicode has identifiers go on.
@@ -95,40 +88,5 @@ pub(crate) fn beginning_of(c: char) -> Beginning
         Beginning::Letter
     } else {
         mark_of(c)
-    }
-}
-
-/// The kind of a word that begins with this character.
-#[tactic(auto, unfolding(crate::specs::Shape::word_kind))]
-pub(crate) fn word_kind(first: char, word: &str) -> Kind
-    ensures { result ≡ word_kind first word.now }
-{
-    match word {
-        "lambda" => Kind::Lambda,
-        "if" => Kind::If,
-        "then" => Kind::Then,
-        "else" => Kind::Else,
-        "let" => Kind::Let,
-        "letrec" => Kind::Letrec,
-        "in" => Kind::In,
-        "fix" => Kind::Fix,
-        "succ" => Kind::Succ,
-        "pred" => Kind::Pred,
-        "iszero" => Kind::IsZero,
-        "true" => Kind::True,
-        "false" => Kind::False,
-        "unit" => Kind::UnitTerm,
-        "as" => Kind::As,
-        "Bool" => Kind::BoolType,
-        "Nat" => Kind::NatType,
-        "Unit" => Kind::UnitType,
-        "Top" => Kind::TopType,
-        _ => {
-            if is_capital(first) {
-                Kind::TypeName
-            } else {
-                Kind::Name
-            }
-        }
     }
 }

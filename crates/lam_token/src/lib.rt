@@ -15,6 +15,7 @@ mod span;
 #[cfg(test)]
 mod tests;
 mod token;
+mod words;
 
 pub use kind::Kind;
 pub use laws::{comments_nest, some_cut};

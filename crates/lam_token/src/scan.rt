@@ -6,9 +6,10 @@ ghost use Rattle.lam_token.specs.Shape.{is_digit, is_continuing, beginning_of};
 ghost use Rattle.lam_token.specs.Reading.{FirstIs, RunIs, IsBehind, SegmentIs};
 
 use crate::characters::{
-    beginning_of, is_closing, is_continuing, is_digit, is_opening, split_first, word_kind,
+    beginning_of, is_closing, is_continuing, is_digit, is_opening, split_first,
 };
 use crate::kind::{Beginning, Kind, Segment};
+use crate::words::word_kind;
 
 /// The text behind the longest run of characters that an identifier may go on with.
 fn behind_word(text: &str) -> &str
