@@ -7,7 +7,7 @@ ghost use Rattle.lam_query.specs.Reading.{IsCommandRead, fault_read, IsNoted, Is
 ghost use Rattle.lam_query.specs.Views.{fault_of};
 
 use crate::answers::Fault;
-use lam_syntax::{Command, Interner, ParseFault, is_semicolon, parse_interning};
+use lam_syntax::{Command, ParseFault, is_semicolon, parse};
 use lam_token::{Kind, Span, Token, first_token};
 use std::alloc::{AllocError, Global};
 
@@ -33,7 +33,6 @@ enum Piece {
 #[derive(Drop)]
 struct Reader<'t> {
     alloc: Global,
-    interner: Interner,
     /// The tokens behind the last semicolon.
     piece: Vec<Token<'t>>,
     commands: Vec<Command>,
@@ -47,7 +46,6 @@ pub(crate) fn read(alloc: Global, text: &str) -> Result<Parsed, AllocError>
 {
     let mut reader = Reader {
         alloc,
-        interner: Interner::new(alloc),
         piece: Vec::new(alloc),
         commands: Vec::new(alloc),
         token_faults: Vec::new(alloc),
@@ -101,7 +99,7 @@ impl<'t> Reader<'t> {
         if self.piece.is_empty() {
             return Ok(());
         }
-        match read_piece(self.alloc, &mut self.interner, &self.piece)? {
+        match read_piece(self.alloc, &self.piece)? {
             Piece::Command(command) => self.commands.push(command)?,
             Piece::Fault(fault) => self.piece_faults.push(fault)?,
             Piece::Spoiled => {}
@@ -111,18 +109,14 @@ impl<'t> Reader<'t> {
     }
 }
 
-fn read_piece(
-    alloc: Global,
-    interner: &mut Interner,
-    piece: &[Token<'_>],
-) -> Result<Piece, AllocError>
+fn read_piece(alloc: Global, piece: &[Token<'_>]) -> Result<Piece, AllocError>
     requires { 0 < length piece.now }
     ensures command { IfOk result (IsCommandRead piece.now) }
     ensures fault { IfOk result (λ p. PieceFault piece.now (fault_read p)) }
 {
     let first = piece[0].span();
     let last = piece[piece.len() - 1].span();
-    match parse_interning(alloc, interner, piece) {
+    match parse(alloc, piece) {
         Ok(command) => Ok(Piece::Command(command)),
         Err(ParseFault::TooManyTokens) => Ok(Piece::Fault(Fault {
             code: "L2",

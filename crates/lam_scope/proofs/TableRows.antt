@@ -1,6 +1,6 @@
 -- How rows are added to tables.
 use Rattle.std.proofs.Common.{◌≡◌, ℕ, ◌+◌, ◌<◌, ◌≤◌, List, [], ◌∷◌, ◌++◌, length, drop, get_or, slice_set, zero, suc, refl, ap, sym, ◌∙◌, append_assoc, length-append, map, arith, Option, true}
-use Rattle.std.specs.Rc.{rc_str_bytes}
+use Rattle.lam_syntax.specs.Letters.{letters}
 use Rattle.std.proofs.lemmas.List.{append-nil, map-append, drop_all}
 use Rattle.std.specs.Option.{option_map}
 use Rattle.lam_token.specs.declared.span.Span.{Span}
@@ -43,7 +43,7 @@ empty_plus s = refl
 -- one more row
 
 pub new_binder : (bs more : List BinderRow) (us : List UseRow) (ps : List PlaceRow) (ts : List Place) (b : BinderRow) (x : Option Name) (seen : List Entry)
-    → more ≡ bs ++ b ∷ [] → option_map (λ s. rc_str_bytes s) b.name ≡ x → option_map binder_number b.outer ≡ innermost seen
+    → more ≡ bs ++ b ∷ [] → option_map (λ s. letters s) b.name ≡ x → option_map binder_number b.outer ≡ innermost seen
     → rows_table more us ps ts ≡ rows_table bs us ps ts ⊕ binder_row x b.token seen b.answer.0 b.origin
 unfolding ◌⊕◌
 new_binder bs more us ps ts b x seen pushed named outer = λ i. record {

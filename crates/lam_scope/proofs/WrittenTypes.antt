@@ -1,6 +1,6 @@
 -- How stacks of abbreviations and lists of fields of written types are seen, and what is counted of them.
 use Rattle.std.proofs.Common.{◌≡◌, ℕ, ◌+◌, ◌<◌, ◌≤◌, min, List, [], ◌∷◌, ◌++◌, length, take, drop, get_or, suc, refl, ap, sym, ◌∙◌, drop-cons, add-one, arith, append_assoc, Option, Some, None, String, string_bytes, Bool, false}
-use Rattle.std.specs.Rc.{rc_str_bytes}
+use Rattle.lam_syntax.specs.Letters.{letters}
 use Rattle.std.specs.declared.alloc.Global.{Global}
 use Rattle.lam_token.specs.declared.span.Span.{Span}
 use Rattle.lam_rules.specs.declared.types.Ty.{Ty}
@@ -51,16 +51,16 @@ first_field bs l s t rest e = rw e refl
 
 -- one more field is expanded
 pub expanded_more : (bs : List Abbreviation) (items more : List (String Global × Ty)) (fs : List TyField) (i : ℕ) (f : TyField) (label : String Global) (t : Ty) (all : Option Fields)
-    → i < length fs → f ≡ get_or fs i f → has_label (rc_str_bytes f.label.text) (type_fields_of (drop (i + 1) fs)) ≡ false
-    → more ≡ items ++ (label, t) ∷ [] → string_bytes label ≡ rc_str_bytes f.label.text → Some (typ_of t) ≡ expansion bs (type_of f.ty)
+    → i < length fs → f ≡ get_or fs i f → has_label (letters f.label.text) (type_fields_of (drop (i + 1) fs)) ≡ false
+    → more ≡ items ++ (label, t) ∷ [] → string_bytes label ≡ letters f.label.text → Some (typ_of t) ≡ expansion bs (type_of f.ty)
     → behind_fields (fields_of items) (expansion_of_fields bs (type_fields_of (drop i fs))) ≡ all
     → behind_fields (fields_of more) (expansion_of_fields bs (type_fields_of (drop (i + 1) fs))) ≡ all
 expanded_more bs items more fs i f label t all lt is once pushed same_label same_type so_far =
     rw pushed
     (behind_fields-push items (label, t) (expansion_of_fields bs (type_fields_of (drop (i + 1) fs)))
     ∙ ap (λ l. behind_fields (fields_of items) (both (rules.field l) (Some (typ_of t)) (expansion_of_fields bs (type_fields_of (drop (i + 1) fs))))) same_label
-    ∙ ap (λ o. behind_fields (fields_of items) (both (rules.field (rc_str_bytes f.label.text)) o (expansion_of_fields bs (type_fields_of (drop (i + 1) fs))))) same_type
-    ∙ ap (behind_fields (fields_of items)) (sym (first_field bs (rc_str_bytes f.label.text) f.label.span (type_of f.ty) (type_fields_of (drop (i + 1) fs)) once))
+    ∙ ap (λ o. behind_fields (fields_of items) (both (rules.field (letters f.label.text)) o (expansion_of_fields bs (type_fields_of (drop (i + 1) fs))))) same_type
+    ∙ ap (behind_fields (fields_of items)) (sym (first_field bs (letters f.label.text) f.label.span (type_of f.ty) (type_fields_of (drop (i + 1) fs)) once))
     ∙ ap (λ gs. behind_fields (fields_of items) (expansion_of_fields bs gs)) (sym (type_fields_of-drop fs i f lt is))
     ∙ so_far)
 

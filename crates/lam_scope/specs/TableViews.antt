@@ -1,7 +1,7 @@
 -- How the rows of the tables and the binders that are seen stand for those of the definitions.
 use Rattle.std.specs.Prelude.{List, [], ◌∷◌, ◌++◌, ℕ, zero, suc, map, Option, None, Some}
 use Rattle.std.specs.Option.{option_map}
-use Rattle.std.specs.Rc.{rc_str_bytes}
+use Rattle.lam_syntax.specs.Letters.{letters}
 use Rattle.lam_scope.specs.declared.numbers.Binder.{Binder}
 use Rattle.lam_scope.specs.declared.numbers.Place.{Place}
 use Rattle.lam_scope.specs.declared.rows.BinderRow.{BinderRow}
@@ -28,7 +28,7 @@ place_number p = p.0
 
 -- a `SeenBinder`, as the terms under it see it; an underscore has no name
 abbrev pub entry_of : SeenBinder → Entry
-entry_of b = entry (option_map (λ x. rc_str_bytes x.now) b.name) b.number.0 b.answer.0
+entry_of b = entry (option_map (λ x. letters x.now) b.name) b.number.0 b.answer.0
 
 -- the binders of a stack, the innermost first
 abbrev pub entries_of : List SeenBinder → List Entry
@@ -40,7 +40,7 @@ entry_names = map (λ e. e.name)
 
 -- the binder that a `BinderRow` tells of
 abbrev pub text_binder : BinderRow → TextBinder
-text_binder r = record { name = option_map (λ s. rc_str_bytes s) r.name; token = r.token; outer = option_map binder_number r.outer; answer = r.answer.0; origin = r.origin }
+text_binder r = record { name = option_map (λ s. letters s) r.name; token = r.token; outer = option_map binder_number r.outer; answer = r.answer.0; origin = r.origin }
 
 -- the use that a `UseRow` tells of
 abbrev pub text_use : UseRow → TextUse

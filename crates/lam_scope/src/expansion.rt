@@ -28,7 +28,7 @@ pub(crate) fn collect_faults(
         TyNode::Nat => Ok(()),
         TyNode::Unit => Ok(()),
         TyNode::Top => Ok(()),
-        TyNode::Named(name) => match seen.find(&name.text) {
+        TyNode::Named(name) => match seen.find(name.text.as_str()) {
             Some(_) => Ok(()),
             None => {
                 faults.push(TypeFault::UnboundTypeName(name.span))?;
@@ -67,7 +67,7 @@ fn collect_label_fault(
 ) -> Result<(), AllocError>
     ensures { OnOk result (faults.new.items ≡ faults.old.items ++ label_fault (word_of field.now.label) (type_fields_of earlier.now)) }
 {
-    if has_label(&field.label.text, earlier) {
+    if has_label(field.label.text.as_str(), earlier) {
         faults.push(TypeFault::RepeatedLabel(field.label.span))?;
     }
     Ok(())
@@ -106,7 +106,7 @@ pub(crate) fn expanded_size(seen: &Abbreviations<'_>, ty: &WrittenTy) -> Option<
         TyNode::Unit => Some(1),
         TyNode::Top => Some(1),
         TyNode::Named(name) => {
-            let abbreviation = seen.find(&name.text)?;
+            let abbreviation = seen.find(name.text.as_str())?;
             written_size(&abbreviation.expansion)
         }
         TyNode::Arrow(arrow) => {
@@ -138,7 +138,7 @@ fn expanded_fields_size(seen: &Abbreviations<'_>, fields: &[TyField]) -> Option<
     let mut total = 0;
     for i in 0..fields.len() {
         let field = &fields[i];
-        if has_label(&field.label.text, &fields[i + 1..]) {
+        if has_label(field.label.text.as_str(), &fields[i + 1..]) {
             return None;
         }
         let field_size = expanded_size(seen, &field.ty)?;
@@ -162,7 +162,7 @@ pub(crate) fn expand(
         TyNode::Nat => Ok(Some(Ty::Nat)),
         TyNode::Unit => Ok(Some(Ty::Unit)),
         TyNode::Top => Ok(Some(Ty::Top)),
-        TyNode::Named(name) => match seen.find(&name.text) {
+        TyNode::Named(name) => match seen.find(name.text.as_str()) {
             None => Ok(None),
             Some(abbreviation) => copy_of_written(alloc, &abbreviation.expansion),
         },
@@ -213,13 +213,13 @@ fn expand_fields(
     let mut items = Vec::with_capacity(alloc, fields.len())?;
     for i in 0..fields.len() {
         let field = &fields[i];
-        if has_label(&field.label.text, &fields[i + 1..]) {
+        if has_label(field.label.text.as_str(), &fields[i + 1..]) {
             return Ok(None);
         }
         let Some(ty) = expand(alloc, seen, &field.ty)? else {
             return Ok(None);
         };
-        let label = String::from_str(alloc, &field.label.text)?;
+        let label = String::from_str(alloc, field.label.text.as_str())?;
         items.push((label, ty))?;
     }
     Ok(Some(items))

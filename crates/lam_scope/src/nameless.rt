@@ -1,7 +1,7 @@
 //! The nameless forms of terms. Each level of nesting takes the frame of the match and of one arm, so that the deepest
 //! term of a command fits on the stack.
 ghost use Rattle.std.specs.Prelude.{◌≡◌, ◌∷◌, IfOk, OnOk};
-ghost use Rattle.std.specs.Rc.{rc_str_bytes};
+ghost use Rattle.lam_syntax.specs.Letters.{letters};
 ghost use Rattle.std.specs.Option.{option_map};
 ghost use Rattle.lam_rules.specs.TermViews.{term_of, terms_of};
 ghost use Rattle.lam_rules.specs.Terms.{numeral, record_term};
@@ -78,7 +78,7 @@ fn under<'a>(
     binder: &'a Binder,
     body: &'a Tm,
 ) -> Result<Core, AllocError>
-    ensures form { IfOk result (λ e. term_of e ≡ nameless (abbreviations_of seen.now) (option_map (λ s. rc_str_bytes s) binder.now.name ∷ names.old) (tree_of body.now)) }
+    ensures form { IfOk result (λ e. term_of e ≡ nameless (abbreviations_of seen.now) (option_map (λ s. letters s) binder.now.name ∷ names.old) (tree_of body.now)) }
     ensures names { OnOk result (names.new ≡ names.old) }
 {
     names.enter(text_of(name_of(binder)))?;
@@ -197,7 +197,7 @@ fn project_of<'a>(
     ensures names { OnOk result (names.new ≡ names.old) }
 {
     let form = boxed(alloc, seen, names, &term.record)?;
-    let copy = String::from_str(alloc, &term.label.text)?;
+    let copy = String::from_str(alloc, term.label.text.as_str())?;
     Ok(Core::Proj(form, copy))
 }
 
@@ -247,7 +247,7 @@ fn nameless_fields<'a>(
     for i in 0..fields.len() {
         let field = &fields[i];
         let form = nameless(alloc, seen, names, &field.term)?;
-        let label = String::from_str(alloc, &field.label.text)?;
+        let label = String::from_str(alloc, field.label.text.as_str())?;
         forms.push((label, form))?;
     }
     Ok(forms)
@@ -256,12 +256,12 @@ fn nameless_fields<'a>(
 /// The count of a use, or its name where it is unbound.
 #[tactic(auto, using(crate::proofs::Forms::forms))]
 fn use_of(alloc: Global, name: &Identifier, names: &Names<'_>) -> Result<Core, AllocError>
-    ensures { IfOk result (λ e. term_of e ≡ use_counted (rc_str_bytes name.now.text) (count (rc_str_bytes name.now.text) names.now)) }
+    ensures { IfOk result (λ e. term_of e ≡ use_counted (letters name.now.text) (count (letters name.now.text) names.now)) }
 {
-    match names.count(&name.text) {
+    match names.count(name.text.as_str()) {
         Some(count) => Ok(Core::Var(count)),
         None => {
-            let copy = String::from_str(alloc, &name.text)?;
+            let copy = String::from_str(alloc, name.text.as_str())?;
             Ok(Core::Free(copy))
         }
     }
@@ -269,9 +269,9 @@ fn use_of(alloc: Global, name: &Identifier, names: &Names<'_>) -> Result<Core, A
 
 #[tactic(auto, using(crate::proofs::Forms::forms))]
 fn numeral_of(alloc: Global, digits: &Identifier) -> Result<Core, AllocError>
-    ensures { IfOk result (λ e. term_of e ≡ numeral (rc_str_bytes digits.now.text)) }
+    ensures { IfOk result (λ e. term_of e ≡ numeral (letters digits.now.text)) }
 {
-    let copy = String::from_str(alloc, &digits.text)?;
+    let copy = String::from_str(alloc, digits.text.as_str())?;
     Ok(Core::Num(copy))
 }
 

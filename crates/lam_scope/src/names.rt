@@ -1,16 +1,15 @@
 //! The binders of names that a term sees.
 ghost use Rattle.std.specs.Prelude.{◌≡◌, ◌∷◌, [], IfOk, OnOk, OnErr};
-ghost use Rattle.std.specs.Rc.{rc_str_bytes};
+ghost use Rattle.lam_syntax.specs.Letters.{letters};
 ghost use Rattle.std.specs.Option.{option_map};
 ghost use Rattle.lam_scope.specs.Names.{count};
 ghost use Rattle.lam_scope.specs.Stacks.{outside};
 
 use crate::name_stack::{count_in, enter_in, leave_in};
-use lam_syntax::Binder;
+use lam_syntax::{Binder, Text};
 use std::alloc::{AllocError, Global};
 use std::collections::HashMap;
 use std::marker::Model;
-use std::rc::RcStr;
 
 /// A binder on a stack: its name, if it is no underscore, and where the binder stands that the name had before.
 #[derive(Drop)]
@@ -87,18 +86,18 @@ impl<'a> Names<'a> {
 }
 
 /// The name of a binder, if it is no underscore.
-pub(crate) fn name_of<'a>(binder: &'a Binder) -> Option<&'a RcStr<Global>>
-    ensures { option_map (λ x. rc_str_bytes x.now) result ≡ option_map (λ s. rc_str_bytes s) binder.now.name }
+pub(crate) fn name_of<'a>(binder: &'a Binder) -> Option<&'a Text>
+    ensures { option_map (λ x. letters x.now) result ≡ option_map (λ s. letters s) binder.now.name }
 {
     binder.name.as_ref()
 }
 
 /// The letters of a name, if there is one.
-pub(crate) fn text_of<'a>(name: Option<&'a RcStr<Global>>) -> Option<&'a str>
-    ensures { option_map (λ x. x.now) result ≡ option_map (λ x. rc_str_bytes x.now) name.entry }
+pub(crate) fn text_of<'a>(name: Option<&'a Text>) -> Option<&'a str>
+    ensures { option_map (λ x. x.now) result ≡ option_map (λ x. letters x.now) name.entry }
 {
     match name {
         None => None,
-        Some(shared) => Some(shared.as_str()),
+        Some(text) => Some(text.as_str()),
     }
 }

@@ -1,6 +1,6 @@
 //! The rows of the tables that binding fills.
 ghost use Rattle.std.specs.Prelude.{◌≡◌, ◌+◌, ◌<◌, length, map, drop, IfOk, OnOk};
-ghost use Rattle.std.specs.Rc.{rc_str_bytes};
+ghost use Rattle.lam_syntax.specs.Letters.{letters};
 ghost use Rattle.std.specs.Option.{option_map};
 ghost use Rattle.lam_scope.specs.Slices.{first_start, AreInOrder, AreInOrder-prop};
 ghost use Rattle.lam_scope.specs.Tables.{◌⊕◌, empty_table, binder_row, use_row, place_row, place_row_numbered};
@@ -8,16 +8,15 @@ ghost use Rattle.lam_scope.specs.Tables.{◌⊕◌, empty_table, binder_row, use
 use crate::numbers::{Binder, Origin, Place};
 use crate::room::Room;
 use crate::seen::Seen;
-use lam_syntax::Identifier;
+use lam_syntax::{Identifier, Text};
 use lam_token::Span;
 use std::alloc::{AllocError, Global};
-use std::rc::RcStr;
 
 /// A binder of a name or of a type name.
 #[derive(Drop)]
 pub(crate) struct BinderRow {
     /// An underscore has none.
-    pub(crate) name: Option<RcStr<Global>>,
+    pub(crate) name: Option<Text>,
     pub(crate) token: Span,
     /// The binder of its kind just outside of it.
     pub(crate) outer: Option<Binder>,
@@ -90,20 +89,20 @@ impl Rows {
     /// One more binder, inside of those that are seen.
     pub(crate) fn add_binder(
         &mut self,
-        name: Option<&RcStr<Global>>,
+        name: Option<&Text>,
         token: Span,
         seen: &Seen<'_>,
         answer: Binder,
         origin: Origin,
     ) -> Result<(), AllocError>
-        ensures table { OnOk result (rows_of self.new ≡ rows_of self.old ⊕ binder_row (option_map (λ x. rc_str_bytes x.now) name.entry) token seen.now answer.0 origin) }
+        ensures table { OnOk result (rows_of self.new ≡ rows_of self.old ⊕ binder_row (option_map (λ x. letters x.now) name.entry) token seen.now answer.0 origin) }
         ensures binders { OnOk result (length self.new.binders.items ≡ length self.old.binders.items + 1) }
         ensures places { self.new.places ≡ self.old.places }
     {
-        let shared = shared_name(name)?;
+        let copy = copy_of_name(name)?;
         let outer = seen.innermost();
         let row = BinderRow {
-            name: shared,
+            name: copy,
             token,
             outer,
             answer,
@@ -115,13 +114,13 @@ impl Rows {
 
     /// A use of a name or of a type name that sees these binders of its kind.
     pub(crate) fn add_use(&mut self, used: &Identifier, seen: &Seen<'_>) -> Result<(), AllocError>
-        ensures table { OnOk result (rows_of self.new ≡ rows_of self.old ⊕ use_row (rc_str_bytes used.now.text) used.now.span seen.now) }
+        ensures table { OnOk result (rows_of self.new ≡ rows_of self.old ⊕ use_row (letters used.now.text) used.now.span seen.now) }
         ensures binders { self.new.binders ≡ self.old.binders }
         ensures places { self.new.places ≡ self.old.places }
     {
         let row = UseRow {
             token: used.span,
-            binder: seen.find(&used.text),
+            binder: seen.find(used.text.as_str()),
         };
         self.uses.push(row)?;
         Ok(())
@@ -196,15 +195,15 @@ impl Rows {
     }
 }
 
-/// The same name in the same memory.
-fn shared_name(name: Option<&RcStr<Global>>) -> Result<Option<RcStr<Global>>, AllocError>
-    ensures { IfOk result (λ shared. option_map (λ s. rc_str_bytes s) shared ≡ option_map (λ x. rc_str_bytes x.now) name.entry) }
+/// The same name.
+fn copy_of_name(name: Option<&Text>) -> Result<Option<Text>, AllocError>
+    ensures { IfOk result (λ copy. option_map (λ s. letters s) copy ≡ option_map (λ x. letters x.now) name.entry) }
 {
     match name {
         None => Ok(None),
         Some(text) => {
-            let shared = text.clone()?;
-            Ok(Some(shared))
+            let copy = text.clone()?;
+            Ok(Some(copy))
         }
     }
 }

@@ -1,6 +1,6 @@
 //! The binders of a document, the uses of each, and what each place sees.
 ghost use Rattle.std.specs.Prelude.{◌≡◌, [], length, slice_index_or, map, IfOk};
-ghost use Rattle.std.specs.Rc.{rc_str_bytes};
+ghost use Rattle.lam_syntax.specs.Letters.{letters};
 ghost use Rattle.std.specs.Option.{option_map};
 ghost use Rattle.lam_scope.specs.Tables.{binder_numbered, place_row_numbered, binder_at, binder_token_at, binder_used_at, visible_at, seen_in, binder_in, place_at, shown_name};
 ghost use Rattle.lam_scope.specs.TableViews.{binder_number, place_number, text_binder, text_use, rows_of};
@@ -11,9 +11,9 @@ use crate::numbers::{Binder, Place};
 use crate::rows::{BinderRow, Rows, UseRow};
 use crate::stretches::{Stretch, first_with, runs_of};
 use crate::token_lists::TokenLists;
+use lam_syntax::Text;
 use lam_token::Span;
 use std::alloc::{AllocError, Global};
-use std::rc::RcStr;
 
 /// What the names and type names of a document's commands are bound to. It keeps no part of the commands.
 #[derive(Drop)]
@@ -139,8 +139,8 @@ impl Scopes {
 /// The span of what is not there: a place or a token past the last.
 const NO_SPAN: Span = Span { start: 0, end: 0 };
 
-fn shown_name(name: &Option<RcStr<Global>>) -> &str
-    ensures { result.now ≡ shown_name (option_map (λ s. rc_str_bytes s) name.now) }
+fn shown_name(name: &Option<Text>) -> &str
+    ensures { result.now ≡ shown_name (option_map (λ s. letters s) name.now) }
 {
     match name {
         Some(text) => text.as_str(),

@@ -1,7 +1,7 @@
 //! The binders of one kind that a term sees.
 ghost use Rattle.std.specs.Prelude.{◌≡◌, ◌∷◌, [], IfOk, OnOk};
 ghost use Rattle.std.specs.Option.{option_map};
-ghost use Rattle.std.specs.Rc.{rc_str_bytes};
+ghost use Rattle.lam_syntax.specs.Letters.{letters};
 ghost use Rattle.lam_scope.specs.Stacks.{outside};
 ghost use Rattle.lam_scope.specs.Tables.{innermost, bound_to};
 ghost use Rattle.lam_scope.specs.TableViews.{entry_of, entries_of, entry_names, binder_number};
@@ -9,14 +9,14 @@ ghost use Rattle.lam_scope.specs.TableViews.{entry_of, entries_of, entry_names, 
 use crate::names::{Names, text_of};
 use crate::numbers::Binder;
 use crate::stacks::item_under;
+use lam_syntax::Text;
 use std::alloc::{AllocError, Global};
 use std::marker::Model;
-use std::rc::RcStr;
 
 /// A binder that is seen: its name, if it is no underscore, its number, and the binder that its uses are told as.
 #[derive(Drop)]
 pub(crate) struct SeenBinder<'a> {
-    pub(crate) name: Option<&'a RcStr<Global>>,
+    pub(crate) name: Option<&'a Text>,
     pub(crate) number: Binder,
     pub(crate) answer: Binder,
 }

@@ -1,7 +1,7 @@
 //! The walk over terms that binding makes: the binders and the uses in the order of the text, the places each behind
 //! its immediate terms.
 ghost use Rattle.std.specs.Prelude.{◌≡◌, ◌∷◌, [], ◌+◌, ◌<◌, length, map, true, Some, IfOk, OnOk};
-ghost use Rattle.std.specs.Rc.{rc_str_bytes};
+ghost use Rattle.lam_syntax.specs.Letters.{letters};
 ghost use Rattle.std.specs.Option.{option_map};
 ghost use Rattle.lam_syntax.specs.Trees.{term_tree, lambda, if_term, let_term, letrec_term, apply};
 ghost use Rattle.lam_syntax.specs.Views.{bound_of, type_of, type_fields_of, term_of, fields_of, command_of};
@@ -14,12 +14,11 @@ use crate::numbers::{Binder, Origin, Place};
 use crate::rows::Rows;
 use crate::seen::{Seen, SeenBinder};
 use lam_syntax::{
-    Application, Binder as BoundName, Command, Conditional, Identifier, Lambda, Let, Letrec, Tm,
-    TmField, TmNode, TyField, TyNode, WrittenTy,
+    Application, Binder as BoundName, Command, Conditional, Identifier, Lambda, Let, Letrec, Text,
+    Tm, TmField, TmNode, TyField, TyNode, WrittenTy,
 };
 use lam_token::Span;
 use std::alloc::{AllocError, Global};
-use std::rc::RcStr;
 
 /// What stands for the origin of a binder of a name until the walk has gone over the term that gives it a type, or is
 /// its lambda: only then that place has its number.
@@ -269,10 +268,10 @@ fn walk_bound<'a>(
     types: &Seen<'_>,
     names: &mut Seen<'a>,
     bound: &'a Tm,
-    name: Option<&RcStr<Global>>,
+    name: Option<&Text>,
     token: Span,
 ) -> Result<Place, AllocError>
-    ensures table { OnOk result (rows_of rows.new ≡ rows_of rows.old ⊕ (binder_row (option_map (λ x. rc_str_bytes x.now) name.entry) token names.old (length rows.old.binders.items) (term_at (root (length rows.old.places.items) (term_of bound.now))) ⊕ term_table types.now names.old (length rows.old.binders.items + 1) (length rows.old.places.items) (term_of bound.now))) }
+    ensures table { OnOk result (rows_of rows.new ≡ rows_of rows.old ⊕ (binder_row (option_map (λ x. letters x.now) name.entry) token names.old (length rows.old.binders.items) (term_at (root (length rows.old.places.items) (term_of bound.now))) ⊕ term_table types.now names.old (length rows.old.binders.items + 1) (length rows.old.places.items) (term_of bound.now))) }
     ensures place { IfOk result (λ p. p.0 ≡ root (length rows.old.places.items) (term_of bound.now)) }
     ensures binders { OnOk result (length rows.new.binders.items ≡ length rows.old.binders.items + 1 + binders_in (term_of bound.now)) }
     ensures places { OnOk result (length rows.new.places.items ≡ behind (length rows.old.places.items) (term_of bound.now)) }
@@ -322,7 +321,7 @@ fn walk_fix<'a>(
     names: &mut Seen<'a>,
     term: &'a Letrec,
 ) -> Result<Place, AllocError>
-    ensures table { OnOk result (rows_of rows.new ≡ rows_of rows.old ⊕ letrec_rows (option_map (λ s. rc_str_bytes s) term.now.binder.name) term.now.binder.span names.old (length rows.old.binders.items) (root (length rows.old.places.items) (term_of term.now.bound)) term.now.bound.span (type_uses types.now (type_of term.now.ty)) (term_table types.now (entry (option_map (λ s. rc_str_bytes s) term.now.binder.name) (length rows.old.binders.items) (length rows.old.binders.items + 1) ∷ names.old) (length rows.old.binders.items + 2) (length rows.old.places.items) (term_of term.now.bound))) }
+    ensures table { OnOk result (rows_of rows.new ≡ rows_of rows.old ⊕ letrec_rows (option_map (λ s. letters s) term.now.binder.name) term.now.binder.span names.old (length rows.old.binders.items) (root (length rows.old.places.items) (term_of term.now.bound)) term.now.bound.span (type_uses types.now (type_of term.now.ty)) (term_table types.now (entry (option_map (λ s. letters s) term.now.binder.name) (length rows.old.binders.items) (length rows.old.binders.items + 1) ∷ names.old) (length rows.old.binders.items + 2) (length rows.old.places.items) (term_of term.now.bound))) }
     ensures place { IfOk result (λ p. p.0 ≡ root (length rows.old.places.items) (term_of term.now.bound) + 2) }
     ensures binders { OnOk result (length rows.new.binders.items ≡ length rows.old.binders.items + 2 + binders_in (term_of term.now.bound)) }
     ensures places { OnOk result (length rows.new.places.items ≡ root (length rows.old.places.items) (term_of term.now.bound) + 3) }
@@ -370,8 +369,8 @@ fn add_derived(
 
 /// A binder as the terms under it see it.
 fn seen_as<'a>(binder: &'a BoundName, number: usize) -> SeenBinder<'a>
-    ensures entry { entry_of result ≡ entry (option_map (λ s. rc_str_bytes s) binder.now.name) number number }
-    ensures name { option_map (λ x. rc_str_bytes x.now) result.name ≡ option_map (λ s. rc_str_bytes s) binder.now.name }
+    ensures entry { entry_of result ≡ entry (option_map (λ s. letters s) binder.now.name) number number }
+    ensures name { option_map (λ x. letters x.now) result.name ≡ option_map (λ s. letters s) binder.now.name }
 {
     SeenBinder {
         name: name_of(binder),
@@ -430,8 +429,8 @@ pub(crate) fn walk_command<'a>(
 
 /// The binder of a command, as those behind it see it.
 fn named<'a>(name: &'a Identifier, own: Binder) -> SeenBinder<'a>
-    ensures entry { entry_of result ≡ entry (Some (rc_str_bytes name.now.text)) own.0 own.0 }
-    ensures name { option_map (λ x. rc_str_bytes x.now) result.name ≡ Some (rc_str_bytes name.now.text) }
+    ensures entry { entry_of result ≡ entry (Some (letters name.now.text)) own.0 own.0 }
+    ensures name { option_map (λ x. letters x.now) result.name ≡ Some (letters name.now.text) }
 {
     SeenBinder {
         name: Some(&name.text),

@@ -1,4 +1,5 @@
 pub mod Trees
+pub mod Letters
 pub mod Views
 pub mod Grammar
 pub mod Answers

@@ -1,8 +1,8 @@
 -- The plain trees that written types, terms and commands stand for.
 use Rattle.std.specs.Prelude.{List, [], ◌∷◌}
 use Rattle.std.specs.Option.{option_map}
-use Rattle.std.specs.Rc.{rc_str_bytes}
 use Rattle.lam_syntax.specs.Trees.{Word, word, Bound, bound, TypeTree, type_tree, TypeNode, bool, nat, unit, top, named, arrow, record_type, TypeFields, no_type_fields, type_field, TermTree, term_tree, TermNode, true_term, false_term, unit_term, variable, numeral, lambda, if_term, let_term, letrec_term, prefixed, apply, project, ascribe, record_term, TermFields, no_fields, field, CommandTree, definition, declaration, abbreviation, evaluation}
+use Rattle.lam_syntax.specs.Letters.{letters}
 use Rattle.lam_syntax.specs.declared.identifier.Identifier.{Identifier}
 use Rattle.lam_syntax.specs.declared.identifier.Binder.{Binder}
 use Rattle.lam_syntax.specs.declared.types.WrittenTy.{WrittenTy}
@@ -18,11 +18,11 @@ use Rattle.lam_syntax.specs.declared.terms.Command.TheVariants as command
 
 -- the text of a name, a type name, a label or a numeral, with its place
 abbrev pub word_of : Identifier → Word
-word_of i = word (rc_str_bytes i.text) i.span
+word_of i = word (letters i.text) i.span
 
 -- the name of a binder, none for an underscore, with its place
 abbrev pub bound_of : Binder → Bound
-bound_of b = bound (option_map (λ s. rc_str_bytes s) b.name) b.span
+bound_of b = bound (option_map (λ s. letters s) b.name) b.span
 
 -- One level of a written type, with each type inside already seen as its tree.
 

@@ -2,12 +2,11 @@
 //!
 //! Semicolons divide a document's tokens into pieces, and a fault in one of them leaves the others as they are.
 //! `parse` answers the one tree of a piece, or the token at which the piece stops being the start of a command.
-//! The trees keep the place of each term, type, name and binder; names that are alike share their memory.
+//! The trees keep the place of each term, type, name and binder, and no part of the text.
 #![tactic(auto)]
 
 mod fault;
 mod identifier;
-mod interner;
 mod laws;
 mod parse_terms;
 mod parse_types;
@@ -18,17 +17,18 @@ mod stop;
 mod terms;
 #[cfg(test)]
 mod tests;
+mod text;
 mod tokens;
 mod types;
 
 pub use fault::ParseFault;
 pub use identifier::{Binder, Identifier};
-pub use interner::Interner;
 pub use laws::one_answer;
-pub use parser::{parse, parse_interning};
+pub use parser::parse;
 pub use splitting::{is_semicolon, pieces};
 pub use terms::{
     Application, Ascription, Command, Conditional, Lambda, Let, Letrec, Prefix, Projection, Tm,
     TmField, TmNode,
 };
+pub use text::Text;
 pub use types::{ArrowTy, TyField, TyNode, WrittenTy};

@@ -10,13 +10,13 @@ ghost use Rattle.lam_syntax.specs.Views.{term_of};
 ghost use Rattle.lam_syntax.specs.Reads.{Reads, Starts, behind_binder, behind_atom, behind_asc, behind_path, behind_term, behind_field, placed};
 
 use crate::identifier::Binder;
-use crate::interner::Interner;
 use crate::parse_types::parse_type;
 use crate::stop::Stop;
 use crate::terms::{
     Prefix, Tm, TmField, TmNode, make_apply, make_ascribe, make_if, make_lambda, make_let,
     make_letrec, make_project, make_record, spanning, with_prefix,
 };
+use crate::text::Text;
 use crate::tokens::{expect, expect_name, identifier_of, take};
 use lam_token::{Kind, Span, Token};
 use std::alloc::Global;
@@ -25,7 +25,6 @@ use std::alloc::Global;
 #[cycle(terms)]
 pub(crate) fn parse_term<'a, 'b>(
     alloc: Global,
-    interner: &mut Interner,
     tokens: &'a [Token<'b>],
 ) -> Result<(Tm, &'a [Token<'b>]), Stop<'a, 'b>>
     ensures read { (k : InTerm) → Reads result (run tokens.now (need_term k)) (behind_term k) }
@@ -36,11 +35,11 @@ pub(crate) fn parse_term<'a, 'b>(
     };
     let span = first.span();
     match first.kind() {
-        Kind::Lambda => parse_lambda(alloc, interner, span, rest),
-        Kind::If => parse_if(alloc, interner, span, rest),
-        Kind::Let => parse_let(alloc, interner, span, rest),
-        Kind::Letrec => parse_letrec(alloc, interner, span, rest),
-        _ => parse_app(alloc, interner, tokens),
+        Kind::Lambda => parse_lambda(alloc, span, rest),
+        Kind::If => parse_if(alloc, span, rest),
+        Kind::Let => parse_let(alloc, span, rest),
+        Kind::Letrec => parse_letrec(alloc, span, rest),
+        _ => parse_app(alloc, tokens),
     }
 }
 
@@ -48,18 +47,17 @@ pub(crate) fn parse_term<'a, 'b>(
 #[cycle(terms)]
 fn parse_lambda<'a, 'b>(
     alloc: Global,
-    interner: &mut Interner,
     first: Span,
     tokens: &'a [Token<'b>],
 ) -> Result<(Tm, &'a [Token<'b>]), Stop<'a, 'b>>
     ensures read { (k : InTerm) → Reads result (run tokens.now (need_binder for_lambda first k)) (behind_term k) }
     ensures shorter { IfOk result (λ r. length r.1.now < length tokens.now) }
 {
-    let (binder, rest) = parse_binder(interner, tokens)?;
+    let (binder, rest) = parse_binder(alloc, tokens)?;
     let (_, rest) = expect(rest, Kind::Colon)?;
-    let (ty, rest) = parse_type(alloc, interner, rest)?;
+    let (ty, rest) = parse_type(alloc, rest)?;
     let (_, rest) = expect(rest, Kind::Dot)?;
-    let (body, rest) = parse_term(alloc, interner, rest)?;
+    let (body, rest) = parse_term(alloc, rest)?;
     let term = make_lambda(alloc, first, binder, ty, body)?;
     Ok((term, rest))
 }
@@ -68,18 +66,17 @@ fn parse_lambda<'a, 'b>(
 #[cycle(terms)]
 fn parse_if<'a, 'b>(
     alloc: Global,
-    interner: &mut Interner,
     first: Span,
     tokens: &'a [Token<'b>],
 ) -> Result<(Tm, &'a [Token<'b>]), Stop<'a, 'b>>
     ensures read { (k : InTerm) → Reads result (run tokens.now (need_term (in_condition first k))) (behind_term k) }
     ensures shorter { IfOk result (λ r. length r.1.now < length tokens.now) }
 {
-    let (condition, rest) = parse_term(alloc, interner, tokens)?;
+    let (condition, rest) = parse_term(alloc, tokens)?;
     let (_, rest) = expect(rest, Kind::Then)?;
-    let (one, rest) = parse_term(alloc, interner, rest)?;
+    let (one, rest) = parse_term(alloc, rest)?;
     let (_, rest) = expect(rest, Kind::Else)?;
-    let (other, rest) = parse_term(alloc, interner, rest)?;
+    let (other, rest) = parse_term(alloc, rest)?;
     let term = make_if(alloc, first, condition, one, other)?;
     Ok((term, rest))
 }
@@ -88,18 +85,17 @@ fn parse_if<'a, 'b>(
 #[cycle(terms)]
 fn parse_let<'a, 'b>(
     alloc: Global,
-    interner: &mut Interner,
     first: Span,
     tokens: &'a [Token<'b>],
 ) -> Result<(Tm, &'a [Token<'b>]), Stop<'a, 'b>>
     ensures read { (k : InTerm) → Reads result (run tokens.now (need_binder for_let first k)) (behind_term k) }
     ensures shorter { IfOk result (λ r. length r.1.now < length tokens.now) }
 {
-    let (binder, rest) = parse_binder(interner, tokens)?;
+    let (binder, rest) = parse_binder(alloc, tokens)?;
     let (_, rest) = expect(rest, Kind::Equals)?;
-    let (named, rest) = parse_term(alloc, interner, rest)?;
+    let (named, rest) = parse_term(alloc, rest)?;
     let (_, rest) = expect(rest, Kind::In)?;
-    let (body, rest) = parse_term(alloc, interner, rest)?;
+    let (body, rest) = parse_term(alloc, rest)?;
     let term = make_let(alloc, first, binder, named, body)?;
     Ok((term, rest))
 }
@@ -108,20 +104,19 @@ fn parse_let<'a, 'b>(
 #[cycle(terms)]
 fn parse_letrec<'a, 'b>(
     alloc: Global,
-    interner: &mut Interner,
     first: Span,
     tokens: &'a [Token<'b>],
 ) -> Result<(Tm, &'a [Token<'b>]), Stop<'a, 'b>>
     ensures read { (k : InTerm) → Reads result (run tokens.now (need_binder for_letrec first k)) (behind_term k) }
     ensures shorter { IfOk result (λ r. length r.1.now < length tokens.now) }
 {
-    let (binder, rest) = parse_binder(interner, tokens)?;
+    let (binder, rest) = parse_binder(alloc, tokens)?;
     let (_, rest) = expect(rest, Kind::Colon)?;
-    let (ty, rest) = parse_type(alloc, interner, rest)?;
+    let (ty, rest) = parse_type(alloc, rest)?;
     let (_, rest) = expect(rest, Kind::Equals)?;
-    let (named, rest) = parse_term(alloc, interner, rest)?;
+    let (named, rest) = parse_term(alloc, rest)?;
     let (_, rest) = expect(rest, Kind::In)?;
-    let (body, rest) = parse_term(alloc, interner, rest)?;
+    let (body, rest) = parse_term(alloc, rest)?;
     let term = make_letrec(alloc, first, binder, ty, named, body)?;
     Ok((term, rest))
 }
@@ -130,17 +125,16 @@ fn parse_letrec<'a, 'b>(
 #[cycle(terms)]
 fn parse_app<'a, 'b>(
     alloc: Global,
-    interner: &mut Interner,
     tokens: &'a [Token<'b>],
 ) -> Result<(Tm, &'a [Token<'b>]), Stop<'a, 'b>>
     ensures read { (k : InTerm) → Reads result (look tokens.now (λ o. begin_app o k)) (behind_term k) }
     ensures shorter { IfOk result (λ r. length r.1.now < length tokens.now) }
 {
     let (prefix, rest) = take_prefix(tokens);
-    let (path, mut rest) = parse_path(alloc, interner, rest)?;
+    let (path, mut rest) = parse_path(alloc, rest)?;
     let mut head = with_prefix(alloc, prefix, path)?;
     while starts_atom(rest) {
-        let (argument, after) = parse_path(alloc, interner, rest)?;
+        let (argument, after) = parse_path(alloc, rest)?;
         head = make_apply(alloc, head, argument)?;
         rest = after;
     }
@@ -151,14 +145,13 @@ fn parse_app<'a, 'b>(
 #[cycle(terms)]
 fn parse_path<'a, 'b>(
     alloc: Global,
-    interner: &mut Interner,
     tokens: &'a [Token<'b>],
 ) -> Result<(Tm, &'a [Token<'b>]), Stop<'a, 'b>>
     ensures read { (k : InPath) → Reads result (look tokens.now (λ o. begin_atom o k)) (behind_path k) }
     ensures shorter { IfOk result (λ r. length r.1.now < length tokens.now) }
 {
-    let (atom, rest) = parse_atom(alloc, interner, tokens)?;
-    parse_suffixes(alloc, interner, atom, rest)
+    let (atom, rest) = parse_atom(alloc, tokens)?;
+    parse_suffixes(alloc, atom, rest)
 }
 
 /// A single token, or a term in parentheses or braces.
@@ -166,7 +159,6 @@ fn parse_path<'a, 'b>(
 #[tactic(auto, using(crate::proofs::Shapes::term_shapes))]
 fn parse_atom<'a, 'b>(
     alloc: Global,
-    interner: &mut Interner,
     tokens: &'a [Token<'b>],
 ) -> Result<(Tm, &'a [Token<'b>]), Stop<'a, 'b>>
     ensures read { (k : InPath) → Reads result (look tokens.now (λ o. begin_atom o k)) (behind_atom k) }
@@ -177,10 +169,10 @@ fn parse_atom<'a, 'b>(
     };
     let span = first.span();
     let node = match first.kind() {
-        Kind::OpenParen => return parse_parens(alloc, interner, span, rest),
-        Kind::OpenBrace => return parse_record(alloc, interner, span, rest),
-        Kind::Name => TmNode::Variable(identifier_of(interner, first)?),
-        Kind::Numeral => TmNode::Numeral(identifier_of(interner, first)?),
+        Kind::OpenParen => return parse_parens(alloc, span, rest),
+        Kind::OpenBrace => return parse_record(alloc, span, rest),
+        Kind::Name => TmNode::Variable(identifier_of(alloc, first)?),
+        Kind::Numeral => TmNode::Numeral(identifier_of(alloc, first)?),
         Kind::True => TmNode::True,
         Kind::False => TmNode::False,
         Kind::UnitTerm => TmNode::Unit,
@@ -193,14 +185,13 @@ fn parse_atom<'a, 'b>(
 #[cycle(terms)]
 fn parse_parens<'a, 'b>(
     alloc: Global,
-    interner: &mut Interner,
     first: Span,
     tokens: &'a [Token<'b>],
 ) -> Result<(Tm, &'a [Token<'b>]), Stop<'a, 'b>>
     ensures read { (k : InPath) → Reads result (run tokens.now (need_term (in_parens first k))) (behind_atom k) }
     ensures shorter { IfOk result (λ r. length r.1.now < length tokens.now) }
 {
-    let (term, rest) = parse_term(alloc, interner, tokens)?;
+    let (term, rest) = parse_term(alloc, tokens)?;
     let (last, rest) = expect(rest, Kind::CloseParen)?;
     Ok((spanning(term, first, last), rest))
 }
@@ -210,7 +201,6 @@ fn parse_parens<'a, 'b>(
 #[tactic(auto, using(crate::proofs::Shapes::term_shapes))]
 fn parse_record<'a, 'b>(
     alloc: Global,
-    interner: &mut Interner,
     first: Span,
     tokens: &'a [Token<'b>],
 ) -> Result<(Tm, &'a [Token<'b>]), Stop<'a, 'b>>
@@ -220,11 +210,11 @@ fn parse_record<'a, 'b>(
     if let Some((last, rest)) = take(tokens, Kind::CloseBrace) {
         return Ok((make_record(first, last, Vec::new(alloc)), rest));
     }
-    let (field, mut rest) = parse_field(alloc, interner, tokens)?;
+    let (field, mut rest) = parse_field(alloc, tokens)?;
     let mut fields = Vec::new(alloc);
     fields.push(field)?;
     while let Some((_, next)) = take(rest, Kind::Comma) {
-        let (field, after) = parse_field(alloc, interner, next)?;
+        let (field, after) = parse_field(alloc, next)?;
         fields.push(field)?;
         rest = after;
     }
@@ -236,21 +226,20 @@ fn parse_record<'a, 'b>(
 #[cycle(terms)]
 fn parse_field<'a, 'b>(
     alloc: Global,
-    interner: &mut Interner,
     tokens: &'a [Token<'b>],
 ) -> Result<(TmField, &'a [Token<'b>]), Stop<'a, 'b>>
     ensures read { (s : Place) (before : TermFields) (k : InPath) → Reads result (run tokens.now (next_field s before k)) (behind_field s before k) }
     ensures shorter { IfOk result (λ r. length r.1.now < length tokens.now) }
 {
-    let (label, rest) = expect_name(interner, tokens)?;
+    let (label, rest) = expect_name(alloc, tokens)?;
     let (_, rest) = expect(rest, Kind::Equals)?;
-    let (term, rest) = parse_term(alloc, interner, rest)?;
+    let (term, rest) = parse_term(alloc, rest)?;
     Ok((TmField { label, term }, rest))
 }
 
 /// The name of a binder, or its underscore.
 fn parse_binder<'a, 'b>(
-    interner: &mut Interner,
+    alloc: Global,
     tokens: &'a [Token<'b>],
 ) -> Result<(Binder, &'a [Token<'b>]), Stop<'a, 'b>>
     ensures read { (p : Purpose) (s : Place) (k : InTerm) → Reads result (run tokens.now (need_binder p s k)) (behind_binder p s k) }
@@ -262,7 +251,7 @@ fn parse_binder<'a, 'b>(
     let span = first.span();
     match first.kind() {
         Kind::Name => {
-            let name = Some(interner.intern(first.text())?);
+            let name = Some(Text::new(alloc, first.text())?);
             Ok((Binder { name, span }, rest))
         }
         Kind::Underscore => Ok((Binder { name: None, span }, rest)),
@@ -310,7 +299,6 @@ fn starts_atom(tokens: &[Token<'_>]) -> bool
 /// An atom with the type that may be written to it.
 fn parse_ascription<'a, 'b>(
     alloc: Global,
-    interner: &mut Interner,
     atom: Tm,
     tokens: &'a [Token<'b>],
 ) -> Result<(Tm, &'a [Token<'b>]), Stop<'a, 'b>>
@@ -320,7 +308,7 @@ fn parse_ascription<'a, 'b>(
     let Some((_, rest)) = take(tokens, Kind::As) else {
         return Ok((atom, tokens));
     };
-    let (ty, rest) = parse_type(alloc, interner, rest)?;
+    let (ty, rest) = parse_type(alloc, rest)?;
     let term = make_ascribe(alloc, atom, ty)?;
     Ok((term, rest))
 }
@@ -328,16 +316,15 @@ fn parse_ascription<'a, 'b>(
 /// The type that may be written to an atom, and the labels behind it.
 fn parse_suffixes<'a, 'b>(
     alloc: Global,
-    interner: &mut Interner,
     atom: Tm,
     tokens: &'a [Token<'b>],
 ) -> Result<(Tm, &'a [Token<'b>]), Stop<'a, 'b>>
     ensures read { (k : InPath) → Reads result (run tokens.now (after_atom (term_of atom) k)) (behind_path k) }
     ensures shorter { IfOk result (λ r. length r.1.now ≤ length tokens.now) }
 {
-    let (mut path, mut rest) = parse_ascription(alloc, interner, atom, tokens)?;
+    let (mut path, mut rest) = parse_ascription(alloc, atom, tokens)?;
     while let Some((_, after)) = take(rest, Kind::Dot) {
-        let (label, after) = expect_name(interner, after)?;
+        let (label, after) = expect_name(alloc, after)?;
         path = make_project(alloc, path, label)?;
         rest = after;
     }

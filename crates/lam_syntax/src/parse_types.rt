@@ -8,7 +8,6 @@ ghost use Rattle.lam_syntax.specs.Run.{InType, in_type_parens, need_type, need_t
 ghost use Rattle.lam_syntax.specs.Trees.{TypeFields};
 ghost use Rattle.lam_syntax.specs.Reads.{Reads, behind_type, behind_atype, behind_type_field};
 
-use crate::interner::Interner;
 use crate::stop::Stop;
 use crate::tokens::{expect, expect_name, identifier_of, take};
 use crate::types::{TyField, TyNode, WrittenTy, make_arrow, make_record_type, spanning};
@@ -19,17 +18,16 @@ use std::alloc::Global;
 #[cycle(types)]
 pub(crate) fn parse_type<'a, 'b>(
     alloc: Global,
-    interner: &mut Interner,
     tokens: &'a [Token<'b>],
 ) -> Result<(WrittenTy, &'a [Token<'b>]), Stop<'a, 'b>>
     ensures read { (k : InType) → Reads result (run tokens.now (need_type k)) (behind_type k) }
     ensures shorter { IfOk result (λ r. length r.1.now < length tokens.now) }
 {
-    let (left, rest) = parse_atype(alloc, interner, tokens)?;
+    let (left, rest) = parse_atype(alloc, tokens)?;
     let Some((_, rest)) = take(rest, Kind::Arrow) else {
         return Ok((left, rest));
     };
-    let (right, rest) = parse_type(alloc, interner, rest)?;
+    let (right, rest) = parse_type(alloc, rest)?;
     let ty = make_arrow(alloc, left, right)?;
     Ok((ty, rest))
 }
@@ -39,7 +37,6 @@ pub(crate) fn parse_type<'a, 'b>(
 #[tactic(auto, using(crate::proofs::Shapes::type_shapes))]
 fn parse_atype<'a, 'b>(
     alloc: Global,
-    interner: &mut Interner,
     tokens: &'a [Token<'b>],
 ) -> Result<(WrittenTy, &'a [Token<'b>]), Stop<'a, 'b>>
     ensures read { (k : InType) → Reads result (run tokens.now (need_type k)) (behind_atype k) }
@@ -50,9 +47,9 @@ fn parse_atype<'a, 'b>(
     };
     let span = first.span();
     let node = match first.kind() {
-        Kind::OpenParen => return parse_type_parens(alloc, interner, span, rest),
-        Kind::OpenBrace => return parse_record_type(alloc, interner, span, rest),
-        Kind::TypeName => TyNode::Named(identifier_of(interner, first)?),
+        Kind::OpenParen => return parse_type_parens(alloc, span, rest),
+        Kind::OpenBrace => return parse_record_type(alloc, span, rest),
+        Kind::TypeName => TyNode::Named(identifier_of(alloc, first)?),
         Kind::BoolType => TyNode::Bool,
         Kind::NatType => TyNode::Nat,
         Kind::UnitType => TyNode::Unit,
@@ -66,14 +63,13 @@ fn parse_atype<'a, 'b>(
 #[cycle(types)]
 fn parse_type_parens<'a, 'b>(
     alloc: Global,
-    interner: &mut Interner,
     first: Span,
     tokens: &'a [Token<'b>],
 ) -> Result<(WrittenTy, &'a [Token<'b>]), Stop<'a, 'b>>
     ensures read { (k : InType) → Reads result (run tokens.now (need_type (in_type_parens first k))) (behind_atype k) }
     ensures shorter { IfOk result (λ r. length r.1.now < length tokens.now) }
 {
-    let (ty, rest) = parse_type(alloc, interner, tokens)?;
+    let (ty, rest) = parse_type(alloc, tokens)?;
     let (last, rest) = expect(rest, Kind::CloseParen)?;
     Ok((spanning(ty, first, last), rest))
 }
@@ -83,7 +79,6 @@ fn parse_type_parens<'a, 'b>(
 #[tactic(auto, using(crate::proofs::Shapes::type_shapes))]
 fn parse_record_type<'a, 'b>(
     alloc: Global,
-    interner: &mut Interner,
     first: Span,
     tokens: &'a [Token<'b>],
 ) -> Result<(WrittenTy, &'a [Token<'b>]), Stop<'a, 'b>>
@@ -93,11 +88,11 @@ fn parse_record_type<'a, 'b>(
     if let Some((last, rest)) = take(tokens, Kind::CloseBrace) {
         return Ok((make_record_type(first, last, Vec::new(alloc)), rest));
     }
-    let (field, mut rest) = parse_type_field(alloc, interner, tokens)?;
+    let (field, mut rest) = parse_type_field(alloc, tokens)?;
     let mut fields = Vec::new(alloc);
     fields.push(field)?;
     while let Some((_, next)) = take(rest, Kind::Comma) {
-        let (field, after) = parse_type_field(alloc, interner, next)?;
+        let (field, after) = parse_type_field(alloc, next)?;
         fields.push(field)?;
         rest = after;
     }
@@ -109,14 +104,13 @@ fn parse_record_type<'a, 'b>(
 #[cycle(types)]
 fn parse_type_field<'a, 'b>(
     alloc: Global,
-    interner: &mut Interner,
     tokens: &'a [Token<'b>],
 ) -> Result<(TyField, &'a [Token<'b>]), Stop<'a, 'b>>
     ensures read { (s : Place) (before : TypeFields) (k : InType) → Reads result (run tokens.now (next_type_field s before k)) (behind_type_field s before k) }
     ensures shorter { IfOk result (λ r. length r.1.now < length tokens.now) }
 {
-    let (label, rest) = expect_name(interner, tokens)?;
+    let (label, rest) = expect_name(alloc, tokens)?;
     let (_, rest) = expect(rest, Kind::Colon)?;
-    let (ty, rest) = parse_type(alloc, interner, rest)?;
+    let (ty, rest) = parse_type(alloc, rest)?;
     Ok((TyField { label, ty }, rest))
 }

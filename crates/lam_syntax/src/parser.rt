@@ -9,7 +9,6 @@ ghost use Rattle.lam_syntax.specs.Reads.{ReadsAll, EndsAll};
 ghost use Rattle.lam_syntax.specs.Answers.{is_bad, has_bad, IsTaken, IsFaultOf, Accepts};
 
 use crate::fault::ParseFault;
-use crate::interner::Interner;
 use crate::parse_terms::parse_term;
 use crate::parse_types::parse_type;
 use crate::stop::Stop;
@@ -29,29 +28,13 @@ pub fn parse(alloc: Global, tokens: &[Token<'_>]) -> Result<Command, ParseFault>
     ensures fault { IfErr result (IsFaultOf tokens.now) }
     ensures accepts { (c : CommandTree) → IsTaken tokens.now → Spells tokens.now c → Accepts c result }
 {
-    let mut interner = Interner::new(alloc);
-    parse_interning(alloc, &mut interner, tokens)
-}
-
-/// The same, where names that are alike share their memory with those of the commands that this interner met before.
-pub fn parse_interning(
-    alloc: Global,
-    interner: &mut Interner,
-    tokens: &[Token<'_>],
-) -> Result<Command, ParseFault>
-    ensures taken { IfOk result (λ c. IsTaken tokens.now) }
-    ensures spelled { IfOk result (λ c. Spells tokens.now (command_of c)) }
-    ensures only { IfOk result (λ c. (d : CommandTree) → Spells tokens.now d → d ≡ command_of c) }
-    ensures fault { IfErr result (IsFaultOf tokens.now) }
-    ensures accepts { (c : CommandTree) → IsTaken tokens.now → Spells tokens.now c → Accepts c result }
-{
     if tokens.len() > MAX_TOKENS {
         return Err(ParseFault::TooManyTokens);
     }
     if has_bad(tokens) {
         return Err(ParseFault::BadToken);
     }
-    match parse_command(alloc, interner, tokens) {
+    match parse_command(alloc, tokens) {
         Ok(command) => Ok(command),
         Err(Stop::At(left)) => Err(fault_at(tokens, left)),
         Err(Stop::Memory) => Err(ParseFault::Memory),
@@ -89,86 +72,75 @@ fn is_bad(kind: Kind) -> bool
 }
 
 /// A command, up to the end of the tokens.
-fn parse_command<'a, 'b>(
-    alloc: Global,
-    interner: &mut Interner,
-    tokens: &'a [Token<'b>],
-) -> Result<Command, Stop<'a, 'b>>
+fn parse_command<'a, 'b>(alloc: Global, tokens: &'a [Token<'b>]) -> Result<Command, Stop<'a, 'b>>
     ensures { ReadsAll result (run tokens.now need_command) }
 {
     let Some((first, rest)) = tokens.split_first() else {
         return Err(Stop::At(tokens));
     };
     match first.kind() {
-        Kind::TypeName => parse_abbreviation(alloc, interner, first, rest),
+        Kind::TypeName => parse_abbreviation(alloc, first, rest),
         Kind::Name => {
             if let Some((_, body)) = take(rest, Kind::Equals) {
-                return parse_definition(alloc, interner, first, body);
+                return parse_definition(alloc, first, body);
             }
             if let Some((_, body)) = take(rest, Kind::Colon) {
-                return parse_declaration(alloc, interner, first, body);
+                return parse_declaration(alloc, first, body);
             }
-            parse_evaluation(alloc, interner, tokens)
+            parse_evaluation(alloc, tokens)
         }
-        _ => parse_evaluation(alloc, interner, tokens),
+        _ => parse_evaluation(alloc, tokens),
     }
 }
 
 /// `name = term`, from the term on.
 fn parse_definition<'a, 'b>(
     alloc: Global,
-    interner: &mut Interner,
     name: &Token<'b>,
     tokens: &'a [Token<'b>],
 ) -> Result<Command, Stop<'a, 'b>>
     ensures { ReadsAll result (run tokens.now (need_term (of_definition (word (text_of name.now) (span_of name.now))))) }
 {
-    let (term, rest) = parse_term(alloc, interner, tokens)?;
+    let (term, rest) = parse_term(alloc, tokens)?;
     expect_end(rest)?;
-    let name = identifier_of(interner, name)?;
+    let name = identifier_of(alloc, name)?;
     Ok(Command::Definition(name, term))
 }
 
 /// `name : type`, from the type on.
 fn parse_declaration<'a, 'b>(
     alloc: Global,
-    interner: &mut Interner,
     name: &Token<'b>,
     tokens: &'a [Token<'b>],
 ) -> Result<Command, Stop<'a, 'b>>
     ensures { ReadsAll result (run tokens.now (need_type (of_declaration (word (text_of name.now) (span_of name.now))))) }
 {
-    let (ty, rest) = parse_type(alloc, interner, tokens)?;
+    let (ty, rest) = parse_type(alloc, tokens)?;
     expect_end(rest)?;
-    let name = identifier_of(interner, name)?;
+    let name = identifier_of(alloc, name)?;
     Ok(Command::Declaration(name, ty))
 }
 
 /// `TypeName = type`, from the mark on.
 fn parse_abbreviation<'a, 'b>(
     alloc: Global,
-    interner: &mut Interner,
     name: &Token<'b>,
     tokens: &'a [Token<'b>],
 ) -> Result<Command, Stop<'a, 'b>>
     ensures { ReadsAll result (run tokens.now (after_type_name (word (text_of name.now) (span_of name.now)))) }
 {
     let (_, rest) = expect(tokens, Kind::Equals)?;
-    let (ty, rest) = parse_type(alloc, interner, rest)?;
+    let (ty, rest) = parse_type(alloc, rest)?;
     expect_end(rest)?;
-    let name = identifier_of(interner, name)?;
+    let name = identifier_of(alloc, name)?;
     Ok(Command::Abbreviation(name, ty))
 }
 
 /// A term by itself.
-fn parse_evaluation<'a, 'b>(
-    alloc: Global,
-    interner: &mut Interner,
-    tokens: &'a [Token<'b>],
-) -> Result<Command, Stop<'a, 'b>>
+fn parse_evaluation<'a, 'b>(alloc: Global, tokens: &'a [Token<'b>]) -> Result<Command, Stop<'a, 'b>>
     ensures { ReadsAll result (run tokens.now (need_term of_evaluation)) }
 {
-    let (term, rest) = parse_term(alloc, interner, tokens)?;
+    let (term, rest) = parse_term(alloc, tokens)?;
     expect_end(rest)?;
     Ok(Command::Evaluation(term))
 }

@@ -1,9 +1,8 @@
 //! Rows of texts, the trees that they spell and their faults.
-use crate::{Command, Interner, ParseFault, TmNode, TyNode, parse, parse_interning, pieces};
+use crate::{Command, ParseFault, Text, TmNode, TyNode, parse, pieces};
 use lam_token::{Span, lex};
 use std::alloc::Global;
 use std::process::Abort;
-use std::rc::RcStr;
 use std::test::Fail;
 
 /// The fault of the text's one piece, with the place of the token that it names.
@@ -127,31 +126,29 @@ fn spans_and_groups(rt: HostRuntime) -> Result<(), Fail> {
     Ok(())
 }
 
-/// The name that a text's command gives, as this interner has it.
-fn given_name(
-    rt: &impl Abort,
-    alloc: Global,
-    interner: &mut Interner,
-    text: &str,
-) -> Result<RcStr<Global>, Fail> {
-    let tokens = lex(alloc, text)?;
-    let found = parse_interning(alloc, interner, tokens.as_slice());
-    match found.ok().expect(rt, "a command") {
+/// The name that a text's command gives.
+fn given_name(rt: &impl Abort, alloc: Global, text: &str) -> Result<Text, Fail> {
+    match expect_command(rt, alloc, text)? {
         Command::Definition(name, _term) => Ok(name.text),
         _other => rt.abort(),
     }
 }
 
 #[test]
-fn names_that_are_alike_share_their_memory(rt: HostRuntime) -> Result<(), Fail> {
-    let mut interner = Interner::new(rt.alloc());
-    let first = given_name(&rt, rt.alloc(), &mut interner, "x = 0")?;
-    let other = given_name(&rt, rt.alloc(), &mut interner, "y = x")?;
-    let again = given_name(&rt, rt.alloc(), &mut interner, "x = y")?;
-    assert_eq!(rt; first.as_str(), "x");
-    assert_eq!(rt; other.as_str(), "y");
-    assert_eq!(rt; RcStr::ptr_eq(&first, &again), true);
-    assert_eq!(rt; RcStr::ptr_eq(&first, &other), false);
+fn names_of_any_length_have_their_letters(rt: HostRuntime) -> Result<(), Fail> {
+    for length in [1, 14, 15, 16, 17, 1_000] {
+        let mut name = String::new(rt.alloc());
+        for _ in 0..length {
+            name.push('a')?;
+        }
+        let text = format!(in rt.alloc(); "{name} = 0")?;
+        let given = given_name(&rt, rt.alloc(), &text)?;
+        assert_eq!(rt; given.as_str(), name.as_str());
+        let copy = given.clone()?;
+        assert_eq!(rt; copy.as_str(), name.as_str());
+    }
+    let given = given_name(&rt, rt.alloc(), "größe' = 0")?;
+    assert_eq!(rt; given.as_str(), "größe'");
     Ok(())
 }
 

@@ -6,10 +6,10 @@ ghost use Rattle.lam_syntax.specs.Views.{word_of};
 ghost use Rattle.lam_syntax.specs.Reads.{Takes, Expects, Names};
 
 use crate::identifier::Identifier;
-use crate::interner::Interner;
 use crate::stop::Stop;
+use crate::text::Text;
 use lam_token::{Kind, Span, Token};
-use std::alloc::AllocError;
+use std::alloc::{AllocError, Global};
 
 /// The place of the first token and those behind it, if it is of this kind.
 pub(crate) fn take<'a, 'b>(tokens: &'a [Token<'b>], kind: Kind) -> Option<(Span, &'a [Token<'b>])>
@@ -37,21 +37,18 @@ pub(crate) fn expect<'a, 'b>(
 }
 
 /// The token's text and place.
-pub(crate) fn identifier_of(
-    interner: &mut Interner,
-    token: &Token<'_>,
-) -> Result<Identifier, AllocError>
+pub(crate) fn identifier_of(alloc: Global, token: &Token<'_>) -> Result<Identifier, AllocError>
     ensures { IfOk result (λ i. word_of i ≡ word (text_of token.now) (span_of token.now)) }
 {
     Ok(Identifier {
-        text: interner.intern(token.text())?,
+        text: Text::new(alloc, token.text())?,
         span: token.span(),
     })
 }
 
 /// A name with its text, where another token stops the reading.
 pub(crate) fn expect_name<'a, 'b>(
-    interner: &mut Interner,
+    alloc: Global,
     tokens: &'a [Token<'b>],
 ) -> Result<(Identifier, &'a [Token<'b>]), Stop<'a, 'b>>
     ensures named { Names tokens.now result }
@@ -62,6 +59,6 @@ pub(crate) fn expect_name<'a, 'b>(
     if first.kind() != Kind::Name {
         return Err(Stop::At(tokens));
     }
-    let name = identifier_of(interner, first)?;
+    let name = identifier_of(alloc, first)?;
     Ok((name, rest))
 }

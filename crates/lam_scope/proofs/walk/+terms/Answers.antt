@@ -1,5 +1,5 @@
 use Rattle.std.proofs.Common.{sym, ◌∙◌, ap, length, ◌≡◌, ◌+◌, ◌∷◌, arith}
-use Rattle.std.specs.Rc.{rc_str_bytes}
+use Rattle.lam_syntax.specs.Letters.{letters}
 use Rattle.std.specs.Option.{option_map}
 use Rattle.lam_syntax.specs.Views.{term_of}
 use Rattle.lam_scope.specs.declared.numbers.Origin.TheVariants.{TypeName}
@@ -37,7 +37,7 @@ walk_bound-returns-clause-table t c =
     let walked = c.in_ok-place.ensures in
     let tree = term_of c.args.bound.now in
     bound_rows (rows_of old) _ _ _ _ _ _ _ _ _ _ _ _ _
-    (added.table ∙ ap (λ a. rows_of old ⊕ binder_row (option_map (λ x. rc_str_bytes x.now) c.args.name) c.args.token c.args.names.now a TypeName) c.binder_count.ensures)
+    (added.table ∙ ap (λ a. rows_of old ⊕ binder_row (option_map (λ x. letters x.now) c.args.name) c.args.token c.args.names.now a TypeName) c.binder_count.ensures)
     walked.table c.set_origin.ensures.table (c.binder_count.ensures ∙ sym (length-map old.binders.items text_binder))
     (λ i. term_table c.args.types.now c.args.names.now (added.binders i) (length (added.places i).items) tree)
     (ap (λ m. term_at m) (walked.place ∙ ap (λ v. root (length v.items) tree) added.places))
@@ -56,7 +56,7 @@ walk_lambda-returns-clause-table t c =
     (added.table ∙ (λ i. rows_of old ⊕ binder_row (named.name i) c.args.term.now.binder.span nm (c.binder_count.ensures i) TypeName))
     typed.table walked.table c.set_origin.ensures.table (c.binder_count.ensures ∙ sym (length-map old.binders.items text_binder))
     (λ i. term_table c.args.types.now
-    ((named.entry ∙ ap (λ m. entry (option_map (λ s. rc_str_bytes s) c.args.term.now.binder.name) m m) c.binder_count.ensures) i ∷ nm)
+    ((named.entry ∙ ap (λ m. entry (option_map (λ s. letters s) c.args.term.now.binder.name) m m) c.binder_count.ensures) i ∷ nm)
     ((ap (λ v. length v.items) typed.binders ∙ added.binders) i) (length (same_places i).items) tree)
     (ap (λ m. lambda_at m) (c.place_count.ensures ∙ walked.places ∙ ap (λ v. behind (length v.items) tree) same_places))
 

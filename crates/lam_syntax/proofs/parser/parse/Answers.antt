@@ -1,7 +1,7 @@
 use Rattle.lam_syntax.proofs.Complete.{one_tree}
 use Rattle.lam_syntax.proofs.Answer.{not_both}
 use Rattle.lam_syntax.proofs.Sound.{sound}
-use Rattle.lam_syntax.proofs.parser.parse_interning.Goals as goal
+use Rattle.lam_syntax.proofs.parser.parse.Goals as goal
 
 pub returns-in-Ok-clause-spelled : goal.returns-in-Ok-clause-spelled
 returns-in-Ok-clause-spelled c = sound _ _ c.in-Ok.ensures
