@@ -1,4 +1,4 @@
-//! The analysis of a document: one walk over its places.
+//! The analysis of a document: one walk over its places finds their types, a second notes which entries they speak of.
 
 ghost use Rattle.std.specs.Prelude.{◌≡◌, ◌+◌, [], take, IfOk, IfErr};
 ghost use Rattle.lam_scope.specs.Places.{places_of};

@@ -12,7 +12,7 @@ ghost use Rattle.lam_typing.specs.Answers.{answer, StandsIn, AllStandIn, context
 ghost use Rattle.lam_typing.specs.Steps.{entry_at};
 ghost use Rattle.lam_typing.specs.Notes.{written_by, bound_by, AreSoundNotes, NotesTerm, NotesFields, NotesOne, NotesStatement, NotesDocument, IsLeaf, IsOver};
 
-use crate::reading::type_of_place;
+use crate::reading::found_at;
 use crate::steps::added;
 use crate::walking::entry_of;
 use lam_rules::{Core, Ty, TyNo, TyTable};
@@ -101,7 +101,7 @@ fn note_statement(
     match statement {
         Statement::Definition(core) => {
             let place = note_term(table, n, found, core)?;
-            n.entries.push(type_of_place(found, place))?;
+            n.entries.push(found_at(found, place))?;
             n.declared.push(None)?;
             Ok(())
         }
@@ -272,7 +272,7 @@ fn note_let(
     ensures { IfOk result (λ place. NotesTerm table.old table.new n.old n.new found.now (let_in (term_of bound.now) (term_of body.now)) place) }
 {
     let place = note_term(table, n, found, bound)?;
-    n.entries.push(type_of_place(found, place))?;
+    n.entries.push(found_at(found, place))?;
     note_term(table, n, found, body)?;
     n.entries.pop();
     note_here(n, Note::Nothing)

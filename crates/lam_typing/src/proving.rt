@@ -13,7 +13,7 @@ ghost use Rattle.lam_rules.specs.TypingViews.{typing_tree_of, typings_of};
 ghost use Rattle.lam_scope.specs.Sights.{inside, inside_fields};
 ghost use Rattle.lam_typing.specs.Proving.{tree_in, trees_in, IsProvenTerm, IsProvenForm, IsProvenAs, IsWidened, IsLeafBy, IsNatBy, AreProvenFields};
 
-use crate::reading::{bound_at, type_of_place};
+use crate::reading::{bound_at, found_at};
 use crate::typing::Typing;
 use lam_rules::{
     Core, Dialect, Ty, TypeProof, TypeRule, copy_of, make_arrow, make_record, same, wf,
@@ -49,7 +49,7 @@ pub(crate) fn prove_term(
     ensures proves { IfOk result (λ made. IsProvenTerm typing.now (term_of term.now) behind (option_map tree_in made)) }
 {
     let place = behind - 1;
-    let Some(number) = type_of_place(&typing.found, place) else {
+    let Some(number) = found_at(&typing.found, place) else {
         return Ok(None);
     };
     let ty = typing.table.tree(number)?;

@@ -7,7 +7,7 @@ use crate::noting::Note;
 use lam_rules::TyNo;
 
 /// The answer of that number, if there are so many and it is one.
-pub(crate) fn type_of_place(found: &[Option<TyNo>], number: usize) -> Option<TyNo>
+pub(crate) fn found_at(found: &[Option<TyNo>], number: usize) -> Option<TyNo>
     ensures { result ≡ get_or found.now number None }
 {
     if number >= found.len() {

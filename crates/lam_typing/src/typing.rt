@@ -7,7 +7,7 @@ ghost use Rattle.lam_typing.specs.Notes.{written_number, bound_number};
 use crate::blame::Blame;
 use crate::noting::Note;
 use crate::proving::prove_term;
-use crate::reading::{type_of_place, written_at};
+use crate::reading::{found_at, written_at};
 use lam_rules::{Dialect, TyNo, TyTable, TypeProof};
 use lam_scope::{Binder, Origin, Place, Resolved};
 use std::alloc::{AllocError, Global};
@@ -45,7 +45,7 @@ impl Typing {
         ensures found { answer (types_of self.now) result ≡ get_or (found_of self.now) place.0 None }
         ensures stands { StandsIn (types_of self.now) result }
     {
-        type_of_place(&self.found, place.0)
+        found_at(&self.found, place.0)
     }
 
     /// The least entry of a binder: what is written of it, or the least type of its term, if that was analysed. The
@@ -103,8 +103,8 @@ impl Typing {
     {
         match origin {
             Origin::Lambda(place) => written_at(&self.noted, place.0),
-            Origin::Term(place) => type_of_place(&self.found, place.0),
-            Origin::Declaration(statement) => type_of_place(&self.declared, statement),
+            Origin::Term(place) => found_at(&self.found, place.0),
+            Origin::Declaration(statement) => found_at(&self.declared, statement),
             Origin::TypeName => None,
         }
     }

@@ -83,7 +83,7 @@ note_let-note_term-requires-2 t c =
     let stand = all_stand_keep c.args.table.now c.note_term.new.table c.args.found.now over.more.keeps c.requires.found in (
       omega (arith, c.decreases),
       (
-        pushed_sound c.note_term.new.table c.note_term.new.table c.note_term.new.n c.push.new.self (get_or c.args.found.now c.in_ok-place.place None) over.more.sound (keeps_same c.note_term.new.table) (c.in_ok-push.ensures.items ∙ ap (λ o. c.note_term.new.n.entries.items ++ o ∷ []) c.type_of_place.ensures)
+        pushed_sound c.note_term.new.table c.note_term.new.table c.note_term.new.n c.push.new.self (get_or c.args.found.now c.in_ok-place.place None) over.more.sound (keeps_same c.note_term.new.table) (c.in_ok-push.ensures.items ∙ ap (λ o. c.note_term.new.n.entries.items ++ o ∷ []) c.found_at.ensures)
             (found_stands c.note_term.new.table c.args.found.now c.in_ok-place.place stand),
         (stand, c.requires.body),
       ),
@@ -95,7 +95,7 @@ note_let-returns t c =
     let b = term_of c.args.body.now in
     let over = c.in_ok-place.ensures in
     let under = c.in_ok-note_term.ensures in
-    let put = c.in_ok-push.ensures.items ∙ ap (λ o. c.note_term.new.n.entries.items ++ o ∷ []) c.type_of_place.ensures in
+    let put = c.in_ok-push.ensures.items ∙ ap (λ o. c.note_term.new.n.entries.items ++ o ∷ []) c.found_at.ensures in
     let popped = popped_items c.push.new.self c.pop.new.self c.note_term-2.new.n.entries.items c.note_term.new.n.entries.items (get_or c.args.found.now c.in_ok-place.place None) (vec_len c.note_term-2.new.n.entries) put under.more.entries c.note_term-2.new.n.entries.ok.0 c.pop.ensures.rest in
     let both = let_under c.note_term.new.table c.note_term-2.new.table c.args.n.now c.note_term.new.n c.note_term-2.new.n c.push.new.self c.pop.new.self c.args.table.now c.args.found.now a b c.in_ok-place.place _ c.requires.sound c.requires.found over put under popped in
     ok_map c.note_here.result _ _ (λ place one. term_done c.args.table.now c.note_term-2.new.table c.args.n.now (record c.note_term-2.new.n { entries = c.pop.new.self }) c.note_here.new.n c.args.found.now (let_in a b) _ (inside a + 1 + (inside b + 1)) Nothing place refl (omega arith) both one tt tt refl refl) c.note_here.ensures

@@ -7,7 +7,7 @@ use Rattle.lam_typing.proofs.noting.note_statement.Goals as goal
 pub returns-in_ok-push-in-Definition-2 : goal.returns-in_ok-push-in-Definition-2
 returns-in_ok-push-in-Definition-2 c = rw (ap statement_of c.in-Definition.is)
     (defined_done c.args.table.now c.note_term.new.table c.args.n.now c.note_term.new.n c.push.new.self c.push-in-Definition.new.self c.args.found.now (term_of c.in-Definition.core) c.in_ok-place-in-Definition.place c.requires.sound c.requires.found c.in_ok-place-in-Definition.ensures
-    (c.in_ok-push-in-Definition.ensures.items ∙ ap (λ o. c.note_term.new.n.entries.items ++ o ∷ []) c.type_of_place.ensures) c.in_ok-push-in-Definition-2.ensures.items)
+    (c.in_ok-push-in-Definition.ensures.items ∙ ap (λ o. c.note_term.new.n.entries.items ++ o ∷ []) c.found_at.ensures) c.in_ok-push-in-Definition-2.ensures.items)
 
 pub returns-in_ok-push-in-Declaration-2 : goal.returns-in_ok-push-in-Declaration-2
 returns-in_ok-push-in-Declaration-2 c = rw (ap statement_of c.in-Declaration.is)

@@ -190,11 +190,11 @@ prove_record-returns-clause-proves t c =
 
 pub prove_term-returns-in_default-clause-proves : goal.prove_term-returns-in_default-clause-proves
 prove_term-returns-in_default-clause-proves t c =
-    term_none c.args.typing.now (term_of c.args.term.now) c.args.behind (found_none c.args.typing.now (c.args.behind - 1) c.type_of_place.result (c.type_of_place.ensures ∙ ap (λ os. get_or os (c.args.behind - 1) None) c.deref.ensures.value) c.in_default.is)
+    term_none c.args.typing.now (term_of c.args.term.now) c.args.behind (found_none c.args.typing.now (c.args.behind - 1) c.found_at.result (c.found_at.ensures ∙ ap (λ os. get_or os (c.args.behind - 1) None) c.deref.ensures.value) c.in_default.is)
 
 pub prove_term-returns-clause-proves : goal.prove_term-returns-clause-proves
 prove_term-returns-clause-proves t c =
-    ok_map c.prove_form.result _ _ (λ made form. term_of_form c.args.typing.now (term_of c.args.term.now) c.args.behind (typ_of c.in_ok-ty.ty) (option_map tree_in made) (found_type c.args.typing.now (c.args.behind - 1) c.type_of_place.result c.in-Some.number (typ_of c.in_ok-ty.ty) (c.type_of_place.ensures ∙ ap (λ os. get_or os (c.args.behind - 1) None) c.deref.ensures.value) c.in-Some.is c.in_ok-ty.ensures) form) c.prove_form.ensures.proves
+    ok_map c.prove_form.result _ _ (λ made form. term_of_form c.args.typing.now (term_of c.args.term.now) c.args.behind (typ_of c.in_ok-ty.ty) (option_map tree_in made) (found_type c.args.typing.now (c.args.behind - 1) c.found_at.result c.in-Some.number (typ_of c.in_ok-ty.ty) (c.found_at.ensures ∙ ap (λ os. get_or os (c.args.behind - 1) None) c.deref.ensures.value) c.in-Some.is c.in_ok-ty.ensures) form) c.prove_form.ensures.proves
 
 pub prove_form-returns-in-True-clause-proves : goal.prove_form-returns-in-True-clause-proves
 prove_form-returns-in-True-clause-proves t c =

@@ -13,10 +13,10 @@ returns-in-Lambda-clause-entry c = rw (ap (λ o. entry_by c.args.self.now o) c.i
 
 pub returns-in-Term-clause-entry : goal.returns-in-Term-clause-entry
 returns-in-Term-clause-entry c = rw (ap (λ o. entry_by c.args.self.now o) c.in-Term.is)
-    (ap (λ o. answer (types_of c.args.self.now) o) (c.type_of_place.ensures ∙ ap (λ os. get_or os c.in-Term.place.0 None) c.deref-in-Term.ensures.value)
+    (ap (λ o. answer (types_of c.args.self.now) o) (c.found_at.ensures ∙ ap (λ os. get_or os c.in-Term.place.0 None) c.deref-in-Term.ensures.value)
     ∙ answers_at (types_of c.args.self.now) c.args.self.now.found.items c.in-Term.place.0)
 
 pub returns-in-Declaration-clause-entry : goal.returns-in-Declaration-clause-entry
 returns-in-Declaration-clause-entry c = rw (ap (λ o. entry_by c.args.self.now o) c.in-Declaration.is)
-    (ap (λ o. answer (types_of c.args.self.now) o) (c.type_of_place-in-Declaration.ensures ∙ ap (λ os. get_or os c.in-Declaration.statement None) c.deref-in-Declaration.ensures.value)
+    (ap (λ o. answer (types_of c.args.self.now) o) (c.found_at-in-Declaration.ensures ∙ ap (λ os. get_or os c.in-Declaration.statement None) c.deref-in-Declaration.ensures.value)
     ∙ answers_at (types_of c.args.self.now) c.args.self.now.declared.items c.in-Declaration.statement)

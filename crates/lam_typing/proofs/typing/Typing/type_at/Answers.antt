@@ -5,10 +5,10 @@ use Rattle.lam_typing.proofs.typing.Typing.type_at.Goals as goal
 
 pub returns-clause-found : goal.returns-clause-found
 returns-clause-found c =
-    ap (λ o. answer c.args.self.now.table o) (c.type_of_place.ensures ∙ ap (λ os. get_or os c.args.place.0 None) c.deref.ensures.value)
+    ap (λ o. answer c.args.self.now.table o) (c.found_at.ensures ∙ ap (λ os. get_or os c.args.place.0 None) c.deref.ensures.value)
     ∙ answers_at c.args.self.now.table c.args.self.now.found.items c.args.place.0
 
 pub returns-clause-stands : goal.returns-clause-stands
 returns-clause-stands c =
-    stands_where c.args.self.now.table c.type_of_place.result
-    (λ number is. c.args.self.now.each_found c.args.place.0 number (sym (c.type_of_place.ensures ∙ ap (λ os. get_or os c.args.place.0 None) c.deref.ensures.value) ∙ is))
+    stands_where c.args.self.now.table c.found_at.result
+    (λ number is. c.args.self.now.each_found c.args.place.0 number (sym (c.found_at.ensures ∙ ap (λ os. get_or os c.args.place.0 None) c.deref.ensures.value) ∙ is))
