@@ -1,8 +1,7 @@
 """session.py SERVER: measures the built program by the frames that an editor sends.
 
 Prints a table: opening texts of 400 KB and 1 MB, a key in the middle of the first one to its
-published faults, hovers where the program serves them, the peak of the resident memory, and
-how fast the machine is.
+published faults, hovers, the peak of the resident memory, and how fast the machine is.
 """
 
 import json
@@ -31,7 +30,7 @@ class Client:
         self.server = subprocess.Popen([program], stdin=subprocess.PIPE, stdout=subprocess.PIPE)
         self.asked = 0
         self.version = 0
-        self.capabilities = self.ask("initialize", {"capabilities": {}})["capabilities"]
+        self.ask("initialize", {"capabilities": {}})
         self.tell("initialized", {})
 
     def send(self, frame):
@@ -86,10 +85,21 @@ class Client:
             taken += [self.key(line, 0, "x"), self.key(line, 1, "")]
         return taken
 
-    def hover(self, line):
-        """Milliseconds from the frame to the answer."""
-        where = {"textDocument": {"uri": URI}, "position": {"line": line, "character": 0}}
-        return self.timed(self.request("textDocument/hover", where))[0]
+    def hover(self, line, column):
+        """Milliseconds from the frame to the answer, which has to show a type."""
+        where = {"textDocument": {"uri": URI}, "position": {"line": line, "character": column}}
+        taken, body = self.timed(self.request("textDocument/hover", where))
+        if json.loads(body)["result"] is None:
+            sys.exit(f"nothing is shown in line {line}, column {column}")
+        return taken
+
+    def keys_and_hovers(self, line, column, count):
+        """So many blanks, each typed in front of a line and taken away again, with a hover behind each."""
+        taken = []
+        for _ in range(count // 2):
+            taken.append(self.key(line, 0, " ") + self.hover(line, column + 1))
+            taken.append(self.key(line, 1, "") + self.hover(line, column))
+        return taken
 
     def peak(self):
         """The peak of the resident memory, in bytes."""
@@ -135,6 +145,7 @@ def main():
     program = sys.argv[1]
     text = make_document.document(10_000)
     middle = text.count("\n") // 2
+    term = text.splitlines()[middle].index("=") + 2
     print("| measure | figure |\n|---|---|")
 
     client = Client(program)
@@ -143,10 +154,8 @@ def main():
     client.keys(middle, 10)
     after_ten = client.peak()
     row(f"a key in the middle, {KEYS} times", spread(client.keys(middle, KEYS)))
-    if "hoverProvider" in client.capabilities:
-        both = [client.key(middle, 0, " ") + client.hover(middle) for _ in range(20)]
-        row("a key and a hover behind it", spread(both))
-        row("a hover on a quiet document", spread([client.hover(middle) for _ in range(200)]))
+    row("a key and a hover behind it", spread(client.keys_and_hovers(middle, term, 20)))
+    row("a hover on a quiet document", spread([client.hover(middle, term) for _ in range(200)]))
     client.keys(middle, 1000)
     peak = client.peak()
     row("peak of memory after ten keys", f"{after_ten / len(text):.1f} times the text")
