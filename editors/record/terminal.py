@@ -72,7 +72,7 @@ class Terminal:
         return True
 
     def close(self):
-        """The editor's status."""
+        """The status that the editor ended with."""
         self.wait(3)
         os.close(self.end)
-        return os.waitpid(self.child, 0)[1]
+        return os.waitstatus_to_exitcode(os.waitpid(self.child, 0)[1])

@@ -20,7 +20,7 @@ const ROOM: usize = 40;
 /// Puts a frame of this body into the sink and flushes it.
 ///
 /// The one fault is `Device`: a push or a flush failed, and a front of the frame was taken. A sink
-/// that takes all that it is given gets two pushes.
+/// that takes all that it is given gets at most two pushes.
 pub fn write_frame<W: Sink>(sink: &mut W, body: &[u8]) -> Result<(), FrameFault>
     requires { W.failed sink.old < 2 ^ 64 - 1 }
     ensures taken { OnOk result (Appends (W.taken sink.old) (W.taken sink.new) (frame_text body.now)) }

@@ -26,7 +26,7 @@ offset_of encoding text position = offset_on encoding (lines_of text) position
 abbrev pub one_line_down : Position → Position
 one_line_down position = record { line = position.line + 1; character = position.character }
 
--- lines count up by each end that lies behind; columns count from there, and stop where the line's own end begins
+-- lines count up by each end that has ended there; columns count from there, and stop where the line's own end begins
 abbrev pub position_in : Encoding → List Line → List ℕ → ℕ → Position
 position_in encoding [] last offset = record { line = 0; character = units_in encoding (take offset last) }
 position_in encoding (line ∷ lines) last offset =

@@ -22,7 +22,7 @@ pub fn longest_front(line: &str, encoding: Encoding, room: u64)
     ensures { IsLongestFront encoding room (chars line.now) (front_within encoding room (chars line.now)) }
 {}
 
-/// As many line ends lie behind an offset as its line says.
+/// As many line ends end at an offset or before it as its line says.
 pub fn line_counts_ends(text: &str, encoding: Encoding, offset: usize)
     ensures { (position_of encoding text.now offset).line
         ≡ count_by (λ end. nat_le end offset) (line_ends text.now) }
