@@ -15,6 +15,8 @@ use Rattle.lam_session.specs.Documents.{open_text}
 use Rattle.lam_session.specs.Does.{Does, Refuses}
 use Rattle.lam_session.specs.Shown.{hover_value, derivation_value}
 use Rattle.lam_session.specs.State.{State}
+use Rattle.lam_session.specs.declared.questions.Question.{Question as Asked}
+use Rattle.lam_session.specs.declared.questions.Question.TheVariants.{Hover, Derivation as Why}
 use Rattle.lam_session.specs.declared.refusals.Refusal.TheVariants.{InvalidParams, DocumentNotOpen}
 
 -- whether a value answers a question about an offset of a text
@@ -30,6 +32,11 @@ IsHoverValue encoding d text offset value =
 abbrev pub IsDerivationValue : Encoding → Dialect → Question
 IsDerivationValue encoding d text offset value =
     (derived : Option Derivation) × IsDerivedIn text offset derived d × (value ≡ derivation_value encoding text derived)
+
+-- what answers each
+abbrev pub IsAnswerTo : Asked → Encoding → Dialect → Question
+IsAnswerTo Hover = IsHoverValue
+IsAnswerTo Why = IsDerivationValue
 
 -- a value that answers the question about the text as it now is, and nothing changes
 pub record AnswersOf (question : Question) (s : State) (id : Data) (position : Position) (text : List ℕ) (sent : List Data) (next : State) : Type 0 where

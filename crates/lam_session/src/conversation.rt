@@ -7,15 +7,15 @@ ghost use Rattle.lam_session.specs.Documents.{open_text};
 ghost use Rattle.lam_session.specs.Refusals.{refused};
 ghost use Rattle.lam_session.specs.State.{fresh, ended_status};
 ghost use Rattle.lam_session.specs.Sync.{Tells, Opens, Changes, Closes};
-ghost use Rattle.lam_session.specs.Questions.{IsHoverValue, IsDerivationValue, Asks};
+ghost use Rattle.lam_session.specs.Questions.{IsAnswerTo, Asks};
 ghost use Rattle.lam_session.specs.Step.{Steps, Requested, Awaits, Noticed, Heeds, Passes, Serves, Ends, Initializes, ShutsDown, exit_status};
 
 use crate::diagnostics::diagnostics;
 use crate::documents::Documents;
 use crate::initialize::{chosen, initialize_answer};
 use crate::methods::{NoticeMethod, RequestMethod, notice_method, request_method};
+use crate::questions::{Question, answer_to};
 use crate::refusals::{Refusal, refused};
-use crate::shown::{derivation_value, hover_value};
 use crate::states::Life;
 use crate::sync::{given_version, opened_text, published};
 use lam_rpc::{ChangesFault, Incoming, ok_reply, read_changes, read_position, read_uri};
@@ -168,8 +168,8 @@ impl Conversation {
         match method {
             RequestMethod::Initialize => refuse(self.alloc, id, Refusal::AlreadyInitialized),
             RequestMethod::Shutdown => self.shut_down(id),
-            RequestMethod::Hover => self.hover(id, params),
-            RequestMethod::Derivation => self.derivation(id, params),
+            RequestMethod::Hover => self.ask(Question::Hover, id, params),
+            RequestMethod::Derivation => self.ask(Question::Derivation, id, params),
             RequestMethod::UnknownRequest => refuse(self.alloc, id, Refusal::MethodNotFound),
         }
     }
@@ -185,9 +185,10 @@ impl Conversation {
         Ok(values)
     }
 
-    fn hover(&self, id: Value, params: &Value) -> Result<Vec<Value>, AllocError>
+    /// Answers a question about a position in an open document.
+    fn ask(&self, question: Question, id: Value, params: &Value) -> Result<Vec<Value>, AllocError>
         requires { self.now.analysed ≡ true }
-        ensures { IfOk result (λ values. Asks (IsHoverValue self.now.state.encoding self.now.state.dialect) self.now.state (view id) (view params.now) (map view values.items) self.now.state) }
+        ensures { IfOk result (λ values. Asks (IsAnswerTo question self.now.state.encoding self.now.state.dialect) self.now.state (view id) (view params.now) (map view values.items) self.now.state) }
     {
         let Ok(position) = read_position(params) else {
             return refuse(self.alloc, id, Refusal::InvalidParams);
@@ -198,26 +199,7 @@ impl Conversation {
         let Some(document) = self.documents.document(uri) else {
             return refuse(self.alloc, id, Refusal::DocumentNotOpen);
         };
-        let shown = document.hover(self.alloc, position)?;
-        let value = hover_value(self.alloc, document.doc(), shown)?;
-        answer(self.alloc, id, value)
-    }
-
-    fn derivation(&self, id: Value, params: &Value) -> Result<Vec<Value>, AllocError>
-        requires { self.now.analysed ≡ true }
-        ensures { IfOk result (λ values. Asks (IsDerivationValue self.now.state.encoding self.now.state.dialect) self.now.state (view id) (view params.now) (map view values.items) self.now.state) }
-    {
-        let Ok(position) = read_position(params) else {
-            return refuse(self.alloc, id, Refusal::InvalidParams);
-        };
-        let Ok(uri) = read_uri(params) else {
-            return refuse(self.alloc, id, Refusal::InvalidParams);
-        };
-        let Some(document) = self.documents.document(uri) else {
-            return refuse(self.alloc, id, Refusal::DocumentNotOpen);
-        };
-        let derived = document.derivation(self.alloc, position)?;
-        let value = derivation_value(self.alloc, document.doc(), derived)?;
+        let value = answer_to(self.alloc, question, document, position)?;
         answer(self.alloc, id, value)
     }
 

@@ -13,6 +13,7 @@ mod documents;
 mod initialize;
 mod laws;
 mod methods;
+mod questions;
 mod ranges;
 #[cfg(test)]
 mod recordings;
