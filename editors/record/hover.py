@@ -11,7 +11,7 @@ import shutil
 import subprocess
 import sys
 
-from terminal import ENVIRONMENT, FILE, HERE, ROOM, Terminal, prepare
+from terminal import EMACS, EMACS_INIT, HERE, NEOVIM, ROOM, Terminal, prepare, said_by_emacs, said_by_neovim
 
 TOUR = f"{HERE}/../../examples/tour.fsub"
 
@@ -50,39 +50,26 @@ DERIVED = [
     ("comment", "😀 */"),
 ]
 
-NEOVIM = ["nvim", "-i", "NONE", "--listen", f"{ROOM}/socket", FILE]
 NEOVIM_ASK = """luaeval('(function()
   vim.fn.cursor(%d, %d)
   local told = vim.lsp.buf_request_sync(0, "%s", vim.lsp.util.make_position_params(), 2000)
   for _, reply in pairs(told or {}) do return vim.fn.json_encode(reply.result) end
 end)()')"""
 
-EMACS = ["emacs", "-nw", FILE]
-EMACS_INIT = f'(require \'server) (setq server-socket-dir "{ROOM}/home" server-name "socket") (server-start)'
 EMACS_ASK = """(with-current-buffer "a.fsub"
   (goto-char (byte-to-position %d))
   (json-encode (jsonrpc-request (eglot-current-server) :%s (eglot--TextDocumentPositionParams))))"""
-
-
-def asked(words):
-    """What the editor says, as JSON."""
-    answer = subprocess.run(words, env=ENVIRONMENT, capture_output=True, text=True, check=True)
-    # Neovim 0.7 says it on standard error; Emacs prints a literal.
-    said = json.loads(answer.stdout or answer.stderr)
-    return json.loads(said) if isinstance(said, str) else said
 
 
 def ask_neovim(text, at, method):
     before = text[:at].encode()
     line = before.count(b"\n")
     column = len(before) - (before.rfind(b"\n") + 1)
-    ask = NEOVIM_ASK % (line + 1, column + 1, method)
-    return asked(["nvim", "--server", f"{ROOM}/socket", "--remote-expr", ask.replace("\n", " ")])
+    return said_by_neovim(NEOVIM_ASK % (line + 1, column + 1, method))
 
 
 def ask_emacs(text, at, method):
-    ask = EMACS_ASK % (len(text[:at].encode()) + 1, method)
-    return asked(["emacsclient", "-s", f"{ROOM}/home/socket", "-e", ask])
+    return said_by_emacs(EMACS_ASK % (len(text[:at].encode()) + 1, method))
 
 
 def ready(ask, text, at):

@@ -1,9 +1,11 @@
 """An editor in a terminal of its own, with an empty home and a server that is listened to."""
 
+import json
 import os
 import pty
 import select
 import shutil
+import subprocess
 import sys
 import time
 
@@ -18,6 +20,29 @@ ENVIRONMENT = {
     "LANG": "C.UTF-8",
     "TERM": "xterm-256color",
 }
+
+# Both editors listen to what the scripts ask of them.
+NEOVIM = ["nvim", "-i", "NONE", "--listen", f"{ROOM}/socket", FILE]
+EMACS = ["emacs", "-nw", FILE]
+EMACS_INIT = f'(require \'server) (setq server-socket-dir "{ROOM}/home" server-name "socket") (server-start)'
+
+
+def said(words):
+    """What a command says, as JSON."""
+    answer = subprocess.run(words, env=ENVIRONMENT, capture_output=True, text=True, check=True)
+    # Neovim 0.7 says it on standard error; Emacs prints a literal.
+    value = json.loads(answer.stdout or answer.stderr)
+    return json.loads(value) if isinstance(value, str) else value
+
+
+def said_by_neovim(expression):
+    """What Neovim says of an expression of its script that gives JSON."""
+    return said(["nvim", "--server", f"{ROOM}/socket", "--remote-expr", expression.replace("\n", " ")])
+
+
+def said_by_emacs(expression):
+    """What Emacs says of a Lisp expression that gives JSON."""
+    return said(["emacsclient", "-s", f"{ROOM}/home/socket", "-e", expression])
 
 
 def prepare(server, text, init=""):

@@ -4,19 +4,16 @@ A line of the transcript is what has been typed and, for each fault that the edi
 its text and in quotes what it stands on in the buffer.
 """
 
-import json
 import os
 import shutil
-import subprocess
 import sys
 
-from terminal import ENVIRONMENT, FILE, ROOM, Terminal, prepare
+from terminal import EMACS, EMACS_INIT, NEOVIM, ROOM, Terminal, prepare, said_by_emacs, said_by_neovim
 
 # The command is typed into the empty line.
 START = "x = {a=0, b=true};\n\nz = x.a;\n"
 PIECES = ["y = ", "/* 😀 ", "*/ ", "if x.b ", "then x.", "a ", "else 1", " )", "\x7f\x7f", "😀", "\x7f", ".b"]
 
-NEOVIM = ["nvim", "-i", "NONE", "--listen", f"{ROOM}/socket", FILE]
 NEOVIM_KEYS = ["jI;", "\x1b[D"]
 NEOVIM_ASK = """luaeval('vim.fn.json_encode({
   lines = vim.api.nvim_buf_get_lines(0, 0, -1, false),
@@ -25,8 +22,6 @@ NEOVIM_ASK = """luaeval('vim.fn.json_encode({
     start = { fault.lnum, fault.col },
     ["end"] = { fault.end_lnum, fault.end_col } } end, vim.diagnostic.get(0)) })')"""
 
-EMACS = ["emacs", "-nw", FILE]
-EMACS_INIT = f'(require \'server) (setq server-socket-dir "{ROOM}/home" server-name "socket") (server-start)'
 EMACS_KEYS = ["\x0e;", "\x02"]
 EMACS_ASK = """(with-current-buffer "a.fsub"
   (json-encode (vconcat (mapcar (lambda (fault)
@@ -35,17 +30,10 @@ EMACS_ASK = """(with-current-buffer "a.fsub"
     (flymake-diagnostics)))))"""
 
 
-def asked(words):
-    """What the editor says, as JSON."""
-    answer = subprocess.run(words, env=ENVIRONMENT, capture_output=True, text=True, check=True)
-    # Neovim 0.7 says it on standard error.
-    return json.loads(answer.stdout or answer.stderr)
-
-
 def neovim_faults():
     """Each fault's text, and what it stands on; Neovim counts columns in bytes."""
-    said = asked(["nvim", "--server", f"{ROOM}/socket", "--remote-expr", NEOVIM_ASK.replace("\n", " ")])
-    lines = [f"{line}\n".encode() for line in said["lines"]] + [b""]
+    buffer = said_by_neovim(NEOVIM_ASK)
+    lines = [f"{line}\n".encode() for line in buffer["lines"]] + [b""]
 
     def offset(place):
         return len(b"".join(lines[: place[0]])) + place[1]
@@ -53,13 +41,13 @@ def neovim_faults():
     whole = b"".join(lines)
     return [
         (fault["text"], whole[offset(fault["start"]) : offset(fault["end"])].decode())
-        for fault in said["faults"]
+        for fault in buffer["faults"]
     ]
 
 
 def emacs_faults():
-    """The same; Emacs cuts the buffer itself, and prints its text as a literal."""
-    return json.loads(asked(["emacsclient", "-s", f"{ROOM}/home/socket", "-e", EMACS_ASK]))
+    """The same; Emacs cuts the buffer itself."""
+    return said_by_emacs(EMACS_ASK)
 
 
 def watch(server, command, first, faults_now, end, init=""):

@@ -11,12 +11,12 @@ use Rattle.lam_frame.proofs.Told.{HasFault-more}
 use Rattle.lam_frame.specs.declared.fault.FrameFault.{FrameFault}
 use Rattle.lam_frame.specs.declared.fault.FrameFault.TheVariants.{NoLength, BadLength, TooLong, BadHeader, Truncated, Device as DeviceFrame, Memory as MemoryFrame, TooManyTurns, Spent}
 use Rattle.lam_session.specs.State.{State, ended_status}
-use Rattle.lam_server.specs.Device.{Sends, WantsMore, IsBroken}
+use Rattle.lam_server.specs.Device.{Sends}
 use Rattle.lam_server.specs.Output.{Takes, Turns, IsLive, Outcome, ComesTo, IsFront}
 use Rattle.lam_server.specs.Output.Turns.{no_turn, next_turn}
 use Rattle.lam_server.specs.Run.{Runs, RunSays, MayFollow, IsSettled, DecidesNothing, AwaitsMore}
 use Rattle.lam_server.specs.Run.DeviceEnds.{at_pull, at_limit, at_sink}
-use Rattle.lam_server.specs.Turn.{TakesTurn, Ends, DeviceStops, MemoryStops}
+use Rattle.lam_server.specs.Turn.{WantsMore, IsBroken, TakesTurn, Ends, DeviceStops, MemoryStops}
 use Rattle.lam_server.specs.Turn.Ends.{by_message as turn_by_message, by_silence as turn_by_silence}
 use Rattle.lam_server.specs.Turn.DeviceStops.{at_pull as turn_at_pull, at_limit as turn_at_limit, at_sink as turn_at_sink}
 use Rattle.lam_server.specs.Turn.MemoryStops.{before_sending, while_sending}

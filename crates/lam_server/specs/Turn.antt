@@ -1,17 +1,32 @@
 -- What a turn does: with the bytes held and pulled, with the session, and with the sink.
-use Rattle.std.specs.Prelude.{◌≡◌, ℕ, ◌+◌, ◌^◌, ◌≤◌, List, [], ◌++◌, length, Option, Some, Result, Ok, Err}
+use Rattle.std.specs.Prelude.{◌≡◌, ◌≢◌, ℕ, ◌+◌, ◌^◌, ◌≤◌, List, [], ◌++◌, length, Option, Some, Result, Ok, Err}
 use Rattle.std.specs.List.{concat}
 use Rattle.lam_frame.specs.Device.{FailedPull}
-use Rattle.lam_frame.specs.Frame.{IsOpen}
+use Rattle.lam_frame.specs.Frame.{HasFault, IsOpen}
 use Rattle.lam_frame.specs.Next.{EndsEmpty, OnlyLastEmpty, PulledWhile}
+use Rattle.lam_frame.specs.declared.fault.FrameFault.{FrameFault}
+use Rattle.lam_frame.specs.declared.fault.FrameFault.TheVariants.{NoLength, BadLength, TooLong, BadHeader, Truncated}
 use Rattle.lam_session.specs.State.{State, ended_status}
-use Rattle.lam_server.specs.Device.{Sends, FailsToSend, StopsSending, WantsMore, IsBroken}
+use Rattle.lam_server.specs.Device.{Sends, FailsToSend, StopsSending}
 use Rattle.lam_server.specs.Output.{Takes, IsLive}
 use Rattle.lam_server.specs.Waiting.{Waiting, HasLessWork}
 use Rattle.lam_server.specs.declared.faults.RunFault.{RunFault}
 use Rattle.lam_server.specs.declared.faults.RunFault.TheVariants.{Header, Device, Memory}
 use Rattle.lam_server.specs.declared.server.Turn.{Turn}
 use Rattle.lam_server.specs.declared.server.Turn.TheVariants.{More, End}
+
+-- one more pull is due: the bytes decide nothing yet, and no empty piece told the end
+abbrev pub WantsMore : List ℕ → List (List ℕ) → Type 0
+WantsMore bytes pieces = IsOpen bytes × (EndsEmpty pieces → ⊥)
+
+-- no frame begins with these bytes, by one of the five faults of headers and ends; an end is told by an empty piece
+abbrev pub IsBroken : List ℕ → List (List ℕ) → FrameFault → Type 0
+IsBroken bytes pieces NoLength = HasFault bytes NoLength
+IsBroken bytes pieces BadLength = HasFault bytes BadLength
+IsBroken bytes pieces TooLong = HasFault bytes TooLong
+IsBroken bytes pieces BadHeader = HasFault bytes BadHeader
+IsBroken bytes pieces Truncated = IsOpen bytes × ((bytes ≢ []) × EndsEmpty pieces)
+IsBroken bytes pieces _ = ⊥
 
 -- one message is taken from these bytes and answered in full
 pub record AnswersOne {W : Type 0} (taken : W → Option (List ℕ)) (flushed failed : W → ℕ)

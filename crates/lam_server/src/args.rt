@@ -5,6 +5,7 @@ ghost use Rattle.clap.specs.Simple.{app_of, new_app};
 ghost use Rattle.clap.specs.Values.{kind_of};
 ghost use Rattle.clap.specs.Walk.{rule_of};
 ghost use Rattle.lam_server.specs.CommandLine.{IsCommandLine, IsDialect, client, dialect_named, named_words, stdio};
+ghost use Rattle.lam_server.specs.Words.{ReadsWords, TellsKind};
 
 use clap::error::ErrorKind;
 use clap::{Arg, ArgAction, Command, Error};
@@ -39,8 +40,6 @@ pub enum ArgsFault {
     #[error("F7 Memory")]
     Memory,
 }
-
-ghost use Rattle.lam_server.specs.Words.{ReadsWords, TellsKind};
 
 /// What the words say: `--dialect 1`, which is the default, or `--dialect 2`, and `--stdio` and `--clientProcessId TEXT`,
 /// which editors give and which change nothing. The first word names the program; without any word
