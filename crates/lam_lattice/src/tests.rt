@@ -5,7 +5,7 @@ ghost use Rattle.lam_rules.specs.Numbers.{Stands, Keeps, AllStand, AreGivenApart
 
 use crate::{join, join_no, meet, meet_no};
 use lam_rules::{
-    Dialect, Shape, Ty, TyNo, TyTable, make_arrow, make_record, plain_text_of, text_of, wf,
+    Dialect, Shape, Ty, TyNo, TyTable, copy_of, make_arrow, make_record, plain_text_of, text_of, wf,
 };
 use lam_sub::Verdicts;
 use std::alloc::{AllocError, Global};
@@ -256,5 +256,40 @@ fn joins_and_meets_each_row(rt: HostRuntime) -> Result<(), Fail> {
             wanted_meet,
         )?;
     }
+    Ok(())
+}
+
+/// The record type of the labels from that one to the one before `end`, as `{l500:Nat, l501:Nat, ..}`.
+fn wide(alloc: Global, first: u32, end: u32, ty: &Ty) -> Result<Ty, AllocError> {
+    let mut items = Vec::new(alloc);
+    for number in first..end {
+        items.push((format!(in alloc; "l{number}")?, copy_of(alloc, ty)?))?;
+    }
+    Ok(make_record(items))
+}
+
+/// Its fields as a text, `l500:Nat, l501:Nat, ..`.
+fn fields_text(alloc: Global, first: u32, end: u32, ty: &str) -> Result<String, AllocError> {
+    let mut text = String::new(alloc);
+    for number in first..end {
+        let comma = if number == first { "" } else { ", " };
+        text.push_str(&format!(in alloc; "{comma}l{number}:{ty}")?)?;
+    }
+    Ok(text)
+}
+
+/// Two records of a thousand fields that have five hundred labels in common, where Bool is below Nat.
+#[test]
+fn bounds_records_of_a_thousand_fields(rt: HostRuntime) -> Result<(), Fail> {
+    let alloc = rt.alloc();
+    let left = wide(alloc, 0, 1_000, &Ty::Nat)?;
+    let right = wide(alloc, 500, 1_500, &Ty::Bool)?;
+    let shared = fields_text(alloc, 500, 1_000, "Nat")?;
+    let joined = format!(in alloc; "{{{shared}}}")?;
+    let front = fields_text(alloc, 0, 500, "Nat")?;
+    let lesser = fields_text(alloc, 500, 1_500, "Bool")?;
+    let met = format!(in alloc; "{{{front}, {lesser}}}")?;
+    check(&rt, alloc, &left, &right, Dialect::Two, &joined, Some(&met))?;
+    check_numbers(&rt, alloc, &left, &right, Dialect::Two)?;
     Ok(())
 }
