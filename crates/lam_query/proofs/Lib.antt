@@ -13,6 +13,7 @@ pub mod TextPlaces
 pub mod FaultPlaces
 pub mod StepPlaces
 pub mod OneAnswer
+pub mod Innermost
 pub mod PiecesRead
 pub mod PieceLaws
 pub mod SortedFaults

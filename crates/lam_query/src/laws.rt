@@ -2,6 +2,8 @@
 ghost use Rattle.std.specs.Prelude.{◌≡◌, ◌↔◌, ℕ, List, [], Option, Some, All};
 ghost use Rattle.lam_rules.specs.declared.rules.Dialect.{Dialect};
 ghost use Rattle.lam_syntax.specs.Trees.{CommandTree};
+ghost use Rattle.lam_scope.specs.Tables.{table, place_at};
+ghost use Rattle.lam_scope.specs.Nesting.{IsInnermost};
 ghost use Rattle.lam_query.specs.Commands.{AreCommandsOfText};
 ghost use Rattle.lam_query.specs.Faults.{Fault, HasKnownCode};
 ghost use Rattle.lam_query.specs.TextFaults.{AreTypeFaults, AreFaults};
@@ -15,6 +17,11 @@ pub fn one_answer()
     ensures commands { (text : List ℕ) (commands others : List CommandTree) → AreCommandsOfText text commands → AreCommandsOfText text others → commands ≡ others }
     ensures faults { (text : List ℕ) (faults others : List Fault) (d : Dialect) → AreFaults text faults d → AreFaults text others d → faults ≡ others }
     ensures shown { (text : List ℕ) (offset : ℕ) (shown other : Option Shown) (d : Dialect) → IsShownIn text offset shown d → IsShownIn text offset other d → shown ≡ other }
+{}
+
+/// The term that is shown is the innermost one: each term of the text that has the byte is around it.
+pub fn shown_is_innermost()
+    ensures { (text : List ℕ) (commands : List CommandTree) (offset number : ℕ) → AreCommandsOfText text commands → place_at (table commands) offset ≡ Some number → IsInnermost offset (table commands) number }
 {}
 
 /// Every text has a list of faults. At every offset a type is shown or none is, and where one is there is a derivation, and

@@ -17,5 +17,5 @@ mod tests;
 mod type_faults;
 
 pub use analyses::Analysis;
-pub use laws::{known_codes, no_fault_is_well_typed, one_answer, some_answer};
+pub use laws::{known_codes, no_fault_is_well_typed, one_answer, shown_is_innermost, some_answer};
 pub use queries::{derivation, faults, hover};
