@@ -522,3 +522,103 @@ fn contexts_from_the_outermost_binder(rt: HostRuntime) -> Result<(), Fail> {
     }
     Ok(())
 }
+
+/// `{l0=0, l1=0, ..}`: so many labels, each with that behind it.
+fn labelled(alloc: Global, labels: u32, behind: &str) -> Result<String, AllocError> {
+    let mut text = String::from_str(alloc, "{")?;
+    for number in 0..labels {
+        let comma = if number == 0 { "" } else { ", " };
+        text.push_str(&format!(in alloc; "{comma}l{number}{behind}")?)?;
+    }
+    text.push('}')?;
+    Ok(text)
+}
+
+/// The record type of those labels in the order of their bytes, `{l0:Nat, l1:Nat, l10:Nat, l100:Nat, ..}`: more than a
+/// hundred of them, and at most a thousand.
+fn in_order_of_bytes(alloc: Global, labels: u32) -> Result<String, AllocError> {
+    let mut text = String::from_str(alloc, "{l0:Nat")?;
+    for number in 100..1_000_u32 {
+        if number % 100 == 0 {
+            push_field(alloc, &mut text, number / 100)?;
+        }
+        if number % 10 == 0 {
+            push_field(alloc, &mut text, number / 10)?;
+        }
+        if number < labels {
+            push_field(alloc, &mut text, number)?;
+        }
+    }
+    text.push('}')?;
+    Ok(text)
+}
+
+fn push_field(alloc: Global, text: &mut String, number: u32) -> Result<(), AllocError> {
+    text.push_str(&format!(in alloc; ", l{number}:Nat")?)
+}
+
+#[test]
+fn a_record_of_499_fields_is_shown_and_derived(rt: HostRuntime) -> Result<(), Fail> {
+    let alloc = rt.alloc();
+    let record = labelled(alloc, 499, "=0")?;
+    // Of 1,999 tokens: three a field, 498 commas, two braces, the name and its equals sign.
+    let text = format!(in alloc; "x = {record};")?;
+    expect_faults(&rt, alloc, &text, One, &[])?;
+    let wanted = in_order_of_bytes(alloc, 499)?;
+    let shown = Some((wanted.as_str(), 4, 4 + record.len()));
+    expect_shown(&rt, alloc, &text, One, 4, shown)?;
+    expect_derivation(&rt, alloc, &text, 4, One, &wanted)?;
+    let found = derivation(alloc, &text, 4, One)?.expect(&rt, "a derivation");
+    assert_eq!(rt; found.steps.len(), 500);
+    match found.steps.last() {
+        Some(Step::Typing { rule, premises, .. }) => {
+            assert_eq!(rt; rule.name(), "T-Rcd");
+            assert_eq!(rt; premises.len(), 499);
+        }
+        _ => assert!(rt; false, "a step about a term"),
+    }
+    Ok(())
+}
+
+#[test]
+fn a_written_type_of_497_fields_is_shown(rt: HostRuntime) -> Result<(), Fail> {
+    let alloc = rt.alloc();
+    let written = labelled(alloc, 497, ":Nat")?;
+    // Of 1,998 tokens: three a field, 496 commas, two braces, and nine round them.
+    let function = format!(in alloc; "lambda r:{written}. r.l496")?;
+    let text = format!(in alloc; "f = {function};")?;
+    expect_faults(&rt, alloc, &text, One, &[])?;
+    let parameter = in_order_of_bytes(alloc, 497)?;
+    let wanted = format!(in alloc; "{parameter}->Nat")?;
+    let shown = Some((wanted.as_str(), 4, 4 + function.len()));
+    expect_shown(&rt, alloc, &text, One, 4, shown)?;
+    expect_derivation(&rt, alloc, &text, 4, One, &wanted)
+}
+
+/// `x0 = 0; x1 = true; x2 = 0; ` and so on: so many definitions, of numbers and truth values by turns.
+fn definitions(alloc: Global, count: u32) -> Result<String, AllocError> {
+    let mut text = String::new(alloc);
+    for number in 0..count {
+        let value = if number % 2 == 0 { "0" } else { "true" };
+        text.push_str(&format!(in alloc; "x{number} = {value}; ")?)?;
+    }
+    Ok(text)
+}
+
+#[test]
+fn a_context_of_199_names_is_in_their_order(rt: HostRuntime) -> Result<(), Fail> {
+    let alloc = rt.alloc();
+    let front = definitions(alloc, 199)?;
+    let text = format!(in alloc; "{front}x199 = x198;")?;
+    let at = front.len() + 7;
+    expect_derivation(&rt, alloc, &text, at, One, "Nat")?;
+    let found = derivation(alloc, &text, at, One)?.expect(&rt, "a derivation");
+    assert_eq!(rt; found.context.len(), 199);
+    for (number, (name, ty)) in found.context.iter().enumerate() {
+        assert_eq!(rt; name.as_str(), format!(in alloc; "x{number}")?.as_str());
+        let ty = ty.as_ref().expect(&rt, "a type");
+        let wanted = if number % 2 == 0 { "Nat" } else { "Bool" };
+        assert_eq!(rt; plain_text_of(alloc, ty)?.as_str(), wanted);
+    }
+    Ok(())
+}
