@@ -138,7 +138,7 @@ def row(name, figure):
 
 
 def spread(taken):
-    return f"{statistics.median(taken):.1f} ms, at the most {max(taken):.1f} ms"
+    return f"{statistics.median(taken):.1f} ms, from {min(taken):.1f} to {max(taken):.1f} ms"
 
 
 def main():
