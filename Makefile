@@ -1,0 +1,36 @@
+# `make` proves and builds the program, `make test` is the merge gate, `make bench` prints figures.
+PREFIX ?= $(HOME)/.local
+
+.PHONY: all test install bench
+
+# The program is proved, built and run once, for its help.
+all:
+	cd crates/lam_server && rt run -- --help
+
+test:
+	rt ci
+
+install: all
+	install -D crates/lam_server/out/lam_server $(PREFIX)/bin/lam_server
+
+bench: all
+	cd crates/lam_bench && rt run
+	for size in 1048576 16777216 67108864; do \
+	  crates/lam_bench/out/lam_bench whole-body $$size; \
+	  crates/lam_bench/out/lam_bench body-by-bytes $$size; \
+	done
+	for count in 10000 100000 1000000; do crates/lam_bench/out/lam_bench small-frames $$count; done
+	for size in 1048576 16777216; do for letters in ascii umlauts; do \
+	  for measure in open edit offsets positions; do \
+	    crates/lam_bench/out/lam_bench $$measure-$$letters $$size; \
+	  done; \
+	done; done
+	for count in 10 100 1000 4000; do crates/lam_bench/out/lam_bench add-type $$count; done
+	crates/lam_bench/out/lam_bench bounds 40
+	crates/lam_bench/out/lam_bench analyse-doubled 40
+	for measure in bind-chain bind-first resolve-chain resolve-first \
+	  analyse-chain analyse-first places; do \
+	  crates/lam_bench/out/lam_bench $$measure 10000; \
+	done
+	for count in 10 100 1000; do crates/lam_bench/out/lam_bench resolve-abbreviation $$count; done
+	python3 bench/session.py crates/lam_server/out/lam_server
