@@ -14,6 +14,7 @@ use crate::typing::Typing;
 use crate::walking::{Leaves, Stop, Walk, walk_statements};
 use lam_rules::{Dialect, Shape, TyTable};
 use lam_scope::{Place, Resolved};
+use lam_sub::Verdicts;
 use std::alloc::{AllocError, Global};
 
 /// Analyses all places of a document.
@@ -61,7 +62,10 @@ fn analyse_up_to(
     let Ok(mut walk) = start(alloc, last) else {
         return Err(TypingFault::Memory);
     };
-    let walked = walk_statements(alloc, &mut walk, resolved.statements(), dialect);
+    let mut verdicts = Verdicts::new(alloc, dialect);
+    let walked = walk_statements(&mut walk, &mut verdicts, resolved.statements(), dialect);
+    // They are of no use behind the walk, and memory is at its peak there.
+    drop(verdicts);
     match walked {
         Ok(()) => complete(alloc, walk, resolved, dialect),
         Err(stop) => end(alloc, walk, stop, resolved, dialect),

@@ -10,45 +10,48 @@ ghost use Rattle.lam_rules.specs.Numbers.{type_of, Stands, IsNumberOf, Keeps, Ar
 ghost use Rattle.lam_lattice.specs.Bounds.{IsJoin};
 ghost use Rattle.lam_typing.specs.Answers.{answer, StandsIn};
 ghost use Rattle.lam_typing.specs.Progress.{if_all};
+ghost use Rattle.lam_typing.specs.Verdicts.{AreVerdictsOn};
 ghost use Rattle.lam_typing.specs.Steps.{NatRule, LambdaRule, ApplyRule, AscribeRule, LetRule, IfRule, FixRule, ProjectRule, RecordRule};
 
 use lam_lattice::join_no;
 use lam_rules::{Dialect, Shape, Ty, TyNo, TyTable, labels_differ};
 use lam_sub::{Verdicts, is_sub_no};
-use std::alloc::{AllocError, Global};
+use std::alloc::AllocError;
 
 /// Whether one type is below another.
 fn is_below(
-    alloc: Global,
     table: &TyTable,
+    verdicts: &mut Verdicts,
     lower: TyNo,
     upper: TyNo,
     dialect: Dialect,
 ) -> Result<bool, AllocError>
     requires lower { Stands table.now lower }
     requires upper { Stands table.now upper }
-    ensures { IfOk result (λ below. IsTrue below ↔ IsBelow (type_of table.now lower) (type_of table.now upper) dialect) }
+    requires verdicts { AreVerdictsOn table.now dialect verdicts.old }
+    ensures verdicts { AreVerdictsOn table.now dialect verdicts.new }
+    ensures below { IfOk result (λ below. IsTrue below ↔ IsBelow (type_of table.now lower) (type_of table.now upper) dialect) }
 {
-    let mut verdicts = Verdicts::new(alloc, dialect);
-    is_sub_no(table, &mut verdicts, lower, upper)
+    is_sub_no(table, verdicts, lower, upper)
 }
 
 /// The join of two types.
 fn joined(
-    alloc: Global,
     table: &mut TyTable,
+    verdicts: &mut Verdicts,
     left: TyNo,
     right: TyNo,
     dialect: Dialect,
 ) -> Result<TyNo, AllocError>
     requires left { Stands table.old left }
     requires right { Stands table.old right }
+    requires verdicts { AreVerdictsOn table.old dialect verdicts.old }
     ensures keeps { Keeps table.old table.new }
+    ensures verdicts { AreVerdictsOn table.new dialect verdicts.new }
     ensures stands { IfOk result (λ made. Stands table.new made) }
     ensures join { IfOk result (λ made. IsJoin (type_of table.old left) (type_of table.old right) (type_of table.new made) dialect) }
 {
-    let mut verdicts = Verdicts::new(alloc, dialect);
-    join_no(table, &mut verdicts, left, right)
+    join_no(table, verdicts, left, right)
 }
 
 /// The two sides of an arrow.
@@ -82,8 +85,8 @@ pub(crate) fn added(table: &mut TyTable, written: &Option<Ty>) -> Result<Option<
 
 /// T-Succ, T-Pred and T-IsZero: an operand below Nat.
 pub(crate) fn of_number(
-    alloc: Global,
     table: &TyTable,
+    verdicts: &mut Verdicts,
     operand: Option<TyNo>,
     nat_number: TyNo,
     outcome: TyNo,
@@ -92,13 +95,15 @@ pub(crate) fn of_number(
     requires operand { StandsIn table.now operand }
     requires nat_number { IsNumberOf table.now nat_number nat }
     requires outcome { Stands table.now outcome }
+    requires verdicts { AreVerdictsOn table.now dialect verdicts.old }
+    ensures verdicts { AreVerdictsOn table.now dialect verdicts.new }
     ensures stands { IfOk result (λ found. StandsIn table.now found) }
     ensures rule { IfOk result (λ found. NatRule (type_of table.now outcome) (answer table.now operand) (answer table.now found) dialect) }
 {
     let Some(number) = operand else {
         return Ok(None);
     };
-    if is_below(alloc, table, number, nat_number, dialect)? {
+    if is_below(table, verdicts, number, nat_number, dialect)? {
         Ok(Some(outcome))
     } else {
         Ok(None)
@@ -129,14 +134,16 @@ pub(crate) fn abstracted(
 
 /// T-App: an argument below the parameter.
 pub(crate) fn applied(
-    alloc: Global,
     table: &TyTable,
+    verdicts: &mut Verdicts,
     function: Option<TyNo>,
     argument: Option<TyNo>,
     dialect: Dialect,
 ) -> Result<Option<TyNo>, AllocError>
     requires function { StandsIn table.now function }
     requires argument { StandsIn table.now argument }
+    requires verdicts { AreVerdictsOn table.now dialect verdicts.old }
+    ensures verdicts { AreVerdictsOn table.now dialect verdicts.new }
     ensures stands { IfOk result (λ found. StandsIn table.now found) }
     ensures rule { IfOk result (λ found. ApplyRule (answer table.now function) (answer table.now argument) (answer table.now found) dialect) }
 {
@@ -149,7 +156,7 @@ pub(crate) fn applied(
     let Some((parameter, outcome)) = sides(table, function_number) else {
         return Ok(None);
     };
-    if is_below(alloc, table, argument_number, parameter, dialect)? {
+    if is_below(table, verdicts, argument_number, parameter, dialect)? {
         Ok(Some(outcome))
     } else {
         Ok(None)
@@ -158,14 +165,16 @@ pub(crate) fn applied(
 
 /// T-Ascribe: a term below the type that is written.
 pub(crate) fn ascribed(
-    alloc: Global,
     table: &TyTable,
+    verdicts: &mut Verdicts,
     written: Option<TyNo>,
     operand: Option<TyNo>,
     dialect: Dialect,
 ) -> Result<Option<TyNo>, AllocError>
     requires written { StandsIn table.now written }
     requires operand { StandsIn table.now operand }
+    requires verdicts { AreVerdictsOn table.now dialect verdicts.old }
+    ensures verdicts { AreVerdictsOn table.now dialect verdicts.new }
     ensures stands { IfOk result (λ found. StandsIn table.now found) }
     ensures rule { IfOk result (λ found. AscribeRule (answer table.now written) (answer table.now operand) (answer table.now found) dialect) }
 {
@@ -175,7 +184,7 @@ pub(crate) fn ascribed(
     let Some(number) = operand else {
         return Ok(None);
     };
-    if is_below(alloc, table, number, written_number, dialect)? {
+    if is_below(table, verdicts, number, written_number, dialect)? {
         Ok(Some(written_number))
     } else {
         Ok(None)
@@ -194,8 +203,8 @@ pub(crate) fn bound_in(bound: Option<TyNo>, body: Option<TyNo>) -> Option<TyNo>
 
 /// T-If: a condition below Bool, and the join of the branches.
 pub(crate) fn chosen(
-    alloc: Global,
     table: &mut TyTable,
+    verdicts: &mut Verdicts,
     condition: Option<TyNo>,
     then_branch: Option<TyNo>,
     else_branch: Option<TyNo>,
@@ -206,7 +215,9 @@ pub(crate) fn chosen(
     requires then_branch { StandsIn table.old then_branch }
     requires else_branch { StandsIn table.old else_branch }
     requires bool_number { IsNumberOf table.old bool_number bool }
+    requires verdicts { AreVerdictsOn table.old dialect verdicts.old }
     ensures keeps { Keeps table.old table.new }
+    ensures verdicts { AreVerdictsOn table.new dialect verdicts.new }
     ensures stands { IfOk result (λ found. StandsIn table.new found) }
     ensures rule { IfOk result (λ found. IfRule (answer table.old condition) (answer table.old then_branch) (answer table.old else_branch) (answer table.new found) dialect) }
 {
@@ -219,21 +230,23 @@ pub(crate) fn chosen(
     let Some(else_number) = else_branch else {
         return Ok(None);
     };
-    if !is_below(alloc, table, condition_number, bool_number, dialect)? {
+    if !is_below(table, verdicts, condition_number, bool_number, dialect)? {
         return Ok(None);
     }
-    let number = joined(alloc, table, then_number, else_number, dialect)?;
+    let number = joined(table, verdicts, then_number, else_number, dialect)?;
     Ok(Some(number))
 }
 
 /// T-Fix: a function whose result is below its parameter.
 pub(crate) fn fixed(
-    alloc: Global,
     table: &TyTable,
+    verdicts: &mut Verdicts,
     operand: Option<TyNo>,
     dialect: Dialect,
 ) -> Result<Option<TyNo>, AllocError>
-    requires { StandsIn table.now operand }
+    requires operand { StandsIn table.now operand }
+    requires verdicts { AreVerdictsOn table.now dialect verdicts.old }
+    ensures verdicts { AreVerdictsOn table.now dialect verdicts.new }
     ensures stands { IfOk result (λ found. StandsIn table.now found) }
     ensures rule { IfOk result (λ found. FixRule (answer table.now operand) (answer table.now found) dialect) }
 {
@@ -243,7 +256,7 @@ pub(crate) fn fixed(
     let Some((parameter, outcome)) = sides(table, number) else {
         return Ok(None);
     };
-    if is_below(alloc, table, outcome, parameter, dialect)? {
+    if is_below(table, verdicts, outcome, parameter, dialect)? {
         Ok(Some(outcome))
     } else {
         Ok(None)

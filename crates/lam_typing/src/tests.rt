@@ -87,11 +87,15 @@ const FUNCTIONS: &str = "lambda c:Bool. if c then (lambda x:Nat. x) else (lambda
 
 const RECORDS: &str = "let y = {a=0, b=true} in lambda c:Bool. if c then y else {b=false}";
 
-static BRANCHES: [Shown; 6] = [
+const JOINED_AGAIN: &str =
+    "lambda c:Bool. {x=if c then {a=0, b=0} else {a=1}, y=if c then {a=2, b=2} else {a=3}}";
+
+static BRANCHES: [Shown; 7] = [
     ("if true then {a=0} else {b=0}", One, 0, Some("{}")),
     (FUNCTIONS, One, 0, Some("Bool->Top")),
     (FUNCTIONS, Two, 0, Some("Bool->Bool->Nat")),
     (RECORDS, One, 0, Some("Bool->{b:Bool}")),
+    (JOINED_AGAIN, One, 0, Some("Bool->{x:{a:Nat}, y:{a:Nat}}")),
     ("if true then 0 else false", One, 0, Some("Top")),
     ("if true then 0 else false", Two, 0, Some("Nat")),
 ];
@@ -166,11 +170,18 @@ fn expect_blamed(rt: &impl Abort, alloc: Global, rows: &[Blamed]) -> Result<(), 
     Ok(())
 }
 
-static BLAMES: [Blamed; 16] = [
+/// The second question about the same two types is answered as the first, and one about others is not.
+const ASKED_AGAIN: &str = "f : {a:Nat}->Nat; f {a=0, b=true}; f {a=1, b=false}; f {}";
+
+const REFUSED_BEFORE: &str = "f : {a:Nat}->Nat; f {b=0}; f {b=1}";
+
+static BLAMES: [Blamed; 18] = [
     ("0 as Nat; succ 0", One, None),
     ("z", One, Some(("E1", 0, 1))),
     ("lambda x:Nat. x 0", One, Some(("E2", 14, 17))),
     (DECLARED, One, Some(("E3", 35, 39))),
+    (ASKED_AGAIN, One, Some(("E3", 53, 57))),
+    (REFUSED_BEFORE, One, Some(("several", 0, 0))),
     ("{a=0}.b", One, Some(("E4", 0, 7))),
     ("if 0 then 1 else 2", One, Some(("E5", 0, 18))),
     ("if 0 then 1 else 2", Two, Some(("E5", 0, 18))),

@@ -12,6 +12,7 @@ ghost use Rattle.lam_typing.specs.Answers.{answer, StandsIn, AllStandIn, context
 ghost use Rattle.lam_typing.specs.Steps.{entry_at};
 ghost use Rattle.lam_typing.specs.Analysis.{IsSmall};
 ghost use Rattle.lam_typing.specs.Progress.{Went, blame_step, IsApplicationCode, IsLarge};
+ghost use Rattle.lam_typing.specs.Verdicts.{AreVerdictsOn};
 ghost use Rattle.lam_typing.specs.Walk.{Grows, WalkedOver, FieldsWalked, HasStopped, HasStoppedInFields, Settles, StopsAt, blame_at, blames_of, IsSoundWalk, IsBehind, IsUpTo, GoesOn, HasStoppedAt, HasStoppedAmong, entries_of, progress_of};
 ghost use Rattle.lam_typing.specs.declared.walking.Stop.TheVariants.{Memory};
 
@@ -21,7 +22,8 @@ use crate::steps::{
 };
 use lam_rules::{Core, Dialect, Shape, Ty, TyNo, TyTable};
 use lam_scope::{NODE_LIMIT, Place, Statement};
-use std::alloc::{AllocError, AllocFailed, Global};
+use lam_sub::Verdicts;
+use std::alloc::{AllocError, AllocFailed};
 
 /// Why a walk ends before its last place.
 pub(crate) enum Stop {
@@ -70,41 +72,46 @@ pub(crate) struct Walk {
     pub last: Option<Place>,
 }
 
-/// All that a document states, from the first statement to the last.
+/// All that a document states, from the first statement to the last. What is found of two types, in this dialect, is kept
+/// in `verdicts`: asked again of other terms it costs a look-up.
 pub(crate) fn walk_statements(
-    alloc: Global,
     w: &mut Walk,
+    verdicts: &mut Verdicts,
     statements: &[Statement],
     dialect: Dialect,
 ) -> Result<(), Stop>
     requires sound { IsSoundWalk w.old }
     requires wf { AreWellFormedStatements (map statement_of statements.now) }
+    requires verdicts { AreVerdictsOn w.old.table dialect verdicts.old }
     ensures grows { Grows w.old w.new }
+    ensures verdicts { AreVerdictsOn w.new.table dialect verdicts.new }
     ensures went { OnOk result (Went (entries_of w.old) (λ s. places_of s (map statement_of statements.now)) (progress_of w.old) (progress_of w.new) dialect) }
     ensures stopped { IfErr result (λ stop. HasStoppedAmong stop (entries_of w.old) (λ s. places_of s (map statement_of statements.now)) w.old w.new dialect) }
 {
     for i in 0..statements.len() {
-        walk_statement(alloc, w, &statements[i], dialect)?;
+        walk_statement(w, verdicts, &statements[i], dialect)?;
     }
     Ok(())
 }
 
 /// What a command states, and the entry that it puts onto the others.
 pub(crate) fn walk_statement(
-    alloc: Global,
     w: &mut Walk,
+    verdicts: &mut Verdicts,
     statement: &Statement,
     dialect: Dialect,
 ) -> Result<(), Stop>
     requires sound { IsSoundWalk w.old }
     requires wf { IsWellFormedStatement (statement_of statement.now) }
+    requires verdicts { AreVerdictsOn w.old.table dialect verdicts.old }
     ensures grows { Grows w.old w.new }
+    ensures verdicts { AreVerdictsOn w.new.table dialect verdicts.new }
     ensures goes_on { OnOk result (GoesOn w.old w.new (statement_of statement.now) dialect) }
     ensures stopped { IfErr result (λ stop. HasStoppedAt stop w.old w.new (statement_of statement.now) dialect) }
 {
     match statement {
         Statement::Definition(core) => {
-            let found = walk_term(alloc, w, core, dialect)?;
+            let found = walk_term(w, verdicts, core, dialect)?;
             w.entries.push(found)?;
             Ok(())
         }
@@ -115,7 +122,7 @@ pub(crate) fn walk_statement(
         }
         Statement::Abbreviation(_) => Ok(()),
         Statement::Evaluation(core) => {
-            walk_term(alloc, w, core, dialect)?;
+            walk_term(w, verdicts, core, dialect)?;
             Ok(())
         }
     }
@@ -125,14 +132,16 @@ pub(crate) fn walk_statement(
 #[cycle(walk_term)]
 #[tactic(auto, using(lam_rules::proofs::TermShapes::term_shapes))]
 pub(crate) fn walk_term(
-    alloc: Global,
     w: &mut Walk,
+    verdicts: &mut Verdicts,
     term: &Core,
     dialect: Dialect,
 ) -> Result<Option<TyNo>, Stop>
     requires sound { IsSoundWalk w.old }
     requires wf { IsWellFormedTerm (term_of term.now) }
+    requires verdicts { AreVerdictsOn w.old.table dialect verdicts.old }
     ensures grows { Grows w.old w.new }
+    ensures verdicts { AreVerdictsOn w.new.table dialect verdicts.new }
     ensures walked { IfOk result (λ found. WalkedOver w.old w.new (term_of term.now) found dialect) }
     ensures stopped { IfErr result (λ stop. HasStopped stop w.old w.new (term_of term.now) dialect) }
 {
@@ -140,32 +149,32 @@ pub(crate) fn walk_term(
         Core::True => settle(w, Some(w.leaves.boolean), None),
         Core::False => settle(w, Some(w.leaves.boolean), None),
         Core::If(condition, then_term, else_term) => {
-            walk_if(alloc, w, condition, then_term, else_term, dialect)
+            walk_if(w, verdicts, condition, then_term, else_term, dialect)
         }
         Core::Num(_) => settle(w, Some(w.leaves.natural), None),
-        Core::Succ(operand) => walk_succ(alloc, w, operand, dialect),
-        Core::Pred(operand) => walk_pred(alloc, w, operand, dialect),
-        Core::IsZero(operand) => walk_is_zero(alloc, w, operand, dialect),
+        Core::Succ(operand) => walk_succ(w, verdicts, operand, dialect),
+        Core::Pred(operand) => walk_pred(w, verdicts, operand, dialect),
+        Core::IsZero(operand) => walk_is_zero(w, verdicts, operand, dialect),
         Core::Var(count) => walk_variable(w, *count, dialect),
         Core::Free(_) => {
             let blame = blame_if(true, None, "E1");
             settle(w, None, blame)
         }
-        Core::Abs(written, body) => walk_lambda(alloc, w, written, body, dialect),
-        Core::App(function, argument) => walk_apply(alloc, w, function, argument, dialect),
+        Core::Abs(written, body) => walk_lambda(w, verdicts, written, body, dialect),
+        Core::App(function, argument) => walk_apply(w, verdicts, function, argument, dialect),
         Core::Unit => settle(w, Some(w.leaves.unit), None),
-        Core::Ascribe(operand, written) => walk_ascribe(alloc, w, operand, written, dialect),
-        Core::Let(bound, body) => walk_let(alloc, w, bound, body, dialect),
-        Core::Record(fields) => walk_record(alloc, w, fields, dialect),
-        Core::Proj(operand, label) => walk_project(alloc, w, operand, label, dialect),
-        Core::Fix(operand) => walk_fix(alloc, w, operand, dialect),
+        Core::Ascribe(operand, written) => walk_ascribe(w, verdicts, operand, written, dialect),
+        Core::Let(bound, body) => walk_let(w, verdicts, bound, body, dialect),
+        Core::Record(fields) => walk_record(w, verdicts, fields, dialect),
+        Core::Proj(operand, label) => walk_project(w, verdicts, operand, label, dialect),
+        Core::Fix(operand) => walk_fix(w, verdicts, operand, dialect),
     }
 }
 
 #[cycle(walk_term)]
 fn walk_if(
-    alloc: Global,
     w: &mut Walk,
+    verdicts: &mut Verdicts,
     condition: &Core,
     then_term: &Core,
     else_term: &Core,
@@ -175,36 +184,48 @@ fn walk_if(
     requires condition { IsWellFormedTerm (term_of condition.now) }
     requires then_term { IsWellFormedTerm (term_of then_term.now) }
     requires else_term { IsWellFormedTerm (term_of else_term.now) }
+    requires verdicts { AreVerdictsOn w.old.table dialect verdicts.old }
     ensures grows { Grows w.old w.new }
+    ensures verdicts { AreVerdictsOn w.new.table dialect verdicts.new }
     ensures walked { IfOk result (λ found. WalkedOver w.old w.new (if_then_else (term_of condition.now) (term_of then_term.now) (term_of else_term.now)) found dialect) }
     ensures stopped { IfErr result (λ stop. HasStopped stop w.old w.new (if_then_else (term_of condition.now) (term_of then_term.now) (term_of else_term.now)) dialect) }
 {
-    let first = walk_term(alloc, w, condition, dialect)?;
-    let second = walk_term(alloc, w, then_term, dialect)?;
-    let third = walk_term(alloc, w, else_term, dialect)?;
+    let first = walk_term(w, verdicts, condition, dialect)?;
+    let second = walk_term(w, verdicts, then_term, dialect)?;
+    let third = walk_term(w, verdicts, else_term, dialect)?;
     let boolean = w.leaves.boolean;
-    let found = chosen(alloc, &mut w.table, first, second, third, boolean, dialect)?;
+    let found = chosen(
+        &mut w.table,
+        verdicts,
+        first,
+        second,
+        third,
+        boolean,
+        dialect,
+    )?;
     let blame = blame_if(are_all_found(first, second, third), found, "E5");
     settle(w, found, blame)
 }
 
 #[cycle(walk_term)]
 fn walk_succ(
-    alloc: Global,
     w: &mut Walk,
+    verdicts: &mut Verdicts,
     operand: &Core,
     dialect: Dialect,
 ) -> Result<Option<TyNo>, Stop>
     requires sound { IsSoundWalk w.old }
     requires operand { IsWellFormedTerm (term_of operand.now) }
+    requires verdicts { AreVerdictsOn w.old.table dialect verdicts.old }
     ensures grows { Grows w.old w.new }
+    ensures verdicts { AreVerdictsOn w.new.table dialect verdicts.new }
     ensures walked { IfOk result (λ found. WalkedOver w.old w.new (succ (term_of operand.now)) found dialect) }
     ensures stopped { IfErr result (λ stop. HasStopped stop w.old w.new (succ (term_of operand.now)) dialect) }
 {
-    let part = walk_term(alloc, w, operand, dialect)?;
+    let part = walk_term(w, verdicts, operand, dialect)?;
     let found = of_number(
-        alloc,
         &w.table,
+        verdicts,
         part,
         w.leaves.natural,
         w.leaves.natural,
@@ -216,21 +237,23 @@ fn walk_succ(
 
 #[cycle(walk_term)]
 fn walk_pred(
-    alloc: Global,
     w: &mut Walk,
+    verdicts: &mut Verdicts,
     operand: &Core,
     dialect: Dialect,
 ) -> Result<Option<TyNo>, Stop>
     requires sound { IsSoundWalk w.old }
     requires operand { IsWellFormedTerm (term_of operand.now) }
+    requires verdicts { AreVerdictsOn w.old.table dialect verdicts.old }
     ensures grows { Grows w.old w.new }
+    ensures verdicts { AreVerdictsOn w.new.table dialect verdicts.new }
     ensures walked { IfOk result (λ found. WalkedOver w.old w.new (pred (term_of operand.now)) found dialect) }
     ensures stopped { IfErr result (λ stop. HasStopped stop w.old w.new (pred (term_of operand.now)) dialect) }
 {
-    let part = walk_term(alloc, w, operand, dialect)?;
+    let part = walk_term(w, verdicts, operand, dialect)?;
     let found = of_number(
-        alloc,
         &w.table,
+        verdicts,
         part,
         w.leaves.natural,
         w.leaves.natural,
@@ -242,21 +265,23 @@ fn walk_pred(
 
 #[cycle(walk_term)]
 fn walk_is_zero(
-    alloc: Global,
     w: &mut Walk,
+    verdicts: &mut Verdicts,
     operand: &Core,
     dialect: Dialect,
 ) -> Result<Option<TyNo>, Stop>
     requires sound { IsSoundWalk w.old }
     requires operand { IsWellFormedTerm (term_of operand.now) }
+    requires verdicts { AreVerdictsOn w.old.table dialect verdicts.old }
     ensures grows { Grows w.old w.new }
+    ensures verdicts { AreVerdictsOn w.new.table dialect verdicts.new }
     ensures walked { IfOk result (λ found. WalkedOver w.old w.new (is_zero (term_of operand.now)) found dialect) }
     ensures stopped { IfErr result (λ stop. HasStopped stop w.old w.new (is_zero (term_of operand.now)) dialect) }
 {
-    let part = walk_term(alloc, w, operand, dialect)?;
+    let part = walk_term(w, verdicts, operand, dialect)?;
     let found = of_number(
-        alloc,
         &w.table,
+        verdicts,
         part,
         w.leaves.natural,
         w.leaves.boolean,
@@ -268,8 +293,8 @@ fn walk_is_zero(
 
 #[cycle(walk_term)]
 fn walk_lambda(
-    alloc: Global,
     w: &mut Walk,
+    verdicts: &mut Verdicts,
     written: &Option<Ty>,
     body: &Core,
     dialect: Dialect,
@@ -277,13 +302,15 @@ fn walk_lambda(
     requires sound { IsSoundWalk w.old }
     requires written { IsWellFormedEntry (written_of written.now) }
     requires body { IsWellFormedTerm (term_of body.now) }
+    requires verdicts { AreVerdictsOn w.old.table dialect verdicts.old }
     ensures grows { Grows w.old w.new }
+    ensures verdicts { AreVerdictsOn w.new.table dialect verdicts.new }
     ensures walked { IfOk result (λ found. WalkedOver w.old w.new (lambda (written_of written.now) (term_of body.now)) found dialect) }
     ensures stopped { IfErr result (λ stop. HasStopped stop w.old w.new (lambda (written_of written.now) (term_of body.now)) dialect) }
 {
     let parameter = added(&mut w.table, written)?;
     w.entries.push(parameter)?;
-    let outcome = walk_term(alloc, w, body, dialect)?;
+    let outcome = walk_term(w, verdicts, body, dialect)?;
     w.entries.pop();
     let found = abstracted(&mut w.table, parameter, outcome)?;
     settle(w, found, None)
@@ -291,8 +318,8 @@ fn walk_lambda(
 
 #[cycle(walk_term)]
 fn walk_apply(
-    alloc: Global,
     w: &mut Walk,
+    verdicts: &mut Verdicts,
     function: &Core,
     argument: &Core,
     dialect: Dialect,
@@ -300,13 +327,15 @@ fn walk_apply(
     requires sound { IsSoundWalk w.old }
     requires function { IsWellFormedTerm (term_of function.now) }
     requires argument { IsWellFormedTerm (term_of argument.now) }
+    requires verdicts { AreVerdictsOn w.old.table dialect verdicts.old }
     ensures grows { Grows w.old w.new }
+    ensures verdicts { AreVerdictsOn w.new.table dialect verdicts.new }
     ensures walked { IfOk result (λ found. WalkedOver w.old w.new (apply (term_of function.now) (term_of argument.now)) found dialect) }
     ensures stopped { IfErr result (λ stop. HasStopped stop w.old w.new (apply (term_of function.now) (term_of argument.now)) dialect) }
 {
-    let first = walk_term(alloc, w, function, dialect)?;
-    let second = walk_term(alloc, w, argument, dialect)?;
-    let found = applied(alloc, &w.table, first, second, dialect)?;
+    let first = walk_term(w, verdicts, function, dialect)?;
+    let second = walk_term(w, verdicts, argument, dialect)?;
+    let found = applied(&w.table, verdicts, first, second, dialect)?;
     let code = application_code(&w.table, first);
     let blame = blame_if(are_both_found(first, second), found, code);
     settle(w, found, blame)
@@ -314,8 +343,8 @@ fn walk_apply(
 
 #[cycle(walk_term)]
 fn walk_ascribe(
-    alloc: Global,
     w: &mut Walk,
+    verdicts: &mut Verdicts,
     operand: &Core,
     written: &Option<Ty>,
     dialect: Dialect,
@@ -323,21 +352,23 @@ fn walk_ascribe(
     requires sound { IsSoundWalk w.old }
     requires operand { IsWellFormedTerm (term_of operand.now) }
     requires written { IsWellFormedEntry (written_of written.now) }
+    requires verdicts { AreVerdictsOn w.old.table dialect verdicts.old }
     ensures grows { Grows w.old w.new }
+    ensures verdicts { AreVerdictsOn w.new.table dialect verdicts.new }
     ensures walked { IfOk result (λ found. WalkedOver w.old w.new (ascribe (term_of operand.now) (written_of written.now)) found dialect) }
     ensures stopped { IfErr result (λ stop. HasStopped stop w.old w.new (ascribe (term_of operand.now) (written_of written.now)) dialect) }
 {
-    let part = walk_term(alloc, w, operand, dialect)?;
+    let part = walk_term(w, verdicts, operand, dialect)?;
     let entry = added(&mut w.table, written)?;
-    let found = ascribed(alloc, &w.table, entry, part, dialect)?;
+    let found = ascribed(&w.table, verdicts, entry, part, dialect)?;
     let blame = blame_if(are_both_found(part, entry), found, "E7");
     settle(w, found, blame)
 }
 
 #[cycle(walk_term)]
 fn walk_let(
-    alloc: Global,
     w: &mut Walk,
+    verdicts: &mut Verdicts,
     bound: &Core,
     body: &Core,
     dialect: Dialect,
@@ -345,32 +376,36 @@ fn walk_let(
     requires sound { IsSoundWalk w.old }
     requires bound { IsWellFormedTerm (term_of bound.now) }
     requires body { IsWellFormedTerm (term_of body.now) }
+    requires verdicts { AreVerdictsOn w.old.table dialect verdicts.old }
     ensures grows { Grows w.old w.new }
+    ensures verdicts { AreVerdictsOn w.new.table dialect verdicts.new }
     ensures walked { IfOk result (λ found. WalkedOver w.old w.new (let_in (term_of bound.now) (term_of body.now)) found dialect) }
     ensures stopped { IfErr result (λ stop. HasStopped stop w.old w.new (let_in (term_of bound.now) (term_of body.now)) dialect) }
 {
-    let entry = walk_term(alloc, w, bound, dialect)?;
+    let entry = walk_term(w, verdicts, bound, dialect)?;
     w.entries.push(entry)?;
-    let outcome = walk_term(alloc, w, body, dialect)?;
+    let outcome = walk_term(w, verdicts, body, dialect)?;
     w.entries.pop();
     settle(w, bound_in(entry, outcome), None)
 }
 
 #[cycle(walk_term)]
 fn walk_record(
-    alloc: Global,
     w: &mut Walk,
+    verdicts: &mut Verdicts,
     fields: &[(String, Core)],
     dialect: Dialect,
 ) -> Result<Option<TyNo>, Stop>
     requires sound { IsSoundWalk w.old }
     requires fields { AreWellFormedTerms (terms_of fields.now) }
+    requires verdicts { AreVerdictsOn w.old.table dialect verdicts.old }
     ensures grows { Grows w.old w.new }
+    ensures verdicts { AreVerdictsOn w.new.table dialect verdicts.new }
     ensures walked { IfOk result (λ found. WalkedOver w.old w.new (record_term (terms_of fields.now)) found dialect) }
     ensures stopped { IfErr result (λ stop. HasStopped stop w.old w.new (record_term (terms_of fields.now)) dialect) }
 {
-    let mut parts = Vec::new(alloc);
-    let all = walk_fields(alloc, w, fields, &mut parts, dialect)?;
+    let mut parts = Vec::new(verdicts.alloc);
+    let all = walk_fields(w, verdicts, fields, &mut parts, dialect)?;
     let found = recorded(&mut w.table, all, parts)?;
     let blame = blame_if(all, found, "E9");
     settle(w, found, blame)
@@ -378,19 +413,21 @@ fn walk_record(
 
 #[cycle(walk_term)]
 fn walk_project(
-    alloc: Global,
     w: &mut Walk,
+    verdicts: &mut Verdicts,
     operand: &Core,
     label: &str,
     dialect: Dialect,
 ) -> Result<Option<TyNo>, Stop>
     requires sound { IsSoundWalk w.old }
     requires operand { IsWellFormedTerm (term_of operand.now) }
+    requires verdicts { AreVerdictsOn w.old.table dialect verdicts.old }
     ensures grows { Grows w.old w.new }
+    ensures verdicts { AreVerdictsOn w.new.table dialect verdicts.new }
     ensures walked { IfOk result (λ found. WalkedOver w.old w.new (project (term_of operand.now) label.now) found dialect) }
     ensures stopped { IfErr result (λ stop. HasStopped stop w.old w.new (project (term_of operand.now) label.now) dialect) }
 {
-    let part = walk_term(alloc, w, operand, dialect)?;
+    let part = walk_term(w, verdicts, operand, dialect)?;
     let found = projected(&w.table, part, label);
     let blame = blame_if(part.is_some(), found, "E4");
     settle(w, found, blame)
@@ -398,19 +435,21 @@ fn walk_project(
 
 #[cycle(walk_term)]
 fn walk_fix(
-    alloc: Global,
     w: &mut Walk,
+    verdicts: &mut Verdicts,
     operand: &Core,
     dialect: Dialect,
 ) -> Result<Option<TyNo>, Stop>
     requires sound { IsSoundWalk w.old }
     requires operand { IsWellFormedTerm (term_of operand.now) }
+    requires verdicts { AreVerdictsOn w.old.table dialect verdicts.old }
     ensures grows { Grows w.old w.new }
+    ensures verdicts { AreVerdictsOn w.new.table dialect verdicts.new }
     ensures walked { IfOk result (λ found. WalkedOver w.old w.new (fix (term_of operand.now)) found dialect) }
     ensures stopped { IfErr result (λ stop. HasStopped stop w.old w.new (fix (term_of operand.now)) dialect) }
 {
-    let part = walk_term(alloc, w, operand, dialect)?;
-    let found = fixed(alloc, &w.table, part, dialect)?;
+    let part = walk_term(w, verdicts, operand, dialect)?;
+    let found = fixed(&w.table, verdicts, part, dialect)?;
     let blame = blame_if(part.is_some(), found, "E8");
     settle(w, found, blame)
 }
@@ -419,34 +458,37 @@ fn walk_fix(
 /// of them have.
 #[cycle(walk_term)]
 fn walk_fields(
-    alloc: Global,
     w: &mut Walk,
+    verdicts: &mut Verdicts,
     fields: &[(String, Core)],
     parts: &mut Vec<(String, TyNo)>,
     dialect: Dialect,
 ) -> Result<bool, Stop>
     requires sound { IsSoundWalk w.old }
     requires wf { AreWellFormedTerms (terms_of fields.now) }
+    requires verdicts { AreVerdictsOn w.old.table dialect verdicts.old }
     ensures grows { Grows w.old w.new }
+    ensures verdicts { AreVerdictsOn w.new.table dialect verdicts.new }
     ensures walked { IfOk result (λ all. FieldsWalked w.old w.new (terms_of fields.now) parts.old.items parts.new.items all dialect) }
     ensures stopped { IfErr result (λ stop. HasStoppedInFields stop w.old w.new (terms_of fields.now) dialect) }
 {
     let Some((field, others)) = fields.split_first() else {
         return Ok(true);
     };
-    let found = walk_term(alloc, w, &field.1, dialect)?;
+    let found = walk_term(w, verdicts, &field.1, dialect)?;
     let Some(number) = found else {
-        walk_fields(alloc, w, others, parts, dialect)?;
+        walk_fields(w, verdicts, others, parts, dialect)?;
         return Ok(false);
     };
     parts.push((field.0.clone()?, number))?;
-    walk_fields(alloc, w, others, parts, dialect)
+    walk_fields(w, verdicts, others, parts, dialect)
 }
 
 /// A variable has the entry of its binder, which is none to blame for; a count past all binders is an unbound name.
 fn walk_variable(w: &mut Walk, count: usize, dialect: Dialect) -> Result<Option<TyNo>, Stop>
     requires sound { IsSoundWalk w.old }
     ensures grows { Grows w.old w.new }
+    ensures table { w.new.table ≡ w.old.table }
     ensures walked { IfOk result (λ found. WalkedOver w.old w.new (variable count) found dialect) }
     ensures stopped { IfErr result (λ stop. HasStopped stop w.old w.new (variable count) dialect) }
 {
@@ -519,6 +561,7 @@ fn settle(
     requires sound { IsSoundWalk w.old }
     requires stands { StandsIn w.old.table found }
     ensures grows { Grows w.old w.new }
+    ensures table { w.new.table ≡ w.old.table }
     ensures settled { IfOk result (λ number. (number ≡ found) × Settles w.old w.new found blame.entry) }
     ensures stopped { IfErr result (λ stop. StopsAt stop w.old w.new found blame.entry) }
 {

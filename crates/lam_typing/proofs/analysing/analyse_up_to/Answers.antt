@@ -6,6 +6,9 @@ use Rattle.lam_typing.specs.Walk.{entries_of, progress_of, HasStoppedAmong}
 use Rattle.lam_typing.proofs.Completing.{went_through, ended}
 use Rattle.lam_typing.proofs.analysing.analyse_up_to.Goals as goal
 
+pub walk_statements-walked-requires-clause-verdicts : goal.walk_statements-walked-requires-clause-verdicts
+walk_statements-walked-requires-clause-verdicts c = record { right = c.new-verdicts.ensures.right c.in-Ok.walk.table; dialect = c.new-verdicts.ensures.dialect }
+
 pub returns-in-Ok-walked-clause-analysis : goal.returns-in-Ok-walked-clause-analysis
 returns-in-Ok-walked-clause-analysis c =
     (went_through c.in-Ok.walk c.walk_statements-walked.new.w c.args.last (statements_of c.args.resolved.now) (origins_of c.args.resolved.now) c.complete.result c.args.dialect c.requires c.in-Ok.ensures.begins c.walk_statements-walked.ensures.grows

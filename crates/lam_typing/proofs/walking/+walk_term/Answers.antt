@@ -11,7 +11,8 @@ use Rattle.lam_typing.specs.Steps.{NatRule, LambdaRule, LetRule, RecordRule}
 use Rattle.lam_typing.specs.Progress.{Went, if_all}
 use Rattle.lam_typing.specs.Walk.{entries_of, progress_of}
 use Rattle.lam_typing.proofs.LeastIn.{lowest_written}
-use Rattle.lam_typing.proofs.Growing.{answer_keep, stands_keep}
+use Rattle.lam_typing.specs.Verdicts.{AreVerdictsOn}
+use Rattle.lam_typing.proofs.Growing.{answer_keep, stands_keep, verdicts_keep}
 use Rattle.lam_typing.proofs.Together.{went_both}
 use Rattle.lam_typing.proofs.Forms.{true_ready, false_ready, unit_ready, numeral_ready, lowest_let}
 use Rattle.lam_typing.proofs.Glue.{Blames, grows_same, grows_trans, entries_same, progress_same, retabled, retabled_grows, pushed_grows, put_or_not, popped_is, popped_grows, under_entry, parts_empty, err_stopped, err_stopped_in_fields, no_fields_walked, fields_unfound, fields_found_ok, fields_front, fields_behind, fields_behind_err, among_front, among_behind, among_under, among_from, settled_ok, settled_err, leaf_parts, free_parts, succ_parts, pred_parts, is_zero_parts, fix_parts, project_parts, ascribe_parts, lambda_parts, let_parts, apply_parts, if_parts, record_parts}
@@ -177,6 +178,9 @@ walk_if-returns-in_err-found-clause-grows t c = retabled_grows c.args.w.now c.wa
 pub walk_if-settle-requires-clause-sound : goal.walk_if-settle-requires-clause-sound
 walk_if-settle-requires-clause-sound t c = (retabled_grows c.args.w.now c.walk_term-3.new.w c.chosen.new.table (grows_trans c.args.w.now c.walk_term-2.new.w c.walk_term-3.new.w (grows_trans c.args.w.now c.walk_term.new.w c.walk_term-2.new.w c.in_ok-first.ensures.grows c.in_ok-second.ensures.grows) c.in_ok-third.ensures.grows) c.chosen.ensures.keeps).sound
 
+pub walk_if-returns-clause-grows : goal.walk_if-returns-clause-grows
+walk_if-returns-clause-grows t c = grows_trans c.args.w.now (retabled c.walk_term-3.new.w c.chosen.new.table) c.settle.new.w (retabled_grows c.args.w.now c.walk_term-3.new.w c.chosen.new.table (grows_trans c.args.w.now c.walk_term-2.new.w c.walk_term-3.new.w (grows_trans c.args.w.now c.walk_term.new.w c.walk_term-2.new.w c.in_ok-first.ensures.grows c.in_ok-second.ensures.grows) c.in_ok-third.ensures.grows) c.chosen.ensures.keeps) c.settle.ensures.grows
+
 pub walk_if-returns-clause-walked : goal.walk_if-returns-clause-walked
 walk_if-returns-clause-walked t c =
     settled_ok _ c.args.w.now (retabled c.walk_term-3.new.w c.chosen.new.table) c.settle.new.w (if_then_else (term_of c.args.condition.now) (term_of c.args.then_term.now) (term_of c.args.else_term.now)) (λ s. (places s (term_of c.args.condition.now) ++ places s (term_of c.args.then_term.now)) ++ places s (term_of c.args.else_term.now)) c.in_ok-found.found c.blame_if-blame.result c.args.dialect (λ s. refl)
@@ -206,6 +210,12 @@ walk_ascribe-returns-in_err-part-clause-stopped t c =
 
 pub walk_ascribe-returns-in_err-entry-clause-grows : goal.walk_ascribe-returns-in_err-entry-clause-grows
 walk_ascribe-returns-in_err-entry-clause-grows t c = retabled_grows c.args.w.now c.walk_term.new.w c.added.new.table c.in_ok-part.ensures.grows c.added.ensures.keeps
+
+pub walk_ascribe-returns-in_err-entry-clause-verdicts : goal.walk_ascribe-returns-in_err-entry-clause-verdicts
+walk_ascribe-returns-in_err-entry-clause-verdicts t c = verdicts_keep c.walk_term.new.w.table c.added.new.table c.args.dialect c.walk_term.new.verdicts c.added.ensures.keeps c.walk_term.ensures.verdicts
+
+pub walk_ascribe-ascribed-requires-clause-verdicts : goal.walk_ascribe-ascribed-requires-clause-verdicts
+walk_ascribe-ascribed-requires-clause-verdicts t c = verdicts_keep c.walk_term.new.w.table c.added.new.table c.args.dialect c.walk_term.new.verdicts c.added.ensures.keeps c.walk_term.ensures.verdicts
 
 pub walk_ascribe-ascribed-requires-clause-operand : goal.walk_ascribe-ascribed-requires-clause-operand
 walk_ascribe-ascribed-requires-clause-operand t c = stands_keep c.walk_term.new.w.table c.added.new.table c.in_ok-part.part c.added.ensures.keeps c.in_ok-part.ensures.walked.stands
@@ -240,8 +250,14 @@ walk_lambda-returns-in_err-parameter-clause-grows t c = retabled_grows c.args.w.
 pub walk_lambda-returns-in_err-push-clause-grows : goal.walk_lambda-returns-in_err-push-clause-grows
 walk_lambda-returns-in_err-push-clause-grows t c = pushed_grows c.args.w.now c.added.new.table c.push.new.self c.in_ok-parameter.parameter c.requires.sound c.added.ensures.keeps (put_or_not _ _ _ _ c.push.ensures.items) c.in_ok-parameter.ensures.stands
 
+pub walk_lambda-returns-in_err-parameter-clause-verdicts : goal.walk_lambda-returns-in_err-parameter-clause-verdicts
+walk_lambda-returns-in_err-parameter-clause-verdicts t c = verdicts_keep c.args.w.now.table c.added.new.table c.args.dialect c.args.verdicts.now c.added.ensures.keeps c.requires.verdicts
+
+pub walk_lambda-returns-in_err-push-clause-verdicts : goal.walk_lambda-returns-in_err-push-clause-verdicts
+walk_lambda-returns-in_err-push-clause-verdicts t c = verdicts_keep c.args.w.now.table c.added.new.table c.args.dialect c.args.verdicts.now c.added.ensures.keeps c.requires.verdicts
+
 pub walk_lambda-walk_term-requires : goal.walk_lambda-walk_term-requires
-walk_lambda-walk_term-requires t c = (omega (arith, c.decreases), ((pushed_grows c.args.w.now c.added.new.table c.push.new.self c.in_ok-parameter.parameter c.requires.sound c.added.ensures.keeps (inl c.in_ok-push.ensures.items) c.in_ok-parameter.ensures.stands).sound, c.requires.body))
+walk_lambda-walk_term-requires t c = (omega (arith, c.decreases), ((pushed_grows c.args.w.now c.added.new.table c.push.new.self c.in_ok-parameter.parameter c.requires.sound c.added.ensures.keeps (inl c.in_ok-push.ensures.items) c.in_ok-parameter.ensures.stands).sound, (c.requires.body, verdicts_keep c.args.w.now.table c.added.new.table c.args.dialect c.args.verdicts.now c.added.ensures.keeps c.requires.verdicts)))
 
 pub walk_lambda-returns-in_err-outcome-clause-stopped : goal.walk_lambda-returns-in_err-outcome-clause-stopped
 walk_lambda-returns-in_err-outcome-clause-stopped t c =
@@ -253,8 +269,15 @@ walk_lambda-returns-in_err-outcome-clause-stopped t c =
 pub walk_lambda-returns-in_err-found-clause-grows : goal.walk_lambda-returns-in_err-found-clause-grows
 walk_lambda-returns-in_err-found-clause-grows t c = (popped_grows c.args.w.now (record c.args.w.now { table = c.added.new.table; entries = c.push.new.self }) c.walk_term.new.w c.abstracted.new.table c.pop.new.self (pushed_grows c.args.w.now c.added.new.table c.push.new.self c.in_ok-parameter.parameter c.requires.sound c.added.ensures.keeps (inl c.in_ok-push.ensures.items) c.in_ok-parameter.ensures.stands) c.in_ok-outcome.ensures.grows c.abstracted.ensures.keeps (popped_is c.push.new.self c.walk_term.new.w c.pop.new.self c.args.w.now.entries.items c.in_ok-parameter.parameter c.in_ok-push.ensures.items c.in_ok-outcome.ensures.walked.entries c.pop.ensures.rest) c.requires.sound)
 
+pub walk_lambda-returns-in_err-found-clause-verdicts : goal.walk_lambda-returns-in_err-found-clause-verdicts
+walk_lambda-returns-in_err-found-clause-verdicts t c = verdicts_keep c.walk_term.new.w.table c.abstracted.new.table c.args.dialect c.walk_term.new.verdicts c.abstracted.ensures.keeps c.walk_term.ensures.verdicts
+
 pub walk_lambda-settle-requires-clause-sound : goal.walk_lambda-settle-requires-clause-sound
 walk_lambda-settle-requires-clause-sound t c = (popped_grows c.args.w.now (record c.args.w.now { table = c.added.new.table; entries = c.push.new.self }) c.walk_term.new.w c.abstracted.new.table c.pop.new.self (pushed_grows c.args.w.now c.added.new.table c.push.new.self c.in_ok-parameter.parameter c.requires.sound c.added.ensures.keeps (inl c.in_ok-push.ensures.items) c.in_ok-parameter.ensures.stands) c.in_ok-outcome.ensures.grows c.abstracted.ensures.keeps (popped_is c.push.new.self c.walk_term.new.w c.pop.new.self c.args.w.now.entries.items c.in_ok-parameter.parameter c.in_ok-push.ensures.items c.in_ok-outcome.ensures.walked.entries c.pop.ensures.rest) c.requires.sound).sound
+
+pub walk_lambda-returns-clause-verdicts : goal.walk_lambda-returns-clause-verdicts
+walk_lambda-returns-clause-verdicts t c = subst (λ ts. AreVerdictsOn ts c.args.dialect c.walk_term.new.verdicts) (sym c.settle.ensures.table)
+    (verdicts_keep c.walk_term.new.w.table c.abstracted.new.table c.args.dialect c.walk_term.new.verdicts c.abstracted.ensures.keeps c.walk_term.ensures.verdicts)
 
 pub walk_lambda-returns-clause-walked : goal.walk_lambda-returns-clause-walked
 walk_lambda-returns-clause-walked t c =
@@ -283,7 +306,7 @@ walk_let-returns-in_err-entry-clause-stopped t c =
     (among_front _ (entries_of c.args.w.now) (λ s. places s (term_of c.args.bound.now)) (λ s. places (of_term (term_of c.args.bound.now) ∷ s) (term_of c.args.body.now)) c.args.w.now c.walk_term.new.w c.args.dialect c.in_err-entry.ensures.stopped))
 
 pub walk_let-walk_term-requires-2 : goal.walk_let-walk_term-requires-2
-walk_let-walk_term-requires-2 t c = (omega (arith, c.decreases), ((pushed_grows c.walk_term.new.w c.walk_term.new.w.table c.push.new.self c.in_ok-entry.entry c.in_ok-entry.ensures.grows.sound (keeps_same c.walk_term.new.w.table) (inl c.in_ok-push.ensures.items) c.in_ok-entry.ensures.walked.stands).sound, c.requires.body))
+walk_let-walk_term-requires-2 t c = (omega (arith, c.decreases), ((pushed_grows c.walk_term.new.w c.walk_term.new.w.table c.push.new.self c.in_ok-entry.entry c.in_ok-entry.ensures.grows.sound (keeps_same c.walk_term.new.w.table) (inl c.in_ok-push.ensures.items) c.in_ok-entry.ensures.walked.stands).sound, (c.requires.body, c.walk_term.ensures.verdicts)))
 
 pub walk_let-returns-in_err-outcome-clause-stopped : goal.walk_let-returns-in_err-outcome-clause-stopped
 walk_let-returns-in_err-outcome-clause-stopped t c =
@@ -322,8 +345,15 @@ walk_record-returns-in_err-all-clause-stopped t c =
 pub walk_record-returns-in_err-found-clause-grows : goal.walk_record-returns-in_err-found-clause-grows
 walk_record-returns-in_err-found-clause-grows t c = (retabled_grows c.args.w.now c.walk_fields.new.w c.recorded.new.table c.in_ok-all.ensures.grows c.recorded.ensures.keeps)
 
+pub walk_record-returns-in_err-found-clause-verdicts : goal.walk_record-returns-in_err-found-clause-verdicts
+walk_record-returns-in_err-found-clause-verdicts t c = verdicts_keep c.walk_fields.new.w.table c.recorded.new.table c.args.dialect c.walk_fields.new.verdicts c.recorded.ensures.keeps c.walk_fields.ensures.verdicts
+
 pub walk_record-settle-requires-clause-sound : goal.walk_record-settle-requires-clause-sound
 walk_record-settle-requires-clause-sound t c = (retabled_grows c.args.w.now c.walk_fields.new.w c.recorded.new.table c.in_ok-all.ensures.grows c.recorded.ensures.keeps).sound
+
+pub walk_record-returns-clause-verdicts : goal.walk_record-returns-clause-verdicts
+walk_record-returns-clause-verdicts t c = subst (λ ts. AreVerdictsOn ts c.args.dialect c.walk_fields.new.verdicts) (sym c.settle.ensures.table)
+    (verdicts_keep c.walk_fields.new.w.table c.recorded.new.table c.args.dialect c.walk_fields.new.verdicts c.recorded.ensures.keeps c.walk_fields.ensures.verdicts)
 
 pub walk_record-returns-clause-walked : goal.walk_record-returns-clause-walked
 walk_record-returns-clause-walked t c =

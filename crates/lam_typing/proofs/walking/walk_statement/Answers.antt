@@ -4,6 +4,7 @@ use Rattle.lam_rules.proofs.Tables.{keeps_same}
 use Rattle.lam_scope.specs.Places.{defines, states}
 use Rattle.lam_scope.specs.WellFormed.{IsWellFormedStatement}
 use Rattle.lam_scope.specs.Views.{statement_of}
+use Rattle.lam_typing.proofs.Growing.{verdicts_keep}
 use Rattle.lam_typing.proofs.Glue.{grows_same, grows_trans, retabled_grows, pushed_grows, put_or_not}
 use Rattle.lam_typing.proofs.Statements.{err_stopped_at, goes_on_defined, goes_on_declared, goes_on_stated, defined_stopped, stated_stopped}
 use Rattle.lam_typing.proofs.walking.walk_statement.Goals as goal
@@ -25,13 +26,22 @@ returns-in_ok-push-in-Definition-clause-goes_on c = rw (ap statement_of c.in-Def
 pub returns-in_err-entry-in-Declaration-clause-grows : goal.returns-in_err-entry-in-Declaration-clause-grows
 returns-in_err-entry-in-Declaration-clause-grows c = retabled_grows c.args.w.now c.args.w.now c.added.new.table (grows_same c.args.w.now c.requires.sound) c.added.ensures.keeps
 
+pub returns-in_err-entry-in-Declaration-clause-verdicts : goal.returns-in_err-entry-in-Declaration-clause-verdicts
+returns-in_err-entry-in-Declaration-clause-verdicts c = verdicts_keep c.args.w.now.table c.added.new.table c.args.dialect c.args.verdicts.now c.added.ensures.keeps c.requires.verdicts
+
 pub returns-in_err-push-in-Declaration-clause-grows : goal.returns-in_err-push-in-Declaration-clause-grows
 returns-in_err-push-in-Declaration-clause-grows c =
     pushed_grows c.args.w.now c.added.new.table c.push-in-Declaration.new.self c.in_ok-entry-in-Declaration.entry c.requires.sound c.added.ensures.keeps (put_or_not _ _ _ _ c.push-in-Declaration.ensures.items) c.in_ok-entry-in-Declaration.ensures.stands
 
+pub returns-in_err-push-in-Declaration-clause-verdicts : goal.returns-in_err-push-in-Declaration-clause-verdicts
+returns-in_err-push-in-Declaration-clause-verdicts c = verdicts_keep c.args.w.now.table c.added.new.table c.args.dialect c.args.verdicts.now c.added.ensures.keeps c.requires.verdicts
+
 pub returns-in_ok-push-in-Declaration-clause-grows : goal.returns-in_ok-push-in-Declaration-clause-grows
 returns-in_ok-push-in-Declaration-clause-grows c =
     pushed_grows c.args.w.now c.added.new.table c.push-in-Declaration.new.self c.in_ok-entry-in-Declaration.entry c.requires.sound c.added.ensures.keeps (inl c.in_ok-push-in-Declaration.ensures.items) c.in_ok-entry-in-Declaration.ensures.stands
+
+pub returns-in_ok-push-in-Declaration-clause-verdicts : goal.returns-in_ok-push-in-Declaration-clause-verdicts
+returns-in_ok-push-in-Declaration-clause-verdicts c = verdicts_keep c.args.w.now.table c.added.new.table c.args.dialect c.args.verdicts.now c.added.ensures.keeps c.requires.verdicts
 
 pub returns-in_ok-push-in-Declaration-clause-goes_on : goal.returns-in_ok-push-in-Declaration-clause-goes_on
 returns-in_ok-push-in-Declaration-clause-goes_on c = rw (ap statement_of c.in-Declaration.is)
