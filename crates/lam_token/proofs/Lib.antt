@@ -1,5 +1,5 @@
 pub mod Reading
-pub mod WordLengths
+pub mod FirstBytes
 pub mod Shapes
 pub mod Segments
 pub mod Cuts

@@ -1,6 +1,6 @@
 //! The words of the language.
-ghost use Rattle.std.specs.Prelude.{◌≡◌};
-ghost use Rattle.lam_token.specs.Words.{words, words_of_length, kind_among, is_capital, kind_of_name, word_kind};
+ghost use Rattle.std.specs.Prelude.{◌≡◌, [], ◌∷◌};
+ghost use Rattle.lam_token.specs.Words.{words, first_byte, words_beginning, kind_among, is_capital, kind_of_name, word_kind};
 
 use crate::kind::Kind;
 
@@ -32,82 +32,89 @@ fn is_capital(c: char) -> bool
     c >= 'A' && c <= 'Z'
 }
 
+/// The byte that a word begins with, or 0 for none.
+fn first_byte(word: &str) -> u8
+    ensures { result ≡ first_byte word.now }
+{
+    match word.as_bytes().first() {
+        Some(first) => *first,
+        None => 0,
+    }
+}
+
 /// The kind of a word of the language. Most words of a text are names, so a word is compared with those alone that
-/// have as many letters.
-#[tactic(auto, using(crate::proofs::WordLengths::by_length))]
+/// begin as it does.
+#[tactic(auto, using(crate::proofs::FirstBytes::by_first_byte))]
 fn language_word(word: &str) -> Option<Kind>
     ensures { result ≡ kind_among words word.now }
 {
-    match word.len() {
-        2 => of_two_letters(word),
-        3 => of_three_letters(word),
-        4 => of_four_letters(word),
-        5 => of_five_letters(word),
-        6 => of_six_letters(word),
+    match first_byte(word) {
+        b'a' => only(word, "as", Kind::As),
+        b'e' => only(word, "else", Kind::Else),
+        b'f' => of_f(word),
+        b'i' => of_i(word),
+        b'l' => of_l(word),
+        b'p' => only(word, "pred", Kind::Pred),
+        b's' => only(word, "succ", Kind::Succ),
+        b't' => of_t(word),
+        b'u' => only(word, "unit", Kind::UnitTerm),
+        b'B' => only(word, "Bool", Kind::BoolType),
+        b'N' => only(word, "Nat", Kind::NatType),
+        b'T' => only(word, "Top", Kind::TopType),
+        b'U' => only(word, "Unit", Kind::UnitType),
         _ => None,
     }
 }
 
-#[tactic(auto, unfolding(crate::specs::Words::words_of_length, crate::specs::Words::words))]
-fn of_two_letters(word: &str) -> Option<Kind>
-    ensures { result ≡ kind_among (words_of_length 2) word.now }
+/// This kind, if the word is this text.
+fn only(word: &str, text: &str, kind: Kind) -> Option<Kind>
+    ensures { result ≡ kind_among ((text.now, kind) ∷ []) word.now }
 {
-    match word {
-        "if" => Some(Kind::If),
-        "in" => Some(Kind::In),
-        "as" => Some(Kind::As),
-        _ => None,
-    }
+    if word == text { Some(kind) } else { None }
 }
 
-#[tactic(auto, unfolding(crate::specs::Words::words_of_length, crate::specs::Words::words))]
-fn of_three_letters(word: &str) -> Option<Kind>
-    ensures { result ≡ kind_among (words_of_length 3) word.now }
+#[tactic(auto, unfolding(crate::specs::Words::words_beginning, crate::specs::Words::words))]
+fn of_f(word: &str) -> Option<Kind>
+    ensures { result ≡ kind_among (words_beginning 102) word.now }
 {
     match word {
-        "let" => Some(Kind::Let),
         "fix" => Some(Kind::Fix),
-        "Nat" => Some(Kind::NatType),
-        "Top" => Some(Kind::TopType),
-        _ => None,
-    }
-}
-
-#[tactic(auto, unfolding(crate::specs::Words::words_of_length, crate::specs::Words::words))]
-fn of_four_letters(word: &str) -> Option<Kind>
-    ensures { result ≡ kind_among (words_of_length 4) word.now }
-{
-    match word {
-        "then" => Some(Kind::Then),
-        "else" => Some(Kind::Else),
-        "succ" => Some(Kind::Succ),
-        "pred" => Some(Kind::Pred),
-        "true" => Some(Kind::True),
-        "unit" => Some(Kind::UnitTerm),
-        "Bool" => Some(Kind::BoolType),
-        "Unit" => Some(Kind::UnitType),
-        _ => None,
-    }
-}
-
-#[tactic(auto, unfolding(crate::specs::Words::words_of_length, crate::specs::Words::words))]
-fn of_five_letters(word: &str) -> Option<Kind>
-    ensures { result ≡ kind_among (words_of_length 5) word.now }
-{
-    match word {
         "false" => Some(Kind::False),
         _ => None,
     }
 }
 
-#[tactic(auto, unfolding(crate::specs::Words::words_of_length, crate::specs::Words::words))]
-fn of_six_letters(word: &str) -> Option<Kind>
-    ensures { result ≡ kind_among (words_of_length 6) word.now }
+#[tactic(auto, unfolding(crate::specs::Words::words_beginning, crate::specs::Words::words))]
+fn of_i(word: &str) -> Option<Kind>
+    ensures { result ≡ kind_among (words_beginning 105) word.now }
+{
+    match word {
+        "if" => Some(Kind::If),
+        "in" => Some(Kind::In),
+        "iszero" => Some(Kind::IsZero),
+        _ => None,
+    }
+}
+
+#[tactic(auto, unfolding(crate::specs::Words::words_beginning, crate::specs::Words::words))]
+fn of_l(word: &str) -> Option<Kind>
+    ensures { result ≡ kind_among (words_beginning 108) word.now }
 {
     match word {
         "lambda" => Some(Kind::Lambda),
+        "let" => Some(Kind::Let),
         "letrec" => Some(Kind::Letrec),
-        "iszero" => Some(Kind::IsZero),
+        _ => None,
+    }
+}
+
+#[tactic(auto, unfolding(crate::specs::Words::words_beginning, crate::specs::Words::words))]
+fn of_t(word: &str) -> Option<Kind>
+    ensures { result ≡ kind_among (words_beginning 116) word.now }
+{
+    match word {
+        "then" => Some(Kind::Then),
+        "true" => Some(Kind::True),
         _ => None,
     }
 }
