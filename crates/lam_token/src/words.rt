@@ -44,7 +44,7 @@ fn first_byte(word: &str) -> u8
 
 /// The kind of a word of the language. Most words of a text are names, so a word is compared with those alone that
 /// begin as it does.
-#[tactic(auto, using(crate::proofs::FirstBytes::by_first_byte))]
+#[tactic(auto, using(crate::proofs::FirstBytes::by_first_byte), unfolding(crate::specs::Words::words_beginning, crate::specs::Words::words))]
 fn language_word(word: &str) -> Option<Kind>
     ensures { result ≡ kind_among words word.now }
 {
