@@ -13,7 +13,8 @@ pub mod WellFormedForms
 pub mod PlaceTerms
 pub mod Slices
 pub mod TableRows
-pub mod Grouping
+pub mod TokenLists
+pub mod UseChains
 pub mod Reading
 pub mod PlaceCounts
 pub mod SeenOrigins

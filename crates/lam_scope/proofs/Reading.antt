@@ -11,9 +11,13 @@ use Rattle.lam_scope.specs.Slices.{first_start, AreInOrder}
 use Rattle.lam_scope.specs.Tables.{TextBinder, binder_in, place_in, seen_in, no_span}
 use Rattle.lam_scope.specs.declared.rows.BinderRow.{BinderRow}
 use Rattle.lam_scope.specs.declared.rows.PlaceRow.{PlaceRow}
-use Rattle.lam_scope.specs.TableViews.{binder_number, text_binder, text_place, text_places, terms_start}
-use Rattle.lam_scope.proofs.Grouping.{uses-drop}
+use Rattle.lam_scope.specs.declared.rows.UseRow.{UseRow}
+use Rattle.lam_scope.specs.TableViews.{binder_number, text_binder, text_use, text_place, text_places, terms_start}
 use Rattle.lam_scope.proofs.Slices.{first_start-at, first_start-past, in_order-at, in_order-within, sliced-at, sliced-past}
+
+pub uses-drop : (us : List UseRow) (i : ℕ) (u : UseRow) → i < length us → u ≡ get_or us i u
+    → map text_use (drop i us) ≡ text_use u ∷ map text_use (drop (i + 1) us)
+uses-drop us i u lt is = rw add-one (rw (drop-cons us i u lt) (ap (λ v. text_use v ∷ map text_use (drop (suc i) us)) (sym is)))
 
 pub binders-drop : (bs : List BinderRow) (i : ℕ) (b : BinderRow) → i < length bs → b ≡ get_or bs i b
     → map text_binder (drop i bs) ≡ text_binder b ∷ map text_binder (drop (i + 1) bs)

@@ -8,6 +8,7 @@ pub mod Nameless
 pub mod Tables
 pub mod Slices
 pub mod TableViews
+pub mod UseChains
 pub mod EachWritten
 pub mod WellFormed
 pub mod Found

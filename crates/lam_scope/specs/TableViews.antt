@@ -1,5 +1,5 @@
 -- How the rows of the tables and the binders that are seen stand for those of the definitions.
-use Rattle.std.specs.Prelude.{List, [], ◌∷◌, ◌++◌, ℕ, zero, suc, map, Option, None, Some}
+use Rattle.std.specs.Prelude.{List, [], ◌∷◌, ℕ, zero, suc, map, Option}
 use Rattle.std.specs.Option.{option_map}
 use Rattle.lam_syntax.specs.Letters.{letters}
 use Rattle.lam_scope.specs.declared.numbers.Binder.{Binder}
@@ -9,7 +9,6 @@ use Rattle.lam_scope.specs.declared.rows.UseRow.{UseRow}
 use Rattle.lam_token.specs.declared.span.Span.{Span}
 use Rattle.lam_scope.specs.declared.numbers.Origin.{Origin}
 use Rattle.lam_scope.specs.declared.rows.Rows.{Rows}
-use Rattle.lam_scope.specs.declared.binding.Spans.{Spans}
 use Rattle.lam_scope.specs.declared.token_lists.TokenLists.{TokenLists}
 use Rattle.lam_scope.specs.declared.rows.PlaceRow.{PlaceRow}
 use Rattle.lam_scope.specs.declared.seen.SeenBinder.{SeenBinder}
@@ -87,27 +86,3 @@ listed s ts = ts
 -- the lists of tokens that `TokenLists` hold, in their order
 abbrev pub lists_in : TokenLists → List (List Span)
 lists_in l = sliced list_start listed l.tokens.items l.starts.items
-
--- the tokens that each of some `Spans` holds
-abbrev pub span_lists : List Spans → List (List Span)
-span_lists = map (λ l. l.items.items)
-
--- lists of tokens, with one more token at the end of the list of this number, if there is one
-abbrev pub noted_at : ℕ → Span → List (List Span) → List (List Span)
-noted_at n s [] = []
-noted_at zero s (l ∷ ls) = (l ++ s ∷ []) ∷ ls
-noted_at (suc n) s (l ∷ ls) = l ∷ noted_at n s ls
-
--- the tokens of the uses of each binder, with one more for this binder; that of an unbound use is left out
-abbrev pub noted_for : Option ℕ → Span → List (List Span) → List (List Span)
-noted_for None s ls = ls
-noted_for (Some n) s ls = noted_at n s ls
-
--- the tokens of the uses of each binder, with that of this use behind those of its binder, if that is among these
-abbrev pub noted : TextUse → List (List Span) → List (List Span)
-noted u ls = noted_for u.binder u.token ls
-
--- so many lists without a token
-abbrev pub empty_lists : ℕ → List (List Span)
-empty_lists zero = []
-empty_lists (suc n) = [] ∷ empty_lists n

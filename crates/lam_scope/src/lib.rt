@@ -28,6 +28,7 @@ mod stretches;
 #[cfg(test)]
 mod tests;
 mod token_lists;
+mod use_chains;
 mod walk;
 mod written;
 

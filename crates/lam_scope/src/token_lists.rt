@@ -1,7 +1,9 @@
 //! Lists of tokens, with the tokens of all lists in one block of memory.
-ghost use Rattle.std.specs.Prelude.{◌≡◌, ◌+◌, ◌<◌, [], ◌∷◌, ◌++◌, length, drop, slice_index_or, IfOk, OnOk};
+ghost use Rattle.std.specs.Prelude.{◌≡◌, ◌+◌, ◌<◌, [], length, map, drop, slice_index_or, IfOk};
 ghost use Rattle.lam_scope.specs.Slices.{first_start, AreInOrder, AreInOrder-prop};
 
+use crate::rows::UseRow;
+use crate::use_chains::{UseChains, push_tokens};
 use lam_token::Span;
 use std::alloc::{AllocError, Global};
 
@@ -16,33 +18,30 @@ pub(crate) struct TokenLists {
 }
 
 impl TokenLists {
-    ghost use Rattle.lam_scope.specs.TableViews.{list_start, lists_in};
+    ghost use Rattle.lam_scope.specs.TableViews.{text_use, list_start, lists_in};
+    ghost use Rattle.lam_scope.specs.Tables.{tokens_by};
+    ghost use Rattle.lam_scope.specs.UseChains.{AreChains};
 
-    /// No list, and room for so many, which have so many tokens together.
-    pub(crate) fn with_room(
+    /// The tokens of the uses of each binder that has a chain, in the order of the text.
+    pub(crate) fn of_chains(
         alloc: Global,
-        lists: usize,
-        tokens: usize,
+        chains: &UseChains,
+        uses: &[UseRow],
     ) -> Result<TokenLists, AllocError>
-        ensures { IfOk result (λ l. lists_in l ≡ []) }
+        requires { AreChains chains.now.firsts.items chains.now.nexts.items uses.now uses.now }
+        ensures { IfOk result (λ l. lists_in l ≡ tokens_by 0 (length chains.now.firsts.items) (map text_use uses.now)) }
     {
-        Ok(TokenLists {
-            tokens: Vec::with_capacity(alloc, tokens)?,
-            starts: Vec::with_capacity(alloc, lists)?,
-        })
-    }
-
-    /// One more list, behind the others.
-    pub(crate) fn add(&mut self, list: &[Span]) -> Result<(), AllocError>
-        ensures { OnOk result (lists_in self.new ≡ lists_in self.old ++ list.now ∷ []) }
-    {
-        self.starts.push(self.tokens.len())?;
-        self.tokens.extend_from_slice(list)?;
-        Ok(())
+        let mut tokens = Vec::with_capacity(alloc, uses.len())?;
+        let mut starts = Vec::with_capacity(alloc, chains.firsts.len())?;
+        for binder in 0..chains.firsts.len() {
+            starts.push(tokens.len())?;
+            push_tokens(&mut tokens, chains, uses, binder)?;
+        }
+        Ok(TokenLists { tokens, starts })
     }
 
     /// The list of that number.
-    #[tactic(auto, using(crate::proofs::Grouping::listing))]
+    #[tactic(auto, using(crate::proofs::TokenLists::listing))]
     pub(crate) fn get(&self, number: usize) -> &[Span]
         ensures { result.now ≡ slice_index_or (lists_in self.now) number [] }
     {
@@ -53,7 +52,7 @@ impl TokenLists {
     }
 
     /// Where the list of that number ends.
-    #[tactic(auto, using(crate::proofs::Grouping::listing))]
+    #[tactic(auto, using(crate::proofs::TokenLists::listing))]
     fn end(&self, number: usize) -> usize
         requires { number < length self.now.starts.items }
         ensures { result ≡ first_start list_start (drop (number + 1) self.now.starts.items) (length self.now.tokens.items) }
