@@ -1,6 +1,6 @@
 -- Two bounds of one pair, both in its order, are one type.
 use Rattle.std.proofs.Common.{◌≡◌, ◌∙◌, ap, sym, refl, inl, inr, subst}
-use Rattle.lam_rules.specs.Types.{Label, Typ, nat, top, arrow, record_of, Fields, no_fields, field, joined, Has, IsWellFormed, AreWellFormed}
+use Rattle.lam_rules.specs.Types.{Label, Typ, nat, top, arrow, record_of, Fields, field, joined, Has, IsWellFormed, AreWellFormed}
 use Rattle.lam_rules.specs.Subtyping.{IsBelow}
 use Rattle.lam_rules.specs.declared.rules.Dialect.{Dialect}
 use Rattle.lam_rules.proofs.ByShape.{Under, under_bool, under_nat, under_unit, under_top, under_arrow, under_record, under_bool_nat, below_under, below_wf}

@@ -24,10 +24,9 @@ pub use rules::{Dialect, SubRule, TypeRule};
 pub use subtyping::{SubProof, check_sub};
 pub use table::TyTable;
 pub use terms::{Core, make_letrec};
-pub use texts::{one_sorted_form, plain_text_of, sorted_of, text_of};
+pub use texts::{one_sorted_form, plain_text_of, text_of};
 pub use types::{
-    Fields, Ty, copy_of, copy_of_fields, has_field, is_absent, make_arrow, make_record, same,
-    same_fields, size, wf,
+    Fields, Ty, copy_of, copy_of_fields, make_arrow, make_record, same, same_fields, size, wf,
 };
 pub use typing::{TypeProof, check_type};
 

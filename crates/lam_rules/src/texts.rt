@@ -98,7 +98,7 @@ pub fn text_of(alloc: Global, ty: &Ty) -> Result<String, AllocError>
 /// label keep their places.
 #[cycle(sorted)]
 #[tactic(auto, using(crate::proofs::TypeShapes::shapes))]
-pub fn sorted_of(alloc: Global, ty: &Ty) -> Result<Ty, AllocError>
+pub(crate) fn sorted_of(alloc: Global, ty: &Ty) -> Result<Ty, AllocError>
     ensures { IfOk result (λ made. typ_of made ≡ sorted (typ_of ty.now)) }
 {
     match ty {

@@ -81,7 +81,7 @@ fn wf_fields(fields: &[(String, Ty)]) -> bool
 
 /// Whether no field has this label.
 #[tactic(auto, using(crate::proofs::TypeShapes::shapes))]
-pub fn is_absent(label: &str, fields: &[(String, Ty)]) -> bool
+pub(crate) fn is_absent(label: &str, fields: &[(String, Ty)]) -> bool
     ensures { IsTrue result ↔ IsAbsent label.now (fields_of fields.now) }
 {
     for field in fields {
@@ -94,7 +94,7 @@ pub fn is_absent(label: &str, fields: &[(String, Ty)]) -> bool
 
 /// Whether a field with this label and this type is among the fields.
 #[tactic(auto, using(crate::proofs::TypeShapes::shapes))]
-pub fn has_field(label: &str, ty: &Ty, fields: &[(String, Ty)]) -> bool
+pub(crate) fn has_field(label: &str, ty: &Ty, fields: &[(String, Ty)]) -> bool
     ensures { IsTrue result ↔ Has label.now (typ_of ty.now) (fields_of fields.now) }
 {
     for field in fields {

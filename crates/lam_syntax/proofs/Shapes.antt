@@ -2,7 +2,6 @@
 use Rattle.std.proofs.Common.{◌≡◌, List, [], ◌∷◌, ◌++◌, map, ap, sym, ◌∙◌, refl, Vec, Box}
 use Rattle.std.specs.declared.alloc.Global.{Global}
 use Rattle.lam_syntax.specs.declared.identifier.Identifier.{Identifier}
-use Rattle.lam_syntax.specs.declared.identifier.Binder.{Binder}
 use Rattle.lam_syntax.specs.declared.types.WrittenTy.{WrittenTy, fold-WrittenTy, fold_out-WrittenTy}
 use Rattle.lam_syntax.specs.declared.types.ArrowTy.{ArrowTy, fold-ArrowTy, fold_out-ArrowTy}
 use Rattle.lam_syntax.specs.declared.types.TyField.{TyField, fold-TyField, fold_out-TyField}

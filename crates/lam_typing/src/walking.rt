@@ -404,7 +404,7 @@ fn walk_record(
     ensures walked { IfOk result (λ found. WalkedOver w.old w.new (record_term (terms_of fields.now)) found dialect) }
     ensures stopped { IfErr result (λ stop. HasStopped stop w.old w.new (record_term (terms_of fields.now)) dialect) }
 {
-    let mut parts = Vec::new(verdicts.alloc);
+    let mut parts = Vec::with_capacity(verdicts.alloc, fields.len())?;
     let all = walk_fields(w, verdicts, fields, &mut parts, dialect)?;
     let found = recorded(&mut w.table, all, parts)?;
     let blame = blame_if(all, found, "E9");

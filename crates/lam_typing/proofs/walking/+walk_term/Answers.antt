@@ -339,7 +339,7 @@ walk_let-returns-clause-stopped t c =
 
 pub walk_record-returns-in_err-all-clause-stopped : goal.walk_record-returns-in_err-all-clause-stopped
 walk_record-returns-in_err-all-clause-stopped t c =
-    err_stopped c.from_residual.result _ c.args.w.now c.walk_fields.new.w (record_term (terms_of c.args.fields.now)) c.args.dialect c.from_residual.ensures.1
+    err_stopped c.from_residual-in_err-all.result _ c.args.w.now c.walk_fields.new.w (record_term (terms_of c.args.fields.now)) c.args.dialect c.from_residual-in_err-all.ensures.1
     (among_front _ (entries_of c.args.w.now) (λ s. places_in s (terms_of c.args.fields.now)) (λ s. record { scope = s; here = (record_term (terms_of c.args.fields.now)) } ∷ []) c.args.w.now c.walk_fields.new.w c.args.dialect c.in_err-all.ensures.stopped)
 
 pub walk_record-returns-in_err-found-clause-grows : goal.walk_record-returns-in_err-found-clause-grows
@@ -360,7 +360,7 @@ walk_record-returns-clause-walked t c =
     settled_ok _ c.args.w.now (retabled c.walk_fields.new.w c.recorded.new.table) c.settle.new.w (record_term (terms_of c.args.fields.now)) (λ s. places_in s (terms_of c.args.fields.now)) c.in_ok-found.found c.blame_if-blame.result c.args.dialect (λ s. refl) c.in_ok-all.ensures.walked.entries c.in_ok-found.ensures.stands
     (record_parts c.args.w.now c.walk_fields.new.w (retabled c.walk_fields.new.w c.recorded.new.table) (terms_of c.args.fields.now) _ _ c.in_ok-all.all c.in_ok-found.found c.blame_if-blame.result c.args.dialect c.in_ok-all.ensures.walked
     (progress_same c.walk_fields.new.w (retabled c.walk_fields.new.w c.recorded.new.table) c.in_ok-all.ensures.grows.sound c.recorded.ensures.keeps refl refl)
-    (subst (λ items. RecordRule (if_all c.in_ok-all.all (fields_over c.walk_fields.new.w.table items)) (answer c.recorded.new.table c.in_ok-found.found)) (parts_empty _ _ _ c.in_ok-all.ensures.walked.parts_are c.new-parts.ensures.items) c.in_ok-found.ensures.rule)
+    (subst (λ items. RecordRule (if_all c.in_ok-all.all (fields_over c.walk_fields.new.w.table items)) (answer c.recorded.new.table c.in_ok-found.found)) (parts_empty _ _ _ c.in_ok-all.ensures.walked.parts_are c.in_ok-parts.ensures.items) c.in_ok-found.ensures.rule)
     c.blame_if-blame.ensures)
     c.settle.ensures.settled
 
@@ -369,12 +369,12 @@ walk_record-returns-clause-stopped t c =
     settled_err _ c.args.w.now (retabled c.walk_fields.new.w c.recorded.new.table) c.settle.new.w (record_term (terms_of c.args.fields.now)) (λ s. places_in s (terms_of c.args.fields.now)) c.in_ok-found.found c.blame_if-blame.result c.args.dialect (λ s. refl) c.in_ok-all.ensures.walked.entries c.in_ok-found.ensures.stands
     (record_parts c.args.w.now c.walk_fields.new.w (retabled c.walk_fields.new.w c.recorded.new.table) (terms_of c.args.fields.now) _ _ c.in_ok-all.all c.in_ok-found.found c.blame_if-blame.result c.args.dialect c.in_ok-all.ensures.walked
     (progress_same c.walk_fields.new.w (retabled c.walk_fields.new.w c.recorded.new.table) c.in_ok-all.ensures.grows.sound c.recorded.ensures.keeps refl refl)
-    (subst (λ items. RecordRule (if_all c.in_ok-all.all (fields_over c.walk_fields.new.w.table items)) (answer c.recorded.new.table c.in_ok-found.found)) (parts_empty _ _ _ c.in_ok-all.ensures.walked.parts_are c.new-parts.ensures.items) c.in_ok-found.ensures.rule)
+    (subst (λ items. RecordRule (if_all c.in_ok-all.all (fields_over c.walk_fields.new.w.table items)) (answer c.recorded.new.table c.in_ok-found.found)) (parts_empty _ _ _ c.in_ok-all.ensures.walked.parts_are c.in_ok-parts.ensures.items) c.in_ok-found.ensures.rule)
     c.blame_if-blame.ensures)
     c.settle.ensures.stopped
 
 pub walk_record-recorded-requires : goal.walk_record-recorded-requires
-walk_record-recorded-requires t c = subst (λ items. AreEarlier (length c.walk_fields.new.w.table) items) (sym (parts_empty _ _ _ c.in_ok-all.ensures.walked.parts_are c.new-parts.ensures.items)) c.in_ok-all.ensures.walked.stand
+walk_record-recorded-requires t c = subst (λ items. AreEarlier (length c.walk_fields.new.w.table) items) (sym (parts_empty _ _ _ c.in_ok-all.ensures.walked.parts_are c.in_ok-parts.ensures.items)) c.in_ok-all.ensures.walked.stand
 
 pub walk_fields-returns-in_default-clause-walked : goal.walk_fields-returns-in_default-clause-walked
 walk_fields-returns-in_default-clause-walked t c = no_fields_walked c.args.w.now c.args.fields.now c.args.parts.now.items c.args.dialect c.in_default.ensures.cases

@@ -1,4 +1,4 @@
-use Rattle.std.proofs.Common.{◌≡◌, ◌∙◌, ap, sym, is_some, Some}
+use Rattle.std.proofs.Common.{◌∙◌, ap, sym, is_some, Some}
 use Rattle.std.proofs.lemmas.Result.{IfOk-weaker}
 use Rattle.serde_json.specs.View.{view}
 use Rattle.lam_text.specs.Edits.{text_after}
