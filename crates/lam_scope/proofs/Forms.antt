@@ -1,5 +1,5 @@
 -- How nameless forms are made.
-use Rattle.std.proofs.Common.{◌≡◌, ℕ, ◌≤◌, Option, List, [], ◌∷◌, ◌++◌, length, drop, refl, ap, sym, ◌∙◌, String, string_bytes}
+use Rattle.std.proofs.Common.{◌≡◌, ℕ, ◌≤◌, List, [], ◌∷◌, ◌++◌, length, drop, refl, ap, sym, ◌∙◌, String, string_bytes}
 use Rattle.std.proofs.lemmas.List.{drop_all}
 use Rattle.std.specs.declared.alloc.Global.{Global}
 use Rattle.lam_rules.specs.declared.terms.Core.{Core}
@@ -9,9 +9,9 @@ use Rattle.lam_rules.proofs.TermShapes.{term_of-True, term_of-False, term_of-If,
 use Rattle.lam_syntax.proofs.Shapes.{term_node_of-True, term_node_of-False, term_node_of-Unit, term_node_of-Variable, term_node_of-Numeral, term_node_of-Lambda, term_node_of-If, term_node_of-Let, term_node_of-Letrec, term_node_of-Prefixed, term_node_of-Apply, term_node_of-Project, term_node_of-Ascribe, term_node_of-Record}
 use Rattle.lam_syntax.specs.declared.terms.TmField.{TmField}
 use Rattle.lam_syntax.specs.Views.{fields_of}
-use Rattle.lam_scope.specs.Names.{Name}
 use Rattle.lam_scope.specs.Expansions.{Abbreviation}
-use Rattle.lam_scope.specs.Nameless.{nameless_fields}
+use Rattle.lam_scope.specs.Counted.{counted_fields}
+use Rattle.lam_scope.specs.Tables.{TextUse}
 use Rattle.lam_scope.proofs.Walks.{fields_of-drop}
 
 -- fields of a record, and more behind them
@@ -28,8 +28,8 @@ pub joined_terms-push : (fs : List (String Global × Core)) (f : String Global �
 joined_terms-push [] f gs = refl
 joined_terms-push (g ∷ fs) f gs = ap (λ r. term_field (string_bytes g.0) (term_of g.1) r) (joined_terms-push fs f gs)
 
-pub forms_all : (bs : List Abbreviation) (xs : List (Option Name)) (forms : List (String Global × Core)) (fs : List TmField) (i : ℕ) (all : TermFields) → length fs ≤ i
-    → joined_terms (terms_of forms) (nameless_fields bs xs (fields_of (drop i fs))) ≡ all → terms_of forms ≡ all
-forms_all bs xs forms fs i all le so_far = sym (joined_terms-none (terms_of forms)) ∙ (rw (drop_all i fs le) at so_far)
+pub forms_all : (bs : List Abbreviation) (us : List TextUse) (forms : List (String Global × Core)) (fs : List TmField) (i : ℕ) (all : TermFields) → length fs ≤ i
+    → joined_terms (terms_of forms) (counted_fields bs (fields_of (drop i fs)) us) ≡ all → terms_of forms ≡ all
+forms_all bs us forms fs i all le so_far = sym (joined_terms-none (terms_of forms)) ∙ (rw (drop_all i fs le) at so_far)
 
 pub ruleset forms = (term_of-True, term_of-False, term_of-If, term_of-Num, term_of-Succ, term_of-Pred, term_of-IsZero, term_of-Var, term_of-Free, term_of-Abs, term_of-App, term_of-Unit, term_of-Ascribe, term_of-Let, term_of-Record, term_of-Proj, term_of-Fix, term_node_of-True, term_node_of-False, term_node_of-Unit, term_node_of-Variable, term_node_of-Numeral, term_node_of-Lambda, term_node_of-If, term_node_of-Let, term_node_of-Letrec, term_node_of-Prefixed, term_node_of-Apply, term_node_of-Project, term_node_of-Ascribe, term_node_of-Record, fields_of-drop, joined_terms-none, joined_terms-push)

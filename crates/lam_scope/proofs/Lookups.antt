@@ -12,8 +12,8 @@ use Rattle.lam_scope.specs.Names.{Name, binds, count}
 use Rattle.lam_scope.specs.Stacks.{stacked, outside}
 use Rattle.lam_scope.specs.Abbreviations.{abbreviation_of, abbreviations_in, name_of_one, names_in}
 use Rattle.lam_scope.specs.Expansions.{Abbreviation, abbreviation, meaning, is_bound}
-use Rattle.lam_scope.specs.Tables.{Entry, bound_to}
-use Rattle.lam_scope.specs.TableViews.{entry_of, entries_of, entry_names}
+use Rattle.lam_scope.specs.Tables.{Entry, entry_names, bound_to}
+use Rattle.lam_scope.specs.TableViews.{entry_of, entries_of}
 use Rattle.lam_scope.proofs.StackViews.{stacked-length, stacked-nth, stacked-popped}
 
 abbrev value_of : Option ℕ → ℕ

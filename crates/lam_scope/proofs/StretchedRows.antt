@@ -11,7 +11,7 @@ use Rattle.lam_scope.specs.declared.rows.BinderRow.{BinderRow}
 use Rattle.lam_scope.specs.declared.numbers.Place.{Place}
 use Rattle.lam_scope.specs.declared.rows.PlaceRow.{PlaceRow}
 use Rattle.lam_scope.specs.declared.rows.UseRow.{UseRow}
-use Rattle.lam_scope.specs.TableViews.{text_binder, text_use, text_place, text_places, terms_start, binder_number}
+use Rattle.lam_scope.specs.TableViews.{text_binder, text_use, text_place, text_places, terms_start, binder_number, binder_of}
 use Rattle.lam_scope.specs.Slices.{first_start}
 use Rattle.lam_scope.specs.Stretches.{has, no_bytes, one_byte}
 use Rattle.lam_scope.specs.RowStretches.{place_stretch, binder_stretch, use_stretch, answer_at, used_at}
@@ -197,9 +197,9 @@ answer_past [] n le = refl
 answer_past (c ∷ bs) zero le = absurd (omega arith)
 answer_past (c ∷ bs) (suc n) le = answer_past bs n (omega arith)
 
-pub use_read : (us : List UseRow) (n : ℕ) (u : UseRow) → n < length us → u ≡ get_or us n u → used_at (map text_use us) n ≡ option_map binder_number u.binder
+pub use_read : (us : List UseRow) (n : ℕ) (u : UseRow) → n < length us → u ≡ get_or us n u → used_at (map text_use us) n ≡ option_map binder_of u.bound
 use_read [] n u lt is = absurd (omega arith)
-use_read (v ∷ us) zero u lt is = ap (λ w. option_map binder_number w.binder) (sym is)
+use_read (v ∷ us) zero u lt is = ap (λ w. option_map binder_of w.bound) (sym is)
 use_read (v ∷ us) (suc n) u lt is = use_read us n u (omega arith) is
 
 pub use_past : (us : List UseRow) (n : ℕ) → length us ≤ n → used_at (map text_use us) n ≡ None

@@ -5,11 +5,11 @@ use Rattle.std.proofs.Math.ListN.{get_or-append}
 use Rattle.std.proofs.Math.Seq.{get_or-append_seam}
 use Rattle.std.proofs.lemmas.Bool.Decides.{nat_tests}
 use Rattle.std.specs.Option.{option_map}
-use Rattle.lam_scope.specs.declared.numbers.Binder.{Binder}
+use Rattle.lam_scope.specs.declared.seen.Bound.{Bound}
 use Rattle.lam_token.specs.declared.span.Span.{Span}
 use Rattle.lam_scope.specs.declared.rows.UseRow.{UseRow}
 use Rattle.lam_scope.specs.Tables.{TextUse, is_number, is_use_of, tokens_of}
-use Rattle.lam_scope.specs.TableViews.{text_use, binder_number}
+use Rattle.lam_scope.specs.TableViews.{text_use, binder_of}
 use Rattle.lam_scope.proofs.Reading.{uses-drop}
 use Rattle.lam_scope.specs.UseChains.{IsChain, no_more, one_more, AreChains}
 
@@ -89,15 +89,15 @@ chains_skip firsts nexts more longer us i d lt off pushed chains b in_firsts =
     subst (λ ns. IsChain us ns (get_or firsts b 0) (tokens_of b (map text_use (drop i us)))) (sym pushed)
     (subst (λ ts. IsChain us (nexts ++ more) (get_or firsts b 0) ts) (sym (ap (tokens_of b) here ∙ same)) (chain_longer more (chains b in_firsts)))
 
-pub chains_unbound : (firsts nexts more longer : List ℕ) (us : List UseRow) (i : ℕ) (d : UseRow) → length nexts + i + 1 ≡ length us → (get_or us i d).binder ≡ None → longer ≡ nexts ++ more
+pub chains_unbound : (firsts nexts more longer : List ℕ) (us : List UseRow) (i : ℕ) (d : UseRow) → length nexts + i + 1 ≡ length us → (get_or us i d).bound ≡ None → longer ≡ nexts ++ more
     → AreChains firsts nexts us (drop (i + 1) us) → AreChains firsts longer us (drop i us)
 chains_unbound firsts nexts more longer us i d count unbound pushed chains =
-    chains_skip firsts nexts more longer us i d (omega arith) (λ b lt. ap (λ o. is_number b (option_map binder_number o)) unbound) pushed chains
+    chains_skip firsts nexts more longer us i d (omega arith) (λ b lt. ap (λ o. is_number b (option_map binder_of o)) unbound) pushed chains
 
-pub chains_past : (firsts nexts more longer : List ℕ) (us : List UseRow) (i : ℕ) (c : Binder) (d : UseRow) → length nexts + i + 1 ≡ length us → (get_or us i d).binder ≡ Some c → length firsts ≤ c.0
+pub chains_past : (firsts nexts more longer : List ℕ) (us : List UseRow) (i : ℕ) (c : Bound) (d : UseRow) → length nexts + i + 1 ≡ length us → (get_or us i d).bound ≡ Some c → length firsts ≤ c.binder.0
     → longer ≡ nexts ++ more → AreChains firsts nexts us (drop (i + 1) us) → AreChains firsts longer us (drop i us)
 chains_past firsts nexts more longer us i c d count bound past pushed chains =
-    chains_skip firsts nexts more longer us i d (omega arith) (λ b lt. ap (λ o. is_number b (option_map binder_number o)) bound ∙ other_number c.0 b (λ e. absurd (omega arith))) pushed chains
+    chains_skip firsts nexts more longer us i d (omega arith) (λ b lt. ap (λ o. is_number b (option_map binder_of o)) bound ∙ other_number c.binder.0 b (λ e. absurd (omega arith))) pushed chains
 
 -- of this binder
 chains_more : (firsts nexts : List ℕ) (us : List UseRow) (i c : ℕ) (u : UseRow) → length nexts + i + 1 ≡ length us → u ≡ get_or us i u → (text_use u).binder ≡ Some c → c < length firsts
@@ -130,13 +130,13 @@ chains_more firsts nexts us i c u count is bound in_firsts chains b lt = by (sam
         (subst (λ ts. IsChain us (nexts ++ more) (get_or firsts b 0) ts) (sym (ap (tokens_of b) here ∙ same))
         (chain_longer more (chains b (omega (arith, kept, lt)))))
 
-pub chains_put : (firsts nexts longer : List ℕ) (us : List UseRow) (i first n : ℕ) (c : Binder) (d : UseRow) → length nexts + i + 1 ≡ length us → (get_or us i d).binder ≡ Some c → c.0 < length firsts
-    → first ≡ get_or firsts c.0 first → longer ≡ nexts ++ first ∷ [] → n ≡ length longer
-    → AreChains firsts nexts us (drop (i + 1) us) → AreChains (slice_set firsts c.0 n) longer us (drop i us)
+pub chains_put : (firsts nexts longer : List ℕ) (us : List UseRow) (i first n : ℕ) (c : Bound) (d : UseRow) → length nexts + i + 1 ≡ length us → (get_or us i d).bound ≡ Some c → c.binder.0 < length firsts
+    → first ≡ get_or firsts c.binder.0 first → longer ≡ nexts ++ first ∷ [] → n ≡ length longer
+    → AreChains firsts nexts us (drop (i + 1) us) → AreChains (slice_set firsts c.binder.0 n) longer us (drop i us)
 chains_put firsts nexts longer us i first n c d count bound in_firsts first_is pushed n_is chains =
     let u = get_or us i d in
     let more = length-append nexts (first ∷ []) in
-    let same : first ≡ get_or firsts c.0 0 = first_is ∙ get_or_default firsts c.0 first 0 in_firsts in
+    let same : first ≡ get_or firsts c.binder.0 0 = first_is ∙ get_or_default firsts c.binder.0 first 0 in_firsts in
     let number : n ≡ suc (length nexts) = n_is ∙ ap length pushed ∙ more ∙ omega arith in
-    subst (λ ns. AreChains (slice_set firsts c.0 n) ns us (drop i us)) (sym (pushed ∙ ap (λ k. nexts ++ k ∷ []) same))
-    (subst (λ k. AreChains (slice_set firsts c.0 k) (nexts ++ get_or firsts c.0 0 ∷ []) us (drop i us)) (sym number) (chains_more firsts nexts us i c.0 u count (get_or_default us i d u (omega arith)) (ap (option_map binder_number) bound) in_firsts chains))
+    subst (λ ns. AreChains (slice_set firsts c.binder.0 n) ns us (drop i us)) (sym (pushed ∙ ap (λ k. nexts ++ k ∷ []) same))
+    (subst (λ k. AreChains (slice_set firsts c.binder.0 k) (nexts ++ get_or firsts c.binder.0 0 ∷ []) us (drop i us)) (sym number) (chains_more firsts nexts us i c.binder.0 u count (get_or_default us i d u (omega arith)) (ap (option_map binder_of) bound) in_firsts chains))

@@ -9,6 +9,7 @@ pub mod Tables
 pub mod Slices
 pub mod TableViews
 pub mod UseChains
+pub mod Counted
 pub mod EachWritten
 pub mod WellFormed
 pub mod Found

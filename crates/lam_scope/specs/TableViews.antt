@@ -12,7 +12,7 @@ use Rattle.lam_scope.specs.declared.rows.Rows.{Rows}
 use Rattle.lam_scope.specs.declared.token_lists.TokenLists.{TokenLists}
 use Rattle.lam_scope.specs.declared.rows.PlaceRow.{PlaceRow}
 use Rattle.lam_scope.specs.declared.seen.SeenBinder.{SeenBinder}
-use Rattle.lam_scope.specs.Names.{Name}
+use Rattle.lam_scope.specs.declared.seen.Bound.{Bound}
 use Rattle.lam_scope.specs.Slices.{sliced}
 use Rattle.lam_scope.specs.Stacks.{stacked}
 use Rattle.lam_scope.specs.Tables.{Entry, entry, TextBinder, TextUse, TextPlace, Table}
@@ -33,17 +33,21 @@ entry_of b = entry (option_map (λ x. letters x.now) b.name) b.number.0 b.answer
 abbrev pub entries_of : List SeenBinder → List Entry
 entries_of = stacked entry_of []
 
--- the names of binders that are seen, in their order; an underscore has none
-abbrev pub entry_names : List Entry → List (Option Name)
-entry_names = map (λ e. e.name)
-
 -- the binder that a `BinderRow` tells of
 abbrev pub text_binder : BinderRow → TextBinder
 text_binder r = record { name = option_map (λ s. letters s) r.name; token = r.token; outer = option_map binder_number r.outer; answer = r.answer.0; origin = r.origin }
 
+-- the number of the binder of a use
+abbrev pub binder_of : Bound → ℕ
+binder_of b = b.binder.0
+
+-- how many binders stand between a use and its own
+abbrev pub between_of : Bound → ℕ
+between_of b = b.between
+
 -- the use that a `UseRow` tells of
 abbrev pub text_use : UseRow → TextUse
-text_use r = record { token = r.token; binder = option_map binder_number r.binder }
+text_use r = record { token = r.token; binder = option_map binder_of r.bound; between = option_map between_of r.bound }
 
 -- the place that a `PlaceRow` tells of, with these immediate terms
 abbrev pub text_place : PlaceRow → List Place → TextPlace

@@ -6,7 +6,7 @@ use Rattle.lam_token.specs.declared.span.Span.{Span}
 use Rattle.lam_syntax.specs.Trees.{word, bound, TypeTree, type_tree, TypeNode, named, arrow, record_type, TypeFields, no_type_fields, type_field, TermTree, term_tree, TermNode, variable, lambda, if_term, let_term, letrec_term, prefixed, apply, project, ascribe, record_term, TermFields, no_fields, field, CommandTree, definition, declaration, abbreviation, evaluation, term_span}
 use Rattle.lam_scope.specs.declared.numbers.Origin.{Origin}
 use Rattle.lam_scope.specs.declared.numbers.Origin.TheVariants.{Declaration, TypeName}
-use Rattle.lam_scope.specs.Names.{Name, binds}
+use Rattle.lam_scope.specs.Names.{Name, binds, count}
 use Rattle.lam_scope.specs.Sights.{lambda_at, term_at}
 
 -- A binder of names or of type names, in the order of the text. A letrec's token is two: the derived lambda's, and the let's behind it.
@@ -25,6 +25,8 @@ pub record TextUse : Type 0 where
   pub token : Span
   -- the one that it is told to have, or none where it is unbound
   pub binder : Option ℕ
+  -- how many binders of its kind stand between it and its own, or none where it is unbound
+  pub between : Option ℕ
 
 -- a term of a command, in the order of places
 pub record TextPlace : Type 0 where
@@ -71,13 +73,17 @@ abbrev pub bound_to : Name → List Entry → Option ℕ
 bound_to x [] = None
 bound_to x (e ∷ es) = if binds e.name x then Some e.answer else bound_to x es
 
+-- the names of binders that are seen, in their order; an underscore has none
+abbrev pub entry_names : List Entry → List (Option Name)
+entry_names = map (λ e. e.name)
+
 -- the table of one binder, inside of those of its kind that are seen
 abbrev pub binder_row : Option Name → Span → List Entry → (answer : ℕ) → Origin → Table
 binder_row x s seen a o = record { binders = record { name = x; token = s; outer = innermost seen; answer = a; origin = o } ∷ []; uses = []; places = [] }
 
 -- the table of one use, of a name that sees these binders of its kind
 abbrev pub use_row : Name → Span → List Entry → Table
-use_row x s seen = record { binders = []; uses = record { token = s; binder = bound_to x seen } ∷ []; places = [] }
+use_row x s seen = record { binders = []; uses = record { token = s; binder = bound_to x seen; between = count x (entry_names seen) } ∷ []; places = [] }
 
 -- the table of one place, which sees these binders of names
 abbrev pub place_row : Span → (derived : Bool) → (terms : List ℕ) → List Entry → Table

@@ -5,13 +5,14 @@ ghost use Rattle.lam_scope.specs.Nameless.{statements, faults, first_too_large};
 ghost use Rattle.lam_scope.specs.Places.{places_of};
 ghost use Rattle.lam_scope.specs.Tables.{table};
 ghost use Rattle.lam_scope.specs.WellFormed.{AreWellFormedStatements};
+ghost use Rattle.lam_scope.specs.TableViews.{text_use};
 ghost use Rattle.lam_scope.specs.Views.{statement_of, statements_of, origins_of, faults_of, AreScopesOf, IsLimit};
 
 use crate::fault::ScopeFault;
 use crate::numbers::Origin;
 use crate::resolved::Resolved;
 use crate::resolver::Resolver;
-use crate::rows::BinderRow;
+use crate::rows::{BinderRow, UseRow};
 use crate::scopes::Scopes;
 use lam_syntax::Command;
 use std::alloc::{AllocError, Global};
@@ -30,13 +31,12 @@ pub fn resolve(alloc: Global, commands: &[Command], scopes: &Scopes) -> Result<R
 {
     let Resolver {
         abbreviations,
-        names,
+        uses: _uses,
         faults,
         statements,
-    } = resolve_all(alloc, commands)?;
+    } = resolve_all(alloc, commands, &scopes.rows.uses)?;
     // They are dropped before there is one list more: memory is at its peak here.
     drop(abbreviations);
-    drop(names);
     let Ok(origins) = origins_in(alloc, &scopes.rows.binders) else {
         return Err(ScopeFault::Memory);
     };
@@ -48,12 +48,17 @@ pub fn resolve(alloc: Global, commands: &[Command], scopes: &Scopes) -> Result<R
 }
 
 #[tactic(auto, using(crate::proofs::Resolving::commands))]
-fn resolve_all<'a>(alloc: Global, commands: &'a [Command]) -> Result<Resolver<'a>, ScopeFault>
+fn resolve_all<'a>(
+    alloc: Global,
+    commands: &'a [Command],
+    uses: &'a [UseRow],
+) -> Result<Resolver<'a>, ScopeFault>
+    requires { map text_use uses.now ≡ (table (map command_of commands.now)).uses }
     ensures statements { IfOk result (λ r. map statement_of r.statements.items ≡ statements [] [] (map command_of commands.now)) }
     ensures faults { IfOk result (λ r. r.faults.items ≡ faults [] (map command_of commands.now)) }
     ensures limit { IsLimit (first_too_large [] (map command_of commands.now)) result }
 {
-    let Ok(mut resolver) = Resolver::with_capacity(alloc, commands.len()) else {
+    let Ok(mut resolver) = Resolver::with_capacity(alloc, commands.len(), uses) else {
         return Err(ScopeFault::Memory);
     };
     for i in 0..commands.len() {

@@ -8,8 +8,7 @@ ghost use Rattle.lam_scope.specs.PlacedTerms.{commands_placed};
 ghost use Rattle.lam_scope.specs.Places.{places_of};
 ghost use Rattle.lam_scope.specs.Sights.{sight_numbered};
 ghost use Rattle.lam_scope.specs.Nesting.{AreNested, AreSpelledFrom, IsInnermost};
-ghost use Rattle.lam_scope.specs.Tables.{Table, table, Entry, bound_to, binder_numbered, visible_at, place_at};
-ghost use Rattle.lam_scope.specs.TableViews.{entry_names};
+ghost use Rattle.lam_scope.specs.Tables.{Table, table, Entry, entry_names, bound_to, binder_numbered, visible_at, place_at};
 
 /// The table of commands and their nameless form have as many places, and the binders that a place sees in the table take
 /// their types from where the nameless form says, the outermost first. (Nothing runs here: the contract is the law.)

@@ -29,6 +29,7 @@ mod stretches;
 mod tests;
 mod token_lists;
 mod use_chains;
+mod uses_left;
 mod walk;
 mod written;
 

@@ -7,7 +7,7 @@ ghost use Rattle.lam_scope.specs.Tables.{◌⊕◌, empty_table, binder_row, use
 
 use crate::numbers::{Binder, Origin, Place};
 use crate::room::Room;
-use crate::seen::Seen;
+use crate::seen::{Bound, Seen};
 use lam_syntax::{Identifier, Text};
 use lam_token::Span;
 use std::alloc::{AllocError, Global};
@@ -29,8 +29,8 @@ pub(crate) struct BinderRow {
 #[derive(Drop)]
 pub(crate) struct UseRow {
     pub(crate) token: Span,
-    /// The one that it is told to have, or none where it is unbound.
-    pub(crate) binder: Option<Binder>,
+    /// The binder that it is told to have, or none where it is unbound.
+    pub(crate) bound: Option<Bound>,
 }
 
 /// A place.
@@ -120,7 +120,7 @@ impl Rows {
     {
         let row = UseRow {
             token: used.span,
-            binder: seen.find(used.text.as_str()),
+            bound: seen.find(used.text.as_str()),
         };
         self.uses.push(row)?;
         Ok(())

@@ -208,10 +208,9 @@ fn binder_used_at(uses: &[UseRow], runs: &[Stretch], offset: usize) -> Option<Bi
 fn used_at(uses: &[UseRow], index: usize) -> Option<Binder>
     ensures { option_map binder_number result ≡ used_at (map text_use uses.now) index }
 {
-    match uses.get(index) {
-        Some(row) => row.binder,
-        None => None,
-    }
+    let row = uses.get(index)?;
+    let bound = row.bound?;
+    Some(bound.binder)
 }
 
 /// A binder, the one just outside of it, and so on.

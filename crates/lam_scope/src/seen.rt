@@ -3,8 +3,9 @@ ghost use Rattle.std.specs.Prelude.{◌≡◌, ◌∷◌, [], IfOk, OnOk};
 ghost use Rattle.std.specs.Option.{option_map};
 ghost use Rattle.lam_syntax.specs.Letters.{letters};
 ghost use Rattle.lam_scope.specs.Stacks.{outside};
-ghost use Rattle.lam_scope.specs.Tables.{innermost, bound_to};
-ghost use Rattle.lam_scope.specs.TableViews.{entry_of, entries_of, entry_names, binder_number};
+ghost use Rattle.lam_scope.specs.Names.{count};
+ghost use Rattle.lam_scope.specs.Tables.{innermost, bound_to, entry_names};
+ghost use Rattle.lam_scope.specs.TableViews.{entry_of, entries_of, binder_number, binder_of, between_of};
 
 use crate::names::{Names, text_of};
 use crate::numbers::Binder;
@@ -21,6 +22,15 @@ pub(crate) struct SeenBinder<'a> {
     pub(crate) answer: Binder,
 }
 
+/// What a name that is seen means.
+#[derive(Clone, Copy)]
+pub(crate) struct Bound {
+    /// The binder that its uses are told as.
+    pub(crate) binder: Binder,
+    /// How many binders of its kind are seen further inside.
+    pub(crate) between: usize,
+}
+
 /// The binders that a term sees. A clause sees them as a list, the innermost first.
 #[derive(Drop)]
 pub(crate) struct Seen<'a> {
@@ -31,8 +41,8 @@ pub(crate) struct Seen<'a> {
 
 impl<'a> Model for Seen<'a> {
     ghost use Rattle.std.specs.Prelude.{◌≡◌, List};
-    ghost use Rattle.lam_scope.specs.Tables.{Entry};
-    ghost use Rattle.lam_scope.specs.TableViews.{entries_of, entry_names};
+    ghost use Rattle.lam_scope.specs.Tables.{Entry, entry_names};
+    ghost use Rattle.lam_scope.specs.TableViews.{entries_of};
 
     ghost Value = { List Entry };
 
@@ -83,9 +93,10 @@ impl<'a> Seen<'a> {
         innermost_in(&self.stack)
     }
 
-    /// The innermost of that name, by the binder that its uses are told as.
-    pub(crate) fn find(&self, name: &str) -> Option<Binder>
-        ensures { option_map binder_number result ≡ bound_to name.now self.now }
+    /// The innermost of that name.
+    pub(crate) fn find(&self, name: &str) -> Option<Bound>
+        ensures binder { option_map binder_of result ≡ bound_to name.now self.now }
+        ensures between { option_map between_of result ≡ count name.now (entry_names self.now) }
     {
         find_in(&self.stack, &self.names, name)
     }
@@ -127,15 +138,19 @@ fn innermost_in(stack: &[SeenBinder<'_>]) -> Option<Binder>
     }
 }
 
-fn find_in(stack: &[SeenBinder<'_>], names: &Names<'_>, name: &str) -> Option<Binder>
+fn find_in(stack: &[SeenBinder<'_>], names: &Names<'_>, name: &str) -> Option<Bound>
     requires { names.now ≡ entry_names (entries_of stack.now) }
-    ensures { option_map binder_number result ≡ bound_to name.now (entries_of stack.now) }
+    ensures binder { option_map binder_of result ≡ bound_to name.now (entries_of stack.now) }
+    ensures between { option_map between_of result ≡ count name.now (entry_names (entries_of stack.now)) }
 {
     match names.count(name) {
         None => None,
-        Some(count) => {
-            let seen = item_under(stack, count);
-            Some(seen.answer)
+        Some(between) => {
+            let seen = item_under(stack, between);
+            Some(Bound {
+                binder: seen.answer,
+                between,
+            })
         }
     }
 }

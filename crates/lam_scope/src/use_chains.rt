@@ -46,10 +46,11 @@ fn chain_use(chains: &mut UseChains, uses: &[UseRow], index: usize) -> Result<()
     ensures chains { OnOk result (AreChains chains.new.firsts.items chains.new.nexts.items uses.now (drop index uses.now)) }
 {
     let used = &uses[index];
-    let Some(binder) = used.binder else {
+    let Some(bound) = used.bound else {
         chains.nexts.push(0)?;
         return Ok(());
     };
+    let binder = bound.binder;
     if binder.0 < chains.firsts.len() {
         chains.nexts.push(chains.firsts[binder.0])?;
         chains.firsts[binder.0] = chains.nexts.len();

@@ -1,7 +1,7 @@
 use Rattle.std.proofs.Common.{◌≡◌, ◌+◌, ◌*◌, drop}
 use Rattle.lam_rules.specs.TermViews.{terms_of}
 use Rattle.lam_syntax.specs.Views.{term_of, fields_of}
-use Rattle.lam_scope.specs.Nameless.{nameless_fields}
+use Rattle.lam_scope.specs.Counted.{counted_fields, past_fields}
 use Rattle.lam_scope.specs.Views.{abbreviations_of}
 use Rattle.lam_scope.proofs.Forms.{joined_terms}
 use Rattle.lam_scope.proofs.TreeSizes.{tree_size, tree_sizes}
@@ -9,9 +9,9 @@ use Rattle.lam_scope.proofs.nameless.+nameless.Given as goal
 
 abbrev pub invariant-nameless_fields-loop-i : goal.invariant-nameless_fields-loop-i
 invariant-nameless_fields-loop-i l = record {
-  form : joined_terms (terms_of l.forms.items) (nameless_fields (abbreviations_of l.seen) l.names (fields_of (drop l.i l.fields)))
-      ≡ nameless_fields (abbreviations_of l.seen) l.initial.names (fields_of l.fields);
-  names : l.names ≡ l.initial.names;
+  form : joined_terms (terms_of l.forms.items) (counted_fields (abbreviations_of l.seen) (fields_of (drop l.i l.fields)) l.uses)
+      ≡ counted_fields (abbreviations_of l.seen) (fields_of l.fields) l.initial.uses;
+  uses : past_fields (fields_of (drop l.i l.fields)) l.uses ≡ past_fields (fields_of l.fields) l.initial.uses;
 }
 
 abbrev pub decreases-nameless : goal.decreases-nameless
@@ -19,9 +19,6 @@ decreases-nameless l = 4 * tree_size (term_of l.term.now)
 
 abbrev pub decreases-boxed : goal.decreases-boxed
 decreases-boxed l = 4 * tree_size (term_of l.term.now) + 1
-
-abbrev pub decreases-under : goal.decreases-under
-decreases-under l = 4 * tree_size (term_of l.body.now) + 1
 
 abbrev pub decreases-lambda_of : goal.decreases-lambda_of
 decreases-lambda_of l = 4 * tree_size (term_of l.term.now.body) + 2

@@ -1,6 +1,7 @@
 use Rattle.std.proofs.Common.{sym, ap, ◌∙◌}
 use Rattle.lam_scope.specs.Stacks.{outside}
-use Rattle.lam_scope.specs.TableViews.{entry_of, entries_of, entry_names}
+use Rattle.lam_scope.specs.Tables.{entry_names}
+use Rattle.lam_scope.specs.TableViews.{entry_of, entries_of}
 use Rattle.lam_scope.proofs.Lookups.{top_left, names_left}
 use Rattle.lam_scope.proofs.seen.leave_in.Goals as goal
 

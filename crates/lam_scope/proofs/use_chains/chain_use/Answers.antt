@@ -8,10 +8,10 @@ returns-in_default-clause-chains c =
 
 pub returns-in_ok-push-2-clause-chains : goal.returns-in_ok-push-2-clause-chains
 returns-in_ok-push-2-clause-chains c =
-    chains_put c.args.chains.now.firsts.items c.args.chains.now.nexts.items _ c.args.uses.now c.args.index c.index.result.now _ c.in-Some.binder _ c.requires.index c.in-Some.is (search rules)
+    chains_put c.args.chains.now.firsts.items c.args.chains.now.nexts.items _ c.args.uses.now c.args.index c.index.result.now _ c.in-Some.bound _ c.requires.index c.in-Some.is (search rules)
     c.index.ensures c.in_ok-push-2.ensures.items (search rules) c.requires.later
 
 pub returns-in_ok-push-3-clause-chains : goal.returns-in_ok-push-3-clause-chains
 returns-in_ok-push-3-clause-chains c =
-    chains_past c.args.chains.now.firsts.items c.args.chains.now.nexts.items _ _ c.args.uses.now c.args.index c.in-Some.binder _ c.requires.index c.in-Some.is (search rules)
+    chains_past c.args.chains.now.firsts.items c.args.chains.now.nexts.items _ _ c.args.uses.now c.args.index c.in-Some.bound _ c.requires.index c.in-Some.is (search rules)
     c.in_ok-push-3.ensures.items c.requires.later

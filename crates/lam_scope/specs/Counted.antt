@@ -1,0 +1,106 @@
+-- The document without names, by its uses in the order of the text: the count of a use of a name is told by the first of the uses that are left.
+use Rattle.std.specs.Prelude.{ℕ, List, [], ◌∷◌, Option, None}
+use Rattle.lam_rules.specs.Terms.{Term, true_term, false_term, if_then_else, numeral, lambda, apply, unit_term, ascribe, let_in, record_term, project, TermFields, no_terms, term_field, letrec_in}
+use Rattle.lam_syntax.specs.Trees as tree
+use Rattle.lam_syntax.specs.Trees.{word, TypeTree, type_tree, TypeNode, named, arrow, record_type, TypeFields, no_type_fields, type_field, TermTree, term_tree, TermNode, CommandTree, definition, declaration, evaluation}
+use Rattle.lam_scope.specs.Expansions.{Abbreviation, expansion}
+use Rattle.lam_scope.specs.Nameless.{use_counted, prefixed, abbreviations_after}
+use Rattle.lam_scope.specs.Places.{Statement, defines, declares, abbreviates, states}
+use Rattle.lam_scope.specs.Tables.{TextUse}
+
+-- how many binders stand between the first use and its own, or none where it is unbound
+abbrev pub first_between : List TextUse → Option ℕ
+first_between [] = None
+first_between (u ∷ us) = u.between
+
+-- the uses behind the first one
+abbrev pub past_first : List TextUse → List TextUse
+past_first [] = []
+past_first (u ∷ us) = us
+
+-- the uses behind those of a written type
+abbrev mutual
+  pub past_type : TypeTree → List TextUse → List TextUse
+  past_type (type_tree s n) us = past_type_node n us
+
+  -- those behind the form of a written type
+  pub past_type_node : TypeNode → List TextUse → List TextUse
+  past_type_node (named w) us = past_first us
+  past_type_node (arrow a b) us = past_type b (past_type a us)
+  past_type_node (record_type fs) us = past_type_fields fs us
+  past_type_node n us = us
+
+  -- those behind the fields of a record type
+  pub past_type_fields : TypeFields → List TextUse → List TextUse
+  past_type_fields no_type_fields us = us
+  past_type_fields (type_field l t fs) us = past_type_fields fs (past_type t us)
+
+-- the uses behind those of a term
+abbrev mutual
+  pub past : TermTree → List TextUse → List TextUse
+  past (term_tree s n) us = past_node n us
+
+  -- those behind the form of a term
+  pub past_node : TermNode → List TextUse → List TextUse
+  past_node (tree.variable w) us = past_first us
+  past_node (tree.lambda b u t) us = past t (past_type u us)
+  past_node (tree.if_term c t u) us = past u (past t (past c us))
+  past_node (tree.let_term b t u) us = past u (past t us)
+  past_node (tree.letrec_term b w t u) us = past u (past t (past_type w us))
+  past_node (tree.prefixed p t) us = past t us
+  past_node (tree.apply t u) us = past u (past t us)
+  past_node (tree.project t l) us = past t us
+  past_node (tree.ascribe t u) us = past_type u (past t us)
+  past_node (tree.record_term fs) us = past_fields fs us
+  past_node n us = us
+
+  -- those behind the terms of a record
+  pub past_fields : tree.TermFields → List TextUse → List TextUse
+  past_fields tree.no_fields us = us
+  past_fields (tree.field l t fs) us = past_fields fs (past t us)
+
+-- the uses behind those of a command
+abbrev pub past_command : CommandTree → List TextUse → List TextUse
+past_command (definition w t) us = past t us
+past_command (declaration w u) us = past_type u us
+past_command (tree.abbreviation w u) us = past_type u us
+past_command (evaluation t) us = past t us
+
+-- The nameless form of a term that sees these abbreviations and begins with the first of these uses.
+abbrev mutual
+  pub counted : List Abbreviation → TermTree → List TextUse → Term
+  counted bs (term_tree s n) us = counted_node bs n us
+
+  -- that of the form of a term
+  pub counted_node : List Abbreviation → TermNode → List TextUse → Term
+  counted_node bs tree.true_term us = true_term
+  counted_node bs tree.false_term us = false_term
+  counted_node bs tree.unit_term us = unit_term
+  counted_node bs (tree.variable (word x s)) us = use_counted x (first_between us)
+  counted_node bs (tree.numeral (word x s)) us = numeral x
+  counted_node bs (tree.lambda b u t) us = lambda (expansion bs u) (counted bs t (past_type u us))
+  counted_node bs (tree.if_term c t u) us = if_then_else (counted bs c us) (counted bs t (past c us)) (counted bs u (past t (past c us)))
+  counted_node bs (tree.let_term b t u) us = let_in (counted bs t us) (counted bs u (past t us))
+  counted_node bs (tree.letrec_term b w t u) us = letrec_in (expansion bs w) (counted bs t (past_type w us)) (counted bs u (past t (past_type w us)))
+  counted_node bs (tree.prefixed p t) us = prefixed p (counted bs t us)
+  counted_node bs (tree.apply t u) us = apply (counted bs t us) (counted bs u (past t us))
+  counted_node bs (tree.project t (word l s)) us = project (counted bs t us) l
+  counted_node bs (tree.ascribe t u) us = ascribe (counted bs t us) (expansion bs u)
+  counted_node bs (tree.record_term fs) us = record_term (counted_fields bs fs us)
+
+  -- that of the terms of a record, with their labels
+  pub counted_fields : List Abbreviation → tree.TermFields → List TextUse → TermFields
+  counted_fields bs tree.no_fields us = no_terms
+  counted_fields bs (tree.field (word l s) t fs) us = term_field l (counted bs t us) (counted_fields bs fs (past t us))
+
+-- what a command states
+abbrev pub statement_counted : List Abbreviation → CommandTree → List TextUse → Statement
+statement_counted bs (definition w t) us = defines (counted bs t us)
+statement_counted bs (declaration w u) us = declares (expansion bs u)
+statement_counted bs (tree.abbreviation w u) us = abbreviates (expansion bs u)
+statement_counted bs (evaluation t) us = states (counted bs t us)
+
+-- what commands state, each behind those before it
+abbrev pub statements_counted : List Abbreviation → List CommandTree → List TextUse → List Statement
+statements_counted bs [] us = []
+statements_counted bs (c ∷ cs) us = statement_counted bs c us ∷ statements_counted (abbreviations_after bs c) cs (past_command c us)
