@@ -11,7 +11,7 @@ use Rattle.lam_scope.specs.Nameless.{use_counted, prefixed, nameless, nameless_n
 use Rattle.lam_scope.specs.Places.{defines, states}
 use Rattle.lam_scope.specs.Sights.{lambda_at, term_at}
 use Rattle.lam_scope.specs.Tables.{TextUse, Table, ◌⊕◌, Entry, entry, entry_names, binder_row, place_row, root, behind, roots, binders_in, type_uses, node_uses, field_uses, term_table, node_table, fields_table, command_table, commands_table, table, types_seen_after, names_seen_after, binders_in_command, places_in_command}
-use Rattle.lam_scope.specs.Counted.{first_between, past_first, past_type, past_type_node, past_type_fields, past, past_node, past_fields, past_command, counted, counted_node, counted_fields, statement_counted, statements_counted}
+use Rattle.lam_scope.specs.Counted.{first_between, past_first, past_type, past_type_node, past_type_fields, past, past_node, past_fields, past_command, past_commands, counted, counted_node, counted_fields, statement_counted, statements_counted}
 use Rattle.lam_scope.proofs.WrittenTypes.{type_fields_of-drop}
 
 pub ruleset passing = (type_node_of-Bool, type_node_of-Nat, type_node_of-Unit, type_node_of-Top, type_node_of-Named, type_node_of-Arrow, type_node_of-Record, type_fields_of-drop, drop_all)
@@ -147,14 +147,17 @@ names_behind n names (tree.abbreviation (word x s) u) = refl
 names_behind n names (evaluation t) = refl
 
 commands_counted : (types names : List Entry) (n k i : ℕ) (bs : List Abbreviation) (cs : List CommandTree) (us rest : List TextUse) → us ≡ (commands_table types names n k i cs).uses ++ rest
-    → statements_counted bs cs us ≡ statements bs (entry_names names) cs
-commands_counted types names n k i bs [] us rest e = refl
+    → (statements_counted bs cs us ≡ statements bs (entry_names names) cs) × (past_commands cs us ≡ rest)
+commands_counted types names n k i bs [] us rest e = (refl, e)
 commands_counted types names n k i bs (c ∷ cs) us rest e =
     let others = commands_table (types_seen_after n types c) (names_seen_after n names c) (n + binders_in_command c) (k + places_in_command c) (i + 1) cs in
     let one = command_counted types names n k i bs c us (others.uses ++ rest) (split (command_table types names n k i c) others us rest e) in
     let all = commands_counted (types_seen_after n types c) (names_seen_after n names c) (n + binders_in_command c) (k + places_in_command c) (i + 1) (abbreviations_after bs c) cs (past_command c us) rest one.1 in
-    let named = all ∙ ap (λ xs. statements (abbreviations_after bs c) xs cs) (names_behind n names c) in
-    λ j. one.0 j ∷ named j
+    let named = all.0 ∙ ap (λ xs. statements (abbreviations_after bs c) xs cs) (names_behind n names c) in
+    ((λ j. one.0 j ∷ named j), all.1)
 
 pub document_counted : (cs : List CommandTree) (us : List TextUse) → us ≡ (table cs).uses → statements_counted [] cs us ≡ statements [] [] cs
-document_counted cs us e = commands_counted [] [] 0 0 0 [] cs us [] (e ∙ sym (append-nil (table cs).uses))
+document_counted cs us e = (commands_counted [] [] 0 0 0 [] cs us [] (e ∙ sym (append-nil (table cs).uses))).0
+
+pub document_passed : (cs : List CommandTree) → past_commands cs (table cs).uses ≡ []
+document_passed cs = (commands_counted [] [] 0 0 0 [] cs (table cs).uses [] (sym (append-nil (table cs).uses))).1

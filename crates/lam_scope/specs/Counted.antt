@@ -66,6 +66,11 @@ past_command (declaration w u) us = past_type u us
 past_command (tree.abbreviation w u) us = past_type u us
 past_command (evaluation t) us = past t us
 
+-- the uses behind those of commands
+abbrev pub past_commands : List CommandTree → List TextUse → List TextUse
+past_commands [] us = us
+past_commands (c ∷ cs) us = past_commands cs (past_command c us)
+
 -- The nameless form of a term that sees these abbreviations and begins with the first of these uses.
 abbrev mutual
   pub counted : List Abbreviation → TermTree → List TextUse → Term

@@ -1,6 +1,7 @@
 //! What holds of the table and the nameless form of any commands.
 ghost use Rattle.std.specs.Prelude.{◌≡◌, ◌↔◌, ℕ, [], List, None, Some, map, length, get_or, reverse};
 ghost use Rattle.lam_syntax.specs.Trees.{CommandTree};
+ghost use Rattle.lam_scope.specs.Counted.{statements_counted, past_commands};
 ghost use Rattle.lam_scope.specs.Names.{Name, count};
 ghost use Rattle.lam_scope.specs.Nameless.{statements, faults};
 ghost use Rattle.lam_scope.specs.Expanded.{IsExpanded};
@@ -37,6 +38,13 @@ pub fn one_term()
 pub fn one_binder()
     ensures bound { (x : Name) (seen : List Entry) (n : ℕ) (e : Entry) → count x (entry_names seen) ≡ Some n → get_or seen n e ≡ e → bound_to x seen ≡ Some e.answer }
     ensures unbound { (x : Name) (seen : List Entry) → count x (entry_names seen) ≡ None → bound_to x seen ≡ None }
+{}
+
+/// The uses of a table tell the counts of the nameless form, one after the other in the order of the text, and none is left
+/// behind the last command. (Nothing runs here: the contract is the law.)
+pub fn one_count()
+    ensures counts { (cs : List CommandTree) → statements_counted [] cs (table cs).uses ≡ statements [] [] cs }
+    ensures left { (cs : List CommandTree) → past_commands cs (table cs).uses ≡ [] }
 {}
 
 /// No written type is at fault just where each of them stands for a type. (Nothing runs here: the contract is the law.)

@@ -37,7 +37,9 @@ pub use binding::bind;
 pub use document::resolve;
 pub use expansion::NODE_LIMIT;
 pub use fault::{ScopeFault, TypeFault};
-pub use laws::{faultless_is_expanded, innermost_place, one_binder, one_sight, one_term};
+pub use laws::{
+    faultless_is_expanded, innermost_place, one_binder, one_count, one_sight, one_term,
+};
 pub use numbers::{Binder, Origin, Place};
 pub use resolved::Resolved;
 pub use scopes::Scopes;
