@@ -27,26 +27,26 @@ use Rattle.lam_typing.proofs.Sighted.{written_noted}
 
 -- the analysis, by the later table
 
-has_walked : (w : Walk) (ss : List Statement) (origins : List Origin) (t : Typing) (d : Dialect) → Completes w ss origins t d → HasWalked (record w { table = t.table }) t
-has_walked w ss origins t d completes = record { table = refl; found = completes.found; blames = completes.blames }
+has_walked : (w : Walk) (ss : List Statement) (origins : List Origin) (t : Typing) → Completes w ss origins t → HasWalked (record w { table = t.table }) t
+has_walked w ss origins t completes = record { table = refl; found = completes.found; blames = completes.blames }
 
 pub analysis_of_all : (w0 w : Walk) (last : Option PlaceNumber) (ss : List Statement) (origins : List Origin) (t : Typing) (d : Dialect) → Begins w0 last → Grows w0 w
-    → Went (entries_of w0) (λ s. places_of s ss) (progress_of w0) (progress_of w) d → Completes w ss origins t d → IsAnalysis (up_to last (places_of [] ss)) t d
+    → Went (entries_of w0) (λ s. places_of s ss) (progress_of w0) (progress_of w) d → Completes w ss origins t → IsAnalysis (up_to last (places_of [] ss)) t d
 analysis_of_all w0 w last ss origins t d begins grows went completes =
     let now = t.table in
     let keeps = completes.keeps in
     let same = progress_same w (record w { table = now }) grows.sound keeps refl refl in
     analysed w0 (record w { table = now }) last ss t d begins (retabled_grows w0 w now grows keeps)
-    (subst (λ p. Went (entries_of w0) (λ s. places_of s ss) (progress_of w0) p d) (sym same) went) (has_walked w ss origins t d completes)
+    (subst (λ p. Went (entries_of w0) (λ s. places_of s ss) (progress_of w0) p d) (sym same) went) (has_walked w ss origins t completes)
 
 pub analysis_of_some : (w0 w : Walk) (last : Option PlaceNumber) (ss : List Statement) (origins : List Origin) (t : Typing) (d : Dialect) → Begins w0 last → Grows w0 w
-    → HasStoppedAmong Stop.Enough (entries_of w0) (λ s. places_of s ss) w0 w d → Completes w ss origins t d → IsAnalysis (up_to last (places_of [] ss)) t d
+    → HasStoppedAmong Stop.Enough (entries_of w0) (λ s. places_of s ss) w0 w d → Completes w ss origins t → IsAnalysis (up_to last (places_of [] ss)) t d
 analysis_of_some w0 w last ss origins t d begins grows stopped completes =
     let now = t.table in
     let keeps = completes.keeps in
     let same = progress_same w (record w { table = now }) grows.sound keeps refl refl in
     stopped_behind_last w0 (record w { table = now }) last ss t d begins (retabled_grows w0 w now grows keeps)
-    (rw same stopped.0, stopped.1) (has_walked w ss origins t d completes)
+    (rw same stopped.0, stopped.1) (has_walked w ss origins t completes)
 
 -- a typing of the document
 
@@ -66,14 +66,14 @@ taken_up_to None ps n e = all_taken ps n e
 taken_up_to (Some last) ps n e = taken_again ps (last.0 + 1) n e
 
 pub typing_of : (w : Walk) (last : Option PlaceNumber) (ss : List Statement) (origins : List Origin) (t : Typing) (d : Dialect) → AreWellFormedStatements ss → Grows w w
-    → IsAnalysis (up_to last (places_of [] ss)) t d → Completes w ss origins t d → IsTypingOf ss t
-typing_of w last ss origins t d wf grows analysis completes =
+    → IsAnalysis (up_to last (places_of [] ss)) t d → dialect_of t ≡ d → Completes w ss origins t → IsTypingOf ss t
+typing_of w last ss origins t d wf grows analysis is completes =
     let same : found_of t ≡ answers w.table w.found.items = ap (λ os. answers t.table os) completes.found ∙ answers_keep w.table t.table w.found.items completes.keeps grows.sound.found in
     let taken = taken_up_to last (places_of [] ss) (length (found_of t)) (sym (least_length (up_to last (places_of [] ss)) (found_of t) d analysis.least)) in
     record {
       wf = wf;
       stand = analysis.stand;
-      least = subst (λ ps. AreLeast ps (found_of t) (dialect_of t)) (sym taken) (subst (λ e. AreLeast (up_to last (places_of [] ss)) (found_of t) e) (sym completes.dialect) analysis.least);
+      least = subst (λ ps. AreLeast ps (found_of t) (dialect_of t)) (sym taken) (subst (λ e. AreLeast (up_to last (places_of [] ss)) (found_of t) e) (sym is) analysis.least);
       noted = completes.noted ∙ ap (λ found. notes_of 0 found [] ss) (sym same);
       declared = completes.declared;
     }
@@ -107,8 +107,8 @@ least_told ss t (TermAt p) least among = least p.0 among
 least_told ss t (Declaration i) least among = refl
 least_told ss t TypeName least among = refl
 
-pub entries_of_typing : (w : Walk) (ss : List Statement) (origins : List Origin) (t : Typing) (d : Dialect) → IsTypingOf ss t → Completes w ss origins t d → AreEntries ss origins t
-entries_of_typing w ss origins t d typing completes = record {
+pub entries_of_typing : (w : Walk) (ss : List Statement) (origins : List Origin) (t : Typing) → IsTypingOf ss t → Completes w ss origins t → AreEntries ss origins t
+entries_of_typing w ss origins t typing completes = record {
   each = ap (λ os. map (entry_by t) os) completes.origins_are ∙ all_told ss t origins typing;
   least = λ o among. least_told ss t o (least_among (places_of [] ss) (found_of t) (dialect_of t) typing.least) among;
 }
@@ -122,29 +122,33 @@ pub record Answer (ss : List Statement) (origins : List Origin) (last : Option P
   pub dialect : IfOk r (λ t. dialect_of t ≡ d)
   pub fault : IfErr r (λ fault. IsFaultOf fault (up_to last (places_of [] ss)) d)
 
-answer_ok : (w : Walk) (last : Option PlaceNumber) (ss : List Statement) (origins : List Origin) (t : Typing) (d : Dialect) → AreWellFormedStatements ss → IsSoundWalk w
-    → IsAnalysis (up_to last (places_of [] ss)) t d → Completes w ss origins t d → Answer ss origins last (Ok t) d
-answer_ok w last ss origins t d wf sound analysis completes =
-    let typing = typing_of w last ss origins t d wf (grows_same w sound) analysis completes in
-    record { analysis = analysis; of = typing; entries = entries_of_typing w ss origins t d typing completes; dialect = completes.dialect; fault = tt }
+answer_ok : (w : Walk) (last : Option PlaceNumber) (ss : List Statement) (origins : List Origin) (t : Typing) (d : Dialect) → AreWellFormedStatements ss → IsSoundWalk w → w.verdicts.dialect ≡ d
+    → IsAnalysis (up_to last (places_of [] ss)) t d → Completes w ss origins t → Answer ss origins last (Ok t) d
+answer_ok w last ss origins t d wf sound same analysis completes =
+    let is : dialect_of t ≡ d = completes.dialect ∙ same in
+    let typing = typing_of w last ss origins t d wf (grows_same w sound) analysis is completes in
+    record { analysis = analysis; of = typing; entries = entries_of_typing w ss origins t typing completes; dialect = is; fault = tt }
 
-pub went_through : (w0 w : Walk) (last : Option PlaceNumber) (ss : List Statement) (origins : List Origin) (r : Result Typing TypingFault) (d : Dialect) → AreWellFormedStatements ss → Begins w0 last → Grows w0 w
-    → Went (entries_of w0) (λ s. places_of s ss) (progress_of w0) (progress_of w) d
-    → IfOk r (λ t. Completes w ss origins t d) → IfErr r (λ fault. fault ≡ TypingFault.Memory) → Answer ss origins last r d
-went_through w0 w last ss origins (Ok t) d wf begins grows went completes memory = answer_ok w last ss origins t d wf grows.sound (analysis_of_all w0 w last ss origins t d begins grows went completes) completes
-went_through w0 w last ss origins (Err fault) d wf begins grows went completes memory =
+pub went_through : (w0 w : Walk) (last : Option PlaceNumber) (ss : List Statement) (origins : List Origin) (r : Result Typing TypingFault) (d : Dialect) → AreWellFormedStatements ss → Begins w0 last → w0.verdicts.dialect ≡ d → Grows w0 w
+    → Went (entries_of w0) (λ s. places_of s ss) (progress_of w0) (progress_of w) w0.verdicts.dialect
+    → IfOk r (λ t. Completes w ss origins t) → IfErr r (λ fault. fault ≡ TypingFault.Memory) → Answer ss origins last r d
+went_through w0 w last ss origins (Ok t) d wf begins is grows went completes memory =
+    rw (sym is) (answer_ok w last ss origins t w0.verdicts.dialect wf grows.sound grows.dialect (analysis_of_all w0 w last ss origins t w0.verdicts.dialect begins grows went completes) completes)
+went_through w0 w last ss origins (Err fault) d wf begins is grows went completes memory =
     record { analysis = tt; of = tt; entries = tt; dialect = tt; fault = subst (λ f. IsFaultOf f (up_to last (places_of [] ss)) d) (sym memory) tt }
 
 answer_memory : (last : Option PlaceNumber) (ss : List Statement) (origins : List Origin) (d : Dialect) → Answer ss origins last (Err TypingFault.Memory) d
 answer_memory last ss origins d = record { analysis = tt; of = tt; entries = tt; dialect = tt; fault = tt }
 
-pub ended : (stop : Stop) (w0 w : Walk) (last : Option PlaceNumber) (ss : List Statement) (origins : List Origin) (r : Result Typing TypingFault) (d : Dialect) → AreWellFormedStatements ss → Begins w0 last → Grows w0 w
-    → HasStoppedAmong stop (entries_of w0) (λ s. places_of s ss) w0 w d → IsEndOf stop w ss origins r d → Answer ss origins last r d
-ended Stop.Enough w0 w last ss origins (Ok t) d wf begins grows stopped end = answer_ok w last ss origins t d wf grows.sound (analysis_of_some w0 w last ss origins t d begins grows stopped end) end
-ended Stop.TooLarge w0 w last ss origins (Err (TypingFault.TooLarge place)) d wf begins grows stopped end =
-    record { analysis = tt; of = tt; entries = tt; dialect = tt; fault = subst (λ n. IsFirstTooLarge (up_to last (places_of [] ss)) n d) (sym end) (stopped_at_large w0 w last ss d begins grows stopped) }
-ended stop w0 w last ss origins (Err TypingFault.Memory) d wf begins grows stopped end = answer_memory last ss origins d
-ended _ w0 w last ss origins r d wf begins grows stopped end = absurd end
+pub ended : (stop : Stop) (w0 w : Walk) (last : Option PlaceNumber) (ss : List Statement) (origins : List Origin) (r : Result Typing TypingFault) (d : Dialect) → AreWellFormedStatements ss → Begins w0 last → w0.verdicts.dialect ≡ d → Grows w0 w
+    → HasStoppedAmong stop (entries_of w0) (λ s. places_of s ss) w0 w w0.verdicts.dialect → IsEndOf stop w ss origins r → Answer ss origins last r d
+ended Stop.Enough w0 w last ss origins (Ok t) d wf begins is grows stopped end =
+    rw (sym is) (answer_ok w last ss origins t w0.verdicts.dialect wf grows.sound grows.dialect (analysis_of_some w0 w last ss origins t w0.verdicts.dialect begins grows stopped end) end)
+ended Stop.TooLarge w0 w last ss origins (Err (TypingFault.TooLarge place)) d wf begins is grows stopped end =
+    let first = subst (λ e. IsFirstTooLarge (up_to last (places_of [] ss)) (length w.found.items) e) is (stopped_at_large w0 w last ss w0.verdicts.dialect begins grows stopped) in
+    record { analysis = tt; of = tt; entries = tt; dialect = tt; fault = subst (λ n. IsFirstTooLarge (up_to last (places_of [] ss)) n d) (sym end) first }
+ended stop w0 w last ss origins (Err TypingFault.Memory) d wf begins is grows stopped end = answer_memory last ss origins d
+ended _ w0 w last ss origins r d wf begins is grows stopped end = absurd end
 
 -- the entry of a binder, by its number
 

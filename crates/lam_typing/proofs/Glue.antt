@@ -14,11 +14,14 @@ use Rattle.lam_rules.specs.declared.terms.Core.{Core}
 use Rattle.lam_rules.specs.TermViews.{terms_of}
 use Rattle.lam_rules.specs.declared.numbers.TyNo.{TyNo}
 use Rattle.lam_rules.proofs.Tables.{keeps_same, keeps_trans, keeps_length, kept_number}
+use Rattle.lam_sub.specs.Remembered.{AreRight}
+use Rattle.lam_sub.specs.declared.verdicts.Verdicts.{Verdicts}
+use Rattle.lam_sub.proofs.Keeping.{right_kept}
 use Rattle.lam_scope.specs.Places.{Binding, written, of_term, Scope, Place, places, places_in}
 use Rattle.lam_scope.specs.declared.numbers.Place.{Place as PlaceNumber}
 use Rattle.lam_typing.specs.LeastTypes.{IsLeastAt}
 use Rattle.lam_typing.specs.Answers.{answer, answers, StandsIn, AllStandIn, context_under}
-use Rattle.lam_typing.specs.Progress.{IsLowest, Progress, Went, WentOver, Cause, next_is_too_large, enough, StoppedIn, blame_step, IsApplicationCode, if_all}
+use Rattle.lam_typing.specs.Progress.{IsLowest, Progress, Went, WentOver, Cause, next_is_too_large, enough, StoppedIn, AreFieldsAt, blame_step, IsApplicationCode, if_all}
 use Rattle.lam_typing.specs.Walk.{blamed_of, blames_of, progress_of, entries_of, IsSoundWalk, Grows, WalkedOver, HasStoppedAmong, HasStopped, HasStoppedInFields, FieldsWalked, blame_at, Settles, StopsAt, IsUpTo, IsWithin}
 use Rattle.lam_typing.specs.Steps.{entry_at, NatRule, LambdaRule, ApplyRule, AscribeRule, LetRule, IfRule, FixRule, ProjectRule, MoreRule, RecordRule}
 use Rattle.lam_typing.specs.declared.walking.Walk.{Walk}
@@ -39,6 +42,9 @@ went_as g ps qs old now d same a = record {
   shown = λ s low. rw (sym (same s)) (a.shown s low);
 }
 
+pub went_from : (g h : Context) (ps : Scope → List Place) (p q now : Progress) (d e : Dialect) → g ≡ h → p ≡ q → d ≡ e → Went g ps p now d → Went h ps q now e
+went_from g h ps p q now d e same from is went = rw (sym same, sym from, sym is) went
+
 stopped_as : (g : Context) (ps qs : Scope → List Place) (old now : Progress) (cause : Cause) (d : Dialect) → ((s : Scope) → ps s ≡ qs s) → StoppedIn g ps old now cause d → StoppedIn g qs old now cause d
 stopped_as g ps qs old now cause d same a = record {
   found = a.found;
@@ -51,7 +57,7 @@ stopped_as g ps qs old now cause d same a = record {
 -- growth
 
 pub grows_trans : (a b c : Walk) → Grows a b → Grows b c → Grows a c
-grows_trans a b c p q = record { sound = q.sound; keeps = keeps_trans a.table b.table c.table p.keeps q.keeps; last = q.last ∙ p.last }
+grows_trans a b c p q = record { sound = q.sound; keeps = keeps_trans a.table b.table c.table p.keeps q.keeps; dialect = q.dialect ∙ p.dialect; last = q.last ∙ p.last }
 
 pub entries_same : (old now : Walk) → IsSoundWalk old → Keeps old.table now.table → now.entries.items ≡ old.entries.items → entries_of now ≡ entries_of old
 entries_same old now sound keeps same = ap (λ os. context_under now.table os) same ∙ context_keep old.table now.table old.entries.items keeps sound.entries
@@ -62,12 +68,10 @@ progress_same old now sound keeps found blames =
     let b : blames_of now.blames.items ≡ blames_of old.blames.items = ap blames_of blames in
     rw (f, b)
 
--- what was found under the entries of an earlier walk, by a later table
+-- what was found under the entries and in the dialect of an earlier walk, by a later table
 pub over_at : (w0 w1 : Walk) (t : List Typ) (g : Context) (e : Term) (x : Option TyNo) (d : Dialect)
-    → WalkedOver w0 w1 e x d → entries_of w0 ≡ g → Keeps w1.table t → WentOver g e (progress_of w0) (progress_of w1) (answer t x) d
-over_at w0 w1 t g e x d over same keeps =
-    subst (λ h. WentOver h e (progress_of w0) (progress_of w1) (answer t x) d) same
-    (subst (λ o. WentOver (entries_of w0) e (progress_of w0) (progress_of w1) o d) (sym (answer_keep w1.table t x keeps over.stands)) over.over)
+    → WalkedOver w0 w1 e x → entries_of w0 ≡ g → w0.verdicts.dialect ≡ d → Keeps w1.table t → WentOver g e (progress_of w0) (progress_of w1) (answer t x) d
+over_at w0 w1 t g e x d over same is keeps = rw (sym same, sym is, answer_keep w1.table t x keeps over.stands) over.over
 
 -- a stop in a part
 
@@ -89,21 +93,22 @@ among_under Stop.TooLarge b entry g ps old now d lower h = (stopped_under b entr
 among_under Stop.Enough b entry g ps old now d lower h = (stopped_under b entry g ps (progress_of old) (progress_of now) enough d lower h.0, h.1)
 among_under Stop.Memory b entry g ps old now d lower h = tt
 
-pub among_from : (stop : Stop) (g h : Context) (ps : Scope → List Place) (old other now : Walk) (d : Dialect)
-    → g ≡ h → progress_of old ≡ progress_of other → HasStoppedAmong stop g ps old now d → HasStoppedAmong stop h ps other now d
-among_from Stop.TooLarge g h ps old other now d same from stopped = (rw (sym same, sym from) stopped.0, stopped.1)
-among_from Stop.Enough g h ps old other now d same from stopped = (rw (sym same, sym from) stopped.0, stopped.1)
-among_from Stop.Memory g h ps old other now d same from stopped = tt
+pub among_from : (stop : Stop) (g h : Context) (ps : Scope → List Place) (old other now : Walk) (d e : Dialect)
+    → g ≡ h → progress_of old ≡ progress_of other → d ≡ e → HasStoppedAmong stop g ps old now d → HasStoppedAmong stop h ps other now e
+among_from Stop.TooLarge g h ps old other now d e same from is stopped = (rw (sym same, sym from, sym is) stopped.0, stopped.1)
+among_from Stop.Enough g h ps old other now d e same from is stopped = (rw (sym same, sym from, sym is) stopped.0, stopped.1)
+among_from Stop.Memory g h ps old other now d e same from is stopped = tt
 
--- the table, the entries and what was found may change one by one
+-- the table, what is known of it, the entries and what was found may change one by one
 
-abbrev pub retabled : Walk → List Typ → Walk
-retabled w t = record w { table = t }
+abbrev pub stepped : Walk → List Typ → Verdicts → Walk
+stepped w t v = record w { table = t; verdicts = v }
 
-sound_with : (w now : Walk) → IsSoundWalk w → Keeps w.table now.table → AllStandIn now.table now.entries.items → AllStandIn now.table now.found.items → IsWithin now.last (length now.found.items) → now.leaves ≡ w.leaves → IsSoundWalk now
-sound_with w now sound keeps entries found room same = record {
+sound_with : (w now : Walk) → IsSoundWalk w → Keeps w.table now.table → AllStandIn now.table now.entries.items → AllStandIn now.table now.found.items → AreRight now.table now.verdicts → IsWithin now.last (length now.found.items) → now.leaves ≡ w.leaves → IsSoundWalk now
+sound_with w now sound keeps entries found right room same = record {
   entries = entries;
   found = found;
+  verdicts = right;
   boolean = subst (λ l. IsNumberOf now.table l.boolean bool) (sym same) (kept_number w.table now.table w.leaves.boolean bool keeps sound.boolean);
   natural = subst (λ l. IsNumberOf now.table l.natural nat) (sym same) (kept_number w.table now.table w.leaves.natural nat keeps sound.natural);
   unit = subst (λ l. IsNumberOf now.table l.unit unit) (sym same) (kept_number w.table now.table w.leaves.unit unit keeps sound.unit);
@@ -111,15 +116,19 @@ sound_with w now sound keeps entries found room same = record {
 }
 
 pub grows_same : (w : Walk) → IsSoundWalk w → Grows w w
-grows_same w sound = record { sound = sound; keeps = keeps_same w.table; last = refl }
+grows_same w sound = record { sound = sound; keeps = keeps_same w.table; dialect = refl; last = refl }
 
-pub retabled_grows : (w0 w : Walk) (t : List Typ) → Grows w0 w → Keeps w.table t → Grows w0 (record w { table = t })
-retabled_grows w0 w t grows keeps = record {
-  sound = sound_with w (record w { table = t }) grows.sound keeps
-      (all_stand_keep w.table t w.entries.items keeps grows.sound.entries) (all_stand_keep w.table t w.found.items keeps grows.sound.found) grows.sound.room refl;
+pub stepped_grows : (w0 w : Walk) (t : List Typ) (v : Verdicts) → Grows w0 w → Keeps w.table t → AreRight t v → v.dialect ≡ w.verdicts.dialect → Grows w0 (stepped w t v)
+stepped_grows w0 w t v grows keeps right same = record {
+  sound = sound_with w (stepped w t v) grows.sound keeps
+      (all_stand_keep w.table t w.entries.items keeps grows.sound.entries) (all_stand_keep w.table t w.found.items keeps grows.sound.found) right grows.sound.room refl;
   keeps = keeps_trans w0.table w.table t grows.keeps keeps;
+  dialect = same ∙ grows.dialect;
   last = grows.last;
 }
+
+pub retabled_grows : (w0 w : Walk) (t : List Typ) → Grows w0 w → Keeps w.table t → Grows w0 (record w { table = t })
+retabled_grows w0 w t grows keeps = stepped_grows w0 w t w.verdicts grows keeps (right_kept w.table t w.verdicts keeps grows.sound.verdicts) refl
 
 pub put_or_not : {A : Type 0} (b : Bool) (v xs ys : A) → v ≡ (if b then xs else ys) → (v ≡ xs) ⊎ (v ≡ ys)
 put_or_not true v xs ys e = inl e
@@ -128,8 +137,9 @@ put_or_not false v xs ys e = inr e
 pub pushed_grows : (w : Walk) (t : List Typ) (v : Vec (Option TyNo) Global) (o : Option TyNo) → IsSoundWalk w → Keeps w.table t
     → (v.items ≡ w.entries.items ++ o ∷ []) ⊎ (v.items ≡ w.entries.items) → StandsIn t o → Grows w (record w { table = t; entries = v })
 pushed_grows w t v o sound keeps put stands = record {
-  sound = sound_with w (record w { table = t; entries = v }) sound keeps (stand put) (all_stand_keep w.table t w.found.items keeps sound.found) sound.room refl;
+  sound = sound_with w (record w { table = t; entries = v }) sound keeps (stand put) (all_stand_keep w.table t w.found.items keeps sound.found) (right_kept w.table t w.verdicts keeps sound.verdicts) sound.room refl;
   keeps = keeps;
+  dialect = refl;
   last = refl;
 }
   where
@@ -147,8 +157,9 @@ popped_grows w0 wp w t v first second keeps same sound =
     record {
       sound = sound_with w (record w { table = t; entries = v }) second.sound keeps
           (subst (λ os. AllStandIn t os) (sym same) (all_stand_keep w0.table t w0.entries.items all sound.entries))
-          (all_stand_keep w.table t w.found.items keeps second.sound.found) second.sound.room refl;
+          (all_stand_keep w.table t w.found.items keeps second.sound.found) (right_kept w.table t w.verdicts keeps second.sound.verdicts) second.sound.room refl;
       keeps = all;
+      dialect = second.dialect ∙ first.dialect;
       last = second.last ∙ first.last;
     }
 
@@ -166,8 +177,9 @@ pub settle_grows : (w : Walk) (fs : Vec (Option TyNo) Global) (bs : Vec Blame Gl
     → fs.items ≡ w.found.items ++ found ∷ [] → IsUpTo w.last (length w.found.items) → Grows w (record w { found = fs; blames = bs })
 settle_grows w fs bs found sound stands put up_to = record {
   sound = sound_with w (record w { found = fs; blames = bs }) sound (keeps_same w.table) sound.entries
-      (subst (λ os. AllStandIn w.table os) (sym put) (all_stand_push w.table w.found.items found sound.found stands)) (within_more w.last w.found.items found fs.items up_to put) refl;
+      (subst (λ os. AllStandIn w.table os) (sym put) (all_stand_push w.table w.found.items found sound.found stands)) sound.verdicts (within_more w.last w.found.items found fs.items up_to put) refl;
   keeps = keeps_same w.table;
+  dialect = refl;
   last = refl;
 }
 
@@ -199,55 +211,55 @@ popped_is pushed w popped os o put same rest =
 pub parts_empty : (after before parts : List (String Global × TyNo)) → after ≡ before ++ parts → before ≡ [] → after ≡ parts
 parts_empty after before parts are none = are ∙ ap (λ xs. xs ++ parts) none
 
-pub err_stopped : (r : Result (Option TyNo) Stop) (stop : Stop) (w0 now : Walk) (e : Term) (d : Dialect)
-    → IsErrAnd r (λ y. y ≡ stop) → HasStopped stop w0 now e d → IfErr r (λ s. HasStopped s w0 now e d)
-err_stopped (Ok x) stop w0 now e d is stopped = absurd is
-err_stopped (Err s) stop w0 now e d is stopped = subst (λ x. HasStopped x w0 now e d) (sym is) stopped
+pub err_stopped : (r : Result (Option TyNo) Stop) (stop : Stop) (w0 now : Walk) (e : Term)
+    → IsErrAnd r (λ y. y ≡ stop) → HasStopped stop w0 now e → IfErr r (λ s. HasStopped s w0 now e)
+err_stopped (Ok x) stop w0 now e is stopped = absurd is
+err_stopped (Err s) stop w0 now e is stopped = subst (λ x. HasStopped x w0 now e) (sym is) stopped
 
-pub err_stopped_in_fields : (r : Result Bool Stop) (stop : Stop) (w0 now : Walk) (es : TermFields) (d : Dialect)
-    → IsErrAnd r (λ y. y ≡ stop) → HasStoppedInFields stop w0 now es d → IfErr r (λ s. HasStoppedInFields s w0 now es d)
-err_stopped_in_fields (Ok x) stop w0 now es d is stopped = absurd is
-err_stopped_in_fields (Err s) stop w0 now es d is stopped = subst (λ x. HasStoppedInFields x w0 now es d) (sym is) stopped
+pub err_stopped_in_fields : (r : Result Bool Stop) (stop : Stop) (w0 now : Walk) (es : TermFields)
+    → IsErrAnd r (λ y. y ≡ stop) → HasStoppedInFields stop w0 now es → IfErr r (λ s. HasStoppedInFields s w0 now es)
+err_stopped_in_fields (Ok x) stop w0 now es is stopped = absurd is
+err_stopped_in_fields (Err s) stop w0 now es is stopped = subst (λ x. HasStoppedInFields x w0 now es) (sym is) stopped
 
 -- the terms of a record, one after the other
 
-fields_none : (w : Walk) (items : List (String Global × TyNo)) (d : Dialect) → FieldsWalked w w no_terms items items true d
-fields_none w items d = record {
+fields_none : (w : Walk) (items : List (String Global × TyNo)) → FieldsWalked w w no_terms items items true
+fields_none w items = record {
   entries = refl;
   parts = [];
   parts_are = sym (append-nil items);
   stand = tt;
-  went = went_none (entries_of w) (progress_of w) d;
+  went = went_none (entries_of w) (progress_of w) w.verdicts.dialect;
   fields = λ s low. refl;
 }
 
-pub no_fields_walked : (w : Walk) (fs : List (String Global × Core)) (items : List (String Global × TyNo)) (d : Dialect) → length fs ≡ 0 → FieldsWalked w w (terms_of fs) items items true d
-no_fields_walked w [] items d e = fields_none w items d
-no_fields_walked w (f ∷ fs) items d e = absurd (omega arith)
+pub no_fields_walked : (w : Walk) (fs : List (String Global × Core)) (items : List (String Global × TyNo)) → length fs ≡ 0 → FieldsWalked w w (terms_of fs) items items true
+no_fields_walked w [] items e = fields_none w items
+no_fields_walked w (f ∷ fs) items e = absurd (omega arith)
 
-fields_went : (w0 w1 w2 : Walk) (l : Label) (e : Term) (es : TermFields) (found : Option TyNo) (before after : List (String Global × TyNo)) (all : Bool) (d : Dialect)
-    → entries_of w1 ≡ entries_of w0 → WalkedOver w0 w1 e found d → FieldsWalked w1 w2 es before after all d
-    → Went (entries_of w0) (λ s. places_in s (term_field l e es)) (progress_of w0) (progress_of w2) d
-fields_went w0 w1 w2 l e es found before after all d same first rest =
-    went_both (entries_of w0) (λ s. places s e) (λ s. places_in s es) (progress_of w0) (progress_of w1) (progress_of w2) d first.over.went
-    (subst (λ g. Went g (λ s. places_in s es) (progress_of w1) (progress_of w2) d) same rest.went)
+-- those that follow, under the entries and in the dialect of an earlier walk
+fields_at : (w1 w2 : Walk) (g : Context) (es : TermFields) (before after : List (String Global × TyNo)) (all : Bool) (d : Dialect)
+    → (rest : FieldsWalked w1 w2 es before after all) → entries_of w1 ≡ g → w1.verdicts.dialect ≡ d
+    → Went g (λ s. places_in s es) (progress_of w1) (progress_of w2) d × ((s : Scope) → IsLowest s g d → AreFieldsAt s es (if_all all (fields_over w2.table rest.parts)) d)
+fields_at w1 w2 g es before after all d rest same is = rw (sym same, sym is) (rest.went, rest.fields)
 
-pub fields_unfound : (w0 w1 w2 : Walk) (l : Label) (e : Term) (es : TermFields) (found : Option TyNo) (before after : List (String Global × TyNo)) (all : Bool) (d : Dialect)
-    → IsSoundWalk w0 → Grows w0 w1 → WalkedOver w0 w1 e found d → found ≡ None → FieldsWalked w1 w2 es before after all d
-    → FieldsWalked w0 w2 (term_field l e es) before after false d
-fields_unfound w0 w1 w2 l e es found before after all d sound grows first none rest =
-    let same = entries_same w0 w1 sound grows.keeps first.entries in
+pub fields_unfound : (w0 w1 w2 : Walk) (l : Label) (e : Term) (es : TermFields) (found : Option TyNo) (before after : List (String Global × TyNo)) (all : Bool)
+    → IsSoundWalk w0 → Grows w0 w1 → WalkedOver w0 w1 e found → found ≡ None → FieldsWalked w1 w2 es before after all
+    → FieldsWalked w0 w2 (term_field l e es) before after false
+fields_unfound w0 w1 w2 l e es found before after all sound grows first none rest =
+    let d = w0.verdicts.dialect in
+    let others = fields_at w1 w2 (entries_of w0) es before after all d rest (entries_same w0 w1 sound grows.keeps first.entries) grows.dialect in
     record {
       entries = rest.entries ∙ first.entries;
       parts = rest.parts;
       parts_are = rest.parts_are;
       stand = rest.stand;
-      went = fields_went w0 w1 w2 l e es found before after all d same first rest;
+      went = went_both (entries_of w0) (λ s. places s e) (λ s. places_in s es) (progress_of w0) (progress_of w1) (progress_of w2) d first.over.went others.0;
       fields = λ s low. (
         answer w1.table found,
         if_all all (fields_over w2.table rest.parts),
         first.over.least s low,
-        rest.fields s (subst (λ g. IsLowest s g d) (sym same) low),
+        others.1 s low,
         subst (λ o. MoreRule l (answer w1.table o) (if_all all (fields_over w2.table rest.parts)) None) (sym none) refl,
       );
     }
@@ -256,11 +268,12 @@ more_rule : (l k : Label) (t u : Typ) (all : Bool) (fs : Fields) → k ≡ l →
 more_rule l k t u true fs same_label same_type = rw (same_label, same_type)
 more_rule l k t u false fs same_label same_type = refl
 
-pub fields_found : (w0 w1 w2 : Walk) (l : Label) (e : Term) (es : TermFields) (found : Option TyNo) (label : String Global) (number : TyNo) (before pushed after : List (String Global × TyNo)) (all : Bool) (d : Dialect)
-    → IsSoundWalk w0 → Grows w0 w1 → WalkedOver w0 w1 e found d → found ≡ Some number → Grows w1 w2 → pushed ≡ before ++ (label, number) ∷ [] → string_bytes label ≡ l
-    → FieldsWalked w1 w2 es pushed after all d → FieldsWalked w0 w2 (term_field l e es) before after all d
-fields_found w0 w1 w2 l e es found label number before pushed after all d sound grows first is more put same_label rest =
-    let same = entries_same w0 w1 sound grows.keeps first.entries in
+pub fields_found : (w0 w1 w2 : Walk) (l : Label) (e : Term) (es : TermFields) (found : Option TyNo) (label : String Global) (number : TyNo) (before pushed after : List (String Global × TyNo)) (all : Bool)
+    → IsSoundWalk w0 → Grows w0 w1 → WalkedOver w0 w1 e found → found ≡ Some number → Grows w1 w2 → pushed ≡ before ++ (label, number) ∷ [] → string_bytes label ≡ l
+    → FieldsWalked w1 w2 es pushed after all → FieldsWalked w0 w2 (term_field l e es) before after all
+fields_found w0 w1 w2 l e es found label number before pushed after all sound grows first is more put same_label rest =
+    let d = w0.verdicts.dialect in
+    let others = fields_at w1 w2 (entries_of w0) es pushed after all d rest (entries_same w0 w1 sound grows.keeps first.entries) grows.dialect in
     let stands = subst (λ o. StandsIn w1.table o) is first.stands in
     let longer = keeps_length w1.table w2.table more.keeps in
     let kept : Some (type_of w2.table number) ≡ Some (type_of w1.table number) = answer_keep w1.table w2.table (Some number) more.keeps stands in
@@ -270,51 +283,52 @@ fields_found w0 w1 w2 l e es found label number before pushed after all d sound 
       parts = (label, number) ∷ rest.parts;
       parts_are = rest.parts_are ∙ ap (λ xs. xs ++ rest.parts) put ∙ append_assoc before ((label, number) ∷ []) rest.parts;
       stand = (omega arith, rest.stand);
-      went = fields_went w0 w1 w2 l e es found pushed after all d same first rest;
+      went = went_both (entries_of w0) (λ s. places s e) (λ s. places_in s es) (progress_of w0) (progress_of w1) (progress_of w2) d first.over.went others.0;
       fields = λ s low. (
         Some (type_of w1.table number),
         if_all all (fields_over w2.table rest.parts),
         subst (λ o. IsLeastAt s e (answer w1.table o) d) is (first.over.least s low),
-        rest.fields s (subst (λ g. IsLowest s g d) (sym same) low),
+        others.1 s low,
         more_rule l (string_bytes label) (type_of w1.table number) (type_of w2.table number) all (fields_over w2.table rest.parts) same_label same_type,
       );
     }
 
-pub fields_found_ok : (r : Result Bool Stop) (w0 w1 w2 : Walk) (l : Label) (e : Term) (es : TermFields) (found : Option TyNo) (label : String Global) (number : TyNo) (before pushed after : List (String Global × TyNo)) (d : Dialect)
-    → IsSoundWalk w0 → Grows w0 w1 → WalkedOver w0 w1 e found d → found ≡ Some number → Grows w1 w2 → pushed ≡ before ++ (label, number) ∷ [] → string_bytes label ≡ l
-    → IfOk r (λ all. FieldsWalked w1 w2 es pushed after all d) → IfOk r (λ all. FieldsWalked w0 w2 (term_field l e es) before after all d)
-fields_found_ok (Ok all) w0 w1 w2 l e es found label number before pushed after d sound grows first is more put same_label rest =
-    fields_found w0 w1 w2 l e es found label number before pushed after all d sound grows first is more put same_label rest
-fields_found_ok (Err stop) w0 w1 w2 l e es found label number before pushed after d sound grows first is more put same_label rest = tt
+pub fields_found_ok : (r : Result Bool Stop) (w0 w1 w2 : Walk) (l : Label) (e : Term) (es : TermFields) (found : Option TyNo) (label : String Global) (number : TyNo) (before pushed after : List (String Global × TyNo))
+    → IsSoundWalk w0 → Grows w0 w1 → WalkedOver w0 w1 e found → found ≡ Some number → Grows w1 w2 → pushed ≡ before ++ (label, number) ∷ [] → string_bytes label ≡ l
+    → IfOk r (λ all. FieldsWalked w1 w2 es pushed after all) → IfOk r (λ all. FieldsWalked w0 w2 (term_field l e es) before after all)
+fields_found_ok (Ok all) w0 w1 w2 l e es found label number before pushed after sound grows first is more put same_label rest =
+    fields_found w0 w1 w2 l e es found label number before pushed after all sound grows first is more put same_label rest
+fields_found_ok (Err stop) w0 w1 w2 l e es found label number before pushed after sound grows first is more put same_label rest = tt
 
-pub fields_front : (stop : Stop) (w0 w1 : Walk) (l : Label) (e : Term) (es : TermFields) (d : Dialect) → HasStopped stop w0 w1 e d → HasStoppedInFields stop w0 w1 (term_field l e es) d
-fields_front stop w0 w1 l e es d stopped = among_front stop (entries_of w0) (λ s. places s e) (λ s. places_in s es) w0 w1 d stopped
+pub fields_front : (stop : Stop) (w0 w1 : Walk) (l : Label) (e : Term) (es : TermFields) → HasStopped stop w0 w1 e → HasStoppedInFields stop w0 w1 (term_field l e es)
+fields_front stop w0 w1 l e es stopped = among_front stop (entries_of w0) (λ s. places s e) (λ s. places_in s es) w0 w1 w0.verdicts.dialect stopped
 
-pub fields_behind : (stop : Stop) (w0 w1 w2 : Walk) (l : Label) (e : Term) (es : TermFields) (found : Option TyNo) (d : Dialect)
-    → IsSoundWalk w0 → Grows w0 w1 → WalkedOver w0 w1 e found d → HasStoppedInFields stop w1 w2 es d → HasStoppedInFields stop w0 w2 (term_field l e es) d
-fields_behind stop w0 w1 w2 l e es found d sound grows first stopped =
+pub fields_behind : (stop : Stop) (w0 w1 w2 : Walk) (l : Label) (e : Term) (es : TermFields) (found : Option TyNo)
+    → IsSoundWalk w0 → Grows w0 w1 → WalkedOver w0 w1 e found → HasStoppedInFields stop w1 w2 es → HasStoppedInFields stop w0 w2 (term_field l e es)
+fields_behind stop w0 w1 w2 l e es found sound grows first stopped =
+    let d = w0.verdicts.dialect in
     among_behind stop (entries_of w0) (λ s. places s e) (λ s. places_in s es) w0 w1 w2 d first.over.went
-    (among_from stop (entries_of w1) (entries_of w0) (λ s. places_in s es) w1 w1 w2 d (entries_same w0 w1 sound grows.keeps first.entries) refl stopped)
+    (among_from stop (entries_of w1) (entries_of w0) (λ s. places_in s es) w1 w1 w2 w1.verdicts.dialect d (entries_same w0 w1 sound grows.keeps first.entries) refl grows.dialect stopped)
 
-pub fields_behind_err : (r : Result Bool Stop) (w0 w1 w2 : Walk) (l : Label) (e : Term) (es : TermFields) (found : Option TyNo) (d : Dialect)
-    → IsSoundWalk w0 → Grows w0 w1 → WalkedOver w0 w1 e found d → IfErr r (λ stop. HasStoppedInFields stop w1 w2 es d) → IfErr r (λ stop. HasStoppedInFields stop w0 w2 (term_field l e es) d)
-fields_behind_err (Ok all) w0 w1 w2 l e es found d sound grows first stopped = tt
-fields_behind_err (Err stop) w0 w1 w2 l e es found d sound grows first stopped = fields_behind stop w0 w1 w2 l e es found d sound grows first stopped
+pub fields_behind_err : (r : Result Bool Stop) (w0 w1 w2 : Walk) (l : Label) (e : Term) (es : TermFields) (found : Option TyNo)
+    → IsSoundWalk w0 → Grows w0 w1 → WalkedOver w0 w1 e found → IfErr r (λ stop. HasStoppedInFields stop w1 w2 es) → IfErr r (λ stop. HasStoppedInFields stop w0 w2 (term_field l e es))
+fields_behind_err (Ok all) w0 w1 w2 l e es found sound grows first stopped = tt
+fields_behind_err (Err stop) w0 w1 w2 l e es found sound grows first stopped = fields_behind stop w0 w1 w2 l e es found sound grows first stopped
 
 -- the term itself is taken down
 
-pub settled_over : (w0 mid now : Walk) (e : Term) (ps : Scope → List Place) (found : Option TyNo) (blame : Option (Bor Text)) (d : Dialect)
+pub settled_over : (w0 mid now : Walk) (e : Term) (ps : Scope → List Place) (found : Option TyNo) (blame : Option (Bor Text))
     → ((s : Scope) → ps s ++ record { scope = s; here = e } ∷ [] ≡ places s e)
     → mid.entries.items ≡ w0.entries.items → StandsIn mid.table found
-    → IsReady (entries_of w0) e ps (progress_of w0) (progress_of mid) (answer mid.table found) (blame_at (length mid.found.items) blame) d
-    → Settles mid now found blame → WalkedOver w0 now e found d
-settled_over w0 mid now e ps found blame d split same stands ready settles = record {
+    → IsReady (entries_of w0) e ps (progress_of w0) (progress_of mid) (answer mid.table found) (blame_at (length mid.found.items) blame) w0.verdicts.dialect
+    → Settles mid now found blame → WalkedOver w0 now e found
+settled_over w0 mid now e ps found blame split same stands ready settles = record {
   entries = settles.entries ∙ same;
   stands = subst (λ t. StandsIn t found) (sym settles.table) stands;
-  over = subst (λ o. WentOver (entries_of w0) e (progress_of w0) (progress_of now) o d) (ap (λ t. answer t found) (sym settles.table))
+  over = subst (λ o. WentOver (entries_of w0) e (progress_of w0) (progress_of now) o w0.verdicts.dialect) (ap (λ t. answer t found) (sym settles.table))
       record {
-        went = went_as (entries_of w0) (λ s. ps s ++ record { scope = s; here = e } ∷ []) (λ s. places s e) (progress_of w0) (progress_of now) d split
-            (ready_went (entries_of w0) e ps (progress_of w0) (progress_of mid) (progress_of now) (answer mid.table found) (blame_at (length mid.found.items) blame) d ready
+        went = went_as (entries_of w0) (λ s. ps s ++ record { scope = s; here = e } ∷ []) (λ s. places s e) (progress_of w0) (progress_of now) w0.verdicts.dialect split
+            (ready_went (entries_of w0) e ps (progress_of w0) (progress_of mid) (progress_of now) (answer mid.table found) (blame_at (length mid.found.items) blame) w0.verdicts.dialect ready
             (ap (λ t. answers t now.found.items) settles.table ∙ ap (λ os. answers mid.table os) settles.found_is ∙ answers-push mid.table mid.found.items found)
             settles.blames_are
             settles.small);
@@ -322,23 +336,23 @@ settled_over w0 mid now e ps found blame d split same stands ready settles = rec
       };
 }
 
-pub settled_stop : (stop : Stop) (w0 mid now : Walk) (e : Term) (ps : Scope → List Place) (found : Option TyNo) (blame : Option (Bor Text)) (d : Dialect)
+pub settled_stop : (stop : Stop) (w0 mid now : Walk) (e : Term) (ps : Scope → List Place) (found : Option TyNo) (blame : Option (Bor Text))
     → ((s : Scope) → ps s ++ record { scope = s; here = e } ∷ [] ≡ places s e)
     → mid.entries.items ≡ w0.entries.items → StandsIn mid.table found
-    → IsReady (entries_of w0) e ps (progress_of w0) (progress_of mid) (answer mid.table found) (blame_at (length mid.found.items) blame) d
-    → StopsAt stop mid now found blame → HasStopped stop w0 now e d
-settled_stop Stop.Memory w0 mid now e ps found blame d split same stands ready stops = tt
-settled_stop Stop.Enough w0 mid now e ps found blame d split same stands ready stops =
-    subst (λ w. HasStopped Stop.Enough w0 w e d) (sym stops.0) (
-      stopped_as (entries_of w0) (λ s. ps s ++ record { scope = s; here = e } ∷ []) (λ s. places s e) (progress_of w0) (progress_of mid) enough d split
-          (ready_enough (entries_of w0) e ps (progress_of w0) (progress_of mid) (answer mid.table found) (blame_at (length mid.found.items) blame) d ready),
+    → IsReady (entries_of w0) e ps (progress_of w0) (progress_of mid) (answer mid.table found) (blame_at (length mid.found.items) blame) w0.verdicts.dialect
+    → StopsAt stop mid now found blame → HasStopped stop w0 now e
+settled_stop Stop.Memory w0 mid now e ps found blame split same stands ready stops = tt
+settled_stop Stop.Enough w0 mid now e ps found blame split same stands ready stops =
+    subst (λ w. HasStopped Stop.Enough w0 w e) (sym stops.0) (
+      stopped_as (entries_of w0) (λ s. ps s ++ record { scope = s; here = e } ∷ []) (λ s. places s e) (progress_of w0) (progress_of mid) enough w0.verdicts.dialect split
+          (ready_enough (entries_of w0) e ps (progress_of w0) (progress_of mid) (answer mid.table found) (blame_at (length mid.found.items) blame) w0.verdicts.dialect ready),
       stops.1,
     )
-settled_stop Stop.TooLarge w0 mid now e ps None blame d split same stands ready stops = absurd stops.1
-settled_stop Stop.TooLarge w0 mid now e ps (Some number) blame d split same stands ready stops =
-    subst (λ w. HasStopped Stop.TooLarge w0 w e d) (sym stops.0) (
-      stopped_as (entries_of w0) (λ s. ps s ++ record { scope = s; here = e } ∷ []) (λ s. places s e) (progress_of w0) (progress_of mid) next_is_too_large d split
-          (ready_too_large (entries_of w0) e ps (progress_of w0) (progress_of mid) _ (blame_at (length mid.found.items) blame) d ready stops.1),
+settled_stop Stop.TooLarge w0 mid now e ps None blame split same stands ready stops = absurd stops.1
+settled_stop Stop.TooLarge w0 mid now e ps (Some number) blame split same stands ready stops =
+    subst (λ w. HasStopped Stop.TooLarge w0 w e) (sym stops.0) (
+      stopped_as (entries_of w0) (λ s. ps s ++ record { scope = s; here = e } ∷ []) (λ s. places s e) (progress_of w0) (progress_of mid) next_is_too_large w0.verdicts.dialect split
+          (ready_too_large (entries_of w0) e ps (progress_of w0) (progress_of mid) _ (blame_at (length mid.found.items) blame) w0.verdicts.dialect ready stops.1),
       stops.2,
     )
 
@@ -357,157 +371,176 @@ ready_at mid g e ps old found parts seen code blame d ready same blames =
 
 -- the same of what a step answers
 
-pub settled_ok : (r : Result (Option TyNo) Stop) (w0 mid now : Walk) (e : Term) (ps : Scope → List Place) (found : Option TyNo) (blame : Option (Bor Text)) (d : Dialect)
+pub settled_ok : (r : Result (Option TyNo) Stop) (w0 mid now : Walk) (e : Term) (ps : Scope → List Place) (found : Option TyNo) (blame : Option (Bor Text))
     → ((s : Scope) → ps s ++ record { scope = s; here = e } ∷ [] ≡ places s e)
     → mid.entries.items ≡ w0.entries.items → StandsIn mid.table found
-    → IsReady (entries_of w0) e ps (progress_of w0) (progress_of mid) (answer mid.table found) (blame_at (length mid.found.items) blame) d
-    → IfOk r (λ number. (number ≡ found) × Settles mid now found blame) → IfOk r (λ number. WalkedOver w0 now e number d)
-settled_ok (Ok number) w0 mid now e ps found blame d split same stands ready h =
-    subst (λ o. WalkedOver w0 now e o d) (sym h.0) (settled_over w0 mid now e ps found blame d split same stands ready h.1)
-settled_ok (Err stop) w0 mid now e ps found blame d split same stands ready h = tt
+    → IsReady (entries_of w0) e ps (progress_of w0) (progress_of mid) (answer mid.table found) (blame_at (length mid.found.items) blame) w0.verdicts.dialect
+    → IfOk r (λ number. (number ≡ found) × Settles mid now found blame) → IfOk r (λ number. WalkedOver w0 now e number)
+settled_ok (Ok number) w0 mid now e ps found blame split same stands ready h =
+    subst (λ o. WalkedOver w0 now e o) (sym h.0) (settled_over w0 mid now e ps found blame split same stands ready h.1)
+settled_ok (Err stop) w0 mid now e ps found blame split same stands ready h = tt
 
-pub settled_err : (r : Result (Option TyNo) Stop) (w0 mid now : Walk) (e : Term) (ps : Scope → List Place) (found : Option TyNo) (blame : Option (Bor Text)) (d : Dialect)
+pub settled_err : (r : Result (Option TyNo) Stop) (w0 mid now : Walk) (e : Term) (ps : Scope → List Place) (found : Option TyNo) (blame : Option (Bor Text))
     → ((s : Scope) → ps s ++ record { scope = s; here = e } ∷ [] ≡ places s e)
     → mid.entries.items ≡ w0.entries.items → StandsIn mid.table found
-    → IsReady (entries_of w0) e ps (progress_of w0) (progress_of mid) (answer mid.table found) (blame_at (length mid.found.items) blame) d
-    → IfErr r (λ stop. StopsAt stop mid now found blame) → IfErr r (λ stop. HasStopped stop w0 now e d)
-settled_err (Ok number) w0 mid now e ps found blame d split same stands ready h = tt
-settled_err (Err stop) w0 mid now e ps found blame d split same stands ready h = settled_stop stop w0 mid now e ps found blame d split same stands ready h
+    → IsReady (entries_of w0) e ps (progress_of w0) (progress_of mid) (answer mid.table found) (blame_at (length mid.found.items) blame) w0.verdicts.dialect
+    → IfErr r (λ stop. StopsAt stop mid now found blame) → IfErr r (λ stop. HasStopped stop w0 now e)
+settled_err (Ok number) w0 mid now e ps found blame split same stands ready h = tt
+settled_err (Err stop) w0 mid now e ps found blame split same stands ready h = settled_stop stop w0 mid now e ps found blame split same stands ready h
 
 -- terms without parts
 
-pub leaf_parts : (w : Walk) (e : Term) (number : TyNo) (t : Typ) (d : Dialect) → IsNumberOf w.table number t
-    → IsReady (entries_of w) e (λ s. []) (progress_of w) (progress_of w) (Some t) [] d
-    → IsReady (entries_of w) e (λ s. []) (progress_of w) (progress_of w) (answer w.table (Some number)) (blame_at (length w.found.items) None) d
-leaf_parts w e number t d is ready = subst (λ o. IsReady (entries_of w) e (λ s. []) (progress_of w) (progress_of w) o [] d) (ap Some (sym is.type)) ready
+pub leaf_parts : (w : Walk) (e : Term) (number : TyNo) (t : Typ) → IsNumberOf w.table number t
+    → IsReady (entries_of w) e (λ s. []) (progress_of w) (progress_of w) (Some t) [] w.verdicts.dialect
+    → IsReady (entries_of w) e (λ s. []) (progress_of w) (progress_of w) (answer w.table (Some number)) (blame_at (length w.found.items) None) w.verdicts.dialect
+leaf_parts w e number t is ready = subst (λ o. IsReady (entries_of w) e (λ s. []) (progress_of w) (progress_of w) o [] w.verdicts.dialect) (ap Some (sym is.type)) ready
 
-pub free_parts : (w : Walk) (x : List ℕ) (blame : Option (Bor Text)) (d : Dialect) → Blames true None (codes "E1") blame
-    → IsReady (entries_of w) (free x) (λ s. []) (progress_of w) (progress_of w) (answer w.table None) (blame_at (length w.found.items) blame) d
-free_parts w x blame d blames =
+pub free_parts : (w : Walk) (x : List ℕ) (blame : Option (Bor Text)) → Blames true None (codes "E1") blame
+    → IsReady (entries_of w) (free x) (λ s. []) (progress_of w) (progress_of w) (answer w.table None) (blame_at (length w.found.items) blame) w.verdicts.dialect
+free_parts w x blame blames =
+    let d = w.verdicts.dialect in
     ready_at w (entries_of w) (free x) (λ s. []) (progress_of w) None true true (codes "E1") blame d (free_ready (entries_of w) x (progress_of w) d) refl blames
 
-pub unbound_parts : (w : Walk) (n : ℕ) (blame : Option (Bor Text)) (d : Dialect) → length w.entries.items ≤ n → Blames true None (codes "E1") blame
-    → IsReady (entries_of w) (variable n) (λ s. []) (progress_of w) (progress_of w) (answer w.table None) (blame_at (length w.found.items) blame) d
-unbound_parts w n blame d le blames =
+pub unbound_parts : (w : Walk) (n : ℕ) (blame : Option (Bor Text)) → length w.entries.items ≤ n → Blames true None (codes "E1") blame
+    → IsReady (entries_of w) (variable n) (λ s. []) (progress_of w) (progress_of w) (answer w.table None) (blame_at (length w.found.items) blame) w.verdicts.dialect
+unbound_parts w n blame le blames =
+    let d = w.verdicts.dialect in
     ready_at w (entries_of w) (variable n) (λ s. []) (progress_of w) None true true (codes "E1") blame d
     (unbound_ready (entries_of w) n (progress_of w) d (let e = length-context w.table w.entries.items in omega arith)) refl blames
 
-pub variable_parts : (w : Walk) (n : ℕ) (found : Option TyNo) (d : Dialect) → n < length w.entries.items → answer w.table found ≡ entry_at n (entries_of w)
-    → IsReady (entries_of w) (variable n) (λ s. []) (progress_of w) (progress_of w) (answer w.table found) (blame_at (length w.found.items) None) d
-variable_parts w n found d lt is =
-    variable_ready (entries_of w) n (answer w.table found) (progress_of w) d (let e = length-context w.table w.entries.items in omega arith) is
+pub variable_parts : (w : Walk) (n : ℕ) (found : Option TyNo) → n < length w.entries.items → answer w.table found ≡ entry_at n (entries_of w)
+    → IsReady (entries_of w) (variable n) (λ s. []) (progress_of w) (progress_of w) (answer w.table found) (blame_at (length w.found.items) None) w.verdicts.dialect
+variable_parts w n found lt is =
+    variable_ready (entries_of w) n (answer w.table found) (progress_of w) w.verdicts.dialect (let e = length-context w.table w.entries.items in omega arith) is
 
 -- terms with one part
 
-module _ (w0 w1 : Walk) (e : Term) (x found : Option TyNo) (blame : Option (Bor Text)) (d : Dialect) (over : WalkedOver w0 w1 e x d) where
-  pub succ_parts : NatRule nat (answer w1.table x) (answer w1.table found) d → Blames (is_some x) found (codes "E6") blame
-      → IsReady (entries_of w0) (succ e) (λ s. places s e) (progress_of w0) (progress_of w1) (answer w1.table found) (blame_at (length w1.found.items) blame) d
-  succ_parts rule blames = ready_at w1 (entries_of w0) (succ e) (λ s. places s e) (progress_of w0) found (is_some x) (is_some (answer w1.table x)) (codes "E6") blame d
-      (succ_ready (entries_of w0) e (progress_of w0) (progress_of w1) (answer w1.table x) (answer w1.table found) d over.over rule) (some_answer w1.table x) blames
+-- an operand, by the number of the outcome, in the dialect of the beginning
+nat_rule : (w0 w1 : Walk) (outcome : TyNo) (t : Typ) (x o : Option Typ) → Grows w0 w1 → IsNumberOf w1.table outcome t
+    → NatRule (type_of w1.table outcome) x o w1.verdicts.dialect → NatRule t x o w0.verdicts.dialect
+nat_rule w0 w1 outcome t x o grows is rule = subst (λ d. NatRule t x o d) grows.dialect (subst (λ v. NatRule v x o w1.verdicts.dialect) is.type rule)
 
-  pub pred_parts : NatRule nat (answer w1.table x) (answer w1.table found) d → Blames (is_some x) found (codes "E6") blame
-      → IsReady (entries_of w0) (pred e) (λ s. places s e) (progress_of w0) (progress_of w1) (answer w1.table found) (blame_at (length w1.found.items) blame) d
-  pred_parts rule blames = ready_at w1 (entries_of w0) (pred e) (λ s. places s e) (progress_of w0) found (is_some x) (is_some (answer w1.table x)) (codes "E6") blame d
-      (pred_ready (entries_of w0) e (progress_of w0) (progress_of w1) (answer w1.table x) (answer w1.table found) d over.over rule) (some_answer w1.table x) blames
+module _ (w0 w1 : Walk) (e : Term) (x found : Option TyNo) (blame : Option (Bor Text)) (grows : Grows w0 w1) (over : WalkedOver w0 w1 e x) where
+  pub succ_parts : NatRule (type_of w1.table w1.leaves.natural) (answer w1.table x) (answer w1.table found) w1.verdicts.dialect → Blames (is_some x) found (codes "E6") blame
+      → IsReady (entries_of w0) (succ e) (λ s. places s e) (progress_of w0) (progress_of w1) (answer w1.table found) (blame_at (length w1.found.items) blame) w0.verdicts.dialect
+  succ_parts rule blames = ready_at w1 (entries_of w0) (succ e) (λ s. places s e) (progress_of w0) found (is_some x) (is_some (answer w1.table x)) (codes "E6") blame w0.verdicts.dialect
+      (succ_ready (entries_of w0) e (progress_of w0) (progress_of w1) (answer w1.table x) (answer w1.table found) w0.verdicts.dialect over.over
+      (nat_rule w0 w1 w1.leaves.natural nat (answer w1.table x) (answer w1.table found) grows grows.sound.natural rule)) (some_answer w1.table x) blames
 
-  pub is_zero_parts : NatRule bool (answer w1.table x) (answer w1.table found) d → Blames (is_some x) found (codes "E6") blame
-      → IsReady (entries_of w0) (is_zero e) (λ s. places s e) (progress_of w0) (progress_of w1) (answer w1.table found) (blame_at (length w1.found.items) blame) d
-  is_zero_parts rule blames = ready_at w1 (entries_of w0) (is_zero e) (λ s. places s e) (progress_of w0) found (is_some x) (is_some (answer w1.table x)) (codes "E6") blame d
-      (is_zero_ready (entries_of w0) e (progress_of w0) (progress_of w1) (answer w1.table x) (answer w1.table found) d over.over rule) (some_answer w1.table x) blames
+  pub pred_parts : NatRule (type_of w1.table w1.leaves.natural) (answer w1.table x) (answer w1.table found) w1.verdicts.dialect → Blames (is_some x) found (codes "E6") blame
+      → IsReady (entries_of w0) (pred e) (λ s. places s e) (progress_of w0) (progress_of w1) (answer w1.table found) (blame_at (length w1.found.items) blame) w0.verdicts.dialect
+  pred_parts rule blames = ready_at w1 (entries_of w0) (pred e) (λ s. places s e) (progress_of w0) found (is_some x) (is_some (answer w1.table x)) (codes "E6") blame w0.verdicts.dialect
+      (pred_ready (entries_of w0) e (progress_of w0) (progress_of w1) (answer w1.table x) (answer w1.table found) w0.verdicts.dialect over.over
+      (nat_rule w0 w1 w1.leaves.natural nat (answer w1.table x) (answer w1.table found) grows grows.sound.natural rule)) (some_answer w1.table x) blames
 
-  pub fix_parts : FixRule (answer w1.table x) (answer w1.table found) d → Blames (is_some x) found (codes "E8") blame
-      → IsReady (entries_of w0) (fix e) (λ s. places s e) (progress_of w0) (progress_of w1) (answer w1.table found) (blame_at (length w1.found.items) blame) d
-  fix_parts rule blames = ready_at w1 (entries_of w0) (fix e) (λ s. places s e) (progress_of w0) found (is_some x) (is_some (answer w1.table x)) (codes "E8") blame d
-      (fix_ready (entries_of w0) e (progress_of w0) (progress_of w1) (answer w1.table x) (answer w1.table found) d over.over rule) (some_answer w1.table x) blames
+  pub is_zero_parts : NatRule (type_of w1.table w1.leaves.boolean) (answer w1.table x) (answer w1.table found) w1.verdicts.dialect → Blames (is_some x) found (codes "E6") blame
+      → IsReady (entries_of w0) (is_zero e) (λ s. places s e) (progress_of w0) (progress_of w1) (answer w1.table found) (blame_at (length w1.found.items) blame) w0.verdicts.dialect
+  is_zero_parts rule blames = ready_at w1 (entries_of w0) (is_zero e) (λ s. places s e) (progress_of w0) found (is_some x) (is_some (answer w1.table x)) (codes "E6") blame w0.verdicts.dialect
+      (is_zero_ready (entries_of w0) e (progress_of w0) (progress_of w1) (answer w1.table x) (answer w1.table found) w0.verdicts.dialect over.over
+      (nat_rule w0 w1 w1.leaves.boolean bool (answer w1.table x) (answer w1.table found) grows grows.sound.boolean rule)) (some_answer w1.table x) blames
+
+  pub fix_parts : FixRule (answer w1.table x) (answer w1.table found) w1.verdicts.dialect → Blames (is_some x) found (codes "E8") blame
+      → IsReady (entries_of w0) (fix e) (λ s. places s e) (progress_of w0) (progress_of w1) (answer w1.table found) (blame_at (length w1.found.items) blame) w0.verdicts.dialect
+  fix_parts rule blames = ready_at w1 (entries_of w0) (fix e) (λ s. places s e) (progress_of w0) found (is_some x) (is_some (answer w1.table x)) (codes "E8") blame w0.verdicts.dialect
+      (fix_ready (entries_of w0) e (progress_of w0) (progress_of w1) (answer w1.table x) (answer w1.table found) w0.verdicts.dialect over.over
+      (subst (λ d. FixRule (answer w1.table x) (answer w1.table found) d) grows.dialect rule)) (some_answer w1.table x) blames
 
   pub project_parts : (l : Label) → ProjectRule l (answer w1.table x) (answer w1.table found) → Blames (is_some x) found (codes "E4") blame
-      → IsReady (entries_of w0) (project e l) (λ s. places s e) (progress_of w0) (progress_of w1) (answer w1.table found) (blame_at (length w1.found.items) blame) d
-  project_parts l rule blames = ready_at w1 (entries_of w0) (project e l) (λ s. places s e) (progress_of w0) found (is_some x) (is_some (answer w1.table x)) (codes "E4") blame d
-      (project_ready (entries_of w0) e (progress_of w0) (progress_of w1) (answer w1.table x) (answer w1.table found) d over.over l rule) (some_answer w1.table x) blames
+      → IsReady (entries_of w0) (project e l) (λ s. places s e) (progress_of w0) (progress_of w1) (answer w1.table found) (blame_at (length w1.found.items) blame) w0.verdicts.dialect
+  project_parts l rule blames = ready_at w1 (entries_of w0) (project e l) (λ s. places s e) (progress_of w0) found (is_some x) (is_some (answer w1.table x)) (codes "E4") blame w0.verdicts.dialect
+      (project_ready (entries_of w0) e (progress_of w0) (progress_of w1) (answer w1.table x) (answer w1.table found) w0.verdicts.dialect over.over l rule) (some_answer w1.table x) blames
 
 -- what was found, with its parts told otherwise
-over_as : (g h : Context) (e : Term) (p p' q q' : Progress) (o o' : Option Typ) (d : Dialect)
-    → g ≡ h → p ≡ p' → q ≡ q' → o ≡ o' → WentOver g e p q o d → WentOver h e p' q' o' d
-over_as g h e p p' q q' o o' d a b c f over = rw (sym a, sym b, sym c, sym f) over
+over_as : (g h : Context) (e : Term) (p p' q q' : Progress) (o o' : Option Typ) (d d' : Dialect)
+    → g ≡ h → p ≡ p' → q ≡ q' → o ≡ o' → d ≡ d' → WentOver g e p q o d → WentOver h e p' q' o' d'
+over_as g h e p p' q q' o o' d d' a b c f i over = rw (sym a, sym b, sym c, sym f, sym i) over
 
 -- an ascription: the walk over its term, then what is written is put into the table
-pub ascribe_parts : (w0 w1 w2 : Walk) (e : Term) (w : Option Typ) (entry x found : Option TyNo) (blame : Option (Bor Text)) (d : Dialect)
-    → WalkedOver w0 w1 e x d → Keeps w1.table w2.table → progress_of w2 ≡ progress_of w1
-    → answer w2.table entry ≡ w → AscribeRule (answer w2.table entry) (answer w2.table x) (answer w2.table found) d → Blames (is_some x && is_some entry) found (codes "E7") blame
-    → IsReady (entries_of w0) (ascribe e w) (λ s. places s e) (progress_of w0) (progress_of w2) (answer w2.table found) (blame_at (length w2.found.items) blame) d
-ascribe_parts w0 w1 w2 e w entry x found blame d over keeps same is rule blames =
-    let here = over_as (entries_of w0) (entries_of w0) e (progress_of w0) (progress_of w0) (progress_of w1) (progress_of w2) (answer w2.table x) (answer w2.table x) d refl refl (sym same) refl
-    (over_at w0 w1 w2.table (entries_of w0) e x d over refl keeps) in
+pub ascribe_parts : (w0 w1 w2 : Walk) (e : Term) (w : Option Typ) (entry x found : Option TyNo) (blame : Option (Bor Text))
+    → Grows w0 w1 → WalkedOver w0 w1 e x → Keeps w1.table w2.table → progress_of w2 ≡ progress_of w1
+    → answer w2.table entry ≡ w → AscribeRule (answer w2.table entry) (answer w2.table x) (answer w2.table found) w1.verdicts.dialect → Blames (is_some x && is_some entry) found (codes "E7") blame
+    → IsReady (entries_of w0) (ascribe e w) (λ s. places s e) (progress_of w0) (progress_of w2) (answer w2.table found) (blame_at (length w2.found.items) blame) w0.verdicts.dialect
+ascribe_parts w0 w1 w2 e w entry x found blame grows over keeps same is rule blames =
+    let d = w0.verdicts.dialect in
+    let here = subst (λ p. WentOver (entries_of w0) e (progress_of w0) p (answer w2.table x) d) (sym same) (over_at w0 w1 w2.table (entries_of w0) e x d over refl refl keeps) in
     let seen : (is_some (answer w2.table x) && is_some w) ≡ (is_some x && is_some entry) = rw (sym is, some_answer w2.table x, some_answer w2.table entry) in
     ready_at w2 (entries_of w0) (ascribe e w) (λ s. places s e) (progress_of w0) found (is_some x && is_some entry) (is_some (answer w2.table x) && is_some w) (codes "E7") blame d
     (ascribe_ready (entries_of w0) e (progress_of w0) (progress_of w2) (answer w2.table x) (answer w2.table found) d here w
-    (subst (λ v. AscribeRule v (answer w2.table x) (answer w2.table found) d) is rule))
+    (subst (λ v. AscribeRule v (answer w2.table x) (answer w2.table found) d) is
+    (subst (λ b. AscribeRule (answer w2.table entry) (answer w2.table x) (answer w2.table found) b) grows.dialect rule)))
     seen blames
 
 -- a lambda: the walk over its body under one more entry
-pub lambda_parts : (w0 w2 w3 w5 : Walk) (e : Term) (w : Option Typ) (outcome found : Option TyNo) (d : Dialect)
-    → IsWellFormedEntry w → entries_of w2 ≡ w ∷ entries_of w0 → progress_of w2 ≡ progress_of w0 → WalkedOver w2 w3 e outcome d → progress_of w5 ≡ progress_of w3
+pub lambda_parts : (w0 w2 w3 w5 : Walk) (e : Term) (w : Option Typ) (outcome found : Option TyNo)
+    → IsWellFormedEntry w → entries_of w2 ≡ w ∷ entries_of w0 → progress_of w2 ≡ progress_of w0 → w2.verdicts.dialect ≡ w0.verdicts.dialect → WalkedOver w2 w3 e outcome → progress_of w5 ≡ progress_of w3
     → LambdaRule w (answer w3.table outcome) (answer w5.table found)
-    → IsReady (entries_of w0) (lambda w e) (λ s. places (written w ∷ s) e) (progress_of w0) (progress_of w5) (answer w5.table found) (blame_at (length w5.found.items) None) d
-lambda_parts w0 w2 w3 w5 e w outcome found d wf under from over to rule =
+    → IsReady (entries_of w0) (lambda w e) (λ s. places (written w ∷ s) e) (progress_of w0) (progress_of w5) (answer w5.table found) (blame_at (length w5.found.items) None) w0.verdicts.dialect
+lambda_parts w0 w2 w3 w5 e w outcome found wf under from is over to rule =
+    let d = w0.verdicts.dialect in
     lambda_ready (entries_of w0) w e (progress_of w0) (progress_of w5) (answer w3.table outcome) (answer w5.table found) d wf
-    (over_as (entries_of w2) (w ∷ entries_of w0) e (progress_of w2) (progress_of w0) (progress_of w3) (progress_of w5) (answer w3.table outcome) (answer w3.table outcome) d under from (sym to) refl over.over)
+    (over_as (entries_of w2) (w ∷ entries_of w0) e (progress_of w2) (progress_of w0) (progress_of w3) (progress_of w5) (answer w3.table outcome) (answer w3.table outcome) w2.verdicts.dialect d under from (sym to) refl is over.over)
     rule
 
 -- a let: the walk over its first term, and over its second one under one more entry
-pub let_parts : (w0 w1 w2 w3 w4 : Walk) (a b : Term) (bound outcome found : Option TyNo) (d : Dialect)
-    → IsSoundWalk w0 → Keeps w0.table w1.table → WalkedOver w0 w1 a bound d
-    → entries_of w2 ≡ answer w1.table bound ∷ entries_of w1 → progress_of w2 ≡ progress_of w1 → WalkedOver w2 w3 b outcome d → progress_of w4 ≡ progress_of w3
+pub let_parts : (w0 w1 w2 w3 w4 : Walk) (a b : Term) (bound outcome found : Option TyNo)
+    → IsSoundWalk w0 → Keeps w0.table w1.table → WalkedOver w0 w1 a bound
+    → entries_of w2 ≡ answer w1.table bound ∷ entries_of w1 → progress_of w2 ≡ progress_of w1 → w2.verdicts.dialect ≡ w0.verdicts.dialect → WalkedOver w2 w3 b outcome → progress_of w4 ≡ progress_of w3
     → LetRule (answer w1.table bound) (answer w3.table outcome) (answer w4.table found)
-    → IsReady (entries_of w0) (let_in a b) (λ s. places s a ++ places (of_term a ∷ s) b) (progress_of w0) (progress_of w4) (answer w4.table found) (blame_at (length w4.found.items) None) d
-let_parts w0 w1 w2 w3 w4 a b bound outcome found d sound keeps over_a under from over_b to rule =
+    → IsReady (entries_of w0) (let_in a b) (λ s. places s a ++ places (of_term a ∷ s) b) (progress_of w0) (progress_of w4) (answer w4.table found) (blame_at (length w4.found.items) None) w0.verdicts.dialect
+let_parts w0 w1 w2 w3 w4 a b bound outcome found sound keeps over_a under from is over_b to rule =
+    let d = w0.verdicts.dialect in
     let same = entries_same w0 w1 sound keeps over_a.entries in
     let_ready (entries_of w0) a b (progress_of w0) (progress_of w1) (progress_of w4) (answer w1.table bound) (answer w3.table outcome) (answer w4.table found) d over_a.over
-    (over_as (entries_of w2) (answer w1.table bound ∷ entries_of w0) b (progress_of w2) (progress_of w1) (progress_of w3) (progress_of w4) (answer w3.table outcome) (answer w3.table outcome) d
-    (under ∙ ap (λ g. answer w1.table bound ∷ g) same) from (sym to) refl over_b.over)
+    (over_as (entries_of w2) (answer w1.table bound ∷ entries_of w0) b (progress_of w2) (progress_of w1) (progress_of w3) (progress_of w4) (answer w3.table outcome) (answer w3.table outcome) w2.verdicts.dialect d
+    (under ∙ ap (λ g. answer w1.table bound ∷ g) same) from (sym to) refl is over_b.over)
     rule
 
 -- terms with several parts in one scope
 
-pub apply_parts : (w0 w1 w2 : Walk) (f a : Term) (x y found : Option TyNo) (code : Text) (blame : Option (Bor Text)) (d : Dialect)
-    → IsSoundWalk w0 → Grows w0 w1 → WalkedOver w0 w1 f x d → Grows w1 w2 → WalkedOver w1 w2 a y d
-    → ApplyRule (answer w2.table x) (answer w2.table y) (answer w2.table found) d → IsApplicationCode code (answer w2.table x) → Blames (is_some x && is_some y) found code blame
-    → IsReady (entries_of w0) (apply f a) (λ s. places s f ++ places s a) (progress_of w0) (progress_of w2) (answer w2.table found) (blame_at (length w2.found.items) blame) d
-apply_parts w0 w1 w2 f a x y found code blame d sound grows_f over_f grows_a over_a rule is_code blames =
+pub apply_parts : (w0 w1 w2 : Walk) (f a : Term) (x y found : Option TyNo) (code : Text) (blame : Option (Bor Text))
+    → IsSoundWalk w0 → Grows w0 w1 → WalkedOver w0 w1 f x → Grows w1 w2 → WalkedOver w1 w2 a y
+    → ApplyRule (answer w2.table x) (answer w2.table y) (answer w2.table found) w2.verdicts.dialect → IsApplicationCode code (answer w2.table x) → Blames (is_some x && is_some y) found code blame
+    → IsReady (entries_of w0) (apply f a) (λ s. places s f ++ places s a) (progress_of w0) (progress_of w2) (answer w2.table found) (blame_at (length w2.found.items) blame) w0.verdicts.dialect
+apply_parts w0 w1 w2 f a x y found code blame sound grows_f over_f grows_a over_a rule is_code blames =
+    let t = w2.table in
+    let d = w0.verdicts.dialect in
     let same = entries_same w0 w1 sound grows_f.keeps over_f.entries in
-    let seen : (is_some (answer w2.table x) && is_some (answer w2.table y)) ≡ (is_some x && is_some y) = rw (some_answer w2.table x, some_answer w2.table y) in
-    ready_at w2 (entries_of w0) (apply f a) (λ s. places s f ++ places s a) (progress_of w0) found (is_some x && is_some y) (is_some (answer w2.table x) && is_some (answer w2.table y)) code blame d
-    (apply_ready (entries_of w0) f a (progress_of w0) (progress_of w1) (progress_of w2) (answer w2.table x) (answer w2.table y) (answer w2.table found) code d
-    (over_at w0 w1 w2.table (entries_of w0) f x d over_f refl grows_a.keeps)
-    (subst (λ g. WentOver g a (progress_of w1) (progress_of w2) (answer w2.table y) d) same over_a.over)
-    rule is_code)
+    let seen : (is_some (answer t x) && is_some (answer t y)) ≡ (is_some x && is_some y) = rw (some_answer t x, some_answer t y) in
+    ready_at w2 (entries_of w0) (apply f a) (λ s. places s f ++ places s a) (progress_of w0) found (is_some x && is_some y) (is_some (answer t x) && is_some (answer t y)) code blame d
+    (apply_ready (entries_of w0) f a (progress_of w0) (progress_of w1) (progress_of w2) (answer t x) (answer t y) (answer t found) code d
+    (over_at w0 w1 t (entries_of w0) f x d over_f refl refl grows_a.keeps)
+    (over_at w1 w2 t (entries_of w0) a y d over_a same grows_f.dialect (keeps_same t))
+    (subst (λ b. ApplyRule (answer t x) (answer t y) (answer t found) b) (grows_a.dialect ∙ grows_f.dialect) rule) is_code)
     seen blames
 
 -- the table grows once more, by the join
-pub if_parts : (w0 w1 w2 w3 w4 : Walk) (e1 e2 e3 : Term) (x y z found : Option TyNo) (blame : Option (Bor Text)) (d : Dialect)
-    → IsSoundWalk w0 → Grows w0 w1 → WalkedOver w0 w1 e1 x d → Grows w1 w2 → WalkedOver w1 w2 e2 y d → Grows w2 w3 → WalkedOver w2 w3 e3 z d → progress_of w4 ≡ progress_of w3
-    → IfRule (answer w3.table x) (answer w3.table y) (answer w3.table z) (answer w4.table found) d → Blames (is_some x && (is_some y && is_some z)) found (codes "E5") blame
-    → IsReady (entries_of w0) (if_then_else e1 e2 e3) (λ s. (places s e1 ++ places s e2) ++ places s e3) (progress_of w0) (progress_of w4) (answer w4.table found) (blame_at (length w4.found.items) blame) d
-if_parts w0 w1 w2 w3 w4 e1 e2 e3 x y z found blame d sound r1 o1 r2 o2 r3 o3 to rule blames =
+pub if_parts : (w0 w1 w2 w3 w4 : Walk) (e1 e2 e3 : Term) (x y z found : Option TyNo) (blame : Option (Bor Text))
+    → IsSoundWalk w0 → Grows w0 w1 → WalkedOver w0 w1 e1 x → Grows w1 w2 → WalkedOver w1 w2 e2 y → Grows w2 w3 → WalkedOver w2 w3 e3 z → progress_of w4 ≡ progress_of w3
+    → IfRule (answer w3.table x) (answer w3.table y) (answer w3.table z) (answer w4.table found) w3.verdicts.dialect → Blames (is_some x && (is_some y && is_some z)) found (codes "E5") blame
+    → IsReady (entries_of w0) (if_then_else e1 e2 e3) (λ s. (places s e1 ++ places s e2) ++ places s e3) (progress_of w0) (progress_of w4) (answer w4.table found) (blame_at (length w4.found.items) blame) w0.verdicts.dialect
+if_parts w0 w1 w2 w3 w4 e1 e2 e3 x y z found blame sound r1 o1 r2 o2 r3 o3 to rule blames =
     let t = w3.table in
+    let d = w0.verdicts.dialect in
     let same1 = entries_same w0 w1 sound r1.keeps o1.entries in
     let same2 = entries_same w1 w2 r1.sound r2.keeps o2.entries ∙ same1 in
+    let is2 = r2.dialect ∙ r1.dialect in
     let seen : (is_some (answer t x) && (is_some (answer t y) && is_some (answer t z))) ≡ (is_some x && (is_some y && is_some z)) = rw (some_answer t x, some_answer t y, some_answer t z) in
     ready_at w4 (entries_of w0) (if_then_else e1 e2 e3) (λ s. (places s e1 ++ places s e2) ++ places s e3) (progress_of w0) found (is_some x && (is_some y && is_some z))
     (is_some (answer t x) && (is_some (answer t y) && is_some (answer t z))) (codes "E5") blame d
     (if_ready (entries_of w0) e1 e2 e3 (progress_of w0) (progress_of w1) (progress_of w2) (progress_of w4) (answer t x) (answer t y) (answer t z) (answer w4.table found) d
-    (over_at w0 w1 t (entries_of w0) e1 x d o1 refl (keeps_trans w1.table w2.table w3.table r2.keeps r3.keeps))
-    (over_at w1 w2 t (entries_of w0) e2 y d o2 same1 r3.keeps)
-    (over_as (entries_of w2) (entries_of w0) e3 (progress_of w2) (progress_of w2) (progress_of w3) (progress_of w4) (answer t z) (answer t z) d same2 refl (sym to) refl o3.over)
-    rule)
+    (over_at w0 w1 t (entries_of w0) e1 x d o1 refl refl (keeps_trans w1.table w2.table w3.table r2.keeps r3.keeps))
+    (over_at w1 w2 t (entries_of w0) e2 y d o2 same1 r1.dialect r3.keeps)
+    (over_as (entries_of w2) (entries_of w0) e3 (progress_of w2) (progress_of w2) (progress_of w3) (progress_of w4) (answer t z) (answer t z) w2.verdicts.dialect d same2 refl (sym to) refl is2 o3.over)
+    (subst (λ b. IfRule (answer t x) (answer t y) (answer t z) (answer w4.table found) b) (r3.dialect ∙ is2) rule))
     seen blames
 
 -- a record
-pub record_parts : (w0 w1 w2 : Walk) (es : TermFields) (before after : List (String Global × TyNo)) (all : Bool) (found : Option TyNo) (blame : Option (Bor Text)) (d : Dialect)
-    → (over : FieldsWalked w0 w1 es before after all d) → progress_of w2 ≡ progress_of w1
+pub record_parts : (w0 w1 w2 : Walk) (es : TermFields) (before after : List (String Global × TyNo)) (all : Bool) (found : Option TyNo) (blame : Option (Bor Text))
+    → (over : FieldsWalked w0 w1 es before after all) → progress_of w2 ≡ progress_of w1
     → RecordRule (if_all all (fields_over w1.table over.parts)) (answer w2.table found) → Blames all found (codes "E9") blame
-    → IsReady (entries_of w0) (record_term es) (λ s. places_in s es) (progress_of w0) (progress_of w2) (answer w2.table found) (blame_at (length w2.found.items) blame) d
-record_parts w0 w1 w2 es before after all found blame d over to rule blames =
+    → IsReady (entries_of w0) (record_term es) (λ s. places_in s es) (progress_of w0) (progress_of w2) (answer w2.table found) (blame_at (length w2.found.items) blame) w0.verdicts.dialect
+record_parts w0 w1 w2 es before after all found blame over to rule blames =
+    let d = w0.verdicts.dialect in
     ready_at w2 (entries_of w0) (record_term es) (λ s. places_in s es) (progress_of w0) found all all (codes "E9") blame d
     (record_ready (entries_of w0) es (progress_of w0) (progress_of w2) all (fields_over w1.table over.parts) (answer w2.table found) d
     (subst (λ p. Went (entries_of w0) (λ s. places_in s es) (progress_of w0) p d) (sym to) over.went) over.fields rule)

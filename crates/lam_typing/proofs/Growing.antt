@@ -3,17 +3,10 @@ use Rattle.std.proofs.Common.{◌≡◌, ℕ, ◌+◌, ◌-◌, ◌<◌, List, [
 use Rattle.lam_rules.specs.Types.{Typ}
 use Rattle.lam_rules.specs.Typing.{Context}
 use Rattle.lam_rules.specs.Numbers.{Keeps}
-use Rattle.lam_rules.specs.declared.rules.Dialect.{Dialect}
 use Rattle.lam_rules.specs.declared.numbers.TyNo.{TyNo}
 use Rattle.lam_rules.proofs.Tables.{kept_type, keeps_length}
-use Rattle.lam_sub.specs.declared.verdicts.Verdicts.{Verdicts}
-use Rattle.lam_sub.proofs.Keeping.{right_kept}
 use Rattle.lam_typing.specs.Steps.{entry_at}
 use Rattle.lam_typing.specs.Answers.{answer, answers, StandsIn, AllStandIn, under_entries, context_under}
-use Rattle.lam_typing.specs.Verdicts.{AreVerdictsOn}
-
-pub verdicts_keep : (old now : List Typ) (d : Dialect) (verdicts : Verdicts) → Keeps old now → AreVerdictsOn old d verdicts → AreVerdictsOn now d verdicts
-verdicts_keep old now d verdicts keeps on = record { right = right_kept old now verdicts keeps on.right; dialect = on.dialect }
 
 pub answer_keep : (old now : List Typ) (o : Option TyNo) → Keeps old now → StandsIn old o → answer now o ≡ answer old o
 answer_keep old now None keeps stands = refl

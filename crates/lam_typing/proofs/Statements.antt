@@ -22,23 +22,26 @@ use Rattle.lam_typing.specs.declared.walking.Stop.{Stop}
 use Rattle.lam_typing.proofs.LeastIn.{lowest_written}
 use Rattle.lam_typing.proofs.Together.{went_none, went_both, went_under}
 use Rattle.lam_typing.proofs.Forms.{lowest_let}
-use Rattle.lam_typing.proofs.Glue.{grows_same, grows_trans, entries_same, progress_same, under_entry, among_front, among_behind, among_under, among_from}
+use Rattle.lam_typing.proofs.Glue.{grows_same, grows_trans, went_from, entries_same, progress_same, under_entry, among_front, among_behind, among_under, among_from}
 
-pub goes_on_stated : (w0 w1 : Walk) (e : Term) (found : Option TyNo) (d : Dialect) → IsSoundWalk w0 → Grows w0 w1 → WalkedOver w0 w1 e found d → GoesOn w0 w1 (states e) d
-goes_on_stated w0 w1 e found d sound grows over =
+pub goes_on_stated : (w0 w1 : Walk) (e : Term) (found : Option TyNo) → IsSoundWalk w0 → Grows w0 w1 → WalkedOver w0 w1 e found → GoesOn w0 w1 (states e)
+goes_on_stated w0 w1 e found sound grows over =
+    let d = w0.verdicts.dialect in
     let same = entries_same w0 w1 sound grows.keeps over.entries in
     record {
       went = λ rest now went.
           went_both (entries_of w0) (λ s. places s e) (λ s. places_of s rest) (progress_of w0) (progress_of w1) (progress_of now) d over.over.went
-          (subst (λ g. Went g (λ s. places_of s rest) (progress_of w1) (progress_of now) d) same went);
+          (went_from (entries_of w1) (entries_of w0) (λ s. places_of s rest) (progress_of w1) (progress_of w1) (progress_of now) w1.verdicts.dialect d same refl grows.dialect went);
       stopped = λ rest stop now stopped.
           among_behind stop (entries_of w0) (λ s. places s e) (λ s. places_of s rest) w0 w1 now d over.over.went
-          (among_from stop (entries_of w1) (entries_of w0) (λ s. places_of s rest) w1 w1 now d same refl stopped);
+          (among_from stop (entries_of w1) (entries_of w0) (λ s. places_of s rest) w1 w1 now w1.verdicts.dialect d same refl grows.dialect stopped);
     }
 
-pub goes_on_defined : (w0 w1 : Walk) (v : Vec (Option TyNo) Global) (e : Term) (found : Option TyNo) (d : Dialect) → IsSoundWalk w0 → Grows w0 w1 → WalkedOver w0 w1 e found d
-    → v.items ≡ w1.entries.items ++ found ∷ [] → GoesOn w0 (record w1 { entries = v }) (defines e) d
-goes_on_defined w0 w1 v e found d sound grows over put =
+pub goes_on_defined : (w0 w1 : Walk) (v : Vec (Option TyNo) Global) (e : Term) (found : Option TyNo) → IsSoundWalk w0 → Grows w0 w1 → WalkedOver w0 w1 e found
+    → v.items ≡ w1.entries.items ++ found ∷ [] → GoesOn w0 (record w1 { entries = v }) (defines e)
+goes_on_defined w0 w1 v e found sound grows over put =
+    let d = w0.verdicts.dialect in
+    let w2 = record w1 { entries = v } in
     let x = answer w1.table found in
     let same = entries_same w0 w1 sound grows.keeps over.entries in
     let under = under_entry w1 w1.table v found x grows.sound (keeps_same w1.table) put refl ∙ ap (λ g. x ∷ g) same in
@@ -47,16 +50,17 @@ goes_on_defined w0 w1 v e found d sound grows over put =
       went = λ rest now went.
           went_both (entries_of w0) (λ s. places s e) (λ s. places_of (of_term e ∷ s) rest) (progress_of w0) (progress_of w1) (progress_of now) d over.over.went
           (went_under (of_term e) x (entries_of w0) (λ s. places_of s rest) (progress_of w1) (progress_of now) d lower
-          (subst (λ g. Went g (λ s. places_of s rest) (progress_of w1) (progress_of now) d) under went));
+          (went_from (entries_of w2) (x ∷ entries_of w0) (λ s. places_of s rest) (progress_of w2) (progress_of w1) (progress_of now) w2.verdicts.dialect d under refl grows.dialect went));
       stopped = λ rest stop now stopped.
           among_behind stop (entries_of w0) (λ s. places s e) (λ s. places_of (of_term e ∷ s) rest) w0 w1 now d over.over.went
           (among_under stop (of_term e) x (entries_of w0) (λ s. places_of s rest) w1 now d lower
-          (among_from stop (entries_of (record w1 { entries = v })) (x ∷ entries_of w0) (λ s. places_of s rest) (record w1 { entries = v }) w1 now d under refl stopped));
+          (among_from stop (entries_of w2) (x ∷ entries_of w0) (λ s. places_of s rest) w2 w1 now w2.verdicts.dialect d under refl grows.dialect stopped));
     }
 
-pub goes_on_declared : (w0 : Walk) (t : List Typ) (v : Vec (Option TyNo) Global) (w : Option Typ) (entry : Option TyNo) (d : Dialect) → IsSoundWalk w0 → IsWellFormedEntry w → Keeps w0.table t
-    → v.items ≡ w0.entries.items ++ entry ∷ [] → answer t entry ≡ w → GoesOn w0 (record w0 { table = t; entries = v }) (declares w) d
-goes_on_declared w0 t v w entry d sound wf keeps put is =
+pub goes_on_declared : (w0 : Walk) (t : List Typ) (v : Vec (Option TyNo) Global) (w : Option Typ) (entry : Option TyNo) → IsSoundWalk w0 → IsWellFormedEntry w → Keeps w0.table t
+    → v.items ≡ w0.entries.items ++ entry ∷ [] → answer t entry ≡ w → GoesOn w0 (record w0 { table = t; entries = v }) (declares w)
+goes_on_declared w0 t v w entry sound wf keeps put is =
+    let d = w0.verdicts.dialect in
     let w1 = record w0 { table = t; entries = v } in
     let under = under_entry w0 t v entry w sound keeps put is in
     let same = progress_same w0 w1 sound keeps refl refl in
@@ -64,66 +68,65 @@ goes_on_declared w0 t v w entry d sound wf keeps put is =
     record {
       went = λ rest now went.
           went_under (written w) w (entries_of w0) (λ s. places_of s rest) (progress_of w0) (progress_of now) d lower
-          (subst (λ p. Went (w ∷ entries_of w0) (λ s. places_of s rest) p (progress_of now) d) same
-          (subst (λ g. Went g (λ s. places_of s rest) (progress_of w1) (progress_of now) d) under went));
+          (went_from (entries_of w1) (w ∷ entries_of w0) (λ s. places_of s rest) (progress_of w1) (progress_of w0) (progress_of now) d d under same refl went);
       stopped = λ rest stop now stopped.
           among_under stop (written w) w (entries_of w0) (λ s. places_of s rest) w0 now d lower
-          (among_from stop (entries_of w1) (w ∷ entries_of w0) (λ s. places_of s rest) w1 w0 now d under same stopped);
+          (among_from stop (entries_of w1) (w ∷ entries_of w0) (λ s. places_of s rest) w1 w0 now d d under same refl stopped);
     }
 
-pub goes_on_abbreviated : (w0 : Walk) (w : Option Typ) (d : Dialect) → GoesOn w0 w0 (abbreviates w) d
-goes_on_abbreviated w0 w d = record { went = λ rest now went. went; stopped = λ rest stop now stopped. stopped }
+pub goes_on_abbreviated : (w0 : Walk) (w : Option Typ) → GoesOn w0 w0 (abbreviates w)
+goes_on_abbreviated w0 w = record { went = λ rest now went. went; stopped = λ rest stop now stopped. stopped }
 
-pub stated_stopped : (w0 w1 : Walk) (e : Term) (rest : List Statement) (stop : Stop) (d : Dialect) → HasStopped stop w0 w1 e d → HasStoppedAmong stop (entries_of w0) (λ s. places_of s (states e ∷ rest)) w0 w1 d
-stated_stopped w0 w1 e rest stop d stopped = among_front stop (entries_of w0) (λ s. places s e) (λ s. places_of s rest) w0 w1 d stopped
+pub stated_stopped : (w0 w1 : Walk) (e : Term) (rest : List Statement) (stop : Stop) → HasStopped stop w0 w1 e → HasStoppedAmong stop (entries_of w0) (λ s. places_of s (states e ∷ rest)) w0 w1 w0.verdicts.dialect
+stated_stopped w0 w1 e rest stop stopped = among_front stop (entries_of w0) (λ s. places s e) (λ s. places_of s rest) w0 w1 w0.verdicts.dialect stopped
 
-pub defined_stopped : (w0 w1 : Walk) (e : Term) (rest : List Statement) (stop : Stop) (d : Dialect) → HasStopped stop w0 w1 e d → HasStoppedAmong stop (entries_of w0) (λ s. places_of s (defines e ∷ rest)) w0 w1 d
-defined_stopped w0 w1 e rest stop d stopped = among_front stop (entries_of w0) (λ s. places s e) (λ s. places_of (of_term e ∷ s) rest) w0 w1 d stopped
+pub defined_stopped : (w0 w1 : Walk) (e : Term) (rest : List Statement) (stop : Stop) → HasStopped stop w0 w1 e → HasStoppedAmong stop (entries_of w0) (λ s. places_of s (defines e ∷ rest)) w0 w1 w0.verdicts.dialect
+defined_stopped w0 w1 e rest stop stopped = among_front stop (entries_of w0) (λ s. places s e) (λ s. places_of (of_term e ∷ s) rest) w0 w1 w0.verdicts.dialect stopped
 
-pub err_stopped_at : (r : Result (Unit {0}) Stop) (stop : Stop) (w0 now : Walk) (statement : Statement) (d : Dialect)
-    → IsErrAnd r (λ y. y ≡ stop) → HasStoppedAt stop w0 now statement d → IfErr r (λ s. HasStoppedAt s w0 now statement d)
-err_stopped_at (Ok x) stop w0 now statement d is stopped = absurd is
-err_stopped_at (Err s) stop w0 now statement d is stopped = subst (λ x. HasStoppedAt x w0 now statement d) (sym is) stopped
+pub err_stopped_at : (r : Result (Unit {0}) Stop) (stop : Stop) (w0 now : Walk) (statement : Statement)
+    → IsErrAnd r (λ y. y ≡ stop) → HasStoppedAt stop w0 now statement → IfErr r (λ s. HasStoppedAt s w0 now statement)
+err_stopped_at (Ok x) stop w0 now statement is stopped = absurd is
+err_stopped_at (Err s) stop w0 now statement is stopped = subst (λ x. HasStoppedAt x w0 now statement) (sym is) stopped
 
 -- several statements, one after the other
-pub record GoesThrough (old now : Walk) (all rest : List Statement) (d : Dialect) : Type 0 where
+pub record GoesThrough (old now : Walk) (all rest : List Statement) : Type 0 where
   pub grows : Grows old now
   pub wf : AreWellFormedStatements rest
-  pub went : (end : Walk) → Went (entries_of now) (λ s. places_of s rest) (progress_of now) (progress_of end) d → Went (entries_of old) (λ s. places_of s all) (progress_of old) (progress_of end) d
-  pub stopped : (stop : Stop) (end : Walk) → HasStoppedAmong stop (entries_of now) (λ s. places_of s rest) now end d → HasStoppedAmong stop (entries_of old) (λ s. places_of s all) old end d
+  pub went : (end : Walk) → Went (entries_of now) (λ s. places_of s rest) (progress_of now) (progress_of end) now.verdicts.dialect → Went (entries_of old) (λ s. places_of s all) (progress_of old) (progress_of end) old.verdicts.dialect
+  pub stopped : (stop : Stop) (end : Walk) → HasStoppedAmong stop (entries_of now) (λ s. places_of s rest) now end now.verdicts.dialect → HasStoppedAmong stop (entries_of old) (λ s. places_of s all) old end old.verdicts.dialect
 
-pub goes_from : (w : Walk) (all : List Statement) (d : Dialect) → IsSoundWalk w → AreWellFormedStatements all → GoesThrough w w all all d
-goes_from w all d sound wf = record { grows = grows_same w sound; wf = wf; went = λ end went. went; stopped = λ stop end stopped. stopped }
+pub goes_from : (w : Walk) (all : List Statement) → IsSoundWalk w → AreWellFormedStatements all → GoesThrough w w all all
+goes_from w all sound wf = record { grows = grows_same w sound; wf = wf; went = λ end went. went; stopped = λ stop end stopped. stopped }
 
 next_statement : (xs : List RustStatement) (i : ℕ) (x : RustStatement) → i < length xs → x ≡ get_or xs i x → map statement_of (drop i xs) ≡ statement_of x ∷ map statement_of (drop (i + 1) xs)
 next_statement xs i x lt is = rw add-one (rw (drop-cons xs i x lt) (ap (λ y. statement_of y ∷ map statement_of (drop (suc i) xs)) (sym is)))
 
-pub next_wf : (w0 w1 : Walk) (all : List Statement) (xs : List RustStatement) (i : ℕ) (x : RustStatement) (d : Dialect) → i < length xs → x ≡ get_or xs i x
-    → GoesThrough w0 w1 all (map statement_of (drop i xs)) d → IsWellFormedStatement (statement_of x)
-next_wf w0 w1 all xs i x d lt is through = (subst AreWellFormedStatements (next_statement xs i x lt is) through.wf).0
+pub next_wf : (w0 w1 : Walk) (all : List Statement) (xs : List RustStatement) (i : ℕ) (x : RustStatement) → i < length xs → x ≡ get_or xs i x
+    → GoesThrough w0 w1 all (map statement_of (drop i xs)) → IsWellFormedStatement (statement_of x)
+next_wf w0 w1 all xs i x lt is through = (subst AreWellFormedStatements (next_statement xs i x lt is) through.wf).0
 
-pub goes_further : (w0 w1 w2 : Walk) (all : List Statement) (xs : List RustStatement) (i : ℕ) (x : RustStatement) (d : Dialect) → i < length xs → x ≡ get_or xs i x
-    → GoesThrough w0 w1 all (map statement_of (drop i xs)) d → Grows w1 w2 → GoesOn w1 w2 (statement_of x) d → GoesThrough w0 w2 all (map statement_of (drop (i + 1) xs)) d
-goes_further w0 w1 w2 all xs i x d lt is through grows on =
+pub goes_further : (w0 w1 w2 : Walk) (all : List Statement) (xs : List RustStatement) (i : ℕ) (x : RustStatement) → i < length xs → x ≡ get_or xs i x
+    → GoesThrough w0 w1 all (map statement_of (drop i xs)) → Grows w1 w2 → GoesOn w1 w2 (statement_of x) → GoesThrough w0 w2 all (map statement_of (drop (i + 1) xs))
+goes_further w0 w1 w2 all xs i x lt is through grows on =
     let next = next_statement xs i x lt is in
     let rest = map statement_of (drop (i + 1) xs) in
     record {
       grows = grows_trans w0 w1 w2 through.grows grows;
       wf = (subst AreWellFormedStatements next through.wf).1;
-      went = λ end went. through.went end (subst (λ ss. Went (entries_of w1) (λ s. places_of s ss) (progress_of w1) (progress_of end) d) (sym next) (on.went rest end went));
-      stopped = λ stop end stopped. through.stopped stop end (subst (λ ss. HasStoppedAmong stop (entries_of w1) (λ s. places_of s ss) w1 end d) (sym next) (on.stopped rest stop end stopped));
+      went = λ end went. through.went end (subst (λ ss. Went (entries_of w1) (λ s. places_of s ss) (progress_of w1) (progress_of end) w1.verdicts.dialect) (sym next) (on.went rest end went));
+      stopped = λ stop end stopped. through.stopped stop end (subst (λ ss. HasStoppedAmong stop (entries_of w1) (λ s. places_of s ss) w1 end w1.verdicts.dialect) (sym next) (on.stopped rest stop end stopped));
     }
 
-pub stops_at : (r : Result (Unit {0}) Stop) (stop : Stop) (w0 w1 w2 : Walk) (all : List Statement) (xs : List RustStatement) (i : ℕ) (x : RustStatement) (d : Dialect) → i < length xs → x ≡ get_or xs i x
-    → GoesThrough w0 w1 all (map statement_of (drop i xs)) d → IsErrAnd r (λ y. y ≡ stop) → HasStoppedAt stop w1 w2 (statement_of x) d
-    → IfErr r (λ s. HasStoppedAmong s (entries_of w0) (λ s. places_of s all) w0 w2 d)
-stops_at (Ok y) stop w0 w1 w2 all xs i x d lt is through err stopped = absurd err
-stops_at (Err e) stop w0 w1 w2 all xs i x d lt is through err stopped =
-    subst (λ y. HasStoppedAmong y (entries_of w0) (λ s. places_of s all) w0 w2 d) (sym err)
-    (through.stopped stop w2 (subst (λ ss. HasStoppedAmong stop (entries_of w1) (λ s. places_of s ss) w1 w2 d) (sym (next_statement xs i x lt is)) (stopped (map statement_of (drop (i + 1) xs)))))
+pub stops_at : (r : Result (Unit {0}) Stop) (stop : Stop) (w0 w1 w2 : Walk) (all : List Statement) (xs : List RustStatement) (i : ℕ) (x : RustStatement) → i < length xs → x ≡ get_or xs i x
+    → GoesThrough w0 w1 all (map statement_of (drop i xs)) → IsErrAnd r (λ y. y ≡ stop) → HasStoppedAt stop w1 w2 (statement_of x)
+    → IfErr r (λ s. HasStoppedAmong s (entries_of w0) (λ s. places_of s all) w0 w2 w0.verdicts.dialect)
+stops_at (Ok y) stop w0 w1 w2 all xs i x lt is through err stopped = absurd err
+stops_at (Err e) stop w0 w1 w2 all xs i x lt is through err stopped =
+    subst (λ y. HasStoppedAmong y (entries_of w0) (λ s. places_of s all) w0 w2 w0.verdicts.dialect) (sym err)
+    (through.stopped stop w2 (subst (λ ss. HasStoppedAmong stop (entries_of w1) (λ s. places_of s ss) w1 w2 w1.verdicts.dialect) (sym (next_statement xs i x lt is)) (stopped (map statement_of (drop (i + 1) xs)))))
 
-pub goes_to_end : (w0 w1 : Walk) (all : List Statement) (xs : List RustStatement) (i : ℕ) (d : Dialect) → length xs ≤ i
-    → GoesThrough w0 w1 all (map statement_of (drop i xs)) d → Went (entries_of w0) (λ s. places_of s all) (progress_of w0) (progress_of w1) d
-goes_to_end w0 w1 all xs i d le through =
+pub goes_to_end : (w0 w1 : Walk) (all : List Statement) (xs : List RustStatement) (i : ℕ) → length xs ≤ i
+    → GoesThrough w0 w1 all (map statement_of (drop i xs)) → Went (entries_of w0) (λ s. places_of s all) (progress_of w0) (progress_of w1) w0.verdicts.dialect
+goes_to_end w0 w1 all xs i le through =
     let none : map statement_of (drop i xs) ≡ [] = ap (λ ys. map statement_of ys) (drop_all i xs le) in
-    through.went w1 (subst (λ ss. Went (entries_of w1) (λ s. places_of s ss) (progress_of w1) (progress_of w1) d) (sym none) (went_none (entries_of w1) (progress_of w1) d))
+    through.went w1 (subst (λ ss. Went (entries_of w1) (λ s. places_of s ss) (progress_of w1) (progress_of w1) w1.verdicts.dialect) (sym none) (went_none (entries_of w1) (progress_of w1) w1.verdicts.dialect))

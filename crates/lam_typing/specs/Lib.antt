@@ -7,7 +7,6 @@ pub mod Analysis
 pub mod Progress
 pub mod Steps
 pub mod Answers
-pub mod Verdicts
 pub mod Walk
 pub mod Entries
 pub mod Notes

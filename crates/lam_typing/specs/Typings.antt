@@ -106,18 +106,18 @@ pub record IsProofAt (ss : List Statement) (t : Typing) (n : ℕ) (p : TypingTre
   pub type : get_or (found_of t) n None ≡ Some (type_in p)
 
 -- what a walk found, with the notes of the document that it went over
-pub record Completes (w : Walk) (ss : List Statement) (origins : List Origin) (t : Typing) (d : Dialect) : Type 0 where
+pub record Completes (w : Walk) (ss : List Statement) (origins : List Origin) (t : Typing) : Type 0 where
   pub keeps : Keeps w.table t.table
   pub found : t.found.items ≡ w.found.items
   pub blames : t.blames.items ≡ w.blames.items
   pub noted : noted_in t ≡ notes_of 0 (answers w.table w.found.items) [] ss
   pub declared : declared_by t ≡ map declared_in ss
   pub origins_are : t.origins.items ≡ origins
-  pub dialect : t.dialect ≡ d
+  pub dialect : t.dialect ≡ w.verdicts.dialect
 
 -- what is answered where a walk stopped
-abbrev pub IsEndOf : Stop → Walk → List Statement → List Origin → Result Typing TypingFault → Dialect → Type 0
-IsEndOf Stop.Enough w ss origins (Ok t) d = Completes w ss origins t d
-IsEndOf Stop.TooLarge w ss origins (Err (TypingFault.TooLarge place)) d = place.0 ≡ length w.found.items
-IsEndOf stop w ss origins (Err TypingFault.Memory) d = Unit {0}
-IsEndOf _ w ss origins r d = ⊥
+abbrev pub IsEndOf : Stop → Walk → List Statement → List Origin → Result Typing TypingFault → Type 0
+IsEndOf Stop.Enough w ss origins (Ok t) = Completes w ss origins t
+IsEndOf Stop.TooLarge w ss origins (Err (TypingFault.TooLarge place)) = place.0 ≡ length w.found.items
+IsEndOf stop w ss origins (Err TypingFault.Memory) = Unit {0}
+IsEndOf _ w ss origins r = ⊥

@@ -10,6 +10,7 @@ use Rattle.lam_rules.specs.Numbers.{IsNumberOf, Keeps, AreEarlier, fields_over}
 use Rattle.lam_rules.specs.declared.rules.Dialect.{Dialect}
 use Rattle.lam_rules.specs.declared.numbers.TyNo.{TyNo}
 use Rattle.lam_scope.specs.Places.{Scope, Place, places, places_in, Statement, places_of}
+use Rattle.lam_sub.specs.Remembered.{AreRight}
 use Rattle.lam_typing.specs.Blaming.{Blamed}
 use Rattle.lam_typing.specs.Analysis.{IsSmall}
 use Rattle.lam_typing.specs.Answers.{answer, answers, StandsIn, AllStandIn, context_under}
@@ -51,26 +52,28 @@ abbrev pub IsWithin : Option PlaceNumber → ℕ → Type 0
 IsWithin None n = Unit {0}
 IsWithin (Some last) n = n ≤ last.0 + 1
 
--- its numbers are of its table, and no more was found than was asked for
+-- its numbers are of its table, what is known of them is right, and no more was found than was asked for
 pub record IsSoundWalk (w : Walk) : Type 0 where
   pub entries : AllStandIn w.table w.entries.items
   pub found : AllStandIn w.table w.found.items
+  pub verdicts : AreRight w.table w.verdicts
   pub boolean : IsNumberOf w.table w.leaves.boolean bool
   pub natural : IsNumberOf w.table w.leaves.natural nat
   pub unit : IsNumberOf w.table w.leaves.unit unit
   pub room : IsWithin w.last (length w.found.items)
 
--- its table only grows, and it stays sound
+-- its table only grows, its dialect stays, and it stays sound
 pub record Grows (old now : Walk) : Type 0 where
   pub sound : IsSoundWalk now
   pub keeps : Keeps old.table now.table
+  pub dialect : now.verdicts.dialect ≡ old.verdicts.dialect
   pub last : now.last ≡ old.last
 
 -- it went over a term of this type, and is under the same binders as before
-pub record WalkedOver (old now : Walk) (e : Term) (found : Option TyNo) (d : Dialect) : Type 0 where
+pub record WalkedOver (old now : Walk) (e : Term) (found : Option TyNo) : Type 0 where
   pub entries : now.entries.items ≡ old.entries.items
   pub stands : StandsIn now.table found
-  pub over : WentOver (entries_of old) e (progress_of old) (progress_of now) (answer now.table found) d
+  pub over : WentOver (entries_of old) e (progress_of old) (progress_of now) (answer now.table found) old.verdicts.dialect
 
 -- it stopped among these places: before one that is too large, or that lies behind the last one asked for, or wherever memory was wanting
 abbrev pub HasStoppedAmong : Stop → Context → (Scope → List Place) → Walk → Walk → Dialect → Type 0
@@ -79,21 +82,21 @@ HasStoppedAmong Stop.Enough g ps old now d = StoppedIn g ps (progress_of old) (p
 HasStoppedAmong Stop.Memory g ps old now d = Unit {0}
 
 -- it stopped among the places of a term
-abbrev pub HasStopped : Stop → Walk → Walk → Term → Dialect → Type 0
-HasStopped stop old now e d = HasStoppedAmong stop (entries_of old) (λ s. places s e) old now d
+abbrev pub HasStopped : Stop → Walk → Walk → Term → Type 0
+HasStopped stop old now e = HasStoppedAmong stop (entries_of old) (λ s. places s e) old now old.verdicts.dialect
 
 -- it stopped among the places of a record's terms
-abbrev pub HasStoppedInFields : Stop → Walk → Walk → TermFields → Dialect → Type 0
-HasStoppedInFields stop old now es d = HasStoppedAmong stop (entries_of old) (λ s. places_in s es) old now d
+abbrev pub HasStoppedInFields : Stop → Walk → Walk → TermFields → Type 0
+HasStoppedInFields stop old now es = HasStoppedAmong stop (entries_of old) (λ s. places_in s es) old now old.verdicts.dialect
 
 -- it went over the terms of a record, and put what has a type behind the parts that were there
-pub record FieldsWalked (old now : Walk) (es : TermFields) (before after : List (String Global × TyNo)) (all : Bool) (d : Dialect) : Type 0 where
+pub record FieldsWalked (old now : Walk) (es : TermFields) (before after : List (String Global × TyNo)) (all : Bool) : Type 0 where
   pub entries : now.entries.items ≡ old.entries.items
   pub parts : List (String Global × TyNo)
   pub parts_are : after ≡ before ++ parts
   pub stand : AreEarlier (length now.table) parts
-  pub went : Went (entries_of old) (λ s. places_in s es) (progress_of old) (progress_of now) d
-  pub fields : (s : Scope) → IsLowest s (entries_of old) d → AreFieldsAt s es (if_all all (fields_over now.table parts)) d
+  pub went : Went (entries_of old) (λ s. places_in s es) (progress_of old) (progress_of now) old.verdicts.dialect
+  pub fields : (s : Scope) → IsLowest s (entries_of old) old.verdicts.dialect → AreFieldsAt s es (if_all all (fields_over now.table parts)) old.verdicts.dialect
 
 -- the blame of the place of a number, if there is a code
 abbrev pub blame_at : ℕ → Option (Bor Text) → List Blamed
@@ -115,12 +118,14 @@ StopsAt Stop.Enough old now found blame = (now ≡ old) × IsBehind old.last (le
 StopsAt Stop.Memory old now found blame = Unit {0}
 
 -- a statement is done: what is found of those that follow, or where the walk stops among them, is so of all
-pub record GoesOn (old now : Walk) (statement : Statement) (d : Dialect) : Type 0 where
+pub record GoesOn (old now : Walk) (statement : Statement) : Type 0 where
   pub went : (rest : List Statement) (end : Walk)
-      → Went (entries_of now) (λ s. places_of s rest) (progress_of now) (progress_of end) d → Went (entries_of old) (λ s. places_of s (statement ∷ rest)) (progress_of old) (progress_of end) d
+      → Went (entries_of now) (λ s. places_of s rest) (progress_of now) (progress_of end) now.verdicts.dialect
+      → Went (entries_of old) (λ s. places_of s (statement ∷ rest)) (progress_of old) (progress_of end) old.verdicts.dialect
   pub stopped : (rest : List Statement) (stop : Stop) (end : Walk)
-      → HasStoppedAmong stop (entries_of now) (λ s. places_of s rest) now end d → HasStoppedAmong stop (entries_of old) (λ s. places_of s (statement ∷ rest)) old end d
+      → HasStoppedAmong stop (entries_of now) (λ s. places_of s rest) now end now.verdicts.dialect
+      → HasStoppedAmong stop (entries_of old) (λ s. places_of s (statement ∷ rest)) old end old.verdicts.dialect
 
 -- it stopped in a statement, whatever follows
-abbrev pub HasStoppedAt : Stop → Walk → Walk → Statement → Dialect → Type 0
-HasStoppedAt stop old now statement d = (rest : List Statement) → HasStoppedAmong stop (entries_of old) (λ s. places_of s (statement ∷ rest)) old now d
+abbrev pub HasStoppedAt : Stop → Walk → Walk → Statement → Type 0
+HasStoppedAt stop old now statement = (rest : List Statement) → HasStoppedAmong stop (entries_of old) (λ s. places_of s (statement ∷ rest)) old now old.verdicts.dialect

@@ -59,59 +59,48 @@ fn analyse_up_to(
     ensures dialect { IfOk result (λ typing. dialect_of typing ≡ dialect) }
     ensures fault { IfErr result (λ fault. IsFaultOf fault (up_to last (places_of [] (statements_of resolved.now))) dialect) }
 {
-    let Ok(mut walk) = start(alloc, last) else {
+    let Ok(mut walk) = start(alloc, last, dialect) else {
         return Err(TypingFault::Memory);
     };
-    let mut verdicts = Verdicts::new(alloc, dialect);
-    let walked = walk_statements(&mut walk, &mut verdicts, resolved.statements(), dialect);
-    // They are of no use behind the walk, and memory is at its peak there.
-    drop(verdicts);
-    match walked {
-        Ok(()) => complete(alloc, walk, resolved, dialect),
-        Err(stop) => end(alloc, walk, stop, resolved, dialect),
+    match walk_statements(&mut walk, resolved.statements()) {
+        Ok(()) => complete(alloc, walk, resolved),
+        Err(stop) => end(alloc, walk, stop, resolved),
     }
 }
 
 /// What is known where a walk ended early: all that was asked for, or why not.
-fn end(
-    alloc: Global,
-    walk: Walk,
-    stop: Stop,
-    resolved: &Resolved,
-    dialect: Dialect,
-) -> Result<Typing, TypingFault>
+fn end(alloc: Global, walk: Walk, stop: Stop, resolved: &Resolved) -> Result<Typing, TypingFault>
     requires sound { IsSoundWalk walk }
     requires wf { AreWellFormedStatements (statements_of resolved.now) }
-    ensures { IsEndOf stop walk (statements_of resolved.now) (origins_of resolved.now) result dialect }
+    ensures { IsEndOf stop walk (statements_of resolved.now) (origins_of resolved.now) result }
 {
     match stop {
-        Stop::Enough => complete(alloc, walk, resolved, dialect),
+        Stop::Enough => complete(alloc, walk, resolved),
         Stop::TooLarge => Err(TypingFault::TooLarge(Place(walk.found.len()))),
         Stop::Memory => Err(TypingFault::Memory),
     }
 }
 
 /// What a walk found, with the entries that the places speak of. What the walk held beside it is given back.
-fn complete(
-    alloc: Global,
-    walk: Walk,
-    resolved: &Resolved,
-    dialect: Dialect,
-) -> Result<Typing, TypingFault>
+fn complete(alloc: Global, walk: Walk, resolved: &Resolved) -> Result<Typing, TypingFault>
     requires sound { IsSoundWalk walk }
     requires wf { AreWellFormedStatements (statements_of resolved.now) }
-    ensures completes { IfOk result (λ typing. Completes walk (statements_of resolved.now) (origins_of resolved.now) typing dialect) }
+    ensures completes { IfOk result (λ typing. Completes walk (statements_of resolved.now) (origins_of resolved.now) typing) }
     ensures fault { IfErr result (λ fault. fault ≡ Memory) }
 {
     let Walk {
         mut table,
+        verdicts,
         leaves: _leaves,
         entries,
         mut found,
         blames,
         last: _last,
     } = walk;
-    // The entries of a pass are of no use behind it, and up to half of a list that grew is spare.
+    let dialect = verdicts.dialect;
+    // Memory is at its peak in the second pass. What the first one knew of types and its entries are of no use there, and
+    // up to half of a list that grew is spare.
+    drop(verdicts);
     drop(entries);
     found.shrink_to_fit();
     let Ok(notes) = note_statements(alloc, &mut table, &found, resolved.statements()) else {
@@ -133,9 +122,10 @@ fn complete(
 }
 
 /// A walk that has found nothing yet.
-fn start(alloc: Global, last: Option<Place>) -> Result<Walk, AllocError>
+fn start(alloc: Global, last: Option<Place>, dialect: Dialect) -> Result<Walk, AllocError>
     ensures sound { IfOk result (λ walk. IsSoundWalk walk) }
     ensures begins { IfOk result (λ walk. Begins walk last) }
+    ensures dialect { IfOk result (λ walk. walk.verdicts.dialect ≡ dialect) }
 {
     let mut table = TyTable::new(alloc);
     let boolean = table.intern(Shape::Bool)?;
@@ -143,6 +133,7 @@ fn start(alloc: Global, last: Option<Place>) -> Result<Walk, AllocError>
     let unit = table.intern(Shape::Unit)?;
     Ok(Walk {
         table,
+        verdicts: Verdicts::new(alloc, dialect),
         leaves: Leaves {
             boolean,
             natural,

@@ -1,58 +1,20 @@
 //! What each rule of typing makes of the types of a term's parts, by the numbers of a table (TAPL chapter 16: no rule
 //! of subsumption, a join at `if`). A part without a type has no number, and no more has a term whose rule fails.
 
-ghost use Rattle.std.specs.Prelude.{◌≡◌, ◌↔◌, IfOk, IfSome, IfNone, IsTrue, List, length};
+ghost use Rattle.std.specs.Prelude.{◌≡◌, IfOk, IfSome, IfNone, List, length};
 ghost use Rattle.lam_rules.specs.Types.{Typ, arrow, bool, nat, IsWellFormed};
 ghost use Rattle.lam_rules.specs.TermViews.{written_of};
 ghost use Rattle.lam_rules.specs.Typing.{IsWellFormedEntry};
-ghost use Rattle.lam_rules.specs.Subtyping.{IsBelow};
 ghost use Rattle.lam_rules.specs.Numbers.{type_of, Stands, IsNumberOf, Keeps, AreEarlier, fields_over};
-ghost use Rattle.lam_lattice.specs.Bounds.{IsJoin};
+ghost use Rattle.lam_sub.specs.Remembered.{AreRight};
 ghost use Rattle.lam_typing.specs.Answers.{answer, StandsIn};
 ghost use Rattle.lam_typing.specs.Progress.{if_all};
-ghost use Rattle.lam_typing.specs.Verdicts.{AreVerdictsOn};
 ghost use Rattle.lam_typing.specs.Steps.{NatRule, LambdaRule, ApplyRule, AscribeRule, LetRule, IfRule, FixRule, ProjectRule, RecordRule};
 
 use lam_lattice::join_no;
-use lam_rules::{Dialect, Shape, Ty, TyNo, TyTable, labels_differ};
+use lam_rules::{Shape, Ty, TyNo, TyTable, labels_differ};
 use lam_sub::{Verdicts, is_sub_no};
 use std::alloc::AllocError;
-
-/// Whether one type is below another.
-fn is_below(
-    table: &TyTable,
-    verdicts: &mut Verdicts,
-    lower: TyNo,
-    upper: TyNo,
-    dialect: Dialect,
-) -> Result<bool, AllocError>
-    requires lower { Stands table.now lower }
-    requires upper { Stands table.now upper }
-    requires verdicts { AreVerdictsOn table.now dialect verdicts.old }
-    ensures verdicts { AreVerdictsOn table.now dialect verdicts.new }
-    ensures below { IfOk result (λ below. IsTrue below ↔ IsBelow (type_of table.now lower) (type_of table.now upper) dialect) }
-{
-    is_sub_no(table, verdicts, lower, upper)
-}
-
-/// The join of two types.
-fn joined(
-    table: &mut TyTable,
-    verdicts: &mut Verdicts,
-    left: TyNo,
-    right: TyNo,
-    dialect: Dialect,
-) -> Result<TyNo, AllocError>
-    requires left { Stands table.old left }
-    requires right { Stands table.old right }
-    requires verdicts { AreVerdictsOn table.old dialect verdicts.old }
-    ensures keeps { Keeps table.old table.new }
-    ensures verdicts { AreVerdictsOn table.new dialect verdicts.new }
-    ensures stands { IfOk result (λ made. Stands table.new made) }
-    ensures join { IfOk result (λ made. IsJoin (type_of table.old left) (type_of table.old right) (type_of table.new made) dialect) }
-{
-    join_no(table, verdicts, left, right)
-}
 
 /// The two sides of an arrow.
 fn sides(table: &TyTable, number: TyNo) -> Option<(TyNo, TyNo)>
@@ -90,20 +52,20 @@ pub(crate) fn of_number(
     operand: Option<TyNo>,
     nat_number: TyNo,
     outcome: TyNo,
-    dialect: Dialect,
 ) -> Result<Option<TyNo>, AllocError>
     requires operand { StandsIn table.now operand }
     requires nat_number { IsNumberOf table.now nat_number nat }
     requires outcome { Stands table.now outcome }
-    requires verdicts { AreVerdictsOn table.now dialect verdicts.old }
-    ensures verdicts { AreVerdictsOn table.now dialect verdicts.new }
+    requires right { AreRight table.now verdicts.old }
+    ensures dialect { verdicts.new.dialect ≡ verdicts.old.dialect }
+    ensures right { AreRight table.now verdicts.new }
     ensures stands { IfOk result (λ found. StandsIn table.now found) }
-    ensures rule { IfOk result (λ found. NatRule (type_of table.now outcome) (answer table.now operand) (answer table.now found) dialect) }
+    ensures rule { IfOk result (λ found. NatRule (type_of table.now outcome) (answer table.now operand) (answer table.now found) verdicts.old.dialect) }
 {
     let Some(number) = operand else {
         return Ok(None);
     };
-    if is_below(table, verdicts, number, nat_number, dialect)? {
+    if is_sub_no(table, verdicts, number, nat_number)? {
         Ok(Some(outcome))
     } else {
         Ok(None)
@@ -138,14 +100,14 @@ pub(crate) fn applied(
     verdicts: &mut Verdicts,
     function: Option<TyNo>,
     argument: Option<TyNo>,
-    dialect: Dialect,
 ) -> Result<Option<TyNo>, AllocError>
     requires function { StandsIn table.now function }
     requires argument { StandsIn table.now argument }
-    requires verdicts { AreVerdictsOn table.now dialect verdicts.old }
-    ensures verdicts { AreVerdictsOn table.now dialect verdicts.new }
+    requires right { AreRight table.now verdicts.old }
+    ensures dialect { verdicts.new.dialect ≡ verdicts.old.dialect }
+    ensures right { AreRight table.now verdicts.new }
     ensures stands { IfOk result (λ found. StandsIn table.now found) }
-    ensures rule { IfOk result (λ found. ApplyRule (answer table.now function) (answer table.now argument) (answer table.now found) dialect) }
+    ensures rule { IfOk result (λ found. ApplyRule (answer table.now function) (answer table.now argument) (answer table.now found) verdicts.old.dialect) }
 {
     let Some(function_number) = function else {
         return Ok(None);
@@ -156,7 +118,7 @@ pub(crate) fn applied(
     let Some((parameter, outcome)) = sides(table, function_number) else {
         return Ok(None);
     };
-    if is_below(table, verdicts, argument_number, parameter, dialect)? {
+    if is_sub_no(table, verdicts, argument_number, parameter)? {
         Ok(Some(outcome))
     } else {
         Ok(None)
@@ -169,14 +131,14 @@ pub(crate) fn ascribed(
     verdicts: &mut Verdicts,
     written: Option<TyNo>,
     operand: Option<TyNo>,
-    dialect: Dialect,
 ) -> Result<Option<TyNo>, AllocError>
     requires written { StandsIn table.now written }
     requires operand { StandsIn table.now operand }
-    requires verdicts { AreVerdictsOn table.now dialect verdicts.old }
-    ensures verdicts { AreVerdictsOn table.now dialect verdicts.new }
+    requires right { AreRight table.now verdicts.old }
+    ensures dialect { verdicts.new.dialect ≡ verdicts.old.dialect }
+    ensures right { AreRight table.now verdicts.new }
     ensures stands { IfOk result (λ found. StandsIn table.now found) }
-    ensures rule { IfOk result (λ found. AscribeRule (answer table.now written) (answer table.now operand) (answer table.now found) dialect) }
+    ensures rule { IfOk result (λ found. AscribeRule (answer table.now written) (answer table.now operand) (answer table.now found) verdicts.old.dialect) }
 {
     let Some(written_number) = written else {
         return Ok(None);
@@ -184,7 +146,7 @@ pub(crate) fn ascribed(
     let Some(number) = operand else {
         return Ok(None);
     };
-    if is_below(table, verdicts, number, written_number, dialect)? {
+    if is_sub_no(table, verdicts, number, written_number)? {
         Ok(Some(written_number))
     } else {
         Ok(None)
@@ -209,17 +171,17 @@ pub(crate) fn chosen(
     then_branch: Option<TyNo>,
     else_branch: Option<TyNo>,
     bool_number: TyNo,
-    dialect: Dialect,
 ) -> Result<Option<TyNo>, AllocError>
     requires condition { StandsIn table.old condition }
     requires then_branch { StandsIn table.old then_branch }
     requires else_branch { StandsIn table.old else_branch }
     requires bool_number { IsNumberOf table.old bool_number bool }
-    requires verdicts { AreVerdictsOn table.old dialect verdicts.old }
+    requires right { AreRight table.old verdicts.old }
     ensures keeps { Keeps table.old table.new }
-    ensures verdicts { AreVerdictsOn table.new dialect verdicts.new }
+    ensures dialect { verdicts.new.dialect ≡ verdicts.old.dialect }
+    ensures right { AreRight table.new verdicts.new }
     ensures stands { IfOk result (λ found. StandsIn table.new found) }
-    ensures rule { IfOk result (λ found. IfRule (answer table.old condition) (answer table.old then_branch) (answer table.old else_branch) (answer table.new found) dialect) }
+    ensures rule { IfOk result (λ found. IfRule (answer table.old condition) (answer table.old then_branch) (answer table.old else_branch) (answer table.new found) verdicts.old.dialect) }
 {
     let Some(condition_number) = condition else {
         return Ok(None);
@@ -230,10 +192,10 @@ pub(crate) fn chosen(
     let Some(else_number) = else_branch else {
         return Ok(None);
     };
-    if !is_below(table, verdicts, condition_number, bool_number, dialect)? {
+    if !is_sub_no(table, verdicts, condition_number, bool_number)? {
         return Ok(None);
     }
-    let number = joined(table, verdicts, then_number, else_number, dialect)?;
+    let number = join_no(table, verdicts, then_number, else_number)?;
     Ok(Some(number))
 }
 
@@ -242,13 +204,13 @@ pub(crate) fn fixed(
     table: &TyTable,
     verdicts: &mut Verdicts,
     operand: Option<TyNo>,
-    dialect: Dialect,
 ) -> Result<Option<TyNo>, AllocError>
     requires operand { StandsIn table.now operand }
-    requires verdicts { AreVerdictsOn table.now dialect verdicts.old }
-    ensures verdicts { AreVerdictsOn table.now dialect verdicts.new }
+    requires right { AreRight table.now verdicts.old }
+    ensures dialect { verdicts.new.dialect ≡ verdicts.old.dialect }
+    ensures right { AreRight table.now verdicts.new }
     ensures stands { IfOk result (λ found. StandsIn table.now found) }
-    ensures rule { IfOk result (λ found. FixRule (answer table.now operand) (answer table.now found) dialect) }
+    ensures rule { IfOk result (λ found. FixRule (answer table.now operand) (answer table.now found) verdicts.old.dialect) }
 {
     let Some(number) = operand else {
         return Ok(None);
@@ -256,7 +218,7 @@ pub(crate) fn fixed(
     let Some((parameter, outcome)) = sides(table, number) else {
         return Ok(None);
     };
-    if is_below(table, verdicts, outcome, parameter, dialect)? {
+    if is_sub_no(table, verdicts, outcome, parameter)? {
         Ok(Some(outcome))
     } else {
         Ok(None)

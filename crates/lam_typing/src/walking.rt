@@ -12,7 +12,6 @@ ghost use Rattle.lam_typing.specs.Answers.{answer, StandsIn, AllStandIn, context
 ghost use Rattle.lam_typing.specs.Steps.{entry_at};
 ghost use Rattle.lam_typing.specs.Analysis.{IsSmall};
 ghost use Rattle.lam_typing.specs.Progress.{Went, blame_step, IsApplicationCode, IsLarge};
-ghost use Rattle.lam_typing.specs.Verdicts.{AreVerdictsOn};
 ghost use Rattle.lam_typing.specs.Walk.{Grows, WalkedOver, FieldsWalked, HasStopped, HasStoppedInFields, Settles, StopsAt, blame_at, blames_of, IsSoundWalk, IsBehind, IsUpTo, GoesOn, HasStoppedAt, HasStoppedAmong, entries_of, progress_of};
 ghost use Rattle.lam_typing.specs.declared.walking.Stop.TheVariants.{Memory};
 
@@ -20,7 +19,7 @@ use crate::blame::Blame;
 use crate::steps::{
     abstracted, added, applied, ascribed, bound_in, chosen, fixed, of_number, projected, recorded,
 };
-use lam_rules::{Core, Dialect, Shape, Ty, TyNo, TyTable};
+use lam_rules::{Core, Shape, Ty, TyNo, TyTable};
 use lam_scope::{NODE_LIMIT, Place, Statement};
 use lam_sub::Verdicts;
 use std::alloc::{AllocError, AllocFailed};
@@ -62,6 +61,8 @@ pub(crate) struct Leaves {
 #[derive(Drop)]
 pub(crate) struct Walk {
     pub table: TyTable,
+    /// What is known of the types of the table, in the dialect of the walk: asked again of other terms it costs a look-up.
+    pub verdicts: Verdicts,
     pub leaves: Leaves,
     /// The entries of the binders that it is under, the outermost first.
     pub entries: Vec<Option<TyNo>>,
@@ -72,46 +73,31 @@ pub(crate) struct Walk {
     pub last: Option<Place>,
 }
 
-/// All that a document states, from the first statement to the last. What is found of two types, in this dialect, is kept
-/// in `verdicts`: asked again of other terms it costs a look-up.
-pub(crate) fn walk_statements(
-    w: &mut Walk,
-    verdicts: &mut Verdicts,
-    statements: &[Statement],
-    dialect: Dialect,
-) -> Result<(), Stop>
+/// All that a document states, from the first statement to the last.
+pub(crate) fn walk_statements(w: &mut Walk, statements: &[Statement]) -> Result<(), Stop>
     requires sound { IsSoundWalk w.old }
     requires wf { AreWellFormedStatements (map statement_of statements.now) }
-    requires verdicts { AreVerdictsOn w.old.table dialect verdicts.old }
     ensures grows { Grows w.old w.new }
-    ensures verdicts { AreVerdictsOn w.new.table dialect verdicts.new }
-    ensures went { OnOk result (Went (entries_of w.old) (λ s. places_of s (map statement_of statements.now)) (progress_of w.old) (progress_of w.new) dialect) }
-    ensures stopped { IfErr result (λ stop. HasStoppedAmong stop (entries_of w.old) (λ s. places_of s (map statement_of statements.now)) w.old w.new dialect) }
+    ensures went { OnOk result (Went (entries_of w.old) (λ s. places_of s (map statement_of statements.now)) (progress_of w.old) (progress_of w.new) w.old.verdicts.dialect) }
+    ensures stopped { IfErr result (λ stop. HasStoppedAmong stop (entries_of w.old) (λ s. places_of s (map statement_of statements.now)) w.old w.new w.old.verdicts.dialect) }
 {
     for i in 0..statements.len() {
-        walk_statement(w, verdicts, &statements[i], dialect)?;
+        walk_statement(w, &statements[i])?;
     }
     Ok(())
 }
 
 /// What a command states, and the entry that it puts onto the others.
-pub(crate) fn walk_statement(
-    w: &mut Walk,
-    verdicts: &mut Verdicts,
-    statement: &Statement,
-    dialect: Dialect,
-) -> Result<(), Stop>
+pub(crate) fn walk_statement(w: &mut Walk, statement: &Statement) -> Result<(), Stop>
     requires sound { IsSoundWalk w.old }
     requires wf { IsWellFormedStatement (statement_of statement.now) }
-    requires verdicts { AreVerdictsOn w.old.table dialect verdicts.old }
     ensures grows { Grows w.old w.new }
-    ensures verdicts { AreVerdictsOn w.new.table dialect verdicts.new }
-    ensures goes_on { OnOk result (GoesOn w.old w.new (statement_of statement.now) dialect) }
-    ensures stopped { IfErr result (λ stop. HasStoppedAt stop w.old w.new (statement_of statement.now) dialect) }
+    ensures goes_on { OnOk result (GoesOn w.old w.new (statement_of statement.now)) }
+    ensures stopped { IfErr result (λ stop. HasStoppedAt stop w.old w.new (statement_of statement.now)) }
 {
     match statement {
         Statement::Definition(core) => {
-            let found = walk_term(w, verdicts, core, dialect)?;
+            let found = walk_term(w, core)?;
             w.entries.push(found)?;
             Ok(())
         }
@@ -122,7 +108,7 @@ pub(crate) fn walk_statement(
         }
         Statement::Abbreviation(_) => Ok(()),
         Statement::Evaluation(core) => {
-            walk_term(w, verdicts, core, dialect)?;
+            walk_term(w, core)?;
             Ok(())
         }
     }
@@ -131,325 +117,226 @@ pub(crate) fn walk_statement(
 /// The type of a term, whose places all come behind those that were found.
 #[cycle(walk_term)]
 #[tactic(auto, using(lam_rules::proofs::TermShapes::term_shapes))]
-pub(crate) fn walk_term(
-    w: &mut Walk,
-    verdicts: &mut Verdicts,
-    term: &Core,
-    dialect: Dialect,
-) -> Result<Option<TyNo>, Stop>
+pub(crate) fn walk_term(w: &mut Walk, term: &Core) -> Result<Option<TyNo>, Stop>
     requires sound { IsSoundWalk w.old }
     requires wf { IsWellFormedTerm (term_of term.now) }
-    requires verdicts { AreVerdictsOn w.old.table dialect verdicts.old }
     ensures grows { Grows w.old w.new }
-    ensures verdicts { AreVerdictsOn w.new.table dialect verdicts.new }
-    ensures walked { IfOk result (λ found. WalkedOver w.old w.new (term_of term.now) found dialect) }
-    ensures stopped { IfErr result (λ stop. HasStopped stop w.old w.new (term_of term.now) dialect) }
+    ensures walked { IfOk result (λ found. WalkedOver w.old w.new (term_of term.now) found) }
+    ensures stopped { IfErr result (λ stop. HasStopped stop w.old w.new (term_of term.now)) }
 {
     match term {
         Core::True => settle(w, Some(w.leaves.boolean), None),
         Core::False => settle(w, Some(w.leaves.boolean), None),
-        Core::If(condition, then_term, else_term) => {
-            walk_if(w, verdicts, condition, then_term, else_term, dialect)
-        }
+        Core::If(condition, then_term, else_term) => { walk_if(w, condition, then_term, else_term) }
         Core::Num(_) => settle(w, Some(w.leaves.natural), None),
-        Core::Succ(operand) => walk_succ(w, verdicts, operand, dialect),
-        Core::Pred(operand) => walk_pred(w, verdicts, operand, dialect),
-        Core::IsZero(operand) => walk_is_zero(w, verdicts, operand, dialect),
-        Core::Var(count) => walk_variable(w, *count, dialect),
+        Core::Succ(operand) => walk_succ(w, operand),
+        Core::Pred(operand) => walk_pred(w, operand),
+        Core::IsZero(operand) => walk_is_zero(w, operand),
+        Core::Var(count) => walk_variable(w, *count),
         Core::Free(_) => {
             let blame = blame_if(true, None, "E1");
             settle(w, None, blame)
         }
-        Core::Abs(written, body) => walk_lambda(w, verdicts, written, body, dialect),
-        Core::App(function, argument) => walk_apply(w, verdicts, function, argument, dialect),
+        Core::Abs(written, body) => walk_lambda(w, written, body),
+        Core::App(function, argument) => walk_apply(w, function, argument),
         Core::Unit => settle(w, Some(w.leaves.unit), None),
-        Core::Ascribe(operand, written) => walk_ascribe(w, verdicts, operand, written, dialect),
-        Core::Let(bound, body) => walk_let(w, verdicts, bound, body, dialect),
-        Core::Record(fields) => walk_record(w, verdicts, fields, dialect),
-        Core::Proj(operand, label) => walk_project(w, verdicts, operand, label, dialect),
-        Core::Fix(operand) => walk_fix(w, verdicts, operand, dialect),
+        Core::Ascribe(operand, written) => walk_ascribe(w, operand, written),
+        Core::Let(bound, body) => walk_let(w, bound, body),
+        Core::Record(fields) => walk_record(w, fields),
+        Core::Proj(operand, label) => walk_project(w, operand, label),
+        Core::Fix(operand) => walk_fix(w, operand),
     }
 }
 
 #[cycle(walk_term)]
 fn walk_if(
     w: &mut Walk,
-    verdicts: &mut Verdicts,
     condition: &Core,
     then_term: &Core,
     else_term: &Core,
-    dialect: Dialect,
 ) -> Result<Option<TyNo>, Stop>
     requires sound { IsSoundWalk w.old }
     requires condition { IsWellFormedTerm (term_of condition.now) }
     requires then_term { IsWellFormedTerm (term_of then_term.now) }
     requires else_term { IsWellFormedTerm (term_of else_term.now) }
-    requires verdicts { AreVerdictsOn w.old.table dialect verdicts.old }
     ensures grows { Grows w.old w.new }
-    ensures verdicts { AreVerdictsOn w.new.table dialect verdicts.new }
-    ensures walked { IfOk result (λ found. WalkedOver w.old w.new (if_then_else (term_of condition.now) (term_of then_term.now) (term_of else_term.now)) found dialect) }
-    ensures stopped { IfErr result (λ stop. HasStopped stop w.old w.new (if_then_else (term_of condition.now) (term_of then_term.now) (term_of else_term.now)) dialect) }
+    ensures walked { IfOk result (λ found. WalkedOver w.old w.new (if_then_else (term_of condition.now) (term_of then_term.now) (term_of else_term.now)) found) }
+    ensures stopped { IfErr result (λ stop. HasStopped stop w.old w.new (if_then_else (term_of condition.now) (term_of then_term.now) (term_of else_term.now))) }
 {
-    let first = walk_term(w, verdicts, condition, dialect)?;
-    let second = walk_term(w, verdicts, then_term, dialect)?;
-    let third = walk_term(w, verdicts, else_term, dialect)?;
+    let first = walk_term(w, condition)?;
+    let second = walk_term(w, then_term)?;
+    let third = walk_term(w, else_term)?;
     let boolean = w.leaves.boolean;
-    let found = chosen(
-        &mut w.table,
-        verdicts,
-        first,
-        second,
-        third,
-        boolean,
-        dialect,
-    )?;
+    let found = chosen(&mut w.table, &mut w.verdicts, first, second, third, boolean)?;
     let blame = blame_if(are_all_found(first, second, third), found, "E5");
     settle(w, found, blame)
 }
 
 #[cycle(walk_term)]
-fn walk_succ(
-    w: &mut Walk,
-    verdicts: &mut Verdicts,
-    operand: &Core,
-    dialect: Dialect,
-) -> Result<Option<TyNo>, Stop>
+fn walk_succ(w: &mut Walk, operand: &Core) -> Result<Option<TyNo>, Stop>
     requires sound { IsSoundWalk w.old }
     requires operand { IsWellFormedTerm (term_of operand.now) }
-    requires verdicts { AreVerdictsOn w.old.table dialect verdicts.old }
     ensures grows { Grows w.old w.new }
-    ensures verdicts { AreVerdictsOn w.new.table dialect verdicts.new }
-    ensures walked { IfOk result (λ found. WalkedOver w.old w.new (succ (term_of operand.now)) found dialect) }
-    ensures stopped { IfErr result (λ stop. HasStopped stop w.old w.new (succ (term_of operand.now)) dialect) }
+    ensures walked { IfOk result (λ found. WalkedOver w.old w.new (succ (term_of operand.now)) found) }
+    ensures stopped { IfErr result (λ stop. HasStopped stop w.old w.new (succ (term_of operand.now))) }
 {
-    let part = walk_term(w, verdicts, operand, dialect)?;
+    let part = walk_term(w, operand)?;
     let found = of_number(
         &w.table,
-        verdicts,
+        &mut w.verdicts,
         part,
         w.leaves.natural,
         w.leaves.natural,
-        dialect,
     )?;
     let blame = blame_if(part.is_some(), found, "E6");
     settle(w, found, blame)
 }
 
 #[cycle(walk_term)]
-fn walk_pred(
-    w: &mut Walk,
-    verdicts: &mut Verdicts,
-    operand: &Core,
-    dialect: Dialect,
-) -> Result<Option<TyNo>, Stop>
+fn walk_pred(w: &mut Walk, operand: &Core) -> Result<Option<TyNo>, Stop>
     requires sound { IsSoundWalk w.old }
     requires operand { IsWellFormedTerm (term_of operand.now) }
-    requires verdicts { AreVerdictsOn w.old.table dialect verdicts.old }
     ensures grows { Grows w.old w.new }
-    ensures verdicts { AreVerdictsOn w.new.table dialect verdicts.new }
-    ensures walked { IfOk result (λ found. WalkedOver w.old w.new (pred (term_of operand.now)) found dialect) }
-    ensures stopped { IfErr result (λ stop. HasStopped stop w.old w.new (pred (term_of operand.now)) dialect) }
+    ensures walked { IfOk result (λ found. WalkedOver w.old w.new (pred (term_of operand.now)) found) }
+    ensures stopped { IfErr result (λ stop. HasStopped stop w.old w.new (pred (term_of operand.now))) }
 {
-    let part = walk_term(w, verdicts, operand, dialect)?;
+    let part = walk_term(w, operand)?;
     let found = of_number(
         &w.table,
-        verdicts,
+        &mut w.verdicts,
         part,
         w.leaves.natural,
         w.leaves.natural,
-        dialect,
     )?;
     let blame = blame_if(part.is_some(), found, "E6");
     settle(w, found, blame)
 }
 
 #[cycle(walk_term)]
-fn walk_is_zero(
-    w: &mut Walk,
-    verdicts: &mut Verdicts,
-    operand: &Core,
-    dialect: Dialect,
-) -> Result<Option<TyNo>, Stop>
+fn walk_is_zero(w: &mut Walk, operand: &Core) -> Result<Option<TyNo>, Stop>
     requires sound { IsSoundWalk w.old }
     requires operand { IsWellFormedTerm (term_of operand.now) }
-    requires verdicts { AreVerdictsOn w.old.table dialect verdicts.old }
     ensures grows { Grows w.old w.new }
-    ensures verdicts { AreVerdictsOn w.new.table dialect verdicts.new }
-    ensures walked { IfOk result (λ found. WalkedOver w.old w.new (is_zero (term_of operand.now)) found dialect) }
-    ensures stopped { IfErr result (λ stop. HasStopped stop w.old w.new (is_zero (term_of operand.now)) dialect) }
+    ensures walked { IfOk result (λ found. WalkedOver w.old w.new (is_zero (term_of operand.now)) found) }
+    ensures stopped { IfErr result (λ stop. HasStopped stop w.old w.new (is_zero (term_of operand.now))) }
 {
-    let part = walk_term(w, verdicts, operand, dialect)?;
+    let part = walk_term(w, operand)?;
     let found = of_number(
         &w.table,
-        verdicts,
+        &mut w.verdicts,
         part,
         w.leaves.natural,
         w.leaves.boolean,
-        dialect,
     )?;
     let blame = blame_if(part.is_some(), found, "E6");
     settle(w, found, blame)
 }
 
 #[cycle(walk_term)]
-fn walk_lambda(
-    w: &mut Walk,
-    verdicts: &mut Verdicts,
-    written: &Option<Ty>,
-    body: &Core,
-    dialect: Dialect,
-) -> Result<Option<TyNo>, Stop>
+fn walk_lambda(w: &mut Walk, written: &Option<Ty>, body: &Core) -> Result<Option<TyNo>, Stop>
     requires sound { IsSoundWalk w.old }
     requires written { IsWellFormedEntry (written_of written.now) }
     requires body { IsWellFormedTerm (term_of body.now) }
-    requires verdicts { AreVerdictsOn w.old.table dialect verdicts.old }
     ensures grows { Grows w.old w.new }
-    ensures verdicts { AreVerdictsOn w.new.table dialect verdicts.new }
-    ensures walked { IfOk result (λ found. WalkedOver w.old w.new (lambda (written_of written.now) (term_of body.now)) found dialect) }
-    ensures stopped { IfErr result (λ stop. HasStopped stop w.old w.new (lambda (written_of written.now) (term_of body.now)) dialect) }
+    ensures walked { IfOk result (λ found. WalkedOver w.old w.new (lambda (written_of written.now) (term_of body.now)) found) }
+    ensures stopped { IfErr result (λ stop. HasStopped stop w.old w.new (lambda (written_of written.now) (term_of body.now))) }
 {
     let parameter = added(&mut w.table, written)?;
     w.entries.push(parameter)?;
-    let outcome = walk_term(w, verdicts, body, dialect)?;
+    let outcome = walk_term(w, body)?;
     w.entries.pop();
     let found = abstracted(&mut w.table, parameter, outcome)?;
     settle(w, found, None)
 }
 
 #[cycle(walk_term)]
-fn walk_apply(
-    w: &mut Walk,
-    verdicts: &mut Verdicts,
-    function: &Core,
-    argument: &Core,
-    dialect: Dialect,
-) -> Result<Option<TyNo>, Stop>
+fn walk_apply(w: &mut Walk, function: &Core, argument: &Core) -> Result<Option<TyNo>, Stop>
     requires sound { IsSoundWalk w.old }
     requires function { IsWellFormedTerm (term_of function.now) }
     requires argument { IsWellFormedTerm (term_of argument.now) }
-    requires verdicts { AreVerdictsOn w.old.table dialect verdicts.old }
     ensures grows { Grows w.old w.new }
-    ensures verdicts { AreVerdictsOn w.new.table dialect verdicts.new }
-    ensures walked { IfOk result (λ found. WalkedOver w.old w.new (apply (term_of function.now) (term_of argument.now)) found dialect) }
-    ensures stopped { IfErr result (λ stop. HasStopped stop w.old w.new (apply (term_of function.now) (term_of argument.now)) dialect) }
+    ensures walked { IfOk result (λ found. WalkedOver w.old w.new (apply (term_of function.now) (term_of argument.now)) found) }
+    ensures stopped { IfErr result (λ stop. HasStopped stop w.old w.new (apply (term_of function.now) (term_of argument.now))) }
 {
-    let first = walk_term(w, verdicts, function, dialect)?;
-    let second = walk_term(w, verdicts, argument, dialect)?;
-    let found = applied(&w.table, verdicts, first, second, dialect)?;
+    let first = walk_term(w, function)?;
+    let second = walk_term(w, argument)?;
+    let found = applied(&w.table, &mut w.verdicts, first, second)?;
     let code = application_code(&w.table, first);
     let blame = blame_if(are_both_found(first, second), found, code);
     settle(w, found, blame)
 }
 
 #[cycle(walk_term)]
-fn walk_ascribe(
-    w: &mut Walk,
-    verdicts: &mut Verdicts,
-    operand: &Core,
-    written: &Option<Ty>,
-    dialect: Dialect,
-) -> Result<Option<TyNo>, Stop>
+fn walk_ascribe(w: &mut Walk, operand: &Core, written: &Option<Ty>) -> Result<Option<TyNo>, Stop>
     requires sound { IsSoundWalk w.old }
     requires operand { IsWellFormedTerm (term_of operand.now) }
     requires written { IsWellFormedEntry (written_of written.now) }
-    requires verdicts { AreVerdictsOn w.old.table dialect verdicts.old }
     ensures grows { Grows w.old w.new }
-    ensures verdicts { AreVerdictsOn w.new.table dialect verdicts.new }
-    ensures walked { IfOk result (λ found. WalkedOver w.old w.new (ascribe (term_of operand.now) (written_of written.now)) found dialect) }
-    ensures stopped { IfErr result (λ stop. HasStopped stop w.old w.new (ascribe (term_of operand.now) (written_of written.now)) dialect) }
+    ensures walked { IfOk result (λ found. WalkedOver w.old w.new (ascribe (term_of operand.now) (written_of written.now)) found) }
+    ensures stopped { IfErr result (λ stop. HasStopped stop w.old w.new (ascribe (term_of operand.now) (written_of written.now))) }
 {
-    let part = walk_term(w, verdicts, operand, dialect)?;
+    let part = walk_term(w, operand)?;
     let entry = added(&mut w.table, written)?;
-    let found = ascribed(&w.table, verdicts, entry, part, dialect)?;
+    let found = ascribed(&w.table, &mut w.verdicts, entry, part)?;
     let blame = blame_if(are_both_found(part, entry), found, "E7");
     settle(w, found, blame)
 }
 
 #[cycle(walk_term)]
-fn walk_let(
-    w: &mut Walk,
-    verdicts: &mut Verdicts,
-    bound: &Core,
-    body: &Core,
-    dialect: Dialect,
-) -> Result<Option<TyNo>, Stop>
+fn walk_let(w: &mut Walk, bound: &Core, body: &Core) -> Result<Option<TyNo>, Stop>
     requires sound { IsSoundWalk w.old }
     requires bound { IsWellFormedTerm (term_of bound.now) }
     requires body { IsWellFormedTerm (term_of body.now) }
-    requires verdicts { AreVerdictsOn w.old.table dialect verdicts.old }
     ensures grows { Grows w.old w.new }
-    ensures verdicts { AreVerdictsOn w.new.table dialect verdicts.new }
-    ensures walked { IfOk result (λ found. WalkedOver w.old w.new (let_in (term_of bound.now) (term_of body.now)) found dialect) }
-    ensures stopped { IfErr result (λ stop. HasStopped stop w.old w.new (let_in (term_of bound.now) (term_of body.now)) dialect) }
+    ensures walked { IfOk result (λ found. WalkedOver w.old w.new (let_in (term_of bound.now) (term_of body.now)) found) }
+    ensures stopped { IfErr result (λ stop. HasStopped stop w.old w.new (let_in (term_of bound.now) (term_of body.now))) }
 {
-    let entry = walk_term(w, verdicts, bound, dialect)?;
+    let entry = walk_term(w, bound)?;
     w.entries.push(entry)?;
-    let outcome = walk_term(w, verdicts, body, dialect)?;
+    let outcome = walk_term(w, body)?;
     w.entries.pop();
     settle(w, bound_in(entry, outcome), None)
 }
 
 #[cycle(walk_term)]
-fn walk_record(
-    w: &mut Walk,
-    verdicts: &mut Verdicts,
-    fields: &[(String, Core)],
-    dialect: Dialect,
-) -> Result<Option<TyNo>, Stop>
+fn walk_record(w: &mut Walk, fields: &[(String, Core)]) -> Result<Option<TyNo>, Stop>
     requires sound { IsSoundWalk w.old }
     requires fields { AreWellFormedTerms (terms_of fields.now) }
-    requires verdicts { AreVerdictsOn w.old.table dialect verdicts.old }
     ensures grows { Grows w.old w.new }
-    ensures verdicts { AreVerdictsOn w.new.table dialect verdicts.new }
-    ensures walked { IfOk result (λ found. WalkedOver w.old w.new (record_term (terms_of fields.now)) found dialect) }
-    ensures stopped { IfErr result (λ stop. HasStopped stop w.old w.new (record_term (terms_of fields.now)) dialect) }
+    ensures walked { IfOk result (λ found. WalkedOver w.old w.new (record_term (terms_of fields.now)) found) }
+    ensures stopped { IfErr result (λ stop. HasStopped stop w.old w.new (record_term (terms_of fields.now))) }
 {
-    let mut parts = Vec::with_capacity(verdicts.alloc, fields.len())?;
-    let all = walk_fields(w, verdicts, fields, &mut parts, dialect)?;
+    let mut parts = Vec::with_capacity(w.verdicts.alloc, fields.len())?;
+    let all = walk_fields(w, fields, &mut parts)?;
     let found = recorded(&mut w.table, all, parts)?;
     let blame = blame_if(all, found, "E9");
     settle(w, found, blame)
 }
 
 #[cycle(walk_term)]
-fn walk_project(
-    w: &mut Walk,
-    verdicts: &mut Verdicts,
-    operand: &Core,
-    label: &str,
-    dialect: Dialect,
-) -> Result<Option<TyNo>, Stop>
+fn walk_project(w: &mut Walk, operand: &Core, label: &str) -> Result<Option<TyNo>, Stop>
     requires sound { IsSoundWalk w.old }
     requires operand { IsWellFormedTerm (term_of operand.now) }
-    requires verdicts { AreVerdictsOn w.old.table dialect verdicts.old }
     ensures grows { Grows w.old w.new }
-    ensures verdicts { AreVerdictsOn w.new.table dialect verdicts.new }
-    ensures walked { IfOk result (λ found. WalkedOver w.old w.new (project (term_of operand.now) label.now) found dialect) }
-    ensures stopped { IfErr result (λ stop. HasStopped stop w.old w.new (project (term_of operand.now) label.now) dialect) }
+    ensures walked { IfOk result (λ found. WalkedOver w.old w.new (project (term_of operand.now) label.now) found) }
+    ensures stopped { IfErr result (λ stop. HasStopped stop w.old w.new (project (term_of operand.now) label.now)) }
 {
-    let part = walk_term(w, verdicts, operand, dialect)?;
+    let part = walk_term(w, operand)?;
     let found = projected(&w.table, part, label);
     let blame = blame_if(part.is_some(), found, "E4");
     settle(w, found, blame)
 }
 
 #[cycle(walk_term)]
-fn walk_fix(
-    w: &mut Walk,
-    verdicts: &mut Verdicts,
-    operand: &Core,
-    dialect: Dialect,
-) -> Result<Option<TyNo>, Stop>
+fn walk_fix(w: &mut Walk, operand: &Core) -> Result<Option<TyNo>, Stop>
     requires sound { IsSoundWalk w.old }
     requires operand { IsWellFormedTerm (term_of operand.now) }
-    requires verdicts { AreVerdictsOn w.old.table dialect verdicts.old }
     ensures grows { Grows w.old w.new }
-    ensures verdicts { AreVerdictsOn w.new.table dialect verdicts.new }
-    ensures walked { IfOk result (λ found. WalkedOver w.old w.new (fix (term_of operand.now)) found dialect) }
-    ensures stopped { IfErr result (λ stop. HasStopped stop w.old w.new (fix (term_of operand.now)) dialect) }
+    ensures walked { IfOk result (λ found. WalkedOver w.old w.new (fix (term_of operand.now)) found) }
+    ensures stopped { IfErr result (λ stop. HasStopped stop w.old w.new (fix (term_of operand.now))) }
 {
-    let part = walk_term(w, verdicts, operand, dialect)?;
-    let found = fixed(&w.table, verdicts, part, dialect)?;
+    let part = walk_term(w, operand)?;
+    let found = fixed(&w.table, &mut w.verdicts, part)?;
     let blame = blame_if(part.is_some(), found, "E8");
     settle(w, found, blame)
 }
@@ -459,38 +346,33 @@ fn walk_fix(
 #[cycle(walk_term)]
 fn walk_fields(
     w: &mut Walk,
-    verdicts: &mut Verdicts,
     fields: &[(String, Core)],
     parts: &mut Vec<(String, TyNo)>,
-    dialect: Dialect,
 ) -> Result<bool, Stop>
     requires sound { IsSoundWalk w.old }
     requires wf { AreWellFormedTerms (terms_of fields.now) }
-    requires verdicts { AreVerdictsOn w.old.table dialect verdicts.old }
     ensures grows { Grows w.old w.new }
-    ensures verdicts { AreVerdictsOn w.new.table dialect verdicts.new }
-    ensures walked { IfOk result (λ all. FieldsWalked w.old w.new (terms_of fields.now) parts.old.items parts.new.items all dialect) }
-    ensures stopped { IfErr result (λ stop. HasStoppedInFields stop w.old w.new (terms_of fields.now) dialect) }
+    ensures walked { IfOk result (λ all. FieldsWalked w.old w.new (terms_of fields.now) parts.old.items parts.new.items all) }
+    ensures stopped { IfErr result (λ stop. HasStoppedInFields stop w.old w.new (terms_of fields.now)) }
 {
     let Some((field, others)) = fields.split_first() else {
         return Ok(true);
     };
-    let found = walk_term(w, verdicts, &field.1, dialect)?;
+    let found = walk_term(w, &field.1)?;
     let Some(number) = found else {
-        walk_fields(w, verdicts, others, parts, dialect)?;
+        walk_fields(w, others, parts)?;
         return Ok(false);
     };
     parts.push((field.0.clone()?, number))?;
-    walk_fields(w, verdicts, others, parts, dialect)
+    walk_fields(w, others, parts)
 }
 
 /// A variable has the entry of its binder, which is none to blame for; a count past all binders is an unbound name.
-fn walk_variable(w: &mut Walk, count: usize, dialect: Dialect) -> Result<Option<TyNo>, Stop>
+fn walk_variable(w: &mut Walk, count: usize) -> Result<Option<TyNo>, Stop>
     requires sound { IsSoundWalk w.old }
     ensures grows { Grows w.old w.new }
-    ensures table { w.new.table ≡ w.old.table }
-    ensures walked { IfOk result (λ found. WalkedOver w.old w.new (variable count) found dialect) }
-    ensures stopped { IfErr result (λ stop. HasStopped stop w.old w.new (variable count) dialect) }
+    ensures walked { IfOk result (λ found. WalkedOver w.old w.new (variable count) found) }
+    ensures stopped { IfErr result (λ stop. HasStopped stop w.old w.new (variable count)) }
 {
     let depth = w.entries.len();
     if count >= depth {
@@ -561,7 +443,6 @@ fn settle(
     requires sound { IsSoundWalk w.old }
     requires stands { StandsIn w.old.table found }
     ensures grows { Grows w.old w.new }
-    ensures table { w.new.table ≡ w.old.table }
     ensures settled { IfOk result (λ number. (number ≡ found) × Settles w.old w.new found blame.entry) }
     ensures stopped { IfErr result (λ stop. StopsAt stop w.old w.new found blame.entry) }
 {

@@ -11,235 +11,231 @@ use Rattle.lam_typing.specs.Steps.{NatRule, LambdaRule, LetRule, RecordRule}
 use Rattle.lam_typing.specs.Progress.{Went, if_all}
 use Rattle.lam_typing.specs.Walk.{entries_of, progress_of}
 use Rattle.lam_typing.proofs.LeastIn.{lowest_written}
-use Rattle.lam_typing.specs.Verdicts.{AreVerdictsOn}
-use Rattle.lam_typing.proofs.Growing.{answer_keep, stands_keep, verdicts_keep}
+use Rattle.lam_typing.proofs.Growing.{answer_keep, stands_keep}
 use Rattle.lam_typing.proofs.Together.{went_both}
 use Rattle.lam_typing.proofs.Forms.{true_ready, false_ready, unit_ready, numeral_ready, lowest_let}
-use Rattle.lam_typing.proofs.Glue.{Blames, grows_same, grows_trans, entries_same, progress_same, retabled, retabled_grows, pushed_grows, put_or_not, popped_is, popped_grows, under_entry, parts_empty, err_stopped, err_stopped_in_fields, no_fields_walked, fields_unfound, fields_found_ok, fields_front, fields_behind, fields_behind_err, among_front, among_behind, among_under, among_from, settled_ok, settled_err, leaf_parts, free_parts, succ_parts, pred_parts, is_zero_parts, fix_parts, project_parts, ascribe_parts, lambda_parts, let_parts, apply_parts, if_parts, record_parts}
+use Rattle.lam_typing.proofs.Glue.{Blames, grows_same, grows_trans, entries_same, went_from, progress_same, stepped, stepped_grows, retabled_grows, pushed_grows, put_or_not, popped_is, popped_grows, under_entry, parts_empty, err_stopped, err_stopped_in_fields, no_fields_walked, fields_unfound, fields_found_ok, fields_front, fields_behind, fields_behind_err, among_front, among_behind, among_under, among_from, settled_ok, settled_err, leaf_parts, free_parts, succ_parts, pred_parts, is_zero_parts, fix_parts, project_parts, ascribe_parts, lambda_parts, let_parts, apply_parts, if_parts, record_parts}
 use Rattle.lam_typing.proofs.walking.+walk_term.Goals as goal
 
 pub walk_succ-returns-in_err-part-clause-stopped : goal.walk_succ-returns-in_err-part-clause-stopped
 walk_succ-returns-in_err-part-clause-stopped t c =
-    err_stopped c.from_residual.result _ c.args.w.now c.walk_term.new.w (succ (term_of c.args.operand.now)) c.args.dialect c.from_residual.ensures.1
-    (among_front _ (entries_of c.args.w.now) (λ s. places s (term_of c.args.operand.now)) (λ s. record { scope = s; here = (succ (term_of c.args.operand.now)) } ∷ []) c.args.w.now c.walk_term.new.w c.args.dialect c.in_err-part.ensures.stopped)
+    err_stopped c.from_residual.result _ c.args.w.now c.walk_term.new.w (succ (term_of c.args.operand.now)) c.from_residual.ensures.1
+    (among_front _ (entries_of c.args.w.now) (λ s. places s (term_of c.args.operand.now)) (λ s. record { scope = s; here = (succ (term_of c.args.operand.now)) } ∷ []) c.args.w.now c.walk_term.new.w _ c.in_err-part.ensures.stopped)
 
 pub walk_succ-returns-clause-walked : goal.walk_succ-returns-clause-walked
 walk_succ-returns-clause-walked t c =
-    settled_ok _ c.args.w.now c.walk_term.new.w c.settle.new.w (succ (term_of c.args.operand.now)) (λ s. places s (term_of c.args.operand.now)) c.in_ok-found.found c.blame_if-blame.result c.args.dialect (λ s. refl) c.in_ok-part.ensures.walked.entries c.in_ok-found.ensures.stands
-    (succ_parts c.args.w.now c.walk_term.new.w (term_of c.args.operand.now) c.in_ok-part.part c.in_ok-found.found c.blame_if-blame.result c.args.dialect c.in_ok-part.ensures.walked (subst (λ v. NatRule v (answer c.walk_term.new.w.table c.in_ok-part.part) (answer c.walk_term.new.w.table c.in_ok-found.found) c.args.dialect) c.in_ok-part.ensures.grows.sound.natural.type c.in_ok-found.ensures.rule)
+    settled_ok _ c.args.w.now (record c.walk_term.new.w { verdicts = c.of_number.new.verdicts }) c.settle.new.w (succ (term_of c.args.operand.now)) (λ s. places s (term_of c.args.operand.now)) c.in_ok-found.found c.blame_if-blame.result (λ s. refl) c.in_ok-part.ensures.walked.entries c.in_ok-found.ensures.stands
+    (succ_parts c.args.w.now c.walk_term.new.w (term_of c.args.operand.now) c.in_ok-part.part c.in_ok-found.found c.blame_if-blame.result c.in_ok-part.ensures.grows c.in_ok-part.ensures.walked c.in_ok-found.ensures.rule
     (subst (λ b. Blames b c.in_ok-found.found (codes "E6") c.blame_if-blame.result) c.is_some.ensures c.blame_if-blame.ensures))
     c.settle.ensures.settled
 
 pub walk_succ-returns-clause-stopped : goal.walk_succ-returns-clause-stopped
 walk_succ-returns-clause-stopped t c =
-    settled_err _ c.args.w.now c.walk_term.new.w c.settle.new.w (succ (term_of c.args.operand.now)) (λ s. places s (term_of c.args.operand.now)) c.in_ok-found.found c.blame_if-blame.result c.args.dialect (λ s. refl) c.in_ok-part.ensures.walked.entries c.in_ok-found.ensures.stands
-    (succ_parts c.args.w.now c.walk_term.new.w (term_of c.args.operand.now) c.in_ok-part.part c.in_ok-found.found c.blame_if-blame.result c.args.dialect c.in_ok-part.ensures.walked (subst (λ v. NatRule v (answer c.walk_term.new.w.table c.in_ok-part.part) (answer c.walk_term.new.w.table c.in_ok-found.found) c.args.dialect) c.in_ok-part.ensures.grows.sound.natural.type c.in_ok-found.ensures.rule)
+    settled_err _ c.args.w.now (record c.walk_term.new.w { verdicts = c.of_number.new.verdicts }) c.settle.new.w (succ (term_of c.args.operand.now)) (λ s. places s (term_of c.args.operand.now)) c.in_ok-found.found c.blame_if-blame.result (λ s. refl) c.in_ok-part.ensures.walked.entries c.in_ok-found.ensures.stands
+    (succ_parts c.args.w.now c.walk_term.new.w (term_of c.args.operand.now) c.in_ok-part.part c.in_ok-found.found c.blame_if-blame.result c.in_ok-part.ensures.grows c.in_ok-part.ensures.walked c.in_ok-found.ensures.rule
     (subst (λ b. Blames b c.in_ok-found.found (codes "E6") c.blame_if-blame.result) c.is_some.ensures c.blame_if-blame.ensures))
     c.settle.ensures.stopped
 
 pub walk_pred-returns-in_err-part-clause-stopped : goal.walk_pred-returns-in_err-part-clause-stopped
 walk_pred-returns-in_err-part-clause-stopped t c =
-    err_stopped c.from_residual.result _ c.args.w.now c.walk_term.new.w (pred (term_of c.args.operand.now)) c.args.dialect c.from_residual.ensures.1
-    (among_front _ (entries_of c.args.w.now) (λ s. places s (term_of c.args.operand.now)) (λ s. record { scope = s; here = (pred (term_of c.args.operand.now)) } ∷ []) c.args.w.now c.walk_term.new.w c.args.dialect c.in_err-part.ensures.stopped)
+    err_stopped c.from_residual.result _ c.args.w.now c.walk_term.new.w (pred (term_of c.args.operand.now)) c.from_residual.ensures.1
+    (among_front _ (entries_of c.args.w.now) (λ s. places s (term_of c.args.operand.now)) (λ s. record { scope = s; here = (pred (term_of c.args.operand.now)) } ∷ []) c.args.w.now c.walk_term.new.w _ c.in_err-part.ensures.stopped)
 
 pub walk_pred-returns-clause-walked : goal.walk_pred-returns-clause-walked
 walk_pred-returns-clause-walked t c =
-    settled_ok _ c.args.w.now c.walk_term.new.w c.settle.new.w (pred (term_of c.args.operand.now)) (λ s. places s (term_of c.args.operand.now)) c.in_ok-found.found c.blame_if-blame.result c.args.dialect (λ s. refl) c.in_ok-part.ensures.walked.entries c.in_ok-found.ensures.stands
-    (pred_parts c.args.w.now c.walk_term.new.w (term_of c.args.operand.now) c.in_ok-part.part c.in_ok-found.found c.blame_if-blame.result c.args.dialect c.in_ok-part.ensures.walked (subst (λ v. NatRule v (answer c.walk_term.new.w.table c.in_ok-part.part) (answer c.walk_term.new.w.table c.in_ok-found.found) c.args.dialect) c.in_ok-part.ensures.grows.sound.natural.type c.in_ok-found.ensures.rule)
+    settled_ok _ c.args.w.now (record c.walk_term.new.w { verdicts = c.of_number.new.verdicts }) c.settle.new.w (pred (term_of c.args.operand.now)) (λ s. places s (term_of c.args.operand.now)) c.in_ok-found.found c.blame_if-blame.result (λ s. refl) c.in_ok-part.ensures.walked.entries c.in_ok-found.ensures.stands
+    (pred_parts c.args.w.now c.walk_term.new.w (term_of c.args.operand.now) c.in_ok-part.part c.in_ok-found.found c.blame_if-blame.result c.in_ok-part.ensures.grows c.in_ok-part.ensures.walked c.in_ok-found.ensures.rule
     (subst (λ b. Blames b c.in_ok-found.found (codes "E6") c.blame_if-blame.result) c.is_some.ensures c.blame_if-blame.ensures))
     c.settle.ensures.settled
 
 pub walk_pred-returns-clause-stopped : goal.walk_pred-returns-clause-stopped
 walk_pred-returns-clause-stopped t c =
-    settled_err _ c.args.w.now c.walk_term.new.w c.settle.new.w (pred (term_of c.args.operand.now)) (λ s. places s (term_of c.args.operand.now)) c.in_ok-found.found c.blame_if-blame.result c.args.dialect (λ s. refl) c.in_ok-part.ensures.walked.entries c.in_ok-found.ensures.stands
-    (pred_parts c.args.w.now c.walk_term.new.w (term_of c.args.operand.now) c.in_ok-part.part c.in_ok-found.found c.blame_if-blame.result c.args.dialect c.in_ok-part.ensures.walked (subst (λ v. NatRule v (answer c.walk_term.new.w.table c.in_ok-part.part) (answer c.walk_term.new.w.table c.in_ok-found.found) c.args.dialect) c.in_ok-part.ensures.grows.sound.natural.type c.in_ok-found.ensures.rule)
+    settled_err _ c.args.w.now (record c.walk_term.new.w { verdicts = c.of_number.new.verdicts }) c.settle.new.w (pred (term_of c.args.operand.now)) (λ s. places s (term_of c.args.operand.now)) c.in_ok-found.found c.blame_if-blame.result (λ s. refl) c.in_ok-part.ensures.walked.entries c.in_ok-found.ensures.stands
+    (pred_parts c.args.w.now c.walk_term.new.w (term_of c.args.operand.now) c.in_ok-part.part c.in_ok-found.found c.blame_if-blame.result c.in_ok-part.ensures.grows c.in_ok-part.ensures.walked c.in_ok-found.ensures.rule
     (subst (λ b. Blames b c.in_ok-found.found (codes "E6") c.blame_if-blame.result) c.is_some.ensures c.blame_if-blame.ensures))
     c.settle.ensures.stopped
 
 pub walk_is_zero-returns-in_err-part-clause-stopped : goal.walk_is_zero-returns-in_err-part-clause-stopped
 walk_is_zero-returns-in_err-part-clause-stopped t c =
-    err_stopped c.from_residual.result _ c.args.w.now c.walk_term.new.w (is_zero (term_of c.args.operand.now)) c.args.dialect c.from_residual.ensures.1
-    (among_front _ (entries_of c.args.w.now) (λ s. places s (term_of c.args.operand.now)) (λ s. record { scope = s; here = (is_zero (term_of c.args.operand.now)) } ∷ []) c.args.w.now c.walk_term.new.w c.args.dialect c.in_err-part.ensures.stopped)
+    err_stopped c.from_residual.result _ c.args.w.now c.walk_term.new.w (is_zero (term_of c.args.operand.now)) c.from_residual.ensures.1
+    (among_front _ (entries_of c.args.w.now) (λ s. places s (term_of c.args.operand.now)) (λ s. record { scope = s; here = (is_zero (term_of c.args.operand.now)) } ∷ []) c.args.w.now c.walk_term.new.w _ c.in_err-part.ensures.stopped)
 
 pub walk_is_zero-returns-clause-walked : goal.walk_is_zero-returns-clause-walked
 walk_is_zero-returns-clause-walked t c =
-    settled_ok _ c.args.w.now c.walk_term.new.w c.settle.new.w (is_zero (term_of c.args.operand.now)) (λ s. places s (term_of c.args.operand.now)) c.in_ok-found.found c.blame_if-blame.result c.args.dialect (λ s. refl) c.in_ok-part.ensures.walked.entries c.in_ok-found.ensures.stands
-    (is_zero_parts c.args.w.now c.walk_term.new.w (term_of c.args.operand.now) c.in_ok-part.part c.in_ok-found.found c.blame_if-blame.result c.args.dialect c.in_ok-part.ensures.walked (subst (λ v. NatRule v (answer c.walk_term.new.w.table c.in_ok-part.part) (answer c.walk_term.new.w.table c.in_ok-found.found) c.args.dialect) c.in_ok-part.ensures.grows.sound.boolean.type c.in_ok-found.ensures.rule)
+    settled_ok _ c.args.w.now (record c.walk_term.new.w { verdicts = c.of_number.new.verdicts }) c.settle.new.w (is_zero (term_of c.args.operand.now)) (λ s. places s (term_of c.args.operand.now)) c.in_ok-found.found c.blame_if-blame.result (λ s. refl) c.in_ok-part.ensures.walked.entries c.in_ok-found.ensures.stands
+    (is_zero_parts c.args.w.now c.walk_term.new.w (term_of c.args.operand.now) c.in_ok-part.part c.in_ok-found.found c.blame_if-blame.result c.in_ok-part.ensures.grows c.in_ok-part.ensures.walked c.in_ok-found.ensures.rule
     (subst (λ b. Blames b c.in_ok-found.found (codes "E6") c.blame_if-blame.result) c.is_some.ensures c.blame_if-blame.ensures))
     c.settle.ensures.settled
 
 pub walk_is_zero-returns-clause-stopped : goal.walk_is_zero-returns-clause-stopped
 walk_is_zero-returns-clause-stopped t c =
-    settled_err _ c.args.w.now c.walk_term.new.w c.settle.new.w (is_zero (term_of c.args.operand.now)) (λ s. places s (term_of c.args.operand.now)) c.in_ok-found.found c.blame_if-blame.result c.args.dialect (λ s. refl) c.in_ok-part.ensures.walked.entries c.in_ok-found.ensures.stands
-    (is_zero_parts c.args.w.now c.walk_term.new.w (term_of c.args.operand.now) c.in_ok-part.part c.in_ok-found.found c.blame_if-blame.result c.args.dialect c.in_ok-part.ensures.walked (subst (λ v. NatRule v (answer c.walk_term.new.w.table c.in_ok-part.part) (answer c.walk_term.new.w.table c.in_ok-found.found) c.args.dialect) c.in_ok-part.ensures.grows.sound.boolean.type c.in_ok-found.ensures.rule)
+    settled_err _ c.args.w.now (record c.walk_term.new.w { verdicts = c.of_number.new.verdicts }) c.settle.new.w (is_zero (term_of c.args.operand.now)) (λ s. places s (term_of c.args.operand.now)) c.in_ok-found.found c.blame_if-blame.result (λ s. refl) c.in_ok-part.ensures.walked.entries c.in_ok-found.ensures.stands
+    (is_zero_parts c.args.w.now c.walk_term.new.w (term_of c.args.operand.now) c.in_ok-part.part c.in_ok-found.found c.blame_if-blame.result c.in_ok-part.ensures.grows c.in_ok-part.ensures.walked c.in_ok-found.ensures.rule
     (subst (λ b. Blames b c.in_ok-found.found (codes "E6") c.blame_if-blame.result) c.is_some.ensures c.blame_if-blame.ensures))
     c.settle.ensures.stopped
 
 pub walk_fix-returns-in_err-part-clause-stopped : goal.walk_fix-returns-in_err-part-clause-stopped
 walk_fix-returns-in_err-part-clause-stopped t c =
-    err_stopped c.from_residual.result _ c.args.w.now c.walk_term.new.w (fix (term_of c.args.operand.now)) c.args.dialect c.from_residual.ensures.1
-    (among_front _ (entries_of c.args.w.now) (λ s. places s (term_of c.args.operand.now)) (λ s. record { scope = s; here = (fix (term_of c.args.operand.now)) } ∷ []) c.args.w.now c.walk_term.new.w c.args.dialect c.in_err-part.ensures.stopped)
+    err_stopped c.from_residual.result _ c.args.w.now c.walk_term.new.w (fix (term_of c.args.operand.now)) c.from_residual.ensures.1
+    (among_front _ (entries_of c.args.w.now) (λ s. places s (term_of c.args.operand.now)) (λ s. record { scope = s; here = (fix (term_of c.args.operand.now)) } ∷ []) c.args.w.now c.walk_term.new.w _ c.in_err-part.ensures.stopped)
 
 pub walk_fix-returns-clause-walked : goal.walk_fix-returns-clause-walked
 walk_fix-returns-clause-walked t c =
-    settled_ok _ c.args.w.now c.walk_term.new.w c.settle.new.w (fix (term_of c.args.operand.now)) (λ s. places s (term_of c.args.operand.now)) c.in_ok-found.found c.blame_if-blame.result c.args.dialect (λ s. refl) c.in_ok-part.ensures.walked.entries c.in_ok-found.ensures.stands
-    (fix_parts c.args.w.now c.walk_term.new.w (term_of c.args.operand.now) c.in_ok-part.part c.in_ok-found.found c.blame_if-blame.result c.args.dialect c.in_ok-part.ensures.walked c.in_ok-found.ensures.rule
+    settled_ok _ c.args.w.now (record c.walk_term.new.w { verdicts = c.fixed.new.verdicts }) c.settle.new.w (fix (term_of c.args.operand.now)) (λ s. places s (term_of c.args.operand.now)) c.in_ok-found.found c.blame_if-blame.result (λ s. refl) c.in_ok-part.ensures.walked.entries c.in_ok-found.ensures.stands
+    (fix_parts c.args.w.now c.walk_term.new.w (term_of c.args.operand.now) c.in_ok-part.part c.in_ok-found.found c.blame_if-blame.result c.in_ok-part.ensures.grows c.in_ok-part.ensures.walked c.in_ok-found.ensures.rule
     (subst (λ b. Blames b c.in_ok-found.found (codes "E8") c.blame_if-blame.result) c.is_some.ensures c.blame_if-blame.ensures))
     c.settle.ensures.settled
 
 pub walk_fix-returns-clause-stopped : goal.walk_fix-returns-clause-stopped
 walk_fix-returns-clause-stopped t c =
-    settled_err _ c.args.w.now c.walk_term.new.w c.settle.new.w (fix (term_of c.args.operand.now)) (λ s. places s (term_of c.args.operand.now)) c.in_ok-found.found c.blame_if-blame.result c.args.dialect (λ s. refl) c.in_ok-part.ensures.walked.entries c.in_ok-found.ensures.stands
-    (fix_parts c.args.w.now c.walk_term.new.w (term_of c.args.operand.now) c.in_ok-part.part c.in_ok-found.found c.blame_if-blame.result c.args.dialect c.in_ok-part.ensures.walked c.in_ok-found.ensures.rule
+    settled_err _ c.args.w.now (record c.walk_term.new.w { verdicts = c.fixed.new.verdicts }) c.settle.new.w (fix (term_of c.args.operand.now)) (λ s. places s (term_of c.args.operand.now)) c.in_ok-found.found c.blame_if-blame.result (λ s. refl) c.in_ok-part.ensures.walked.entries c.in_ok-found.ensures.stands
+    (fix_parts c.args.w.now c.walk_term.new.w (term_of c.args.operand.now) c.in_ok-part.part c.in_ok-found.found c.blame_if-blame.result c.in_ok-part.ensures.grows c.in_ok-part.ensures.walked c.in_ok-found.ensures.rule
     (subst (λ b. Blames b c.in_ok-found.found (codes "E8") c.blame_if-blame.result) c.is_some.ensures c.blame_if-blame.ensures))
     c.settle.ensures.stopped
 
 pub walk_project-returns-in_err-part-clause-stopped : goal.walk_project-returns-in_err-part-clause-stopped
 walk_project-returns-in_err-part-clause-stopped t c =
-    err_stopped c.from_residual.result _ c.args.w.now c.walk_term.new.w (project (term_of c.args.operand.now) c.args.label.now) c.args.dialect c.from_residual.ensures.1
-    (among_front _ (entries_of c.args.w.now) (λ s. places s (term_of c.args.operand.now)) (λ s. record { scope = s; here = (project (term_of c.args.operand.now) c.args.label.now) } ∷ []) c.args.w.now c.walk_term.new.w c.args.dialect c.in_err-part.ensures.stopped)
+    err_stopped c.from_residual.result _ c.args.w.now c.walk_term.new.w (project (term_of c.args.operand.now) c.args.label.now) c.from_residual.ensures.1
+    (among_front _ (entries_of c.args.w.now) (λ s. places s (term_of c.args.operand.now)) (λ s. record { scope = s; here = (project (term_of c.args.operand.now) c.args.label.now) } ∷ []) c.args.w.now c.walk_term.new.w _ c.in_err-part.ensures.stopped)
 
 pub walk_project-returns-clause-walked : goal.walk_project-returns-clause-walked
 walk_project-returns-clause-walked t c =
-    settled_ok _ c.args.w.now c.walk_term.new.w c.settle.new.w (project (term_of c.args.operand.now) c.args.label.now) (λ s. places s (term_of c.args.operand.now)) c.projected-found.result c.blame_if-blame.result c.args.dialect (λ s. refl) c.in_ok-part.ensures.walked.entries c.projected-found.ensures.stands
-    (project_parts c.args.w.now c.walk_term.new.w (term_of c.args.operand.now) c.in_ok-part.part c.projected-found.result c.blame_if-blame.result c.args.dialect c.in_ok-part.ensures.walked c.args.label.now c.projected-found.ensures.rule
+    settled_ok _ c.args.w.now c.walk_term.new.w c.settle.new.w (project (term_of c.args.operand.now) c.args.label.now) (λ s. places s (term_of c.args.operand.now)) c.projected-found.result c.blame_if-blame.result (λ s. refl) c.in_ok-part.ensures.walked.entries c.projected-found.ensures.stands
+    (project_parts c.args.w.now c.walk_term.new.w (term_of c.args.operand.now) c.in_ok-part.part c.projected-found.result c.blame_if-blame.result c.in_ok-part.ensures.grows c.in_ok-part.ensures.walked c.args.label.now c.projected-found.ensures.rule
     (subst (λ b. Blames b c.projected-found.result (codes "E4") c.blame_if-blame.result) c.is_some.ensures c.blame_if-blame.ensures))
     c.settle.ensures.settled
 
 pub walk_project-returns-clause-stopped : goal.walk_project-returns-clause-stopped
 walk_project-returns-clause-stopped t c =
-    settled_err _ c.args.w.now c.walk_term.new.w c.settle.new.w (project (term_of c.args.operand.now) c.args.label.now) (λ s. places s (term_of c.args.operand.now)) c.projected-found.result c.blame_if-blame.result c.args.dialect (λ s. refl) c.in_ok-part.ensures.walked.entries c.projected-found.ensures.stands
-    (project_parts c.args.w.now c.walk_term.new.w (term_of c.args.operand.now) c.in_ok-part.part c.projected-found.result c.blame_if-blame.result c.args.dialect c.in_ok-part.ensures.walked c.args.label.now c.projected-found.ensures.rule
+    settled_err _ c.args.w.now c.walk_term.new.w c.settle.new.w (project (term_of c.args.operand.now) c.args.label.now) (λ s. places s (term_of c.args.operand.now)) c.projected-found.result c.blame_if-blame.result (λ s. refl) c.in_ok-part.ensures.walked.entries c.projected-found.ensures.stands
+    (project_parts c.args.w.now c.walk_term.new.w (term_of c.args.operand.now) c.in_ok-part.part c.projected-found.result c.blame_if-blame.result c.in_ok-part.ensures.grows c.in_ok-part.ensures.walked c.args.label.now c.projected-found.ensures.rule
     (subst (λ b. Blames b c.projected-found.result (codes "E4") c.blame_if-blame.result) c.is_some.ensures c.blame_if-blame.ensures))
     c.settle.ensures.stopped
 
 pub walk_apply-returns-in_err-first-clause-stopped : goal.walk_apply-returns-in_err-first-clause-stopped
 walk_apply-returns-in_err-first-clause-stopped t c =
-    err_stopped c.from_residual.result _ c.args.w.now c.walk_term.new.w (apply (term_of c.args.function.now) (term_of c.args.argument.now)) c.args.dialect c.from_residual.ensures.1
-    (among_front _ (entries_of c.args.w.now) (λ s. places s (term_of c.args.function.now) ++ places s (term_of c.args.argument.now)) (λ s. record { scope = s; here = (apply (term_of c.args.function.now) (term_of c.args.argument.now)) } ∷ []) c.args.w.now c.walk_term.new.w c.args.dialect
-    (among_front _ (entries_of c.args.w.now) (λ s. places s (term_of c.args.function.now)) (λ s. places s (term_of c.args.argument.now)) c.args.w.now c.walk_term.new.w c.args.dialect c.in_err-first.ensures.stopped))
+    err_stopped c.from_residual.result _ c.args.w.now c.walk_term.new.w (apply (term_of c.args.function.now) (term_of c.args.argument.now)) c.from_residual.ensures.1
+    (among_front _ (entries_of c.args.w.now) (λ s. places s (term_of c.args.function.now) ++ places s (term_of c.args.argument.now)) (λ s. record { scope = s; here = (apply (term_of c.args.function.now) (term_of c.args.argument.now)) } ∷ []) c.args.w.now c.walk_term.new.w _
+    (among_front _ (entries_of c.args.w.now) (λ s. places s (term_of c.args.function.now)) (λ s. places s (term_of c.args.argument.now)) c.args.w.now c.walk_term.new.w _ c.in_err-first.ensures.stopped))
 
 pub walk_apply-returns-in_err-second-clause-stopped : goal.walk_apply-returns-in_err-second-clause-stopped
 walk_apply-returns-in_err-second-clause-stopped t c =
     let same = entries_same c.args.w.now c.walk_term.new.w c.requires.sound c.in_ok-first.ensures.grows.keeps c.in_ok-first.ensures.walked.entries in
-    err_stopped c.from_residual-in_err-second.result _ c.args.w.now c.walk_term-2.new.w (apply (term_of c.args.function.now) (term_of c.args.argument.now)) c.args.dialect c.from_residual-in_err-second.ensures.1
-    (among_front _ (entries_of c.args.w.now) (λ s. places s (term_of c.args.function.now) ++ places s (term_of c.args.argument.now)) (λ s. record { scope = s; here = (apply (term_of c.args.function.now) (term_of c.args.argument.now)) } ∷ []) c.args.w.now c.walk_term-2.new.w c.args.dialect
-    (among_behind _ (entries_of c.args.w.now) (λ s. places s (term_of c.args.function.now)) (λ s. places s (term_of c.args.argument.now)) c.args.w.now c.walk_term.new.w c.walk_term-2.new.w c.args.dialect c.in_ok-first.ensures.walked.over.went
-    (among_from _ (entries_of c.walk_term.new.w) (entries_of c.args.w.now) (λ s. places s (term_of c.args.argument.now)) c.walk_term.new.w c.walk_term.new.w c.walk_term-2.new.w c.args.dialect same refl c.in_err-second.ensures.stopped)))
+    err_stopped c.from_residual-in_err-second.result _ c.args.w.now c.walk_term-2.new.w (apply (term_of c.args.function.now) (term_of c.args.argument.now)) c.from_residual-in_err-second.ensures.1
+    (among_front _ (entries_of c.args.w.now) (λ s. places s (term_of c.args.function.now) ++ places s (term_of c.args.argument.now)) (λ s. record { scope = s; here = (apply (term_of c.args.function.now) (term_of c.args.argument.now)) } ∷ []) c.args.w.now c.walk_term-2.new.w _
+    (among_behind _ (entries_of c.args.w.now) (λ s. places s (term_of c.args.function.now)) (λ s. places s (term_of c.args.argument.now)) c.args.w.now c.walk_term.new.w c.walk_term-2.new.w _ c.in_ok-first.ensures.walked.over.went
+    (among_from _ (entries_of c.walk_term.new.w) (entries_of c.args.w.now) (λ s. places s (term_of c.args.argument.now)) c.walk_term.new.w c.walk_term.new.w c.walk_term-2.new.w c.walk_term.new.w.verdicts.dialect c.args.w.now.verdicts.dialect same refl c.in_ok-first.ensures.grows.dialect c.in_err-second.ensures.stopped)))
 
 pub walk_apply-returns-clause-walked : goal.walk_apply-returns-clause-walked
 walk_apply-returns-clause-walked t c =
-    settled_ok _ c.args.w.now c.walk_term-2.new.w c.settle.new.w (apply (term_of c.args.function.now) (term_of c.args.argument.now)) (λ s. places s (term_of c.args.function.now) ++ places s (term_of c.args.argument.now)) c.in_ok-found.found c.blame_if-blame.result c.args.dialect (λ s. refl)
+    settled_ok _ c.args.w.now (record c.walk_term-2.new.w { verdicts = c.applied.new.verdicts }) c.settle.new.w (apply (term_of c.args.function.now) (term_of c.args.argument.now)) (λ s. places s (term_of c.args.function.now) ++ places s (term_of c.args.argument.now)) c.in_ok-found.found c.blame_if-blame.result (λ s. refl)
     (c.in_ok-second.ensures.walked.entries ∙ c.in_ok-first.ensures.walked.entries) c.in_ok-found.ensures.stands
-    (apply_parts c.args.w.now c.walk_term.new.w c.walk_term-2.new.w (term_of c.args.function.now) (term_of c.args.argument.now) c.in_ok-first.first c.in_ok-second.second c.in_ok-found.found c.application_code-code.result.now c.blame_if-blame.result c.args.dialect
+    (apply_parts c.args.w.now c.walk_term.new.w c.walk_term-2.new.w (term_of c.args.function.now) (term_of c.args.argument.now) c.in_ok-first.first c.in_ok-second.second c.in_ok-found.found c.application_code-code.result.now c.blame_if-blame.result
     c.requires.sound c.in_ok-first.ensures.grows c.in_ok-first.ensures.walked c.in_ok-second.ensures.grows c.in_ok-second.ensures.walked c.in_ok-found.ensures.rule c.application_code-code.ensures
     (subst (λ b. Blames b c.in_ok-found.found c.application_code-code.result.now c.blame_if-blame.result) c.are_both_found.ensures c.blame_if-blame.ensures))
     c.settle.ensures.settled
 
 pub walk_apply-returns-clause-stopped : goal.walk_apply-returns-clause-stopped
 walk_apply-returns-clause-stopped t c =
-    settled_err _ c.args.w.now c.walk_term-2.new.w c.settle.new.w (apply (term_of c.args.function.now) (term_of c.args.argument.now)) (λ s. places s (term_of c.args.function.now) ++ places s (term_of c.args.argument.now)) c.in_ok-found.found c.blame_if-blame.result c.args.dialect (λ s. refl)
+    settled_err _ c.args.w.now (record c.walk_term-2.new.w { verdicts = c.applied.new.verdicts }) c.settle.new.w (apply (term_of c.args.function.now) (term_of c.args.argument.now)) (λ s. places s (term_of c.args.function.now) ++ places s (term_of c.args.argument.now)) c.in_ok-found.found c.blame_if-blame.result (λ s. refl)
     (c.in_ok-second.ensures.walked.entries ∙ c.in_ok-first.ensures.walked.entries) c.in_ok-found.ensures.stands
-    (apply_parts c.args.w.now c.walk_term.new.w c.walk_term-2.new.w (term_of c.args.function.now) (term_of c.args.argument.now) c.in_ok-first.first c.in_ok-second.second c.in_ok-found.found c.application_code-code.result.now c.blame_if-blame.result c.args.dialect
+    (apply_parts c.args.w.now c.walk_term.new.w c.walk_term-2.new.w (term_of c.args.function.now) (term_of c.args.argument.now) c.in_ok-first.first c.in_ok-second.second c.in_ok-found.found c.application_code-code.result.now c.blame_if-blame.result
     c.requires.sound c.in_ok-first.ensures.grows c.in_ok-first.ensures.walked c.in_ok-second.ensures.grows c.in_ok-second.ensures.walked c.in_ok-found.ensures.rule c.application_code-code.ensures
     (subst (λ b. Blames b c.in_ok-found.found c.application_code-code.result.now c.blame_if-blame.result) c.are_both_found.ensures c.blame_if-blame.ensures))
     c.settle.ensures.stopped
 
 pub walk_if-returns-in_err-first-clause-stopped : goal.walk_if-returns-in_err-first-clause-stopped
 walk_if-returns-in_err-first-clause-stopped t c =
-    err_stopped c.from_residual.result _ c.args.w.now c.walk_term.new.w (if_then_else (term_of c.args.condition.now) (term_of c.args.then_term.now) (term_of c.args.else_term.now)) c.args.dialect c.from_residual.ensures.1
-    (among_front _ (entries_of c.args.w.now) (λ s. (places s (term_of c.args.condition.now) ++ places s (term_of c.args.then_term.now)) ++ places s (term_of c.args.else_term.now)) (λ s. record { scope = s; here = (if_then_else (term_of c.args.condition.now) (term_of c.args.then_term.now) (term_of c.args.else_term.now)) } ∷ []) c.args.w.now c.walk_term.new.w c.args.dialect
-    (among_front _ (entries_of c.args.w.now) (λ s. places s (term_of c.args.condition.now) ++ places s (term_of c.args.then_term.now)) (λ s. places s (term_of c.args.else_term.now)) c.args.w.now c.walk_term.new.w c.args.dialect
-    (among_front _ (entries_of c.args.w.now) (λ s. places s (term_of c.args.condition.now)) (λ s. places s (term_of c.args.then_term.now)) c.args.w.now c.walk_term.new.w c.args.dialect c.in_err-first.ensures.stopped)))
+    err_stopped c.from_residual.result _ c.args.w.now c.walk_term.new.w (if_then_else (term_of c.args.condition.now) (term_of c.args.then_term.now) (term_of c.args.else_term.now)) c.from_residual.ensures.1
+    (among_front _ (entries_of c.args.w.now) (λ s. (places s (term_of c.args.condition.now) ++ places s (term_of c.args.then_term.now)) ++ places s (term_of c.args.else_term.now)) (λ s. record { scope = s; here = (if_then_else (term_of c.args.condition.now) (term_of c.args.then_term.now) (term_of c.args.else_term.now)) } ∷ []) c.args.w.now c.walk_term.new.w _
+    (among_front _ (entries_of c.args.w.now) (λ s. places s (term_of c.args.condition.now) ++ places s (term_of c.args.then_term.now)) (λ s. places s (term_of c.args.else_term.now)) c.args.w.now c.walk_term.new.w _
+    (among_front _ (entries_of c.args.w.now) (λ s. places s (term_of c.args.condition.now)) (λ s. places s (term_of c.args.then_term.now)) c.args.w.now c.walk_term.new.w _ c.in_err-first.ensures.stopped)))
 
 pub walk_if-returns-in_err-second-clause-stopped : goal.walk_if-returns-in_err-second-clause-stopped
 walk_if-returns-in_err-second-clause-stopped t c =
     let same = entries_same c.args.w.now c.walk_term.new.w c.requires.sound c.in_ok-first.ensures.grows.keeps c.in_ok-first.ensures.walked.entries in
-    err_stopped c.from_residual-in_err-second.result _ c.args.w.now c.walk_term-2.new.w (if_then_else (term_of c.args.condition.now) (term_of c.args.then_term.now) (term_of c.args.else_term.now)) c.args.dialect c.from_residual-in_err-second.ensures.1
-    (among_front _ (entries_of c.args.w.now) (λ s. (places s (term_of c.args.condition.now) ++ places s (term_of c.args.then_term.now)) ++ places s (term_of c.args.else_term.now)) (λ s. record { scope = s; here = (if_then_else (term_of c.args.condition.now) (term_of c.args.then_term.now) (term_of c.args.else_term.now)) } ∷ []) c.args.w.now c.walk_term-2.new.w c.args.dialect
-    (among_front _ (entries_of c.args.w.now) (λ s. places s (term_of c.args.condition.now) ++ places s (term_of c.args.then_term.now)) (λ s. places s (term_of c.args.else_term.now)) c.args.w.now c.walk_term-2.new.w c.args.dialect
-    (among_behind _ (entries_of c.args.w.now) (λ s. places s (term_of c.args.condition.now)) (λ s. places s (term_of c.args.then_term.now)) c.args.w.now c.walk_term.new.w c.walk_term-2.new.w c.args.dialect c.in_ok-first.ensures.walked.over.went
-    (among_from _ (entries_of c.walk_term.new.w) (entries_of c.args.w.now) (λ s. places s (term_of c.args.then_term.now)) c.walk_term.new.w c.walk_term.new.w c.walk_term-2.new.w c.args.dialect same refl c.in_err-second.ensures.stopped))))
+    err_stopped c.from_residual-in_err-second.result _ c.args.w.now c.walk_term-2.new.w (if_then_else (term_of c.args.condition.now) (term_of c.args.then_term.now) (term_of c.args.else_term.now)) c.from_residual-in_err-second.ensures.1
+    (among_front _ (entries_of c.args.w.now) (λ s. (places s (term_of c.args.condition.now) ++ places s (term_of c.args.then_term.now)) ++ places s (term_of c.args.else_term.now)) (λ s. record { scope = s; here = (if_then_else (term_of c.args.condition.now) (term_of c.args.then_term.now) (term_of c.args.else_term.now)) } ∷ []) c.args.w.now c.walk_term-2.new.w _
+    (among_front _ (entries_of c.args.w.now) (λ s. places s (term_of c.args.condition.now) ++ places s (term_of c.args.then_term.now)) (λ s. places s (term_of c.args.else_term.now)) c.args.w.now c.walk_term-2.new.w _
+    (among_behind _ (entries_of c.args.w.now) (λ s. places s (term_of c.args.condition.now)) (λ s. places s (term_of c.args.then_term.now)) c.args.w.now c.walk_term.new.w c.walk_term-2.new.w _ c.in_ok-first.ensures.walked.over.went
+    (among_from _ (entries_of c.walk_term.new.w) (entries_of c.args.w.now) (λ s. places s (term_of c.args.then_term.now)) c.walk_term.new.w c.walk_term.new.w c.walk_term-2.new.w c.walk_term.new.w.verdicts.dialect c.args.w.now.verdicts.dialect same refl c.in_ok-first.ensures.grows.dialect c.in_err-second.ensures.stopped))))
 
 pub walk_if-returns-in_err-third-clause-stopped : goal.walk_if-returns-in_err-third-clause-stopped
 walk_if-returns-in_err-third-clause-stopped t c =
     let same = entries_same c.args.w.now c.walk_term.new.w c.requires.sound c.in_ok-first.ensures.grows.keeps c.in_ok-first.ensures.walked.entries in
     let same_2 = entries_same c.walk_term.new.w c.walk_term-2.new.w c.in_ok-first.ensures.grows.sound c.in_ok-second.ensures.grows.keeps c.in_ok-second.ensures.walked.entries ∙ same in
-    err_stopped c.from_residual-in_err-third.result _ c.args.w.now c.walk_term-3.new.w (if_then_else (term_of c.args.condition.now) (term_of c.args.then_term.now) (term_of c.args.else_term.now)) c.args.dialect c.from_residual-in_err-third.ensures.1
-    (among_front _ (entries_of c.args.w.now) (λ s. (places s (term_of c.args.condition.now) ++ places s (term_of c.args.then_term.now)) ++ places s (term_of c.args.else_term.now)) (λ s. record { scope = s; here = (if_then_else (term_of c.args.condition.now) (term_of c.args.then_term.now) (term_of c.args.else_term.now)) } ∷ []) c.args.w.now c.walk_term-3.new.w c.args.dialect
-    (among_behind _ (entries_of c.args.w.now) (λ s. places s (term_of c.args.condition.now) ++ places s (term_of c.args.then_term.now)) (λ s. places s (term_of c.args.else_term.now)) c.args.w.now c.walk_term-2.new.w c.walk_term-3.new.w c.args.dialect
-    (went_both (entries_of c.args.w.now) (λ s. places s (term_of c.args.condition.now)) (λ s. places s (term_of c.args.then_term.now)) (progress_of c.args.w.now) (progress_of c.walk_term.new.w) (progress_of c.walk_term-2.new.w) c.args.dialect c.in_ok-first.ensures.walked.over.went
-    (subst (λ g. Went g (λ s. places s (term_of c.args.then_term.now)) (progress_of c.walk_term.new.w) (progress_of c.walk_term-2.new.w) c.args.dialect) same c.in_ok-second.ensures.walked.over.went))
-    (among_from _ (entries_of c.walk_term-2.new.w) (entries_of c.args.w.now) (λ s. places s (term_of c.args.else_term.now)) c.walk_term-2.new.w c.walk_term-2.new.w c.walk_term-3.new.w c.args.dialect same_2 refl c.in_err-third.ensures.stopped)))
+    err_stopped c.from_residual-in_err-third.result _ c.args.w.now c.walk_term-3.new.w (if_then_else (term_of c.args.condition.now) (term_of c.args.then_term.now) (term_of c.args.else_term.now)) c.from_residual-in_err-third.ensures.1
+    (among_front _ (entries_of c.args.w.now) (λ s. (places s (term_of c.args.condition.now) ++ places s (term_of c.args.then_term.now)) ++ places s (term_of c.args.else_term.now)) (λ s. record { scope = s; here = (if_then_else (term_of c.args.condition.now) (term_of c.args.then_term.now) (term_of c.args.else_term.now)) } ∷ []) c.args.w.now c.walk_term-3.new.w _
+    (among_behind _ (entries_of c.args.w.now) (λ s. places s (term_of c.args.condition.now) ++ places s (term_of c.args.then_term.now)) (λ s. places s (term_of c.args.else_term.now)) c.args.w.now c.walk_term-2.new.w c.walk_term-3.new.w _
+    (went_both (entries_of c.args.w.now) (λ s. places s (term_of c.args.condition.now)) (λ s. places s (term_of c.args.then_term.now)) (progress_of c.args.w.now) (progress_of c.walk_term.new.w) (progress_of c.walk_term-2.new.w) c.args.w.now.verdicts.dialect c.in_ok-first.ensures.walked.over.went
+    (went_from (entries_of c.walk_term.new.w) (entries_of c.args.w.now) (λ s. places s (term_of c.args.then_term.now)) (progress_of c.walk_term.new.w) (progress_of c.walk_term.new.w) (progress_of c.walk_term-2.new.w) c.walk_term.new.w.verdicts.dialect c.args.w.now.verdicts.dialect same refl c.in_ok-first.ensures.grows.dialect c.in_ok-second.ensures.walked.over.went))
+    (among_from _ (entries_of c.walk_term-2.new.w) (entries_of c.args.w.now) (λ s. places s (term_of c.args.else_term.now)) c.walk_term-2.new.w c.walk_term-2.new.w c.walk_term-3.new.w c.walk_term-2.new.w.verdicts.dialect c.args.w.now.verdicts.dialect same_2 refl (c.in_ok-second.ensures.grows.dialect ∙ c.in_ok-first.ensures.grows.dialect) c.in_err-third.ensures.stopped)))
 
 pub walk_if-returns-in_err-found-clause-grows : goal.walk_if-returns-in_err-found-clause-grows
-walk_if-returns-in_err-found-clause-grows t c = retabled_grows c.args.w.now c.walk_term-3.new.w c.chosen.new.table (grows_trans c.args.w.now c.walk_term-2.new.w c.walk_term-3.new.w (grows_trans c.args.w.now c.walk_term.new.w c.walk_term-2.new.w c.in_ok-first.ensures.grows c.in_ok-second.ensures.grows) c.in_ok-third.ensures.grows) c.chosen.ensures.keeps
+walk_if-returns-in_err-found-clause-grows t c = stepped_grows c.args.w.now c.walk_term-3.new.w c.chosen.new.table c.chosen.new.verdicts (grows_trans c.args.w.now c.walk_term-2.new.w c.walk_term-3.new.w (grows_trans c.args.w.now c.walk_term.new.w c.walk_term-2.new.w c.in_ok-first.ensures.grows c.in_ok-second.ensures.grows) c.in_ok-third.ensures.grows) c.chosen.ensures.keeps c.chosen.ensures.right c.chosen.ensures.dialect
 
 pub walk_if-settle-requires-clause-sound : goal.walk_if-settle-requires-clause-sound
-walk_if-settle-requires-clause-sound t c = (retabled_grows c.args.w.now c.walk_term-3.new.w c.chosen.new.table (grows_trans c.args.w.now c.walk_term-2.new.w c.walk_term-3.new.w (grows_trans c.args.w.now c.walk_term.new.w c.walk_term-2.new.w c.in_ok-first.ensures.grows c.in_ok-second.ensures.grows) c.in_ok-third.ensures.grows) c.chosen.ensures.keeps).sound
+walk_if-settle-requires-clause-sound t c = (stepped_grows c.args.w.now c.walk_term-3.new.w c.chosen.new.table c.chosen.new.verdicts (grows_trans c.args.w.now c.walk_term-2.new.w c.walk_term-3.new.w (grows_trans c.args.w.now c.walk_term.new.w c.walk_term-2.new.w c.in_ok-first.ensures.grows c.in_ok-second.ensures.grows) c.in_ok-third.ensures.grows) c.chosen.ensures.keeps c.chosen.ensures.right c.chosen.ensures.dialect).sound
 
 pub walk_if-returns-clause-grows : goal.walk_if-returns-clause-grows
-walk_if-returns-clause-grows t c = grows_trans c.args.w.now (retabled c.walk_term-3.new.w c.chosen.new.table) c.settle.new.w (retabled_grows c.args.w.now c.walk_term-3.new.w c.chosen.new.table (grows_trans c.args.w.now c.walk_term-2.new.w c.walk_term-3.new.w (grows_trans c.args.w.now c.walk_term.new.w c.walk_term-2.new.w c.in_ok-first.ensures.grows c.in_ok-second.ensures.grows) c.in_ok-third.ensures.grows) c.chosen.ensures.keeps) c.settle.ensures.grows
+walk_if-returns-clause-grows t c = grows_trans c.args.w.now (stepped c.walk_term-3.new.w c.chosen.new.table c.chosen.new.verdicts) c.settle.new.w (stepped_grows c.args.w.now c.walk_term-3.new.w c.chosen.new.table c.chosen.new.verdicts (grows_trans c.args.w.now c.walk_term-2.new.w c.walk_term-3.new.w (grows_trans c.args.w.now c.walk_term.new.w c.walk_term-2.new.w c.in_ok-first.ensures.grows c.in_ok-second.ensures.grows) c.in_ok-third.ensures.grows) c.chosen.ensures.keeps c.chosen.ensures.right c.chosen.ensures.dialect) c.settle.ensures.grows
 
 pub walk_if-returns-clause-walked : goal.walk_if-returns-clause-walked
 walk_if-returns-clause-walked t c =
-    settled_ok _ c.args.w.now (retabled c.walk_term-3.new.w c.chosen.new.table) c.settle.new.w (if_then_else (term_of c.args.condition.now) (term_of c.args.then_term.now) (term_of c.args.else_term.now)) (λ s. (places s (term_of c.args.condition.now) ++ places s (term_of c.args.then_term.now)) ++ places s (term_of c.args.else_term.now)) c.in_ok-found.found c.blame_if-blame.result c.args.dialect (λ s. refl)
+    settled_ok _ c.args.w.now (stepped c.walk_term-3.new.w c.chosen.new.table c.chosen.new.verdicts) c.settle.new.w (if_then_else (term_of c.args.condition.now) (term_of c.args.then_term.now) (term_of c.args.else_term.now)) (λ s. (places s (term_of c.args.condition.now) ++ places s (term_of c.args.then_term.now)) ++ places s (term_of c.args.else_term.now)) c.in_ok-found.found c.blame_if-blame.result (λ s. refl)
     (c.in_ok-third.ensures.walked.entries ∙ c.in_ok-second.ensures.walked.entries ∙ c.in_ok-first.ensures.walked.entries) c.in_ok-found.ensures.stands
-    (if_parts c.args.w.now c.walk_term.new.w c.walk_term-2.new.w c.walk_term-3.new.w (retabled c.walk_term-3.new.w c.chosen.new.table) (term_of c.args.condition.now) (term_of c.args.then_term.now) (term_of c.args.else_term.now) c.in_ok-first.first c.in_ok-second.second c.in_ok-third.third c.in_ok-found.found c.blame_if-blame.result c.args.dialect
+    (if_parts c.args.w.now c.walk_term.new.w c.walk_term-2.new.w c.walk_term-3.new.w (stepped c.walk_term-3.new.w c.chosen.new.table c.chosen.new.verdicts) (term_of c.args.condition.now) (term_of c.args.then_term.now) (term_of c.args.else_term.now) c.in_ok-first.first c.in_ok-second.second c.in_ok-third.third c.in_ok-found.found c.blame_if-blame.result
     c.requires.sound c.in_ok-first.ensures.grows c.in_ok-first.ensures.walked c.in_ok-second.ensures.grows c.in_ok-second.ensures.walked c.in_ok-third.ensures.grows c.in_ok-third.ensures.walked
-    (progress_same c.walk_term-3.new.w (retabled c.walk_term-3.new.w c.chosen.new.table) c.in_ok-third.ensures.grows.sound c.chosen.ensures.keeps refl refl)
+    (progress_same c.walk_term-3.new.w (stepped c.walk_term-3.new.w c.chosen.new.table c.chosen.new.verdicts) c.in_ok-third.ensures.grows.sound c.chosen.ensures.keeps refl refl)
     c.in_ok-found.ensures.rule
     (subst (λ b. Blames b c.in_ok-found.found (codes "E5") c.blame_if-blame.result) c.are_all_found.ensures c.blame_if-blame.ensures))
     c.settle.ensures.settled
 
 pub walk_if-returns-clause-stopped : goal.walk_if-returns-clause-stopped
 walk_if-returns-clause-stopped t c =
-    settled_err _ c.args.w.now (retabled c.walk_term-3.new.w c.chosen.new.table) c.settle.new.w (if_then_else (term_of c.args.condition.now) (term_of c.args.then_term.now) (term_of c.args.else_term.now)) (λ s. (places s (term_of c.args.condition.now) ++ places s (term_of c.args.then_term.now)) ++ places s (term_of c.args.else_term.now)) c.in_ok-found.found c.blame_if-blame.result c.args.dialect (λ s. refl)
+    settled_err _ c.args.w.now (stepped c.walk_term-3.new.w c.chosen.new.table c.chosen.new.verdicts) c.settle.new.w (if_then_else (term_of c.args.condition.now) (term_of c.args.then_term.now) (term_of c.args.else_term.now)) (λ s. (places s (term_of c.args.condition.now) ++ places s (term_of c.args.then_term.now)) ++ places s (term_of c.args.else_term.now)) c.in_ok-found.found c.blame_if-blame.result (λ s. refl)
     (c.in_ok-third.ensures.walked.entries ∙ c.in_ok-second.ensures.walked.entries ∙ c.in_ok-first.ensures.walked.entries) c.in_ok-found.ensures.stands
-    (if_parts c.args.w.now c.walk_term.new.w c.walk_term-2.new.w c.walk_term-3.new.w (retabled c.walk_term-3.new.w c.chosen.new.table) (term_of c.args.condition.now) (term_of c.args.then_term.now) (term_of c.args.else_term.now) c.in_ok-first.first c.in_ok-second.second c.in_ok-third.third c.in_ok-found.found c.blame_if-blame.result c.args.dialect
+    (if_parts c.args.w.now c.walk_term.new.w c.walk_term-2.new.w c.walk_term-3.new.w (stepped c.walk_term-3.new.w c.chosen.new.table c.chosen.new.verdicts) (term_of c.args.condition.now) (term_of c.args.then_term.now) (term_of c.args.else_term.now) c.in_ok-first.first c.in_ok-second.second c.in_ok-third.third c.in_ok-found.found c.blame_if-blame.result
     c.requires.sound c.in_ok-first.ensures.grows c.in_ok-first.ensures.walked c.in_ok-second.ensures.grows c.in_ok-second.ensures.walked c.in_ok-third.ensures.grows c.in_ok-third.ensures.walked
-    (progress_same c.walk_term-3.new.w (retabled c.walk_term-3.new.w c.chosen.new.table) c.in_ok-third.ensures.grows.sound c.chosen.ensures.keeps refl refl)
+    (progress_same c.walk_term-3.new.w (stepped c.walk_term-3.new.w c.chosen.new.table c.chosen.new.verdicts) c.in_ok-third.ensures.grows.sound c.chosen.ensures.keeps refl refl)
     c.in_ok-found.ensures.rule
     (subst (λ b. Blames b c.in_ok-found.found (codes "E5") c.blame_if-blame.result) c.are_all_found.ensures c.blame_if-blame.ensures))
     c.settle.ensures.stopped
 
 pub walk_ascribe-returns-in_err-part-clause-stopped : goal.walk_ascribe-returns-in_err-part-clause-stopped
 walk_ascribe-returns-in_err-part-clause-stopped t c =
-    err_stopped c.from_residual.result _ c.args.w.now c.walk_term.new.w (ascribe (term_of c.args.operand.now) (written_of c.args.written.now)) c.args.dialect c.from_residual.ensures.1
-    (among_front _ (entries_of c.args.w.now) (λ s. places s (term_of c.args.operand.now)) (λ s. record { scope = s; here = (ascribe (term_of c.args.operand.now) (written_of c.args.written.now)) } ∷ []) c.args.w.now c.walk_term.new.w c.args.dialect c.in_err-part.ensures.stopped)
+    err_stopped c.from_residual.result _ c.args.w.now c.walk_term.new.w (ascribe (term_of c.args.operand.now) (written_of c.args.written.now)) c.from_residual.ensures.1
+    (among_front _ (entries_of c.args.w.now) (λ s. places s (term_of c.args.operand.now)) (λ s. record { scope = s; here = (ascribe (term_of c.args.operand.now) (written_of c.args.written.now)) } ∷ []) c.args.w.now c.walk_term.new.w _ c.in_err-part.ensures.stopped)
 
 pub walk_ascribe-returns-in_err-entry-clause-grows : goal.walk_ascribe-returns-in_err-entry-clause-grows
 walk_ascribe-returns-in_err-entry-clause-grows t c = retabled_grows c.args.w.now c.walk_term.new.w c.added.new.table c.in_ok-part.ensures.grows c.added.ensures.keeps
 
-pub walk_ascribe-returns-in_err-entry-clause-verdicts : goal.walk_ascribe-returns-in_err-entry-clause-verdicts
-walk_ascribe-returns-in_err-entry-clause-verdicts t c = verdicts_keep c.walk_term.new.w.table c.added.new.table c.args.dialect c.walk_term.new.verdicts c.added.ensures.keeps c.walk_term.ensures.verdicts
-
-pub walk_ascribe-ascribed-requires-clause-verdicts : goal.walk_ascribe-ascribed-requires-clause-verdicts
-walk_ascribe-ascribed-requires-clause-verdicts t c = verdicts_keep c.walk_term.new.w.table c.added.new.table c.args.dialect c.walk_term.new.verdicts c.added.ensures.keeps c.walk_term.ensures.verdicts
+pub walk_ascribe-ascribed-requires-clause-right : goal.walk_ascribe-ascribed-requires-clause-right
+walk_ascribe-ascribed-requires-clause-right t c = (retabled_grows c.args.w.now c.walk_term.new.w c.added.new.table c.in_ok-part.ensures.grows c.added.ensures.keeps).sound.verdicts
 
 pub walk_ascribe-ascribed-requires-clause-operand : goal.walk_ascribe-ascribed-requires-clause-operand
 walk_ascribe-ascribed-requires-clause-operand t c = stands_keep c.walk_term.new.w.table c.added.new.table c.in_ok-part.part c.added.ensures.keeps c.in_ok-part.ensures.walked.stands
 
 pub walk_ascribe-returns-in_err-found-clause-grows : goal.walk_ascribe-returns-in_err-found-clause-grows
-walk_ascribe-returns-in_err-found-clause-grows t c = retabled_grows c.args.w.now c.walk_term.new.w c.added.new.table c.in_ok-part.ensures.grows c.added.ensures.keeps
+walk_ascribe-returns-in_err-found-clause-grows t c = stepped_grows c.args.w.now c.walk_term.new.w c.added.new.table c.ascribed.new.verdicts c.in_ok-part.ensures.grows c.added.ensures.keeps c.ascribed.ensures.right c.ascribed.ensures.dialect
 
 pub walk_ascribe-settle-requires-clause-sound : goal.walk_ascribe-settle-requires-clause-sound
-walk_ascribe-settle-requires-clause-sound t c = (retabled_grows c.args.w.now c.walk_term.new.w c.added.new.table c.in_ok-part.ensures.grows c.added.ensures.keeps).sound
+walk_ascribe-settle-requires-clause-sound t c = (stepped_grows c.args.w.now c.walk_term.new.w c.added.new.table c.ascribed.new.verdicts c.in_ok-part.ensures.grows c.added.ensures.keeps c.ascribed.ensures.right c.ascribed.ensures.dialect).sound
 
 pub walk_ascribe-returns-clause-walked : goal.walk_ascribe-returns-clause-walked
 walk_ascribe-returns-clause-walked t c =
-    settled_ok _ c.args.w.now (retabled c.walk_term.new.w c.added.new.table) c.settle.new.w (ascribe (term_of c.args.operand.now) (written_of c.args.written.now)) (λ s. places s (term_of c.args.operand.now)) c.in_ok-found.found c.blame_if-blame.result c.args.dialect (λ s. refl) c.in_ok-part.ensures.walked.entries c.in_ok-found.ensures.stands
-    (ascribe_parts c.args.w.now c.walk_term.new.w (retabled c.walk_term.new.w c.added.new.table) (term_of c.args.operand.now) (written_of c.args.written.now) c.in_ok-entry.entry c.in_ok-part.part c.in_ok-found.found c.blame_if-blame.result c.args.dialect c.in_ok-part.ensures.walked c.added.ensures.keeps
-    (progress_same c.walk_term.new.w (retabled c.walk_term.new.w c.added.new.table) c.in_ok-part.ensures.grows.sound c.added.ensures.keeps refl refl)
+    settled_ok _ c.args.w.now (stepped c.walk_term.new.w c.added.new.table c.ascribed.new.verdicts) c.settle.new.w (ascribe (term_of c.args.operand.now) (written_of c.args.written.now)) (λ s. places s (term_of c.args.operand.now)) c.in_ok-found.found c.blame_if-blame.result (λ s. refl) c.in_ok-part.ensures.walked.entries c.in_ok-found.ensures.stands
+    (ascribe_parts c.args.w.now c.walk_term.new.w (record c.walk_term.new.w { table = c.added.new.table }) (term_of c.args.operand.now) (written_of c.args.written.now) c.in_ok-entry.entry c.in_ok-part.part c.in_ok-found.found c.blame_if-blame.result c.in_ok-part.ensures.grows c.in_ok-part.ensures.walked c.added.ensures.keeps
+    (progress_same c.walk_term.new.w (record c.walk_term.new.w { table = c.added.new.table }) c.in_ok-part.ensures.grows.sound c.added.ensures.keeps refl refl)
     c.in_ok-entry.ensures.entry c.in_ok-found.ensures.rule
     (subst (λ b. Blames b c.in_ok-found.found (codes "E7") c.blame_if-blame.result) c.are_both_found.ensures c.blame_if-blame.ensures))
     c.settle.ensures.settled
 
 pub walk_ascribe-returns-clause-stopped : goal.walk_ascribe-returns-clause-stopped
 walk_ascribe-returns-clause-stopped t c =
-    settled_err _ c.args.w.now (retabled c.walk_term.new.w c.added.new.table) c.settle.new.w (ascribe (term_of c.args.operand.now) (written_of c.args.written.now)) (λ s. places s (term_of c.args.operand.now)) c.in_ok-found.found c.blame_if-blame.result c.args.dialect (λ s. refl) c.in_ok-part.ensures.walked.entries c.in_ok-found.ensures.stands
-    (ascribe_parts c.args.w.now c.walk_term.new.w (retabled c.walk_term.new.w c.added.new.table) (term_of c.args.operand.now) (written_of c.args.written.now) c.in_ok-entry.entry c.in_ok-part.part c.in_ok-found.found c.blame_if-blame.result c.args.dialect c.in_ok-part.ensures.walked c.added.ensures.keeps
-    (progress_same c.walk_term.new.w (retabled c.walk_term.new.w c.added.new.table) c.in_ok-part.ensures.grows.sound c.added.ensures.keeps refl refl)
+    settled_err _ c.args.w.now (stepped c.walk_term.new.w c.added.new.table c.ascribed.new.verdicts) c.settle.new.w (ascribe (term_of c.args.operand.now) (written_of c.args.written.now)) (λ s. places s (term_of c.args.operand.now)) c.in_ok-found.found c.blame_if-blame.result (λ s. refl) c.in_ok-part.ensures.walked.entries c.in_ok-found.ensures.stands
+    (ascribe_parts c.args.w.now c.walk_term.new.w (record c.walk_term.new.w { table = c.added.new.table }) (term_of c.args.operand.now) (written_of c.args.written.now) c.in_ok-entry.entry c.in_ok-part.part c.in_ok-found.found c.blame_if-blame.result c.in_ok-part.ensures.grows c.in_ok-part.ensures.walked c.added.ensures.keeps
+    (progress_same c.walk_term.new.w (record c.walk_term.new.w { table = c.added.new.table }) c.in_ok-part.ensures.grows.sound c.added.ensures.keeps refl refl)
     c.in_ok-entry.ensures.entry c.in_ok-found.ensures.rule
     (subst (λ b. Blames b c.in_ok-found.found (codes "E7") c.blame_if-blame.result) c.are_both_found.ensures c.blame_if-blame.ensures))
     c.settle.ensures.stopped
@@ -250,39 +246,26 @@ walk_lambda-returns-in_err-parameter-clause-grows t c = retabled_grows c.args.w.
 pub walk_lambda-returns-in_err-push-clause-grows : goal.walk_lambda-returns-in_err-push-clause-grows
 walk_lambda-returns-in_err-push-clause-grows t c = pushed_grows c.args.w.now c.added.new.table c.push.new.self c.in_ok-parameter.parameter c.requires.sound c.added.ensures.keeps (put_or_not _ _ _ _ c.push.ensures.items) c.in_ok-parameter.ensures.stands
 
-pub walk_lambda-returns-in_err-parameter-clause-verdicts : goal.walk_lambda-returns-in_err-parameter-clause-verdicts
-walk_lambda-returns-in_err-parameter-clause-verdicts t c = verdicts_keep c.args.w.now.table c.added.new.table c.args.dialect c.args.verdicts.now c.added.ensures.keeps c.requires.verdicts
-
-pub walk_lambda-returns-in_err-push-clause-verdicts : goal.walk_lambda-returns-in_err-push-clause-verdicts
-walk_lambda-returns-in_err-push-clause-verdicts t c = verdicts_keep c.args.w.now.table c.added.new.table c.args.dialect c.args.verdicts.now c.added.ensures.keeps c.requires.verdicts
-
 pub walk_lambda-walk_term-requires : goal.walk_lambda-walk_term-requires
-walk_lambda-walk_term-requires t c = (omega (arith, c.decreases), ((pushed_grows c.args.w.now c.added.new.table c.push.new.self c.in_ok-parameter.parameter c.requires.sound c.added.ensures.keeps (inl c.in_ok-push.ensures.items) c.in_ok-parameter.ensures.stands).sound, (c.requires.body, verdicts_keep c.args.w.now.table c.added.new.table c.args.dialect c.args.verdicts.now c.added.ensures.keeps c.requires.verdicts)))
+walk_lambda-walk_term-requires t c = (omega (arith, c.decreases), ((pushed_grows c.args.w.now c.added.new.table c.push.new.self c.in_ok-parameter.parameter c.requires.sound c.added.ensures.keeps (inl c.in_ok-push.ensures.items) c.in_ok-parameter.ensures.stands).sound, c.requires.body))
 
 pub walk_lambda-returns-in_err-outcome-clause-stopped : goal.walk_lambda-returns-in_err-outcome-clause-stopped
 walk_lambda-returns-in_err-outcome-clause-stopped t c =
-    err_stopped c.from_residual-in_err-outcome.result _ c.args.w.now c.walk_term.new.w (lambda (written_of c.args.written.now) (term_of c.args.body.now)) c.args.dialect c.from_residual-in_err-outcome.ensures.1
-    (among_front _ (entries_of c.args.w.now) (λ s. places (written (written_of c.args.written.now) ∷ s) (term_of c.args.body.now)) (λ s. record { scope = s; here = (lambda (written_of c.args.written.now) (term_of c.args.body.now)) } ∷ []) c.args.w.now c.walk_term.new.w c.args.dialect
-    (among_under _ (written (written_of c.args.written.now)) (written_of c.args.written.now) (entries_of c.args.w.now) (λ s. places s (term_of c.args.body.now)) c.args.w.now c.walk_term.new.w c.args.dialect (λ s low. lowest_written (written_of c.args.written.now) s (written_of c.args.written.now) (entries_of c.args.w.now) c.args.dialect c.requires.written refl low)
-    (among_from _ (entries_of (record c.args.w.now { table = c.added.new.table; entries = c.push.new.self })) ((written_of c.args.written.now) ∷ entries_of c.args.w.now) (λ s. places s (term_of c.args.body.now)) (record c.args.w.now { table = c.added.new.table; entries = c.push.new.self }) c.args.w.now c.walk_term.new.w c.args.dialect (under_entry c.args.w.now c.added.new.table c.push.new.self c.in_ok-parameter.parameter (written_of c.args.written.now) c.requires.sound c.added.ensures.keeps c.in_ok-push.ensures.items c.in_ok-parameter.ensures.entry) (progress_same c.args.w.now (record c.args.w.now { table = c.added.new.table; entries = c.push.new.self }) c.requires.sound c.added.ensures.keeps refl refl) c.in_err-outcome.ensures.stopped)))
+    err_stopped c.from_residual-in_err-outcome.result _ c.args.w.now c.walk_term.new.w (lambda (written_of c.args.written.now) (term_of c.args.body.now)) c.from_residual-in_err-outcome.ensures.1
+    (among_front _ (entries_of c.args.w.now) (λ s. places (written (written_of c.args.written.now) ∷ s) (term_of c.args.body.now)) (λ s. record { scope = s; here = (lambda (written_of c.args.written.now) (term_of c.args.body.now)) } ∷ []) c.args.w.now c.walk_term.new.w _
+    (among_under _ (written (written_of c.args.written.now)) (written_of c.args.written.now) (entries_of c.args.w.now) (λ s. places s (term_of c.args.body.now)) c.args.w.now c.walk_term.new.w _ (λ s low. lowest_written (written_of c.args.written.now) s (written_of c.args.written.now) (entries_of c.args.w.now) c.args.w.now.verdicts.dialect c.requires.written refl low)
+    (among_from _ (entries_of (record c.args.w.now { table = c.added.new.table; entries = c.push.new.self })) ((written_of c.args.written.now) ∷ entries_of c.args.w.now) (λ s. places s (term_of c.args.body.now)) (record c.args.w.now { table = c.added.new.table; entries = c.push.new.self }) c.args.w.now c.walk_term.new.w c.args.w.now.verdicts.dialect c.args.w.now.verdicts.dialect (under_entry c.args.w.now c.added.new.table c.push.new.self c.in_ok-parameter.parameter (written_of c.args.written.now) c.requires.sound c.added.ensures.keeps c.in_ok-push.ensures.items c.in_ok-parameter.ensures.entry) (progress_same c.args.w.now (record c.args.w.now { table = c.added.new.table; entries = c.push.new.self }) c.requires.sound c.added.ensures.keeps refl refl) refl c.in_err-outcome.ensures.stopped)))
 
 pub walk_lambda-returns-in_err-found-clause-grows : goal.walk_lambda-returns-in_err-found-clause-grows
 walk_lambda-returns-in_err-found-clause-grows t c = (popped_grows c.args.w.now (record c.args.w.now { table = c.added.new.table; entries = c.push.new.self }) c.walk_term.new.w c.abstracted.new.table c.pop.new.self (pushed_grows c.args.w.now c.added.new.table c.push.new.self c.in_ok-parameter.parameter c.requires.sound c.added.ensures.keeps (inl c.in_ok-push.ensures.items) c.in_ok-parameter.ensures.stands) c.in_ok-outcome.ensures.grows c.abstracted.ensures.keeps (popped_is c.push.new.self c.walk_term.new.w c.pop.new.self c.args.w.now.entries.items c.in_ok-parameter.parameter c.in_ok-push.ensures.items c.in_ok-outcome.ensures.walked.entries c.pop.ensures.rest) c.requires.sound)
 
-pub walk_lambda-returns-in_err-found-clause-verdicts : goal.walk_lambda-returns-in_err-found-clause-verdicts
-walk_lambda-returns-in_err-found-clause-verdicts t c = verdicts_keep c.walk_term.new.w.table c.abstracted.new.table c.args.dialect c.walk_term.new.verdicts c.abstracted.ensures.keeps c.walk_term.ensures.verdicts
-
 pub walk_lambda-settle-requires-clause-sound : goal.walk_lambda-settle-requires-clause-sound
 walk_lambda-settle-requires-clause-sound t c = (popped_grows c.args.w.now (record c.args.w.now { table = c.added.new.table; entries = c.push.new.self }) c.walk_term.new.w c.abstracted.new.table c.pop.new.self (pushed_grows c.args.w.now c.added.new.table c.push.new.self c.in_ok-parameter.parameter c.requires.sound c.added.ensures.keeps (inl c.in_ok-push.ensures.items) c.in_ok-parameter.ensures.stands) c.in_ok-outcome.ensures.grows c.abstracted.ensures.keeps (popped_is c.push.new.self c.walk_term.new.w c.pop.new.self c.args.w.now.entries.items c.in_ok-parameter.parameter c.in_ok-push.ensures.items c.in_ok-outcome.ensures.walked.entries c.pop.ensures.rest) c.requires.sound).sound
 
-pub walk_lambda-returns-clause-verdicts : goal.walk_lambda-returns-clause-verdicts
-walk_lambda-returns-clause-verdicts t c = subst (λ ts. AreVerdictsOn ts c.args.dialect c.walk_term.new.verdicts) (sym c.settle.ensures.table)
-    (verdicts_keep c.walk_term.new.w.table c.abstracted.new.table c.args.dialect c.walk_term.new.verdicts c.abstracted.ensures.keeps c.walk_term.ensures.verdicts)
-
 pub walk_lambda-returns-clause-walked : goal.walk_lambda-returns-clause-walked
 walk_lambda-returns-clause-walked t c =
-    settled_ok _ c.args.w.now (record c.walk_term.new.w { table = c.abstracted.new.table; entries = c.pop.new.self }) c.settle.new.w (lambda (written_of c.args.written.now) (term_of c.args.body.now)) (λ s. places (written (written_of c.args.written.now) ∷ s) (term_of c.args.body.now)) c.in_ok-found.found None c.args.dialect (λ s. refl) (popped_is c.push.new.self c.walk_term.new.w c.pop.new.self c.args.w.now.entries.items c.in_ok-parameter.parameter c.in_ok-push.ensures.items c.in_ok-outcome.ensures.walked.entries c.pop.ensures.rest) c.in_ok-found.ensures.stands
-    (lambda_parts c.args.w.now (record c.args.w.now { table = c.added.new.table; entries = c.push.new.self }) c.walk_term.new.w (record c.walk_term.new.w { table = c.abstracted.new.table; entries = c.pop.new.self }) (term_of c.args.body.now) (written_of c.args.written.now) c.in_ok-outcome.outcome c.in_ok-found.found c.args.dialect c.requires.written (under_entry c.args.w.now c.added.new.table c.push.new.self c.in_ok-parameter.parameter (written_of c.args.written.now) c.requires.sound c.added.ensures.keeps c.in_ok-push.ensures.items c.in_ok-parameter.ensures.entry) (progress_same c.args.w.now (record c.args.w.now { table = c.added.new.table; entries = c.push.new.self }) c.requires.sound c.added.ensures.keeps refl refl) c.in_ok-outcome.ensures.walked
+    settled_ok _ c.args.w.now (record c.walk_term.new.w { table = c.abstracted.new.table; entries = c.pop.new.self }) c.settle.new.w (lambda (written_of c.args.written.now) (term_of c.args.body.now)) (λ s. places (written (written_of c.args.written.now) ∷ s) (term_of c.args.body.now)) c.in_ok-found.found None (λ s. refl) (popped_is c.push.new.self c.walk_term.new.w c.pop.new.self c.args.w.now.entries.items c.in_ok-parameter.parameter c.in_ok-push.ensures.items c.in_ok-outcome.ensures.walked.entries c.pop.ensures.rest) c.in_ok-found.ensures.stands
+    (lambda_parts c.args.w.now (record c.args.w.now { table = c.added.new.table; entries = c.push.new.self }) c.walk_term.new.w (record c.walk_term.new.w { table = c.abstracted.new.table; entries = c.pop.new.self }) (term_of c.args.body.now) (written_of c.args.written.now) c.in_ok-outcome.outcome c.in_ok-found.found c.requires.written (under_entry c.args.w.now c.added.new.table c.push.new.self c.in_ok-parameter.parameter (written_of c.args.written.now) c.requires.sound c.added.ensures.keeps c.in_ok-push.ensures.items c.in_ok-parameter.ensures.entry) (progress_same c.args.w.now (record c.args.w.now { table = c.added.new.table; entries = c.push.new.self }) c.requires.sound c.added.ensures.keeps refl refl) refl c.in_ok-outcome.ensures.walked
     (progress_same c.walk_term.new.w (record c.walk_term.new.w { table = c.abstracted.new.table; entries = c.pop.new.self }) c.in_ok-outcome.ensures.grows.sound c.abstracted.ensures.keeps refl refl)
     (subst (λ v. LambdaRule v (answer c.walk_term.new.w.table c.in_ok-outcome.outcome) (answer c.abstracted.new.table c.in_ok-found.found))
     (answer_keep c.added.new.table c.walk_term.new.w.table c.in_ok-parameter.parameter c.in_ok-outcome.ensures.grows.keeps c.in_ok-parameter.ensures.stands ∙ c.in_ok-parameter.ensures.entry)
@@ -291,8 +274,8 @@ walk_lambda-returns-clause-walked t c =
 
 pub walk_lambda-returns-clause-stopped : goal.walk_lambda-returns-clause-stopped
 walk_lambda-returns-clause-stopped t c =
-    settled_err _ c.args.w.now (record c.walk_term.new.w { table = c.abstracted.new.table; entries = c.pop.new.self }) c.settle.new.w (lambda (written_of c.args.written.now) (term_of c.args.body.now)) (λ s. places (written (written_of c.args.written.now) ∷ s) (term_of c.args.body.now)) c.in_ok-found.found None c.args.dialect (λ s. refl) (popped_is c.push.new.self c.walk_term.new.w c.pop.new.self c.args.w.now.entries.items c.in_ok-parameter.parameter c.in_ok-push.ensures.items c.in_ok-outcome.ensures.walked.entries c.pop.ensures.rest) c.in_ok-found.ensures.stands
-    (lambda_parts c.args.w.now (record c.args.w.now { table = c.added.new.table; entries = c.push.new.self }) c.walk_term.new.w (record c.walk_term.new.w { table = c.abstracted.new.table; entries = c.pop.new.self }) (term_of c.args.body.now) (written_of c.args.written.now) c.in_ok-outcome.outcome c.in_ok-found.found c.args.dialect c.requires.written (under_entry c.args.w.now c.added.new.table c.push.new.self c.in_ok-parameter.parameter (written_of c.args.written.now) c.requires.sound c.added.ensures.keeps c.in_ok-push.ensures.items c.in_ok-parameter.ensures.entry) (progress_same c.args.w.now (record c.args.w.now { table = c.added.new.table; entries = c.push.new.self }) c.requires.sound c.added.ensures.keeps refl refl) c.in_ok-outcome.ensures.walked
+    settled_err _ c.args.w.now (record c.walk_term.new.w { table = c.abstracted.new.table; entries = c.pop.new.self }) c.settle.new.w (lambda (written_of c.args.written.now) (term_of c.args.body.now)) (λ s. places (written (written_of c.args.written.now) ∷ s) (term_of c.args.body.now)) c.in_ok-found.found None (λ s. refl) (popped_is c.push.new.self c.walk_term.new.w c.pop.new.self c.args.w.now.entries.items c.in_ok-parameter.parameter c.in_ok-push.ensures.items c.in_ok-outcome.ensures.walked.entries c.pop.ensures.rest) c.in_ok-found.ensures.stands
+    (lambda_parts c.args.w.now (record c.args.w.now { table = c.added.new.table; entries = c.push.new.self }) c.walk_term.new.w (record c.walk_term.new.w { table = c.abstracted.new.table; entries = c.pop.new.self }) (term_of c.args.body.now) (written_of c.args.written.now) c.in_ok-outcome.outcome c.in_ok-found.found c.requires.written (under_entry c.args.w.now c.added.new.table c.push.new.self c.in_ok-parameter.parameter (written_of c.args.written.now) c.requires.sound c.added.ensures.keeps c.in_ok-push.ensures.items c.in_ok-parameter.ensures.entry) (progress_same c.args.w.now (record c.args.w.now { table = c.added.new.table; entries = c.push.new.self }) c.requires.sound c.added.ensures.keeps refl refl) refl c.in_ok-outcome.ensures.walked
     (progress_same c.walk_term.new.w (record c.walk_term.new.w { table = c.abstracted.new.table; entries = c.pop.new.self }) c.in_ok-outcome.ensures.grows.sound c.abstracted.ensures.keeps refl refl)
     (subst (λ v. LambdaRule v (answer c.walk_term.new.w.table c.in_ok-outcome.outcome) (answer c.abstracted.new.table c.in_ok-found.found))
     (answer_keep c.added.new.table c.walk_term.new.w.table c.in_ok-parameter.parameter c.in_ok-outcome.ensures.grows.keeps c.in_ok-parameter.ensures.stands ∙ c.in_ok-parameter.ensures.entry)
@@ -301,28 +284,28 @@ walk_lambda-returns-clause-stopped t c =
 
 pub walk_let-returns-in_err-entry-clause-stopped : goal.walk_let-returns-in_err-entry-clause-stopped
 walk_let-returns-in_err-entry-clause-stopped t c =
-    err_stopped c.from_residual.result _ c.args.w.now c.walk_term.new.w (let_in (term_of c.args.bound.now) (term_of c.args.body.now)) c.args.dialect c.from_residual.ensures.1
-    (among_front _ (entries_of c.args.w.now) (λ s. places s (term_of c.args.bound.now) ++ places (of_term (term_of c.args.bound.now) ∷ s) (term_of c.args.body.now)) (λ s. record { scope = s; here = (let_in (term_of c.args.bound.now) (term_of c.args.body.now)) } ∷ []) c.args.w.now c.walk_term.new.w c.args.dialect
-    (among_front _ (entries_of c.args.w.now) (λ s. places s (term_of c.args.bound.now)) (λ s. places (of_term (term_of c.args.bound.now) ∷ s) (term_of c.args.body.now)) c.args.w.now c.walk_term.new.w c.args.dialect c.in_err-entry.ensures.stopped))
+    err_stopped c.from_residual.result _ c.args.w.now c.walk_term.new.w (let_in (term_of c.args.bound.now) (term_of c.args.body.now)) c.from_residual.ensures.1
+    (among_front _ (entries_of c.args.w.now) (λ s. places s (term_of c.args.bound.now) ++ places (of_term (term_of c.args.bound.now) ∷ s) (term_of c.args.body.now)) (λ s. record { scope = s; here = (let_in (term_of c.args.bound.now) (term_of c.args.body.now)) } ∷ []) c.args.w.now c.walk_term.new.w _
+    (among_front _ (entries_of c.args.w.now) (λ s. places s (term_of c.args.bound.now)) (λ s. places (of_term (term_of c.args.bound.now) ∷ s) (term_of c.args.body.now)) c.args.w.now c.walk_term.new.w _ c.in_err-entry.ensures.stopped))
 
 pub walk_let-walk_term-requires-2 : goal.walk_let-walk_term-requires-2
-walk_let-walk_term-requires-2 t c = (omega (arith, c.decreases), ((pushed_grows c.walk_term.new.w c.walk_term.new.w.table c.push.new.self c.in_ok-entry.entry c.in_ok-entry.ensures.grows.sound (keeps_same c.walk_term.new.w.table) (inl c.in_ok-push.ensures.items) c.in_ok-entry.ensures.walked.stands).sound, (c.requires.body, c.walk_term.ensures.verdicts)))
+walk_let-walk_term-requires-2 t c = (omega (arith, c.decreases), ((pushed_grows c.walk_term.new.w c.walk_term.new.w.table c.push.new.self c.in_ok-entry.entry c.in_ok-entry.ensures.grows.sound (keeps_same c.walk_term.new.w.table) (inl c.in_ok-push.ensures.items) c.in_ok-entry.ensures.walked.stands).sound, c.requires.body))
 
 pub walk_let-returns-in_err-outcome-clause-stopped : goal.walk_let-returns-in_err-outcome-clause-stopped
 walk_let-returns-in_err-outcome-clause-stopped t c =
-    err_stopped c.from_residual-in_err-outcome.result _ c.args.w.now c.walk_term-2.new.w (let_in (term_of c.args.bound.now) (term_of c.args.body.now)) c.args.dialect c.from_residual-in_err-outcome.ensures.1
-    (among_front _ (entries_of c.args.w.now) (λ s. places s (term_of c.args.bound.now) ++ places (of_term (term_of c.args.bound.now) ∷ s) (term_of c.args.body.now)) (λ s. record { scope = s; here = (let_in (term_of c.args.bound.now) (term_of c.args.body.now)) } ∷ []) c.args.w.now c.walk_term-2.new.w c.args.dialect
-    (among_behind _ (entries_of c.args.w.now) (λ s. places s (term_of c.args.bound.now)) (λ s. places (of_term (term_of c.args.bound.now) ∷ s) (term_of c.args.body.now)) c.args.w.now c.walk_term.new.w c.walk_term-2.new.w c.args.dialect c.in_ok-entry.ensures.walked.over.went
-    (among_under _ (of_term (term_of c.args.bound.now)) (answer c.walk_term.new.w.table c.in_ok-entry.entry) (entries_of c.args.w.now) (λ s. places s (term_of c.args.body.now)) c.walk_term.new.w c.walk_term-2.new.w c.args.dialect (lowest_let (term_of c.args.bound.now) (entries_of c.args.w.now) (answer c.walk_term.new.w.table c.in_ok-entry.entry) c.args.dialect c.in_ok-entry.ensures.walked.over.least)
-    (among_from _ (entries_of (record c.walk_term.new.w { entries = c.push.new.self })) ((answer c.walk_term.new.w.table c.in_ok-entry.entry) ∷ entries_of c.args.w.now) (λ s. places s (term_of c.args.body.now)) (record c.walk_term.new.w { entries = c.push.new.self }) c.walk_term.new.w c.walk_term-2.new.w c.args.dialect ((under_entry c.walk_term.new.w c.walk_term.new.w.table c.push.new.self c.in_ok-entry.entry (answer c.walk_term.new.w.table c.in_ok-entry.entry) c.in_ok-entry.ensures.grows.sound (keeps_same c.walk_term.new.w.table) c.in_ok-push.ensures.items refl) ∙ ap (λ g. (answer c.walk_term.new.w.table c.in_ok-entry.entry) ∷ g) (entries_same c.args.w.now c.walk_term.new.w c.requires.sound c.in_ok-entry.ensures.grows.keeps c.in_ok-entry.ensures.walked.entries)) refl c.in_err-outcome.ensures.stopped))))
+    err_stopped c.from_residual-in_err-outcome.result _ c.args.w.now c.walk_term-2.new.w (let_in (term_of c.args.bound.now) (term_of c.args.body.now)) c.from_residual-in_err-outcome.ensures.1
+    (among_front _ (entries_of c.args.w.now) (λ s. places s (term_of c.args.bound.now) ++ places (of_term (term_of c.args.bound.now) ∷ s) (term_of c.args.body.now)) (λ s. record { scope = s; here = (let_in (term_of c.args.bound.now) (term_of c.args.body.now)) } ∷ []) c.args.w.now c.walk_term-2.new.w _
+    (among_behind _ (entries_of c.args.w.now) (λ s. places s (term_of c.args.bound.now)) (λ s. places (of_term (term_of c.args.bound.now) ∷ s) (term_of c.args.body.now)) c.args.w.now c.walk_term.new.w c.walk_term-2.new.w _ c.in_ok-entry.ensures.walked.over.went
+    (among_under _ (of_term (term_of c.args.bound.now)) (answer c.walk_term.new.w.table c.in_ok-entry.entry) (entries_of c.args.w.now) (λ s. places s (term_of c.args.body.now)) c.walk_term.new.w c.walk_term-2.new.w _ (lowest_let (term_of c.args.bound.now) (entries_of c.args.w.now) (answer c.walk_term.new.w.table c.in_ok-entry.entry) _ c.in_ok-entry.ensures.walked.over.least)
+    (among_from _ (entries_of (record c.walk_term.new.w { entries = c.push.new.self })) ((answer c.walk_term.new.w.table c.in_ok-entry.entry) ∷ entries_of c.args.w.now) (λ s. places s (term_of c.args.body.now)) (record c.walk_term.new.w { entries = c.push.new.self }) c.walk_term.new.w c.walk_term-2.new.w c.walk_term.new.w.verdicts.dialect c.args.w.now.verdicts.dialect ((under_entry c.walk_term.new.w c.walk_term.new.w.table c.push.new.self c.in_ok-entry.entry (answer c.walk_term.new.w.table c.in_ok-entry.entry) c.in_ok-entry.ensures.grows.sound (keeps_same c.walk_term.new.w.table) c.in_ok-push.ensures.items refl) ∙ ap (λ g. (answer c.walk_term.new.w.table c.in_ok-entry.entry) ∷ g) (entries_same c.args.w.now c.walk_term.new.w c.requires.sound c.in_ok-entry.ensures.grows.keeps c.in_ok-entry.ensures.walked.entries)) refl c.in_ok-entry.ensures.grows.dialect c.in_err-outcome.ensures.stopped))))
 
 pub walk_let-settle-requires-clause-sound : goal.walk_let-settle-requires-clause-sound
 walk_let-settle-requires-clause-sound t c = (popped_grows c.walk_term.new.w (record c.walk_term.new.w { entries = c.push.new.self }) c.walk_term-2.new.w c.walk_term-2.new.w.table c.pop.new.self (pushed_grows c.walk_term.new.w c.walk_term.new.w.table c.push.new.self c.in_ok-entry.entry c.in_ok-entry.ensures.grows.sound (keeps_same c.walk_term.new.w.table) (inl c.in_ok-push.ensures.items) c.in_ok-entry.ensures.walked.stands) c.in_ok-outcome.ensures.grows (keeps_same c.walk_term-2.new.w.table) (popped_is c.push.new.self c.walk_term-2.new.w c.pop.new.self c.walk_term.new.w.entries.items c.in_ok-entry.entry c.in_ok-push.ensures.items c.in_ok-outcome.ensures.walked.entries c.pop.ensures.rest) c.in_ok-entry.ensures.grows.sound).sound
 
 pub walk_let-returns-clause-walked : goal.walk_let-returns-clause-walked
 walk_let-returns-clause-walked t c =
-    settled_ok _ c.args.w.now (record c.walk_term-2.new.w { entries = c.pop.new.self }) c.settle.new.w (let_in (term_of c.args.bound.now) (term_of c.args.body.now)) (λ s. places s (term_of c.args.bound.now) ++ places (of_term (term_of c.args.bound.now) ∷ s) (term_of c.args.body.now)) c.bound_in.result None c.args.dialect (λ s. refl) ((popped_is c.push.new.self c.walk_term-2.new.w c.pop.new.self c.walk_term.new.w.entries.items c.in_ok-entry.entry c.in_ok-push.ensures.items c.in_ok-outcome.ensures.walked.entries c.pop.ensures.rest) ∙ c.in_ok-entry.ensures.walked.entries) ((c.bound_in.ensures c.walk_term-2.new.w.table).0 c.in_ok-outcome.ensures.walked.stands)
-    (let_parts c.args.w.now c.walk_term.new.w (record c.walk_term.new.w { entries = c.push.new.self }) c.walk_term-2.new.w (record c.walk_term-2.new.w { entries = c.pop.new.self }) (term_of c.args.bound.now) (term_of c.args.body.now) c.in_ok-entry.entry c.in_ok-outcome.outcome c.bound_in.result c.args.dialect c.requires.sound c.in_ok-entry.ensures.grows.keeps c.in_ok-entry.ensures.walked (under_entry c.walk_term.new.w c.walk_term.new.w.table c.push.new.self c.in_ok-entry.entry (answer c.walk_term.new.w.table c.in_ok-entry.entry) c.in_ok-entry.ensures.grows.sound (keeps_same c.walk_term.new.w.table) c.in_ok-push.ensures.items refl) refl c.in_ok-outcome.ensures.walked refl
+    settled_ok _ c.args.w.now (record c.walk_term-2.new.w { entries = c.pop.new.self }) c.settle.new.w (let_in (term_of c.args.bound.now) (term_of c.args.body.now)) (λ s. places s (term_of c.args.bound.now) ++ places (of_term (term_of c.args.bound.now) ∷ s) (term_of c.args.body.now)) c.bound_in.result None (λ s. refl) ((popped_is c.push.new.self c.walk_term-2.new.w c.pop.new.self c.walk_term.new.w.entries.items c.in_ok-entry.entry c.in_ok-push.ensures.items c.in_ok-outcome.ensures.walked.entries c.pop.ensures.rest) ∙ c.in_ok-entry.ensures.walked.entries) ((c.bound_in.ensures c.walk_term-2.new.w.table).0 c.in_ok-outcome.ensures.walked.stands)
+    (let_parts c.args.w.now c.walk_term.new.w (record c.walk_term.new.w { entries = c.push.new.self }) c.walk_term-2.new.w (record c.walk_term-2.new.w { entries = c.pop.new.self }) (term_of c.args.bound.now) (term_of c.args.body.now) c.in_ok-entry.entry c.in_ok-outcome.outcome c.bound_in.result c.requires.sound c.in_ok-entry.ensures.grows.keeps c.in_ok-entry.ensures.walked (under_entry c.walk_term.new.w c.walk_term.new.w.table c.push.new.self c.in_ok-entry.entry (answer c.walk_term.new.w.table c.in_ok-entry.entry) c.in_ok-entry.ensures.grows.sound (keeps_same c.walk_term.new.w.table) c.in_ok-push.ensures.items refl) refl c.in_ok-entry.ensures.grows.dialect c.in_ok-outcome.ensures.walked refl
     (subst (λ v. LetRule v (answer c.walk_term-2.new.w.table c.in_ok-outcome.outcome) (answer c.walk_term-2.new.w.table c.bound_in.result))
     (answer_keep c.walk_term.new.w.table c.walk_term-2.new.w.table c.in_ok-entry.entry c.in_ok-outcome.ensures.grows.keeps c.in_ok-entry.ensures.walked.stands)
     (c.bound_in.ensures c.walk_term-2.new.w.table).1))
@@ -330,8 +313,8 @@ walk_let-returns-clause-walked t c =
 
 pub walk_let-returns-clause-stopped : goal.walk_let-returns-clause-stopped
 walk_let-returns-clause-stopped t c =
-    settled_err _ c.args.w.now (record c.walk_term-2.new.w { entries = c.pop.new.self }) c.settle.new.w (let_in (term_of c.args.bound.now) (term_of c.args.body.now)) (λ s. places s (term_of c.args.bound.now) ++ places (of_term (term_of c.args.bound.now) ∷ s) (term_of c.args.body.now)) c.bound_in.result None c.args.dialect (λ s. refl) ((popped_is c.push.new.self c.walk_term-2.new.w c.pop.new.self c.walk_term.new.w.entries.items c.in_ok-entry.entry c.in_ok-push.ensures.items c.in_ok-outcome.ensures.walked.entries c.pop.ensures.rest) ∙ c.in_ok-entry.ensures.walked.entries) ((c.bound_in.ensures c.walk_term-2.new.w.table).0 c.in_ok-outcome.ensures.walked.stands)
-    (let_parts c.args.w.now c.walk_term.new.w (record c.walk_term.new.w { entries = c.push.new.self }) c.walk_term-2.new.w (record c.walk_term-2.new.w { entries = c.pop.new.self }) (term_of c.args.bound.now) (term_of c.args.body.now) c.in_ok-entry.entry c.in_ok-outcome.outcome c.bound_in.result c.args.dialect c.requires.sound c.in_ok-entry.ensures.grows.keeps c.in_ok-entry.ensures.walked (under_entry c.walk_term.new.w c.walk_term.new.w.table c.push.new.self c.in_ok-entry.entry (answer c.walk_term.new.w.table c.in_ok-entry.entry) c.in_ok-entry.ensures.grows.sound (keeps_same c.walk_term.new.w.table) c.in_ok-push.ensures.items refl) refl c.in_ok-outcome.ensures.walked refl
+    settled_err _ c.args.w.now (record c.walk_term-2.new.w { entries = c.pop.new.self }) c.settle.new.w (let_in (term_of c.args.bound.now) (term_of c.args.body.now)) (λ s. places s (term_of c.args.bound.now) ++ places (of_term (term_of c.args.bound.now) ∷ s) (term_of c.args.body.now)) c.bound_in.result None (λ s. refl) ((popped_is c.push.new.self c.walk_term-2.new.w c.pop.new.self c.walk_term.new.w.entries.items c.in_ok-entry.entry c.in_ok-push.ensures.items c.in_ok-outcome.ensures.walked.entries c.pop.ensures.rest) ∙ c.in_ok-entry.ensures.walked.entries) ((c.bound_in.ensures c.walk_term-2.new.w.table).0 c.in_ok-outcome.ensures.walked.stands)
+    (let_parts c.args.w.now c.walk_term.new.w (record c.walk_term.new.w { entries = c.push.new.self }) c.walk_term-2.new.w (record c.walk_term-2.new.w { entries = c.pop.new.self }) (term_of c.args.bound.now) (term_of c.args.body.now) c.in_ok-entry.entry c.in_ok-outcome.outcome c.bound_in.result c.requires.sound c.in_ok-entry.ensures.grows.keeps c.in_ok-entry.ensures.walked (under_entry c.walk_term.new.w c.walk_term.new.w.table c.push.new.self c.in_ok-entry.entry (answer c.walk_term.new.w.table c.in_ok-entry.entry) c.in_ok-entry.ensures.grows.sound (keeps_same c.walk_term.new.w.table) c.in_ok-push.ensures.items refl) refl c.in_ok-entry.ensures.grows.dialect c.in_ok-outcome.ensures.walked refl
     (subst (λ v. LetRule v (answer c.walk_term-2.new.w.table c.in_ok-outcome.outcome) (answer c.walk_term-2.new.w.table c.bound_in.result))
     (answer_keep c.walk_term.new.w.table c.walk_term-2.new.w.table c.in_ok-entry.entry c.in_ok-outcome.ensures.grows.keeps c.in_ok-entry.ensures.walked.stands)
     (c.bound_in.ensures c.walk_term-2.new.w.table).1))
@@ -339,36 +322,29 @@ walk_let-returns-clause-stopped t c =
 
 pub walk_record-returns-in_err-all-clause-stopped : goal.walk_record-returns-in_err-all-clause-stopped
 walk_record-returns-in_err-all-clause-stopped t c =
-    err_stopped c.from_residual-in_err-all.result _ c.args.w.now c.walk_fields.new.w (record_term (terms_of c.args.fields.now)) c.args.dialect c.from_residual-in_err-all.ensures.1
-    (among_front _ (entries_of c.args.w.now) (λ s. places_in s (terms_of c.args.fields.now)) (λ s. record { scope = s; here = (record_term (terms_of c.args.fields.now)) } ∷ []) c.args.w.now c.walk_fields.new.w c.args.dialect c.in_err-all.ensures.stopped)
+    err_stopped c.from_residual-in_err-all.result _ c.args.w.now c.walk_fields.new.w (record_term (terms_of c.args.fields.now)) c.from_residual-in_err-all.ensures.1
+    (among_front _ (entries_of c.args.w.now) (λ s. places_in s (terms_of c.args.fields.now)) (λ s. record { scope = s; here = (record_term (terms_of c.args.fields.now)) } ∷ []) c.args.w.now c.walk_fields.new.w _ c.in_err-all.ensures.stopped)
 
 pub walk_record-returns-in_err-found-clause-grows : goal.walk_record-returns-in_err-found-clause-grows
 walk_record-returns-in_err-found-clause-grows t c = (retabled_grows c.args.w.now c.walk_fields.new.w c.recorded.new.table c.in_ok-all.ensures.grows c.recorded.ensures.keeps)
 
-pub walk_record-returns-in_err-found-clause-verdicts : goal.walk_record-returns-in_err-found-clause-verdicts
-walk_record-returns-in_err-found-clause-verdicts t c = verdicts_keep c.walk_fields.new.w.table c.recorded.new.table c.args.dialect c.walk_fields.new.verdicts c.recorded.ensures.keeps c.walk_fields.ensures.verdicts
-
 pub walk_record-settle-requires-clause-sound : goal.walk_record-settle-requires-clause-sound
 walk_record-settle-requires-clause-sound t c = (retabled_grows c.args.w.now c.walk_fields.new.w c.recorded.new.table c.in_ok-all.ensures.grows c.recorded.ensures.keeps).sound
 
-pub walk_record-returns-clause-verdicts : goal.walk_record-returns-clause-verdicts
-walk_record-returns-clause-verdicts t c = subst (λ ts. AreVerdictsOn ts c.args.dialect c.walk_fields.new.verdicts) (sym c.settle.ensures.table)
-    (verdicts_keep c.walk_fields.new.w.table c.recorded.new.table c.args.dialect c.walk_fields.new.verdicts c.recorded.ensures.keeps c.walk_fields.ensures.verdicts)
-
 pub walk_record-returns-clause-walked : goal.walk_record-returns-clause-walked
 walk_record-returns-clause-walked t c =
-    settled_ok _ c.args.w.now (retabled c.walk_fields.new.w c.recorded.new.table) c.settle.new.w (record_term (terms_of c.args.fields.now)) (λ s. places_in s (terms_of c.args.fields.now)) c.in_ok-found.found c.blame_if-blame.result c.args.dialect (λ s. refl) c.in_ok-all.ensures.walked.entries c.in_ok-found.ensures.stands
-    (record_parts c.args.w.now c.walk_fields.new.w (retabled c.walk_fields.new.w c.recorded.new.table) (terms_of c.args.fields.now) _ _ c.in_ok-all.all c.in_ok-found.found c.blame_if-blame.result c.args.dialect c.in_ok-all.ensures.walked
-    (progress_same c.walk_fields.new.w (retabled c.walk_fields.new.w c.recorded.new.table) c.in_ok-all.ensures.grows.sound c.recorded.ensures.keeps refl refl)
+    settled_ok _ c.args.w.now (record c.walk_fields.new.w { table = c.recorded.new.table }) c.settle.new.w (record_term (terms_of c.args.fields.now)) (λ s. places_in s (terms_of c.args.fields.now)) c.in_ok-found.found c.blame_if-blame.result (λ s. refl) c.in_ok-all.ensures.walked.entries c.in_ok-found.ensures.stands
+    (record_parts c.args.w.now c.walk_fields.new.w (record c.walk_fields.new.w { table = c.recorded.new.table }) (terms_of c.args.fields.now) _ _ c.in_ok-all.all c.in_ok-found.found c.blame_if-blame.result c.in_ok-all.ensures.walked
+    (progress_same c.walk_fields.new.w (record c.walk_fields.new.w { table = c.recorded.new.table }) c.in_ok-all.ensures.grows.sound c.recorded.ensures.keeps refl refl)
     (subst (λ items. RecordRule (if_all c.in_ok-all.all (fields_over c.walk_fields.new.w.table items)) (answer c.recorded.new.table c.in_ok-found.found)) (parts_empty _ _ _ c.in_ok-all.ensures.walked.parts_are c.in_ok-parts.ensures.items) c.in_ok-found.ensures.rule)
     c.blame_if-blame.ensures)
     c.settle.ensures.settled
 
 pub walk_record-returns-clause-stopped : goal.walk_record-returns-clause-stopped
 walk_record-returns-clause-stopped t c =
-    settled_err _ c.args.w.now (retabled c.walk_fields.new.w c.recorded.new.table) c.settle.new.w (record_term (terms_of c.args.fields.now)) (λ s. places_in s (terms_of c.args.fields.now)) c.in_ok-found.found c.blame_if-blame.result c.args.dialect (λ s. refl) c.in_ok-all.ensures.walked.entries c.in_ok-found.ensures.stands
-    (record_parts c.args.w.now c.walk_fields.new.w (retabled c.walk_fields.new.w c.recorded.new.table) (terms_of c.args.fields.now) _ _ c.in_ok-all.all c.in_ok-found.found c.blame_if-blame.result c.args.dialect c.in_ok-all.ensures.walked
-    (progress_same c.walk_fields.new.w (retabled c.walk_fields.new.w c.recorded.new.table) c.in_ok-all.ensures.grows.sound c.recorded.ensures.keeps refl refl)
+    settled_err _ c.args.w.now (record c.walk_fields.new.w { table = c.recorded.new.table }) c.settle.new.w (record_term (terms_of c.args.fields.now)) (λ s. places_in s (terms_of c.args.fields.now)) c.in_ok-found.found c.blame_if-blame.result (λ s. refl) c.in_ok-all.ensures.walked.entries c.in_ok-found.ensures.stands
+    (record_parts c.args.w.now c.walk_fields.new.w (record c.walk_fields.new.w { table = c.recorded.new.table }) (terms_of c.args.fields.now) _ _ c.in_ok-all.all c.in_ok-found.found c.blame_if-blame.result c.in_ok-all.ensures.walked
+    (progress_same c.walk_fields.new.w (record c.walk_fields.new.w { table = c.recorded.new.table }) c.in_ok-all.ensures.grows.sound c.recorded.ensures.keeps refl refl)
     (subst (λ items. RecordRule (if_all c.in_ok-all.all (fields_over c.walk_fields.new.w.table items)) (answer c.recorded.new.table c.in_ok-found.found)) (parts_empty _ _ _ c.in_ok-all.ensures.walked.parts_are c.in_ok-parts.ensures.items) c.in_ok-found.ensures.rule)
     c.blame_if-blame.ensures)
     c.settle.ensures.stopped
@@ -377,79 +353,79 @@ pub walk_record-recorded-requires : goal.walk_record-recorded-requires
 walk_record-recorded-requires t c = subst (λ items. AreEarlier (length c.walk_fields.new.w.table) items) (sym (parts_empty _ _ _ c.in_ok-all.ensures.walked.parts_are c.in_ok-parts.ensures.items)) c.in_ok-all.ensures.walked.stand
 
 pub walk_fields-returns-in_default-clause-walked : goal.walk_fields-returns-in_default-clause-walked
-walk_fields-returns-in_default-clause-walked t c = no_fields_walked c.args.w.now c.args.fields.now c.args.parts.now.items c.args.dialect c.in_default.ensures.cases
+walk_fields-returns-in_default-clause-walked t c = no_fields_walked c.args.w.now c.args.fields.now c.args.parts.now.items c.in_default.ensures.cases
 
 pub walk_fields-returns-in_err-found-clause-stopped : goal.walk_fields-returns-in_err-found-clause-stopped
-walk_fields-returns-in_err-found-clause-stopped t c = rw (ap terms_of c.in-Some.ensures.cases.0) (err_stopped_in_fields c.from_residual.result _ c.args.w.now c.walk_term.new.w (term_field (string_bytes c.in-Some.field.now.0) (term_of c.in-Some.field.now.1) (terms_of c.in-Some.others.now)) c.args.dialect c.from_residual.ensures.1 (fields_front _ c.args.w.now c.walk_term.new.w (string_bytes c.in-Some.field.now.0) (term_of c.in-Some.field.now.1) (terms_of c.in-Some.others.now) c.args.dialect c.in_err-found.ensures.stopped))
+walk_fields-returns-in_err-found-clause-stopped t c = rw (ap terms_of c.in-Some.ensures.cases.0) (err_stopped_in_fields c.from_residual.result _ c.args.w.now c.walk_term.new.w (term_field (string_bytes c.in-Some.field.now.0) (term_of c.in-Some.field.now.1) (terms_of c.in-Some.others.now)) c.from_residual.ensures.1 (fields_front _ c.args.w.now c.walk_term.new.w (string_bytes c.in-Some.field.now.0) (term_of c.in-Some.field.now.1) (terms_of c.in-Some.others.now) c.in_err-found.ensures.stopped))
 
 pub walk_fields-returns-in_err-walk_fields-clause-stopped : goal.walk_fields-returns-in_err-walk_fields-clause-stopped
-walk_fields-returns-in_err-walk_fields-clause-stopped t c = rw (ap terms_of c.in-Some.ensures.cases.0) (err_stopped_in_fields c.from_residual-in_err-walk_fields.result _ c.args.w.now c.walk_fields.new.w (term_field (string_bytes c.in-Some.field.now.0) (term_of c.in-Some.field.now.1) (terms_of c.in-Some.others.now)) c.args.dialect c.from_residual-in_err-walk_fields.ensures.1 (fields_behind _ c.args.w.now c.walk_term.new.w c.walk_fields.new.w (string_bytes c.in-Some.field.now.0) (term_of c.in-Some.field.now.1) (terms_of c.in-Some.others.now) c.in_ok-found.found c.args.dialect c.requires.sound c.in_ok-found.ensures.grows c.in_ok-found.ensures.walked c.in_err-walk_fields.ensures.stopped))
+walk_fields-returns-in_err-walk_fields-clause-stopped t c = rw (ap terms_of c.in-Some.ensures.cases.0) (err_stopped_in_fields c.from_residual-in_err-walk_fields.result _ c.args.w.now c.walk_fields.new.w (term_field (string_bytes c.in-Some.field.now.0) (term_of c.in-Some.field.now.1) (terms_of c.in-Some.others.now)) c.from_residual-in_err-walk_fields.ensures.1 (fields_behind _ c.args.w.now c.walk_term.new.w c.walk_fields.new.w (string_bytes c.in-Some.field.now.0) (term_of c.in-Some.field.now.1) (terms_of c.in-Some.others.now) c.in_ok-found.found c.requires.sound c.in_ok-found.ensures.grows c.in_ok-found.ensures.walked c.in_err-walk_fields.ensures.stopped))
 
 pub walk_fields-returns-in_default-found-clause-walked : goal.walk_fields-returns-in_default-found-clause-walked
-walk_fields-returns-in_default-found-clause-walked t c = rw (ap terms_of c.in-Some.ensures.cases.0) (fields_unfound c.args.w.now c.walk_term.new.w c.walk_fields.new.w (string_bytes c.in-Some.field.now.0) (term_of c.in-Some.field.now.1) (terms_of c.in-Some.others.now) c.in_ok-found.found _ _ _ c.args.dialect c.requires.sound c.in_ok-found.ensures.grows c.in_ok-found.ensures.walked c.in_default-found.is c.in_ok-walk_fields.ensures.walked)
+walk_fields-returns-in_default-found-clause-walked t c = rw (ap terms_of c.in-Some.ensures.cases.0) (fields_unfound c.args.w.now c.walk_term.new.w c.walk_fields.new.w (string_bytes c.in-Some.field.now.0) (term_of c.in-Some.field.now.1) (terms_of c.in-Some.others.now) c.in_ok-found.found _ _ _ c.requires.sound c.in_ok-found.ensures.grows c.in_ok-found.ensures.walked c.in_default-found.is c.in_ok-walk_fields.ensures.walked)
 
 pub walk_fields-returns-clause-walked : goal.walk_fields-returns-clause-walked
-walk_fields-returns-clause-walked t c = rw (ap terms_of c.in-Some.ensures.cases.0) (fields_found_ok c.walk_fields-2.result c.args.w.now c.walk_term.new.w c.walk_fields-2.new.w (string_bytes c.in-Some.field.now.0) (term_of c.in-Some.field.now.1) (terms_of c.in-Some.others.now) c.in_ok-found.found c.in_ok-clone.field-0 c.in-Some-found.number _ _ _ c.args.dialect c.requires.sound c.in_ok-found.ensures.grows c.in_ok-found.ensures.walked c.in-Some-found.is c.walk_fields-2.ensures.grows c.in_ok-push.ensures.items c.in_ok-clone.ensures.cases c.walk_fields-2.ensures.walked)
+walk_fields-returns-clause-walked t c = rw (ap terms_of c.in-Some.ensures.cases.0) (fields_found_ok c.walk_fields-2.result c.args.w.now c.walk_term.new.w c.walk_fields-2.new.w (string_bytes c.in-Some.field.now.0) (term_of c.in-Some.field.now.1) (terms_of c.in-Some.others.now) c.in_ok-found.found c.in_ok-clone.field-0 c.in-Some-found.number _ _ _ c.requires.sound c.in_ok-found.ensures.grows c.in_ok-found.ensures.walked c.in-Some-found.is c.walk_fields-2.ensures.grows c.in_ok-push.ensures.items c.in_ok-clone.ensures.cases c.walk_fields-2.ensures.walked)
 
 pub walk_fields-returns-clause-stopped : goal.walk_fields-returns-clause-stopped
-walk_fields-returns-clause-stopped t c = rw (ap terms_of c.in-Some.ensures.cases.0) (fields_behind_err c.walk_fields-2.result c.args.w.now c.walk_term.new.w c.walk_fields-2.new.w (string_bytes c.in-Some.field.now.0) (term_of c.in-Some.field.now.1) (terms_of c.in-Some.others.now) c.in_ok-found.found c.args.dialect c.requires.sound c.in_ok-found.ensures.grows c.in_ok-found.ensures.walked c.walk_fields-2.ensures.stopped)
+walk_fields-returns-clause-stopped t c = rw (ap terms_of c.in-Some.ensures.cases.0) (fields_behind_err c.walk_fields-2.result c.args.w.now c.walk_term.new.w c.walk_fields-2.new.w (string_bytes c.in-Some.field.now.0) (term_of c.in-Some.field.now.1) (terms_of c.in-Some.others.now) c.in_ok-found.found c.requires.sound c.in_ok-found.ensures.grows c.in_ok-found.ensures.walked c.walk_fields-2.ensures.stopped)
 
 pub walk_term-returns-in-True-clause-walked : goal.walk_term-returns-in-True-clause-walked
 walk_term-returns-in-True-clause-walked t c = rw (ap term_of c.in-True.is ∙ term_of-True)
-    (settled_ok _ c.args.w.now c.args.w.now c.settle.new.w true_term (λ s. []) (Some c.args.w.now.leaves.boolean) None c.args.dialect (λ s. refl) refl c.requires.sound.boolean.stands
-    (leaf_parts c.args.w.now true_term c.args.w.now.leaves.boolean bool c.args.dialect c.requires.sound.boolean (true_ready (entries_of c.args.w.now) (progress_of c.args.w.now) c.args.dialect))
+    (settled_ok _ c.args.w.now c.args.w.now c.settle.new.w true_term (λ s. []) (Some c.args.w.now.leaves.boolean) None (λ s. refl) refl c.requires.sound.boolean.stands
+    (leaf_parts c.args.w.now true_term c.args.w.now.leaves.boolean bool c.requires.sound.boolean (true_ready (entries_of c.args.w.now) (progress_of c.args.w.now) c.args.w.now.verdicts.dialect))
     c.settle.ensures.settled)
 
 pub walk_term-returns-in-True-clause-stopped : goal.walk_term-returns-in-True-clause-stopped
 walk_term-returns-in-True-clause-stopped t c = rw (ap term_of c.in-True.is ∙ term_of-True)
-    (settled_err _ c.args.w.now c.args.w.now c.settle.new.w true_term (λ s. []) (Some c.args.w.now.leaves.boolean) None c.args.dialect (λ s. refl) refl c.requires.sound.boolean.stands
-    (leaf_parts c.args.w.now true_term c.args.w.now.leaves.boolean bool c.args.dialect c.requires.sound.boolean (true_ready (entries_of c.args.w.now) (progress_of c.args.w.now) c.args.dialect))
+    (settled_err _ c.args.w.now c.args.w.now c.settle.new.w true_term (λ s. []) (Some c.args.w.now.leaves.boolean) None (λ s. refl) refl c.requires.sound.boolean.stands
+    (leaf_parts c.args.w.now true_term c.args.w.now.leaves.boolean bool c.requires.sound.boolean (true_ready (entries_of c.args.w.now) (progress_of c.args.w.now) c.args.w.now.verdicts.dialect))
     c.settle.ensures.stopped)
 
 pub walk_term-returns-in-False-clause-walked : goal.walk_term-returns-in-False-clause-walked
 walk_term-returns-in-False-clause-walked t c = rw (ap term_of c.in-False.is ∙ term_of-False)
-    (settled_ok _ c.args.w.now c.args.w.now c.settle-in-False.new.w false_term (λ s. []) (Some c.args.w.now.leaves.boolean) None c.args.dialect (λ s. refl) refl c.requires.sound.boolean.stands
-    (leaf_parts c.args.w.now false_term c.args.w.now.leaves.boolean bool c.args.dialect c.requires.sound.boolean (false_ready (entries_of c.args.w.now) (progress_of c.args.w.now) c.args.dialect))
+    (settled_ok _ c.args.w.now c.args.w.now c.settle-in-False.new.w false_term (λ s. []) (Some c.args.w.now.leaves.boolean) None (λ s. refl) refl c.requires.sound.boolean.stands
+    (leaf_parts c.args.w.now false_term c.args.w.now.leaves.boolean bool c.requires.sound.boolean (false_ready (entries_of c.args.w.now) (progress_of c.args.w.now) c.args.w.now.verdicts.dialect))
     c.settle-in-False.ensures.settled)
 
 pub walk_term-returns-in-False-clause-stopped : goal.walk_term-returns-in-False-clause-stopped
 walk_term-returns-in-False-clause-stopped t c = rw (ap term_of c.in-False.is ∙ term_of-False)
-    (settled_err _ c.args.w.now c.args.w.now c.settle-in-False.new.w false_term (λ s. []) (Some c.args.w.now.leaves.boolean) None c.args.dialect (λ s. refl) refl c.requires.sound.boolean.stands
-    (leaf_parts c.args.w.now false_term c.args.w.now.leaves.boolean bool c.args.dialect c.requires.sound.boolean (false_ready (entries_of c.args.w.now) (progress_of c.args.w.now) c.args.dialect))
+    (settled_err _ c.args.w.now c.args.w.now c.settle-in-False.new.w false_term (λ s. []) (Some c.args.w.now.leaves.boolean) None (λ s. refl) refl c.requires.sound.boolean.stands
+    (leaf_parts c.args.w.now false_term c.args.w.now.leaves.boolean bool c.requires.sound.boolean (false_ready (entries_of c.args.w.now) (progress_of c.args.w.now) c.args.w.now.verdicts.dialect))
     c.settle-in-False.ensures.stopped)
 
 pub walk_term-returns-in-Unit-clause-walked : goal.walk_term-returns-in-Unit-clause-walked
 walk_term-returns-in-Unit-clause-walked t c = rw (ap term_of c.in-Unit.is ∙ term_of-Unit)
-    (settled_ok _ c.args.w.now c.args.w.now c.settle-in-Unit.new.w unit_term (λ s. []) (Some c.args.w.now.leaves.unit) None c.args.dialect (λ s. refl) refl c.requires.sound.unit.stands
-    (leaf_parts c.args.w.now unit_term c.args.w.now.leaves.unit unit c.args.dialect c.requires.sound.unit (unit_ready (entries_of c.args.w.now) (progress_of c.args.w.now) c.args.dialect))
+    (settled_ok _ c.args.w.now c.args.w.now c.settle-in-Unit.new.w unit_term (λ s. []) (Some c.args.w.now.leaves.unit) None (λ s. refl) refl c.requires.sound.unit.stands
+    (leaf_parts c.args.w.now unit_term c.args.w.now.leaves.unit unit c.requires.sound.unit (unit_ready (entries_of c.args.w.now) (progress_of c.args.w.now) c.args.w.now.verdicts.dialect))
     c.settle-in-Unit.ensures.settled)
 
 pub walk_term-returns-in-Unit-clause-stopped : goal.walk_term-returns-in-Unit-clause-stopped
 walk_term-returns-in-Unit-clause-stopped t c = rw (ap term_of c.in-Unit.is ∙ term_of-Unit)
-    (settled_err _ c.args.w.now c.args.w.now c.settle-in-Unit.new.w unit_term (λ s. []) (Some c.args.w.now.leaves.unit) None c.args.dialect (λ s. refl) refl c.requires.sound.unit.stands
-    (leaf_parts c.args.w.now unit_term c.args.w.now.leaves.unit unit c.args.dialect c.requires.sound.unit (unit_ready (entries_of c.args.w.now) (progress_of c.args.w.now) c.args.dialect))
+    (settled_err _ c.args.w.now c.args.w.now c.settle-in-Unit.new.w unit_term (λ s. []) (Some c.args.w.now.leaves.unit) None (λ s. refl) refl c.requires.sound.unit.stands
+    (leaf_parts c.args.w.now unit_term c.args.w.now.leaves.unit unit c.requires.sound.unit (unit_ready (entries_of c.args.w.now) (progress_of c.args.w.now) c.args.w.now.verdicts.dialect))
     c.settle-in-Unit.ensures.stopped)
 
 pub walk_term-returns-in-Num-clause-walked : goal.walk_term-returns-in-Num-clause-walked
 walk_term-returns-in-Num-clause-walked t c = rw (ap term_of c.in-Num.is ∙ term_of-Num _)
-    (settled_ok _ c.args.w.now c.args.w.now c.settle-in-Num.new.w (numeral (string_bytes c.in-Num.field-0)) (λ s. []) (Some c.args.w.now.leaves.natural) None c.args.dialect (λ s. refl) refl c.requires.sound.natural.stands
-    (leaf_parts c.args.w.now (numeral (string_bytes c.in-Num.field-0)) c.args.w.now.leaves.natural nat c.args.dialect c.requires.sound.natural (numeral_ready (entries_of c.args.w.now) _ (progress_of c.args.w.now) c.args.dialect))
+    (settled_ok _ c.args.w.now c.args.w.now c.settle-in-Num.new.w (numeral (string_bytes c.in-Num.field-0)) (λ s. []) (Some c.args.w.now.leaves.natural) None (λ s. refl) refl c.requires.sound.natural.stands
+    (leaf_parts c.args.w.now (numeral (string_bytes c.in-Num.field-0)) c.args.w.now.leaves.natural nat c.requires.sound.natural (numeral_ready (entries_of c.args.w.now) _ (progress_of c.args.w.now) c.args.w.now.verdicts.dialect))
     c.settle-in-Num.ensures.settled)
 
 pub walk_term-returns-in-Num-clause-stopped : goal.walk_term-returns-in-Num-clause-stopped
 walk_term-returns-in-Num-clause-stopped t c = rw (ap term_of c.in-Num.is ∙ term_of-Num _)
-    (settled_err _ c.args.w.now c.args.w.now c.settle-in-Num.new.w (numeral (string_bytes c.in-Num.field-0)) (λ s. []) (Some c.args.w.now.leaves.natural) None c.args.dialect (λ s. refl) refl c.requires.sound.natural.stands
-    (leaf_parts c.args.w.now (numeral (string_bytes c.in-Num.field-0)) c.args.w.now.leaves.natural nat c.args.dialect c.requires.sound.natural (numeral_ready (entries_of c.args.w.now) _ (progress_of c.args.w.now) c.args.dialect))
+    (settled_err _ c.args.w.now c.args.w.now c.settle-in-Num.new.w (numeral (string_bytes c.in-Num.field-0)) (λ s. []) (Some c.args.w.now.leaves.natural) None (λ s. refl) refl c.requires.sound.natural.stands
+    (leaf_parts c.args.w.now (numeral (string_bytes c.in-Num.field-0)) c.args.w.now.leaves.natural nat c.requires.sound.natural (numeral_ready (entries_of c.args.w.now) _ (progress_of c.args.w.now) c.args.w.now.verdicts.dialect))
     c.settle-in-Num.ensures.stopped)
 
 pub walk_term-returns-in-Free-clause-walked : goal.walk_term-returns-in-Free-clause-walked
 walk_term-returns-in-Free-clause-walked t c = rw (ap term_of c.in-Free.is ∙ term_of-Free _)
-    (settled_ok _ c.args.w.now c.args.w.now c.settle-in-Free.new.w (free (string_bytes c.in-Free.field-0)) (λ s. []) None c.blame_if-blame.result c.args.dialect (λ s. refl) refl tt
-    (free_parts c.args.w.now (string_bytes c.in-Free.field-0) c.blame_if-blame.result c.args.dialect c.blame_if-blame.ensures)
+    (settled_ok _ c.args.w.now c.args.w.now c.settle-in-Free.new.w (free (string_bytes c.in-Free.field-0)) (λ s. []) None c.blame_if-blame.result (λ s. refl) refl tt
+    (free_parts c.args.w.now (string_bytes c.in-Free.field-0) c.blame_if-blame.result c.blame_if-blame.ensures)
     c.settle-in-Free.ensures.settled)
 
 pub walk_term-returns-in-Free-clause-stopped : goal.walk_term-returns-in-Free-clause-stopped
 walk_term-returns-in-Free-clause-stopped t c = rw (ap term_of c.in-Free.is ∙ term_of-Free _)
-    (settled_err _ c.args.w.now c.args.w.now c.settle-in-Free.new.w (free (string_bytes c.in-Free.field-0)) (λ s. []) None c.blame_if-blame.result c.args.dialect (λ s. refl) refl tt
-    (free_parts c.args.w.now (string_bytes c.in-Free.field-0) c.blame_if-blame.result c.args.dialect c.blame_if-blame.ensures)
+    (settled_err _ c.args.w.now c.args.w.now c.settle-in-Free.new.w (free (string_bytes c.in-Free.field-0)) (λ s. []) None c.blame_if-blame.result (λ s. refl) refl tt
+    (free_parts c.args.w.now (string_bytes c.in-Free.field-0) c.blame_if-blame.result c.blame_if-blame.ensures)
     c.settle-in-Free.ensures.stopped)

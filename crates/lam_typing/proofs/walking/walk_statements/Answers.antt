@@ -5,22 +5,14 @@ use Rattle.lam_typing.proofs.walking.walk_statements.Goals as goal
 
 pub returns-in_err-walk_statement-clause-stopped : goal.returns-in_err-walk_statement-clause-stopped
 returns-in_err-walk_statement-clause-stopped c =
-    stops_at c.from_residual.result _ c.args.w.now c.loop-i.w c.walk_statement.new.w (map statement_of c.args.statements.now) c.args.statements.now c.loop-i.i c.index-statements-i.result c.args.dialect
-    c.loop-i-test.true c.index-statements-i.is c.loop-i.invariant.0 c.from_residual.ensures.1 c.in_err-walk_statement.ensures.stopped
+    stops_at c.from_residual.result _ c.args.w.now c.loop-i.w c.walk_statement.new.w (map statement_of c.args.statements.now) c.args.statements.now c.loop-i.i c.index-statements-i.result
+    c.loop-i-test.true c.index-statements-i.is c.loop-i.invariant c.from_residual.ensures.1 c.in_err-walk_statement.ensures.stopped
 
 pub loop-i-preserved : goal.loop-i-preserved
-loop-i-preserved c = (
-  goes_further c.args.w.now c.loop-i.w c.walk_statement.new.w (map statement_of c.args.statements.now) c.args.statements.now c.loop-i.i c.index-statements-i.result c.args.dialect
-      c.loop-i-test.true c.index-statements-i.is c.loop-i.invariant.0 c.in_ok-walk_statement.ensures.grows c.in_ok-walk_statement.ensures.goes_on,
-  c.walk_statement.ensures.verdicts,
-)
+loop-i-preserved c =
+    goes_further c.args.w.now c.loop-i.w c.walk_statement.new.w (map statement_of c.args.statements.now) c.args.statements.now c.loop-i.i c.index-statements-i.result
+    c.loop-i-test.true c.index-statements-i.is c.loop-i.invariant c.in_ok-walk_statement.ensures.grows c.in_ok-walk_statement.ensures.goes_on
 
 pub returns-clause-went : goal.returns-clause-went
 returns-clause-went c =
-    goes_to_end c.args.w.now c.loop-i.w (map statement_of c.args.statements.now) c.args.statements.now c.loop-i.i c.args.dialect (omega (arith, c.loop-i-test.false)) c.loop-i.invariant.0
-
-pub walk_statement-requires-clause-verdicts : goal.walk_statement-requires-clause-verdicts
-walk_statement-requires-clause-verdicts c = c.loop-i.invariant.1
-
-pub returns-clause-verdicts : goal.returns-clause-verdicts
-returns-clause-verdicts c = c.loop-i.invariant.1
+    goes_to_end c.args.w.now c.loop-i.w (map statement_of c.args.statements.now) c.args.statements.now c.loop-i.i (omega (arith, c.loop-i-test.false)) c.loop-i.invariant
