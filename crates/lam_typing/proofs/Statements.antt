@@ -7,11 +7,10 @@ use Rattle.lam_rules.specs.Types.{Typ}
 use Rattle.lam_rules.specs.Terms.{Term}
 use Rattle.lam_rules.specs.Typing.{IsWellFormedEntry}
 use Rattle.lam_rules.specs.Numbers.{Keeps}
-use Rattle.lam_rules.specs.declared.rules.Dialect.{Dialect}
 use Rattle.lam_rules.specs.declared.numbers.TyNo.{TyNo}
 use Rattle.lam_rules.proofs.Tables.{keeps_same}
-use Rattle.lam_scope.specs.Places.{Scope, written, of_term, places, Statement, defines, declares, abbreviates, states, places_of}
-use Rattle.lam_scope.specs.WellFormed.{IsWellFormedStatement, AreWellFormedStatements}
+use Rattle.lam_scope.specs.Places.{Scope, written, of_term, places, Statement, defines, declares, states, places_of}
+use Rattle.lam_scope.specs.WellFormed.{AreWellFormedStatements}
 use Rattle.lam_scope.specs.Views.{statement_of}
 use Rattle.lam_scope.specs.declared.statement.Statement.{Statement as RustStatement}
 use Rattle.lam_typing.specs.Answers.{answer}
@@ -22,7 +21,7 @@ use Rattle.lam_typing.specs.declared.walking.Stop.{Stop}
 use Rattle.lam_typing.proofs.LeastIn.{lowest_written}
 use Rattle.lam_typing.proofs.Together.{went_none, went_both, went_under}
 use Rattle.lam_typing.proofs.Forms.{lowest_let}
-use Rattle.lam_typing.proofs.Glue.{grows_same, grows_trans, went_from, entries_same, progress_same, under_entry, among_front, among_behind, among_under, among_from}
+use Rattle.lam_typing.proofs.Glue.{grows_trans, went_from, entries_same, progress_same, under_entry, among_front, among_behind, among_under, among_from}
 
 pub goes_on_stated : (w0 w1 : Walk) (e : Term) (found : Option TyNo) → IsSoundWalk w0 → Grows w0 w1 → WalkedOver w0 w1 e found → GoesOn w0 w1 (states e)
 goes_on_stated w0 w1 e found sound grows over =
@@ -74,9 +73,6 @@ goes_on_declared w0 t v w entry sound wf keeps put is =
           (among_from stop (entries_of w1) (w ∷ entries_of w0) (λ s. places_of s rest) w1 w0 now d d under same refl stopped);
     }
 
-pub goes_on_abbreviated : (w0 : Walk) (w : Option Typ) → GoesOn w0 w0 (abbreviates w)
-goes_on_abbreviated w0 w = record { went = λ rest now went. went; stopped = λ rest stop now stopped. stopped }
-
 pub stated_stopped : (w0 w1 : Walk) (e : Term) (rest : List Statement) (stop : Stop) → HasStopped stop w0 w1 e → HasStoppedAmong stop (entries_of w0) (λ s. places_of s (states e ∷ rest)) w0 w1 w0.verdicts.dialect
 stated_stopped w0 w1 e rest stop stopped = among_front stop (entries_of w0) (λ s. places s e) (λ s. places_of s rest) w0 w1 w0.verdicts.dialect stopped
 
@@ -95,15 +91,8 @@ pub record GoesThrough (old now : Walk) (all rest : List Statement) : Type 0 whe
   pub went : (end : Walk) → Went (entries_of now) (λ s. places_of s rest) (progress_of now) (progress_of end) now.verdicts.dialect → Went (entries_of old) (λ s. places_of s all) (progress_of old) (progress_of end) old.verdicts.dialect
   pub stopped : (stop : Stop) (end : Walk) → HasStoppedAmong stop (entries_of now) (λ s. places_of s rest) now end now.verdicts.dialect → HasStoppedAmong stop (entries_of old) (λ s. places_of s all) old end old.verdicts.dialect
 
-pub goes_from : (w : Walk) (all : List Statement) → IsSoundWalk w → AreWellFormedStatements all → GoesThrough w w all all
-goes_from w all sound wf = record { grows = grows_same w sound; wf = wf; went = λ end went. went; stopped = λ stop end stopped. stopped }
-
 next_statement : (xs : List RustStatement) (i : ℕ) (x : RustStatement) → i < length xs → x ≡ get_or xs i x → map statement_of (drop i xs) ≡ statement_of x ∷ map statement_of (drop (i + 1) xs)
 next_statement xs i x lt is = rw add-one (rw (drop-cons xs i x lt) (ap (λ y. statement_of y ∷ map statement_of (drop (suc i) xs)) (sym is)))
-
-pub next_wf : (w0 w1 : Walk) (all : List Statement) (xs : List RustStatement) (i : ℕ) (x : RustStatement) → i < length xs → x ≡ get_or xs i x
-    → GoesThrough w0 w1 all (map statement_of (drop i xs)) → IsWellFormedStatement (statement_of x)
-next_wf w0 w1 all xs i x lt is through = (subst AreWellFormedStatements (next_statement xs i x lt is) through.wf).0
 
 pub goes_further : (w0 w1 w2 : Walk) (all : List Statement) (xs : List RustStatement) (i : ℕ) (x : RustStatement) → i < length xs → x ≡ get_or xs i x
     → GoesThrough w0 w1 all (map statement_of (drop i xs)) → Grows w1 w2 → GoesOn w1 w2 (statement_of x) → GoesThrough w0 w2 all (map statement_of (drop (i + 1) xs))

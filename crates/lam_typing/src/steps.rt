@@ -2,7 +2,7 @@
 //! of subsumption, a join at `if`). A part without a type has no number, and no more has a term whose rule fails.
 
 ghost use Rattle.std.specs.Prelude.{◌≡◌, IfOk, IfSome, IfNone, List, length};
-ghost use Rattle.lam_rules.specs.Types.{Typ, arrow, bool, nat, IsWellFormed};
+ghost use Rattle.lam_rules.specs.Types.{Typ, arrow, bool, nat};
 ghost use Rattle.lam_rules.specs.TermViews.{written_of};
 ghost use Rattle.lam_rules.specs.Typing.{IsWellFormedEntry};
 ghost use Rattle.lam_rules.specs.Numbers.{type_of, Stands, IsNumberOf, Keeps, AreEarlier, fields_over};

@@ -61,7 +61,7 @@ pub(crate) struct Leaves {
 #[derive(Drop)]
 pub(crate) struct Walk {
     pub table: TyTable,
-    /// What is known of the types of the table, in the dialect of the walk: asked again of other terms it costs a look-up.
+    /// What was found of two types of the table, in the walk's dialect: asked again of other terms it costs a look-up.
     pub verdicts: Verdicts,
     pub leaves: Leaves,
     /// The entries of the binders that it is under, the outermost first.

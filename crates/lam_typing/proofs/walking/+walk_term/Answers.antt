@@ -7,8 +7,8 @@ use Rattle.lam_rules.proofs.TermShapes.{term_of-True, term_of-False, term_of-Num
 use Rattle.lam_rules.proofs.Tables.{keeps_same}
 use Rattle.lam_scope.specs.Places.{written, of_term, places, places_in}
 use Rattle.lam_typing.specs.Answers.{answer}
-use Rattle.lam_typing.specs.Steps.{NatRule, LambdaRule, LetRule, RecordRule}
-use Rattle.lam_typing.specs.Progress.{Went, if_all}
+use Rattle.lam_typing.specs.Steps.{LambdaRule, LetRule, RecordRule}
+use Rattle.lam_typing.specs.Progress.{if_all}
 use Rattle.lam_typing.specs.Walk.{entries_of, progress_of}
 use Rattle.lam_typing.proofs.LeastIn.{lowest_written}
 use Rattle.lam_typing.proofs.Growing.{answer_keep, stands_keep}
@@ -124,7 +124,7 @@ walk_apply-returns-in_err-second-clause-stopped t c =
     err_stopped c.from_residual-in_err-second.result _ c.args.w.now c.walk_term-2.new.w (apply (term_of c.args.function.now) (term_of c.args.argument.now)) c.from_residual-in_err-second.ensures.1
     (among_front _ (entries_of c.args.w.now) (λ s. places s (term_of c.args.function.now) ++ places s (term_of c.args.argument.now)) (λ s. record { scope = s; here = (apply (term_of c.args.function.now) (term_of c.args.argument.now)) } ∷ []) c.args.w.now c.walk_term-2.new.w _
     (among_behind _ (entries_of c.args.w.now) (λ s. places s (term_of c.args.function.now)) (λ s. places s (term_of c.args.argument.now)) c.args.w.now c.walk_term.new.w c.walk_term-2.new.w _ c.in_ok-first.ensures.walked.over.went
-    (among_from _ (entries_of c.walk_term.new.w) (entries_of c.args.w.now) (λ s. places s (term_of c.args.argument.now)) c.walk_term.new.w c.walk_term.new.w c.walk_term-2.new.w c.walk_term.new.w.verdicts.dialect c.args.w.now.verdicts.dialect same refl c.in_ok-first.ensures.grows.dialect c.in_err-second.ensures.stopped)))
+    (among_from _ (entries_of c.walk_term.new.w) (entries_of c.args.w.now) (λ s. places s (term_of c.args.argument.now)) c.walk_term.new.w c.walk_term.new.w c.walk_term-2.new.w _ _ same refl c.in_ok-first.ensures.grows.dialect c.in_err-second.ensures.stopped)))
 
 pub walk_apply-returns-clause-walked : goal.walk_apply-returns-clause-walked
 walk_apply-returns-clause-walked t c =
@@ -158,7 +158,7 @@ walk_if-returns-in_err-second-clause-stopped t c =
     (among_front _ (entries_of c.args.w.now) (λ s. (places s (term_of c.args.condition.now) ++ places s (term_of c.args.then_term.now)) ++ places s (term_of c.args.else_term.now)) (λ s. record { scope = s; here = (if_then_else (term_of c.args.condition.now) (term_of c.args.then_term.now) (term_of c.args.else_term.now)) } ∷ []) c.args.w.now c.walk_term-2.new.w _
     (among_front _ (entries_of c.args.w.now) (λ s. places s (term_of c.args.condition.now) ++ places s (term_of c.args.then_term.now)) (λ s. places s (term_of c.args.else_term.now)) c.args.w.now c.walk_term-2.new.w _
     (among_behind _ (entries_of c.args.w.now) (λ s. places s (term_of c.args.condition.now)) (λ s. places s (term_of c.args.then_term.now)) c.args.w.now c.walk_term.new.w c.walk_term-2.new.w _ c.in_ok-first.ensures.walked.over.went
-    (among_from _ (entries_of c.walk_term.new.w) (entries_of c.args.w.now) (λ s. places s (term_of c.args.then_term.now)) c.walk_term.new.w c.walk_term.new.w c.walk_term-2.new.w c.walk_term.new.w.verdicts.dialect c.args.w.now.verdicts.dialect same refl c.in_ok-first.ensures.grows.dialect c.in_err-second.ensures.stopped))))
+    (among_from _ (entries_of c.walk_term.new.w) (entries_of c.args.w.now) (λ s. places s (term_of c.args.then_term.now)) c.walk_term.new.w c.walk_term.new.w c.walk_term-2.new.w _ _ same refl c.in_ok-first.ensures.grows.dialect c.in_err-second.ensures.stopped))))
 
 pub walk_if-returns-in_err-third-clause-stopped : goal.walk_if-returns-in_err-third-clause-stopped
 walk_if-returns-in_err-third-clause-stopped t c =
@@ -167,9 +167,9 @@ walk_if-returns-in_err-third-clause-stopped t c =
     err_stopped c.from_residual-in_err-third.result _ c.args.w.now c.walk_term-3.new.w (if_then_else (term_of c.args.condition.now) (term_of c.args.then_term.now) (term_of c.args.else_term.now)) c.from_residual-in_err-third.ensures.1
     (among_front _ (entries_of c.args.w.now) (λ s. (places s (term_of c.args.condition.now) ++ places s (term_of c.args.then_term.now)) ++ places s (term_of c.args.else_term.now)) (λ s. record { scope = s; here = (if_then_else (term_of c.args.condition.now) (term_of c.args.then_term.now) (term_of c.args.else_term.now)) } ∷ []) c.args.w.now c.walk_term-3.new.w _
     (among_behind _ (entries_of c.args.w.now) (λ s. places s (term_of c.args.condition.now) ++ places s (term_of c.args.then_term.now)) (λ s. places s (term_of c.args.else_term.now)) c.args.w.now c.walk_term-2.new.w c.walk_term-3.new.w _
-    (went_both (entries_of c.args.w.now) (λ s. places s (term_of c.args.condition.now)) (λ s. places s (term_of c.args.then_term.now)) (progress_of c.args.w.now) (progress_of c.walk_term.new.w) (progress_of c.walk_term-2.new.w) c.args.w.now.verdicts.dialect c.in_ok-first.ensures.walked.over.went
-    (went_from (entries_of c.walk_term.new.w) (entries_of c.args.w.now) (λ s. places s (term_of c.args.then_term.now)) (progress_of c.walk_term.new.w) (progress_of c.walk_term.new.w) (progress_of c.walk_term-2.new.w) c.walk_term.new.w.verdicts.dialect c.args.w.now.verdicts.dialect same refl c.in_ok-first.ensures.grows.dialect c.in_ok-second.ensures.walked.over.went))
-    (among_from _ (entries_of c.walk_term-2.new.w) (entries_of c.args.w.now) (λ s. places s (term_of c.args.else_term.now)) c.walk_term-2.new.w c.walk_term-2.new.w c.walk_term-3.new.w c.walk_term-2.new.w.verdicts.dialect c.args.w.now.verdicts.dialect same_2 refl (c.in_ok-second.ensures.grows.dialect ∙ c.in_ok-first.ensures.grows.dialect) c.in_err-third.ensures.stopped)))
+    (went_both (entries_of c.args.w.now) (λ s. places s (term_of c.args.condition.now)) (λ s. places s (term_of c.args.then_term.now)) (progress_of c.args.w.now) (progress_of c.walk_term.new.w) (progress_of c.walk_term-2.new.w) _ c.in_ok-first.ensures.walked.over.went
+    (went_from (entries_of c.walk_term.new.w) (entries_of c.args.w.now) (λ s. places s (term_of c.args.then_term.now)) (progress_of c.walk_term.new.w) (progress_of c.walk_term.new.w) (progress_of c.walk_term-2.new.w) _ _ same refl c.in_ok-first.ensures.grows.dialect c.in_ok-second.ensures.walked.over.went))
+    (among_from _ (entries_of c.walk_term-2.new.w) (entries_of c.args.w.now) (λ s. places s (term_of c.args.else_term.now)) c.walk_term-2.new.w c.walk_term-2.new.w c.walk_term-3.new.w _ _ same_2 refl (c.in_ok-second.ensures.grows.dialect ∙ c.in_ok-first.ensures.grows.dialect) c.in_err-third.ensures.stopped)))
 
 pub walk_if-returns-in_err-found-clause-grows : goal.walk_if-returns-in_err-found-clause-grows
 walk_if-returns-in_err-found-clause-grows t c = stepped_grows c.args.w.now c.walk_term-3.new.w c.chosen.new.table c.chosen.new.verdicts (grows_trans c.args.w.now c.walk_term-2.new.w c.walk_term-3.new.w (grows_trans c.args.w.now c.walk_term.new.w c.walk_term-2.new.w c.in_ok-first.ensures.grows c.in_ok-second.ensures.grows) c.in_ok-third.ensures.grows) c.chosen.ensures.keeps c.chosen.ensures.right c.chosen.ensures.dialect
@@ -253,8 +253,8 @@ pub walk_lambda-returns-in_err-outcome-clause-stopped : goal.walk_lambda-returns
 walk_lambda-returns-in_err-outcome-clause-stopped t c =
     err_stopped c.from_residual-in_err-outcome.result _ c.args.w.now c.walk_term.new.w (lambda (written_of c.args.written.now) (term_of c.args.body.now)) c.from_residual-in_err-outcome.ensures.1
     (among_front _ (entries_of c.args.w.now) (λ s. places (written (written_of c.args.written.now) ∷ s) (term_of c.args.body.now)) (λ s. record { scope = s; here = (lambda (written_of c.args.written.now) (term_of c.args.body.now)) } ∷ []) c.args.w.now c.walk_term.new.w _
-    (among_under _ (written (written_of c.args.written.now)) (written_of c.args.written.now) (entries_of c.args.w.now) (λ s. places s (term_of c.args.body.now)) c.args.w.now c.walk_term.new.w _ (λ s low. lowest_written (written_of c.args.written.now) s (written_of c.args.written.now) (entries_of c.args.w.now) c.args.w.now.verdicts.dialect c.requires.written refl low)
-    (among_from _ (entries_of (record c.args.w.now { table = c.added.new.table; entries = c.push.new.self })) ((written_of c.args.written.now) ∷ entries_of c.args.w.now) (λ s. places s (term_of c.args.body.now)) (record c.args.w.now { table = c.added.new.table; entries = c.push.new.self }) c.args.w.now c.walk_term.new.w c.args.w.now.verdicts.dialect c.args.w.now.verdicts.dialect (under_entry c.args.w.now c.added.new.table c.push.new.self c.in_ok-parameter.parameter (written_of c.args.written.now) c.requires.sound c.added.ensures.keeps c.in_ok-push.ensures.items c.in_ok-parameter.ensures.entry) (progress_same c.args.w.now (record c.args.w.now { table = c.added.new.table; entries = c.push.new.self }) c.requires.sound c.added.ensures.keeps refl refl) refl c.in_err-outcome.ensures.stopped)))
+    (among_under _ (written (written_of c.args.written.now)) (written_of c.args.written.now) (entries_of c.args.w.now) (λ s. places s (term_of c.args.body.now)) c.args.w.now c.walk_term.new.w _ (λ s low. lowest_written (written_of c.args.written.now) s (written_of c.args.written.now) (entries_of c.args.w.now) _ c.requires.written refl low)
+    (among_from _ (entries_of (record c.args.w.now { table = c.added.new.table; entries = c.push.new.self })) ((written_of c.args.written.now) ∷ entries_of c.args.w.now) (λ s. places s (term_of c.args.body.now)) (record c.args.w.now { table = c.added.new.table; entries = c.push.new.self }) c.args.w.now c.walk_term.new.w _ _ (under_entry c.args.w.now c.added.new.table c.push.new.self c.in_ok-parameter.parameter (written_of c.args.written.now) c.requires.sound c.added.ensures.keeps c.in_ok-push.ensures.items c.in_ok-parameter.ensures.entry) (progress_same c.args.w.now (record c.args.w.now { table = c.added.new.table; entries = c.push.new.self }) c.requires.sound c.added.ensures.keeps refl refl) refl c.in_err-outcome.ensures.stopped)))
 
 pub walk_lambda-returns-in_err-found-clause-grows : goal.walk_lambda-returns-in_err-found-clause-grows
 walk_lambda-returns-in_err-found-clause-grows t c = (popped_grows c.args.w.now (record c.args.w.now { table = c.added.new.table; entries = c.push.new.self }) c.walk_term.new.w c.abstracted.new.table c.pop.new.self (pushed_grows c.args.w.now c.added.new.table c.push.new.self c.in_ok-parameter.parameter c.requires.sound c.added.ensures.keeps (inl c.in_ok-push.ensures.items) c.in_ok-parameter.ensures.stands) c.in_ok-outcome.ensures.grows c.abstracted.ensures.keeps (popped_is c.push.new.self c.walk_term.new.w c.pop.new.self c.args.w.now.entries.items c.in_ok-parameter.parameter c.in_ok-push.ensures.items c.in_ok-outcome.ensures.walked.entries c.pop.ensures.rest) c.requires.sound)
@@ -297,7 +297,7 @@ walk_let-returns-in_err-outcome-clause-stopped t c =
     (among_front _ (entries_of c.args.w.now) (λ s. places s (term_of c.args.bound.now) ++ places (of_term (term_of c.args.bound.now) ∷ s) (term_of c.args.body.now)) (λ s. record { scope = s; here = (let_in (term_of c.args.bound.now) (term_of c.args.body.now)) } ∷ []) c.args.w.now c.walk_term-2.new.w _
     (among_behind _ (entries_of c.args.w.now) (λ s. places s (term_of c.args.bound.now)) (λ s. places (of_term (term_of c.args.bound.now) ∷ s) (term_of c.args.body.now)) c.args.w.now c.walk_term.new.w c.walk_term-2.new.w _ c.in_ok-entry.ensures.walked.over.went
     (among_under _ (of_term (term_of c.args.bound.now)) (answer c.walk_term.new.w.table c.in_ok-entry.entry) (entries_of c.args.w.now) (λ s. places s (term_of c.args.body.now)) c.walk_term.new.w c.walk_term-2.new.w _ (lowest_let (term_of c.args.bound.now) (entries_of c.args.w.now) (answer c.walk_term.new.w.table c.in_ok-entry.entry) _ c.in_ok-entry.ensures.walked.over.least)
-    (among_from _ (entries_of (record c.walk_term.new.w { entries = c.push.new.self })) ((answer c.walk_term.new.w.table c.in_ok-entry.entry) ∷ entries_of c.args.w.now) (λ s. places s (term_of c.args.body.now)) (record c.walk_term.new.w { entries = c.push.new.self }) c.walk_term.new.w c.walk_term-2.new.w c.walk_term.new.w.verdicts.dialect c.args.w.now.verdicts.dialect ((under_entry c.walk_term.new.w c.walk_term.new.w.table c.push.new.self c.in_ok-entry.entry (answer c.walk_term.new.w.table c.in_ok-entry.entry) c.in_ok-entry.ensures.grows.sound (keeps_same c.walk_term.new.w.table) c.in_ok-push.ensures.items refl) ∙ ap (λ g. (answer c.walk_term.new.w.table c.in_ok-entry.entry) ∷ g) (entries_same c.args.w.now c.walk_term.new.w c.requires.sound c.in_ok-entry.ensures.grows.keeps c.in_ok-entry.ensures.walked.entries)) refl c.in_ok-entry.ensures.grows.dialect c.in_err-outcome.ensures.stopped))))
+    (among_from _ (entries_of (record c.walk_term.new.w { entries = c.push.new.self })) ((answer c.walk_term.new.w.table c.in_ok-entry.entry) ∷ entries_of c.args.w.now) (λ s. places s (term_of c.args.body.now)) (record c.walk_term.new.w { entries = c.push.new.self }) c.walk_term.new.w c.walk_term-2.new.w _ _ ((under_entry c.walk_term.new.w c.walk_term.new.w.table c.push.new.self c.in_ok-entry.entry (answer c.walk_term.new.w.table c.in_ok-entry.entry) c.in_ok-entry.ensures.grows.sound (keeps_same c.walk_term.new.w.table) c.in_ok-push.ensures.items refl) ∙ ap (λ g. (answer c.walk_term.new.w.table c.in_ok-entry.entry) ∷ g) (entries_same c.args.w.now c.walk_term.new.w c.requires.sound c.in_ok-entry.ensures.grows.keeps c.in_ok-entry.ensures.walked.entries)) refl c.in_ok-entry.ensures.grows.dialect c.in_err-outcome.ensures.stopped))))
 
 pub walk_let-settle-requires-clause-sound : goal.walk_let-settle-requires-clause-sound
 walk_let-settle-requires-clause-sound t c = (popped_grows c.walk_term.new.w (record c.walk_term.new.w { entries = c.push.new.self }) c.walk_term-2.new.w c.walk_term-2.new.w.table c.pop.new.self (pushed_grows c.walk_term.new.w c.walk_term.new.w.table c.push.new.self c.in_ok-entry.entry c.in_ok-entry.ensures.grows.sound (keeps_same c.walk_term.new.w.table) (inl c.in_ok-push.ensures.items) c.in_ok-entry.ensures.walked.stands) c.in_ok-outcome.ensures.grows (keeps_same c.walk_term-2.new.w.table) (popped_is c.push.new.self c.walk_term-2.new.w c.pop.new.self c.walk_term.new.w.entries.items c.in_ok-entry.entry c.in_ok-push.ensures.items c.in_ok-outcome.ensures.walked.entries c.pop.ensures.rest) c.in_ok-entry.ensures.grows.sound).sound
@@ -373,49 +373,49 @@ walk_fields-returns-clause-stopped t c = rw (ap terms_of c.in-Some.ensures.cases
 pub walk_term-returns-in-True-clause-walked : goal.walk_term-returns-in-True-clause-walked
 walk_term-returns-in-True-clause-walked t c = rw (ap term_of c.in-True.is ∙ term_of-True)
     (settled_ok _ c.args.w.now c.args.w.now c.settle.new.w true_term (λ s. []) (Some c.args.w.now.leaves.boolean) None (λ s. refl) refl c.requires.sound.boolean.stands
-    (leaf_parts c.args.w.now true_term c.args.w.now.leaves.boolean bool c.requires.sound.boolean (true_ready (entries_of c.args.w.now) (progress_of c.args.w.now) c.args.w.now.verdicts.dialect))
+    (leaf_parts c.args.w.now true_term c.args.w.now.leaves.boolean bool c.requires.sound.boolean (true_ready (entries_of c.args.w.now) (progress_of c.args.w.now) _))
     c.settle.ensures.settled)
 
 pub walk_term-returns-in-True-clause-stopped : goal.walk_term-returns-in-True-clause-stopped
 walk_term-returns-in-True-clause-stopped t c = rw (ap term_of c.in-True.is ∙ term_of-True)
     (settled_err _ c.args.w.now c.args.w.now c.settle.new.w true_term (λ s. []) (Some c.args.w.now.leaves.boolean) None (λ s. refl) refl c.requires.sound.boolean.stands
-    (leaf_parts c.args.w.now true_term c.args.w.now.leaves.boolean bool c.requires.sound.boolean (true_ready (entries_of c.args.w.now) (progress_of c.args.w.now) c.args.w.now.verdicts.dialect))
+    (leaf_parts c.args.w.now true_term c.args.w.now.leaves.boolean bool c.requires.sound.boolean (true_ready (entries_of c.args.w.now) (progress_of c.args.w.now) _))
     c.settle.ensures.stopped)
 
 pub walk_term-returns-in-False-clause-walked : goal.walk_term-returns-in-False-clause-walked
 walk_term-returns-in-False-clause-walked t c = rw (ap term_of c.in-False.is ∙ term_of-False)
     (settled_ok _ c.args.w.now c.args.w.now c.settle-in-False.new.w false_term (λ s. []) (Some c.args.w.now.leaves.boolean) None (λ s. refl) refl c.requires.sound.boolean.stands
-    (leaf_parts c.args.w.now false_term c.args.w.now.leaves.boolean bool c.requires.sound.boolean (false_ready (entries_of c.args.w.now) (progress_of c.args.w.now) c.args.w.now.verdicts.dialect))
+    (leaf_parts c.args.w.now false_term c.args.w.now.leaves.boolean bool c.requires.sound.boolean (false_ready (entries_of c.args.w.now) (progress_of c.args.w.now) _))
     c.settle-in-False.ensures.settled)
 
 pub walk_term-returns-in-False-clause-stopped : goal.walk_term-returns-in-False-clause-stopped
 walk_term-returns-in-False-clause-stopped t c = rw (ap term_of c.in-False.is ∙ term_of-False)
     (settled_err _ c.args.w.now c.args.w.now c.settle-in-False.new.w false_term (λ s. []) (Some c.args.w.now.leaves.boolean) None (λ s. refl) refl c.requires.sound.boolean.stands
-    (leaf_parts c.args.w.now false_term c.args.w.now.leaves.boolean bool c.requires.sound.boolean (false_ready (entries_of c.args.w.now) (progress_of c.args.w.now) c.args.w.now.verdicts.dialect))
+    (leaf_parts c.args.w.now false_term c.args.w.now.leaves.boolean bool c.requires.sound.boolean (false_ready (entries_of c.args.w.now) (progress_of c.args.w.now) _))
     c.settle-in-False.ensures.stopped)
 
 pub walk_term-returns-in-Unit-clause-walked : goal.walk_term-returns-in-Unit-clause-walked
 walk_term-returns-in-Unit-clause-walked t c = rw (ap term_of c.in-Unit.is ∙ term_of-Unit)
     (settled_ok _ c.args.w.now c.args.w.now c.settle-in-Unit.new.w unit_term (λ s. []) (Some c.args.w.now.leaves.unit) None (λ s. refl) refl c.requires.sound.unit.stands
-    (leaf_parts c.args.w.now unit_term c.args.w.now.leaves.unit unit c.requires.sound.unit (unit_ready (entries_of c.args.w.now) (progress_of c.args.w.now) c.args.w.now.verdicts.dialect))
+    (leaf_parts c.args.w.now unit_term c.args.w.now.leaves.unit unit c.requires.sound.unit (unit_ready (entries_of c.args.w.now) (progress_of c.args.w.now) _))
     c.settle-in-Unit.ensures.settled)
 
 pub walk_term-returns-in-Unit-clause-stopped : goal.walk_term-returns-in-Unit-clause-stopped
 walk_term-returns-in-Unit-clause-stopped t c = rw (ap term_of c.in-Unit.is ∙ term_of-Unit)
     (settled_err _ c.args.w.now c.args.w.now c.settle-in-Unit.new.w unit_term (λ s. []) (Some c.args.w.now.leaves.unit) None (λ s. refl) refl c.requires.sound.unit.stands
-    (leaf_parts c.args.w.now unit_term c.args.w.now.leaves.unit unit c.requires.sound.unit (unit_ready (entries_of c.args.w.now) (progress_of c.args.w.now) c.args.w.now.verdicts.dialect))
+    (leaf_parts c.args.w.now unit_term c.args.w.now.leaves.unit unit c.requires.sound.unit (unit_ready (entries_of c.args.w.now) (progress_of c.args.w.now) _))
     c.settle-in-Unit.ensures.stopped)
 
 pub walk_term-returns-in-Num-clause-walked : goal.walk_term-returns-in-Num-clause-walked
 walk_term-returns-in-Num-clause-walked t c = rw (ap term_of c.in-Num.is ∙ term_of-Num _)
     (settled_ok _ c.args.w.now c.args.w.now c.settle-in-Num.new.w (numeral (string_bytes c.in-Num.field-0)) (λ s. []) (Some c.args.w.now.leaves.natural) None (λ s. refl) refl c.requires.sound.natural.stands
-    (leaf_parts c.args.w.now (numeral (string_bytes c.in-Num.field-0)) c.args.w.now.leaves.natural nat c.requires.sound.natural (numeral_ready (entries_of c.args.w.now) _ (progress_of c.args.w.now) c.args.w.now.verdicts.dialect))
+    (leaf_parts c.args.w.now (numeral (string_bytes c.in-Num.field-0)) c.args.w.now.leaves.natural nat c.requires.sound.natural (numeral_ready (entries_of c.args.w.now) _ (progress_of c.args.w.now) _))
     c.settle-in-Num.ensures.settled)
 
 pub walk_term-returns-in-Num-clause-stopped : goal.walk_term-returns-in-Num-clause-stopped
 walk_term-returns-in-Num-clause-stopped t c = rw (ap term_of c.in-Num.is ∙ term_of-Num _)
     (settled_err _ c.args.w.now c.args.w.now c.settle-in-Num.new.w (numeral (string_bytes c.in-Num.field-0)) (λ s. []) (Some c.args.w.now.leaves.natural) None (λ s. refl) refl c.requires.sound.natural.stands
-    (leaf_parts c.args.w.now (numeral (string_bytes c.in-Num.field-0)) c.args.w.now.leaves.natural nat c.requires.sound.natural (numeral_ready (entries_of c.args.w.now) _ (progress_of c.args.w.now) c.args.w.now.verdicts.dialect))
+    (leaf_parts c.args.w.now (numeral (string_bytes c.in-Num.field-0)) c.args.w.now.leaves.natural nat c.requires.sound.natural (numeral_ready (entries_of c.args.w.now) _ (progress_of c.args.w.now) _))
     c.settle-in-Num.ensures.stopped)
 
 pub walk_term-returns-in-Free-clause-walked : goal.walk_term-returns-in-Free-clause-walked
