@@ -127,7 +127,7 @@ pub(crate) fn walk_term(w: &mut Walk, term: &Core) -> Result<Option<TyNo>, Stop>
     match term {
         Core::True => settle(w, Some(w.leaves.boolean), None),
         Core::False => settle(w, Some(w.leaves.boolean), None),
-        Core::If(condition, then_term, else_term) => { walk_if(w, condition, then_term, else_term) }
+        Core::If(condition, then_term, else_term) => walk_if(w, condition, then_term, else_term),
         Core::Num(_) => settle(w, Some(w.leaves.natural), None),
         Core::Succ(operand) => walk_succ(w, operand),
         Core::Pred(operand) => walk_pred(w, operand),
