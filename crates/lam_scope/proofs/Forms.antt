@@ -1,6 +1,12 @@
 -- How nameless forms are made.
-use Rattle.std.proofs.Common.{◌≡◌, ℕ, ◌≤◌, List, [], ◌∷◌, ◌++◌, length, drop, refl, ap, sym, ◌∙◌, String, string_bytes}
-use Rattle.std.proofs.lemmas.List.{drop_all}
+use Rattle.std.proofs.Common.{◌≡◌, ℕ, ◌+◌, ◌≤◌, min, ltb, Bool, true, false, Option, Some, None, List, [], ◌∷◌, ◌++◌, length, drop, refl, ap, sym, ◌∙◌, append_assoc, arith, String, string_bytes}
+use Rattle.std.specs.Prelude.{if◌then◌else◌}
+use Rattle.std.specs.Option.{option_or}
+use Rattle.std.proofs.lemmas.List.{append-nil, drop_all}
+use Rattle.std.proofs.lemmas.Bool.Decides.{nat_tests}
+use Rattle.lam_token.specs.declared.span.Span.{Span}
+use Rattle.lam_rules.specs.Types.{Typ, nodes}
+use Rattle.lam_syntax.specs.Trees.{TypeTree, type_span}
 use Rattle.std.specs.declared.alloc.Global.{Global}
 use Rattle.lam_rules.specs.declared.terms.Core.{Core}
 use Rattle.lam_rules.specs.Terms.{TermFields, no_terms, term_field}
@@ -9,7 +15,8 @@ use Rattle.lam_rules.proofs.TermShapes.{term_of-True, term_of-False, term_of-If,
 use Rattle.lam_syntax.proofs.Shapes.{term_node_of-True, term_node_of-False, term_node_of-Unit, term_node_of-Variable, term_node_of-Numeral, term_node_of-Lambda, term_node_of-If, term_node_of-Let, term_node_of-Letrec, term_node_of-Prefixed, term_node_of-Apply, term_node_of-Project, term_node_of-Ascribe, term_node_of-Record}
 use Rattle.lam_syntax.specs.declared.terms.TmField.{TmField}
 use Rattle.lam_syntax.specs.Views.{fields_of}
-use Rattle.lam_scope.specs.Expansions.{Abbreviation}
+use Rattle.lam_scope.specs.Expansions.{Abbreviation, node_limit, expansion, type_faults, is_over_limit, capped_nodes, is_capped}
+use Rattle.lam_scope.specs.Nameless.{faults_in, first_over_limit}
 use Rattle.lam_scope.specs.Counted.{counted_fields}
 use Rattle.lam_scope.specs.Tables.{TextUse}
 use Rattle.lam_scope.proofs.Walks.{fields_of-drop}
@@ -32,4 +39,28 @@ pub forms_all : (bs : List Abbreviation) (us : List TextUse) (forms : List (Stri
     → joined_terms (terms_of forms) (counted_fields bs (fields_of (drop i fs)) us) ≡ all → terms_of forms ≡ all
 forms_all bs us forms fs i all le so_far = sym (joined_terms-none (terms_of forms)) ∙ (rw (drop_all i fs le) at so_far)
 
-pub ruleset forms = (term_of-True, term_of-False, term_of-If, term_of-Num, term_of-Succ, term_of-Pred, term_of-IsZero, term_of-Var, term_of-Free, term_of-Abs, term_of-App, term_of-Unit, term_of-Ascribe, term_of-Let, term_of-Record, term_of-Proj, term_of-Fix, term_node_of-True, term_node_of-False, term_node_of-Unit, term_node_of-Variable, term_node_of-Numeral, term_node_of-Lambda, term_node_of-If, term_node_of-Let, term_node_of-Letrec, term_node_of-Prefixed, term_node_of-Apply, term_node_of-Project, term_node_of-Ascribe, term_node_of-Record, fields_of-drop, joined_terms-none, joined_terms-push)
+-- the written types of a term
+
+ltb-capped : (n : ℕ) → ltb node_limit (min n (node_limit + 1)) ≡ ltb node_limit n
+ltb-capped n = grind (arith, nat_tests)
+
+pub is_capped-nodes : (o : Option Typ) → is_capped (capped_nodes o) ≡ is_over_limit o
+is_capped-nodes None = refl
+is_capped-nodes (Some t) = ltb-capped (nodes t)
+
+pub faults_in-append : (bs : List Abbreviation) (us vs : List TypeTree) → faults_in bs (us ++ vs) ≡ faults_in bs us ++ faults_in bs vs
+faults_in-append bs [] vs = refl
+faults_in-append bs (u ∷ us) vs = ap (λ fs. type_faults bs u ++ fs) (faults_in-append bs us vs) ∙ sym (append_assoc (type_faults bs u) (faults_in bs us) (faults_in bs vs))
+
+-- the first that is too large, where another is
+or_else : (c : Bool) (s : Span) (o p : Option Span) → (if c then Some s else option_or o p) ≡ option_or (if c then Some s else o) p
+or_else true s o p = refl
+or_else false s o p = refl
+
+pub over_limit-append : (bs : List Abbreviation) (us vs : List TypeTree) → first_over_limit bs (us ++ vs) ≡ option_or (first_over_limit bs us) (first_over_limit bs vs)
+over_limit-append bs [] vs = refl
+over_limit-append bs (u ∷ us) vs =
+    ap (λ o. if is_over_limit (expansion bs u) then Some (type_span u) else o) (over_limit-append bs us vs)
+    ∙ or_else (is_over_limit (expansion bs u)) (type_span u) (first_over_limit bs us) (first_over_limit bs vs)
+
+pub ruleset forms = (term_of-True, term_of-False, term_of-If, term_of-Num, term_of-Succ, term_of-Pred, term_of-IsZero, term_of-Var, term_of-Free, term_of-Abs, term_of-App, term_of-Unit, term_of-Ascribe, term_of-Let, term_of-Record, term_of-Proj, term_of-Fix, term_node_of-True, term_node_of-False, term_node_of-Unit, term_node_of-Variable, term_node_of-Numeral, term_node_of-Lambda, term_node_of-If, term_node_of-Let, term_node_of-Letrec, term_node_of-Prefixed, term_node_of-Apply, term_node_of-Project, term_node_of-Ascribe, term_node_of-Record, fields_of-drop, joined_terms-none, joined_terms-push, is_capped-nodes, over_limit-append, faults_in-append, append-nil, append_assoc)

@@ -1,36 +1,22 @@
 -- How commands are resolved one after the other.
 use Rattle.std.proofs.Common.{◌≡◌, ℕ, ◌+◌, ◌<◌, min, ltb, List, [], ◌∷◌, ◌++◌, length, drop, get_or, suc, refl, ap, sym, ◌∙◌, drop-cons, add-one, append_assoc, map, Bor, Bool, true, false, Option, Some, None, arith}
 use Rattle.std.proofs.lemmas.List.{append-nil, drop_all}
-use Rattle.std.proofs.lemmas.Bool.Decides.{nat_tests}
-use Rattle.lam_rules.specs.Types.{Typ, nodes}
-use Rattle.lam_syntax.specs.declared.types.WrittenTy.{WrittenTy}
 use Rattle.lam_token.specs.declared.span.Span.{Span}
 use Rattle.lam_syntax.specs.declared.terms.Command.{Command}
 use Rattle.lam_syntax.specs.Trees.{CommandTree}
-use Rattle.lam_syntax.specs.Views.{type_of, command_of}
+use Rattle.lam_syntax.specs.Views.{command_of}
 use Rattle.lam_scope.specs.declared.statement.Statement.{Statement as RustStatement}
-use Rattle.lam_scope.specs.Expansions.{Abbreviation, node_limit, is_over_limit, capped_nodes, is_capped}
+use Rattle.lam_scope.specs.Expansions.{Abbreviation}
 use Rattle.lam_scope.specs.Nameless.{first_over_limit, first_too_large, abbreviations_after, written_in_command}
 use Rattle.lam_scope.specs.declared.rows.BinderRow.{BinderRow}
 use Rattle.lam_scope.specs.TableViews.{text_binder}
-use Rattle.lam_scope.specs.Views.{statement_of, written_trees}
-
-pub written_trees-drop : (us : List (Bor WrittenTy)) (i : ℕ) (u : Bor WrittenTy) → i < length us → u ≡ get_or us i u
-    → written_trees (drop i us) ≡ type_of u.now ∷ written_trees (drop (i + 1) us)
-written_trees-drop us i u lt is = rw add-one (rw (drop-cons us i u lt) (ap (λ v. type_of v.now ∷ written_trees (drop (suc i) us)) (sym is)))
-
-ltb-capped : (n : ℕ) → ltb node_limit (min n (node_limit + 1)) ≡ ltb node_limit n
-ltb-capped n = grind (arith, nat_tests)
-
-pub is_capped-nodes : (o : Option Typ) → is_capped (capped_nodes o) ≡ is_over_limit o
-is_capped-nodes None = refl
-is_capped-nodes (Some t) = ltb-capped (nodes t)
+use Rattle.lam_scope.specs.Views.{statement_of}
 
 pub statements-push : (ss : List RustStatement) (s : RustStatement) → map statement_of (ss ++ s ∷ []) ≡ map statement_of ss ++ statement_of s ∷ []
 statements-push [] s = refl
 statements-push (r ∷ ss) s = ap (λ rs. statement_of r ∷ rs) (statements-push ss s)
 
-pub ruleset resolving = (written_trees-drop, is_capped-nodes, statements-push, append-nil, append_assoc)
+pub ruleset resolving = (statements-push, append-nil, append_assoc)
 
 pub commands-drop : (cs : List Command) (i : ℕ) (c : Command) → i < length cs → c ≡ get_or cs i c
     → map command_of (drop i cs) ≡ command_of c ∷ map command_of (drop (i + 1) cs)

@@ -11,7 +11,7 @@ use Rattle.lam_scope.specs.declared.rows.BinderRow.{BinderRow}
 use Rattle.lam_scope.specs.declared.numbers.Place.{Place}
 use Rattle.lam_scope.specs.declared.rows.PlaceRow.{PlaceRow}
 use Rattle.lam_scope.specs.declared.rows.UseRow.{UseRow}
-use Rattle.lam_scope.specs.TableViews.{text_binder, text_use, text_place, text_places, terms_start, binder_number, binder_of}
+use Rattle.lam_scope.specs.TableViews.{text_binder, text_use, text_place, text_places, terms_start, binder_of}
 use Rattle.lam_scope.specs.Slices.{first_start}
 use Rattle.lam_scope.specs.Stretches.{has, no_bytes, one_byte}
 use Rattle.lam_scope.specs.RowStretches.{place_stretch, binder_stretch, use_stretch, answer_at, used_at}

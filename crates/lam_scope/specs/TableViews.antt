@@ -1,5 +1,5 @@
 -- How the rows of the tables and the binders that are seen stand for those of the definitions.
-use Rattle.std.specs.Prelude.{List, [], ◌∷◌, ℕ, zero, suc, map, Option}
+use Rattle.std.specs.Prelude.{List, [], ◌∷◌, ℕ, zero, suc, map}
 use Rattle.std.specs.Option.{option_map}
 use Rattle.lam_syntax.specs.Letters.{letters}
 use Rattle.lam_scope.specs.declared.numbers.Binder.{Binder}

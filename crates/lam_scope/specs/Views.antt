@@ -1,6 +1,5 @@
 -- What the values of this crate stand for.
 use Rattle.std.specs.Prelude.{List, length, map, Option, Some, None, Result, Ok, Err, ◌≡◌, Vec, String}
-use Rattle.std.specs.Borrow.{Bor}
 use Rattle.std.specs.Option.{option_map}
 use Rattle.std.specs.declared.alloc.Global.{Global}
 use Rattle.lam_rules.specs.Types.{Fields}
@@ -10,9 +9,7 @@ use Rattle.lam_rules.specs.TermViews.{term_of, written_of}
 use Rattle.lam_scope.specs.declared.statement.Statement.{Statement as RustStatement}
 use Rattle.lam_scope.specs.declared.statement.Statement.TheVariants as rust
 use Rattle.lam_scope.specs.declared.abbreviations.Abbreviations.{Abbreviations}
-use Rattle.lam_syntax.specs.Trees.{TypeTree, CommandTree}
-use Rattle.lam_syntax.specs.Views.{type_of}
-use Rattle.lam_syntax.specs.declared.types.WrittenTy.{WrittenTy}
+use Rattle.lam_syntax.specs.Trees.{CommandTree}
 use Rattle.lam_token.specs.declared.span.Span.{Span}
 use Rattle.lam_scope.specs.declared.fault.ScopeFault.{ScopeFault}
 use Rattle.lam_scope.specs.declared.fault.ScopeFault.TheVariants as faults
@@ -65,10 +62,6 @@ abbreviations_of a = abbreviations_in a.items.items
 -- the fields of a record type, if it is not faulty
 abbrev pub expanded_fields_of : Option (Vec (String Global × Ty) Global) → Option Fields
 expanded_fields_of = option_map (λ v. fields_of v.items)
-
--- written types, as they stand in the text
-abbrev pub written_trees : List (Bor WrittenTy) → List TypeTree
-written_trees = map (λ t. type_of t.now)
 
 -- what an answer says of the first written type that is too large: a fault names it, a value says that there is none
 abbrev pub IsLimit : {T : Type 0} → Option Span → Result T ScopeFault → Type 0

@@ -37,9 +37,7 @@ pub fn resolve(alloc: Global, commands: &[Command], scopes: &Scopes) -> Result<R
     } = resolve_all(alloc, commands, &scopes.rows.uses)?;
     // They are dropped before there is one list more: memory is at its peak here.
     drop(abbreviations);
-    let Ok(origins) = origins_in(alloc, &scopes.rows.binders) else {
-        return Err(ScopeFault::Memory);
-    };
+    let origins = origins_in(alloc, &scopes.rows.binders)?;
     Ok(Resolved {
         statements,
         origins,
@@ -58,9 +56,7 @@ fn resolve_all<'a>(
     ensures faults { IfOk result (λ r. r.faults.items ≡ faults [] (map command_of commands.now)) }
     ensures limit { IsLimit (first_too_large [] (map command_of commands.now)) result }
 {
-    let Ok(mut resolver) = Resolver::with_capacity(alloc, commands.len(), uses) else {
-        return Err(ScopeFault::Memory);
-    };
+    let mut resolver = Resolver::with_capacity(alloc, commands.len(), uses)?;
     for i in 0..commands.len() {
         let command = &commands[i];
         resolver.add(alloc, command)?;

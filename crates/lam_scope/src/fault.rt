@@ -1,5 +1,9 @@
 //! What can be wrong with written types.
+ghost use Rattle.std.specs.Prelude.{◌≡◌};
+ghost use Rattle.lam_scope.specs.declared.fault.ScopeFault.TheVariants.{Memory};
+
 use lam_token::Span;
+use std::alloc::{AllocError, AllocFailed};
 
 /// A fault of a written type, at its token.
 #[derive(Clone, Copy, Debug, PartialEq, Eq)]
@@ -16,4 +20,20 @@ pub enum ScopeFault {
     /// The written type there is the first whose expansion has more than 4,096 nodes.
     TooLarge(Span),
     Memory,
+}
+
+impl From<AllocError> for ScopeFault {
+    ghost from_gives = { λ _ fault. fault ≡ Memory };
+
+    fn from(_refused: AllocError) -> ScopeFault {
+        ScopeFault::Memory
+    }
+}
+
+impl<T: Drop> From<AllocFailed<T>> for ScopeFault {
+    ghost from_gives = { λ _ fault. fault ≡ Memory };
+
+    fn from(_refused: AllocFailed<T>) -> ScopeFault {
+        ScopeFault::Memory
+    }
 }

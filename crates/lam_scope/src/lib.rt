@@ -31,7 +31,6 @@ mod token_lists;
 mod use_chains;
 mod uses_left;
 mod walk;
-mod written;
 
 pub use binding::bind;
 pub use document::resolve;

@@ -1,22 +1,24 @@
 //! The nameless forms of terms. Each level of nesting takes the frame of the match and of one arm, so that the deepest
 //! term of a command fits on the stack.
-ghost use Rattle.std.specs.Prelude.{◌≡◌, IfOk, OnOk};
+ghost use Rattle.std.specs.Prelude.{◌≡◌, ◌++◌, ◌∷◌, [], IfOk, OnOk};
 ghost use Rattle.lam_syntax.specs.Letters.{letters};
-ghost use Rattle.lam_rules.specs.TermViews.{term_of, terms_of};
+ghost use Rattle.lam_rules.specs.TermViews.{term_of, terms_of, written_of};
 ghost use Rattle.lam_rules.specs.Terms.{numeral, record_term};
 ghost use Rattle.lam_syntax.specs.Trees.{lambda, if_term, let_term, letrec_term, prefixed as prefixed_term, apply, project, ascribe};
 ghost use Rattle.lam_syntax.specs.Views.{term_of as tree_of, fields_of, bound_of, word_of, type_of};
-ghost use Rattle.lam_scope.specs.Counted.{first_between, past_first, past, past_node, past_fields, counted, counted_node, counted_fields};
-ghost use Rattle.lam_scope.specs.Nameless.{use_counted, prefixed};
-ghost use Rattle.lam_scope.specs.Views.{abbreviations_of};
+ghost use Rattle.lam_scope.specs.Counted.{first_between, past_first, past_type, past, past_node, past_fields, counted, counted_node, counted_fields};
+ghost use Rattle.lam_scope.specs.Expansions.{expansion, type_faults, is_capped};
+ghost use Rattle.lam_scope.specs.Nameless.{use_counted, prefixed, written_in, written_in_node, written_in_fields, faults_in, first_over_limit};
+ghost use Rattle.lam_scope.specs.Views.{abbreviations_of, IsLimit};
 
 use crate::abbreviations::Abbreviations;
-use crate::expansion::expand;
+use crate::expansion::{NODE_LIMIT, collect_faults, expand, expanded_size};
+use crate::fault::{ScopeFault, TypeFault};
 use crate::uses_left::{UsesLeft, pass_type};
-use lam_rules::{Core, make_letrec};
+use lam_rules::{Core, Ty, make_letrec};
 use lam_syntax::{
     Application, Ascription, Conditional, Identifier, Lambda, Let, Letrec, Prefix, Projection, Tm,
-    TmField, TmNode,
+    TmField, TmNode, WrittenTy,
 };
 use std::alloc::{AllocError, Global};
 
@@ -28,26 +30,64 @@ pub(crate) fn nameless(
     alloc: Global,
     seen: &Abbreviations<'_>,
     uses: &mut UsesLeft<'_>,
+    faults: &mut Vec<TypeFault>,
     term: &Tm,
-) -> Result<Core, AllocError>
+) -> Result<Core, ScopeFault>
     ensures form { IfOk result (λ e. term_of e ≡ counted (abbreviations_of seen.now) (tree_of term.now) uses.old) }
     ensures uses { OnOk result (uses.new ≡ past (tree_of term.now) uses.old) }
+    ensures faults { OnOk result (faults.new.items ≡ faults.old.items ++ faults_in (abbreviations_of seen.now) (written_in (tree_of term.now))) }
+    ensures limit { IsLimit (first_over_limit (abbreviations_of seen.now) (written_in (tree_of term.now))) result }
 {
     match &term.node {
         TmNode::True => Ok(Core::True),
         TmNode::False => Ok(Core::False),
         TmNode::Unit => Ok(Core::Unit),
-        TmNode::Variable(name) => use_of(alloc, name, uses),
-        TmNode::Numeral(digits) => numeral_of(alloc, digits),
-        TmNode::Lambda(lambda) => lambda_of(alloc, seen, uses, lambda),
-        TmNode::If(conditional) => if_of(alloc, seen, uses, conditional),
-        TmNode::Let(parts) => let_of(alloc, seen, uses, parts),
-        TmNode::Letrec(parts) => letrec_of(alloc, seen, uses, parts),
-        TmNode::Prefixed(prefix, operand) => prefixed_of(alloc, seen, uses, *prefix, operand),
-        TmNode::Apply(application) => apply_of(alloc, seen, uses, application),
-        TmNode::Project(projection) => project_of(alloc, seen, uses, projection),
-        TmNode::Ascribe(ascription) => ascribe_of(alloc, seen, uses, ascription),
-        TmNode::Record(fields) => record_of(alloc, seen, uses, fields),
+        TmNode::Variable(name) => Ok(use_of(alloc, name, uses)?),
+        TmNode::Numeral(digits) => Ok(numeral_of(alloc, digits)?),
+        TmNode::Lambda(lambda) => lambda_of(alloc, seen, uses, faults, lambda),
+        TmNode::If(conditional) => if_of(alloc, seen, uses, faults, conditional),
+        TmNode::Let(parts) => let_of(alloc, seen, uses, faults, parts),
+        TmNode::Letrec(parts) => letrec_of(alloc, seen, uses, faults, parts),
+        TmNode::Prefixed(prefix, operand) => prefixed_of(
+            alloc, seen, uses, faults, *prefix, operand,
+        ),
+        TmNode::Apply(application) => apply_of(alloc, seen, uses, faults, application),
+        TmNode::Project(projection) => project_of(alloc, seen, uses, faults, projection),
+        TmNode::Ascribe(ascription) => ascribe_of(alloc, seen, uses, faults, ascription),
+        TmNode::Record(fields) => record_of(alloc, seen, uses, faults, fields),
+    }
+}
+
+/// What a written type stands for. Its uses are passed, and its faults are put behind those before it. Where it is too
+/// large that is told of its size, and nothing of it is built.
+#[tactic(auto, using(crate::proofs::Forms::forms))]
+pub(crate) fn nameless_type(
+    alloc: Global,
+    seen: &Abbreviations<'_>,
+    uses: &mut UsesLeft<'_>,
+    faults: &mut Vec<TypeFault>,
+    ty: &WrittenTy,
+) -> Result<Option<Ty>, ScopeFault>
+    ensures expansion { IfOk result (λ e. written_of e ≡ expansion (abbreviations_of seen.now) (type_of ty.now)) }
+    ensures uses { OnOk result (uses.new ≡ past_type (type_of ty.now) uses.old) }
+    ensures faults { OnOk result (faults.new.items ≡ faults.old.items ++ type_faults (abbreviations_of seen.now) (type_of ty.now)) }
+    ensures limit { IsLimit (first_over_limit (abbreviations_of seen.now) (type_of ty.now ∷ [])) result }
+{
+    if is_over_limit(expanded_size(seen, ty)) {
+        return Err(ScopeFault::TooLarge(ty.span));
+    }
+    collect_faults(seen, ty, faults)?;
+    let expansion = expand(alloc, seen, ty)?;
+    pass_type(uses, ty);
+    Ok(expansion)
+}
+
+fn is_over_limit(size: Option<u64>) -> bool
+    ensures { result ≡ is_capped size }
+{
+    match size {
+        None => false,
+        Some(nodes) => nodes > NODE_LIMIT,
     }
 }
 
@@ -58,12 +98,15 @@ fn boxed(
     alloc: Global,
     seen: &Abbreviations<'_>,
     uses: &mut UsesLeft<'_>,
+    faults: &mut Vec<TypeFault>,
     term: &Tm,
-) -> Result<Box<Core>, AllocError>
+) -> Result<Box<Core>, ScopeFault>
     ensures form { IfOk result (λ e. term_of e.value ≡ counted (abbreviations_of seen.now) (tree_of term.now) uses.old) }
     ensures uses { OnOk result (uses.new ≡ past (tree_of term.now) uses.old) }
+    ensures faults { OnOk result (faults.new.items ≡ faults.old.items ++ faults_in (abbreviations_of seen.now) (written_in (tree_of term.now))) }
+    ensures limit { IsLimit (first_over_limit (abbreviations_of seen.now) (written_in (tree_of term.now))) result }
 {
-    let form = nameless(alloc, seen, uses, term)?;
+    let form = nameless(alloc, seen, uses, faults, term)?;
     let part = Box::new(alloc, form)?;
     Ok(part)
 }
@@ -74,14 +117,16 @@ fn lambda_of(
     alloc: Global,
     seen: &Abbreviations<'_>,
     uses: &mut UsesLeft<'_>,
+    faults: &mut Vec<TypeFault>,
     term: &Lambda,
-) -> Result<Core, AllocError>
+) -> Result<Core, ScopeFault>
     ensures form { IfOk result (λ e. term_of e ≡ counted_node (abbreviations_of seen.now) (lambda (bound_of term.now.binder) (type_of term.now.ty) (tree_of term.now.body)) uses.old) }
     ensures uses { OnOk result (uses.new ≡ past_node (lambda (bound_of term.now.binder) (type_of term.now.ty) (tree_of term.now.body)) uses.old) }
+    ensures faults { OnOk result (faults.new.items ≡ faults.old.items ++ faults_in (abbreviations_of seen.now) (written_in_node (lambda (bound_of term.now.binder) (type_of term.now.ty) (tree_of term.now.body)))) }
+    ensures limit { IsLimit (first_over_limit (abbreviations_of seen.now) (written_in_node (lambda (bound_of term.now.binder) (type_of term.now.ty) (tree_of term.now.body)))) result }
 {
-    let written = expand(alloc, seen, &term.ty)?;
-    pass_type(uses, &term.ty);
-    let body = boxed(alloc, seen, uses, &term.body)?;
+    let written = nameless_type(alloc, seen, uses, faults, &term.ty)?;
+    let body = boxed(alloc, seen, uses, faults, &term.body)?;
     Ok(Core::Abs(Box::new(alloc, written)?, body))
 }
 
@@ -91,14 +136,17 @@ fn if_of(
     alloc: Global,
     seen: &Abbreviations<'_>,
     uses: &mut UsesLeft<'_>,
+    faults: &mut Vec<TypeFault>,
     term: &Conditional,
-) -> Result<Core, AllocError>
+) -> Result<Core, ScopeFault>
     ensures form { IfOk result (λ e. term_of e ≡ counted_node (abbreviations_of seen.now) (if_term (tree_of term.now.condition) (tree_of term.now.one) (tree_of term.now.other)) uses.old) }
     ensures uses { OnOk result (uses.new ≡ past_node (if_term (tree_of term.now.condition) (tree_of term.now.one) (tree_of term.now.other)) uses.old) }
+    ensures faults { OnOk result (faults.new.items ≡ faults.old.items ++ faults_in (abbreviations_of seen.now) (written_in_node (if_term (tree_of term.now.condition) (tree_of term.now.one) (tree_of term.now.other)))) }
+    ensures limit { IsLimit (first_over_limit (abbreviations_of seen.now) (written_in_node (if_term (tree_of term.now.condition) (tree_of term.now.one) (tree_of term.now.other)))) result }
 {
-    let first = boxed(alloc, seen, uses, &term.condition)?;
-    let second = boxed(alloc, seen, uses, &term.one)?;
-    let third = boxed(alloc, seen, uses, &term.other)?;
+    let first = boxed(alloc, seen, uses, faults, &term.condition)?;
+    let second = boxed(alloc, seen, uses, faults, &term.one)?;
+    let third = boxed(alloc, seen, uses, faults, &term.other)?;
     Ok(Core::If(first, second, third))
 }
 
@@ -108,13 +156,16 @@ fn let_of(
     alloc: Global,
     seen: &Abbreviations<'_>,
     uses: &mut UsesLeft<'_>,
+    faults: &mut Vec<TypeFault>,
     term: &Let,
-) -> Result<Core, AllocError>
+) -> Result<Core, ScopeFault>
     ensures form { IfOk result (λ e. term_of e ≡ counted_node (abbreviations_of seen.now) (let_term (bound_of term.now.binder) (tree_of term.now.bound) (tree_of term.now.body)) uses.old) }
     ensures uses { OnOk result (uses.new ≡ past_node (let_term (bound_of term.now.binder) (tree_of term.now.bound) (tree_of term.now.body)) uses.old) }
+    ensures faults { OnOk result (faults.new.items ≡ faults.old.items ++ faults_in (abbreviations_of seen.now) (written_in_node (let_term (bound_of term.now.binder) (tree_of term.now.bound) (tree_of term.now.body)))) }
+    ensures limit { IsLimit (first_over_limit (abbreviations_of seen.now) (written_in_node (let_term (bound_of term.now.binder) (tree_of term.now.bound) (tree_of term.now.body)))) result }
 {
-    let first = boxed(alloc, seen, uses, &term.bound)?;
-    let second = boxed(alloc, seen, uses, &term.body)?;
+    let first = boxed(alloc, seen, uses, faults, &term.bound)?;
+    let second = boxed(alloc, seen, uses, faults, &term.body)?;
     Ok(Core::Let(first, second))
 }
 
@@ -124,16 +175,18 @@ fn letrec_of(
     alloc: Global,
     seen: &Abbreviations<'_>,
     uses: &mut UsesLeft<'_>,
+    faults: &mut Vec<TypeFault>,
     term: &Letrec,
-) -> Result<Core, AllocError>
+) -> Result<Core, ScopeFault>
     ensures form { IfOk result (λ e. term_of e ≡ counted_node (abbreviations_of seen.now) (letrec_term (bound_of term.now.binder) (type_of term.now.ty) (tree_of term.now.bound) (tree_of term.now.body)) uses.old) }
     ensures uses { OnOk result (uses.new ≡ past_node (letrec_term (bound_of term.now.binder) (type_of term.now.ty) (tree_of term.now.bound) (tree_of term.now.body)) uses.old) }
+    ensures faults { OnOk result (faults.new.items ≡ faults.old.items ++ faults_in (abbreviations_of seen.now) (written_in_node (letrec_term (bound_of term.now.binder) (type_of term.now.ty) (tree_of term.now.bound) (tree_of term.now.body)))) }
+    ensures limit { IsLimit (first_over_limit (abbreviations_of seen.now) (written_in_node (letrec_term (bound_of term.now.binder) (type_of term.now.ty) (tree_of term.now.bound) (tree_of term.now.body)))) result }
 {
-    let written = expand(alloc, seen, &term.ty)?;
-    pass_type(uses, &term.ty);
-    let first = nameless(alloc, seen, uses, &term.bound)?;
-    let second = nameless(alloc, seen, uses, &term.body)?;
-    make_letrec(alloc, written, first, second)
+    let written = nameless_type(alloc, seen, uses, faults, &term.ty)?;
+    let first = nameless(alloc, seen, uses, faults, &term.bound)?;
+    let second = nameless(alloc, seen, uses, faults, &term.body)?;
+    Ok(make_letrec(alloc, written, first, second)?)
 }
 
 #[cycle(nameless)]
@@ -142,13 +195,16 @@ fn prefixed_of(
     alloc: Global,
     seen: &Abbreviations<'_>,
     uses: &mut UsesLeft<'_>,
+    faults: &mut Vec<TypeFault>,
     prefix: Prefix,
     operand: &Tm,
-) -> Result<Core, AllocError>
+) -> Result<Core, ScopeFault>
     ensures form { IfOk result (λ e. term_of e ≡ counted_node (abbreviations_of seen.now) (prefixed_term prefix (tree_of operand.now)) uses.old) }
     ensures uses { OnOk result (uses.new ≡ past_node (prefixed_term prefix (tree_of operand.now)) uses.old) }
+    ensures faults { OnOk result (faults.new.items ≡ faults.old.items ++ faults_in (abbreviations_of seen.now) (written_in_node (prefixed_term prefix (tree_of operand.now)))) }
+    ensures limit { IsLimit (first_over_limit (abbreviations_of seen.now) (written_in_node (prefixed_term prefix (tree_of operand.now)))) result }
 {
-    let form = boxed(alloc, seen, uses, operand)?;
+    let form = boxed(alloc, seen, uses, faults, operand)?;
     Ok(make_prefixed(prefix, form))
 }
 
@@ -158,13 +214,16 @@ fn apply_of(
     alloc: Global,
     seen: &Abbreviations<'_>,
     uses: &mut UsesLeft<'_>,
+    faults: &mut Vec<TypeFault>,
     term: &Application,
-) -> Result<Core, AllocError>
+) -> Result<Core, ScopeFault>
     ensures form { IfOk result (λ e. term_of e ≡ counted_node (abbreviations_of seen.now) (apply (tree_of term.now.function) (tree_of term.now.argument)) uses.old) }
     ensures uses { OnOk result (uses.new ≡ past_node (apply (tree_of term.now.function) (tree_of term.now.argument)) uses.old) }
+    ensures faults { OnOk result (faults.new.items ≡ faults.old.items ++ faults_in (abbreviations_of seen.now) (written_in_node (apply (tree_of term.now.function) (tree_of term.now.argument)))) }
+    ensures limit { IsLimit (first_over_limit (abbreviations_of seen.now) (written_in_node (apply (tree_of term.now.function) (tree_of term.now.argument)))) result }
 {
-    let first = boxed(alloc, seen, uses, &term.function)?;
-    let second = boxed(alloc, seen, uses, &term.argument)?;
+    let first = boxed(alloc, seen, uses, faults, &term.function)?;
+    let second = boxed(alloc, seen, uses, faults, &term.argument)?;
     Ok(Core::App(first, second))
 }
 
@@ -174,12 +233,15 @@ fn project_of(
     alloc: Global,
     seen: &Abbreviations<'_>,
     uses: &mut UsesLeft<'_>,
+    faults: &mut Vec<TypeFault>,
     term: &Projection,
-) -> Result<Core, AllocError>
+) -> Result<Core, ScopeFault>
     ensures form { IfOk result (λ e. term_of e ≡ counted_node (abbreviations_of seen.now) (project (tree_of term.now.record) (word_of term.now.label)) uses.old) }
     ensures uses { OnOk result (uses.new ≡ past_node (project (tree_of term.now.record) (word_of term.now.label)) uses.old) }
+    ensures faults { OnOk result (faults.new.items ≡ faults.old.items ++ faults_in (abbreviations_of seen.now) (written_in_node (project (tree_of term.now.record) (word_of term.now.label)))) }
+    ensures limit { IsLimit (first_over_limit (abbreviations_of seen.now) (written_in_node (project (tree_of term.now.record) (word_of term.now.label)))) result }
 {
-    let form = boxed(alloc, seen, uses, &term.record)?;
+    let form = boxed(alloc, seen, uses, faults, &term.record)?;
     let copy = String::from_str(alloc, term.label.text.as_str())?;
     Ok(Core::Proj(form, copy))
 }
@@ -190,14 +252,16 @@ fn ascribe_of(
     alloc: Global,
     seen: &Abbreviations<'_>,
     uses: &mut UsesLeft<'_>,
+    faults: &mut Vec<TypeFault>,
     term: &Ascription,
-) -> Result<Core, AllocError>
+) -> Result<Core, ScopeFault>
     ensures form { IfOk result (λ e. term_of e ≡ counted_node (abbreviations_of seen.now) (ascribe (tree_of term.now.operand) (type_of term.now.ty)) uses.old) }
     ensures uses { OnOk result (uses.new ≡ past_node (ascribe (tree_of term.now.operand) (type_of term.now.ty)) uses.old) }
+    ensures faults { OnOk result (faults.new.items ≡ faults.old.items ++ faults_in (abbreviations_of seen.now) (written_in_node (ascribe (tree_of term.now.operand) (type_of term.now.ty)))) }
+    ensures limit { IsLimit (first_over_limit (abbreviations_of seen.now) (written_in_node (ascribe (tree_of term.now.operand) (type_of term.now.ty)))) result }
 {
-    let form = boxed(alloc, seen, uses, &term.operand)?;
-    let written = expand(alloc, seen, &term.ty)?;
-    pass_type(uses, &term.ty);
+    let form = boxed(alloc, seen, uses, faults, &term.operand)?;
+    let written = nameless_type(alloc, seen, uses, faults, &term.ty)?;
     Ok(Core::Ascribe(form, Box::new(alloc, written)?))
 }
 
@@ -207,12 +271,15 @@ fn record_of(
     alloc: Global,
     seen: &Abbreviations<'_>,
     uses: &mut UsesLeft<'_>,
+    faults: &mut Vec<TypeFault>,
     fields: &[TmField],
-) -> Result<Core, AllocError>
+) -> Result<Core, ScopeFault>
     ensures form { IfOk result (λ e. term_of e ≡ record_term (counted_fields (abbreviations_of seen.now) (fields_of fields.now) uses.old)) }
     ensures uses { OnOk result (uses.new ≡ past_fields (fields_of fields.now) uses.old) }
+    ensures faults { OnOk result (faults.new.items ≡ faults.old.items ++ faults_in (abbreviations_of seen.now) (written_in_fields (fields_of fields.now))) }
+    ensures limit { IsLimit (first_over_limit (abbreviations_of seen.now) (written_in_fields (fields_of fields.now))) result }
 {
-    let forms = nameless_fields(alloc, seen, uses, fields)?;
+    let forms = nameless_fields(alloc, seen, uses, faults, fields)?;
     Ok(Core::Record(forms))
 }
 
@@ -222,15 +289,18 @@ fn nameless_fields(
     alloc: Global,
     seen: &Abbreviations<'_>,
     uses: &mut UsesLeft<'_>,
+    faults: &mut Vec<TypeFault>,
     fields: &[TmField],
-) -> Result<Vec<(String, Core)>, AllocError>
+) -> Result<Vec<(String, Core)>, ScopeFault>
     ensures form { IfOk result (λ forms. terms_of forms.items ≡ counted_fields (abbreviations_of seen.now) (fields_of fields.now) uses.old) }
     ensures uses { OnOk result (uses.new ≡ past_fields (fields_of fields.now) uses.old) }
+    ensures faults { OnOk result (faults.new.items ≡ faults.old.items ++ faults_in (abbreviations_of seen.now) (written_in_fields (fields_of fields.now))) }
+    ensures limit { IsLimit (first_over_limit (abbreviations_of seen.now) (written_in_fields (fields_of fields.now))) result }
 {
     let mut forms = Vec::with_capacity(alloc, fields.len())?;
     for i in 0..fields.len() {
         let field = &fields[i];
-        let form = nameless(alloc, seen, uses, &field.term)?;
+        let form = nameless(alloc, seen, uses, faults, &field.term)?;
         let label = String::from_str(alloc, field.label.text.as_str())?;
         forms.push((label, form))?;
     }

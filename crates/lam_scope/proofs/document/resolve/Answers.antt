@@ -7,7 +7,7 @@ use Rattle.lam_scope.proofs.document.resolve.Goals as goal
 
 pub returns-clause-origins : goal.returns-clause-origins
 returns-clause-origins c =
-    c.in-Ok.ensures
+    c.in_ok-origins.ensures
     ∙ ap (map (λ r. r.origin)) c.deref-2.ensures.value
     ∙ sym (origins-rows c.args.scopes.now.rows.binders.items)
     ∙ ap (λ t. map (λ b. b.origin) t.binders) c.requires.same_table

@@ -1,7 +1,8 @@
-use Rattle.std.proofs.Common.{◌≡◌, ◌+◌, ◌*◌, drop}
+use Rattle.std.proofs.Common.{◌≡◌, ◌+◌, ◌*◌, ◌++◌, drop}
 use Rattle.lam_rules.specs.TermViews.{terms_of}
 use Rattle.lam_syntax.specs.Views.{term_of, fields_of}
 use Rattle.lam_scope.specs.Counted.{counted_fields, past_fields}
+use Rattle.lam_scope.specs.Nameless.{written_in_fields, faults_in, first_over_limit}
 use Rattle.lam_scope.specs.Views.{abbreviations_of}
 use Rattle.lam_scope.proofs.Forms.{joined_terms}
 use Rattle.lam_scope.proofs.TreeSizes.{tree_size, tree_sizes}
@@ -12,6 +13,9 @@ invariant-nameless_fields-loop-i l = record {
   form : joined_terms (terms_of l.forms.items) (counted_fields (abbreviations_of l.seen) (fields_of (drop l.i l.fields)) l.uses)
       ≡ counted_fields (abbreviations_of l.seen) (fields_of l.fields) l.initial.uses;
   uses : past_fields (fields_of (drop l.i l.fields)) l.uses ≡ past_fields (fields_of l.fields) l.initial.uses;
+  faults : l.faults.items ++ faults_in (abbreviations_of l.seen) (written_in_fields (fields_of (drop l.i l.fields)))
+      ≡ l.initial.faults.items ++ faults_in (abbreviations_of l.seen) (written_in_fields (fields_of l.fields));
+  limit : first_over_limit (abbreviations_of l.seen) (written_in_fields (fields_of l.fields)) ≡ first_over_limit (abbreviations_of l.seen) (written_in_fields (fields_of (drop l.i l.fields)));
 }
 
 abbrev pub decreases-nameless : goal.decreases-nameless
