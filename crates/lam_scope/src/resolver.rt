@@ -69,47 +69,26 @@ impl<'a> Resolver<'a> {
         ensures limit { IsLimit (first_over_limit (abbreviations_of self.old.abbreviations) (written_in_command (command_of command.now))) result }
         ensures statements { self.new.statements ≡ self.old.statements }
     {
+        let seen = &self.abbreviations;
+        let uses = &mut self.uses;
+        let faults = &mut self.faults;
         match command {
             Command::Definition(_, term) => {
-                let form = nameless(
-                    alloc,
-                    &self.abbreviations,
-                    &mut self.uses,
-                    &mut self.faults,
-                    term,
-                )?;
+                let form = nameless(alloc, seen, uses, faults, term)?;
                 Ok(Statement::Definition(form))
             }
             Command::Declaration(_, ty) => {
-                let expansion = nameless_type(
-                    alloc,
-                    &self.abbreviations,
-                    &mut self.uses,
-                    &mut self.faults,
-                    ty,
-                )?;
+                let expansion = nameless_type(alloc, seen, uses, faults, ty)?;
                 Ok(Statement::Declaration(expansion))
             }
             Command::Abbreviation(name, ty) => {
-                let expansion = nameless_type(
-                    alloc,
-                    &self.abbreviations,
-                    &mut self.uses,
-                    &mut self.faults,
-                    ty,
-                )?;
+                let expansion = nameless_type(alloc, seen, uses, faults, ty)?;
                 let copy = copy_of_written(alloc, &expansion)?;
                 self.abbreviations.add(name.text.as_str(), expansion)?;
                 Ok(Statement::Abbreviation(copy))
             }
             Command::Evaluation(term) => {
-                let form = nameless(
-                    alloc,
-                    &self.abbreviations,
-                    &mut self.uses,
-                    &mut self.faults,
-                    term,
-                )?;
+                let form = nameless(alloc, seen, uses, faults, term)?;
                 Ok(Statement::Evaluation(form))
             }
         }
