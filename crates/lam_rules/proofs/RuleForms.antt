@@ -18,7 +18,7 @@ use Rattle.lam_rules.specs.declared.rules.Dialect.{Dialect}
 use Rattle.lam_rules.specs.declared.rules.TypeRule.{TypeRule}
 use Rattle.lam_rules.specs.declared.terms.Core.{Core}
 use Rattle.lam_rules.specs.declared.terms.Core.TheVariants.{True, False, If, Num, Succ, Pred, IsZero, Var, Abs, App, Unit as UnitTerm, Ascribe, Let, Record, Proj, Fix}
-use Rattle.lam_rules.proofs.TermShapes.{term_shapes, Seen, seen, seen_True, seen_False, seen_If, seen_Num, seen_Succ, seen_Pred, seen_IsZero, seen_Var, seen_Abs, seen_App, seen_Unit, seen_Ascribe, seen_Let, seen_Record, seen_Proj, seen_Fix}
+use Rattle.lam_rules.proofs.TermShapes.{term_of-True, term_of-False, term_of-Num, term_of-Unit, term_of-Var, term_of-If, term_of-Succ, term_of-Pred, term_of-IsZero, term_of-Abs, term_of-App, term_of-Ascribe, term_of-Let, term_of-Proj, term_of-Fix, term_of-Record, terms_of-drop, Seen, seen, seen_True, seen_False, seen_If, seen_Num, seen_Succ, seen_Pred, seen_IsZero, seen_Var, seen_Abs, seen_App, seen_Unit, seen_Ascribe, seen_Let, seen_Record, seen_Proj, seen_Fix}
 
 -- a rule with a proof of subtyping is T-Sub
 pub only_sub : (r : TypeRule) → (r ≡ TypeRule.Sub → ⊥)
@@ -327,7 +327,38 @@ no_field ty other l t = only (typ_of ty) (λ fs e. no_record ty fs other e)
     only (record_of fs) n h = n fs refl
     only _ n h = h
 
-pub ruleset rule_forms = (only_sub, no_true, no_false, no_if, no_num, no_succ, no_pred, no_iszero, no_var, no_abs, no_app, no_unit, no_ascribe, no_let, no_rcd, no_proj, no_fix, counts_true, counts_false, counts_if, counts_num, counts_succ, counts_pred, counts_iszero, counts_var, counts_abs, counts_app, counts_unit, counts_ascribe, counts_let, counts_proj, counts_fix, counts_sub, no_rcd_type, rcd_not_fields, rcd_not_premises, no_field)
+-- what the functions of the checker go by, each for its rule
 
--- what the functions of the checker, one a rule, go by
-pub ruleset typing_rules = (shapes, term_shapes, rule_forms, typing_shapes)
+pub ruleset sub_rule = (only_sub, counts_sub)
+
+pub ruleset true_rule = (shapes, typing_shapes, term_of-True, no_true, counts_true)
+
+pub ruleset false_rule = (shapes, typing_shapes, term_of-False, no_false, counts_false)
+
+pub ruleset num_rule = (shapes, typing_shapes, term_of-Num, no_num, counts_num)
+
+pub ruleset unit_rule = (shapes, typing_shapes, term_of-Unit, no_unit, counts_unit)
+
+pub ruleset var_rule = (shapes, typing_shapes, term_of-Var, no_var, counts_var)
+
+pub ruleset if_rule = (shapes, typing_shapes, term_of-If, no_if, counts_if)
+
+pub ruleset succ_rule = (shapes, typing_shapes, term_of-Succ, no_succ, counts_succ)
+
+pub ruleset pred_rule = (shapes, typing_shapes, term_of-Pred, no_pred, counts_pred)
+
+pub ruleset is_zero_rule = (shapes, typing_shapes, term_of-IsZero, no_iszero, counts_iszero)
+
+pub ruleset abs_rule = (shapes, typing_shapes, term_of-Abs, no_abs, counts_abs)
+
+pub ruleset app_rule = (shapes, typing_shapes, term_of-App, no_app, counts_app)
+
+pub ruleset ascribe_rule = (shapes, typing_shapes, term_of-Ascribe, no_ascribe, counts_ascribe)
+
+pub ruleset let_rule = (shapes, typing_shapes, term_of-Let, no_let, counts_let)
+
+pub ruleset proj_rule = (shapes, typing_shapes, term_of-Proj, no_proj, counts_proj, no_field)
+
+pub ruleset fix_rule = (shapes, typing_shapes, term_of-Fix, no_fix, counts_fix)
+
+pub ruleset rcd_rule = (shapes, typing_shapes, term_of-Record, terms_of-drop, no_rcd, no_rcd_type, rcd_not_fields, rcd_not_premises)

@@ -67,7 +67,7 @@ fn wf_entry(entry: &Option<Ty>) -> bool
 }
 
 #[cycle(check_type)]
-#[tactic(auto, using(crate::proofs::TypingShapes::typing_nodes, crate::proofs::RuleForms::rule_forms))]
+#[tactic(auto, using(crate::proofs::TypingShapes::typing_nodes, crate::proofs::RuleForms::sub_rule))]
 fn check_in(proof: &TypeProof, entries: &Entries, term: &Core, dialect: Dialect) -> bool
     requires { IsWellFormedContext (entries_of entries.now) }
     ensures { IsTrue result ↔ IsTyping (entries_of entries.now) (term_of term.now) (typing_tree_of proof.now) dialect }
@@ -190,7 +190,7 @@ fn proves_under(
 }
 
 /// T-True.
-#[tactic(auto, using(crate::proofs::RuleForms::typing_rules))]
+#[tactic(auto, using(crate::proofs::RuleForms::true_rule))]
 fn by_true(premises: &[TypeProof], term: &Core, ty: &Ty) -> bool
     ensures { (g : Context) (d : Dialect) → (IsTrue result ↔ ByTypeRule TypeRule.True None g (term_of term.now) (typ_of ty.now) (typings_of premises.now) d) }
 {
@@ -204,7 +204,7 @@ fn by_true(premises: &[TypeProof], term: &Core, ty: &Ty) -> bool
 }
 
 /// T-False.
-#[tactic(auto, using(crate::proofs::RuleForms::typing_rules))]
+#[tactic(auto, using(crate::proofs::RuleForms::false_rule))]
 fn by_false(premises: &[TypeProof], term: &Core, ty: &Ty) -> bool
     ensures { (g : Context) (d : Dialect) → (IsTrue result ↔ ByTypeRule TypeRule.False None g (term_of term.now) (typ_of ty.now) (typings_of premises.now) d) }
 {
@@ -218,7 +218,7 @@ fn by_false(premises: &[TypeProof], term: &Core, ty: &Ty) -> bool
 }
 
 /// T-Num.
-#[tactic(auto, using(crate::proofs::RuleForms::typing_rules))]
+#[tactic(auto, using(crate::proofs::RuleForms::num_rule))]
 fn by_num(premises: &[TypeProof], term: &Core, ty: &Ty) -> bool
     ensures { (g : Context) (d : Dialect) → (IsTrue result ↔ ByTypeRule TypeRule.Num None g (term_of term.now) (typ_of ty.now) (typings_of premises.now) d) }
 {
@@ -232,7 +232,7 @@ fn by_num(premises: &[TypeProof], term: &Core, ty: &Ty) -> bool
 }
 
 /// T-Unit.
-#[tactic(auto, using(crate::proofs::RuleForms::typing_rules))]
+#[tactic(auto, using(crate::proofs::RuleForms::unit_rule))]
 fn by_unit(premises: &[TypeProof], term: &Core, ty: &Ty) -> bool
     ensures { (g : Context) (d : Dialect) → (IsTrue result ↔ ByTypeRule TypeRule.Unit None g (term_of term.now) (typ_of ty.now) (typings_of premises.now) d) }
 {
@@ -246,7 +246,7 @@ fn by_unit(premises: &[TypeProof], term: &Core, ty: &Ty) -> bool
 }
 
 /// T-Var.
-#[tactic(auto, using(crate::proofs::RuleForms::typing_rules))]
+#[tactic(auto, using(crate::proofs::RuleForms::var_rule))]
 fn by_var(premises: &[TypeProof], entries: &Entries, term: &Core, ty: &Ty) -> bool
     ensures { (d : Dialect) → (IsTrue result ↔ ByTypeRule TypeRule.Var None (entries_of entries.now) (term_of term.now) (typ_of ty.now) (typings_of premises.now) d) }
 {
@@ -292,7 +292,7 @@ fn is_given_entry(count: usize, context: &[Option<Ty>], ty: &Ty) -> bool
 
 /// T-If.
 #[cycle(check_type)]
-#[tactic(auto, using(crate::proofs::RuleForms::typing_rules))]
+#[tactic(auto, using(crate::proofs::RuleForms::if_rule))]
 fn by_if(premises: &[TypeProof], entries: &Entries, term: &Core, ty: &Ty, dialect: Dialect) -> bool
     requires context { IsWellFormedContext (entries_of entries.now) }
     requires ty { IsWellFormed (typ_of ty.now) }
@@ -315,7 +315,7 @@ fn by_if(premises: &[TypeProof], entries: &Entries, term: &Core, ty: &Ty, dialec
 
 /// T-Succ.
 #[cycle(check_type)]
-#[tactic(auto, using(crate::proofs::RuleForms::typing_rules))]
+#[tactic(auto, using(crate::proofs::RuleForms::succ_rule))]
 fn by_succ(
     premises: &[TypeProof],
     entries: &Entries,
@@ -341,7 +341,7 @@ fn by_succ(
 
 /// T-Pred.
 #[cycle(check_type)]
-#[tactic(auto, using(crate::proofs::RuleForms::typing_rules))]
+#[tactic(auto, using(crate::proofs::RuleForms::pred_rule))]
 fn by_pred(
     premises: &[TypeProof],
     entries: &Entries,
@@ -367,7 +367,7 @@ fn by_pred(
 
 /// T-IsZero.
 #[cycle(check_type)]
-#[tactic(auto, using(crate::proofs::RuleForms::typing_rules))]
+#[tactic(auto, using(crate::proofs::RuleForms::is_zero_rule))]
 fn by_is_zero(
     premises: &[TypeProof],
     entries: &Entries,
@@ -393,7 +393,7 @@ fn by_is_zero(
 
 /// T-Abs. The body is gone down to under the binder.
 #[cycle(check_type)]
-#[tactic(auto, using(crate::proofs::RuleForms::typing_rules))]
+#[tactic(auto, using(crate::proofs::RuleForms::abs_rule))]
 fn by_abs(premises: &[TypeProof], entries: &Entries, term: &Core, ty: &Ty, dialect: Dialect) -> bool
     requires context { IsWellFormedContext (entries_of entries.now) }
     requires ty { IsWellFormed (typ_of ty.now) }
@@ -419,7 +419,7 @@ fn by_abs(premises: &[TypeProof], entries: &Entries, term: &Core, ty: &Ty, diale
 
 /// T-App.
 #[cycle(check_type)]
-#[tactic(auto, using(crate::proofs::RuleForms::typing_rules))]
+#[tactic(auto, using(crate::proofs::RuleForms::app_rule))]
 fn by_app(premises: &[TypeProof], entries: &Entries, term: &Core, ty: &Ty, dialect: Dialect) -> bool
     requires context { IsWellFormedContext (entries_of entries.now) }
     requires ty { IsWellFormed (typ_of ty.now) }
@@ -448,7 +448,7 @@ fn by_app(premises: &[TypeProof], entries: &Entries, term: &Core, ty: &Ty, diale
 
 /// T-Ascribe.
 #[cycle(check_type)]
-#[tactic(auto, using(crate::proofs::RuleForms::typing_rules))]
+#[tactic(auto, using(crate::proofs::RuleForms::ascribe_rule))]
 fn by_ascribe(
     premises: &[TypeProof],
     entries: &Entries,
@@ -477,7 +477,7 @@ fn by_ascribe(
 
 /// T-Let. The body is gone down to under the binder.
 #[cycle(check_type)]
-#[tactic(auto, using(crate::proofs::RuleForms::typing_rules))]
+#[tactic(auto, using(crate::proofs::RuleForms::let_rule))]
 fn by_let(premises: &[TypeProof], entries: &Entries, term: &Core, ty: &Ty, dialect: Dialect) -> bool
     requires context { IsWellFormedContext (entries_of entries.now) }
     requires ty { IsWellFormed (typ_of ty.now) }
@@ -497,7 +497,7 @@ fn by_let(premises: &[TypeProof], entries: &Entries, term: &Core, ty: &Ty, diale
 
 /// T-Rcd.
 #[cycle(check_type)]
-#[tactic(auto, using(crate::proofs::RuleForms::typing_rules))]
+#[tactic(auto, using(crate::proofs::RuleForms::rcd_rule))]
 fn by_rcd(premises: &[TypeProof], entries: &Entries, term: &Core, ty: &Ty, dialect: Dialect) -> bool
     requires context { IsWellFormedContext (entries_of entries.now) }
     requires ty { IsWellFormed (typ_of ty.now) }
@@ -514,7 +514,7 @@ fn by_rcd(premises: &[TypeProof], entries: &Entries, term: &Core, ty: &Ty, diale
 
 /// T-Rcd, field by field.
 #[cycle(check_type)]
-#[tactic(auto, using(crate::proofs::RuleForms::typing_rules))]
+#[tactic(auto, using(crate::proofs::RuleForms::rcd_rule))]
 fn by_fields(
     premises: &[TypeProof],
     entries: &Entries,
@@ -547,7 +547,7 @@ fn by_fields(
 
 /// T-Proj.
 #[cycle(check_type)]
-#[tactic(auto, using(crate::proofs::RuleForms::typing_rules))]
+#[tactic(auto, using(crate::proofs::RuleForms::proj_rule))]
 fn by_proj(
     premises: &[TypeProof],
     entries: &Entries,
@@ -576,7 +576,7 @@ fn by_proj(
 
 /// T-Fix.
 #[cycle(check_type)]
-#[tactic(auto, using(crate::proofs::RuleForms::typing_rules))]
+#[tactic(auto, using(crate::proofs::RuleForms::fix_rule))]
 fn by_fix(premises: &[TypeProof], entries: &Entries, term: &Core, ty: &Ty, dialect: Dialect) -> bool
     requires context { IsWellFormedContext (entries_of entries.now) }
     requires ty { IsWellFormed (typ_of ty.now) }

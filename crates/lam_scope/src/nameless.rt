@@ -22,8 +22,8 @@ use lam_syntax::{
 };
 use std::alloc::{AllocError, Global};
 
-/// The nameless form of a term that sees these abbreviations, by the uses that are left: those in it are the first of
-/// them, and are passed.
+/// The nameless form of a term that sees these abbreviations. Its uses are the first of those that are left, and are
+/// passed. The faults of its written types are put behind those before them, and the first that is too large is refused.
 #[cycle(nameless)]
 #[tactic(auto, using(crate::proofs::Forms::forms))]
 pub(crate) fn nameless(
@@ -58,8 +58,8 @@ pub(crate) fn nameless(
     }
 }
 
-/// What a written type stands for. Its uses are passed, and its faults are put behind those before it. Where it is too
-/// large that is told of its size, and nothing of it is built.
+/// What a written type stands for, with its uses and faults as those of a term. Where it is too large it is refused for
+/// its size, before any of it is built.
 #[tactic(auto, using(crate::proofs::Forms::forms))]
 pub(crate) fn nameless_type(
     alloc: Global,
