@@ -1,5 +1,6 @@
 pub mod Reading
 pub mod FirstBytes
+mod AsciiNames
 pub mod Shapes
 pub mod Segments
 pub mod Cuts

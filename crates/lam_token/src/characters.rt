@@ -3,6 +3,7 @@ ghost use Rattle.std.specs.Prelude.{◌≡◌, [], MatchOption};
 ghost use Rattle.std.specs.Str.{chars};
 ghost use Rattle.lam_token.specs.Shape.{is_blank, is_digit, is_continuing, is_opening, is_closing, mark_of, beginning_of};
 ghost use Rattle.lam_token.specs.Reading.{FirstIs};
+ghost use Rattle.unicode_ident.specs.Ident.{is_xid_start, is_xid_continue};
 
 use crate::kind::{Beginning, Kind};
 
@@ -30,12 +31,36 @@ pub(crate) fn is_digit(c: char) -> bool
     c >= '0' && c <= '9'
 }
 
+/// Whether Unicode has identifiers begin with the character. Of ASCII these are letters, which are told without a table.
+#[tactic(auto, using(crate::proofs::AsciiNames::ascii_names))]
+fn is_xid_start(c: char) -> bool
+    ensures { result ≡ is_xid_start c }
+{
+    if c.is_ascii() {
+        c.is_ascii_alphabetic()
+    } else {
+        unicode_ident::is_xid_start(c)
+    }
+}
+
+/// Whether Unicode has identifiers go on with the character. Of ASCII these are letters, digits and `_`, which are told
+/// without a table.
+#[tactic(auto, using(crate::proofs::AsciiNames::ascii_names))]
+fn is_xid_continue(c: char) -> bool
+    ensures { result ≡ is_xid_continue c }
+{
+    if !c.is_ascii() {
+        return unicode_ident::is_xid_continue(c);
+    }
+    c.is_ascii_alphanumeric() || c == '_'
+}
+
 /// Whether a name goes on with the character: with `'`, or as Unicode has identifiers go on.
 #[tactic(auto, unfolding(crate::specs::Shape::is_continuing))]
 pub(crate) fn is_continuing(c: char) -> bool
     ensures { result ≡ is_continuing c }
 {
-    c == '\'' || unicode_ident::is_xid_continue(c)
+    c == '\'' || is_xid_continue(c)
 }
 
 /// Whether the two characters open a comment.
@@ -84,7 +109,7 @@ pub(crate) fn beginning_of(c: char) -> Beginning
         Beginning::Blank
     } else if is_digit(c) {
         Beginning::Digit
-    } else if unicode_ident::is_xid_start(c) {
+    } else if is_xid_start(c) {
         Beginning::Letter
     } else {
         mark_of(c)
