@@ -10,7 +10,7 @@ use Rattle.lam_typing.specs.Contexts.{IsContext}
 use Rattle.lam_typing.specs.LeastTypes.{IsTyped, IsLeastAt}
 use Rattle.lam_typing.specs.Blaming.{ArePartsTyped, AreFieldsTyped, IsExcused, HasNoType, IsBlamedFor, Blamed, AreBlamed}
 use Rattle.lam_typing.specs.Progress.{IsLowest, Progress, Went, WentOver, blame_step, IsApplicationCode, AreFieldsAt, if_all}
-use Rattle.lam_typing.specs.Steps.{entry_at, NatRule, LambdaRule, ApplyRule, AscribeRule, LetRule, IfRule, FixRule, ProjectRule, RecordRule}
+use Rattle.lam_typing.specs.Steps.{entry_at, IsNumeric, NatRule, LambdaRule, ApplyRule, AscribeRule, LetRule, IfRule, FixRule, ProjectRule, RecordRule}
 use Rattle.lam_typing.proofs.LeastIn.{LeastIn, lowest_written, lowest_some, lowest_none, least_at, least_in}
 use Rattle.lam_typing.proofs.LeastSteps.{true_least, false_least, unit_least, num_least, free_least, variable_least, succ_least, pred_least, is_zero_least, lambda_least, apply_least, ascribe_least, let_least, if_least, fix_least, project_least, LeastFields, none_least, more_least, record_least}
 use Rattle.lam_typing.proofs.NeverBlamed.{lambda_unblamed, let_typed}
@@ -141,14 +141,18 @@ one_ready g e part old mid x o code d over step there back why = record {
     least s low = least_at s g e o d low (step s low (least_in s g part x d low (over.least s low)))
 
 module _ (g : Context) (e : Term) (old mid : Progress) (x o : Option Typ) (d : Dialect) (over : WentOver g e old mid x d) where
-  pub succ_ready : NatRule nat x o d → IsReady g (succ e) (λ s. places s e) old mid o (blame_step (length mid.found) (is_some x) o (codes "E6")) d
-  succ_ready rule = one_ready g (succ e) e old mid x o (codes "E6") d over (λ s low least. succ_least g e x o d least rule) (λ s typed. (typed, λ h. h)) (λ s typed. typed) (λ s. refl)
+  abbrev Ready : Term → Type 0
+  Ready q = IsReady g q (λ s. places s e) old mid o (blame_step (length mid.found) (is_some x) o (codes "E6")) d
 
-  pub pred_ready : NatRule nat x o d → IsReady g (pred e) (λ s. places s e) old mid o (blame_step (length mid.found) (is_some x) o (codes "E6")) d
-  pred_ready rule = one_ready g (pred e) e old mid x o (codes "E6") d over (λ s low least. pred_least g e x o d least rule) (λ s typed. (typed, λ h. h)) (λ s typed. typed) (λ s. refl)
-
-  pub is_zero_ready : NatRule bool x o d → IsReady g (is_zero e) (λ s. places s e) old mid o (blame_step (length mid.found) (is_some x) o (codes "E6")) d
-  is_zero_ready rule = one_ready g (is_zero e) e old mid x o (codes "E6") d over (λ s low least. is_zero_least g e x o d least rule) (λ s typed. (typed, λ h. h)) (λ s typed. typed) (λ s. refl)
+  -- an operation on a number
+  pub numeric_ready : (q : Term) (t : Typ) → IsNumeric q e t → NatRule t x o d → Ready q
+  numeric_ready (succ p) t is rule =
+      subst (λ r. Ready (succ r)) (sym is.0) (one_ready g (succ e) e old mid x o (codes "E6") d over (λ s low least. succ_least g e x o d least (subst (λ u. NatRule u x o d) is.1 rule)) (λ s typed. (typed, λ h. h)) (λ s typed. typed) (λ s. refl))
+  numeric_ready (pred p) t is rule =
+      subst (λ r. Ready (pred r)) (sym is.0) (one_ready g (pred e) e old mid x o (codes "E6") d over (λ s low least. pred_least g e x o d least (subst (λ u. NatRule u x o d) is.1 rule)) (λ s typed. (typed, λ h. h)) (λ s typed. typed) (λ s. refl))
+  numeric_ready (is_zero p) t is rule =
+      subst (λ r. Ready (is_zero r)) (sym is.0) (one_ready g (is_zero e) e old mid x o (codes "E6") d over (λ s low least. is_zero_least g e x o d least (subst (λ u. NatRule u x o d) is.1 rule)) (λ s typed. (typed, λ h. h)) (λ s typed. typed) (λ s. refl))
+  numeric_ready _ t is rule = absurd is
 
   pub fix_ready : FixRule x o d → IsReady g (fix e) (λ s. places s e) old mid o (blame_step (length mid.found) (is_some x) o (codes "E8")) d
   fix_ready rule = one_ready g (fix e) e old mid x o (codes "E8") d over (λ s low least. fix_least g e x o d least rule) (λ s typed. (typed, λ h. h)) (λ s typed. typed) (λ s. refl)

@@ -23,13 +23,13 @@ use Rattle.lam_typing.specs.LeastTypes.{IsLeastAt}
 use Rattle.lam_typing.specs.Answers.{answer, answers, StandsIn, AllStandIn, context_under}
 use Rattle.lam_typing.specs.Progress.{IsLowest, Progress, Went, WentOver, Cause, next_is_too_large, enough, StoppedIn, AreFieldsAt, blame_step, IsApplicationCode, if_all}
 use Rattle.lam_typing.specs.Walk.{blamed_of, blames_of, progress_of, entries_of, IsSoundWalk, Grows, WalkedOver, HasStoppedAmong, HasStopped, HasStoppedInFields, FieldsWalked, blame_at, Settles, StopsAt, IsUpTo, IsWithin}
-use Rattle.lam_typing.specs.Steps.{entry_at, NatRule, LambdaRule, ApplyRule, AscribeRule, LetRule, IfRule, FixRule, ProjectRule, MoreRule, RecordRule}
+use Rattle.lam_typing.specs.Steps.{entry_at, IsNumeric, NatRule, LambdaRule, ApplyRule, AscribeRule, LetRule, IfRule, FixRule, ProjectRule, MoreRule, RecordRule}
 use Rattle.lam_typing.specs.declared.walking.Walk.{Walk}
 use Rattle.lam_typing.specs.declared.blame.Blame.{Blame}
 use Rattle.lam_typing.specs.declared.walking.Stop.{Stop}
 use Rattle.lam_typing.proofs.Growing.{answer_keep, answers_keep, context_keep, answers-push, length-answers, length-context, context-push, all_stand_keep, all_stand_push, some_answer}
 use Rattle.lam_typing.proofs.Together.{went_none, went_both, stopped_front, stopped_behind, stopped_under, IsReady, ready_went, ready_too_large, ready_enough}
-use Rattle.lam_typing.proofs.Forms.{free_ready, unbound_ready, variable_ready, succ_ready, pred_ready, is_zero_ready, fix_ready, project_ready, ascribe_ready, lambda_ready, let_ready, apply_ready, if_ready, record_ready}
+use Rattle.lam_typing.proofs.Forms.{free_ready, unbound_ready, variable_ready, numeric_ready, fix_ready, project_ready, ascribe_ready, lambda_ready, let_ready, apply_ready, if_ready, record_ready}
 
 -- the same places, told otherwise
 
@@ -80,6 +80,12 @@ pub among_front : (stop : Stop) (g : Context) (ps qs : Scope → List Place) (ol
 among_front Stop.TooLarge g ps qs old now d h = (stopped_front g ps qs (progress_of old) (progress_of now) next_is_too_large d h.0, h.1)
 among_front Stop.Enough g ps qs old now d h = (stopped_front g ps qs (progress_of old) (progress_of now) enough d h.0, h.1)
 among_front Stop.Memory g ps qs old now d h = tt
+
+pub among_as : (stop : Stop) (g : Context) (ps qs : Scope → List Place) (old now : Walk) (d : Dialect) → ((s : Scope) → ps s ≡ qs s)
+    → HasStoppedAmong stop g ps old now d → HasStoppedAmong stop g qs old now d
+among_as Stop.TooLarge g ps qs old now d same h = (stopped_as g ps qs (progress_of old) (progress_of now) next_is_too_large d same h.0, h.1)
+among_as Stop.Enough g ps qs old now d same h = (stopped_as g ps qs (progress_of old) (progress_of now) enough d same h.0, h.1)
+among_as Stop.Memory g ps qs old now d same h = tt
 
 pub among_behind : (stop : Stop) (g : Context) (ps qs : Scope → List Place) (old mid now : Walk) (d : Dialect)
     → Went g ps (progress_of old) (progress_of mid) d → HasStoppedAmong stop g qs mid now d → HasStoppedAmong stop g (λ s. ps s ++ qs s) old now d
@@ -220,6 +226,24 @@ pub err_stopped_in_fields : (r : Result Bool Stop) (stop : Stop) (w0 now : Walk)
     → IsErrAnd r (λ y. y ≡ stop) → HasStoppedInFields stop w0 now es → IfErr r (λ s. HasStoppedInFields s w0 now es)
 err_stopped_in_fields (Ok x) stop w0 now es is stopped = absurd is
 err_stopped_in_fields (Err s) stop w0 now es is stopped = subst (λ x. HasStoppedInFields x w0 now es) (sym is) stopped
+
+-- what is answered of each term of some kind
+
+pub ok_of_each : {A : Type 0} (r : Result A Stop) (N : Term → Type 0) (P : A → Term → Type 0) → ((e : Term) → N e → IfOk r (λ x. P x e)) → IfOk r (λ x. (e : Term) → N e → P x e)
+ok_of_each (Ok x) N P h = h
+ok_of_each (Err stop) N P h = tt
+
+pub err_of_each : {A : Type 0} (r : Result A Stop) (N : Term → Type 0) (P : Stop → Term → Type 0) → ((e : Term) → N e → IfErr r (λ stop. P stop e)) → IfErr r (λ stop. (e : Term) → N e → P stop e)
+err_of_each (Ok x) N P h = tt
+err_of_each (Err stop) N P h = h
+
+pub ok_of_one : {A : Type 0} (r : Result A Stop) (N : Term → Type 0) (P : A → Term → Type 0) (e : Term) → N e → IfOk r (λ x. (e : Term) → N e → P x e) → IfOk r (λ x. P x e)
+ok_of_one (Ok x) N P e n h = h e n
+ok_of_one (Err stop) N P e n h = tt
+
+pub err_of_one : {A : Type 0} (r : Result A Stop) (N : Term → Type 0) (P : Stop → Term → Type 0) (e : Term) → N e → IfErr r (λ stop. (e : Term) → N e → P stop e) → IfErr r (λ stop. P stop e)
+err_of_one (Ok x) N P e n h = tt
+err_of_one (Err stop) N P e n h = h e n
 
 -- the terms of a record, one after the other
 
@@ -415,29 +439,25 @@ variable_parts w n found lt is =
 
 -- terms with one part
 
--- an operand, by the number of the outcome, in the dialect of the beginning
-nat_rule : (w0 w1 : Walk) (outcome : TyNo) (t : Typ) (x o : Option Typ) → Grows w0 w1 → IsNumberOf w1.table outcome t
-    → NatRule (type_of w1.table outcome) x o w1.verdicts.dialect → NatRule t x o w0.verdicts.dialect
-nat_rule w0 w1 outcome t x o grows is rule = subst (λ d. NatRule t x o d) grows.dialect (subst (λ v. NatRule v x o w1.verdicts.dialect) is.type rule)
+-- an operation on a number has one place behind those of its operand
+pub numeric_places : (q e : Term) (t : Typ) → IsNumeric q e t → (s : Scope) → places s e ++ record { scope = s; here = q } ∷ [] ≡ places s q
+numeric_places (succ p) e t is s = ap (λ r. places s r ++ record { scope = s; here = succ p } ∷ []) (sym is.0)
+numeric_places (pred p) e t is s = ap (λ r. places s r ++ record { scope = s; here = pred p } ∷ []) (sym is.0)
+numeric_places (is_zero p) e t is s = ap (λ r. places s r ++ record { scope = s; here = is_zero p } ∷ []) (sym is.0)
+numeric_places _ e t is s = absurd is
 
 module _ (w0 w1 : Walk) (e : Term) (x found : Option TyNo) (blame : Option (Bor Text)) (grows : Grows w0 w1) (over : WalkedOver w0 w1 e x) where
-  pub succ_parts : NatRule (type_of w1.table w1.leaves.natural) (answer w1.table x) (answer w1.table found) w1.verdicts.dialect → Blames (is_some x) found (codes "E6") blame
-      → IsReady (entries_of w0) (succ e) (λ s. places s e) (progress_of w0) (progress_of w1) (answer w1.table found) (blame_at (length w1.found.items) blame) w0.verdicts.dialect
-  succ_parts rule blames = ready_at w1 (entries_of w0) (succ e) (λ s. places s e) (progress_of w0) found (is_some x) (is_some (answer w1.table x)) (codes "E6") blame w0.verdicts.dialect
-      (succ_ready (entries_of w0) e (progress_of w0) (progress_of w1) (answer w1.table x) (answer w1.table found) w0.verdicts.dialect over.over
-      (nat_rule w0 w1 w1.leaves.natural nat (answer w1.table x) (answer w1.table found) grows grows.sound.natural rule)) (some_answer w1.table x) blames
-
-  pub pred_parts : NatRule (type_of w1.table w1.leaves.natural) (answer w1.table x) (answer w1.table found) w1.verdicts.dialect → Blames (is_some x) found (codes "E6") blame
-      → IsReady (entries_of w0) (pred e) (λ s. places s e) (progress_of w0) (progress_of w1) (answer w1.table found) (blame_at (length w1.found.items) blame) w0.verdicts.dialect
-  pred_parts rule blames = ready_at w1 (entries_of w0) (pred e) (λ s. places s e) (progress_of w0) found (is_some x) (is_some (answer w1.table x)) (codes "E6") blame w0.verdicts.dialect
-      (pred_ready (entries_of w0) e (progress_of w0) (progress_of w1) (answer w1.table x) (answer w1.table found) w0.verdicts.dialect over.over
-      (nat_rule w0 w1 w1.leaves.natural nat (answer w1.table x) (answer w1.table found) grows grows.sound.natural rule)) (some_answer w1.table x) blames
-
-  pub is_zero_parts : NatRule (type_of w1.table w1.leaves.boolean) (answer w1.table x) (answer w1.table found) w1.verdicts.dialect → Blames (is_some x) found (codes "E6") blame
-      → IsReady (entries_of w0) (is_zero e) (λ s. places s e) (progress_of w0) (progress_of w1) (answer w1.table found) (blame_at (length w1.found.items) blame) w0.verdicts.dialect
-  is_zero_parts rule blames = ready_at w1 (entries_of w0) (is_zero e) (λ s. places s e) (progress_of w0) found (is_some x) (is_some (answer w1.table x)) (codes "E6") blame w0.verdicts.dialect
-      (is_zero_ready (entries_of w0) e (progress_of w0) (progress_of w1) (answer w1.table x) (answer w1.table found) w0.verdicts.dialect over.over
-      (nat_rule w0 w1 w1.leaves.boolean bool (answer w1.table x) (answer w1.table found) grows grows.sound.boolean rule)) (some_answer w1.table x) blames
+  -- an operation on a number, by the number of the type that the whole has
+  pub numeric_parts : (q : Term) (outcome : TyNo) → StandsIn w0.table (Some outcome) → IsNumeric q e (type_of w0.table outcome)
+      → NatRule (type_of w1.table outcome) (answer w1.table x) (answer w1.table found) w1.verdicts.dialect → Blames (is_some x) found (codes "E6") blame
+      → IsReady (entries_of w0) q (λ s. places s e) (progress_of w0) (progress_of w1) (answer w1.table found) (blame_at (length w1.found.items) blame) w0.verdicts.dialect
+  numeric_parts q outcome stands is rule blames =
+      let kept : Some (type_of w1.table outcome) ≡ Some (type_of w0.table outcome) = answer_keep w0.table w1.table (Some outcome) grows.keeps stands in
+      let same : type_of w1.table outcome ≡ type_of w0.table outcome = (cc) in
+      ready_at w1 (entries_of w0) q (λ s. places s e) (progress_of w0) found (is_some x) (is_some (answer w1.table x)) (codes "E6") blame w0.verdicts.dialect
+      (numeric_ready (entries_of w0) e (progress_of w0) (progress_of w1) (answer w1.table x) (answer w1.table found) w0.verdicts.dialect over.over q (type_of w0.table outcome) is
+      (subst (λ d. NatRule (type_of w0.table outcome) (answer w1.table x) (answer w1.table found) d) grows.dialect (subst (λ t. NatRule t (answer w1.table x) (answer w1.table found) w1.verdicts.dialect) same rule)))
+      (some_answer w1.table x) blames
 
   pub fix_parts : FixRule (answer w1.table x) (answer w1.table found) w1.verdicts.dialect → Blames (is_some x) found (codes "E8") blame
       → IsReady (entries_of w0) (fix e) (λ s. places s e) (progress_of w0) (progress_of w1) (answer w1.table found) (blame_at (length w1.found.items) blame) w0.verdicts.dialect

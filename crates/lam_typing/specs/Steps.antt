@@ -2,6 +2,7 @@
 use Rattle.std.specs.Prelude.{◌≡◌, ℕ, zero, suc, [], ◌∷◌, Option, Some, None}
 use Rattle.lam_rules.specs.Types.{Label, Typ, bool, nat, arrow, record_of, Fields, field, Has, IsAbsent, AreWellFormed}
 use Rattle.lam_rules.specs.Subtyping.{IsBelow}
+use Rattle.lam_rules.specs.Terms.{Term, succ, pred, is_zero}
 use Rattle.lam_rules.specs.Typing.{Context}
 use Rattle.lam_rules.specs.declared.rules.Dialect.{Dialect}
 use Rattle.lam_lattice.specs.Bounds.{IsJoin}
@@ -11,6 +12,13 @@ abbrev pub entry_at : ℕ → Context → Option Typ
 entry_at n [] = None
 entry_at zero (entry ∷ g) = entry
 entry_at (suc n) (entry ∷ g) = entry_at n g
+
+-- an operation on a number: this is its operand, and this its type where the operand is below Nat
+abbrev pub IsNumeric : Term → Term → Typ → Type 0
+IsNumeric (succ e) operand t = (e ≡ operand) × (t ≡ nat)
+IsNumeric (pred e) operand t = (e ≡ operand) × (t ≡ nat)
+IsNumeric (is_zero e) operand t = (e ≡ operand) × (t ≡ bool)
+IsNumeric _ operand t = ⊥
 
 -- an operand below Nat, and the type of the whole
 abbrev pub NatRule : Typ → Option Typ → Option Typ → Dialect → Type 0

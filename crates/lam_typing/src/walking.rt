@@ -2,14 +2,15 @@
 
 ghost use Rattle.std.specs.Prelude.{◌≡◌, ◌&&◌, ◌++◌, ◌<◌, length, map, IfOk, IfErr, OnOk, IsTrue, IsFalse, ℕ, List, is_some};
 ghost use Rattle.lam_rules.specs.Types.{Typ};
-ghost use Rattle.lam_rules.specs.Terms.{if_then_else, succ, pred, is_zero, variable, lambda, apply, ascribe, let_in, record_term, project, fix};
+ghost use Rattle.lam_rules.specs.Terms.{Term, if_then_else, variable, lambda, apply, ascribe, let_in, record_term, project, fix};
 ghost use Rattle.lam_rules.specs.TermViews.{term_of, terms_of, written_of};
 ghost use Rattle.lam_rules.specs.Typing.{IsWellFormedEntry};
 ghost use Rattle.lam_scope.specs.WellFormed.{IsWellFormedTerm, AreWellFormedTerms, IsWellFormedStatement, AreWellFormedStatements};
 ghost use Rattle.lam_scope.specs.Places.{places_of};
 ghost use Rattle.lam_scope.specs.Views.{statement_of};
 ghost use Rattle.lam_typing.specs.Answers.{answer, StandsIn, AllStandIn, context_under};
-ghost use Rattle.lam_typing.specs.Steps.{entry_at};
+ghost use Rattle.lam_rules.specs.Numbers.{type_of, Stands};
+ghost use Rattle.lam_typing.specs.Steps.{entry_at, IsNumeric};
 ghost use Rattle.lam_typing.specs.Analysis.{IsSmall};
 ghost use Rattle.lam_typing.specs.Progress.{Went, blame_step, IsApplicationCode, IsLarge};
 ghost use Rattle.lam_typing.specs.Walk.{Grows, WalkedOver, FieldsWalked, HasStopped, HasStoppedInFields, Settles, StopsAt, blame_at, blames_of, IsSoundWalk, IsBehind, IsUpTo, GoesOn, HasStoppedAt, HasStoppedAmong, entries_of, progress_of};
@@ -129,9 +130,9 @@ pub(crate) fn walk_term(w: &mut Walk, term: &Core) -> Result<Option<TyNo>, Stop>
         Core::False => settle(w, Some(w.leaves.boolean), None),
         Core::If(condition, then_term, else_term) => walk_if(w, condition, then_term, else_term),
         Core::Num(_) => settle(w, Some(w.leaves.natural), None),
-        Core::Succ(operand) => walk_succ(w, operand),
-        Core::Pred(operand) => walk_pred(w, operand),
-        Core::IsZero(operand) => walk_is_zero(w, operand),
+        Core::Succ(operand) => walk_number(w, operand, w.leaves.natural),
+        Core::Pred(operand) => walk_number(w, operand, w.leaves.natural),
+        Core::IsZero(operand) => walk_number(w, operand, w.leaves.boolean),
         Core::Var(count) => walk_variable(w, *count),
         Core::Free(_) => {
             let blame = blame_if(true, None, "E1");
@@ -172,62 +173,19 @@ fn walk_if(
     settle(w, found, blame)
 }
 
+/// T-Succ, T-Pred and T-IsZero, by the number of the type that the whole has.
 #[cycle(walk_term)]
-fn walk_succ(w: &mut Walk, operand: &Core) -> Result<Option<TyNo>, Stop>
+fn walk_number(w: &mut Walk, operand: &Core, outcome: TyNo) -> Result<Option<TyNo>, Stop>
     requires sound { IsSoundWalk w.old }
     requires operand { IsWellFormedTerm (term_of operand.now) }
+    requires outcome { Stands w.old.table outcome }
     ensures grows { Grows w.old w.new }
-    ensures walked { IfOk result (λ found. WalkedOver w.old w.new (succ (term_of operand.now)) found) }
-    ensures stopped { IfErr result (λ stop. HasStopped stop w.old w.new (succ (term_of operand.now))) }
+    ensures walked { IfOk result (λ found. (e : Term) → IsNumeric e (term_of operand.now) (type_of w.old.table outcome) → WalkedOver w.old w.new e found) }
+    ensures stopped { IfErr result (λ stop. (e : Term) → IsNumeric e (term_of operand.now) (type_of w.old.table outcome) → HasStopped stop w.old w.new e) }
 {
     let part = walk_term(w, operand)?;
-    let found = of_number(
-        &w.table,
-        &mut w.verdicts,
-        part,
-        w.leaves.natural,
-        w.leaves.natural,
-    )?;
-    let blame = blame_if(part.is_some(), found, "E6");
-    settle(w, found, blame)
-}
-
-#[cycle(walk_term)]
-fn walk_pred(w: &mut Walk, operand: &Core) -> Result<Option<TyNo>, Stop>
-    requires sound { IsSoundWalk w.old }
-    requires operand { IsWellFormedTerm (term_of operand.now) }
-    ensures grows { Grows w.old w.new }
-    ensures walked { IfOk result (λ found. WalkedOver w.old w.new (pred (term_of operand.now)) found) }
-    ensures stopped { IfErr result (λ stop. HasStopped stop w.old w.new (pred (term_of operand.now))) }
-{
-    let part = walk_term(w, operand)?;
-    let found = of_number(
-        &w.table,
-        &mut w.verdicts,
-        part,
-        w.leaves.natural,
-        w.leaves.natural,
-    )?;
-    let blame = blame_if(part.is_some(), found, "E6");
-    settle(w, found, blame)
-}
-
-#[cycle(walk_term)]
-fn walk_is_zero(w: &mut Walk, operand: &Core) -> Result<Option<TyNo>, Stop>
-    requires sound { IsSoundWalk w.old }
-    requires operand { IsWellFormedTerm (term_of operand.now) }
-    ensures grows { Grows w.old w.new }
-    ensures walked { IfOk result (λ found. WalkedOver w.old w.new (is_zero (term_of operand.now)) found) }
-    ensures stopped { IfErr result (λ stop. HasStopped stop w.old w.new (is_zero (term_of operand.now))) }
-{
-    let part = walk_term(w, operand)?;
-    let found = of_number(
-        &w.table,
-        &mut w.verdicts,
-        part,
-        w.leaves.natural,
-        w.leaves.boolean,
-    )?;
+    let natural = w.leaves.natural;
+    let found = of_number(&w.table, &mut w.verdicts, part, natural, outcome)?;
     let blame = blame_if(part.is_some(), found, "E6");
     settle(w, found, blame)
 }

@@ -1,78 +1,46 @@
 use Rattle.std.proofs.Common.{[], ◌∷◌, ◌++◌, length, Some, None, string_bytes, ap, refl, sym, subst, ◌∙◌, inl, arith, codes}
 use Rattle.lam_rules.specs.Types.{bool, nat, unit}
-use Rattle.lam_rules.specs.Terms.{if_then_else, succ, pred, is_zero, lambda, apply, ascribe, let_in, record_term, project, fix, numeral, free, true_term, false_term, unit_term, term_field}
+use Rattle.lam_rules.specs.Terms.{if_then_else, lambda, apply, ascribe, let_in, record_term, project, fix, numeral, free, true_term, false_term, unit_term, term_field}
 use Rattle.lam_rules.specs.TermViews.{term_of, terms_of, written_of}
-use Rattle.lam_rules.specs.Numbers.{fields_over, AreEarlier}
-use Rattle.lam_rules.proofs.TermShapes.{term_of-True, term_of-False, term_of-Num, term_of-Free, term_of-Unit}
+use Rattle.lam_rules.specs.Numbers.{type_of, fields_over, AreEarlier}
+use Rattle.lam_rules.proofs.TermShapes.{term_of-True, term_of-False, term_of-Succ, term_of-Pred, term_of-IsZero, term_of-Num, term_of-Free, term_of-Unit}
 use Rattle.lam_rules.proofs.Tables.{keeps_same}
 use Rattle.lam_scope.specs.Places.{written, of_term, places, places_in}
 use Rattle.lam_typing.specs.Answers.{answer}
-use Rattle.lam_typing.specs.Steps.{LambdaRule, LetRule, RecordRule}
+use Rattle.lam_typing.specs.Steps.{IsNumeric, LambdaRule, LetRule, RecordRule}
 use Rattle.lam_typing.specs.Progress.{if_all}
-use Rattle.lam_typing.specs.Walk.{entries_of, progress_of}
+use Rattle.lam_typing.specs.Walk.{entries_of, progress_of, WalkedOver, HasStopped}
 use Rattle.lam_typing.proofs.LeastIn.{lowest_written}
 use Rattle.lam_typing.proofs.Growing.{answer_keep, stands_keep}
 use Rattle.lam_typing.proofs.Together.{went_both}
 use Rattle.lam_typing.proofs.Forms.{true_ready, false_ready, unit_ready, numeral_ready, lowest_let}
-use Rattle.lam_typing.proofs.Glue.{Blames, grows_same, grows_trans, entries_same, went_from, progress_same, stepped, stepped_grows, retabled_grows, pushed_grows, put_or_not, popped_is, popped_grows, under_entry, parts_empty, err_stopped, err_stopped_in_fields, no_fields_walked, fields_unfound, fields_found_ok, fields_front, fields_behind, fields_behind_err, among_front, among_behind, among_under, among_from, settled_ok, settled_err, leaf_parts, free_parts, succ_parts, pred_parts, is_zero_parts, fix_parts, project_parts, ascribe_parts, lambda_parts, let_parts, apply_parts, if_parts, record_parts}
+use Rattle.lam_typing.proofs.Glue.{Blames, grows_same, grows_trans, entries_same, went_from, progress_same, stepped, stepped_grows, retabled_grows, pushed_grows, put_or_not, popped_is, popped_grows, under_entry, parts_empty, err_stopped, err_stopped_in_fields, no_fields_walked, fields_unfound, fields_found_ok, fields_front, fields_behind, fields_behind_err, among_front, among_behind, among_under, among_from, settled_ok, settled_err, leaf_parts, free_parts, numeric_places, numeric_parts, ok_of_each, err_of_each, ok_of_one, among_as, fix_parts, project_parts, ascribe_parts, lambda_parts, let_parts, apply_parts, if_parts, record_parts}
 use Rattle.lam_typing.proofs.walking.+walk_term.Goals as goal
 
-pub walk_succ-returns-in_err-part-clause-stopped : goal.walk_succ-returns-in_err-part-clause-stopped
-walk_succ-returns-in_err-part-clause-stopped t c =
-    err_stopped c.from_residual.result _ c.args.w.now c.walk_term.new.w (succ (term_of c.args.operand.now)) c.from_residual.ensures.1
-    (among_front _ (entries_of c.args.w.now) (λ s. places s (term_of c.args.operand.now)) (λ s. record { scope = s; here = (succ (term_of c.args.operand.now)) } ∷ []) c.args.w.now c.walk_term.new.w _ c.in_err-part.ensures.stopped)
+pub walk_number-returns-in_err-part-clause-stopped : goal.walk_number-returns-in_err-part-clause-stopped
+walk_number-returns-in_err-part-clause-stopped t c =
+    err_of_each c.from_residual.result (λ e. IsNumeric e (term_of c.args.operand.now) (type_of c.args.w.now.table c.args.outcome)) (λ stop e. HasStopped stop c.args.w.now c.walk_term.new.w e) (λ e is.
+    err_stopped c.from_residual.result _ c.args.w.now c.walk_term.new.w e c.from_residual.ensures.1
+    (among_as _ (entries_of c.args.w.now) (λ s. places s (term_of c.args.operand.now) ++ record { scope = s; here = e } ∷ []) (λ s. places s e) c.args.w.now c.walk_term.new.w _ (numeric_places e (term_of c.args.operand.now) _ is)
+    (among_front _ (entries_of c.args.w.now) (λ s. places s (term_of c.args.operand.now)) (λ s. record { scope = s; here = e } ∷ []) c.args.w.now c.walk_term.new.w _ c.in_err-part.ensures.stopped)))
 
-pub walk_succ-returns-clause-walked : goal.walk_succ-returns-clause-walked
-walk_succ-returns-clause-walked t c =
-    settled_ok _ c.args.w.now (record c.walk_term.new.w { verdicts = c.of_number.new.verdicts }) c.settle.new.w (succ (term_of c.args.operand.now)) (λ s. places s (term_of c.args.operand.now)) c.in_ok-found.found c.blame_if-blame.result (λ s. refl) c.in_ok-part.ensures.walked.entries c.in_ok-found.ensures.stands
-    (succ_parts c.args.w.now c.walk_term.new.w (term_of c.args.operand.now) c.in_ok-part.part c.in_ok-found.found c.blame_if-blame.result c.in_ok-part.ensures.grows c.in_ok-part.ensures.walked c.in_ok-found.ensures.rule
+pub walk_number-returns-clause-walked : goal.walk_number-returns-clause-walked
+walk_number-returns-clause-walked t c =
+    ok_of_each _ (λ e. IsNumeric e (term_of c.args.operand.now) (type_of c.args.w.now.table c.args.outcome)) (λ found e. WalkedOver c.args.w.now c.settle.new.w e found) (λ e is.
+    settled_ok _ c.args.w.now (record c.walk_term.new.w { verdicts = c.of_number.new.verdicts }) c.settle.new.w e (λ s. places s (term_of c.args.operand.now)) c.in_ok-found.found c.blame_if-blame.result
+    (numeric_places e (term_of c.args.operand.now) _ is) c.in_ok-part.ensures.walked.entries c.in_ok-found.ensures.stands
+    (numeric_parts c.args.w.now c.walk_term.new.w (term_of c.args.operand.now) c.in_ok-part.part c.in_ok-found.found c.blame_if-blame.result c.in_ok-part.ensures.grows c.in_ok-part.ensures.walked e c.args.outcome c.requires.outcome is c.in_ok-found.ensures.rule
     (subst (λ b. Blames b c.in_ok-found.found (codes "E6") c.blame_if-blame.result) c.is_some.ensures c.blame_if-blame.ensures))
-    c.settle.ensures.settled
+    c.settle.ensures.settled)
 
-pub walk_succ-returns-clause-stopped : goal.walk_succ-returns-clause-stopped
-walk_succ-returns-clause-stopped t c =
-    settled_err _ c.args.w.now (record c.walk_term.new.w { verdicts = c.of_number.new.verdicts }) c.settle.new.w (succ (term_of c.args.operand.now)) (λ s. places s (term_of c.args.operand.now)) c.in_ok-found.found c.blame_if-blame.result (λ s. refl) c.in_ok-part.ensures.walked.entries c.in_ok-found.ensures.stands
-    (succ_parts c.args.w.now c.walk_term.new.w (term_of c.args.operand.now) c.in_ok-part.part c.in_ok-found.found c.blame_if-blame.result c.in_ok-part.ensures.grows c.in_ok-part.ensures.walked c.in_ok-found.ensures.rule
+pub walk_number-returns-clause-stopped : goal.walk_number-returns-clause-stopped
+walk_number-returns-clause-stopped t c =
+    err_of_each _ (λ e. IsNumeric e (term_of c.args.operand.now) (type_of c.args.w.now.table c.args.outcome)) (λ stop e. HasStopped stop c.args.w.now c.settle.new.w e) (λ e is.
+    settled_err _ c.args.w.now (record c.walk_term.new.w { verdicts = c.of_number.new.verdicts }) c.settle.new.w e (λ s. places s (term_of c.args.operand.now)) c.in_ok-found.found c.blame_if-blame.result
+    (numeric_places e (term_of c.args.operand.now) _ is) c.in_ok-part.ensures.walked.entries c.in_ok-found.ensures.stands
+    (numeric_parts c.args.w.now c.walk_term.new.w (term_of c.args.operand.now) c.in_ok-part.part c.in_ok-found.found c.blame_if-blame.result c.in_ok-part.ensures.grows c.in_ok-part.ensures.walked e c.args.outcome c.requires.outcome is c.in_ok-found.ensures.rule
     (subst (λ b. Blames b c.in_ok-found.found (codes "E6") c.blame_if-blame.result) c.is_some.ensures c.blame_if-blame.ensures))
-    c.settle.ensures.stopped
-
-pub walk_pred-returns-in_err-part-clause-stopped : goal.walk_pred-returns-in_err-part-clause-stopped
-walk_pred-returns-in_err-part-clause-stopped t c =
-    err_stopped c.from_residual.result _ c.args.w.now c.walk_term.new.w (pred (term_of c.args.operand.now)) c.from_residual.ensures.1
-    (among_front _ (entries_of c.args.w.now) (λ s. places s (term_of c.args.operand.now)) (λ s. record { scope = s; here = (pred (term_of c.args.operand.now)) } ∷ []) c.args.w.now c.walk_term.new.w _ c.in_err-part.ensures.stopped)
-
-pub walk_pred-returns-clause-walked : goal.walk_pred-returns-clause-walked
-walk_pred-returns-clause-walked t c =
-    settled_ok _ c.args.w.now (record c.walk_term.new.w { verdicts = c.of_number.new.verdicts }) c.settle.new.w (pred (term_of c.args.operand.now)) (λ s. places s (term_of c.args.operand.now)) c.in_ok-found.found c.blame_if-blame.result (λ s. refl) c.in_ok-part.ensures.walked.entries c.in_ok-found.ensures.stands
-    (pred_parts c.args.w.now c.walk_term.new.w (term_of c.args.operand.now) c.in_ok-part.part c.in_ok-found.found c.blame_if-blame.result c.in_ok-part.ensures.grows c.in_ok-part.ensures.walked c.in_ok-found.ensures.rule
-    (subst (λ b. Blames b c.in_ok-found.found (codes "E6") c.blame_if-blame.result) c.is_some.ensures c.blame_if-blame.ensures))
-    c.settle.ensures.settled
-
-pub walk_pred-returns-clause-stopped : goal.walk_pred-returns-clause-stopped
-walk_pred-returns-clause-stopped t c =
-    settled_err _ c.args.w.now (record c.walk_term.new.w { verdicts = c.of_number.new.verdicts }) c.settle.new.w (pred (term_of c.args.operand.now)) (λ s. places s (term_of c.args.operand.now)) c.in_ok-found.found c.blame_if-blame.result (λ s. refl) c.in_ok-part.ensures.walked.entries c.in_ok-found.ensures.stands
-    (pred_parts c.args.w.now c.walk_term.new.w (term_of c.args.operand.now) c.in_ok-part.part c.in_ok-found.found c.blame_if-blame.result c.in_ok-part.ensures.grows c.in_ok-part.ensures.walked c.in_ok-found.ensures.rule
-    (subst (λ b. Blames b c.in_ok-found.found (codes "E6") c.blame_if-blame.result) c.is_some.ensures c.blame_if-blame.ensures))
-    c.settle.ensures.stopped
-
-pub walk_is_zero-returns-in_err-part-clause-stopped : goal.walk_is_zero-returns-in_err-part-clause-stopped
-walk_is_zero-returns-in_err-part-clause-stopped t c =
-    err_stopped c.from_residual.result _ c.args.w.now c.walk_term.new.w (is_zero (term_of c.args.operand.now)) c.from_residual.ensures.1
-    (among_front _ (entries_of c.args.w.now) (λ s. places s (term_of c.args.operand.now)) (λ s. record { scope = s; here = (is_zero (term_of c.args.operand.now)) } ∷ []) c.args.w.now c.walk_term.new.w _ c.in_err-part.ensures.stopped)
-
-pub walk_is_zero-returns-clause-walked : goal.walk_is_zero-returns-clause-walked
-walk_is_zero-returns-clause-walked t c =
-    settled_ok _ c.args.w.now (record c.walk_term.new.w { verdicts = c.of_number.new.verdicts }) c.settle.new.w (is_zero (term_of c.args.operand.now)) (λ s. places s (term_of c.args.operand.now)) c.in_ok-found.found c.blame_if-blame.result (λ s. refl) c.in_ok-part.ensures.walked.entries c.in_ok-found.ensures.stands
-    (is_zero_parts c.args.w.now c.walk_term.new.w (term_of c.args.operand.now) c.in_ok-part.part c.in_ok-found.found c.blame_if-blame.result c.in_ok-part.ensures.grows c.in_ok-part.ensures.walked c.in_ok-found.ensures.rule
-    (subst (λ b. Blames b c.in_ok-found.found (codes "E6") c.blame_if-blame.result) c.is_some.ensures c.blame_if-blame.ensures))
-    c.settle.ensures.settled
-
-pub walk_is_zero-returns-clause-stopped : goal.walk_is_zero-returns-clause-stopped
-walk_is_zero-returns-clause-stopped t c =
-    settled_err _ c.args.w.now (record c.walk_term.new.w { verdicts = c.of_number.new.verdicts }) c.settle.new.w (is_zero (term_of c.args.operand.now)) (λ s. places s (term_of c.args.operand.now)) c.in_ok-found.found c.blame_if-blame.result (λ s. refl) c.in_ok-part.ensures.walked.entries c.in_ok-found.ensures.stands
-    (is_zero_parts c.args.w.now c.walk_term.new.w (term_of c.args.operand.now) c.in_ok-part.part c.in_ok-found.found c.blame_if-blame.result c.in_ok-part.ensures.grows c.in_ok-part.ensures.walked c.in_ok-found.ensures.rule
-    (subst (λ b. Blames b c.in_ok-found.found (codes "E6") c.blame_if-blame.result) c.is_some.ensures c.blame_if-blame.ensures))
-    c.settle.ensures.stopped
+    c.settle.ensures.stopped)
 
 pub walk_fix-returns-in_err-part-clause-stopped : goal.walk_fix-returns-in_err-part-clause-stopped
 walk_fix-returns-in_err-part-clause-stopped t c =
@@ -369,6 +337,21 @@ walk_fields-returns-clause-walked t c = rw (ap terms_of c.in-Some.ensures.cases.
 
 pub walk_fields-returns-clause-stopped : goal.walk_fields-returns-clause-stopped
 walk_fields-returns-clause-stopped t c = rw (ap terms_of c.in-Some.ensures.cases.0) (fields_behind_err c.walk_fields-2.result c.args.w.now c.walk_term.new.w c.walk_fields-2.new.w (string_bytes c.in-Some.field.now.0) (term_of c.in-Some.field.now.1) (terms_of c.in-Some.others.now) c.in_ok-found.found c.requires.sound c.in_ok-found.ensures.grows c.in_ok-found.ensures.walked c.walk_fields-2.ensures.stopped)
+
+pub walk_term-returns-in-Succ-clause-walked : goal.walk_term-returns-in-Succ-clause-walked
+walk_term-returns-in-Succ-clause-walked t c = rw (ap term_of c.in-Succ.is ∙ term_of-Succ _)
+    (ok_of_one _ (λ e. IsNumeric e (term_of c.deref-in-Succ.result.now) (type_of c.args.w.now.table c.args.w.now.leaves.natural)) (λ found e. WalkedOver c.args.w.now c.walk_number.new.w e found) _ (ap term_of (sym c.deref-in-Succ.ensures), c.requires.sound.natural.type)
+    c.walk_number.ensures.walked)
+
+pub walk_term-returns-in-Pred-clause-walked : goal.walk_term-returns-in-Pred-clause-walked
+walk_term-returns-in-Pred-clause-walked t c = rw (ap term_of c.in-Pred.is ∙ term_of-Pred _)
+    (ok_of_one _ (λ e. IsNumeric e (term_of c.deref-in-Pred.result.now) (type_of c.args.w.now.table c.args.w.now.leaves.natural)) (λ found e. WalkedOver c.args.w.now c.walk_number-in-Pred.new.w e found) _ (ap term_of (sym c.deref-in-Pred.ensures), c.requires.sound.natural.type)
+    c.walk_number-in-Pred.ensures.walked)
+
+pub walk_term-returns-in-IsZero-clause-walked : goal.walk_term-returns-in-IsZero-clause-walked
+walk_term-returns-in-IsZero-clause-walked t c = rw (ap term_of c.in-IsZero.is ∙ term_of-IsZero _)
+    (ok_of_one _ (λ e. IsNumeric e (term_of c.deref-in-IsZero.result.now) (type_of c.args.w.now.table c.args.w.now.leaves.boolean)) (λ found e. WalkedOver c.args.w.now c.walk_number-in-IsZero.new.w e found) _ (ap term_of (sym c.deref-in-IsZero.ensures), c.requires.sound.boolean.type)
+    c.walk_number-in-IsZero.ensures.walked)
 
 pub walk_term-returns-in-True-clause-walked : goal.walk_term-returns-in-True-clause-walked
 walk_term-returns-in-True-clause-walked t c = rw (ap term_of c.in-True.is ∙ term_of-True)

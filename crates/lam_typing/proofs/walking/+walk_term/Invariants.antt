@@ -9,14 +9,8 @@ decreases-walk_term l = 3 * size_of (term_of l.term.now)
 abbrev pub decreases-walk_if : goal.decreases-walk_if
 decreases-walk_if l = 3 * (size_of (term_of l.condition.now) + size_of (term_of l.then_term.now) + size_of (term_of l.else_term.now)) + 1
 
-abbrev pub decreases-walk_succ : goal.decreases-walk_succ
-decreases-walk_succ l = 3 * size_of (term_of l.operand.now) + 1
-
-abbrev pub decreases-walk_pred : goal.decreases-walk_pred
-decreases-walk_pred l = 3 * size_of (term_of l.operand.now) + 1
-
-abbrev pub decreases-walk_is_zero : goal.decreases-walk_is_zero
-decreases-walk_is_zero l = 3 * size_of (term_of l.operand.now) + 1
+abbrev pub decreases-walk_number : goal.decreases-walk_number
+decreases-walk_number l = 3 * size_of (term_of l.operand.now) + 1
 
 abbrev pub decreases-walk_lambda : goal.decreases-walk_lambda
 decreases-walk_lambda l = 3 * size_of (term_of l.body.now) + 1
