@@ -31,8 +31,7 @@ pub fn resolve(alloc: Global, commands: &[Command], scopes: &Scopes) -> Result<R
 {
     let Resolver {
         abbreviations,
-        uses: _uses,
-        faults,
+        forming,
         statements,
     } = resolve_all(alloc, commands, &scopes.rows.uses)?;
     // They are dropped before there is one list more: memory is at its peak here.
@@ -41,7 +40,7 @@ pub fn resolve(alloc: Global, commands: &[Command], scopes: &Scopes) -> Result<R
     Ok(Resolved {
         statements,
         origins,
-        faults,
+        faults: forming.faults,
     })
 }
 
@@ -53,13 +52,13 @@ fn resolve_all<'a>(
 ) -> Result<Resolver<'a>, ScopeFault>
     requires { map text_use uses.now ≡ (table (map command_of commands.now)).uses }
     ensures statements { IfOk result (λ r. map statement_of r.statements.items ≡ statements [] [] (map command_of commands.now)) }
-    ensures faults { IfOk result (λ r. r.faults.items ≡ faults [] (map command_of commands.now)) }
+    ensures faults { IfOk result (λ r. r.forming.faults.items ≡ faults [] (map command_of commands.now)) }
     ensures limit { IsLimit (first_too_large [] (map command_of commands.now)) result }
 {
     let mut resolver = Resolver::with_capacity(alloc, commands.len(), uses)?;
     for i in 0..commands.len() {
         let command = &commands[i];
-        resolver.add(alloc, command)?;
+        resolver.add(command)?;
     }
     Ok(resolver)
 }

@@ -8,8 +8,8 @@ ghost use Rattle.lam_scope.specs.Views.{statement_of, abbreviations_of, IsLimit}
 
 use crate::abbreviations::Abbreviations;
 use crate::expansion::copy_of_written;
-use crate::fault::{ScopeFault, TypeFault};
-use crate::nameless::{nameless, nameless_type};
+use crate::fault::ScopeFault;
+use crate::nameless::{Forming, nameless, nameless_type};
 use crate::rows::UseRow;
 use crate::statement::Statement;
 use crate::uses_left::UsesLeft;
@@ -20,8 +20,7 @@ use std::alloc::{AllocError, Global};
 #[derive(Drop)]
 pub(crate) struct Resolver<'a> {
     pub(crate) abbreviations: Abbreviations<'a>,
-    pub(crate) uses: UsesLeft<'a>,
-    pub(crate) faults: Vec<TypeFault>,
+    pub(crate) forming: Forming<'a>,
     pub(crate) statements: Vec<Statement>,
 }
 
@@ -33,62 +32,64 @@ impl<'a> Resolver<'a> {
         uses: &'a [UseRow],
     ) -> Result<Resolver<'a>, AllocError>
         ensures abbreviations { IfOk result (λ r. abbreviations_of r.abbreviations ≡ []) }
-        ensures uses { IfOk result (λ r. r.uses ≡ map text_use uses.now) }
-        ensures faults { IfOk result (λ r. r.faults.items ≡ []) }
+        ensures uses { IfOk result (λ r. r.forming.uses ≡ map text_use uses.now) }
+        ensures faults { IfOk result (λ r. r.forming.faults.items ≡ []) }
         ensures statements { IfOk result (λ r. map statement_of r.statements.items ≡ []) }
     {
         Ok(Resolver {
             abbreviations: Abbreviations::new(alloc),
-            uses: UsesLeft::new(uses),
-            faults: Vec::new(alloc),
+            forming: Forming {
+                alloc,
+                uses: UsesLeft::new(uses),
+                faults: Vec::new(alloc),
+            },
             statements: Vec::with_capacity(alloc, commands)?,
         })
     }
 
     /// One more command.
     #[tactic(auto, using(crate::proofs::Resolving::resolving))]
-    pub(crate) fn add(&mut self, alloc: Global, command: &'a Command) -> Result<(), ScopeFault>
-        ensures statement { OnOk result (map statement_of self.new.statements.items ≡ map statement_of self.old.statements.items ++ statement_counted (abbreviations_of self.old.abbreviations) (command_of command.now) self.old.uses ∷ []) }
+    pub(crate) fn add(&mut self, command: &'a Command) -> Result<(), ScopeFault>
+        ensures statement { OnOk result (map statement_of self.new.statements.items ≡ map statement_of self.old.statements.items ++ statement_counted (abbreviations_of self.old.abbreviations) (command_of command.now) self.old.forming.uses ∷ []) }
         ensures abbreviations { OnOk result (abbreviations_of self.new.abbreviations ≡ abbreviations_after (abbreviations_of self.old.abbreviations) (command_of command.now)) }
-        ensures uses { OnOk result (self.new.uses ≡ past_command (command_of command.now) self.old.uses) }
-        ensures faults { OnOk result (self.new.faults.items ≡ self.old.faults.items ++ faults_in (abbreviations_of self.old.abbreviations) (written_in_command (command_of command.now))) }
+        ensures uses { OnOk result (self.new.forming.uses ≡ past_command (command_of command.now) self.old.forming.uses) }
+        ensures faults { OnOk result (self.new.forming.faults.items ≡ self.old.forming.faults.items ++ faults_in (abbreviations_of self.old.abbreviations) (written_in_command (command_of command.now))) }
         ensures limit { IsLimit (first_over_limit (abbreviations_of self.old.abbreviations) (written_in_command (command_of command.now))) result }
     {
-        let statement = self.state(alloc, command)?;
+        let statement = self.state(command)?;
         self.statements.push(statement)?;
         Ok(())
     }
 
     /// What a command states. Those behind it then see the type name that it binds.
     #[tactic(auto, using(crate::proofs::Resolving::resolving))]
-    fn state(&mut self, alloc: Global, command: &'a Command) -> Result<Statement, ScopeFault>
-        ensures statement { IfOk result (λ s. statement_of s ≡ statement_counted (abbreviations_of self.old.abbreviations) (command_of command.now) self.old.uses) }
+    fn state(&mut self, command: &'a Command) -> Result<Statement, ScopeFault>
+        ensures statement { IfOk result (λ s. statement_of s ≡ statement_counted (abbreviations_of self.old.abbreviations) (command_of command.now) self.old.forming.uses) }
         ensures abbreviations { OnOk result (abbreviations_of self.new.abbreviations ≡ abbreviations_after (abbreviations_of self.old.abbreviations) (command_of command.now)) }
-        ensures uses { OnOk result (self.new.uses ≡ past_command (command_of command.now) self.old.uses) }
-        ensures faults { OnOk result (self.new.faults.items ≡ self.old.faults.items ++ faults_in (abbreviations_of self.old.abbreviations) (written_in_command (command_of command.now))) }
+        ensures uses { OnOk result (self.new.forming.uses ≡ past_command (command_of command.now) self.old.forming.uses) }
+        ensures faults { OnOk result (self.new.forming.faults.items ≡ self.old.forming.faults.items ++ faults_in (abbreviations_of self.old.abbreviations) (written_in_command (command_of command.now))) }
         ensures limit { IsLimit (first_over_limit (abbreviations_of self.old.abbreviations) (written_in_command (command_of command.now))) result }
         ensures statements { self.new.statements ≡ self.old.statements }
     {
         let seen = &self.abbreviations;
-        let uses = &mut self.uses;
-        let faults = &mut self.faults;
+        let f = &mut self.forming;
         match command {
             Command::Definition(_, term) => {
-                let form = nameless(alloc, seen, uses, faults, term)?;
+                let form = nameless(f, seen, term)?;
                 Ok(Statement::Definition(form))
             }
             Command::Declaration(_, ty) => {
-                let expansion = nameless_type(alloc, seen, uses, faults, ty)?;
+                let expansion = nameless_type(f, seen, ty)?;
                 Ok(Statement::Declaration(expansion))
             }
             Command::Abbreviation(name, ty) => {
-                let expansion = nameless_type(alloc, seen, uses, faults, ty)?;
-                let copy = copy_of_written(alloc, &expansion)?;
+                let expansion = nameless_type(f, seen, ty)?;
+                let copy = copy_of_written(f.alloc, &expansion)?;
                 self.abbreviations.add(name.text.as_str(), expansion)?;
                 Ok(Statement::Abbreviation(copy))
             }
             Command::Evaluation(term) => {
-                let form = nameless(alloc, seen, uses, faults, term)?;
+                let form = nameless(f, seen, term)?;
                 Ok(Statement::Evaluation(form))
             }
         }

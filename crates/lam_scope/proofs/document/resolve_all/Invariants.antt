@@ -7,8 +7,8 @@ use Rattle.lam_scope.proofs.document.resolve_all.Given as goal
 
 abbrev pub invariant-loop-i : goal.invariant-loop-i
 invariant-loop-i l = record {
-  statements : map statement_of l.resolver.statements.items ++ statements_counted (abbreviations_of l.resolver.abbreviations) (map command_of (drop l.i l.commands)) l.resolver.uses
+  statements : map statement_of l.resolver.statements.items ++ statements_counted (abbreviations_of l.resolver.abbreviations) (map command_of (drop l.i l.commands)) l.resolver.forming.uses
       ≡ statements [] [] (map command_of l.commands);
-  faults : l.resolver.faults.items ++ faults (abbreviations_of l.resolver.abbreviations) (map command_of (drop l.i l.commands)) ≡ faults [] (map command_of l.commands);
+  faults : l.resolver.forming.faults.items ++ faults (abbreviations_of l.resolver.abbreviations) (map command_of (drop l.i l.commands)) ≡ faults [] (map command_of l.commands);
   limit : first_too_large [] (map command_of l.commands) ≡ first_too_large (abbreviations_of l.resolver.abbreviations) (map command_of (drop l.i l.commands));
 }
