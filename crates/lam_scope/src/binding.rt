@@ -35,7 +35,7 @@ fn walk_commands(alloc: Global, commands: &[Command]) -> Result<Rows, AllocError
     let mut names = Seen::with_capacity(alloc, commands.len())?;
     for i in 0..commands.len() {
         let command = &commands[i];
-        walk_command(alloc, &mut rows, &mut types, &mut names, i, command)?;
+        walk_command(&mut rows, &mut types, &mut names, i, command)?;
     }
     Ok(rows)
 }

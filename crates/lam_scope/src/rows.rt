@@ -49,6 +49,7 @@ pub(crate) struct PlaceRow {
 /// The tables of what was walked so far.
 #[derive(Drop)]
 pub(crate) struct Rows {
+    pub(crate) alloc: Global,
     pub(crate) binders: Vec<BinderRow>,
     pub(crate) uses: Vec<UseRow>,
     pub(crate) places: Vec<PlaceRow>,
@@ -65,6 +66,7 @@ impl Rows {
         ensures { IfOk result (λ rows. rows_of rows ≡ empty_table) }
     {
         Ok(Rows {
+            alloc,
             binders: Vec::with_capacity(alloc, room.binders)?,
             uses: Vec::with_capacity(alloc, room.uses)?,
             places: Vec::with_capacity(alloc, room.places)?,

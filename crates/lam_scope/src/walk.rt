@@ -18,7 +18,7 @@ use lam_syntax::{
     Tm, TmField, TmNode, TyField, TyNode, WrittenTy,
 };
 use lam_token::Span;
-use std::alloc::{AllocError, Global};
+use std::alloc::AllocError;
 
 /// What stands for the origin of a binder of a name until the walk has gone over the term that gives it a type, or is
 /// its lambda: only then that place has its number.
@@ -27,12 +27,7 @@ const NOT_YET_KNOWN: Origin = Origin::TypeName;
 /// Adds the uses of type names in a written type.
 #[cycle(types)]
 #[tactic(auto, using(crate::proofs::TableRows::walks))]
-pub(crate) fn walk_type(
-    alloc: Global,
-    rows: &mut Rows,
-    types: &Seen<'_>,
-    ty: &WrittenTy,
-) -> Result<(), AllocError>
+pub(crate) fn walk_type(rows: &mut Rows, types: &Seen<'_>, ty: &WrittenTy) -> Result<(), AllocError>
     ensures table { OnOk result (rows_of rows.new ≡ rows_of rows.old ⊕ type_uses types.now (type_of ty.now)) }
     ensures binders { rows.new.binders ≡ rows.old.binders }
     ensures places { rows.new.places ≡ rows.old.places }
@@ -44,28 +39,23 @@ pub(crate) fn walk_type(
         TyNode::Top => Ok(()),
         TyNode::Named(name) => rows.add_use(name, types),
         TyNode::Arrow(arrow) => {
-            walk_type(alloc, rows, types, &arrow.parameter)?;
-            walk_type(alloc, rows, types, &arrow.outcome)
+            walk_type(rows, types, &arrow.parameter)?;
+            walk_type(rows, types, &arrow.outcome)
         }
-        TyNode::Record(fields) => walk_type_fields(alloc, rows, types, fields),
+        TyNode::Record(fields) => walk_type_fields(rows, types, fields),
     }
 }
 
 #[cycle(types)]
 #[tactic(auto, using(crate::proofs::TableRows::walks))]
-fn walk_type_fields(
-    alloc: Global,
-    rows: &mut Rows,
-    types: &Seen<'_>,
-    fields: &[TyField],
-) -> Result<(), AllocError>
+fn walk_type_fields(rows: &mut Rows, types: &Seen<'_>, fields: &[TyField]) -> Result<(), AllocError>
     ensures table { OnOk result (rows_of rows.new ≡ rows_of rows.old ⊕ field_uses types.now (type_fields_of fields.now)) }
     ensures binders { rows.new.binders ≡ rows.old.binders }
     ensures places { rows.new.places ≡ rows.old.places }
 {
     for i in 0..fields.len() {
         let field = &fields[i];
-        walk_type(alloc, rows, types, &field.ty)?;
+        walk_type(rows, types, &field.ty)?;
     }
     Ok(())
 }
@@ -74,7 +64,6 @@ fn walk_type_fields(
 #[cycle(terms)]
 #[tactic(auto, using(crate::proofs::TableRows::walks))]
 pub(crate) fn walk_term<'a>(
-    alloc: Global,
     rows: &mut Rows,
     types: &Seen<'_>,
     names: &mut Seen<'a>,
@@ -97,28 +86,28 @@ pub(crate) fn walk_term<'a>(
             rows.add_place(span, false, &[], names)
         }
         TmNode::Lambda(lambda) => {
-            let place = walk_lambda(alloc, rows, types, names, lambda)?;
+            let place = walk_lambda(rows, types, names, lambda)?;
             rows.add_place(span, false, &[place], names)
         }
-        TmNode::If(conditional) => walk_if(alloc, rows, types, names, span, conditional),
-        TmNode::Let(parts) => walk_let(alloc, rows, types, names, span, parts),
-        TmNode::Letrec(parts) => walk_letrec(alloc, rows, types, names, span, parts),
+        TmNode::If(conditional) => walk_if(rows, types, names, span, conditional),
+        TmNode::Let(parts) => walk_let(rows, types, names, span, parts),
+        TmNode::Letrec(parts) => walk_letrec(rows, types, names, span, parts),
         TmNode::Prefixed(_, operand) => {
-            let place = walk_term(alloc, rows, types, names, operand)?;
+            let place = walk_term(rows, types, names, operand)?;
             rows.add_place(span, false, &[place], names)
         }
-        TmNode::Apply(application) => walk_apply(alloc, rows, types, names, span, application),
+        TmNode::Apply(application) => walk_apply(rows, types, names, span, application),
         TmNode::Project(projection) => {
-            let place = walk_term(alloc, rows, types, names, &projection.record)?;
+            let place = walk_term(rows, types, names, &projection.record)?;
             rows.add_place(span, false, &[place], names)
         }
         TmNode::Ascribe(ascription) => {
-            let place = walk_term(alloc, rows, types, names, &ascription.operand)?;
-            walk_type(alloc, rows, types, &ascription.ty)?;
+            let place = walk_term(rows, types, names, &ascription.operand)?;
+            walk_type(rows, types, &ascription.ty)?;
             rows.add_place(span, false, &[place], names)
         }
         TmNode::Record(fields) => {
-            let terms = walk_fields(alloc, rows, types, names, fields)?;
+            let terms = walk_fields(rows, types, names, fields)?;
             rows.add_place(span, false, &terms, names)
         }
     }
@@ -127,7 +116,6 @@ pub(crate) fn walk_term<'a>(
 #[cycle(terms)]
 #[tactic(auto, using(crate::proofs::TableRows::walks))]
 fn walk_if<'a>(
-    alloc: Global,
     rows: &mut Rows,
     types: &Seen<'_>,
     names: &mut Seen<'a>,
@@ -140,16 +128,15 @@ fn walk_if<'a>(
     ensures places { OnOk result (length rows.new.places.items ≡ behind (length rows.old.places.items) (term_tree span (if_term (term_of term.now.condition) (term_of term.now.one) (term_of term.now.other)))) }
     ensures names { OnOk result (names.new ≡ names.old) }
 {
-    let first = walk_term(alloc, rows, types, names, &term.condition)?;
-    let second = walk_term(alloc, rows, types, names, &term.one)?;
-    let third = walk_term(alloc, rows, types, names, &term.other)?;
+    let first = walk_term(rows, types, names, &term.condition)?;
+    let second = walk_term(rows, types, names, &term.one)?;
+    let third = walk_term(rows, types, names, &term.other)?;
     rows.add_place(span, false, &[first, second, third], names)
 }
 
 #[cycle(terms)]
 #[tactic(auto, using(crate::proofs::TableRows::walks))]
 fn walk_let<'a>(
-    alloc: Global,
     rows: &mut Rows,
     types: &Seen<'_>,
     names: &mut Seen<'a>,
@@ -164,15 +151,14 @@ fn walk_let<'a>(
 {
     let seen = seen_as(&term.binder, rows.binder_count());
     let token = term.binder.span;
-    let first = walk_bound(alloc, rows, types, names, &term.bound, seen.name, token)?;
-    let second = walk_under(alloc, rows, types, names, &term.body, seen)?;
+    let first = walk_bound(rows, types, names, &term.bound, seen.name, token)?;
+    let second = walk_under(rows, types, names, &term.body, seen)?;
     rows.add_place(span, false, &[first, second], names)
 }
 
 #[cycle(terms)]
 #[tactic(auto, using(crate::proofs::TableRows::walks))]
 fn walk_letrec<'a>(
-    alloc: Global,
     rows: &mut Rows,
     types: &Seen<'_>,
     names: &mut Seen<'a>,
@@ -186,15 +172,14 @@ fn walk_letrec<'a>(
     ensures names { OnOk result (names.new ≡ names.old) }
 {
     let seen = seen_as(&term.binder, rows.binder_count() + 1);
-    let first = walk_fix(alloc, rows, types, names, term)?;
-    let second = walk_under(alloc, rows, types, names, &term.body, seen)?;
+    let first = walk_fix(rows, types, names, term)?;
+    let second = walk_under(rows, types, names, &term.body, seen)?;
     rows.add_place(span, false, &[first, second], names)
 }
 
 #[cycle(terms)]
 #[tactic(auto, using(crate::proofs::TableRows::walks))]
 fn walk_apply<'a>(
-    alloc: Global,
     rows: &mut Rows,
     types: &Seen<'_>,
     names: &mut Seen<'a>,
@@ -207,15 +192,14 @@ fn walk_apply<'a>(
     ensures places { OnOk result (length rows.new.places.items ≡ behind (length rows.old.places.items) (term_tree span (apply (term_of term.now.function) (term_of term.now.argument)))) }
     ensures names { OnOk result (names.new ≡ names.old) }
 {
-    let first = walk_term(alloc, rows, types, names, &term.function)?;
-    let second = walk_term(alloc, rows, types, names, &term.argument)?;
+    let first = walk_term(rows, types, names, &term.function)?;
+    let second = walk_term(rows, types, names, &term.argument)?;
     rows.add_place(span, false, &[first, second], names)
 }
 
 #[cycle(terms)]
 #[tactic(auto, using(crate::proofs::TableRows::walks))]
 fn walk_fields<'a>(
-    alloc: Global,
     rows: &mut Rows,
     types: &Seen<'_>,
     names: &mut Seen<'a>,
@@ -227,10 +211,10 @@ fn walk_fields<'a>(
     ensures places { OnOk result (length rows.new.places.items ≡ length rows.old.places.items + below_fields (fields_of fields.now)) }
     ensures names { OnOk result (names.new ≡ names.old) }
 {
-    let mut terms = Vec::with_capacity(alloc, fields.len())?;
+    let mut terms = Vec::with_capacity(rows.alloc, fields.len())?;
     for i in 0..fields.len() {
         let field = &fields[i];
-        let place = walk_term(alloc, rows, types, names, &field.term)?;
+        let place = walk_term(rows, types, names, &field.term)?;
         terms.push(place)?;
     }
     Ok(terms)
@@ -240,7 +224,6 @@ fn walk_fields<'a>(
 #[cycle(terms)]
 #[tactic(auto, using(crate::proofs::TableRows::walks))]
 fn walk_under<'a>(
-    alloc: Global,
     rows: &mut Rows,
     types: &Seen<'_>,
     names: &mut Seen<'a>,
@@ -254,7 +237,7 @@ fn walk_under<'a>(
     ensures names { OnOk result (names.new ≡ names.old) }
 {
     names.enter(seen)?;
-    let place = walk_term(alloc, rows, types, names, body)?;
+    let place = walk_term(rows, types, names, body)?;
     names.leave();
     Ok(place)
 }
@@ -263,7 +246,6 @@ fn walk_under<'a>(
 #[cycle(terms)]
 #[tactic(auto, using(crate::proofs::TableRows::walks))]
 fn walk_bound<'a>(
-    alloc: Global,
     rows: &mut Rows,
     types: &Seen<'_>,
     names: &mut Seen<'a>,
@@ -279,7 +261,7 @@ fn walk_bound<'a>(
 {
     let number = Binder(rows.binder_count());
     rows.add_binder(name, token, names, number, NOT_YET_KNOWN)?;
-    let place = walk_term(alloc, rows, types, names, bound)?;
+    let place = walk_term(rows, types, names, bound)?;
     rows.set_origin(number, Origin::Term(place));
     Ok(place)
 }
@@ -288,7 +270,6 @@ fn walk_bound<'a>(
 #[cycle(terms)]
 #[tactic(auto, using(crate::proofs::TableRows::walks))]
 fn walk_lambda<'a>(
-    alloc: Global,
     rows: &mut Rows,
     types: &Seen<'_>,
     names: &mut Seen<'a>,
@@ -304,8 +285,8 @@ fn walk_lambda<'a>(
     let seen = seen_as(&term.binder, number.0);
     let token = term.binder.span;
     rows.add_binder(seen.name, token, names, number, NOT_YET_KNOWN)?;
-    walk_type(alloc, rows, types, &term.ty)?;
-    let place = walk_under(alloc, rows, types, names, &term.body, seen)?;
+    walk_type(rows, types, &term.ty)?;
+    let place = walk_under(rows, types, names, &term.body, seen)?;
     rows.set_origin(number, Origin::Lambda(Place(rows.place_count())));
     Ok(place)
 }
@@ -315,7 +296,6 @@ fn walk_lambda<'a>(
 #[cycle(terms)]
 #[tactic(auto, using(crate::proofs::TableRows::walks))]
 fn walk_fix<'a>(
-    alloc: Global,
     rows: &mut Rows,
     types: &Seen<'_>,
     names: &mut Seen<'a>,
@@ -337,8 +317,8 @@ fn walk_fix<'a>(
     let token = term.binder.span;
     rows.add_binder(seen.name, token, names, of_let, NOT_YET_KNOWN)?;
     rows.add_binder(seen.name, token, names, of_let, NOT_YET_KNOWN)?;
-    walk_type(alloc, rows, types, &term.ty)?;
-    let place = walk_under(alloc, rows, types, names, &term.bound, seen)?;
+    walk_type(rows, types, &term.ty)?;
+    let place = walk_under(rows, types, names, &term.bound, seen)?;
     let fixed = add_derived(rows, names, term.bound.span, place, of_lambda, of_let)?;
     Ok(fixed)
 }
@@ -382,7 +362,6 @@ fn seen_as<'a>(binder: &'a BoundName, number: usize) -> SeenBinder<'a>
 /// Adds the rows of a command, of that number. Those behind it then see what it binds.
 #[tactic(auto, using(crate::proofs::TableRows::walks))]
 pub(crate) fn walk_command<'a>(
-    alloc: Global,
     rows: &mut Rows,
     types: &mut Seen<'a>,
     names: &mut Seen<'a>,
@@ -399,7 +378,7 @@ pub(crate) fn walk_command<'a>(
     match command {
         Command::Definition(name, term) => {
             let seen = named(name, own);
-            walk_bound(alloc, rows, types, names, term, seen.name, name.span)?;
+            walk_bound(rows, types, names, term, seen.name, name.span)?;
             names.enter(seen)
         }
         Command::Declaration(name, ty) => {
@@ -411,17 +390,17 @@ pub(crate) fn walk_command<'a>(
                 own,
                 Origin::Declaration(number),
             )?;
-            walk_type(alloc, rows, types, ty)?;
+            walk_type(rows, types, ty)?;
             names.enter(seen)
         }
         Command::Abbreviation(name, ty) => {
             let seen = named(name, own);
             rows.add_binder(seen.name, name.span, types, own, Origin::TypeName)?;
-            walk_type(alloc, rows, types, ty)?;
+            walk_type(rows, types, ty)?;
             types.enter(seen)
         }
         Command::Evaluation(term) => {
-            walk_term(alloc, rows, types, names, term)?;
+            walk_term(rows, types, names, term)?;
             Ok(())
         }
     }
