@@ -37,30 +37,30 @@ pub(crate) struct Forming<'a> {
 #[cycle(nameless)]
 #[tactic(auto, using(crate::proofs::Forms::forms))]
 pub(crate) fn nameless(
-    f: &mut Forming<'_>,
+    forming: &mut Forming<'_>,
     seen: &Abbreviations<'_>,
     term: &Tm,
 ) -> Result<Core, ScopeFault>
-    ensures form { IfOk result (λ e. term_of e ≡ counted (abbreviations_of seen.now) (tree_of term.now) f.old.uses) }
-    ensures uses { OnOk result (f.new.uses ≡ past (tree_of term.now) f.old.uses) }
-    ensures faults { OnOk result (f.new.faults.items ≡ f.old.faults.items ++ faults_in (abbreviations_of seen.now) (written_in (tree_of term.now))) }
+    ensures form { IfOk result (λ e. term_of e ≡ counted (abbreviations_of seen.now) (tree_of term.now) forming.old.uses) }
+    ensures uses { OnOk result (forming.new.uses ≡ past (tree_of term.now) forming.old.uses) }
+    ensures faults { OnOk result (forming.new.faults.items ≡ forming.old.faults.items ++ faults_in (abbreviations_of seen.now) (written_in (tree_of term.now))) }
     ensures limit { IsLimit (first_over_limit (abbreviations_of seen.now) (written_in (tree_of term.now))) result }
 {
     match &term.node {
         TmNode::True => Ok(Core::True),
         TmNode::False => Ok(Core::False),
         TmNode::Unit => Ok(Core::Unit),
-        TmNode::Variable(name) => Ok(use_of(f.alloc, name, &mut f.uses)?),
-        TmNode::Numeral(digits) => Ok(numeral_of(f.alloc, digits)?),
-        TmNode::Lambda(lambda) => lambda_of(f, seen, lambda),
-        TmNode::If(conditional) => if_of(f, seen, conditional),
-        TmNode::Let(parts) => let_of(f, seen, parts),
-        TmNode::Letrec(parts) => letrec_of(f, seen, parts),
-        TmNode::Prefixed(prefix, operand) => prefixed_of(f, seen, *prefix, operand),
-        TmNode::Apply(application) => apply_of(f, seen, application),
-        TmNode::Project(projection) => project_of(f, seen, projection),
-        TmNode::Ascribe(ascription) => ascribe_of(f, seen, ascription),
-        TmNode::Record(fields) => record_of(f, seen, fields),
+        TmNode::Variable(name) => Ok(use_of(forming.alloc, name, &mut forming.uses)?),
+        TmNode::Numeral(digits) => Ok(numeral_of(forming.alloc, digits)?),
+        TmNode::Lambda(lambda) => lambda_of(forming, seen, lambda),
+        TmNode::If(conditional) => if_of(forming, seen, conditional),
+        TmNode::Let(parts) => let_of(forming, seen, parts),
+        TmNode::Letrec(parts) => letrec_of(forming, seen, parts),
+        TmNode::Prefixed(prefix, operand) => prefixed_of(forming, seen, *prefix, operand),
+        TmNode::Apply(application) => apply_of(forming, seen, application),
+        TmNode::Project(projection) => project_of(forming, seen, projection),
+        TmNode::Ascribe(ascription) => ascribe_of(forming, seen, ascription),
+        TmNode::Record(fields) => record_of(forming, seen, fields),
     }
 }
 
@@ -68,21 +68,21 @@ pub(crate) fn nameless(
 /// its size, before any of it is built.
 #[tactic(auto, using(crate::proofs::Forms::forms))]
 pub(crate) fn nameless_type(
-    f: &mut Forming<'_>,
+    forming: &mut Forming<'_>,
     seen: &Abbreviations<'_>,
     ty: &WrittenTy,
 ) -> Result<Option<Ty>, ScopeFault>
     ensures expansion { IfOk result (λ e. written_of e ≡ expansion (abbreviations_of seen.now) (type_of ty.now)) }
-    ensures uses { OnOk result (f.new.uses ≡ past_type (type_of ty.now) f.old.uses) }
-    ensures faults { OnOk result (f.new.faults.items ≡ f.old.faults.items ++ type_faults (abbreviations_of seen.now) (type_of ty.now)) }
+    ensures uses { OnOk result (forming.new.uses ≡ past_type (type_of ty.now) forming.old.uses) }
+    ensures faults { OnOk result (forming.new.faults.items ≡ forming.old.faults.items ++ type_faults (abbreviations_of seen.now) (type_of ty.now)) }
     ensures limit { IsLimit (first_over_limit (abbreviations_of seen.now) (type_of ty.now ∷ [])) result }
 {
     if is_over_limit(expanded_size(seen, ty)) {
         return Err(ScopeFault::TooLarge(ty.span));
     }
-    collect_faults(seen, ty, &mut f.faults)?;
-    let expansion = expand(f.alloc, seen, ty)?;
-    pass_type(&mut f.uses, ty);
+    collect_faults(seen, ty, &mut forming.faults)?;
+    let expansion = expand(forming.alloc, seen, ty)?;
+    pass_type(&mut forming.uses, ty);
     Ok(expansion)
 }
 
@@ -98,184 +98,192 @@ fn is_over_limit(size: Option<u64>) -> bool
 /// The form of a part, in a box of its own.
 #[cycle(nameless)]
 #[tactic(auto, using(crate::proofs::Forms::forms))]
-fn boxed(f: &mut Forming<'_>, seen: &Abbreviations<'_>, term: &Tm) -> Result<Box<Core>, ScopeFault>
-    ensures form { IfOk result (λ e. term_of e.value ≡ counted (abbreviations_of seen.now) (tree_of term.now) f.old.uses) }
-    ensures uses { OnOk result (f.new.uses ≡ past (tree_of term.now) f.old.uses) }
-    ensures faults { OnOk result (f.new.faults.items ≡ f.old.faults.items ++ faults_in (abbreviations_of seen.now) (written_in (tree_of term.now))) }
+fn boxed(
+    forming: &mut Forming<'_>,
+    seen: &Abbreviations<'_>,
+    term: &Tm,
+) -> Result<Box<Core>, ScopeFault>
+    ensures form { IfOk result (λ e. term_of e.value ≡ counted (abbreviations_of seen.now) (tree_of term.now) forming.old.uses) }
+    ensures uses { OnOk result (forming.new.uses ≡ past (tree_of term.now) forming.old.uses) }
+    ensures faults { OnOk result (forming.new.faults.items ≡ forming.old.faults.items ++ faults_in (abbreviations_of seen.now) (written_in (tree_of term.now))) }
     ensures limit { IsLimit (first_over_limit (abbreviations_of seen.now) (written_in (tree_of term.now))) result }
 {
-    let form = nameless(f, seen, term)?;
-    let part = Box::new(f.alloc, form)?;
+    let form = nameless(forming, seen, term)?;
+    let part = Box::new(forming.alloc, form)?;
     Ok(part)
 }
 
 #[cycle(nameless)]
 #[tactic(auto, using(crate::proofs::Forms::forms))]
 fn lambda_of(
-    f: &mut Forming<'_>,
+    forming: &mut Forming<'_>,
     seen: &Abbreviations<'_>,
     term: &Lambda,
 ) -> Result<Core, ScopeFault>
-    ensures form { IfOk result (λ e. term_of e ≡ counted_node (abbreviations_of seen.now) (lambda (bound_of term.now.binder) (type_of term.now.ty) (tree_of term.now.body)) f.old.uses) }
-    ensures uses { OnOk result (f.new.uses ≡ past_node (lambda (bound_of term.now.binder) (type_of term.now.ty) (tree_of term.now.body)) f.old.uses) }
-    ensures faults { OnOk result (f.new.faults.items ≡ f.old.faults.items ++ faults_in (abbreviations_of seen.now) (written_in_node (lambda (bound_of term.now.binder) (type_of term.now.ty) (tree_of term.now.body)))) }
+    ensures form { IfOk result (λ e. term_of e ≡ counted_node (abbreviations_of seen.now) (lambda (bound_of term.now.binder) (type_of term.now.ty) (tree_of term.now.body)) forming.old.uses) }
+    ensures uses { OnOk result (forming.new.uses ≡ past_node (lambda (bound_of term.now.binder) (type_of term.now.ty) (tree_of term.now.body)) forming.old.uses) }
+    ensures faults { OnOk result (forming.new.faults.items ≡ forming.old.faults.items ++ faults_in (abbreviations_of seen.now) (written_in_node (lambda (bound_of term.now.binder) (type_of term.now.ty) (tree_of term.now.body)))) }
     ensures limit { IsLimit (first_over_limit (abbreviations_of seen.now) (written_in_node (lambda (bound_of term.now.binder) (type_of term.now.ty) (tree_of term.now.body)))) result }
 {
-    let written = nameless_type(f, seen, &term.ty)?;
-    let body = boxed(f, seen, &term.body)?;
-    Ok(Core::Abs(Box::new(f.alloc, written)?, body))
+    let written = nameless_type(forming, seen, &term.ty)?;
+    let body = boxed(forming, seen, &term.body)?;
+    Ok(Core::Abs(Box::new(forming.alloc, written)?, body))
 }
 
 #[cycle(nameless)]
 #[tactic(auto, using(crate::proofs::Forms::forms))]
 fn if_of(
-    f: &mut Forming<'_>,
+    forming: &mut Forming<'_>,
     seen: &Abbreviations<'_>,
     term: &Conditional,
 ) -> Result<Core, ScopeFault>
-    ensures form { IfOk result (λ e. term_of e ≡ counted_node (abbreviations_of seen.now) (if_term (tree_of term.now.condition) (tree_of term.now.one) (tree_of term.now.other)) f.old.uses) }
-    ensures uses { OnOk result (f.new.uses ≡ past_node (if_term (tree_of term.now.condition) (tree_of term.now.one) (tree_of term.now.other)) f.old.uses) }
-    ensures faults { OnOk result (f.new.faults.items ≡ f.old.faults.items ++ faults_in (abbreviations_of seen.now) (written_in_node (if_term (tree_of term.now.condition) (tree_of term.now.one) (tree_of term.now.other)))) }
+    ensures form { IfOk result (λ e. term_of e ≡ counted_node (abbreviations_of seen.now) (if_term (tree_of term.now.condition) (tree_of term.now.one) (tree_of term.now.other)) forming.old.uses) }
+    ensures uses { OnOk result (forming.new.uses ≡ past_node (if_term (tree_of term.now.condition) (tree_of term.now.one) (tree_of term.now.other)) forming.old.uses) }
+    ensures faults { OnOk result (forming.new.faults.items ≡ forming.old.faults.items ++ faults_in (abbreviations_of seen.now) (written_in_node (if_term (tree_of term.now.condition) (tree_of term.now.one) (tree_of term.now.other)))) }
     ensures limit { IsLimit (first_over_limit (abbreviations_of seen.now) (written_in_node (if_term (tree_of term.now.condition) (tree_of term.now.one) (tree_of term.now.other)))) result }
 {
-    let first = boxed(f, seen, &term.condition)?;
-    let second = boxed(f, seen, &term.one)?;
-    let third = boxed(f, seen, &term.other)?;
+    let first = boxed(forming, seen, &term.condition)?;
+    let second = boxed(forming, seen, &term.one)?;
+    let third = boxed(forming, seen, &term.other)?;
     Ok(Core::If(first, second, third))
 }
 
 #[cycle(nameless)]
 #[tactic(auto, using(crate::proofs::Forms::forms))]
-fn let_of(f: &mut Forming<'_>, seen: &Abbreviations<'_>, term: &Let) -> Result<Core, ScopeFault>
-    ensures form { IfOk result (λ e. term_of e ≡ counted_node (abbreviations_of seen.now) (let_term (bound_of term.now.binder) (tree_of term.now.bound) (tree_of term.now.body)) f.old.uses) }
-    ensures uses { OnOk result (f.new.uses ≡ past_node (let_term (bound_of term.now.binder) (tree_of term.now.bound) (tree_of term.now.body)) f.old.uses) }
-    ensures faults { OnOk result (f.new.faults.items ≡ f.old.faults.items ++ faults_in (abbreviations_of seen.now) (written_in_node (let_term (bound_of term.now.binder) (tree_of term.now.bound) (tree_of term.now.body)))) }
+fn let_of(
+    forming: &mut Forming<'_>,
+    seen: &Abbreviations<'_>,
+    term: &Let,
+) -> Result<Core, ScopeFault>
+    ensures form { IfOk result (λ e. term_of e ≡ counted_node (abbreviations_of seen.now) (let_term (bound_of term.now.binder) (tree_of term.now.bound) (tree_of term.now.body)) forming.old.uses) }
+    ensures uses { OnOk result (forming.new.uses ≡ past_node (let_term (bound_of term.now.binder) (tree_of term.now.bound) (tree_of term.now.body)) forming.old.uses) }
+    ensures faults { OnOk result (forming.new.faults.items ≡ forming.old.faults.items ++ faults_in (abbreviations_of seen.now) (written_in_node (let_term (bound_of term.now.binder) (tree_of term.now.bound) (tree_of term.now.body)))) }
     ensures limit { IsLimit (first_over_limit (abbreviations_of seen.now) (written_in_node (let_term (bound_of term.now.binder) (tree_of term.now.bound) (tree_of term.now.body)))) result }
 {
-    let first = boxed(f, seen, &term.bound)?;
-    let second = boxed(f, seen, &term.body)?;
+    let first = boxed(forming, seen, &term.bound)?;
+    let second = boxed(forming, seen, &term.body)?;
     Ok(Core::Let(first, second))
 }
 
 #[cycle(nameless)]
 #[tactic(auto, using(crate::proofs::Forms::forms))]
 fn letrec_of(
-    f: &mut Forming<'_>,
+    forming: &mut Forming<'_>,
     seen: &Abbreviations<'_>,
     term: &Letrec,
 ) -> Result<Core, ScopeFault>
-    ensures form { IfOk result (λ e. term_of e ≡ counted_node (abbreviations_of seen.now) (letrec_term (bound_of term.now.binder) (type_of term.now.ty) (tree_of term.now.bound) (tree_of term.now.body)) f.old.uses) }
-    ensures uses { OnOk result (f.new.uses ≡ past_node (letrec_term (bound_of term.now.binder) (type_of term.now.ty) (tree_of term.now.bound) (tree_of term.now.body)) f.old.uses) }
-    ensures faults { OnOk result (f.new.faults.items ≡ f.old.faults.items ++ faults_in (abbreviations_of seen.now) (written_in_node (letrec_term (bound_of term.now.binder) (type_of term.now.ty) (tree_of term.now.bound) (tree_of term.now.body)))) }
+    ensures form { IfOk result (λ e. term_of e ≡ counted_node (abbreviations_of seen.now) (letrec_term (bound_of term.now.binder) (type_of term.now.ty) (tree_of term.now.bound) (tree_of term.now.body)) forming.old.uses) }
+    ensures uses { OnOk result (forming.new.uses ≡ past_node (letrec_term (bound_of term.now.binder) (type_of term.now.ty) (tree_of term.now.bound) (tree_of term.now.body)) forming.old.uses) }
+    ensures faults { OnOk result (forming.new.faults.items ≡ forming.old.faults.items ++ faults_in (abbreviations_of seen.now) (written_in_node (letrec_term (bound_of term.now.binder) (type_of term.now.ty) (tree_of term.now.bound) (tree_of term.now.body)))) }
     ensures limit { IsLimit (first_over_limit (abbreviations_of seen.now) (written_in_node (letrec_term (bound_of term.now.binder) (type_of term.now.ty) (tree_of term.now.bound) (tree_of term.now.body)))) result }
 {
-    let written = nameless_type(f, seen, &term.ty)?;
-    let first = nameless(f, seen, &term.bound)?;
-    let second = nameless(f, seen, &term.body)?;
-    Ok(make_letrec(f.alloc, written, first, second)?)
+    let written = nameless_type(forming, seen, &term.ty)?;
+    let first = nameless(forming, seen, &term.bound)?;
+    let second = nameless(forming, seen, &term.body)?;
+    Ok(make_letrec(forming.alloc, written, first, second)?)
 }
 
 #[cycle(nameless)]
 #[tactic(auto, using(crate::proofs::Forms::forms))]
 fn prefixed_of(
-    f: &mut Forming<'_>,
+    forming: &mut Forming<'_>,
     seen: &Abbreviations<'_>,
     prefix: Prefix,
     operand: &Tm,
 ) -> Result<Core, ScopeFault>
-    ensures form { IfOk result (λ e. term_of e ≡ counted_node (abbreviations_of seen.now) (prefixed_term prefix (tree_of operand.now)) f.old.uses) }
-    ensures uses { OnOk result (f.new.uses ≡ past_node (prefixed_term prefix (tree_of operand.now)) f.old.uses) }
-    ensures faults { OnOk result (f.new.faults.items ≡ f.old.faults.items ++ faults_in (abbreviations_of seen.now) (written_in_node (prefixed_term prefix (tree_of operand.now)))) }
+    ensures form { IfOk result (λ e. term_of e ≡ counted_node (abbreviations_of seen.now) (prefixed_term prefix (tree_of operand.now)) forming.old.uses) }
+    ensures uses { OnOk result (forming.new.uses ≡ past_node (prefixed_term prefix (tree_of operand.now)) forming.old.uses) }
+    ensures faults { OnOk result (forming.new.faults.items ≡ forming.old.faults.items ++ faults_in (abbreviations_of seen.now) (written_in_node (prefixed_term prefix (tree_of operand.now)))) }
     ensures limit { IsLimit (first_over_limit (abbreviations_of seen.now) (written_in_node (prefixed_term prefix (tree_of operand.now)))) result }
 {
-    let form = boxed(f, seen, operand)?;
+    let form = boxed(forming, seen, operand)?;
     Ok(make_prefixed(prefix, form))
 }
 
 #[cycle(nameless)]
 #[tactic(auto, using(crate::proofs::Forms::forms))]
 fn apply_of(
-    f: &mut Forming<'_>,
+    forming: &mut Forming<'_>,
     seen: &Abbreviations<'_>,
     term: &Application,
 ) -> Result<Core, ScopeFault>
-    ensures form { IfOk result (λ e. term_of e ≡ counted_node (abbreviations_of seen.now) (apply (tree_of term.now.function) (tree_of term.now.argument)) f.old.uses) }
-    ensures uses { OnOk result (f.new.uses ≡ past_node (apply (tree_of term.now.function) (tree_of term.now.argument)) f.old.uses) }
-    ensures faults { OnOk result (f.new.faults.items ≡ f.old.faults.items ++ faults_in (abbreviations_of seen.now) (written_in_node (apply (tree_of term.now.function) (tree_of term.now.argument)))) }
+    ensures form { IfOk result (λ e. term_of e ≡ counted_node (abbreviations_of seen.now) (apply (tree_of term.now.function) (tree_of term.now.argument)) forming.old.uses) }
+    ensures uses { OnOk result (forming.new.uses ≡ past_node (apply (tree_of term.now.function) (tree_of term.now.argument)) forming.old.uses) }
+    ensures faults { OnOk result (forming.new.faults.items ≡ forming.old.faults.items ++ faults_in (abbreviations_of seen.now) (written_in_node (apply (tree_of term.now.function) (tree_of term.now.argument)))) }
     ensures limit { IsLimit (first_over_limit (abbreviations_of seen.now) (written_in_node (apply (tree_of term.now.function) (tree_of term.now.argument)))) result }
 {
-    let first = boxed(f, seen, &term.function)?;
-    let second = boxed(f, seen, &term.argument)?;
+    let first = boxed(forming, seen, &term.function)?;
+    let second = boxed(forming, seen, &term.argument)?;
     Ok(Core::App(first, second))
 }
 
 #[cycle(nameless)]
 #[tactic(auto, using(crate::proofs::Forms::forms))]
 fn project_of(
-    f: &mut Forming<'_>,
+    forming: &mut Forming<'_>,
     seen: &Abbreviations<'_>,
     term: &Projection,
 ) -> Result<Core, ScopeFault>
-    ensures form { IfOk result (λ e. term_of e ≡ counted_node (abbreviations_of seen.now) (project (tree_of term.now.record) (word_of term.now.label)) f.old.uses) }
-    ensures uses { OnOk result (f.new.uses ≡ past_node (project (tree_of term.now.record) (word_of term.now.label)) f.old.uses) }
-    ensures faults { OnOk result (f.new.faults.items ≡ f.old.faults.items ++ faults_in (abbreviations_of seen.now) (written_in_node (project (tree_of term.now.record) (word_of term.now.label)))) }
+    ensures form { IfOk result (λ e. term_of e ≡ counted_node (abbreviations_of seen.now) (project (tree_of term.now.record) (word_of term.now.label)) forming.old.uses) }
+    ensures uses { OnOk result (forming.new.uses ≡ past_node (project (tree_of term.now.record) (word_of term.now.label)) forming.old.uses) }
+    ensures faults { OnOk result (forming.new.faults.items ≡ forming.old.faults.items ++ faults_in (abbreviations_of seen.now) (written_in_node (project (tree_of term.now.record) (word_of term.now.label)))) }
     ensures limit { IsLimit (first_over_limit (abbreviations_of seen.now) (written_in_node (project (tree_of term.now.record) (word_of term.now.label)))) result }
 {
-    let form = boxed(f, seen, &term.record)?;
-    let copy = String::from_str(f.alloc, term.label.text.as_str())?;
+    let form = boxed(forming, seen, &term.record)?;
+    let copy = String::from_str(forming.alloc, term.label.text.as_str())?;
     Ok(Core::Proj(form, copy))
 }
 
 #[cycle(nameless)]
 #[tactic(auto, using(crate::proofs::Forms::forms))]
 fn ascribe_of(
-    f: &mut Forming<'_>,
+    forming: &mut Forming<'_>,
     seen: &Abbreviations<'_>,
     term: &Ascription,
 ) -> Result<Core, ScopeFault>
-    ensures form { IfOk result (λ e. term_of e ≡ counted_node (abbreviations_of seen.now) (ascribe (tree_of term.now.operand) (type_of term.now.ty)) f.old.uses) }
-    ensures uses { OnOk result (f.new.uses ≡ past_node (ascribe (tree_of term.now.operand) (type_of term.now.ty)) f.old.uses) }
-    ensures faults { OnOk result (f.new.faults.items ≡ f.old.faults.items ++ faults_in (abbreviations_of seen.now) (written_in_node (ascribe (tree_of term.now.operand) (type_of term.now.ty)))) }
+    ensures form { IfOk result (λ e. term_of e ≡ counted_node (abbreviations_of seen.now) (ascribe (tree_of term.now.operand) (type_of term.now.ty)) forming.old.uses) }
+    ensures uses { OnOk result (forming.new.uses ≡ past_node (ascribe (tree_of term.now.operand) (type_of term.now.ty)) forming.old.uses) }
+    ensures faults { OnOk result (forming.new.faults.items ≡ forming.old.faults.items ++ faults_in (abbreviations_of seen.now) (written_in_node (ascribe (tree_of term.now.operand) (type_of term.now.ty)))) }
     ensures limit { IsLimit (first_over_limit (abbreviations_of seen.now) (written_in_node (ascribe (tree_of term.now.operand) (type_of term.now.ty)))) result }
 {
-    let form = boxed(f, seen, &term.operand)?;
-    let written = nameless_type(f, seen, &term.ty)?;
-    Ok(Core::Ascribe(form, Box::new(f.alloc, written)?))
+    let form = boxed(forming, seen, &term.operand)?;
+    let written = nameless_type(forming, seen, &term.ty)?;
+    Ok(Core::Ascribe(form, Box::new(forming.alloc, written)?))
 }
 
 #[cycle(nameless)]
 #[tactic(auto, using(crate::proofs::Forms::forms))]
 fn record_of(
-    f: &mut Forming<'_>,
+    forming: &mut Forming<'_>,
     seen: &Abbreviations<'_>,
     fields: &[TmField],
 ) -> Result<Core, ScopeFault>
-    ensures form { IfOk result (λ e. term_of e ≡ record_term (counted_fields (abbreviations_of seen.now) (fields_of fields.now) f.old.uses)) }
-    ensures uses { OnOk result (f.new.uses ≡ past_fields (fields_of fields.now) f.old.uses) }
-    ensures faults { OnOk result (f.new.faults.items ≡ f.old.faults.items ++ faults_in (abbreviations_of seen.now) (written_in_fields (fields_of fields.now))) }
+    ensures form { IfOk result (λ e. term_of e ≡ record_term (counted_fields (abbreviations_of seen.now) (fields_of fields.now) forming.old.uses)) }
+    ensures uses { OnOk result (forming.new.uses ≡ past_fields (fields_of fields.now) forming.old.uses) }
+    ensures faults { OnOk result (forming.new.faults.items ≡ forming.old.faults.items ++ faults_in (abbreviations_of seen.now) (written_in_fields (fields_of fields.now))) }
     ensures limit { IsLimit (first_over_limit (abbreviations_of seen.now) (written_in_fields (fields_of fields.now))) result }
 {
-    let forms = nameless_fields(f, seen, fields)?;
+    let forms = nameless_fields(forming, seen, fields)?;
     Ok(Core::Record(forms))
 }
 
 #[cycle(nameless)]
 #[tactic(auto, using(crate::proofs::Forms::forms))]
 fn nameless_fields(
-    f: &mut Forming<'_>,
+    forming: &mut Forming<'_>,
     seen: &Abbreviations<'_>,
     fields: &[TmField],
 ) -> Result<Vec<(String, Core)>, ScopeFault>
-    ensures form { IfOk result (λ forms. terms_of forms.items ≡ counted_fields (abbreviations_of seen.now) (fields_of fields.now) f.old.uses) }
-    ensures uses { OnOk result (f.new.uses ≡ past_fields (fields_of fields.now) f.old.uses) }
-    ensures faults { OnOk result (f.new.faults.items ≡ f.old.faults.items ++ faults_in (abbreviations_of seen.now) (written_in_fields (fields_of fields.now))) }
+    ensures form { IfOk result (λ forms. terms_of forms.items ≡ counted_fields (abbreviations_of seen.now) (fields_of fields.now) forming.old.uses) }
+    ensures uses { OnOk result (forming.new.uses ≡ past_fields (fields_of fields.now) forming.old.uses) }
+    ensures faults { OnOk result (forming.new.faults.items ≡ forming.old.faults.items ++ faults_in (abbreviations_of seen.now) (written_in_fields (fields_of fields.now))) }
     ensures limit { IsLimit (first_over_limit (abbreviations_of seen.now) (written_in_fields (fields_of fields.now))) result }
 {
-    let mut forms = Vec::with_capacity(f.alloc, fields.len())?;
+    let mut forms = Vec::with_capacity(forming.alloc, fields.len())?;
     for i in 0..fields.len() {
         let field = &fields[i];
-        let form = nameless(f, seen, &field.term)?;
-        let label = String::from_str(f.alloc, field.label.text.as_str())?;
+        let form = nameless(forming, seen, &field.term)?;
+        let label = String::from_str(forming.alloc, field.label.text.as_str())?;
         forms.push((label, form))?;
     }
     Ok(forms)

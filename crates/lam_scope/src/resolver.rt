@@ -72,24 +72,24 @@ impl<'a> Resolver<'a> {
         ensures statements { self.new.statements ≡ self.old.statements }
     {
         let seen = &self.abbreviations;
-        let f = &mut self.forming;
+        let forming = &mut self.forming;
         match command {
             Command::Definition(_, term) => {
-                let form = nameless(f, seen, term)?;
+                let form = nameless(forming, seen, term)?;
                 Ok(Statement::Definition(form))
             }
             Command::Declaration(_, ty) => {
-                let expansion = nameless_type(f, seen, ty)?;
+                let expansion = nameless_type(forming, seen, ty)?;
                 Ok(Statement::Declaration(expansion))
             }
             Command::Abbreviation(name, ty) => {
-                let expansion = nameless_type(f, seen, ty)?;
-                let copy = copy_of_written(f.alloc, &expansion)?;
+                let expansion = nameless_type(forming, seen, ty)?;
+                let copy = copy_of_written(forming.alloc, &expansion)?;
                 self.abbreviations.add(name.text.as_str(), expansion)?;
                 Ok(Statement::Abbreviation(copy))
             }
             Command::Evaluation(term) => {
-                let form = nameless(f, seen, term)?;
+                let form = nameless(forming, seen, term)?;
                 Ok(Statement::Evaluation(form))
             }
         }

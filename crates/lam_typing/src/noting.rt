@@ -89,35 +89,35 @@ pub(crate) fn note_statements(
 
 fn note_statement(
     table: &mut TyTable,
-    n: &mut Notes,
+    notes: &mut Notes,
     found: &[Option<TyNo>],
     statement: &Statement,
 ) -> Result<(), AllocError>
-    requires sound { AreSoundNotes table.old n.old }
+    requires sound { AreSoundNotes table.old notes.old }
     requires found { AllStandIn table.old found.now }
     requires wf { IsWellFormedStatement (statement_of statement.now) }
-    ensures { OnOk result (NotesStatement table.old table.new n.old n.new found.now (statement_of statement.now)) }
+    ensures { OnOk result (NotesStatement table.old table.new notes.old notes.new found.now (statement_of statement.now)) }
 {
     match statement {
         Statement::Definition(core) => {
-            let place = note_term(table, n, found, core)?;
-            n.entries.push(found_at(found, place))?;
-            n.declared.push(None)?;
+            let place = note_term(table, notes, found, core)?;
+            notes.entries.push(found_at(found, place))?;
+            notes.declared.push(None)?;
             Ok(())
         }
         Statement::Declaration(written) => {
             let entry = added(table, written)?;
-            n.entries.push(entry)?;
-            n.declared.push(entry)?;
+            notes.entries.push(entry)?;
+            notes.declared.push(entry)?;
             Ok(())
         }
         Statement::Abbreviation(_) => {
-            n.declared.push(None)?;
+            notes.declared.push(None)?;
             Ok(())
         }
         Statement::Evaluation(core) => {
-            note_term(table, n, found, core)?;
-            n.declared.push(None)?;
+            note_term(table, notes, found, core)?;
+            notes.declared.push(None)?;
             Ok(())
         }
     }
@@ -128,198 +128,198 @@ fn note_statement(
 #[tactic(auto, using(lam_rules::proofs::TermShapes::term_shapes))]
 fn note_term(
     table: &mut TyTable,
-    n: &mut Notes,
+    notes: &mut Notes,
     found: &[Option<TyNo>],
     term: &Core,
 ) -> Result<usize, AllocError>
-    requires sound { AreSoundNotes table.old n.old }
+    requires sound { AreSoundNotes table.old notes.old }
     requires found { AllStandIn table.old found.now }
     requires wf { IsWellFormedTerm (term_of term.now) }
-    ensures { IfOk result (λ place. NotesTerm table.old table.new n.old n.new found.now (term_of term.now) place) }
+    ensures { IfOk result (λ place. NotesTerm table.old table.new notes.old notes.new found.now (term_of term.now) place) }
 {
     match term {
-        Core::True => note_leaf(table, n),
-        Core::False => note_leaf(table, n),
+        Core::True => note_leaf(table, notes),
+        Core::False => note_leaf(table, notes),
         Core::If(condition, then_term, else_term) => {
-            note_if(table, n, found, condition, then_term, else_term)
+            note_if(table, notes, found, condition, then_term, else_term)
         }
-        Core::Num(_) => note_leaf(table, n),
-        Core::Succ(operand) => note_over(table, n, found, operand),
-        Core::Pred(operand) => note_over(table, n, found, operand),
-        Core::IsZero(operand) => note_over(table, n, found, operand),
-        Core::Var(count) => note_variable(table, n, *count),
-        Core::Free(_) => note_leaf(table, n),
-        Core::Abs(written, body) => note_lambda(table, n, found, written, body),
-        Core::App(function, argument) => note_apply(table, n, found, function, argument),
-        Core::Unit => note_leaf(table, n),
-        Core::Ascribe(operand, _) => note_over(table, n, found, operand),
-        Core::Let(bound, body) => note_let(table, n, found, bound, body),
-        Core::Record(fields) => note_record(table, n, found, fields),
-        Core::Proj(operand, _) => note_over(table, n, found, operand),
-        Core::Fix(operand) => note_over(table, n, found, operand),
+        Core::Num(_) => note_leaf(table, notes),
+        Core::Succ(operand) => note_over(table, notes, found, operand),
+        Core::Pred(operand) => note_over(table, notes, found, operand),
+        Core::IsZero(operand) => note_over(table, notes, found, operand),
+        Core::Var(count) => note_variable(table, notes, *count),
+        Core::Free(_) => note_leaf(table, notes),
+        Core::Abs(written, body) => note_lambda(table, notes, found, written, body),
+        Core::App(function, argument) => note_apply(table, notes, found, function, argument),
+        Core::Unit => note_leaf(table, notes),
+        Core::Ascribe(operand, _) => note_over(table, notes, found, operand),
+        Core::Let(bound, body) => note_let(table, notes, found, bound, body),
+        Core::Record(fields) => note_record(table, notes, found, fields),
+        Core::Proj(operand, _) => note_over(table, notes, found, operand),
+        Core::Fix(operand) => note_over(table, notes, found, operand),
     }
 }
 
 /// A term without parts that is no variable.
-fn note_leaf(table: &TyTable, n: &mut Notes) -> Result<usize, AllocError>
-    requires sound { AreSoundNotes table.now n.old }
-    ensures { IfOk result (λ place. (found : List (Option Number)) (e : Term) → IsLeaf e → NotesTerm table.now table.now n.old n.new found e place) }
+fn note_leaf(table: &TyTable, notes: &mut Notes) -> Result<usize, AllocError>
+    requires sound { AreSoundNotes table.now notes.old }
+    ensures { IfOk result (λ place. (found : List (Option Number)) (e : Term) → IsLeaf e → NotesTerm table.now table.now notes.old notes.new found e place) }
 {
-    note_here(n, Note::Nothing)
+    note_here(notes, Note::Nothing)
 }
 
 /// A term of one part that binds nothing.
 #[cycle(note_term)]
 fn note_over(
     table: &mut TyTable,
-    n: &mut Notes,
+    notes: &mut Notes,
     found: &[Option<TyNo>],
     operand: &Core,
 ) -> Result<usize, AllocError>
-    requires sound { AreSoundNotes table.old n.old }
+    requires sound { AreSoundNotes table.old notes.old }
     requires found { AllStandIn table.old found.now }
     requires operand { IsWellFormedTerm (term_of operand.now) }
-    ensures { IfOk result (λ place. (e : Term) → IsOver e (term_of operand.now) → NotesTerm table.old table.new n.old n.new found.now e place) }
+    ensures { IfOk result (λ place. (e : Term) → IsOver e (term_of operand.now) → NotesTerm table.old table.new notes.old notes.new found.now e place) }
 {
-    note_term(table, n, found, operand)?;
-    note_here(n, Note::Nothing)
+    note_term(table, notes, found, operand)?;
+    note_here(notes, Note::Nothing)
 }
 
 #[cycle(note_term)]
 fn note_if(
     table: &mut TyTable,
-    n: &mut Notes,
+    notes: &mut Notes,
     found: &[Option<TyNo>],
     condition: &Core,
     then_term: &Core,
     else_term: &Core,
 ) -> Result<usize, AllocError>
-    requires sound { AreSoundNotes table.old n.old }
+    requires sound { AreSoundNotes table.old notes.old }
     requires found { AllStandIn table.old found.now }
     requires condition { IsWellFormedTerm (term_of condition.now) }
     requires then_term { IsWellFormedTerm (term_of then_term.now) }
     requires else_term { IsWellFormedTerm (term_of else_term.now) }
-    ensures { IfOk result (λ place. NotesTerm table.old table.new n.old n.new found.now (if_then_else (term_of condition.now) (term_of then_term.now) (term_of else_term.now)) place) }
+    ensures { IfOk result (λ place. NotesTerm table.old table.new notes.old notes.new found.now (if_then_else (term_of condition.now) (term_of then_term.now) (term_of else_term.now)) place) }
 {
-    note_term(table, n, found, condition)?;
-    note_term(table, n, found, then_term)?;
-    note_term(table, n, found, else_term)?;
-    note_here(n, Note::Nothing)
+    note_term(table, notes, found, condition)?;
+    note_term(table, notes, found, then_term)?;
+    note_term(table, notes, found, else_term)?;
+    note_here(notes, Note::Nothing)
 }
 
 /// A variable has the entry of the binder that it counts to.
-fn note_variable(table: &TyTable, n: &mut Notes, count: usize) -> Result<usize, AllocError>
-    requires sound { AreSoundNotes table.now n.old }
-    ensures { IfOk result (λ place. (found : List (Option Number)) → NotesTerm table.now table.now n.old n.new found (variable count) place) }
+fn note_variable(table: &TyTable, notes: &mut Notes, count: usize) -> Result<usize, AllocError>
+    requires sound { AreSoundNotes table.now notes.old }
+    ensures { IfOk result (λ place. (found : List (Option Number)) → NotesTerm table.now table.now notes.old notes.new found (variable count) place) }
 {
-    let bound = entry_counted(&n.entries, count);
-    note_here(n, Note::of_variable(bound))
+    let bound = entry_counted(&notes.entries, count);
+    note_here(notes, Note::of_variable(bound))
 }
 
 #[cycle(note_term)]
 fn note_lambda(
     table: &mut TyTable,
-    n: &mut Notes,
+    notes: &mut Notes,
     found: &[Option<TyNo>],
     written: &Option<Ty>,
     body: &Core,
 ) -> Result<usize, AllocError>
-    requires sound { AreSoundNotes table.old n.old }
+    requires sound { AreSoundNotes table.old notes.old }
     requires found { AllStandIn table.old found.now }
     requires written { IsWellFormedEntry (written_of written.now) }
     requires body { IsWellFormedTerm (term_of body.now) }
-    ensures { IfOk result (λ place. NotesTerm table.old table.new n.old n.new found.now (lambda (written_of written.now) (term_of body.now)) place) }
+    ensures { IfOk result (λ place. NotesTerm table.old table.new notes.old notes.new found.now (lambda (written_of written.now) (term_of body.now)) place) }
 {
     let entry = added(table, written)?;
-    n.entries.push(entry)?;
-    note_term(table, n, found, body)?;
-    n.entries.pop();
-    note_here(n, Note::of_lambda(entry))
+    notes.entries.push(entry)?;
+    note_term(table, notes, found, body)?;
+    notes.entries.pop();
+    note_here(notes, Note::of_lambda(entry))
 }
 
 #[cycle(note_term)]
 fn note_apply(
     table: &mut TyTable,
-    n: &mut Notes,
+    notes: &mut Notes,
     found: &[Option<TyNo>],
     function: &Core,
     argument: &Core,
 ) -> Result<usize, AllocError>
-    requires sound { AreSoundNotes table.old n.old }
+    requires sound { AreSoundNotes table.old notes.old }
     requires found { AllStandIn table.old found.now }
     requires function { IsWellFormedTerm (term_of function.now) }
     requires argument { IsWellFormedTerm (term_of argument.now) }
-    ensures { IfOk result (λ place. NotesTerm table.old table.new n.old n.new found.now (apply (term_of function.now) (term_of argument.now)) place) }
+    ensures { IfOk result (λ place. NotesTerm table.old table.new notes.old notes.new found.now (apply (term_of function.now) (term_of argument.now)) place) }
 {
-    note_term(table, n, found, function)?;
-    note_term(table, n, found, argument)?;
-    note_here(n, Note::Nothing)
+    note_term(table, notes, found, function)?;
+    note_term(table, notes, found, argument)?;
+    note_here(notes, Note::Nothing)
 }
 
 /// A let: the binder's entry is the type that was found of the term that is bound.
 #[cycle(note_term)]
 fn note_let(
     table: &mut TyTable,
-    n: &mut Notes,
+    notes: &mut Notes,
     found: &[Option<TyNo>],
     bound: &Core,
     body: &Core,
 ) -> Result<usize, AllocError>
-    requires sound { AreSoundNotes table.old n.old }
+    requires sound { AreSoundNotes table.old notes.old }
     requires found { AllStandIn table.old found.now }
     requires bound { IsWellFormedTerm (term_of bound.now) }
     requires body { IsWellFormedTerm (term_of body.now) }
-    ensures { IfOk result (λ place. NotesTerm table.old table.new n.old n.new found.now (let_in (term_of bound.now) (term_of body.now)) place) }
+    ensures { IfOk result (λ place. NotesTerm table.old table.new notes.old notes.new found.now (let_in (term_of bound.now) (term_of body.now)) place) }
 {
-    let place = note_term(table, n, found, bound)?;
-    n.entries.push(found_at(found, place))?;
-    note_term(table, n, found, body)?;
-    n.entries.pop();
-    note_here(n, Note::Nothing)
+    let place = note_term(table, notes, found, bound)?;
+    notes.entries.push(found_at(found, place))?;
+    note_term(table, notes, found, body)?;
+    notes.entries.pop();
+    note_here(notes, Note::Nothing)
 }
 
 #[cycle(note_term)]
 fn note_record(
     table: &mut TyTable,
-    n: &mut Notes,
+    notes: &mut Notes,
     found: &[Option<TyNo>],
     fields: &[(String, Core)],
 ) -> Result<usize, AllocError>
-    requires sound { AreSoundNotes table.old n.old }
+    requires sound { AreSoundNotes table.old notes.old }
     requires found { AllStandIn table.old found.now }
     requires fields { AreWellFormedTerms (terms_of fields.now) }
-    ensures { IfOk result (λ place. NotesTerm table.old table.new n.old n.new found.now (record_term (terms_of fields.now)) place) }
+    ensures { IfOk result (λ place. NotesTerm table.old table.new notes.old notes.new found.now (record_term (terms_of fields.now)) place) }
 {
-    note_fields(table, n, found, fields)?;
-    note_here(n, Note::Nothing)
+    note_fields(table, notes, found, fields)?;
+    note_here(notes, Note::Nothing)
 }
 
 /// The terms of a record, from the first to the last.
 #[cycle(note_term)]
 fn note_fields(
     table: &mut TyTable,
-    n: &mut Notes,
+    notes: &mut Notes,
     found: &[Option<TyNo>],
     fields: &[(String, Core)],
 ) -> Result<(), AllocError>
-    requires sound { AreSoundNotes table.old n.old }
+    requires sound { AreSoundNotes table.old notes.old }
     requires found { AllStandIn table.old found.now }
     requires wf { AreWellFormedTerms (terms_of fields.now) }
-    ensures { OnOk result (NotesFields table.old table.new n.old n.new found.now (terms_of fields.now)) }
+    ensures { OnOk result (NotesFields table.old table.new notes.old notes.new found.now (terms_of fields.now)) }
 {
     let Some((field, others)) = fields.split_first() else {
         return Ok(());
     };
-    note_term(table, n, found, &field.1)?;
-    note_fields(table, n, found, others)
+    note_term(table, notes, found, &field.1)?;
+    note_fields(table, notes, found, others)
 }
 
 /// Takes down the note of the next place, which is answered.
-fn note_here(n: &mut Notes, note: Note) -> Result<usize, AllocError>
-    ensures { IfOk result (λ place. NotesOne n.old n.new note place) }
+fn note_here(notes: &mut Notes, note: Note) -> Result<usize, AllocError>
+    ensures { IfOk result (λ place. NotesOne notes.old notes.new note place) }
 {
-    let place = n.noted.len();
-    n.noted.push(note)?;
+    let place = notes.noted.len();
+    notes.noted.push(note)?;
     Ok(place)
 }
 

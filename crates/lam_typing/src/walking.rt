@@ -75,41 +75,41 @@ pub(crate) struct Walk {
 }
 
 /// All that a document states, from the first statement to the last.
-pub(crate) fn walk_statements(w: &mut Walk, statements: &[Statement]) -> Result<(), Stop>
-    requires sound { IsSoundWalk w.old }
+pub(crate) fn walk_statements(walk: &mut Walk, statements: &[Statement]) -> Result<(), Stop>
+    requires sound { IsSoundWalk walk.old }
     requires wf { AreWellFormedStatements (map statement_of statements.now) }
-    ensures grows { Grows w.old w.new }
-    ensures went { OnOk result (Went (entries_of w.old) (λ s. places_of s (map statement_of statements.now)) (progress_of w.old) (progress_of w.new) w.old.verdicts.dialect) }
-    ensures stopped { IfErr result (λ stop. HasStoppedAmong stop (entries_of w.old) (λ s. places_of s (map statement_of statements.now)) w.old w.new w.old.verdicts.dialect) }
+    ensures grows { Grows walk.old walk.new }
+    ensures went { OnOk result (Went (entries_of walk.old) (λ s. places_of s (map statement_of statements.now)) (progress_of walk.old) (progress_of walk.new) walk.old.verdicts.dialect) }
+    ensures stopped { IfErr result (λ stop. HasStoppedAmong stop (entries_of walk.old) (λ s. places_of s (map statement_of statements.now)) walk.old walk.new walk.old.verdicts.dialect) }
 {
     for i in 0..statements.len() {
-        walk_statement(w, &statements[i])?;
+        walk_statement(walk, &statements[i])?;
     }
     Ok(())
 }
 
 /// What a command states, and the entry that it puts onto the others.
-pub(crate) fn walk_statement(w: &mut Walk, statement: &Statement) -> Result<(), Stop>
-    requires sound { IsSoundWalk w.old }
+pub(crate) fn walk_statement(walk: &mut Walk, statement: &Statement) -> Result<(), Stop>
+    requires sound { IsSoundWalk walk.old }
     requires wf { IsWellFormedStatement (statement_of statement.now) }
-    ensures grows { Grows w.old w.new }
-    ensures goes_on { OnOk result (GoesOn w.old w.new (statement_of statement.now)) }
-    ensures stopped { IfErr result (λ stop. HasStoppedAt stop w.old w.new (statement_of statement.now)) }
+    ensures grows { Grows walk.old walk.new }
+    ensures goes_on { OnOk result (GoesOn walk.old walk.new (statement_of statement.now)) }
+    ensures stopped { IfErr result (λ stop. HasStoppedAt stop walk.old walk.new (statement_of statement.now)) }
 {
     match statement {
         Statement::Definition(core) => {
-            let found = walk_term(w, core)?;
-            w.entries.push(found)?;
+            let found = walk_term(walk, core)?;
+            walk.entries.push(found)?;
             Ok(())
         }
         Statement::Declaration(written) => {
-            let entry = added(&mut w.table, written)?;
-            w.entries.push(entry)?;
+            let entry = added(&mut walk.table, written)?;
+            walk.entries.push(entry)?;
             Ok(())
         }
         Statement::Abbreviation(_) => Ok(()),
         Statement::Evaluation(core) => {
-            walk_term(w, core)?;
+            walk_term(walk, core)?;
             Ok(())
         }
     }
@@ -118,227 +118,234 @@ pub(crate) fn walk_statement(w: &mut Walk, statement: &Statement) -> Result<(), 
 /// The type of a term, whose places all come behind those that were found.
 #[cycle(walk_term)]
 #[tactic(auto, using(lam_rules::proofs::TermShapes::term_shapes))]
-pub(crate) fn walk_term(w: &mut Walk, term: &Core) -> Result<Option<TyNo>, Stop>
-    requires sound { IsSoundWalk w.old }
+pub(crate) fn walk_term(walk: &mut Walk, term: &Core) -> Result<Option<TyNo>, Stop>
+    requires sound { IsSoundWalk walk.old }
     requires wf { IsWellFormedTerm (term_of term.now) }
-    ensures grows { Grows w.old w.new }
-    ensures walked { IfOk result (λ found. WalkedOver w.old w.new (term_of term.now) found) }
-    ensures stopped { IfErr result (λ stop. HasStopped stop w.old w.new (term_of term.now)) }
+    ensures grows { Grows walk.old walk.new }
+    ensures walked { IfOk result (λ found. WalkedOver walk.old walk.new (term_of term.now) found) }
+    ensures stopped { IfErr result (λ stop. HasStopped stop walk.old walk.new (term_of term.now)) }
 {
     match term {
-        Core::True => settle(w, Some(w.leaves.boolean), None),
-        Core::False => settle(w, Some(w.leaves.boolean), None),
-        Core::If(condition, then_term, else_term) => walk_if(w, condition, then_term, else_term),
-        Core::Num(_) => settle(w, Some(w.leaves.natural), None),
-        Core::Succ(operand) => walk_number(w, operand, w.leaves.natural),
-        Core::Pred(operand) => walk_number(w, operand, w.leaves.natural),
-        Core::IsZero(operand) => walk_number(w, operand, w.leaves.boolean),
-        Core::Var(count) => walk_variable(w, *count),
+        Core::True => settle(walk, Some(walk.leaves.boolean), None),
+        Core::False => settle(walk, Some(walk.leaves.boolean), None),
+        Core::If(condition, then_term, else_term) => walk_if(walk, condition, then_term, else_term),
+        Core::Num(_) => settle(walk, Some(walk.leaves.natural), None),
+        Core::Succ(operand) => walk_number(walk, operand, walk.leaves.natural),
+        Core::Pred(operand) => walk_number(walk, operand, walk.leaves.natural),
+        Core::IsZero(operand) => walk_number(walk, operand, walk.leaves.boolean),
+        Core::Var(count) => walk_variable(walk, *count),
         Core::Free(_) => {
             let blame = blame_if(true, None, "E1");
-            settle(w, None, blame)
+            settle(walk, None, blame)
         }
-        Core::Abs(written, body) => walk_lambda(w, written, body),
-        Core::App(function, argument) => walk_apply(w, function, argument),
-        Core::Unit => settle(w, Some(w.leaves.unit), None),
-        Core::Ascribe(operand, written) => walk_ascribe(w, operand, written),
-        Core::Let(bound, body) => walk_let(w, bound, body),
-        Core::Record(fields) => walk_record(w, fields),
-        Core::Proj(operand, label) => walk_project(w, operand, label),
-        Core::Fix(operand) => walk_fix(w, operand),
+        Core::Abs(written, body) => walk_lambda(walk, written, body),
+        Core::App(function, argument) => walk_apply(walk, function, argument),
+        Core::Unit => settle(walk, Some(walk.leaves.unit), None),
+        Core::Ascribe(operand, written) => walk_ascribe(walk, operand, written),
+        Core::Let(bound, body) => walk_let(walk, bound, body),
+        Core::Record(fields) => walk_record(walk, fields),
+        Core::Proj(operand, label) => walk_project(walk, operand, label),
+        Core::Fix(operand) => walk_fix(walk, operand),
     }
 }
 
 #[cycle(walk_term)]
 fn walk_if(
-    w: &mut Walk,
+    walk: &mut Walk,
     condition: &Core,
     then_term: &Core,
     else_term: &Core,
 ) -> Result<Option<TyNo>, Stop>
-    requires sound { IsSoundWalk w.old }
+    requires sound { IsSoundWalk walk.old }
     requires condition { IsWellFormedTerm (term_of condition.now) }
     requires then_term { IsWellFormedTerm (term_of then_term.now) }
     requires else_term { IsWellFormedTerm (term_of else_term.now) }
-    ensures grows { Grows w.old w.new }
-    ensures walked { IfOk result (λ found. WalkedOver w.old w.new (if_then_else (term_of condition.now) (term_of then_term.now) (term_of else_term.now)) found) }
-    ensures stopped { IfErr result (λ stop. HasStopped stop w.old w.new (if_then_else (term_of condition.now) (term_of then_term.now) (term_of else_term.now))) }
+    ensures grows { Grows walk.old walk.new }
+    ensures walked { IfOk result (λ found. WalkedOver walk.old walk.new (if_then_else (term_of condition.now) (term_of then_term.now) (term_of else_term.now)) found) }
+    ensures stopped { IfErr result (λ stop. HasStopped stop walk.old walk.new (if_then_else (term_of condition.now) (term_of then_term.now) (term_of else_term.now))) }
 {
-    let first = walk_term(w, condition)?;
-    let second = walk_term(w, then_term)?;
-    let third = walk_term(w, else_term)?;
-    let boolean = w.leaves.boolean;
-    let found = chosen(&mut w.table, &mut w.verdicts, first, second, third, boolean)?;
+    let first = walk_term(walk, condition)?;
+    let second = walk_term(walk, then_term)?;
+    let third = walk_term(walk, else_term)?;
+    let boolean = walk.leaves.boolean;
+    let found = chosen(
+        &mut walk.table,
+        &mut walk.verdicts,
+        first,
+        second,
+        third,
+        boolean,
+    )?;
     let blame = blame_if(are_all_found(first, second, third), found, "E5");
-    settle(w, found, blame)
+    settle(walk, found, blame)
 }
 
 /// T-Succ, T-Pred and T-IsZero, by the number of the type that the whole has.
 #[cycle(walk_term)]
-fn walk_number(w: &mut Walk, operand: &Core, outcome: TyNo) -> Result<Option<TyNo>, Stop>
-    requires sound { IsSoundWalk w.old }
+fn walk_number(walk: &mut Walk, operand: &Core, outcome: TyNo) -> Result<Option<TyNo>, Stop>
+    requires sound { IsSoundWalk walk.old }
     requires operand { IsWellFormedTerm (term_of operand.now) }
-    requires outcome { Stands w.old.table outcome }
-    ensures grows { Grows w.old w.new }
-    ensures walked { IfOk result (λ found. (e : Term) → IsNumeric e (term_of operand.now) (type_of w.old.table outcome) → WalkedOver w.old w.new e found) }
-    ensures stopped { IfErr result (λ stop. (e : Term) → IsNumeric e (term_of operand.now) (type_of w.old.table outcome) → HasStopped stop w.old w.new e) }
+    requires outcome { Stands walk.old.table outcome }
+    ensures grows { Grows walk.old walk.new }
+    ensures walked { IfOk result (λ found. (e : Term) → IsNumeric e (term_of operand.now) (type_of walk.old.table outcome) → WalkedOver walk.old walk.new e found) }
+    ensures stopped { IfErr result (λ stop. (e : Term) → IsNumeric e (term_of operand.now) (type_of walk.old.table outcome) → HasStopped stop walk.old walk.new e) }
 {
-    let part = walk_term(w, operand)?;
-    let natural = w.leaves.natural;
-    let found = of_number(&w.table, &mut w.verdicts, part, natural, outcome)?;
+    let part = walk_term(walk, operand)?;
+    let natural = walk.leaves.natural;
+    let found = of_number(&walk.table, &mut walk.verdicts, part, natural, outcome)?;
     let blame = blame_if(part.is_some(), found, "E6");
-    settle(w, found, blame)
+    settle(walk, found, blame)
 }
 
 #[cycle(walk_term)]
-fn walk_lambda(w: &mut Walk, written: &Option<Ty>, body: &Core) -> Result<Option<TyNo>, Stop>
-    requires sound { IsSoundWalk w.old }
+fn walk_lambda(walk: &mut Walk, written: &Option<Ty>, body: &Core) -> Result<Option<TyNo>, Stop>
+    requires sound { IsSoundWalk walk.old }
     requires written { IsWellFormedEntry (written_of written.now) }
     requires body { IsWellFormedTerm (term_of body.now) }
-    ensures grows { Grows w.old w.new }
-    ensures walked { IfOk result (λ found. WalkedOver w.old w.new (lambda (written_of written.now) (term_of body.now)) found) }
-    ensures stopped { IfErr result (λ stop. HasStopped stop w.old w.new (lambda (written_of written.now) (term_of body.now))) }
+    ensures grows { Grows walk.old walk.new }
+    ensures walked { IfOk result (λ found. WalkedOver walk.old walk.new (lambda (written_of written.now) (term_of body.now)) found) }
+    ensures stopped { IfErr result (λ stop. HasStopped stop walk.old walk.new (lambda (written_of written.now) (term_of body.now))) }
 {
-    let parameter = added(&mut w.table, written)?;
-    w.entries.push(parameter)?;
-    let outcome = walk_term(w, body)?;
-    w.entries.pop();
-    let found = abstracted(&mut w.table, parameter, outcome)?;
-    settle(w, found, None)
+    let parameter = added(&mut walk.table, written)?;
+    walk.entries.push(parameter)?;
+    let outcome = walk_term(walk, body)?;
+    walk.entries.pop();
+    let found = abstracted(&mut walk.table, parameter, outcome)?;
+    settle(walk, found, None)
 }
 
 #[cycle(walk_term)]
-fn walk_apply(w: &mut Walk, function: &Core, argument: &Core) -> Result<Option<TyNo>, Stop>
-    requires sound { IsSoundWalk w.old }
+fn walk_apply(walk: &mut Walk, function: &Core, argument: &Core) -> Result<Option<TyNo>, Stop>
+    requires sound { IsSoundWalk walk.old }
     requires function { IsWellFormedTerm (term_of function.now) }
     requires argument { IsWellFormedTerm (term_of argument.now) }
-    ensures grows { Grows w.old w.new }
-    ensures walked { IfOk result (λ found. WalkedOver w.old w.new (apply (term_of function.now) (term_of argument.now)) found) }
-    ensures stopped { IfErr result (λ stop. HasStopped stop w.old w.new (apply (term_of function.now) (term_of argument.now))) }
+    ensures grows { Grows walk.old walk.new }
+    ensures walked { IfOk result (λ found. WalkedOver walk.old walk.new (apply (term_of function.now) (term_of argument.now)) found) }
+    ensures stopped { IfErr result (λ stop. HasStopped stop walk.old walk.new (apply (term_of function.now) (term_of argument.now))) }
 {
-    let first = walk_term(w, function)?;
-    let second = walk_term(w, argument)?;
-    let found = applied(&w.table, &mut w.verdicts, first, second)?;
-    let code = application_code(&w.table, first);
+    let first = walk_term(walk, function)?;
+    let second = walk_term(walk, argument)?;
+    let found = applied(&walk.table, &mut walk.verdicts, first, second)?;
+    let code = application_code(&walk.table, first);
     let blame = blame_if(are_both_found(first, second), found, code);
-    settle(w, found, blame)
+    settle(walk, found, blame)
 }
 
 #[cycle(walk_term)]
-fn walk_ascribe(w: &mut Walk, operand: &Core, written: &Option<Ty>) -> Result<Option<TyNo>, Stop>
-    requires sound { IsSoundWalk w.old }
+fn walk_ascribe(walk: &mut Walk, operand: &Core, written: &Option<Ty>) -> Result<Option<TyNo>, Stop>
+    requires sound { IsSoundWalk walk.old }
     requires operand { IsWellFormedTerm (term_of operand.now) }
     requires written { IsWellFormedEntry (written_of written.now) }
-    ensures grows { Grows w.old w.new }
-    ensures walked { IfOk result (λ found. WalkedOver w.old w.new (ascribe (term_of operand.now) (written_of written.now)) found) }
-    ensures stopped { IfErr result (λ stop. HasStopped stop w.old w.new (ascribe (term_of operand.now) (written_of written.now))) }
+    ensures grows { Grows walk.old walk.new }
+    ensures walked { IfOk result (λ found. WalkedOver walk.old walk.new (ascribe (term_of operand.now) (written_of written.now)) found) }
+    ensures stopped { IfErr result (λ stop. HasStopped stop walk.old walk.new (ascribe (term_of operand.now) (written_of written.now))) }
 {
-    let part = walk_term(w, operand)?;
-    let entry = added(&mut w.table, written)?;
-    let found = ascribed(&w.table, &mut w.verdicts, entry, part)?;
+    let part = walk_term(walk, operand)?;
+    let entry = added(&mut walk.table, written)?;
+    let found = ascribed(&walk.table, &mut walk.verdicts, entry, part)?;
     let blame = blame_if(are_both_found(part, entry), found, "E7");
-    settle(w, found, blame)
+    settle(walk, found, blame)
 }
 
 #[cycle(walk_term)]
-fn walk_let(w: &mut Walk, bound: &Core, body: &Core) -> Result<Option<TyNo>, Stop>
-    requires sound { IsSoundWalk w.old }
+fn walk_let(walk: &mut Walk, bound: &Core, body: &Core) -> Result<Option<TyNo>, Stop>
+    requires sound { IsSoundWalk walk.old }
     requires bound { IsWellFormedTerm (term_of bound.now) }
     requires body { IsWellFormedTerm (term_of body.now) }
-    ensures grows { Grows w.old w.new }
-    ensures walked { IfOk result (λ found. WalkedOver w.old w.new (let_in (term_of bound.now) (term_of body.now)) found) }
-    ensures stopped { IfErr result (λ stop. HasStopped stop w.old w.new (let_in (term_of bound.now) (term_of body.now))) }
+    ensures grows { Grows walk.old walk.new }
+    ensures walked { IfOk result (λ found. WalkedOver walk.old walk.new (let_in (term_of bound.now) (term_of body.now)) found) }
+    ensures stopped { IfErr result (λ stop. HasStopped stop walk.old walk.new (let_in (term_of bound.now) (term_of body.now))) }
 {
-    let entry = walk_term(w, bound)?;
-    w.entries.push(entry)?;
-    let outcome = walk_term(w, body)?;
-    w.entries.pop();
-    settle(w, bound_in(entry, outcome), None)
+    let entry = walk_term(walk, bound)?;
+    walk.entries.push(entry)?;
+    let outcome = walk_term(walk, body)?;
+    walk.entries.pop();
+    settle(walk, bound_in(entry, outcome), None)
 }
 
 #[cycle(walk_term)]
-fn walk_record(w: &mut Walk, fields: &[(String, Core)]) -> Result<Option<TyNo>, Stop>
-    requires sound { IsSoundWalk w.old }
+fn walk_record(walk: &mut Walk, fields: &[(String, Core)]) -> Result<Option<TyNo>, Stop>
+    requires sound { IsSoundWalk walk.old }
     requires fields { AreWellFormedTerms (terms_of fields.now) }
-    ensures grows { Grows w.old w.new }
-    ensures walked { IfOk result (λ found. WalkedOver w.old w.new (record_term (terms_of fields.now)) found) }
-    ensures stopped { IfErr result (λ stop. HasStopped stop w.old w.new (record_term (terms_of fields.now))) }
+    ensures grows { Grows walk.old walk.new }
+    ensures walked { IfOk result (λ found. WalkedOver walk.old walk.new (record_term (terms_of fields.now)) found) }
+    ensures stopped { IfErr result (λ stop. HasStopped stop walk.old walk.new (record_term (terms_of fields.now))) }
 {
-    let mut parts = Vec::with_capacity(w.verdicts.alloc, fields.len())?;
-    let all = walk_fields(w, fields, &mut parts)?;
-    let found = recorded(&mut w.table, all, parts)?;
+    let mut parts = Vec::with_capacity(walk.verdicts.alloc, fields.len())?;
+    let all = walk_fields(walk, fields, &mut parts)?;
+    let found = recorded(&mut walk.table, all, parts)?;
     let blame = blame_if(all, found, "E9");
-    settle(w, found, blame)
+    settle(walk, found, blame)
 }
 
 #[cycle(walk_term)]
-fn walk_project(w: &mut Walk, operand: &Core, label: &str) -> Result<Option<TyNo>, Stop>
-    requires sound { IsSoundWalk w.old }
+fn walk_project(walk: &mut Walk, operand: &Core, label: &str) -> Result<Option<TyNo>, Stop>
+    requires sound { IsSoundWalk walk.old }
     requires operand { IsWellFormedTerm (term_of operand.now) }
-    ensures grows { Grows w.old w.new }
-    ensures walked { IfOk result (λ found. WalkedOver w.old w.new (project (term_of operand.now) label.now) found) }
-    ensures stopped { IfErr result (λ stop. HasStopped stop w.old w.new (project (term_of operand.now) label.now)) }
+    ensures grows { Grows walk.old walk.new }
+    ensures walked { IfOk result (λ found. WalkedOver walk.old walk.new (project (term_of operand.now) label.now) found) }
+    ensures stopped { IfErr result (λ stop. HasStopped stop walk.old walk.new (project (term_of operand.now) label.now)) }
 {
-    let part = walk_term(w, operand)?;
-    let found = projected(&w.table, part, label);
+    let part = walk_term(walk, operand)?;
+    let found = projected(&walk.table, part, label);
     let blame = blame_if(part.is_some(), found, "E4");
-    settle(w, found, blame)
+    settle(walk, found, blame)
 }
 
 #[cycle(walk_term)]
-fn walk_fix(w: &mut Walk, operand: &Core) -> Result<Option<TyNo>, Stop>
-    requires sound { IsSoundWalk w.old }
+fn walk_fix(walk: &mut Walk, operand: &Core) -> Result<Option<TyNo>, Stop>
+    requires sound { IsSoundWalk walk.old }
     requires operand { IsWellFormedTerm (term_of operand.now) }
-    ensures grows { Grows w.old w.new }
-    ensures walked { IfOk result (λ found. WalkedOver w.old w.new (fix (term_of operand.now)) found) }
-    ensures stopped { IfErr result (λ stop. HasStopped stop w.old w.new (fix (term_of operand.now))) }
+    ensures grows { Grows walk.old walk.new }
+    ensures walked { IfOk result (λ found. WalkedOver walk.old walk.new (fix (term_of operand.now)) found) }
+    ensures stopped { IfErr result (λ stop. HasStopped stop walk.old walk.new (fix (term_of operand.now))) }
 {
-    let part = walk_term(w, operand)?;
-    let found = fixed(&w.table, &mut w.verdicts, part)?;
+    let part = walk_term(walk, operand)?;
+    let found = fixed(&walk.table, &mut walk.verdicts, part)?;
     let blame = blame_if(part.is_some(), found, "E8");
-    settle(w, found, blame)
+    settle(walk, found, blame)
 }
 
 /// The terms of a record from the first to the last, with the labels and the types of those that have one; whether all
 /// of them have.
 #[cycle(walk_term)]
 fn walk_fields(
-    w: &mut Walk,
+    walk: &mut Walk,
     fields: &[(String, Core)],
     parts: &mut Vec<(String, TyNo)>,
 ) -> Result<bool, Stop>
-    requires sound { IsSoundWalk w.old }
+    requires sound { IsSoundWalk walk.old }
     requires wf { AreWellFormedTerms (terms_of fields.now) }
-    ensures grows { Grows w.old w.new }
-    ensures walked { IfOk result (λ all. FieldsWalked w.old w.new (terms_of fields.now) parts.old.items parts.new.items all) }
-    ensures stopped { IfErr result (λ stop. HasStoppedInFields stop w.old w.new (terms_of fields.now)) }
+    ensures grows { Grows walk.old walk.new }
+    ensures walked { IfOk result (λ all. FieldsWalked walk.old walk.new (terms_of fields.now) parts.old.items parts.new.items all) }
+    ensures stopped { IfErr result (λ stop. HasStoppedInFields stop walk.old walk.new (terms_of fields.now)) }
 {
     let Some((field, others)) = fields.split_first() else {
         return Ok(true);
     };
-    let found = walk_term(w, &field.1)?;
+    let found = walk_term(walk, &field.1)?;
     let Some(number) = found else {
-        walk_fields(w, others, parts)?;
+        walk_fields(walk, others, parts)?;
         return Ok(false);
     };
     parts.push((field.0.clone()?, number))?;
-    walk_fields(w, others, parts)
+    walk_fields(walk, others, parts)
 }
 
 /// A variable has the entry of its binder, which is none to blame for; a count past all binders is an unbound name.
-fn walk_variable(w: &mut Walk, count: usize) -> Result<Option<TyNo>, Stop>
-    requires sound { IsSoundWalk w.old }
-    ensures grows { Grows w.old w.new }
-    ensures walked { IfOk result (λ found. WalkedOver w.old w.new (variable count) found) }
-    ensures stopped { IfErr result (λ stop. HasStopped stop w.old w.new (variable count)) }
+fn walk_variable(walk: &mut Walk, count: usize) -> Result<Option<TyNo>, Stop>
+    requires sound { IsSoundWalk walk.old }
+    ensures grows { Grows walk.old walk.new }
+    ensures walked { IfOk result (λ found. WalkedOver walk.old walk.new (variable count) found) }
+    ensures stopped { IfErr result (λ stop. HasStopped stop walk.old walk.new (variable count)) }
 {
-    let depth = w.entries.len();
+    let depth = walk.entries.len();
     if count >= depth {
         let blame = blame_if(true, None, "E1");
-        return settle(w, None, blame);
+        return settle(walk, None, blame);
     }
-    let entry = entry_of(&w.entries, count);
-    settle(w, entry, None)
+    let entry = entry_of(&walk.entries, count);
+    settle(walk, entry, None)
 }
 
 /// The entry of the binder that a count finds, counted from the innermost one.
@@ -394,25 +401,25 @@ fn blame_if(parts: bool, found: Option<TyNo>, code: &'static str) -> Option<&'st
 
 /// Takes down the type of the next place, and what it is blamed for.
 fn settle(
-    w: &mut Walk,
+    walk: &mut Walk,
     found: Option<TyNo>,
     blame: Option<&'static str>,
 ) -> Result<Option<TyNo>, Stop>
-    requires sound { IsSoundWalk w.old }
-    requires stands { StandsIn w.old.table found }
-    ensures grows { Grows w.old w.new }
-    ensures settled { IfOk result (λ number. (number ≡ found) × Settles w.old w.new found blame.entry) }
-    ensures stopped { IfErr result (λ stop. StopsAt stop w.old w.new found blame.entry) }
+    requires sound { IsSoundWalk walk.old }
+    requires stands { StandsIn walk.old.table found }
+    ensures grows { Grows walk.old walk.new }
+    ensures settled { IfOk result (λ number. (number ≡ found) × Settles walk.old walk.new found blame.entry) }
+    ensures stopped { IfErr result (λ stop. StopsAt stop walk.old walk.new found blame.entry) }
 {
-    let place = Place(w.found.len());
-    if is_behind(place, w.last) {
+    let place = Place(walk.found.len());
+    if is_behind(place, walk.last) {
         return Err(Stop::Enough);
     }
-    if is_large(&w.table, found) {
+    if is_large(&walk.table, found) {
         return Err(Stop::TooLarge);
     }
-    put_blame(&mut w.blames, place, blame)?;
-    w.found.push(found)?;
+    put_blame(&mut walk.blames, place, blame)?;
+    walk.found.push(found)?;
     Ok(found)
 }
 

@@ -10,11 +10,11 @@ use Rattle.lam_scope.proofs.nameless.+nameless.Given as goal
 
 abbrev pub invariant-nameless_fields-loop-i : goal.invariant-nameless_fields-loop-i
 invariant-nameless_fields-loop-i l = record {
-  form : joined_terms (terms_of l.forms.items) (counted_fields (abbreviations_of l.seen) (fields_of (drop l.i l.fields)) l.f.uses)
-      ≡ counted_fields (abbreviations_of l.seen) (fields_of l.fields) l.initial.f.uses;
-  uses : past_fields (fields_of (drop l.i l.fields)) l.f.uses ≡ past_fields (fields_of l.fields) l.initial.f.uses;
-  faults : l.f.faults.items ++ faults_in (abbreviations_of l.seen) (written_in_fields (fields_of (drop l.i l.fields)))
-      ≡ l.initial.f.faults.items ++ faults_in (abbreviations_of l.seen) (written_in_fields (fields_of l.fields));
+  form : joined_terms (terms_of l.forms.items) (counted_fields (abbreviations_of l.seen) (fields_of (drop l.i l.fields)) l.forming.uses)
+      ≡ counted_fields (abbreviations_of l.seen) (fields_of l.fields) l.initial.forming.uses;
+  uses : past_fields (fields_of (drop l.i l.fields)) l.forming.uses ≡ past_fields (fields_of l.fields) l.initial.forming.uses;
+  faults : l.forming.faults.items ++ faults_in (abbreviations_of l.seen) (written_in_fields (fields_of (drop l.i l.fields)))
+      ≡ l.initial.forming.faults.items ++ faults_in (abbreviations_of l.seen) (written_in_fields (fields_of l.fields));
   limit : first_over_limit (abbreviations_of l.seen) (written_in_fields (fields_of l.fields)) ≡ first_over_limit (abbreviations_of l.seen) (written_in_fields (fields_of (drop l.i l.fields)));
 }
 

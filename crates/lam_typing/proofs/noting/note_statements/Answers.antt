@@ -10,5 +10,5 @@ note_statement-requires-clause-wf c =
 
 pub loop-i-preserved : goal.loop-i-preserved
 loop-i-preserved c =
-    statement_noted c.args.table.now c.loop-i.table c.note_statement.new.table c.loop-i.notes c.note_statement.new.n c.args.found.now (map statement_of c.args.statements.now) c.args.statements.now c.loop-i.i c.index-statements-i.result
+    statement_noted c.args.table.now c.loop-i.table c.note_statement.new.table c.loop-i.notes c.note_statement.new.notes c.args.found.now (map statement_of c.args.statements.now) c.args.statements.now c.loop-i.i c.index-statements-i.result
     c.loop-i-test.true c.index-statements-i.is c.loop-i.invariant c.in_ok-note_statement.ensures

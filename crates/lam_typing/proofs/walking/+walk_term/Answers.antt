@@ -19,396 +19,396 @@ use Rattle.lam_typing.proofs.walking.+walk_term.Goals as goal
 
 pub walk_number-returns-in_err-part-clause-stopped : goal.walk_number-returns-in_err-part-clause-stopped
 walk_number-returns-in_err-part-clause-stopped t c =
-    err_of_each c.from_residual.result (λ e. IsNumeric e (term_of c.args.operand.now) (type_of c.args.w.now.table c.args.outcome)) (λ stop e. HasStopped stop c.args.w.now c.walk_term.new.w e) (λ e is.
-    err_stopped c.from_residual.result _ c.args.w.now c.walk_term.new.w e c.from_residual.ensures.1
-    (among_as _ (entries_of c.args.w.now) (λ s. places s (term_of c.args.operand.now) ++ record { scope = s; here = e } ∷ []) (λ s. places s e) c.args.w.now c.walk_term.new.w _ (numeric_places e (term_of c.args.operand.now) _ is)
-    (among_front _ (entries_of c.args.w.now) (λ s. places s (term_of c.args.operand.now)) (λ s. record { scope = s; here = e } ∷ []) c.args.w.now c.walk_term.new.w _ c.in_err-part.ensures.stopped)))
+    err_of_each c.from_residual.result (λ e. IsNumeric e (term_of c.args.operand.now) (type_of c.args.walk.now.table c.args.outcome)) (λ stop e. HasStopped stop c.args.walk.now c.walk_term.new.walk e) (λ e is.
+    err_stopped c.from_residual.result _ c.args.walk.now c.walk_term.new.walk e c.from_residual.ensures.1
+    (among_as _ (entries_of c.args.walk.now) (λ s. places s (term_of c.args.operand.now) ++ record { scope = s; here = e } ∷ []) (λ s. places s e) c.args.walk.now c.walk_term.new.walk _ (numeric_places e (term_of c.args.operand.now) _ is)
+    (among_front _ (entries_of c.args.walk.now) (λ s. places s (term_of c.args.operand.now)) (λ s. record { scope = s; here = e } ∷ []) c.args.walk.now c.walk_term.new.walk _ c.in_err-part.ensures.stopped)))
 
 pub walk_number-returns-clause-walked : goal.walk_number-returns-clause-walked
 walk_number-returns-clause-walked t c =
-    ok_of_each _ (λ e. IsNumeric e (term_of c.args.operand.now) (type_of c.args.w.now.table c.args.outcome)) (λ found e. WalkedOver c.args.w.now c.settle.new.w e found) (λ e is.
-    settled_ok _ c.args.w.now (record c.walk_term.new.w { verdicts = c.of_number.new.verdicts }) c.settle.new.w e (λ s. places s (term_of c.args.operand.now)) c.in_ok-found.found c.blame_if-blame.result
+    ok_of_each _ (λ e. IsNumeric e (term_of c.args.operand.now) (type_of c.args.walk.now.table c.args.outcome)) (λ found e. WalkedOver c.args.walk.now c.settle.new.walk e found) (λ e is.
+    settled_ok _ c.args.walk.now (record c.walk_term.new.walk { verdicts = c.of_number.new.verdicts }) c.settle.new.walk e (λ s. places s (term_of c.args.operand.now)) c.in_ok-found.found c.blame_if-blame.result
     (numeric_places e (term_of c.args.operand.now) _ is) c.in_ok-part.ensures.walked.entries c.in_ok-found.ensures.stands
-    (numeric_parts c.args.w.now c.walk_term.new.w (term_of c.args.operand.now) c.in_ok-part.part c.in_ok-found.found c.blame_if-blame.result c.in_ok-part.ensures.grows c.in_ok-part.ensures.walked e c.args.outcome c.requires.outcome is c.in_ok-found.ensures.rule
+    (numeric_parts c.args.walk.now c.walk_term.new.walk (term_of c.args.operand.now) c.in_ok-part.part c.in_ok-found.found c.blame_if-blame.result c.in_ok-part.ensures.grows c.in_ok-part.ensures.walked e c.args.outcome c.requires.outcome is c.in_ok-found.ensures.rule
     (subst (λ b. Blames b c.in_ok-found.found (codes "E6") c.blame_if-blame.result) c.is_some.ensures c.blame_if-blame.ensures))
     c.settle.ensures.settled)
 
 pub walk_number-returns-clause-stopped : goal.walk_number-returns-clause-stopped
 walk_number-returns-clause-stopped t c =
-    err_of_each _ (λ e. IsNumeric e (term_of c.args.operand.now) (type_of c.args.w.now.table c.args.outcome)) (λ stop e. HasStopped stop c.args.w.now c.settle.new.w e) (λ e is.
-    settled_err _ c.args.w.now (record c.walk_term.new.w { verdicts = c.of_number.new.verdicts }) c.settle.new.w e (λ s. places s (term_of c.args.operand.now)) c.in_ok-found.found c.blame_if-blame.result
+    err_of_each _ (λ e. IsNumeric e (term_of c.args.operand.now) (type_of c.args.walk.now.table c.args.outcome)) (λ stop e. HasStopped stop c.args.walk.now c.settle.new.walk e) (λ e is.
+    settled_err _ c.args.walk.now (record c.walk_term.new.walk { verdicts = c.of_number.new.verdicts }) c.settle.new.walk e (λ s. places s (term_of c.args.operand.now)) c.in_ok-found.found c.blame_if-blame.result
     (numeric_places e (term_of c.args.operand.now) _ is) c.in_ok-part.ensures.walked.entries c.in_ok-found.ensures.stands
-    (numeric_parts c.args.w.now c.walk_term.new.w (term_of c.args.operand.now) c.in_ok-part.part c.in_ok-found.found c.blame_if-blame.result c.in_ok-part.ensures.grows c.in_ok-part.ensures.walked e c.args.outcome c.requires.outcome is c.in_ok-found.ensures.rule
+    (numeric_parts c.args.walk.now c.walk_term.new.walk (term_of c.args.operand.now) c.in_ok-part.part c.in_ok-found.found c.blame_if-blame.result c.in_ok-part.ensures.grows c.in_ok-part.ensures.walked e c.args.outcome c.requires.outcome is c.in_ok-found.ensures.rule
     (subst (λ b. Blames b c.in_ok-found.found (codes "E6") c.blame_if-blame.result) c.is_some.ensures c.blame_if-blame.ensures))
     c.settle.ensures.stopped)
 
 pub walk_fix-returns-in_err-part-clause-stopped : goal.walk_fix-returns-in_err-part-clause-stopped
 walk_fix-returns-in_err-part-clause-stopped t c =
-    err_stopped c.from_residual.result _ c.args.w.now c.walk_term.new.w (fix (term_of c.args.operand.now)) c.from_residual.ensures.1
-    (among_front _ (entries_of c.args.w.now) (λ s. places s (term_of c.args.operand.now)) (λ s. record { scope = s; here = (fix (term_of c.args.operand.now)) } ∷ []) c.args.w.now c.walk_term.new.w _ c.in_err-part.ensures.stopped)
+    err_stopped c.from_residual.result _ c.args.walk.now c.walk_term.new.walk (fix (term_of c.args.operand.now)) c.from_residual.ensures.1
+    (among_front _ (entries_of c.args.walk.now) (λ s. places s (term_of c.args.operand.now)) (λ s. record { scope = s; here = (fix (term_of c.args.operand.now)) } ∷ []) c.args.walk.now c.walk_term.new.walk _ c.in_err-part.ensures.stopped)
 
 pub walk_fix-returns-clause-walked : goal.walk_fix-returns-clause-walked
 walk_fix-returns-clause-walked t c =
-    settled_ok _ c.args.w.now (record c.walk_term.new.w { verdicts = c.fixed.new.verdicts }) c.settle.new.w (fix (term_of c.args.operand.now)) (λ s. places s (term_of c.args.operand.now)) c.in_ok-found.found c.blame_if-blame.result (λ s. refl) c.in_ok-part.ensures.walked.entries c.in_ok-found.ensures.stands
-    (fix_parts c.args.w.now c.walk_term.new.w (term_of c.args.operand.now) c.in_ok-part.part c.in_ok-found.found c.blame_if-blame.result c.in_ok-part.ensures.grows c.in_ok-part.ensures.walked c.in_ok-found.ensures.rule
+    settled_ok _ c.args.walk.now (record c.walk_term.new.walk { verdicts = c.fixed.new.verdicts }) c.settle.new.walk (fix (term_of c.args.operand.now)) (λ s. places s (term_of c.args.operand.now)) c.in_ok-found.found c.blame_if-blame.result (λ s. refl) c.in_ok-part.ensures.walked.entries c.in_ok-found.ensures.stands
+    (fix_parts c.args.walk.now c.walk_term.new.walk (term_of c.args.operand.now) c.in_ok-part.part c.in_ok-found.found c.blame_if-blame.result c.in_ok-part.ensures.grows c.in_ok-part.ensures.walked c.in_ok-found.ensures.rule
     (subst (λ b. Blames b c.in_ok-found.found (codes "E8") c.blame_if-blame.result) c.is_some.ensures c.blame_if-blame.ensures))
     c.settle.ensures.settled
 
 pub walk_fix-returns-clause-stopped : goal.walk_fix-returns-clause-stopped
 walk_fix-returns-clause-stopped t c =
-    settled_err _ c.args.w.now (record c.walk_term.new.w { verdicts = c.fixed.new.verdicts }) c.settle.new.w (fix (term_of c.args.operand.now)) (λ s. places s (term_of c.args.operand.now)) c.in_ok-found.found c.blame_if-blame.result (λ s. refl) c.in_ok-part.ensures.walked.entries c.in_ok-found.ensures.stands
-    (fix_parts c.args.w.now c.walk_term.new.w (term_of c.args.operand.now) c.in_ok-part.part c.in_ok-found.found c.blame_if-blame.result c.in_ok-part.ensures.grows c.in_ok-part.ensures.walked c.in_ok-found.ensures.rule
+    settled_err _ c.args.walk.now (record c.walk_term.new.walk { verdicts = c.fixed.new.verdicts }) c.settle.new.walk (fix (term_of c.args.operand.now)) (λ s. places s (term_of c.args.operand.now)) c.in_ok-found.found c.blame_if-blame.result (λ s. refl) c.in_ok-part.ensures.walked.entries c.in_ok-found.ensures.stands
+    (fix_parts c.args.walk.now c.walk_term.new.walk (term_of c.args.operand.now) c.in_ok-part.part c.in_ok-found.found c.blame_if-blame.result c.in_ok-part.ensures.grows c.in_ok-part.ensures.walked c.in_ok-found.ensures.rule
     (subst (λ b. Blames b c.in_ok-found.found (codes "E8") c.blame_if-blame.result) c.is_some.ensures c.blame_if-blame.ensures))
     c.settle.ensures.stopped
 
 pub walk_project-returns-in_err-part-clause-stopped : goal.walk_project-returns-in_err-part-clause-stopped
 walk_project-returns-in_err-part-clause-stopped t c =
-    err_stopped c.from_residual.result _ c.args.w.now c.walk_term.new.w (project (term_of c.args.operand.now) c.args.label.now) c.from_residual.ensures.1
-    (among_front _ (entries_of c.args.w.now) (λ s. places s (term_of c.args.operand.now)) (λ s. record { scope = s; here = (project (term_of c.args.operand.now) c.args.label.now) } ∷ []) c.args.w.now c.walk_term.new.w _ c.in_err-part.ensures.stopped)
+    err_stopped c.from_residual.result _ c.args.walk.now c.walk_term.new.walk (project (term_of c.args.operand.now) c.args.label.now) c.from_residual.ensures.1
+    (among_front _ (entries_of c.args.walk.now) (λ s. places s (term_of c.args.operand.now)) (λ s. record { scope = s; here = (project (term_of c.args.operand.now) c.args.label.now) } ∷ []) c.args.walk.now c.walk_term.new.walk _ c.in_err-part.ensures.stopped)
 
 pub walk_project-returns-clause-walked : goal.walk_project-returns-clause-walked
 walk_project-returns-clause-walked t c =
-    settled_ok _ c.args.w.now c.walk_term.new.w c.settle.new.w (project (term_of c.args.operand.now) c.args.label.now) (λ s. places s (term_of c.args.operand.now)) c.projected-found.result c.blame_if-blame.result (λ s. refl) c.in_ok-part.ensures.walked.entries c.projected-found.ensures.stands
-    (project_parts c.args.w.now c.walk_term.new.w (term_of c.args.operand.now) c.in_ok-part.part c.projected-found.result c.blame_if-blame.result c.in_ok-part.ensures.grows c.in_ok-part.ensures.walked c.args.label.now c.projected-found.ensures.rule
+    settled_ok _ c.args.walk.now c.walk_term.new.walk c.settle.new.walk (project (term_of c.args.operand.now) c.args.label.now) (λ s. places s (term_of c.args.operand.now)) c.projected-found.result c.blame_if-blame.result (λ s. refl) c.in_ok-part.ensures.walked.entries c.projected-found.ensures.stands
+    (project_parts c.args.walk.now c.walk_term.new.walk (term_of c.args.operand.now) c.in_ok-part.part c.projected-found.result c.blame_if-blame.result c.in_ok-part.ensures.grows c.in_ok-part.ensures.walked c.args.label.now c.projected-found.ensures.rule
     (subst (λ b. Blames b c.projected-found.result (codes "E4") c.blame_if-blame.result) c.is_some.ensures c.blame_if-blame.ensures))
     c.settle.ensures.settled
 
 pub walk_project-returns-clause-stopped : goal.walk_project-returns-clause-stopped
 walk_project-returns-clause-stopped t c =
-    settled_err _ c.args.w.now c.walk_term.new.w c.settle.new.w (project (term_of c.args.operand.now) c.args.label.now) (λ s. places s (term_of c.args.operand.now)) c.projected-found.result c.blame_if-blame.result (λ s. refl) c.in_ok-part.ensures.walked.entries c.projected-found.ensures.stands
-    (project_parts c.args.w.now c.walk_term.new.w (term_of c.args.operand.now) c.in_ok-part.part c.projected-found.result c.blame_if-blame.result c.in_ok-part.ensures.grows c.in_ok-part.ensures.walked c.args.label.now c.projected-found.ensures.rule
+    settled_err _ c.args.walk.now c.walk_term.new.walk c.settle.new.walk (project (term_of c.args.operand.now) c.args.label.now) (λ s. places s (term_of c.args.operand.now)) c.projected-found.result c.blame_if-blame.result (λ s. refl) c.in_ok-part.ensures.walked.entries c.projected-found.ensures.stands
+    (project_parts c.args.walk.now c.walk_term.new.walk (term_of c.args.operand.now) c.in_ok-part.part c.projected-found.result c.blame_if-blame.result c.in_ok-part.ensures.grows c.in_ok-part.ensures.walked c.args.label.now c.projected-found.ensures.rule
     (subst (λ b. Blames b c.projected-found.result (codes "E4") c.blame_if-blame.result) c.is_some.ensures c.blame_if-blame.ensures))
     c.settle.ensures.stopped
 
 pub walk_apply-returns-in_err-first-clause-stopped : goal.walk_apply-returns-in_err-first-clause-stopped
 walk_apply-returns-in_err-first-clause-stopped t c =
-    err_stopped c.from_residual.result _ c.args.w.now c.walk_term.new.w (apply (term_of c.args.function.now) (term_of c.args.argument.now)) c.from_residual.ensures.1
-    (among_front _ (entries_of c.args.w.now) (λ s. places s (term_of c.args.function.now) ++ places s (term_of c.args.argument.now)) (λ s. record { scope = s; here = (apply (term_of c.args.function.now) (term_of c.args.argument.now)) } ∷ []) c.args.w.now c.walk_term.new.w _
-    (among_front _ (entries_of c.args.w.now) (λ s. places s (term_of c.args.function.now)) (λ s. places s (term_of c.args.argument.now)) c.args.w.now c.walk_term.new.w _ c.in_err-first.ensures.stopped))
+    err_stopped c.from_residual.result _ c.args.walk.now c.walk_term.new.walk (apply (term_of c.args.function.now) (term_of c.args.argument.now)) c.from_residual.ensures.1
+    (among_front _ (entries_of c.args.walk.now) (λ s. places s (term_of c.args.function.now) ++ places s (term_of c.args.argument.now)) (λ s. record { scope = s; here = (apply (term_of c.args.function.now) (term_of c.args.argument.now)) } ∷ []) c.args.walk.now c.walk_term.new.walk _
+    (among_front _ (entries_of c.args.walk.now) (λ s. places s (term_of c.args.function.now)) (λ s. places s (term_of c.args.argument.now)) c.args.walk.now c.walk_term.new.walk _ c.in_err-first.ensures.stopped))
 
 pub walk_apply-returns-in_err-second-clause-stopped : goal.walk_apply-returns-in_err-second-clause-stopped
 walk_apply-returns-in_err-second-clause-stopped t c =
-    let same = entries_same c.args.w.now c.walk_term.new.w c.requires.sound c.in_ok-first.ensures.grows.keeps c.in_ok-first.ensures.walked.entries in
-    err_stopped c.from_residual-in_err-second.result _ c.args.w.now c.walk_term-2.new.w (apply (term_of c.args.function.now) (term_of c.args.argument.now)) c.from_residual-in_err-second.ensures.1
-    (among_front _ (entries_of c.args.w.now) (λ s. places s (term_of c.args.function.now) ++ places s (term_of c.args.argument.now)) (λ s. record { scope = s; here = (apply (term_of c.args.function.now) (term_of c.args.argument.now)) } ∷ []) c.args.w.now c.walk_term-2.new.w _
-    (among_behind _ (entries_of c.args.w.now) (λ s. places s (term_of c.args.function.now)) (λ s. places s (term_of c.args.argument.now)) c.args.w.now c.walk_term.new.w c.walk_term-2.new.w _ c.in_ok-first.ensures.walked.over.went
-    (among_from _ (entries_of c.walk_term.new.w) (entries_of c.args.w.now) (λ s. places s (term_of c.args.argument.now)) c.walk_term.new.w c.walk_term.new.w c.walk_term-2.new.w _ _ same refl c.in_ok-first.ensures.grows.dialect c.in_err-second.ensures.stopped)))
+    let same = entries_same c.args.walk.now c.walk_term.new.walk c.requires.sound c.in_ok-first.ensures.grows.keeps c.in_ok-first.ensures.walked.entries in
+    err_stopped c.from_residual-in_err-second.result _ c.args.walk.now c.walk_term-2.new.walk (apply (term_of c.args.function.now) (term_of c.args.argument.now)) c.from_residual-in_err-second.ensures.1
+    (among_front _ (entries_of c.args.walk.now) (λ s. places s (term_of c.args.function.now) ++ places s (term_of c.args.argument.now)) (λ s. record { scope = s; here = (apply (term_of c.args.function.now) (term_of c.args.argument.now)) } ∷ []) c.args.walk.now c.walk_term-2.new.walk _
+    (among_behind _ (entries_of c.args.walk.now) (λ s. places s (term_of c.args.function.now)) (λ s. places s (term_of c.args.argument.now)) c.args.walk.now c.walk_term.new.walk c.walk_term-2.new.walk _ c.in_ok-first.ensures.walked.over.went
+    (among_from _ (entries_of c.walk_term.new.walk) (entries_of c.args.walk.now) (λ s. places s (term_of c.args.argument.now)) c.walk_term.new.walk c.walk_term.new.walk c.walk_term-2.new.walk _ _ same refl c.in_ok-first.ensures.grows.dialect c.in_err-second.ensures.stopped)))
 
 pub walk_apply-returns-clause-walked : goal.walk_apply-returns-clause-walked
 walk_apply-returns-clause-walked t c =
-    settled_ok _ c.args.w.now (record c.walk_term-2.new.w { verdicts = c.applied.new.verdicts }) c.settle.new.w (apply (term_of c.args.function.now) (term_of c.args.argument.now)) (λ s. places s (term_of c.args.function.now) ++ places s (term_of c.args.argument.now)) c.in_ok-found.found c.blame_if-blame.result (λ s. refl)
+    settled_ok _ c.args.walk.now (record c.walk_term-2.new.walk { verdicts = c.applied.new.verdicts }) c.settle.new.walk (apply (term_of c.args.function.now) (term_of c.args.argument.now)) (λ s. places s (term_of c.args.function.now) ++ places s (term_of c.args.argument.now)) c.in_ok-found.found c.blame_if-blame.result (λ s. refl)
     (c.in_ok-second.ensures.walked.entries ∙ c.in_ok-first.ensures.walked.entries) c.in_ok-found.ensures.stands
-    (apply_parts c.args.w.now c.walk_term.new.w c.walk_term-2.new.w (term_of c.args.function.now) (term_of c.args.argument.now) c.in_ok-first.first c.in_ok-second.second c.in_ok-found.found c.application_code-code.result.now c.blame_if-blame.result
+    (apply_parts c.args.walk.now c.walk_term.new.walk c.walk_term-2.new.walk (term_of c.args.function.now) (term_of c.args.argument.now) c.in_ok-first.first c.in_ok-second.second c.in_ok-found.found c.application_code-code.result.now c.blame_if-blame.result
     c.requires.sound c.in_ok-first.ensures.grows c.in_ok-first.ensures.walked c.in_ok-second.ensures.grows c.in_ok-second.ensures.walked c.in_ok-found.ensures.rule c.application_code-code.ensures
     (subst (λ b. Blames b c.in_ok-found.found c.application_code-code.result.now c.blame_if-blame.result) c.are_both_found.ensures c.blame_if-blame.ensures))
     c.settle.ensures.settled
 
 pub walk_apply-returns-clause-stopped : goal.walk_apply-returns-clause-stopped
 walk_apply-returns-clause-stopped t c =
-    settled_err _ c.args.w.now (record c.walk_term-2.new.w { verdicts = c.applied.new.verdicts }) c.settle.new.w (apply (term_of c.args.function.now) (term_of c.args.argument.now)) (λ s. places s (term_of c.args.function.now) ++ places s (term_of c.args.argument.now)) c.in_ok-found.found c.blame_if-blame.result (λ s. refl)
+    settled_err _ c.args.walk.now (record c.walk_term-2.new.walk { verdicts = c.applied.new.verdicts }) c.settle.new.walk (apply (term_of c.args.function.now) (term_of c.args.argument.now)) (λ s. places s (term_of c.args.function.now) ++ places s (term_of c.args.argument.now)) c.in_ok-found.found c.blame_if-blame.result (λ s. refl)
     (c.in_ok-second.ensures.walked.entries ∙ c.in_ok-first.ensures.walked.entries) c.in_ok-found.ensures.stands
-    (apply_parts c.args.w.now c.walk_term.new.w c.walk_term-2.new.w (term_of c.args.function.now) (term_of c.args.argument.now) c.in_ok-first.first c.in_ok-second.second c.in_ok-found.found c.application_code-code.result.now c.blame_if-blame.result
+    (apply_parts c.args.walk.now c.walk_term.new.walk c.walk_term-2.new.walk (term_of c.args.function.now) (term_of c.args.argument.now) c.in_ok-first.first c.in_ok-second.second c.in_ok-found.found c.application_code-code.result.now c.blame_if-blame.result
     c.requires.sound c.in_ok-first.ensures.grows c.in_ok-first.ensures.walked c.in_ok-second.ensures.grows c.in_ok-second.ensures.walked c.in_ok-found.ensures.rule c.application_code-code.ensures
     (subst (λ b. Blames b c.in_ok-found.found c.application_code-code.result.now c.blame_if-blame.result) c.are_both_found.ensures c.blame_if-blame.ensures))
     c.settle.ensures.stopped
 
 pub walk_if-returns-in_err-first-clause-stopped : goal.walk_if-returns-in_err-first-clause-stopped
 walk_if-returns-in_err-first-clause-stopped t c =
-    err_stopped c.from_residual.result _ c.args.w.now c.walk_term.new.w (if_then_else (term_of c.args.condition.now) (term_of c.args.then_term.now) (term_of c.args.else_term.now)) c.from_residual.ensures.1
-    (among_front _ (entries_of c.args.w.now) (λ s. (places s (term_of c.args.condition.now) ++ places s (term_of c.args.then_term.now)) ++ places s (term_of c.args.else_term.now)) (λ s. record { scope = s; here = (if_then_else (term_of c.args.condition.now) (term_of c.args.then_term.now) (term_of c.args.else_term.now)) } ∷ []) c.args.w.now c.walk_term.new.w _
-    (among_front _ (entries_of c.args.w.now) (λ s. places s (term_of c.args.condition.now) ++ places s (term_of c.args.then_term.now)) (λ s. places s (term_of c.args.else_term.now)) c.args.w.now c.walk_term.new.w _
-    (among_front _ (entries_of c.args.w.now) (λ s. places s (term_of c.args.condition.now)) (λ s. places s (term_of c.args.then_term.now)) c.args.w.now c.walk_term.new.w _ c.in_err-first.ensures.stopped)))
+    err_stopped c.from_residual.result _ c.args.walk.now c.walk_term.new.walk (if_then_else (term_of c.args.condition.now) (term_of c.args.then_term.now) (term_of c.args.else_term.now)) c.from_residual.ensures.1
+    (among_front _ (entries_of c.args.walk.now) (λ s. (places s (term_of c.args.condition.now) ++ places s (term_of c.args.then_term.now)) ++ places s (term_of c.args.else_term.now)) (λ s. record { scope = s; here = (if_then_else (term_of c.args.condition.now) (term_of c.args.then_term.now) (term_of c.args.else_term.now)) } ∷ []) c.args.walk.now c.walk_term.new.walk _
+    (among_front _ (entries_of c.args.walk.now) (λ s. places s (term_of c.args.condition.now) ++ places s (term_of c.args.then_term.now)) (λ s. places s (term_of c.args.else_term.now)) c.args.walk.now c.walk_term.new.walk _
+    (among_front _ (entries_of c.args.walk.now) (λ s. places s (term_of c.args.condition.now)) (λ s. places s (term_of c.args.then_term.now)) c.args.walk.now c.walk_term.new.walk _ c.in_err-first.ensures.stopped)))
 
 pub walk_if-returns-in_err-second-clause-stopped : goal.walk_if-returns-in_err-second-clause-stopped
 walk_if-returns-in_err-second-clause-stopped t c =
-    let same = entries_same c.args.w.now c.walk_term.new.w c.requires.sound c.in_ok-first.ensures.grows.keeps c.in_ok-first.ensures.walked.entries in
-    err_stopped c.from_residual-in_err-second.result _ c.args.w.now c.walk_term-2.new.w (if_then_else (term_of c.args.condition.now) (term_of c.args.then_term.now) (term_of c.args.else_term.now)) c.from_residual-in_err-second.ensures.1
-    (among_front _ (entries_of c.args.w.now) (λ s. (places s (term_of c.args.condition.now) ++ places s (term_of c.args.then_term.now)) ++ places s (term_of c.args.else_term.now)) (λ s. record { scope = s; here = (if_then_else (term_of c.args.condition.now) (term_of c.args.then_term.now) (term_of c.args.else_term.now)) } ∷ []) c.args.w.now c.walk_term-2.new.w _
-    (among_front _ (entries_of c.args.w.now) (λ s. places s (term_of c.args.condition.now) ++ places s (term_of c.args.then_term.now)) (λ s. places s (term_of c.args.else_term.now)) c.args.w.now c.walk_term-2.new.w _
-    (among_behind _ (entries_of c.args.w.now) (λ s. places s (term_of c.args.condition.now)) (λ s. places s (term_of c.args.then_term.now)) c.args.w.now c.walk_term.new.w c.walk_term-2.new.w _ c.in_ok-first.ensures.walked.over.went
-    (among_from _ (entries_of c.walk_term.new.w) (entries_of c.args.w.now) (λ s. places s (term_of c.args.then_term.now)) c.walk_term.new.w c.walk_term.new.w c.walk_term-2.new.w _ _ same refl c.in_ok-first.ensures.grows.dialect c.in_err-second.ensures.stopped))))
+    let same = entries_same c.args.walk.now c.walk_term.new.walk c.requires.sound c.in_ok-first.ensures.grows.keeps c.in_ok-first.ensures.walked.entries in
+    err_stopped c.from_residual-in_err-second.result _ c.args.walk.now c.walk_term-2.new.walk (if_then_else (term_of c.args.condition.now) (term_of c.args.then_term.now) (term_of c.args.else_term.now)) c.from_residual-in_err-second.ensures.1
+    (among_front _ (entries_of c.args.walk.now) (λ s. (places s (term_of c.args.condition.now) ++ places s (term_of c.args.then_term.now)) ++ places s (term_of c.args.else_term.now)) (λ s. record { scope = s; here = (if_then_else (term_of c.args.condition.now) (term_of c.args.then_term.now) (term_of c.args.else_term.now)) } ∷ []) c.args.walk.now c.walk_term-2.new.walk _
+    (among_front _ (entries_of c.args.walk.now) (λ s. places s (term_of c.args.condition.now) ++ places s (term_of c.args.then_term.now)) (λ s. places s (term_of c.args.else_term.now)) c.args.walk.now c.walk_term-2.new.walk _
+    (among_behind _ (entries_of c.args.walk.now) (λ s. places s (term_of c.args.condition.now)) (λ s. places s (term_of c.args.then_term.now)) c.args.walk.now c.walk_term.new.walk c.walk_term-2.new.walk _ c.in_ok-first.ensures.walked.over.went
+    (among_from _ (entries_of c.walk_term.new.walk) (entries_of c.args.walk.now) (λ s. places s (term_of c.args.then_term.now)) c.walk_term.new.walk c.walk_term.new.walk c.walk_term-2.new.walk _ _ same refl c.in_ok-first.ensures.grows.dialect c.in_err-second.ensures.stopped))))
 
 pub walk_if-returns-in_err-third-clause-stopped : goal.walk_if-returns-in_err-third-clause-stopped
 walk_if-returns-in_err-third-clause-stopped t c =
-    let same = entries_same c.args.w.now c.walk_term.new.w c.requires.sound c.in_ok-first.ensures.grows.keeps c.in_ok-first.ensures.walked.entries in
-    let same_2 = entries_same c.walk_term.new.w c.walk_term-2.new.w c.in_ok-first.ensures.grows.sound c.in_ok-second.ensures.grows.keeps c.in_ok-second.ensures.walked.entries ∙ same in
-    err_stopped c.from_residual-in_err-third.result _ c.args.w.now c.walk_term-3.new.w (if_then_else (term_of c.args.condition.now) (term_of c.args.then_term.now) (term_of c.args.else_term.now)) c.from_residual-in_err-third.ensures.1
-    (among_front _ (entries_of c.args.w.now) (λ s. (places s (term_of c.args.condition.now) ++ places s (term_of c.args.then_term.now)) ++ places s (term_of c.args.else_term.now)) (λ s. record { scope = s; here = (if_then_else (term_of c.args.condition.now) (term_of c.args.then_term.now) (term_of c.args.else_term.now)) } ∷ []) c.args.w.now c.walk_term-3.new.w _
-    (among_behind _ (entries_of c.args.w.now) (λ s. places s (term_of c.args.condition.now) ++ places s (term_of c.args.then_term.now)) (λ s. places s (term_of c.args.else_term.now)) c.args.w.now c.walk_term-2.new.w c.walk_term-3.new.w _
-    (went_both (entries_of c.args.w.now) (λ s. places s (term_of c.args.condition.now)) (λ s. places s (term_of c.args.then_term.now)) (progress_of c.args.w.now) (progress_of c.walk_term.new.w) (progress_of c.walk_term-2.new.w) _ c.in_ok-first.ensures.walked.over.went
-    (went_from (entries_of c.walk_term.new.w) (entries_of c.args.w.now) (λ s. places s (term_of c.args.then_term.now)) (progress_of c.walk_term.new.w) (progress_of c.walk_term.new.w) (progress_of c.walk_term-2.new.w) _ _ same refl c.in_ok-first.ensures.grows.dialect c.in_ok-second.ensures.walked.over.went))
-    (among_from _ (entries_of c.walk_term-2.new.w) (entries_of c.args.w.now) (λ s. places s (term_of c.args.else_term.now)) c.walk_term-2.new.w c.walk_term-2.new.w c.walk_term-3.new.w _ _ same_2 refl (c.in_ok-second.ensures.grows.dialect ∙ c.in_ok-first.ensures.grows.dialect) c.in_err-third.ensures.stopped)))
+    let same = entries_same c.args.walk.now c.walk_term.new.walk c.requires.sound c.in_ok-first.ensures.grows.keeps c.in_ok-first.ensures.walked.entries in
+    let same_2 = entries_same c.walk_term.new.walk c.walk_term-2.new.walk c.in_ok-first.ensures.grows.sound c.in_ok-second.ensures.grows.keeps c.in_ok-second.ensures.walked.entries ∙ same in
+    err_stopped c.from_residual-in_err-third.result _ c.args.walk.now c.walk_term-3.new.walk (if_then_else (term_of c.args.condition.now) (term_of c.args.then_term.now) (term_of c.args.else_term.now)) c.from_residual-in_err-third.ensures.1
+    (among_front _ (entries_of c.args.walk.now) (λ s. (places s (term_of c.args.condition.now) ++ places s (term_of c.args.then_term.now)) ++ places s (term_of c.args.else_term.now)) (λ s. record { scope = s; here = (if_then_else (term_of c.args.condition.now) (term_of c.args.then_term.now) (term_of c.args.else_term.now)) } ∷ []) c.args.walk.now c.walk_term-3.new.walk _
+    (among_behind _ (entries_of c.args.walk.now) (λ s. places s (term_of c.args.condition.now) ++ places s (term_of c.args.then_term.now)) (λ s. places s (term_of c.args.else_term.now)) c.args.walk.now c.walk_term-2.new.walk c.walk_term-3.new.walk _
+    (went_both (entries_of c.args.walk.now) (λ s. places s (term_of c.args.condition.now)) (λ s. places s (term_of c.args.then_term.now)) (progress_of c.args.walk.now) (progress_of c.walk_term.new.walk) (progress_of c.walk_term-2.new.walk) _ c.in_ok-first.ensures.walked.over.went
+    (went_from (entries_of c.walk_term.new.walk) (entries_of c.args.walk.now) (λ s. places s (term_of c.args.then_term.now)) (progress_of c.walk_term.new.walk) (progress_of c.walk_term.new.walk) (progress_of c.walk_term-2.new.walk) _ _ same refl c.in_ok-first.ensures.grows.dialect c.in_ok-second.ensures.walked.over.went))
+    (among_from _ (entries_of c.walk_term-2.new.walk) (entries_of c.args.walk.now) (λ s. places s (term_of c.args.else_term.now)) c.walk_term-2.new.walk c.walk_term-2.new.walk c.walk_term-3.new.walk _ _ same_2 refl (c.in_ok-second.ensures.grows.dialect ∙ c.in_ok-first.ensures.grows.dialect) c.in_err-third.ensures.stopped)))
 
 pub walk_if-returns-in_err-found-clause-grows : goal.walk_if-returns-in_err-found-clause-grows
-walk_if-returns-in_err-found-clause-grows t c = stepped_grows c.args.w.now c.walk_term-3.new.w c.chosen.new.table c.chosen.new.verdicts (grows_trans c.args.w.now c.walk_term-2.new.w c.walk_term-3.new.w (grows_trans c.args.w.now c.walk_term.new.w c.walk_term-2.new.w c.in_ok-first.ensures.grows c.in_ok-second.ensures.grows) c.in_ok-third.ensures.grows) c.chosen.ensures.keeps c.chosen.ensures.right c.chosen.ensures.dialect
+walk_if-returns-in_err-found-clause-grows t c = stepped_grows c.args.walk.now c.walk_term-3.new.walk c.chosen.new.table c.chosen.new.verdicts (grows_trans c.args.walk.now c.walk_term-2.new.walk c.walk_term-3.new.walk (grows_trans c.args.walk.now c.walk_term.new.walk c.walk_term-2.new.walk c.in_ok-first.ensures.grows c.in_ok-second.ensures.grows) c.in_ok-third.ensures.grows) c.chosen.ensures.keeps c.chosen.ensures.right c.chosen.ensures.dialect
 
 pub walk_if-settle-requires-clause-sound : goal.walk_if-settle-requires-clause-sound
-walk_if-settle-requires-clause-sound t c = (stepped_grows c.args.w.now c.walk_term-3.new.w c.chosen.new.table c.chosen.new.verdicts (grows_trans c.args.w.now c.walk_term-2.new.w c.walk_term-3.new.w (grows_trans c.args.w.now c.walk_term.new.w c.walk_term-2.new.w c.in_ok-first.ensures.grows c.in_ok-second.ensures.grows) c.in_ok-third.ensures.grows) c.chosen.ensures.keeps c.chosen.ensures.right c.chosen.ensures.dialect).sound
+walk_if-settle-requires-clause-sound t c = (stepped_grows c.args.walk.now c.walk_term-3.new.walk c.chosen.new.table c.chosen.new.verdicts (grows_trans c.args.walk.now c.walk_term-2.new.walk c.walk_term-3.new.walk (grows_trans c.args.walk.now c.walk_term.new.walk c.walk_term-2.new.walk c.in_ok-first.ensures.grows c.in_ok-second.ensures.grows) c.in_ok-third.ensures.grows) c.chosen.ensures.keeps c.chosen.ensures.right c.chosen.ensures.dialect).sound
 
 pub walk_if-returns-clause-grows : goal.walk_if-returns-clause-grows
-walk_if-returns-clause-grows t c = grows_trans c.args.w.now (stepped c.walk_term-3.new.w c.chosen.new.table c.chosen.new.verdicts) c.settle.new.w (stepped_grows c.args.w.now c.walk_term-3.new.w c.chosen.new.table c.chosen.new.verdicts (grows_trans c.args.w.now c.walk_term-2.new.w c.walk_term-3.new.w (grows_trans c.args.w.now c.walk_term.new.w c.walk_term-2.new.w c.in_ok-first.ensures.grows c.in_ok-second.ensures.grows) c.in_ok-third.ensures.grows) c.chosen.ensures.keeps c.chosen.ensures.right c.chosen.ensures.dialect) c.settle.ensures.grows
+walk_if-returns-clause-grows t c = grows_trans c.args.walk.now (stepped c.walk_term-3.new.walk c.chosen.new.table c.chosen.new.verdicts) c.settle.new.walk (stepped_grows c.args.walk.now c.walk_term-3.new.walk c.chosen.new.table c.chosen.new.verdicts (grows_trans c.args.walk.now c.walk_term-2.new.walk c.walk_term-3.new.walk (grows_trans c.args.walk.now c.walk_term.new.walk c.walk_term-2.new.walk c.in_ok-first.ensures.grows c.in_ok-second.ensures.grows) c.in_ok-third.ensures.grows) c.chosen.ensures.keeps c.chosen.ensures.right c.chosen.ensures.dialect) c.settle.ensures.grows
 
 pub walk_if-returns-clause-walked : goal.walk_if-returns-clause-walked
 walk_if-returns-clause-walked t c =
-    settled_ok _ c.args.w.now (stepped c.walk_term-3.new.w c.chosen.new.table c.chosen.new.verdicts) c.settle.new.w (if_then_else (term_of c.args.condition.now) (term_of c.args.then_term.now) (term_of c.args.else_term.now)) (λ s. (places s (term_of c.args.condition.now) ++ places s (term_of c.args.then_term.now)) ++ places s (term_of c.args.else_term.now)) c.in_ok-found.found c.blame_if-blame.result (λ s. refl)
+    settled_ok _ c.args.walk.now (stepped c.walk_term-3.new.walk c.chosen.new.table c.chosen.new.verdicts) c.settle.new.walk (if_then_else (term_of c.args.condition.now) (term_of c.args.then_term.now) (term_of c.args.else_term.now)) (λ s. (places s (term_of c.args.condition.now) ++ places s (term_of c.args.then_term.now)) ++ places s (term_of c.args.else_term.now)) c.in_ok-found.found c.blame_if-blame.result (λ s. refl)
     (c.in_ok-third.ensures.walked.entries ∙ c.in_ok-second.ensures.walked.entries ∙ c.in_ok-first.ensures.walked.entries) c.in_ok-found.ensures.stands
-    (if_parts c.args.w.now c.walk_term.new.w c.walk_term-2.new.w c.walk_term-3.new.w (stepped c.walk_term-3.new.w c.chosen.new.table c.chosen.new.verdicts) (term_of c.args.condition.now) (term_of c.args.then_term.now) (term_of c.args.else_term.now) c.in_ok-first.first c.in_ok-second.second c.in_ok-third.third c.in_ok-found.found c.blame_if-blame.result
+    (if_parts c.args.walk.now c.walk_term.new.walk c.walk_term-2.new.walk c.walk_term-3.new.walk (stepped c.walk_term-3.new.walk c.chosen.new.table c.chosen.new.verdicts) (term_of c.args.condition.now) (term_of c.args.then_term.now) (term_of c.args.else_term.now) c.in_ok-first.first c.in_ok-second.second c.in_ok-third.third c.in_ok-found.found c.blame_if-blame.result
     c.requires.sound c.in_ok-first.ensures.grows c.in_ok-first.ensures.walked c.in_ok-second.ensures.grows c.in_ok-second.ensures.walked c.in_ok-third.ensures.grows c.in_ok-third.ensures.walked
-    (progress_same c.walk_term-3.new.w (stepped c.walk_term-3.new.w c.chosen.new.table c.chosen.new.verdicts) c.in_ok-third.ensures.grows.sound c.chosen.ensures.keeps refl refl)
+    (progress_same c.walk_term-3.new.walk (stepped c.walk_term-3.new.walk c.chosen.new.table c.chosen.new.verdicts) c.in_ok-third.ensures.grows.sound c.chosen.ensures.keeps refl refl)
     c.in_ok-found.ensures.rule
     (subst (λ b. Blames b c.in_ok-found.found (codes "E5") c.blame_if-blame.result) c.are_all_found.ensures c.blame_if-blame.ensures))
     c.settle.ensures.settled
 
 pub walk_if-returns-clause-stopped : goal.walk_if-returns-clause-stopped
 walk_if-returns-clause-stopped t c =
-    settled_err _ c.args.w.now (stepped c.walk_term-3.new.w c.chosen.new.table c.chosen.new.verdicts) c.settle.new.w (if_then_else (term_of c.args.condition.now) (term_of c.args.then_term.now) (term_of c.args.else_term.now)) (λ s. (places s (term_of c.args.condition.now) ++ places s (term_of c.args.then_term.now)) ++ places s (term_of c.args.else_term.now)) c.in_ok-found.found c.blame_if-blame.result (λ s. refl)
+    settled_err _ c.args.walk.now (stepped c.walk_term-3.new.walk c.chosen.new.table c.chosen.new.verdicts) c.settle.new.walk (if_then_else (term_of c.args.condition.now) (term_of c.args.then_term.now) (term_of c.args.else_term.now)) (λ s. (places s (term_of c.args.condition.now) ++ places s (term_of c.args.then_term.now)) ++ places s (term_of c.args.else_term.now)) c.in_ok-found.found c.blame_if-blame.result (λ s. refl)
     (c.in_ok-third.ensures.walked.entries ∙ c.in_ok-second.ensures.walked.entries ∙ c.in_ok-first.ensures.walked.entries) c.in_ok-found.ensures.stands
-    (if_parts c.args.w.now c.walk_term.new.w c.walk_term-2.new.w c.walk_term-3.new.w (stepped c.walk_term-3.new.w c.chosen.new.table c.chosen.new.verdicts) (term_of c.args.condition.now) (term_of c.args.then_term.now) (term_of c.args.else_term.now) c.in_ok-first.first c.in_ok-second.second c.in_ok-third.third c.in_ok-found.found c.blame_if-blame.result
+    (if_parts c.args.walk.now c.walk_term.new.walk c.walk_term-2.new.walk c.walk_term-3.new.walk (stepped c.walk_term-3.new.walk c.chosen.new.table c.chosen.new.verdicts) (term_of c.args.condition.now) (term_of c.args.then_term.now) (term_of c.args.else_term.now) c.in_ok-first.first c.in_ok-second.second c.in_ok-third.third c.in_ok-found.found c.blame_if-blame.result
     c.requires.sound c.in_ok-first.ensures.grows c.in_ok-first.ensures.walked c.in_ok-second.ensures.grows c.in_ok-second.ensures.walked c.in_ok-third.ensures.grows c.in_ok-third.ensures.walked
-    (progress_same c.walk_term-3.new.w (stepped c.walk_term-3.new.w c.chosen.new.table c.chosen.new.verdicts) c.in_ok-third.ensures.grows.sound c.chosen.ensures.keeps refl refl)
+    (progress_same c.walk_term-3.new.walk (stepped c.walk_term-3.new.walk c.chosen.new.table c.chosen.new.verdicts) c.in_ok-third.ensures.grows.sound c.chosen.ensures.keeps refl refl)
     c.in_ok-found.ensures.rule
     (subst (λ b. Blames b c.in_ok-found.found (codes "E5") c.blame_if-blame.result) c.are_all_found.ensures c.blame_if-blame.ensures))
     c.settle.ensures.stopped
 
 pub walk_ascribe-returns-in_err-part-clause-stopped : goal.walk_ascribe-returns-in_err-part-clause-stopped
 walk_ascribe-returns-in_err-part-clause-stopped t c =
-    err_stopped c.from_residual.result _ c.args.w.now c.walk_term.new.w (ascribe (term_of c.args.operand.now) (written_of c.args.written.now)) c.from_residual.ensures.1
-    (among_front _ (entries_of c.args.w.now) (λ s. places s (term_of c.args.operand.now)) (λ s. record { scope = s; here = (ascribe (term_of c.args.operand.now) (written_of c.args.written.now)) } ∷ []) c.args.w.now c.walk_term.new.w _ c.in_err-part.ensures.stopped)
+    err_stopped c.from_residual.result _ c.args.walk.now c.walk_term.new.walk (ascribe (term_of c.args.operand.now) (written_of c.args.written.now)) c.from_residual.ensures.1
+    (among_front _ (entries_of c.args.walk.now) (λ s. places s (term_of c.args.operand.now)) (λ s. record { scope = s; here = (ascribe (term_of c.args.operand.now) (written_of c.args.written.now)) } ∷ []) c.args.walk.now c.walk_term.new.walk _ c.in_err-part.ensures.stopped)
 
 pub walk_ascribe-returns-in_err-entry-clause-grows : goal.walk_ascribe-returns-in_err-entry-clause-grows
-walk_ascribe-returns-in_err-entry-clause-grows t c = retabled_grows c.args.w.now c.walk_term.new.w c.added.new.table c.in_ok-part.ensures.grows c.added.ensures.keeps
+walk_ascribe-returns-in_err-entry-clause-grows t c = retabled_grows c.args.walk.now c.walk_term.new.walk c.added.new.table c.in_ok-part.ensures.grows c.added.ensures.keeps
 
 pub walk_ascribe-ascribed-requires-clause-right : goal.walk_ascribe-ascribed-requires-clause-right
-walk_ascribe-ascribed-requires-clause-right t c = (retabled_grows c.args.w.now c.walk_term.new.w c.added.new.table c.in_ok-part.ensures.grows c.added.ensures.keeps).sound.verdicts
+walk_ascribe-ascribed-requires-clause-right t c = (retabled_grows c.args.walk.now c.walk_term.new.walk c.added.new.table c.in_ok-part.ensures.grows c.added.ensures.keeps).sound.verdicts
 
 pub walk_ascribe-ascribed-requires-clause-operand : goal.walk_ascribe-ascribed-requires-clause-operand
-walk_ascribe-ascribed-requires-clause-operand t c = stands_keep c.walk_term.new.w.table c.added.new.table c.in_ok-part.part c.added.ensures.keeps c.in_ok-part.ensures.walked.stands
+walk_ascribe-ascribed-requires-clause-operand t c = stands_keep c.walk_term.new.walk.table c.added.new.table c.in_ok-part.part c.added.ensures.keeps c.in_ok-part.ensures.walked.stands
 
 pub walk_ascribe-returns-in_err-found-clause-grows : goal.walk_ascribe-returns-in_err-found-clause-grows
-walk_ascribe-returns-in_err-found-clause-grows t c = stepped_grows c.args.w.now c.walk_term.new.w c.added.new.table c.ascribed.new.verdicts c.in_ok-part.ensures.grows c.added.ensures.keeps c.ascribed.ensures.right c.ascribed.ensures.dialect
+walk_ascribe-returns-in_err-found-clause-grows t c = stepped_grows c.args.walk.now c.walk_term.new.walk c.added.new.table c.ascribed.new.verdicts c.in_ok-part.ensures.grows c.added.ensures.keeps c.ascribed.ensures.right c.ascribed.ensures.dialect
 
 pub walk_ascribe-settle-requires-clause-sound : goal.walk_ascribe-settle-requires-clause-sound
-walk_ascribe-settle-requires-clause-sound t c = (stepped_grows c.args.w.now c.walk_term.new.w c.added.new.table c.ascribed.new.verdicts c.in_ok-part.ensures.grows c.added.ensures.keeps c.ascribed.ensures.right c.ascribed.ensures.dialect).sound
+walk_ascribe-settle-requires-clause-sound t c = (stepped_grows c.args.walk.now c.walk_term.new.walk c.added.new.table c.ascribed.new.verdicts c.in_ok-part.ensures.grows c.added.ensures.keeps c.ascribed.ensures.right c.ascribed.ensures.dialect).sound
 
 pub walk_ascribe-returns-clause-walked : goal.walk_ascribe-returns-clause-walked
 walk_ascribe-returns-clause-walked t c =
-    settled_ok _ c.args.w.now (stepped c.walk_term.new.w c.added.new.table c.ascribed.new.verdicts) c.settle.new.w (ascribe (term_of c.args.operand.now) (written_of c.args.written.now)) (λ s. places s (term_of c.args.operand.now)) c.in_ok-found.found c.blame_if-blame.result (λ s. refl) c.in_ok-part.ensures.walked.entries c.in_ok-found.ensures.stands
-    (ascribe_parts c.args.w.now c.walk_term.new.w (record c.walk_term.new.w { table = c.added.new.table }) (term_of c.args.operand.now) (written_of c.args.written.now) c.in_ok-entry.entry c.in_ok-part.part c.in_ok-found.found c.blame_if-blame.result c.in_ok-part.ensures.grows c.in_ok-part.ensures.walked c.added.ensures.keeps
-    (progress_same c.walk_term.new.w (record c.walk_term.new.w { table = c.added.new.table }) c.in_ok-part.ensures.grows.sound c.added.ensures.keeps refl refl)
+    settled_ok _ c.args.walk.now (stepped c.walk_term.new.walk c.added.new.table c.ascribed.new.verdicts) c.settle.new.walk (ascribe (term_of c.args.operand.now) (written_of c.args.written.now)) (λ s. places s (term_of c.args.operand.now)) c.in_ok-found.found c.blame_if-blame.result (λ s. refl) c.in_ok-part.ensures.walked.entries c.in_ok-found.ensures.stands
+    (ascribe_parts c.args.walk.now c.walk_term.new.walk (record c.walk_term.new.walk { table = c.added.new.table }) (term_of c.args.operand.now) (written_of c.args.written.now) c.in_ok-entry.entry c.in_ok-part.part c.in_ok-found.found c.blame_if-blame.result c.in_ok-part.ensures.grows c.in_ok-part.ensures.walked c.added.ensures.keeps
+    (progress_same c.walk_term.new.walk (record c.walk_term.new.walk { table = c.added.new.table }) c.in_ok-part.ensures.grows.sound c.added.ensures.keeps refl refl)
     c.in_ok-entry.ensures.entry c.in_ok-found.ensures.rule
     (subst (λ b. Blames b c.in_ok-found.found (codes "E7") c.blame_if-blame.result) c.are_both_found.ensures c.blame_if-blame.ensures))
     c.settle.ensures.settled
 
 pub walk_ascribe-returns-clause-stopped : goal.walk_ascribe-returns-clause-stopped
 walk_ascribe-returns-clause-stopped t c =
-    settled_err _ c.args.w.now (stepped c.walk_term.new.w c.added.new.table c.ascribed.new.verdicts) c.settle.new.w (ascribe (term_of c.args.operand.now) (written_of c.args.written.now)) (λ s. places s (term_of c.args.operand.now)) c.in_ok-found.found c.blame_if-blame.result (λ s. refl) c.in_ok-part.ensures.walked.entries c.in_ok-found.ensures.stands
-    (ascribe_parts c.args.w.now c.walk_term.new.w (record c.walk_term.new.w { table = c.added.new.table }) (term_of c.args.operand.now) (written_of c.args.written.now) c.in_ok-entry.entry c.in_ok-part.part c.in_ok-found.found c.blame_if-blame.result c.in_ok-part.ensures.grows c.in_ok-part.ensures.walked c.added.ensures.keeps
-    (progress_same c.walk_term.new.w (record c.walk_term.new.w { table = c.added.new.table }) c.in_ok-part.ensures.grows.sound c.added.ensures.keeps refl refl)
+    settled_err _ c.args.walk.now (stepped c.walk_term.new.walk c.added.new.table c.ascribed.new.verdicts) c.settle.new.walk (ascribe (term_of c.args.operand.now) (written_of c.args.written.now)) (λ s. places s (term_of c.args.operand.now)) c.in_ok-found.found c.blame_if-blame.result (λ s. refl) c.in_ok-part.ensures.walked.entries c.in_ok-found.ensures.stands
+    (ascribe_parts c.args.walk.now c.walk_term.new.walk (record c.walk_term.new.walk { table = c.added.new.table }) (term_of c.args.operand.now) (written_of c.args.written.now) c.in_ok-entry.entry c.in_ok-part.part c.in_ok-found.found c.blame_if-blame.result c.in_ok-part.ensures.grows c.in_ok-part.ensures.walked c.added.ensures.keeps
+    (progress_same c.walk_term.new.walk (record c.walk_term.new.walk { table = c.added.new.table }) c.in_ok-part.ensures.grows.sound c.added.ensures.keeps refl refl)
     c.in_ok-entry.ensures.entry c.in_ok-found.ensures.rule
     (subst (λ b. Blames b c.in_ok-found.found (codes "E7") c.blame_if-blame.result) c.are_both_found.ensures c.blame_if-blame.ensures))
     c.settle.ensures.stopped
 
 pub walk_lambda-returns-in_err-parameter-clause-grows : goal.walk_lambda-returns-in_err-parameter-clause-grows
-walk_lambda-returns-in_err-parameter-clause-grows t c = retabled_grows c.args.w.now c.args.w.now c.added.new.table (grows_same c.args.w.now c.requires.sound) c.added.ensures.keeps
+walk_lambda-returns-in_err-parameter-clause-grows t c = retabled_grows c.args.walk.now c.args.walk.now c.added.new.table (grows_same c.args.walk.now c.requires.sound) c.added.ensures.keeps
 
 pub walk_lambda-returns-in_err-push-clause-grows : goal.walk_lambda-returns-in_err-push-clause-grows
-walk_lambda-returns-in_err-push-clause-grows t c = pushed_grows c.args.w.now c.added.new.table c.push.new.self c.in_ok-parameter.parameter c.requires.sound c.added.ensures.keeps (put_or_not _ _ _ _ c.push.ensures.items) c.in_ok-parameter.ensures.stands
+walk_lambda-returns-in_err-push-clause-grows t c = pushed_grows c.args.walk.now c.added.new.table c.push.new.self c.in_ok-parameter.parameter c.requires.sound c.added.ensures.keeps (put_or_not _ _ _ _ c.push.ensures.items) c.in_ok-parameter.ensures.stands
 
 pub walk_lambda-walk_term-requires : goal.walk_lambda-walk_term-requires
-walk_lambda-walk_term-requires t c = (omega (arith, c.decreases), ((pushed_grows c.args.w.now c.added.new.table c.push.new.self c.in_ok-parameter.parameter c.requires.sound c.added.ensures.keeps (inl c.in_ok-push.ensures.items) c.in_ok-parameter.ensures.stands).sound, c.requires.body))
+walk_lambda-walk_term-requires t c = (omega (arith, c.decreases), ((pushed_grows c.args.walk.now c.added.new.table c.push.new.self c.in_ok-parameter.parameter c.requires.sound c.added.ensures.keeps (inl c.in_ok-push.ensures.items) c.in_ok-parameter.ensures.stands).sound, c.requires.body))
 
 pub walk_lambda-returns-in_err-outcome-clause-stopped : goal.walk_lambda-returns-in_err-outcome-clause-stopped
 walk_lambda-returns-in_err-outcome-clause-stopped t c =
-    err_stopped c.from_residual-in_err-outcome.result _ c.args.w.now c.walk_term.new.w (lambda (written_of c.args.written.now) (term_of c.args.body.now)) c.from_residual-in_err-outcome.ensures.1
-    (among_front _ (entries_of c.args.w.now) (λ s. places (written (written_of c.args.written.now) ∷ s) (term_of c.args.body.now)) (λ s. record { scope = s; here = (lambda (written_of c.args.written.now) (term_of c.args.body.now)) } ∷ []) c.args.w.now c.walk_term.new.w _
-    (among_under _ (written (written_of c.args.written.now)) (written_of c.args.written.now) (entries_of c.args.w.now) (λ s. places s (term_of c.args.body.now)) c.args.w.now c.walk_term.new.w _ (λ s low. lowest_written (written_of c.args.written.now) s (written_of c.args.written.now) (entries_of c.args.w.now) _ c.requires.written refl low)
-    (among_from _ (entries_of (record c.args.w.now { table = c.added.new.table; entries = c.push.new.self })) ((written_of c.args.written.now) ∷ entries_of c.args.w.now) (λ s. places s (term_of c.args.body.now)) (record c.args.w.now { table = c.added.new.table; entries = c.push.new.self }) c.args.w.now c.walk_term.new.w _ _ (under_entry c.args.w.now c.added.new.table c.push.new.self c.in_ok-parameter.parameter (written_of c.args.written.now) c.requires.sound c.added.ensures.keeps c.in_ok-push.ensures.items c.in_ok-parameter.ensures.entry) (progress_same c.args.w.now (record c.args.w.now { table = c.added.new.table; entries = c.push.new.self }) c.requires.sound c.added.ensures.keeps refl refl) refl c.in_err-outcome.ensures.stopped)))
+    err_stopped c.from_residual-in_err-outcome.result _ c.args.walk.now c.walk_term.new.walk (lambda (written_of c.args.written.now) (term_of c.args.body.now)) c.from_residual-in_err-outcome.ensures.1
+    (among_front _ (entries_of c.args.walk.now) (λ s. places (written (written_of c.args.written.now) ∷ s) (term_of c.args.body.now)) (λ s. record { scope = s; here = (lambda (written_of c.args.written.now) (term_of c.args.body.now)) } ∷ []) c.args.walk.now c.walk_term.new.walk _
+    (among_under _ (written (written_of c.args.written.now)) (written_of c.args.written.now) (entries_of c.args.walk.now) (λ s. places s (term_of c.args.body.now)) c.args.walk.now c.walk_term.new.walk _ (λ s low. lowest_written (written_of c.args.written.now) s (written_of c.args.written.now) (entries_of c.args.walk.now) _ c.requires.written refl low)
+    (among_from _ (entries_of (record c.args.walk.now { table = c.added.new.table; entries = c.push.new.self })) ((written_of c.args.written.now) ∷ entries_of c.args.walk.now) (λ s. places s (term_of c.args.body.now)) (record c.args.walk.now { table = c.added.new.table; entries = c.push.new.self }) c.args.walk.now c.walk_term.new.walk _ _ (under_entry c.args.walk.now c.added.new.table c.push.new.self c.in_ok-parameter.parameter (written_of c.args.written.now) c.requires.sound c.added.ensures.keeps c.in_ok-push.ensures.items c.in_ok-parameter.ensures.entry) (progress_same c.args.walk.now (record c.args.walk.now { table = c.added.new.table; entries = c.push.new.self }) c.requires.sound c.added.ensures.keeps refl refl) refl c.in_err-outcome.ensures.stopped)))
 
 pub walk_lambda-returns-in_err-found-clause-grows : goal.walk_lambda-returns-in_err-found-clause-grows
-walk_lambda-returns-in_err-found-clause-grows t c = (popped_grows c.args.w.now (record c.args.w.now { table = c.added.new.table; entries = c.push.new.self }) c.walk_term.new.w c.abstracted.new.table c.pop.new.self (pushed_grows c.args.w.now c.added.new.table c.push.new.self c.in_ok-parameter.parameter c.requires.sound c.added.ensures.keeps (inl c.in_ok-push.ensures.items) c.in_ok-parameter.ensures.stands) c.in_ok-outcome.ensures.grows c.abstracted.ensures.keeps (popped_is c.push.new.self c.walk_term.new.w c.pop.new.self c.args.w.now.entries.items c.in_ok-parameter.parameter c.in_ok-push.ensures.items c.in_ok-outcome.ensures.walked.entries c.pop.ensures.rest) c.requires.sound)
+walk_lambda-returns-in_err-found-clause-grows t c = (popped_grows c.args.walk.now (record c.args.walk.now { table = c.added.new.table; entries = c.push.new.self }) c.walk_term.new.walk c.abstracted.new.table c.pop.new.self (pushed_grows c.args.walk.now c.added.new.table c.push.new.self c.in_ok-parameter.parameter c.requires.sound c.added.ensures.keeps (inl c.in_ok-push.ensures.items) c.in_ok-parameter.ensures.stands) c.in_ok-outcome.ensures.grows c.abstracted.ensures.keeps (popped_is c.push.new.self c.walk_term.new.walk c.pop.new.self c.args.walk.now.entries.items c.in_ok-parameter.parameter c.in_ok-push.ensures.items c.in_ok-outcome.ensures.walked.entries c.pop.ensures.rest) c.requires.sound)
 
 pub walk_lambda-settle-requires-clause-sound : goal.walk_lambda-settle-requires-clause-sound
-walk_lambda-settle-requires-clause-sound t c = (popped_grows c.args.w.now (record c.args.w.now { table = c.added.new.table; entries = c.push.new.self }) c.walk_term.new.w c.abstracted.new.table c.pop.new.self (pushed_grows c.args.w.now c.added.new.table c.push.new.self c.in_ok-parameter.parameter c.requires.sound c.added.ensures.keeps (inl c.in_ok-push.ensures.items) c.in_ok-parameter.ensures.stands) c.in_ok-outcome.ensures.grows c.abstracted.ensures.keeps (popped_is c.push.new.self c.walk_term.new.w c.pop.new.self c.args.w.now.entries.items c.in_ok-parameter.parameter c.in_ok-push.ensures.items c.in_ok-outcome.ensures.walked.entries c.pop.ensures.rest) c.requires.sound).sound
+walk_lambda-settle-requires-clause-sound t c = (popped_grows c.args.walk.now (record c.args.walk.now { table = c.added.new.table; entries = c.push.new.self }) c.walk_term.new.walk c.abstracted.new.table c.pop.new.self (pushed_grows c.args.walk.now c.added.new.table c.push.new.self c.in_ok-parameter.parameter c.requires.sound c.added.ensures.keeps (inl c.in_ok-push.ensures.items) c.in_ok-parameter.ensures.stands) c.in_ok-outcome.ensures.grows c.abstracted.ensures.keeps (popped_is c.push.new.self c.walk_term.new.walk c.pop.new.self c.args.walk.now.entries.items c.in_ok-parameter.parameter c.in_ok-push.ensures.items c.in_ok-outcome.ensures.walked.entries c.pop.ensures.rest) c.requires.sound).sound
 
 pub walk_lambda-returns-clause-walked : goal.walk_lambda-returns-clause-walked
 walk_lambda-returns-clause-walked t c =
-    settled_ok _ c.args.w.now (record c.walk_term.new.w { table = c.abstracted.new.table; entries = c.pop.new.self }) c.settle.new.w (lambda (written_of c.args.written.now) (term_of c.args.body.now)) (λ s. places (written (written_of c.args.written.now) ∷ s) (term_of c.args.body.now)) c.in_ok-found.found None (λ s. refl) (popped_is c.push.new.self c.walk_term.new.w c.pop.new.self c.args.w.now.entries.items c.in_ok-parameter.parameter c.in_ok-push.ensures.items c.in_ok-outcome.ensures.walked.entries c.pop.ensures.rest) c.in_ok-found.ensures.stands
-    (lambda_parts c.args.w.now (record c.args.w.now { table = c.added.new.table; entries = c.push.new.self }) c.walk_term.new.w (record c.walk_term.new.w { table = c.abstracted.new.table; entries = c.pop.new.self }) (term_of c.args.body.now) (written_of c.args.written.now) c.in_ok-outcome.outcome c.in_ok-found.found c.requires.written (under_entry c.args.w.now c.added.new.table c.push.new.self c.in_ok-parameter.parameter (written_of c.args.written.now) c.requires.sound c.added.ensures.keeps c.in_ok-push.ensures.items c.in_ok-parameter.ensures.entry) (progress_same c.args.w.now (record c.args.w.now { table = c.added.new.table; entries = c.push.new.self }) c.requires.sound c.added.ensures.keeps refl refl) refl c.in_ok-outcome.ensures.walked
-    (progress_same c.walk_term.new.w (record c.walk_term.new.w { table = c.abstracted.new.table; entries = c.pop.new.self }) c.in_ok-outcome.ensures.grows.sound c.abstracted.ensures.keeps refl refl)
-    (subst (λ v. LambdaRule v (answer c.walk_term.new.w.table c.in_ok-outcome.outcome) (answer c.abstracted.new.table c.in_ok-found.found))
-    (answer_keep c.added.new.table c.walk_term.new.w.table c.in_ok-parameter.parameter c.in_ok-outcome.ensures.grows.keeps c.in_ok-parameter.ensures.stands ∙ c.in_ok-parameter.ensures.entry)
+    settled_ok _ c.args.walk.now (record c.walk_term.new.walk { table = c.abstracted.new.table; entries = c.pop.new.self }) c.settle.new.walk (lambda (written_of c.args.written.now) (term_of c.args.body.now)) (λ s. places (written (written_of c.args.written.now) ∷ s) (term_of c.args.body.now)) c.in_ok-found.found None (λ s. refl) (popped_is c.push.new.self c.walk_term.new.walk c.pop.new.self c.args.walk.now.entries.items c.in_ok-parameter.parameter c.in_ok-push.ensures.items c.in_ok-outcome.ensures.walked.entries c.pop.ensures.rest) c.in_ok-found.ensures.stands
+    (lambda_parts c.args.walk.now (record c.args.walk.now { table = c.added.new.table; entries = c.push.new.self }) c.walk_term.new.walk (record c.walk_term.new.walk { table = c.abstracted.new.table; entries = c.pop.new.self }) (term_of c.args.body.now) (written_of c.args.written.now) c.in_ok-outcome.outcome c.in_ok-found.found c.requires.written (under_entry c.args.walk.now c.added.new.table c.push.new.self c.in_ok-parameter.parameter (written_of c.args.written.now) c.requires.sound c.added.ensures.keeps c.in_ok-push.ensures.items c.in_ok-parameter.ensures.entry) (progress_same c.args.walk.now (record c.args.walk.now { table = c.added.new.table; entries = c.push.new.self }) c.requires.sound c.added.ensures.keeps refl refl) refl c.in_ok-outcome.ensures.walked
+    (progress_same c.walk_term.new.walk (record c.walk_term.new.walk { table = c.abstracted.new.table; entries = c.pop.new.self }) c.in_ok-outcome.ensures.grows.sound c.abstracted.ensures.keeps refl refl)
+    (subst (λ v. LambdaRule v (answer c.walk_term.new.walk.table c.in_ok-outcome.outcome) (answer c.abstracted.new.table c.in_ok-found.found))
+    (answer_keep c.added.new.table c.walk_term.new.walk.table c.in_ok-parameter.parameter c.in_ok-outcome.ensures.grows.keeps c.in_ok-parameter.ensures.stands ∙ c.in_ok-parameter.ensures.entry)
     c.in_ok-found.ensures.rule))
     c.settle.ensures.settled
 
 pub walk_lambda-returns-clause-stopped : goal.walk_lambda-returns-clause-stopped
 walk_lambda-returns-clause-stopped t c =
-    settled_err _ c.args.w.now (record c.walk_term.new.w { table = c.abstracted.new.table; entries = c.pop.new.self }) c.settle.new.w (lambda (written_of c.args.written.now) (term_of c.args.body.now)) (λ s. places (written (written_of c.args.written.now) ∷ s) (term_of c.args.body.now)) c.in_ok-found.found None (λ s. refl) (popped_is c.push.new.self c.walk_term.new.w c.pop.new.self c.args.w.now.entries.items c.in_ok-parameter.parameter c.in_ok-push.ensures.items c.in_ok-outcome.ensures.walked.entries c.pop.ensures.rest) c.in_ok-found.ensures.stands
-    (lambda_parts c.args.w.now (record c.args.w.now { table = c.added.new.table; entries = c.push.new.self }) c.walk_term.new.w (record c.walk_term.new.w { table = c.abstracted.new.table; entries = c.pop.new.self }) (term_of c.args.body.now) (written_of c.args.written.now) c.in_ok-outcome.outcome c.in_ok-found.found c.requires.written (under_entry c.args.w.now c.added.new.table c.push.new.self c.in_ok-parameter.parameter (written_of c.args.written.now) c.requires.sound c.added.ensures.keeps c.in_ok-push.ensures.items c.in_ok-parameter.ensures.entry) (progress_same c.args.w.now (record c.args.w.now { table = c.added.new.table; entries = c.push.new.self }) c.requires.sound c.added.ensures.keeps refl refl) refl c.in_ok-outcome.ensures.walked
-    (progress_same c.walk_term.new.w (record c.walk_term.new.w { table = c.abstracted.new.table; entries = c.pop.new.self }) c.in_ok-outcome.ensures.grows.sound c.abstracted.ensures.keeps refl refl)
-    (subst (λ v. LambdaRule v (answer c.walk_term.new.w.table c.in_ok-outcome.outcome) (answer c.abstracted.new.table c.in_ok-found.found))
-    (answer_keep c.added.new.table c.walk_term.new.w.table c.in_ok-parameter.parameter c.in_ok-outcome.ensures.grows.keeps c.in_ok-parameter.ensures.stands ∙ c.in_ok-parameter.ensures.entry)
+    settled_err _ c.args.walk.now (record c.walk_term.new.walk { table = c.abstracted.new.table; entries = c.pop.new.self }) c.settle.new.walk (lambda (written_of c.args.written.now) (term_of c.args.body.now)) (λ s. places (written (written_of c.args.written.now) ∷ s) (term_of c.args.body.now)) c.in_ok-found.found None (λ s. refl) (popped_is c.push.new.self c.walk_term.new.walk c.pop.new.self c.args.walk.now.entries.items c.in_ok-parameter.parameter c.in_ok-push.ensures.items c.in_ok-outcome.ensures.walked.entries c.pop.ensures.rest) c.in_ok-found.ensures.stands
+    (lambda_parts c.args.walk.now (record c.args.walk.now { table = c.added.new.table; entries = c.push.new.self }) c.walk_term.new.walk (record c.walk_term.new.walk { table = c.abstracted.new.table; entries = c.pop.new.self }) (term_of c.args.body.now) (written_of c.args.written.now) c.in_ok-outcome.outcome c.in_ok-found.found c.requires.written (under_entry c.args.walk.now c.added.new.table c.push.new.self c.in_ok-parameter.parameter (written_of c.args.written.now) c.requires.sound c.added.ensures.keeps c.in_ok-push.ensures.items c.in_ok-parameter.ensures.entry) (progress_same c.args.walk.now (record c.args.walk.now { table = c.added.new.table; entries = c.push.new.self }) c.requires.sound c.added.ensures.keeps refl refl) refl c.in_ok-outcome.ensures.walked
+    (progress_same c.walk_term.new.walk (record c.walk_term.new.walk { table = c.abstracted.new.table; entries = c.pop.new.self }) c.in_ok-outcome.ensures.grows.sound c.abstracted.ensures.keeps refl refl)
+    (subst (λ v. LambdaRule v (answer c.walk_term.new.walk.table c.in_ok-outcome.outcome) (answer c.abstracted.new.table c.in_ok-found.found))
+    (answer_keep c.added.new.table c.walk_term.new.walk.table c.in_ok-parameter.parameter c.in_ok-outcome.ensures.grows.keeps c.in_ok-parameter.ensures.stands ∙ c.in_ok-parameter.ensures.entry)
     c.in_ok-found.ensures.rule))
     c.settle.ensures.stopped
 
 pub walk_let-returns-in_err-entry-clause-stopped : goal.walk_let-returns-in_err-entry-clause-stopped
 walk_let-returns-in_err-entry-clause-stopped t c =
-    err_stopped c.from_residual.result _ c.args.w.now c.walk_term.new.w (let_in (term_of c.args.bound.now) (term_of c.args.body.now)) c.from_residual.ensures.1
-    (among_front _ (entries_of c.args.w.now) (λ s. places s (term_of c.args.bound.now) ++ places (of_term (term_of c.args.bound.now) ∷ s) (term_of c.args.body.now)) (λ s. record { scope = s; here = (let_in (term_of c.args.bound.now) (term_of c.args.body.now)) } ∷ []) c.args.w.now c.walk_term.new.w _
-    (among_front _ (entries_of c.args.w.now) (λ s. places s (term_of c.args.bound.now)) (λ s. places (of_term (term_of c.args.bound.now) ∷ s) (term_of c.args.body.now)) c.args.w.now c.walk_term.new.w _ c.in_err-entry.ensures.stopped))
+    err_stopped c.from_residual.result _ c.args.walk.now c.walk_term.new.walk (let_in (term_of c.args.bound.now) (term_of c.args.body.now)) c.from_residual.ensures.1
+    (among_front _ (entries_of c.args.walk.now) (λ s. places s (term_of c.args.bound.now) ++ places (of_term (term_of c.args.bound.now) ∷ s) (term_of c.args.body.now)) (λ s. record { scope = s; here = (let_in (term_of c.args.bound.now) (term_of c.args.body.now)) } ∷ []) c.args.walk.now c.walk_term.new.walk _
+    (among_front _ (entries_of c.args.walk.now) (λ s. places s (term_of c.args.bound.now)) (λ s. places (of_term (term_of c.args.bound.now) ∷ s) (term_of c.args.body.now)) c.args.walk.now c.walk_term.new.walk _ c.in_err-entry.ensures.stopped))
 
 pub walk_let-walk_term-requires-2 : goal.walk_let-walk_term-requires-2
-walk_let-walk_term-requires-2 t c = (omega (arith, c.decreases), ((pushed_grows c.walk_term.new.w c.walk_term.new.w.table c.push.new.self c.in_ok-entry.entry c.in_ok-entry.ensures.grows.sound (keeps_same c.walk_term.new.w.table) (inl c.in_ok-push.ensures.items) c.in_ok-entry.ensures.walked.stands).sound, c.requires.body))
+walk_let-walk_term-requires-2 t c = (omega (arith, c.decreases), ((pushed_grows c.walk_term.new.walk c.walk_term.new.walk.table c.push.new.self c.in_ok-entry.entry c.in_ok-entry.ensures.grows.sound (keeps_same c.walk_term.new.walk.table) (inl c.in_ok-push.ensures.items) c.in_ok-entry.ensures.walked.stands).sound, c.requires.body))
 
 pub walk_let-returns-in_err-outcome-clause-stopped : goal.walk_let-returns-in_err-outcome-clause-stopped
 walk_let-returns-in_err-outcome-clause-stopped t c =
-    err_stopped c.from_residual-in_err-outcome.result _ c.args.w.now c.walk_term-2.new.w (let_in (term_of c.args.bound.now) (term_of c.args.body.now)) c.from_residual-in_err-outcome.ensures.1
-    (among_front _ (entries_of c.args.w.now) (λ s. places s (term_of c.args.bound.now) ++ places (of_term (term_of c.args.bound.now) ∷ s) (term_of c.args.body.now)) (λ s. record { scope = s; here = (let_in (term_of c.args.bound.now) (term_of c.args.body.now)) } ∷ []) c.args.w.now c.walk_term-2.new.w _
-    (among_behind _ (entries_of c.args.w.now) (λ s. places s (term_of c.args.bound.now)) (λ s. places (of_term (term_of c.args.bound.now) ∷ s) (term_of c.args.body.now)) c.args.w.now c.walk_term.new.w c.walk_term-2.new.w _ c.in_ok-entry.ensures.walked.over.went
-    (among_under _ (of_term (term_of c.args.bound.now)) (answer c.walk_term.new.w.table c.in_ok-entry.entry) (entries_of c.args.w.now) (λ s. places s (term_of c.args.body.now)) c.walk_term.new.w c.walk_term-2.new.w _ (lowest_let (term_of c.args.bound.now) (entries_of c.args.w.now) (answer c.walk_term.new.w.table c.in_ok-entry.entry) _ c.in_ok-entry.ensures.walked.over.least)
-    (among_from _ (entries_of (record c.walk_term.new.w { entries = c.push.new.self })) ((answer c.walk_term.new.w.table c.in_ok-entry.entry) ∷ entries_of c.args.w.now) (λ s. places s (term_of c.args.body.now)) (record c.walk_term.new.w { entries = c.push.new.self }) c.walk_term.new.w c.walk_term-2.new.w _ _ ((under_entry c.walk_term.new.w c.walk_term.new.w.table c.push.new.self c.in_ok-entry.entry (answer c.walk_term.new.w.table c.in_ok-entry.entry) c.in_ok-entry.ensures.grows.sound (keeps_same c.walk_term.new.w.table) c.in_ok-push.ensures.items refl) ∙ ap (λ g. (answer c.walk_term.new.w.table c.in_ok-entry.entry) ∷ g) (entries_same c.args.w.now c.walk_term.new.w c.requires.sound c.in_ok-entry.ensures.grows.keeps c.in_ok-entry.ensures.walked.entries)) refl c.in_ok-entry.ensures.grows.dialect c.in_err-outcome.ensures.stopped))))
+    err_stopped c.from_residual-in_err-outcome.result _ c.args.walk.now c.walk_term-2.new.walk (let_in (term_of c.args.bound.now) (term_of c.args.body.now)) c.from_residual-in_err-outcome.ensures.1
+    (among_front _ (entries_of c.args.walk.now) (λ s. places s (term_of c.args.bound.now) ++ places (of_term (term_of c.args.bound.now) ∷ s) (term_of c.args.body.now)) (λ s. record { scope = s; here = (let_in (term_of c.args.bound.now) (term_of c.args.body.now)) } ∷ []) c.args.walk.now c.walk_term-2.new.walk _
+    (among_behind _ (entries_of c.args.walk.now) (λ s. places s (term_of c.args.bound.now)) (λ s. places (of_term (term_of c.args.bound.now) ∷ s) (term_of c.args.body.now)) c.args.walk.now c.walk_term.new.walk c.walk_term-2.new.walk _ c.in_ok-entry.ensures.walked.over.went
+    (among_under _ (of_term (term_of c.args.bound.now)) (answer c.walk_term.new.walk.table c.in_ok-entry.entry) (entries_of c.args.walk.now) (λ s. places s (term_of c.args.body.now)) c.walk_term.new.walk c.walk_term-2.new.walk _ (lowest_let (term_of c.args.bound.now) (entries_of c.args.walk.now) (answer c.walk_term.new.walk.table c.in_ok-entry.entry) _ c.in_ok-entry.ensures.walked.over.least)
+    (among_from _ (entries_of (record c.walk_term.new.walk { entries = c.push.new.self })) ((answer c.walk_term.new.walk.table c.in_ok-entry.entry) ∷ entries_of c.args.walk.now) (λ s. places s (term_of c.args.body.now)) (record c.walk_term.new.walk { entries = c.push.new.self }) c.walk_term.new.walk c.walk_term-2.new.walk _ _ ((under_entry c.walk_term.new.walk c.walk_term.new.walk.table c.push.new.self c.in_ok-entry.entry (answer c.walk_term.new.walk.table c.in_ok-entry.entry) c.in_ok-entry.ensures.grows.sound (keeps_same c.walk_term.new.walk.table) c.in_ok-push.ensures.items refl) ∙ ap (λ g. (answer c.walk_term.new.walk.table c.in_ok-entry.entry) ∷ g) (entries_same c.args.walk.now c.walk_term.new.walk c.requires.sound c.in_ok-entry.ensures.grows.keeps c.in_ok-entry.ensures.walked.entries)) refl c.in_ok-entry.ensures.grows.dialect c.in_err-outcome.ensures.stopped))))
 
 pub walk_let-settle-requires-clause-sound : goal.walk_let-settle-requires-clause-sound
-walk_let-settle-requires-clause-sound t c = (popped_grows c.walk_term.new.w (record c.walk_term.new.w { entries = c.push.new.self }) c.walk_term-2.new.w c.walk_term-2.new.w.table c.pop.new.self (pushed_grows c.walk_term.new.w c.walk_term.new.w.table c.push.new.self c.in_ok-entry.entry c.in_ok-entry.ensures.grows.sound (keeps_same c.walk_term.new.w.table) (inl c.in_ok-push.ensures.items) c.in_ok-entry.ensures.walked.stands) c.in_ok-outcome.ensures.grows (keeps_same c.walk_term-2.new.w.table) (popped_is c.push.new.self c.walk_term-2.new.w c.pop.new.self c.walk_term.new.w.entries.items c.in_ok-entry.entry c.in_ok-push.ensures.items c.in_ok-outcome.ensures.walked.entries c.pop.ensures.rest) c.in_ok-entry.ensures.grows.sound).sound
+walk_let-settle-requires-clause-sound t c = (popped_grows c.walk_term.new.walk (record c.walk_term.new.walk { entries = c.push.new.self }) c.walk_term-2.new.walk c.walk_term-2.new.walk.table c.pop.new.self (pushed_grows c.walk_term.new.walk c.walk_term.new.walk.table c.push.new.self c.in_ok-entry.entry c.in_ok-entry.ensures.grows.sound (keeps_same c.walk_term.new.walk.table) (inl c.in_ok-push.ensures.items) c.in_ok-entry.ensures.walked.stands) c.in_ok-outcome.ensures.grows (keeps_same c.walk_term-2.new.walk.table) (popped_is c.push.new.self c.walk_term-2.new.walk c.pop.new.self c.walk_term.new.walk.entries.items c.in_ok-entry.entry c.in_ok-push.ensures.items c.in_ok-outcome.ensures.walked.entries c.pop.ensures.rest) c.in_ok-entry.ensures.grows.sound).sound
 
 pub walk_let-returns-clause-walked : goal.walk_let-returns-clause-walked
 walk_let-returns-clause-walked t c =
-    settled_ok _ c.args.w.now (record c.walk_term-2.new.w { entries = c.pop.new.self }) c.settle.new.w (let_in (term_of c.args.bound.now) (term_of c.args.body.now)) (λ s. places s (term_of c.args.bound.now) ++ places (of_term (term_of c.args.bound.now) ∷ s) (term_of c.args.body.now)) c.bound_in.result None (λ s. refl) ((popped_is c.push.new.self c.walk_term-2.new.w c.pop.new.self c.walk_term.new.w.entries.items c.in_ok-entry.entry c.in_ok-push.ensures.items c.in_ok-outcome.ensures.walked.entries c.pop.ensures.rest) ∙ c.in_ok-entry.ensures.walked.entries) ((c.bound_in.ensures c.walk_term-2.new.w.table).0 c.in_ok-outcome.ensures.walked.stands)
-    (let_parts c.args.w.now c.walk_term.new.w (record c.walk_term.new.w { entries = c.push.new.self }) c.walk_term-2.new.w (record c.walk_term-2.new.w { entries = c.pop.new.self }) (term_of c.args.bound.now) (term_of c.args.body.now) c.in_ok-entry.entry c.in_ok-outcome.outcome c.bound_in.result c.requires.sound c.in_ok-entry.ensures.grows.keeps c.in_ok-entry.ensures.walked (under_entry c.walk_term.new.w c.walk_term.new.w.table c.push.new.self c.in_ok-entry.entry (answer c.walk_term.new.w.table c.in_ok-entry.entry) c.in_ok-entry.ensures.grows.sound (keeps_same c.walk_term.new.w.table) c.in_ok-push.ensures.items refl) refl c.in_ok-entry.ensures.grows.dialect c.in_ok-outcome.ensures.walked refl
-    (subst (λ v. LetRule v (answer c.walk_term-2.new.w.table c.in_ok-outcome.outcome) (answer c.walk_term-2.new.w.table c.bound_in.result))
-    (answer_keep c.walk_term.new.w.table c.walk_term-2.new.w.table c.in_ok-entry.entry c.in_ok-outcome.ensures.grows.keeps c.in_ok-entry.ensures.walked.stands)
-    (c.bound_in.ensures c.walk_term-2.new.w.table).1))
+    settled_ok _ c.args.walk.now (record c.walk_term-2.new.walk { entries = c.pop.new.self }) c.settle.new.walk (let_in (term_of c.args.bound.now) (term_of c.args.body.now)) (λ s. places s (term_of c.args.bound.now) ++ places (of_term (term_of c.args.bound.now) ∷ s) (term_of c.args.body.now)) c.bound_in.result None (λ s. refl) ((popped_is c.push.new.self c.walk_term-2.new.walk c.pop.new.self c.walk_term.new.walk.entries.items c.in_ok-entry.entry c.in_ok-push.ensures.items c.in_ok-outcome.ensures.walked.entries c.pop.ensures.rest) ∙ c.in_ok-entry.ensures.walked.entries) ((c.bound_in.ensures c.walk_term-2.new.walk.table).0 c.in_ok-outcome.ensures.walked.stands)
+    (let_parts c.args.walk.now c.walk_term.new.walk (record c.walk_term.new.walk { entries = c.push.new.self }) c.walk_term-2.new.walk (record c.walk_term-2.new.walk { entries = c.pop.new.self }) (term_of c.args.bound.now) (term_of c.args.body.now) c.in_ok-entry.entry c.in_ok-outcome.outcome c.bound_in.result c.requires.sound c.in_ok-entry.ensures.grows.keeps c.in_ok-entry.ensures.walked (under_entry c.walk_term.new.walk c.walk_term.new.walk.table c.push.new.self c.in_ok-entry.entry (answer c.walk_term.new.walk.table c.in_ok-entry.entry) c.in_ok-entry.ensures.grows.sound (keeps_same c.walk_term.new.walk.table) c.in_ok-push.ensures.items refl) refl c.in_ok-entry.ensures.grows.dialect c.in_ok-outcome.ensures.walked refl
+    (subst (λ v. LetRule v (answer c.walk_term-2.new.walk.table c.in_ok-outcome.outcome) (answer c.walk_term-2.new.walk.table c.bound_in.result))
+    (answer_keep c.walk_term.new.walk.table c.walk_term-2.new.walk.table c.in_ok-entry.entry c.in_ok-outcome.ensures.grows.keeps c.in_ok-entry.ensures.walked.stands)
+    (c.bound_in.ensures c.walk_term-2.new.walk.table).1))
     c.settle.ensures.settled
 
 pub walk_let-returns-clause-stopped : goal.walk_let-returns-clause-stopped
 walk_let-returns-clause-stopped t c =
-    settled_err _ c.args.w.now (record c.walk_term-2.new.w { entries = c.pop.new.self }) c.settle.new.w (let_in (term_of c.args.bound.now) (term_of c.args.body.now)) (λ s. places s (term_of c.args.bound.now) ++ places (of_term (term_of c.args.bound.now) ∷ s) (term_of c.args.body.now)) c.bound_in.result None (λ s. refl) ((popped_is c.push.new.self c.walk_term-2.new.w c.pop.new.self c.walk_term.new.w.entries.items c.in_ok-entry.entry c.in_ok-push.ensures.items c.in_ok-outcome.ensures.walked.entries c.pop.ensures.rest) ∙ c.in_ok-entry.ensures.walked.entries) ((c.bound_in.ensures c.walk_term-2.new.w.table).0 c.in_ok-outcome.ensures.walked.stands)
-    (let_parts c.args.w.now c.walk_term.new.w (record c.walk_term.new.w { entries = c.push.new.self }) c.walk_term-2.new.w (record c.walk_term-2.new.w { entries = c.pop.new.self }) (term_of c.args.bound.now) (term_of c.args.body.now) c.in_ok-entry.entry c.in_ok-outcome.outcome c.bound_in.result c.requires.sound c.in_ok-entry.ensures.grows.keeps c.in_ok-entry.ensures.walked (under_entry c.walk_term.new.w c.walk_term.new.w.table c.push.new.self c.in_ok-entry.entry (answer c.walk_term.new.w.table c.in_ok-entry.entry) c.in_ok-entry.ensures.grows.sound (keeps_same c.walk_term.new.w.table) c.in_ok-push.ensures.items refl) refl c.in_ok-entry.ensures.grows.dialect c.in_ok-outcome.ensures.walked refl
-    (subst (λ v. LetRule v (answer c.walk_term-2.new.w.table c.in_ok-outcome.outcome) (answer c.walk_term-2.new.w.table c.bound_in.result))
-    (answer_keep c.walk_term.new.w.table c.walk_term-2.new.w.table c.in_ok-entry.entry c.in_ok-outcome.ensures.grows.keeps c.in_ok-entry.ensures.walked.stands)
-    (c.bound_in.ensures c.walk_term-2.new.w.table).1))
+    settled_err _ c.args.walk.now (record c.walk_term-2.new.walk { entries = c.pop.new.self }) c.settle.new.walk (let_in (term_of c.args.bound.now) (term_of c.args.body.now)) (λ s. places s (term_of c.args.bound.now) ++ places (of_term (term_of c.args.bound.now) ∷ s) (term_of c.args.body.now)) c.bound_in.result None (λ s. refl) ((popped_is c.push.new.self c.walk_term-2.new.walk c.pop.new.self c.walk_term.new.walk.entries.items c.in_ok-entry.entry c.in_ok-push.ensures.items c.in_ok-outcome.ensures.walked.entries c.pop.ensures.rest) ∙ c.in_ok-entry.ensures.walked.entries) ((c.bound_in.ensures c.walk_term-2.new.walk.table).0 c.in_ok-outcome.ensures.walked.stands)
+    (let_parts c.args.walk.now c.walk_term.new.walk (record c.walk_term.new.walk { entries = c.push.new.self }) c.walk_term-2.new.walk (record c.walk_term-2.new.walk { entries = c.pop.new.self }) (term_of c.args.bound.now) (term_of c.args.body.now) c.in_ok-entry.entry c.in_ok-outcome.outcome c.bound_in.result c.requires.sound c.in_ok-entry.ensures.grows.keeps c.in_ok-entry.ensures.walked (under_entry c.walk_term.new.walk c.walk_term.new.walk.table c.push.new.self c.in_ok-entry.entry (answer c.walk_term.new.walk.table c.in_ok-entry.entry) c.in_ok-entry.ensures.grows.sound (keeps_same c.walk_term.new.walk.table) c.in_ok-push.ensures.items refl) refl c.in_ok-entry.ensures.grows.dialect c.in_ok-outcome.ensures.walked refl
+    (subst (λ v. LetRule v (answer c.walk_term-2.new.walk.table c.in_ok-outcome.outcome) (answer c.walk_term-2.new.walk.table c.bound_in.result))
+    (answer_keep c.walk_term.new.walk.table c.walk_term-2.new.walk.table c.in_ok-entry.entry c.in_ok-outcome.ensures.grows.keeps c.in_ok-entry.ensures.walked.stands)
+    (c.bound_in.ensures c.walk_term-2.new.walk.table).1))
     c.settle.ensures.stopped
 
 pub walk_record-returns-in_err-all-clause-stopped : goal.walk_record-returns-in_err-all-clause-stopped
 walk_record-returns-in_err-all-clause-stopped t c =
-    err_stopped c.from_residual-in_err-all.result _ c.args.w.now c.walk_fields.new.w (record_term (terms_of c.args.fields.now)) c.from_residual-in_err-all.ensures.1
-    (among_front _ (entries_of c.args.w.now) (λ s. places_in s (terms_of c.args.fields.now)) (λ s. record { scope = s; here = (record_term (terms_of c.args.fields.now)) } ∷ []) c.args.w.now c.walk_fields.new.w _ c.in_err-all.ensures.stopped)
+    err_stopped c.from_residual-in_err-all.result _ c.args.walk.now c.walk_fields.new.walk (record_term (terms_of c.args.fields.now)) c.from_residual-in_err-all.ensures.1
+    (among_front _ (entries_of c.args.walk.now) (λ s. places_in s (terms_of c.args.fields.now)) (λ s. record { scope = s; here = (record_term (terms_of c.args.fields.now)) } ∷ []) c.args.walk.now c.walk_fields.new.walk _ c.in_err-all.ensures.stopped)
 
 pub walk_record-returns-in_err-found-clause-grows : goal.walk_record-returns-in_err-found-clause-grows
-walk_record-returns-in_err-found-clause-grows t c = (retabled_grows c.args.w.now c.walk_fields.new.w c.recorded.new.table c.in_ok-all.ensures.grows c.recorded.ensures.keeps)
+walk_record-returns-in_err-found-clause-grows t c = (retabled_grows c.args.walk.now c.walk_fields.new.walk c.recorded.new.table c.in_ok-all.ensures.grows c.recorded.ensures.keeps)
 
 pub walk_record-settle-requires-clause-sound : goal.walk_record-settle-requires-clause-sound
-walk_record-settle-requires-clause-sound t c = (retabled_grows c.args.w.now c.walk_fields.new.w c.recorded.new.table c.in_ok-all.ensures.grows c.recorded.ensures.keeps).sound
+walk_record-settle-requires-clause-sound t c = (retabled_grows c.args.walk.now c.walk_fields.new.walk c.recorded.new.table c.in_ok-all.ensures.grows c.recorded.ensures.keeps).sound
 
 pub walk_record-returns-clause-walked : goal.walk_record-returns-clause-walked
 walk_record-returns-clause-walked t c =
-    settled_ok _ c.args.w.now (record c.walk_fields.new.w { table = c.recorded.new.table }) c.settle.new.w (record_term (terms_of c.args.fields.now)) (λ s. places_in s (terms_of c.args.fields.now)) c.in_ok-found.found c.blame_if-blame.result (λ s. refl) c.in_ok-all.ensures.walked.entries c.in_ok-found.ensures.stands
-    (record_parts c.args.w.now c.walk_fields.new.w (record c.walk_fields.new.w { table = c.recorded.new.table }) (terms_of c.args.fields.now) _ _ c.in_ok-all.all c.in_ok-found.found c.blame_if-blame.result c.in_ok-all.ensures.walked
-    (progress_same c.walk_fields.new.w (record c.walk_fields.new.w { table = c.recorded.new.table }) c.in_ok-all.ensures.grows.sound c.recorded.ensures.keeps refl refl)
-    (subst (λ items. RecordRule (if_all c.in_ok-all.all (fields_over c.walk_fields.new.w.table items)) (answer c.recorded.new.table c.in_ok-found.found)) (parts_empty _ _ _ c.in_ok-all.ensures.walked.parts_are c.in_ok-parts.ensures.items) c.in_ok-found.ensures.rule)
+    settled_ok _ c.args.walk.now (record c.walk_fields.new.walk { table = c.recorded.new.table }) c.settle.new.walk (record_term (terms_of c.args.fields.now)) (λ s. places_in s (terms_of c.args.fields.now)) c.in_ok-found.found c.blame_if-blame.result (λ s. refl) c.in_ok-all.ensures.walked.entries c.in_ok-found.ensures.stands
+    (record_parts c.args.walk.now c.walk_fields.new.walk (record c.walk_fields.new.walk { table = c.recorded.new.table }) (terms_of c.args.fields.now) _ _ c.in_ok-all.all c.in_ok-found.found c.blame_if-blame.result c.in_ok-all.ensures.walked
+    (progress_same c.walk_fields.new.walk (record c.walk_fields.new.walk { table = c.recorded.new.table }) c.in_ok-all.ensures.grows.sound c.recorded.ensures.keeps refl refl)
+    (subst (λ items. RecordRule (if_all c.in_ok-all.all (fields_over c.walk_fields.new.walk.table items)) (answer c.recorded.new.table c.in_ok-found.found)) (parts_empty _ _ _ c.in_ok-all.ensures.walked.parts_are c.in_ok-parts.ensures.items) c.in_ok-found.ensures.rule)
     c.blame_if-blame.ensures)
     c.settle.ensures.settled
 
 pub walk_record-returns-clause-stopped : goal.walk_record-returns-clause-stopped
 walk_record-returns-clause-stopped t c =
-    settled_err _ c.args.w.now (record c.walk_fields.new.w { table = c.recorded.new.table }) c.settle.new.w (record_term (terms_of c.args.fields.now)) (λ s. places_in s (terms_of c.args.fields.now)) c.in_ok-found.found c.blame_if-blame.result (λ s. refl) c.in_ok-all.ensures.walked.entries c.in_ok-found.ensures.stands
-    (record_parts c.args.w.now c.walk_fields.new.w (record c.walk_fields.new.w { table = c.recorded.new.table }) (terms_of c.args.fields.now) _ _ c.in_ok-all.all c.in_ok-found.found c.blame_if-blame.result c.in_ok-all.ensures.walked
-    (progress_same c.walk_fields.new.w (record c.walk_fields.new.w { table = c.recorded.new.table }) c.in_ok-all.ensures.grows.sound c.recorded.ensures.keeps refl refl)
-    (subst (λ items. RecordRule (if_all c.in_ok-all.all (fields_over c.walk_fields.new.w.table items)) (answer c.recorded.new.table c.in_ok-found.found)) (parts_empty _ _ _ c.in_ok-all.ensures.walked.parts_are c.in_ok-parts.ensures.items) c.in_ok-found.ensures.rule)
+    settled_err _ c.args.walk.now (record c.walk_fields.new.walk { table = c.recorded.new.table }) c.settle.new.walk (record_term (terms_of c.args.fields.now)) (λ s. places_in s (terms_of c.args.fields.now)) c.in_ok-found.found c.blame_if-blame.result (λ s. refl) c.in_ok-all.ensures.walked.entries c.in_ok-found.ensures.stands
+    (record_parts c.args.walk.now c.walk_fields.new.walk (record c.walk_fields.new.walk { table = c.recorded.new.table }) (terms_of c.args.fields.now) _ _ c.in_ok-all.all c.in_ok-found.found c.blame_if-blame.result c.in_ok-all.ensures.walked
+    (progress_same c.walk_fields.new.walk (record c.walk_fields.new.walk { table = c.recorded.new.table }) c.in_ok-all.ensures.grows.sound c.recorded.ensures.keeps refl refl)
+    (subst (λ items. RecordRule (if_all c.in_ok-all.all (fields_over c.walk_fields.new.walk.table items)) (answer c.recorded.new.table c.in_ok-found.found)) (parts_empty _ _ _ c.in_ok-all.ensures.walked.parts_are c.in_ok-parts.ensures.items) c.in_ok-found.ensures.rule)
     c.blame_if-blame.ensures)
     c.settle.ensures.stopped
 
 pub walk_record-recorded-requires : goal.walk_record-recorded-requires
-walk_record-recorded-requires t c = subst (λ items. AreEarlier (length c.walk_fields.new.w.table) items) (sym (parts_empty _ _ _ c.in_ok-all.ensures.walked.parts_are c.in_ok-parts.ensures.items)) c.in_ok-all.ensures.walked.stand
+walk_record-recorded-requires t c = subst (λ items. AreEarlier (length c.walk_fields.new.walk.table) items) (sym (parts_empty _ _ _ c.in_ok-all.ensures.walked.parts_are c.in_ok-parts.ensures.items)) c.in_ok-all.ensures.walked.stand
 
 pub walk_fields-returns-in_default-clause-walked : goal.walk_fields-returns-in_default-clause-walked
-walk_fields-returns-in_default-clause-walked t c = no_fields_walked c.args.w.now c.args.fields.now c.args.parts.now.items c.in_default.ensures.cases
+walk_fields-returns-in_default-clause-walked t c = no_fields_walked c.args.walk.now c.args.fields.now c.args.parts.now.items c.in_default.ensures.cases
 
 pub walk_fields-returns-in_err-found-clause-stopped : goal.walk_fields-returns-in_err-found-clause-stopped
-walk_fields-returns-in_err-found-clause-stopped t c = rw (ap terms_of c.in-Some.ensures.cases.0) (err_stopped_in_fields c.from_residual.result _ c.args.w.now c.walk_term.new.w (term_field (string_bytes c.in-Some.field.now.0) (term_of c.in-Some.field.now.1) (terms_of c.in-Some.others.now)) c.from_residual.ensures.1 (fields_front _ c.args.w.now c.walk_term.new.w (string_bytes c.in-Some.field.now.0) (term_of c.in-Some.field.now.1) (terms_of c.in-Some.others.now) c.in_err-found.ensures.stopped))
+walk_fields-returns-in_err-found-clause-stopped t c = rw (ap terms_of c.in-Some.ensures.cases.0) (err_stopped_in_fields c.from_residual.result _ c.args.walk.now c.walk_term.new.walk (term_field (string_bytes c.in-Some.field.now.0) (term_of c.in-Some.field.now.1) (terms_of c.in-Some.others.now)) c.from_residual.ensures.1 (fields_front _ c.args.walk.now c.walk_term.new.walk (string_bytes c.in-Some.field.now.0) (term_of c.in-Some.field.now.1) (terms_of c.in-Some.others.now) c.in_err-found.ensures.stopped))
 
 pub walk_fields-returns-in_err-walk_fields-clause-stopped : goal.walk_fields-returns-in_err-walk_fields-clause-stopped
-walk_fields-returns-in_err-walk_fields-clause-stopped t c = rw (ap terms_of c.in-Some.ensures.cases.0) (err_stopped_in_fields c.from_residual-in_err-walk_fields.result _ c.args.w.now c.walk_fields.new.w (term_field (string_bytes c.in-Some.field.now.0) (term_of c.in-Some.field.now.1) (terms_of c.in-Some.others.now)) c.from_residual-in_err-walk_fields.ensures.1 (fields_behind _ c.args.w.now c.walk_term.new.w c.walk_fields.new.w (string_bytes c.in-Some.field.now.0) (term_of c.in-Some.field.now.1) (terms_of c.in-Some.others.now) c.in_ok-found.found c.requires.sound c.in_ok-found.ensures.grows c.in_ok-found.ensures.walked c.in_err-walk_fields.ensures.stopped))
+walk_fields-returns-in_err-walk_fields-clause-stopped t c = rw (ap terms_of c.in-Some.ensures.cases.0) (err_stopped_in_fields c.from_residual-in_err-walk_fields.result _ c.args.walk.now c.walk_fields.new.walk (term_field (string_bytes c.in-Some.field.now.0) (term_of c.in-Some.field.now.1) (terms_of c.in-Some.others.now)) c.from_residual-in_err-walk_fields.ensures.1 (fields_behind _ c.args.walk.now c.walk_term.new.walk c.walk_fields.new.walk (string_bytes c.in-Some.field.now.0) (term_of c.in-Some.field.now.1) (terms_of c.in-Some.others.now) c.in_ok-found.found c.requires.sound c.in_ok-found.ensures.grows c.in_ok-found.ensures.walked c.in_err-walk_fields.ensures.stopped))
 
 pub walk_fields-returns-in_default-found-clause-walked : goal.walk_fields-returns-in_default-found-clause-walked
-walk_fields-returns-in_default-found-clause-walked t c = rw (ap terms_of c.in-Some.ensures.cases.0) (fields_unfound c.args.w.now c.walk_term.new.w c.walk_fields.new.w (string_bytes c.in-Some.field.now.0) (term_of c.in-Some.field.now.1) (terms_of c.in-Some.others.now) c.in_ok-found.found _ _ _ c.requires.sound c.in_ok-found.ensures.grows c.in_ok-found.ensures.walked c.in_default-found.is c.in_ok-walk_fields.ensures.walked)
+walk_fields-returns-in_default-found-clause-walked t c = rw (ap terms_of c.in-Some.ensures.cases.0) (fields_unfound c.args.walk.now c.walk_term.new.walk c.walk_fields.new.walk (string_bytes c.in-Some.field.now.0) (term_of c.in-Some.field.now.1) (terms_of c.in-Some.others.now) c.in_ok-found.found _ _ _ c.requires.sound c.in_ok-found.ensures.grows c.in_ok-found.ensures.walked c.in_default-found.is c.in_ok-walk_fields.ensures.walked)
 
 pub walk_fields-returns-clause-walked : goal.walk_fields-returns-clause-walked
-walk_fields-returns-clause-walked t c = rw (ap terms_of c.in-Some.ensures.cases.0) (fields_found_ok c.walk_fields-2.result c.args.w.now c.walk_term.new.w c.walk_fields-2.new.w (string_bytes c.in-Some.field.now.0) (term_of c.in-Some.field.now.1) (terms_of c.in-Some.others.now) c.in_ok-found.found c.in_ok-clone.field-0 c.in-Some-found.number _ _ _ c.requires.sound c.in_ok-found.ensures.grows c.in_ok-found.ensures.walked c.in-Some-found.is c.walk_fields-2.ensures.grows c.in_ok-push.ensures.items c.in_ok-clone.ensures.cases c.walk_fields-2.ensures.walked)
+walk_fields-returns-clause-walked t c = rw (ap terms_of c.in-Some.ensures.cases.0) (fields_found_ok c.walk_fields-2.result c.args.walk.now c.walk_term.new.walk c.walk_fields-2.new.walk (string_bytes c.in-Some.field.now.0) (term_of c.in-Some.field.now.1) (terms_of c.in-Some.others.now) c.in_ok-found.found c.in_ok-clone.field-0 c.in-Some-found.number _ _ _ c.requires.sound c.in_ok-found.ensures.grows c.in_ok-found.ensures.walked c.in-Some-found.is c.walk_fields-2.ensures.grows c.in_ok-push.ensures.items c.in_ok-clone.ensures.cases c.walk_fields-2.ensures.walked)
 
 pub walk_fields-returns-clause-stopped : goal.walk_fields-returns-clause-stopped
-walk_fields-returns-clause-stopped t c = rw (ap terms_of c.in-Some.ensures.cases.0) (fields_behind_err c.walk_fields-2.result c.args.w.now c.walk_term.new.w c.walk_fields-2.new.w (string_bytes c.in-Some.field.now.0) (term_of c.in-Some.field.now.1) (terms_of c.in-Some.others.now) c.in_ok-found.found c.requires.sound c.in_ok-found.ensures.grows c.in_ok-found.ensures.walked c.walk_fields-2.ensures.stopped)
+walk_fields-returns-clause-stopped t c = rw (ap terms_of c.in-Some.ensures.cases.0) (fields_behind_err c.walk_fields-2.result c.args.walk.now c.walk_term.new.walk c.walk_fields-2.new.walk (string_bytes c.in-Some.field.now.0) (term_of c.in-Some.field.now.1) (terms_of c.in-Some.others.now) c.in_ok-found.found c.requires.sound c.in_ok-found.ensures.grows c.in_ok-found.ensures.walked c.walk_fields-2.ensures.stopped)
 
 pub walk_term-returns-in-Succ-clause-walked : goal.walk_term-returns-in-Succ-clause-walked
 walk_term-returns-in-Succ-clause-walked t c = rw (ap term_of c.in-Succ.is ∙ term_of-Succ _)
-    (ok_of_one _ (λ e. IsNumeric e (term_of c.deref-in-Succ.result.now) (type_of c.args.w.now.table c.args.w.now.leaves.natural)) (λ found e. WalkedOver c.args.w.now c.walk_number.new.w e found) _ (ap term_of (sym c.deref-in-Succ.ensures), c.requires.sound.natural.type)
+    (ok_of_one _ (λ e. IsNumeric e (term_of c.deref-in-Succ.result.now) (type_of c.args.walk.now.table c.args.walk.now.leaves.natural)) (λ found e. WalkedOver c.args.walk.now c.walk_number.new.walk e found) _ (ap term_of (sym c.deref-in-Succ.ensures), c.requires.sound.natural.type)
     c.walk_number.ensures.walked)
 
 pub walk_term-returns-in-Pred-clause-walked : goal.walk_term-returns-in-Pred-clause-walked
 walk_term-returns-in-Pred-clause-walked t c = rw (ap term_of c.in-Pred.is ∙ term_of-Pred _)
-    (ok_of_one _ (λ e. IsNumeric e (term_of c.deref-in-Pred.result.now) (type_of c.args.w.now.table c.args.w.now.leaves.natural)) (λ found e. WalkedOver c.args.w.now c.walk_number-in-Pred.new.w e found) _ (ap term_of (sym c.deref-in-Pred.ensures), c.requires.sound.natural.type)
+    (ok_of_one _ (λ e. IsNumeric e (term_of c.deref-in-Pred.result.now) (type_of c.args.walk.now.table c.args.walk.now.leaves.natural)) (λ found e. WalkedOver c.args.walk.now c.walk_number-in-Pred.new.walk e found) _ (ap term_of (sym c.deref-in-Pred.ensures), c.requires.sound.natural.type)
     c.walk_number-in-Pred.ensures.walked)
 
 pub walk_term-returns-in-IsZero-clause-walked : goal.walk_term-returns-in-IsZero-clause-walked
 walk_term-returns-in-IsZero-clause-walked t c = rw (ap term_of c.in-IsZero.is ∙ term_of-IsZero _)
-    (ok_of_one _ (λ e. IsNumeric e (term_of c.deref-in-IsZero.result.now) (type_of c.args.w.now.table c.args.w.now.leaves.boolean)) (λ found e. WalkedOver c.args.w.now c.walk_number-in-IsZero.new.w e found) _ (ap term_of (sym c.deref-in-IsZero.ensures), c.requires.sound.boolean.type)
+    (ok_of_one _ (λ e. IsNumeric e (term_of c.deref-in-IsZero.result.now) (type_of c.args.walk.now.table c.args.walk.now.leaves.boolean)) (λ found e. WalkedOver c.args.walk.now c.walk_number-in-IsZero.new.walk e found) _ (ap term_of (sym c.deref-in-IsZero.ensures), c.requires.sound.boolean.type)
     c.walk_number-in-IsZero.ensures.walked)
 
 pub walk_term-returns-in-True-clause-walked : goal.walk_term-returns-in-True-clause-walked
 walk_term-returns-in-True-clause-walked t c = rw (ap term_of c.in-True.is ∙ term_of-True)
-    (settled_ok _ c.args.w.now c.args.w.now c.settle.new.w true_term (λ s. []) (Some c.args.w.now.leaves.boolean) None (λ s. refl) refl c.requires.sound.boolean.stands
-    (leaf_parts c.args.w.now true_term c.args.w.now.leaves.boolean bool c.requires.sound.boolean (true_ready (entries_of c.args.w.now) (progress_of c.args.w.now) _))
+    (settled_ok _ c.args.walk.now c.args.walk.now c.settle.new.walk true_term (λ s. []) (Some c.args.walk.now.leaves.boolean) None (λ s. refl) refl c.requires.sound.boolean.stands
+    (leaf_parts c.args.walk.now true_term c.args.walk.now.leaves.boolean bool c.requires.sound.boolean (true_ready (entries_of c.args.walk.now) (progress_of c.args.walk.now) _))
     c.settle.ensures.settled)
 
 pub walk_term-returns-in-True-clause-stopped : goal.walk_term-returns-in-True-clause-stopped
 walk_term-returns-in-True-clause-stopped t c = rw (ap term_of c.in-True.is ∙ term_of-True)
-    (settled_err _ c.args.w.now c.args.w.now c.settle.new.w true_term (λ s. []) (Some c.args.w.now.leaves.boolean) None (λ s. refl) refl c.requires.sound.boolean.stands
-    (leaf_parts c.args.w.now true_term c.args.w.now.leaves.boolean bool c.requires.sound.boolean (true_ready (entries_of c.args.w.now) (progress_of c.args.w.now) _))
+    (settled_err _ c.args.walk.now c.args.walk.now c.settle.new.walk true_term (λ s. []) (Some c.args.walk.now.leaves.boolean) None (λ s. refl) refl c.requires.sound.boolean.stands
+    (leaf_parts c.args.walk.now true_term c.args.walk.now.leaves.boolean bool c.requires.sound.boolean (true_ready (entries_of c.args.walk.now) (progress_of c.args.walk.now) _))
     c.settle.ensures.stopped)
 
 pub walk_term-returns-in-False-clause-walked : goal.walk_term-returns-in-False-clause-walked
 walk_term-returns-in-False-clause-walked t c = rw (ap term_of c.in-False.is ∙ term_of-False)
-    (settled_ok _ c.args.w.now c.args.w.now c.settle-in-False.new.w false_term (λ s. []) (Some c.args.w.now.leaves.boolean) None (λ s. refl) refl c.requires.sound.boolean.stands
-    (leaf_parts c.args.w.now false_term c.args.w.now.leaves.boolean bool c.requires.sound.boolean (false_ready (entries_of c.args.w.now) (progress_of c.args.w.now) _))
+    (settled_ok _ c.args.walk.now c.args.walk.now c.settle-in-False.new.walk false_term (λ s. []) (Some c.args.walk.now.leaves.boolean) None (λ s. refl) refl c.requires.sound.boolean.stands
+    (leaf_parts c.args.walk.now false_term c.args.walk.now.leaves.boolean bool c.requires.sound.boolean (false_ready (entries_of c.args.walk.now) (progress_of c.args.walk.now) _))
     c.settle-in-False.ensures.settled)
 
 pub walk_term-returns-in-False-clause-stopped : goal.walk_term-returns-in-False-clause-stopped
 walk_term-returns-in-False-clause-stopped t c = rw (ap term_of c.in-False.is ∙ term_of-False)
-    (settled_err _ c.args.w.now c.args.w.now c.settle-in-False.new.w false_term (λ s. []) (Some c.args.w.now.leaves.boolean) None (λ s. refl) refl c.requires.sound.boolean.stands
-    (leaf_parts c.args.w.now false_term c.args.w.now.leaves.boolean bool c.requires.sound.boolean (false_ready (entries_of c.args.w.now) (progress_of c.args.w.now) _))
+    (settled_err _ c.args.walk.now c.args.walk.now c.settle-in-False.new.walk false_term (λ s. []) (Some c.args.walk.now.leaves.boolean) None (λ s. refl) refl c.requires.sound.boolean.stands
+    (leaf_parts c.args.walk.now false_term c.args.walk.now.leaves.boolean bool c.requires.sound.boolean (false_ready (entries_of c.args.walk.now) (progress_of c.args.walk.now) _))
     c.settle-in-False.ensures.stopped)
 
 pub walk_term-returns-in-Unit-clause-walked : goal.walk_term-returns-in-Unit-clause-walked
 walk_term-returns-in-Unit-clause-walked t c = rw (ap term_of c.in-Unit.is ∙ term_of-Unit)
-    (settled_ok _ c.args.w.now c.args.w.now c.settle-in-Unit.new.w unit_term (λ s. []) (Some c.args.w.now.leaves.unit) None (λ s. refl) refl c.requires.sound.unit.stands
-    (leaf_parts c.args.w.now unit_term c.args.w.now.leaves.unit unit c.requires.sound.unit (unit_ready (entries_of c.args.w.now) (progress_of c.args.w.now) _))
+    (settled_ok _ c.args.walk.now c.args.walk.now c.settle-in-Unit.new.walk unit_term (λ s. []) (Some c.args.walk.now.leaves.unit) None (λ s. refl) refl c.requires.sound.unit.stands
+    (leaf_parts c.args.walk.now unit_term c.args.walk.now.leaves.unit unit c.requires.sound.unit (unit_ready (entries_of c.args.walk.now) (progress_of c.args.walk.now) _))
     c.settle-in-Unit.ensures.settled)
 
 pub walk_term-returns-in-Unit-clause-stopped : goal.walk_term-returns-in-Unit-clause-stopped
 walk_term-returns-in-Unit-clause-stopped t c = rw (ap term_of c.in-Unit.is ∙ term_of-Unit)
-    (settled_err _ c.args.w.now c.args.w.now c.settle-in-Unit.new.w unit_term (λ s. []) (Some c.args.w.now.leaves.unit) None (λ s. refl) refl c.requires.sound.unit.stands
-    (leaf_parts c.args.w.now unit_term c.args.w.now.leaves.unit unit c.requires.sound.unit (unit_ready (entries_of c.args.w.now) (progress_of c.args.w.now) _))
+    (settled_err _ c.args.walk.now c.args.walk.now c.settle-in-Unit.new.walk unit_term (λ s. []) (Some c.args.walk.now.leaves.unit) None (λ s. refl) refl c.requires.sound.unit.stands
+    (leaf_parts c.args.walk.now unit_term c.args.walk.now.leaves.unit unit c.requires.sound.unit (unit_ready (entries_of c.args.walk.now) (progress_of c.args.walk.now) _))
     c.settle-in-Unit.ensures.stopped)
 
 pub walk_term-returns-in-Num-clause-walked : goal.walk_term-returns-in-Num-clause-walked
 walk_term-returns-in-Num-clause-walked t c = rw (ap term_of c.in-Num.is ∙ term_of-Num _)
-    (settled_ok _ c.args.w.now c.args.w.now c.settle-in-Num.new.w (numeral (string_bytes c.in-Num.field-0)) (λ s. []) (Some c.args.w.now.leaves.natural) None (λ s. refl) refl c.requires.sound.natural.stands
-    (leaf_parts c.args.w.now (numeral (string_bytes c.in-Num.field-0)) c.args.w.now.leaves.natural nat c.requires.sound.natural (numeral_ready (entries_of c.args.w.now) _ (progress_of c.args.w.now) _))
+    (settled_ok _ c.args.walk.now c.args.walk.now c.settle-in-Num.new.walk (numeral (string_bytes c.in-Num.field-0)) (λ s. []) (Some c.args.walk.now.leaves.natural) None (λ s. refl) refl c.requires.sound.natural.stands
+    (leaf_parts c.args.walk.now (numeral (string_bytes c.in-Num.field-0)) c.args.walk.now.leaves.natural nat c.requires.sound.natural (numeral_ready (entries_of c.args.walk.now) _ (progress_of c.args.walk.now) _))
     c.settle-in-Num.ensures.settled)
 
 pub walk_term-returns-in-Num-clause-stopped : goal.walk_term-returns-in-Num-clause-stopped
 walk_term-returns-in-Num-clause-stopped t c = rw (ap term_of c.in-Num.is ∙ term_of-Num _)
-    (settled_err _ c.args.w.now c.args.w.now c.settle-in-Num.new.w (numeral (string_bytes c.in-Num.field-0)) (λ s. []) (Some c.args.w.now.leaves.natural) None (λ s. refl) refl c.requires.sound.natural.stands
-    (leaf_parts c.args.w.now (numeral (string_bytes c.in-Num.field-0)) c.args.w.now.leaves.natural nat c.requires.sound.natural (numeral_ready (entries_of c.args.w.now) _ (progress_of c.args.w.now) _))
+    (settled_err _ c.args.walk.now c.args.walk.now c.settle-in-Num.new.walk (numeral (string_bytes c.in-Num.field-0)) (λ s. []) (Some c.args.walk.now.leaves.natural) None (λ s. refl) refl c.requires.sound.natural.stands
+    (leaf_parts c.args.walk.now (numeral (string_bytes c.in-Num.field-0)) c.args.walk.now.leaves.natural nat c.requires.sound.natural (numeral_ready (entries_of c.args.walk.now) _ (progress_of c.args.walk.now) _))
     c.settle-in-Num.ensures.stopped)
 
 pub walk_term-returns-in-Free-clause-walked : goal.walk_term-returns-in-Free-clause-walked
 walk_term-returns-in-Free-clause-walked t c = rw (ap term_of c.in-Free.is ∙ term_of-Free _)
-    (settled_ok _ c.args.w.now c.args.w.now c.settle-in-Free.new.w (free (string_bytes c.in-Free.field-0)) (λ s. []) None c.blame_if-blame.result (λ s. refl) refl tt
-    (free_parts c.args.w.now (string_bytes c.in-Free.field-0) c.blame_if-blame.result c.blame_if-blame.ensures)
+    (settled_ok _ c.args.walk.now c.args.walk.now c.settle-in-Free.new.walk (free (string_bytes c.in-Free.field-0)) (λ s. []) None c.blame_if-blame.result (λ s. refl) refl tt
+    (free_parts c.args.walk.now (string_bytes c.in-Free.field-0) c.blame_if-blame.result c.blame_if-blame.ensures)
     c.settle-in-Free.ensures.settled)
 
 pub walk_term-returns-in-Free-clause-stopped : goal.walk_term-returns-in-Free-clause-stopped
 walk_term-returns-in-Free-clause-stopped t c = rw (ap term_of c.in-Free.is ∙ term_of-Free _)
-    (settled_err _ c.args.w.now c.args.w.now c.settle-in-Free.new.w (free (string_bytes c.in-Free.field-0)) (λ s. []) None c.blame_if-blame.result (λ s. refl) refl tt
-    (free_parts c.args.w.now (string_bytes c.in-Free.field-0) c.blame_if-blame.result c.blame_if-blame.ensures)
+    (settled_err _ c.args.walk.now c.args.walk.now c.settle-in-Free.new.walk (free (string_bytes c.in-Free.field-0)) (λ s. []) None c.blame_if-blame.result (λ s. refl) refl tt
+    (free_parts c.args.walk.now (string_bytes c.in-Free.field-0) c.blame_if-blame.result c.blame_if-blame.ensures)
     c.settle-in-Free.ensures.stopped)

@@ -5,14 +5,14 @@ use Rattle.lam_typing.proofs.walking.walk_statements.Goals as goal
 
 pub returns-in_err-walk_statement-clause-stopped : goal.returns-in_err-walk_statement-clause-stopped
 returns-in_err-walk_statement-clause-stopped c =
-    stops_at c.from_residual.result _ c.args.w.now c.loop-i.w c.walk_statement.new.w (map statement_of c.args.statements.now) c.args.statements.now c.loop-i.i c.index-statements-i.result
+    stops_at c.from_residual.result _ c.args.walk.now c.loop-i.walk c.walk_statement.new.walk (map statement_of c.args.statements.now) c.args.statements.now c.loop-i.i c.index-statements-i.result
     c.loop-i-test.true c.index-statements-i.is c.loop-i.invariant c.from_residual.ensures.1 c.in_err-walk_statement.ensures.stopped
 
 pub loop-i-preserved : goal.loop-i-preserved
 loop-i-preserved c =
-    goes_further c.args.w.now c.loop-i.w c.walk_statement.new.w (map statement_of c.args.statements.now) c.args.statements.now c.loop-i.i c.index-statements-i.result
+    goes_further c.args.walk.now c.loop-i.walk c.walk_statement.new.walk (map statement_of c.args.statements.now) c.args.statements.now c.loop-i.i c.index-statements-i.result
     c.loop-i-test.true c.index-statements-i.is c.loop-i.invariant c.in_ok-walk_statement.ensures.grows c.in_ok-walk_statement.ensures.goes_on
 
 pub returns-clause-went : goal.returns-clause-went
 returns-clause-went c =
-    goes_to_end c.args.w.now c.loop-i.w (map statement_of c.args.statements.now) c.args.statements.now c.loop-i.i (omega (arith, c.loop-i-test.false)) c.loop-i.invariant
+    goes_to_end c.args.walk.now c.loop-i.walk (map statement_of c.args.statements.now) c.args.statements.now c.loop-i.i (omega (arith, c.loop-i-test.false)) c.loop-i.invariant
