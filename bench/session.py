@@ -159,7 +159,7 @@ def main():
     client.keys(middle, 1000)
     peak = client.peak()
     row("peak of memory after ten keys", f"{after_ten / len(text):.1f} times the text")
-    row("peak of memory after a thousand more", f"{peak / len(text):.1f} times the text")
+    row("peak of memory after 1,220 more", f"{peak / len(text):.1f} times the text")
     row("the program's status", client.close())
 
     text = make_document.document(22_950)

@@ -1,5 +1,5 @@
 -- A proof as a list of steps: the nodes of its tree, each behind its premises, and these from left to right.
-use Rattle.std.specs.Prelude.{ℕ, ◌+◌, Bool, true, false, List, [], ◌∷◌, ◌++◌, Option, Some, None, if◌then◌else◌}
+use Rattle.std.specs.Prelude.{ℕ, ◌+◌, List, [], ◌∷◌, ◌++◌, Option, Some, None}
 use Rattle.lam_token.specs.declared.span.Span.{Span}
 use Rattle.lam_rules.specs.Types.{Typ}
 use Rattle.lam_rules.specs.Subtyping.{SubTree, sub_step, SubTrees, no_subs, sub_first}
@@ -69,14 +69,10 @@ with_side ps None = ps
 with_side no_proofs (Some q) = proof_first (sub_proof q) no_proofs
 with_side (proof_first p ps) (Some q) = proof_first p (with_side ps (Some q))
 
--- the rule is T-Sub
-abbrev pub is_sub : TypeRule → Bool
-is_sub TypeRule.Sub = true
-is_sub rule = false
-
--- the places of the terms that the premises of a step are about: those of the immediate terms, but for T-Sub
+-- the places of the immediate terms that the premises of a step are about: none for T-Sub, whose premise is about the term itself
 abbrev pub premise_places : Table → (place : ℕ) → TypeRule → List ℕ
-premise_places t place rule = if is_sub rule then [] else (place_row_numbered t place).terms
+premise_places t place TypeRule.Sub = []
+premise_places t place rule = (place_row_numbered t place).terms
 
 -- a proof of typing as a tree of conclusions, where the term is the one of this place
 abbrev mutual

@@ -7,7 +7,7 @@ ghost use Rattle.lam_scope.specs.Tables.{place_row_numbered};
 ghost use Rattle.lam_scope.specs.TableViews.{place_number};
 ghost use Rattle.lam_scope.specs.Views.{table_of};
 ghost use Rattle.lam_query.specs.declared.answers.Step.{Step as RustStep};
-ghost use Rattle.lam_query.specs.Steps.{Proofs, steps_of, steps_before, sub_proof, sub_proofs, with_side, is_sub, premise_places, typing_proof, typing_proofs};
+ghost use Rattle.lam_query.specs.Steps.{Proofs, steps_of, steps_before, sub_proof, sub_proofs, with_side, premise_places, typing_proof, typing_proofs};
 ghost use Rattle.lam_query.specs.Within.{StandsIn};
 ghost use Rattle.lam_query.specs.Views.{step_of, StepStandsIn};
 ghost use Rattle.lam_query.specs.Listing.{AreListed};
@@ -64,19 +64,9 @@ fn list_typing(
 fn premise_places(scopes: &Scopes, place: Place, rule: TypeRule) -> &[Place]
     ensures { map place_number result.now ≡ premise_places (table_of scopes.now) place.0 rule }
 {
-    if is_sub(rule) {
-        &[]
-    } else {
-        scopes.terms_of(place)
-    }
-}
-
-fn is_sub(rule: TypeRule) -> bool
-    ensures { result ≡ is_sub rule }
-{
     match rule {
-        TypeRule::Sub => true,
-        _ => false,
+        TypeRule::Sub => &[],
+        _ => scopes.terms_of(place),
     }
 }
 

@@ -37,22 +37,28 @@ const USAGE: u8 = 2;
 fn main(rt: HostRuntime) -> ExitCode {
     let words: Vec<String> = match words(&rt) {
         Ok(words) => words,
-        Err(error) => {
-            let _ = eprintln!(rt; "lam_server: the words cannot be read: {error}");
-            return ExitCode::from(USAGE);
-        }
+        Err(error) => return ExitCode::from(refuse(&rt, &error)),
     };
-    ExitCode::from(started(&rt, words.as_slice()))
+    ExitCode::from(start(&rt, words.as_slice()))
 }
 
 fn words<R: AllocGlobal + Env>(rt: &R) -> io::Result<Vec<String>> {
     Ok(env::args(rt)?.collect(rt.alloc())?)
 }
 
+/// Says why the words could not be read. The status to end with.
+fn refuse<R: Eprint>(rt: &R, error: &io::Error) -> u8 {
+    if error.kind() == io::ErrorKind::OutOfMemory {
+        return report(rt, RunFault::Memory);
+    }
+    let _ = eprintln!(rt; "lam_server: the words cannot be read: {error}");
+    USAGE
+}
+
 /// Reads the words, and then runs or says why not. The status to end with.
-fn started<R: AllocGlobal + Input + Print + Eprint>(rt: &R, words: &[String]) -> u8 {
+fn start<R: AllocGlobal + Input + Print + Eprint>(rt: &R, words: &[String]) -> u8 {
     match read_words(rt.alloc(), words) {
-        Ok(config) => ran(rt, config),
+        Ok(config) => serve(rt, config),
         Err(ArgsFault::Help(text)) => {
             let _ = print!(rt; "{text}");
             0
@@ -61,7 +67,7 @@ fn started<R: AllocGlobal + Input + Print + Eprint>(rt: &R, words: &[String]) ->
             let _ = eprint!(rt; "{text}");
             USAGE
         }
-        Err(ArgsFault::Memory) => ended(rt, RunFault::Memory),
+        Err(ArgsFault::Memory) => report(rt, RunFault::Memory),
     }
 }
 
@@ -75,18 +81,18 @@ fn read_words(alloc: Global, words: &[String]) -> Result<Config, ArgsFault>
     read_args(alloc, slices.as_slice())
 }
 
-/// Serves standard input and output.
-fn ran<R: AllocGlobal + Input + Print + Eprint>(rt: &R, config: Config) -> u8 {
+/// Serves standard input and output. The status to end with.
+fn serve<R: AllocGlobal + Input + Print + Eprint>(rt: &R, config: Config) -> u8 {
     let mut reader = FromRead::new(rt.reader());
     let mut writer = ToWrite::new(io::writer(rt));
     match run(rt.alloc(), &mut reader, &mut writer, config) {
         Ok(status) => status,
-        Err(fault) => ended(rt, fault),
+        Err(fault) => report(rt, fault),
     }
 }
 
-/// Says why on standard error. That this may fail too changes nothing.
-fn ended<R: Eprint>(rt: &R, fault: RunFault) -> u8
+/// Says on standard error why a run ended. That this may fail too changes nothing. The status to end with.
+fn report<R: Eprint>(rt: &R, fault: RunFault) -> u8
     ensures { result ≡ status_of fault }
 {
     let line = line_of(&fault);

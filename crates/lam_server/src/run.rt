@@ -13,7 +13,7 @@ use std::alloc::Global;
 
 /// Answers all that the reader brings, and says with which status the program ends.
 ///
-/// What is answered hangs on the bytes alone: every input has one output that is allowed for it,
+/// What is answered depends on the bytes alone: every input has one output that is allowed for it,
 /// and what begins the output for some bytes begins it for any more of them.
 #[tactic(auto, using(crate::proofs::OneOutput::has_one_output, crate::proofs::Growing::output_grows))]
 pub fn run<R: Source, W: Sink>(

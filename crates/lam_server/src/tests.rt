@@ -450,6 +450,32 @@ fn words(rt: HostRuntime) {
     }
 }
 
+/// The text that is shown for these words; empty where they start a run.
+fn text_shown(alloc: Global, words: &[&str]) -> String {
+    match read_args(alloc, words) {
+        Err(ArgsFault::Help(text)) => text,
+        Err(ArgsFault::Usage(text)) => text,
+        _ => String::new(alloc),
+    }
+}
+
+/// Words, and a part of the text that is shown for them.
+const SHOWN: &[(&[&str], &str)] = &[
+    (&["lam_server", "--help"], "--dialect"),
+    (&["lam_server", "--help"], "Exit status"),
+    (&["lam_server", "--port"], "--port"),
+    (&["lam_server", "--dialect", "3"], "3"),
+    (&["lam_server", "file"], "file"),
+];
+
+#[test]
+fn texts_for_words(rt: HostRuntime) {
+    for (words, part) in SHOWN {
+        let text = text_shown(rt.alloc(), words);
+        assert!(rt; text.as_str().contains(*part), "{part}");
+    }
+}
+
 /// Faults, and the status and the line that a program ends with.
 const ENDS: &[(RunFault, u8, &str)] = &[
     (

@@ -212,6 +212,7 @@ passes_same uri s docs _ sent next agree d = does_same uri [] s docs sent next a
 noticed_same : (uri : List ℕ) (life : Life) (s : State) (docs : List OpenDocument) (method : NoticeMethod) (params : Data) (sent : List Data) (next : State)
     → open_text uri s.documents ≡ open_text uri docs → IfNamed method (is_named uri (named_uri params) ≡ true) → Noticed life s method params sent next → Goes uri (Noticed life (beside s docs) method params) sent next
 noticed_same uri Running s docs method params sent next agree is d = heeds_same uri s docs method params sent next agree is d
+noticed_same uri (Over status) s docs method params sent next agree is d = does_same uri [] s docs sent next agree d
 noticed_same uri _ s docs method params sent next agree is d = passes_same uri s docs method sent next agree d
 
 if_named : (exit opens changes closes : Bool) (P : Type 0) → (changes ≡ true → P) → (closes ≡ true → P) → IfNamed (cond exit Exit (cond opens DidOpen (cond changes DidChange (cond closes DidClose UnknownNotice)))) P
@@ -372,6 +373,7 @@ passes_quiet uri s _ sent next stays d = does_quiet uri s [] s.documents sent ne
 
 noticed_quiet : (uri : List ℕ) (life : Life) (s : State) (method : NoticeMethod) (params : Data) (sent : List Data) (next : State) → (method ≡ Exit → ⊥) → is_named uri (named_uri params) ≡ false → Noticed life s method params sent next → Quiet uri s sent next
 noticed_quiet uri Running s method params sent next stays apart d = heeds_quiet uri s method params sent next stays apart d
+noticed_quiet uri (Over status) s method params sent next stays apart d = does_quiet uri s [] s.documents sent next refl tt d
 noticed_quiet uri _ s method params sent next stays apart d = passes_quiet uri s method sent next stays d
 
 exits_at : (exit opens changes closes : Bool) → exit ≡ false → cond exit Exit (cond opens DidOpen (cond changes DidChange (cond closes DidClose UnknownNotice))) ≡ Exit → ⊥

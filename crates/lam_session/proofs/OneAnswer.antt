@@ -207,6 +207,7 @@ module _ (s : State) (m : Message) where
 
   noticed_one : (life : Life) (method : NoticeMethod) (params : Data) → IsOne (Noticed life s method params)
   noticed_one Running method params = heeds_one method params
+  noticed_one (Over status) method params = ignores_one
   noticed_one _ method params = passes_one method
 
 -- ---- messages

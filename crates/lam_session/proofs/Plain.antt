@@ -179,6 +179,7 @@ passes_plain s _ sent next d = does_plain _ _ sent next tt d
 
 noticed_plain : (life : Life) (s : State) (method : NoticeMethod) (params : Data) (sent : List Data) (next : State) → Noticed life s method params sent next → NoFloats sent
 noticed_plain Running s method params sent next d = heeds_plain s method params sent next d
+noticed_plain (Over status) s method params sent next d = does_plain _ _ sent next tt d
 noticed_plain _ s method params sent next d = passes_plain s method sent next d
 
 receives_plain : (s : State) (m : Message) (sent : List Data) (next : State) → HasPlainId m → Receives s m sent next → NoFloats sent

@@ -46,7 +46,7 @@ pub record SameFor (uri : List ℕ) (s t : State) : Type 0 where
   pub dialect : s.dialect ≡ t.dialect
   pub text : open_text uri s.documents ≡ open_text uri t.documents
 
--- the exchanges that concern a document are a run by themselves, which leaves that document as the whole run does
+-- the exchanges that concern a document are a run by themselves, which leaves that document with the text that the whole run does
 pub record IsAlone (dialect : Dialect) (uri : List ℕ) (exchanges : List Exchange) (end : State) : Type 0 where
   pub alone : State
   pub run : Runs (fresh dialect) (filter (λ e. concerns uri e.message) exchanges) alone

@@ -73,6 +73,7 @@ Passes s _ = Ignores s
 -- a notice, by the life
 abbrev pub Noticed : Life → State → NoticeMethod → Data → List Data → State → Type 0
 Noticed Running s method params = Heeds s method params
+Noticed (Over status) s method params = Ignores s
 Noticed _ s method params = Passes s method
 
 -- a message before the end

@@ -212,6 +212,7 @@ impl Conversation {
     {
         match self.life {
             Life::Running => self.heed(method, params),
+            Life::Over(_) => Ok(Vec::new(self.alloc)),
             _ => Ok(self.pass(method)),
         }
     }

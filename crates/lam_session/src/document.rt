@@ -1,6 +1,6 @@
 //! An open document, and what is known of its text.
 ghost use Rattle.std.specs.Prelude.{◌≡◌, true, map, option_map, All, IfOk, IfSome, OnOk};
-ghost use Rattle.lam_query.specs.Analyses.{IsShownIn, IsDerivedIn};
+ghost use Rattle.lam_query.specs.Analyses.{IsAnalysisOf, IsShownIn, IsDerivedIn, dialect_of};
 ghost use Rattle.lam_query.specs.TextFaults.{AreFaults};
 ghost use Rattle.lam_query.specs.Views.{fault_of, shown_of, derivation_of, StepStandsIn};
 ghost use Rattle.lam_query.specs.Within.{StandsIn};
@@ -93,16 +93,25 @@ impl Document {
         &self.doc
     }
 
+    /// What is known of the text.
+    fn analysis(&self) -> &Analysis
+        requires { self.now.analysed ≡ true }
+        ensures of { IsAnalysisOf self.now.text result.now }
+        ensures dialect { dialect_of result.now ≡ self.now.dialect }
+    {
+        let Some(analysis) = &self.analysis else {
+            unreachable!()
+        };
+        analysis
+    }
+
     /// All faults of the text, in their order.
     pub fn faults(&self, alloc: Global) -> Result<Vec<Fault>, AllocError>
         requires { self.now.analysed ≡ true }
         ensures faults { IfOk result (λ found. AreFaults self.now.text (map fault_of found.items) self.now.dialect) }
         ensures whole_characters { IfOk result (λ found. All (λ f. StandsIn self.now.text f.span) found.items) }
     {
-        let Some(analysis) = &self.analysis else {
-            unreachable!()
-        };
-        analysis.faults(alloc, self.doc.text())
+        self.analysis().faults(alloc, self.doc.text())
     }
 
     /// The least type of the innermost term round a position.
@@ -111,10 +120,8 @@ impl Document {
         ensures shown { IfOk result (λ found. IsShownIn self.now.text (offset_of self.now.encoding self.now.text position) (option_map shown_of found) self.now.dialect) }
         ensures whole_characters { IfOk result (λ found. IfSome found (λ h. StandsIn self.now.text h.span)) }
     {
-        let Some(analysis) = &self.analysis else {
-            unreachable!()
-        };
-        analysis.hover(alloc, self.doc.text(), self.doc.offset_of(position))
+        let offset = self.doc.offset_of(position);
+        self.analysis().hover(alloc, self.doc.text(), offset)
     }
 
     /// Why that term has that type.
@@ -127,9 +134,7 @@ impl Document {
         ensures derived { IfOk result (λ found. IsDerivedIn self.now.text (offset_of self.now.encoding self.now.text position) (option_map derivation_of found) self.now.dialect) }
         ensures whole_characters { IfOk result (λ found. IfSome found (λ d. All (StepStandsIn self.now.text) d.steps.items)) }
     {
-        let Some(analysis) = &self.analysis else {
-            unreachable!()
-        };
-        analysis.derivation(alloc, self.doc.text(), self.doc.offset_of(position))
+        let offset = self.doc.offset_of(position);
+        self.analysis().derivation(alloc, self.doc.text(), offset)
     }
 }

@@ -40,10 +40,7 @@ fn first_known(offers: &[Value]) -> Option<Encoding>
 fn encoding_of(offer: &Value) -> Option<Encoding>
     ensures { result ≡ encoding_of (view offer.now) }
 {
-    match offer.as_str() {
-        Some(name) => encoding_named(name),
-        None => None,
-    }
+    encoding_named(offer.as_str()?)
 }
 
 fn encoding_named(name: &str) -> Option<Encoding>

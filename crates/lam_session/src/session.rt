@@ -56,7 +56,7 @@ impl Session {
     /// `AllocError` says that memory ran out, in this step or an earlier one; from then on every
     /// step answers it. After the end of the session a step sends nothing and changes nothing.
     ///
-    /// What the answer is does not hang on memory: each message has one, and one alone, but for
+    /// What the answer is does not depend on memory: each message has one, and one alone, but for
     /// which derivation of a shown type is given.
     #[tactic(auto, using(crate::proofs::OneAnswer::has_one_answer))]
     pub fn step(&mut self, incoming: Incoming) -> Result<Vec<Value>, AllocError>

@@ -394,7 +394,8 @@ fn message_of(code: &str) -> &'static str {
         "L2" => "command of more than 2000 tokens",
         "E2" => "not a function",
         "P1" => "unexpected token",
-        _ => "command ends too early",
+        "P2" => "command ends too early",
+        _ => "no text of a fault",
     }
 }
 
@@ -528,6 +529,38 @@ fn columns_in_each_encoding(rt: HostRuntime) -> Result<(), Fail> {
         )?;
         let mut session = started(alloc, initialize.as_str())?;
         assert_published(&rt, alloc, &mut session, "/*😀*/ #", &[("B1", start, end)])?;
+    }
+    Ok(())
+}
+
+/// Questions about the text `succ 0;`, and the result of each.
+const QUESTIONS: &[(&str, &str)] = &[
+    (
+        r#"{"id":7,"method":"textDocument/hover","params":{"textDocument":{"uri":"file:///a"},"position":{"line":0,"character":0}}}"#,
+        r#"{"contents":{"kind":"plaintext","value":"Nat"},"range":{"end":{"character":6,"line":0},"start":{"character":0,"line":0}}}"#,
+    ),
+    (
+        r#"{"id":7,"method":"fullsub/derivation","params":{"textDocument":{"uri":"file:///a"},"position":{"line":0,"character":5}}}"#,
+        r#"{"context":[],"steps":[{"from":[],"range":{"end":{"character":6,"line":0},"start":{"character":5,"line":0}},"rule":"T-Num","type":"Nat"}]}"#,
+    ),
+    (
+        r#"{"id":7,"method":"textDocument/hover","params":{"textDocument":{"uri":"file:///a"},"position":{"line":0,"character":6}}}"#,
+        "null",
+    ),
+    (
+        r#"{"id":7,"method":"fullsub/derivation","params":{"textDocument":{"uri":"file:///a"},"position":{"line":0,"character":6}}}"#,
+        "null",
+    ),
+];
+
+#[test]
+fn questions_about_an_open_document(rt: HostRuntime) -> Result<(), Fail> {
+    let alloc = rt.alloc();
+    let mut session = started(alloc, INITIALIZE)?;
+    assert_published(&rt, alloc, &mut session, "succ 0;", &[])?;
+    for (body, result) in QUESTIONS {
+        let text = format!(in alloc; r#"{{"id":7,"jsonrpc":"2.0","result":{result}}}"#)?;
+        assert_told(&rt, alloc, &mut session, body, text.as_str())?;
     }
     Ok(())
 }
