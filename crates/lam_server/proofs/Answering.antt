@@ -126,5 +126,5 @@ module _ {S V W : Type 0} (items : V → List ℕ) (coming : S → Option (List 
       turn held pulls old source sink (Ok (Some body)) held_after pulls_after source_after sink_after (Err MemoryRun) r (before_sending same, r.after)
   turn_unanswered held pulls old source sink body held_after pulls_after new source_after sink_after MemoryRun r (part_sent values s stops) =
       turn held pulls old source sink (Ok (Some body)) held_after pulls_after source_after sink_after (Err MemoryRun) r
-      (while_sending (frames_of values) new.state held_after (takes_body old new (held ++ concat r.pieces) (items body) held_after values r.says s) stops, r.after)
+      (while_sending values new.state held_after (takes_body old new (held ++ concat r.pieces) (items body) held_after values r.says s) stops, r.after)
   turn_unanswered held pulls old source sink body held_after pulls_after new source_after sink_after (Header fault) r a = absurd a

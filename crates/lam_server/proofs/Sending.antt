@@ -15,6 +15,11 @@ use Rattle.lam_frame.specs.declared.fault.FrameFault.TheVariants.{Device}
 use Rattle.lam_server.specs.Device.{IsFlushedAfter, Sends, FailsToSend, StopsSending}
 use Rattle.lam_server.specs.Output.{frames_of}
 
+-- the frames of values and of more are those of the one and of the other
+pub frames-append : (ds es : List Data) → frames_of (ds ++ es) ≡ frames_of ds ++ frames_of es
+frames-append [] es = refl
+frames-append (d ∷ ds) es = ap (λ (l : List ℕ). frame_text (compact_text d) ++ l) (frames-append ds es) ∙ sym (append_assoc (frame_text (compact_text d)) (frames_of ds) (frames_of es))
+
 -- the values from one on are that one and those behind it
 pub values_from : (values : List Value) (i : ℕ) (value : Value) → i < length values → value ≡ get_or values i value → map view (drop i values) ≡ view value ∷ map view (drop (i + 1) values)
 values_from values i value below at = ap (map view) (drop-cons values i value below ∙ ap (λ (v : Value). v ∷ drop (suc i) values) (sym at)) ∙ rw add-one refl
@@ -62,9 +67,6 @@ module _ {W : Type 0} (taken : W → Option (List ℕ)) (flushed failed : W → 
     appended = p.appended;
   }
 
-  pub no_front : (sink : W) (bytes : List ℕ) → AppendsFront (taken sink) (taken sink) bytes
-  no_front sink bytes = record { front = []; rest = bytes; split = refl; appended = Appends-nil (taken sink) }
-
   -- a frame is not empty
   flushed_frame : (old new : W) (body : List ℕ) → IsFlushed (taken new) (flushed new) → IsFlushedAfter taken flushed old (frame_text body) new
   unfolding frame_text header_line
@@ -77,9 +79,9 @@ module _ {W : Type 0} (taken : W → Option (List ℕ)) (flushed failed : W → 
 
   -- the frames of the values before these are sent
   pub record SentBefore (values rest : List Data) (old now : W) : Type 0 where
-    pub done : List ℕ
-    pub sends : Sends taken flushed failed old done now
-    pub all : frames_of values ≡ done ++ frames_of rest
+    pub done : List Data
+    pub sends : Sends taken flushed failed old (frames_of done) now
+    pub all : values ≡ done ++ rest
 
   pub none_sent : (values : List Data) (sink : W) → SentBefore values values sink sink
   none_sent values sink = record { done = []; sends = Sends-nothing sink; all = refl }
@@ -87,25 +89,24 @@ module _ {W : Type 0} (taken : W → Option (List ℕ)) (flushed failed : W → 
   pub one_more_sent : (values rest : List Data) (value : Data) (old middle new : W) → SentBefore values (value ∷ rest) old middle
       → Sends taken flushed failed middle (frame_text (compact_text value)) new → SentBefore values rest old new
   one_more_sent values rest value old middle new s p = record {
-    done = s.done ++ frame_text (compact_text value);
-    sends = Sends-both old middle new s.done (frame_text (compact_text value)) s.sends p;
-    all = s.all ∙ sym (append_assoc s.done (frame_text (compact_text value)) (frames_of rest));
+    done = s.done ++ value ∷ [];
+    sends = subst (λ (l : List ℕ). Sends taken flushed failed old l new)
+        (sym (frames-append s.done (value ∷ []) ∙ ap (λ (l : List ℕ). frames_of s.done ++ l) (append-nil (frame_text (compact_text value)))))
+        (Sends-both old middle new (frames_of s.done) (frame_text (compact_text value)) s.sends p);
+    all = s.all ∙ sym (append_assoc s.done (value ∷ []) rest);
   }
 
   pub all_sent : (values : List Data) (old now : W) → SentBefore values [] old now → Sends taken flushed failed old (frames_of values) now
-  all_sent values old now s = subst (λ (l : List ℕ). Sends taken flushed failed old l now) (sym (append-nil s.done) ∙ sym s.all) s.sends
+  all_sent values old now s = subst (λ (l : List Data). Sends taken flushed failed old (frames_of l) now) (sym (append-nil s.done) ∙ sym s.all) s.sends
 
-  pub stops_sending : (values rest : List Data) (old now : W) → SentBefore values rest old now → StopsSending taken failed old (frames_of values) now
-  stops_sending values rest old now s = record {
-    front = subst (λ (l : List ℕ). AppendsFront (taken old) (taken now) l) (sym s.all) (front_behind old now now s.done (frames_of rest) s.sends (no_front now (frames_of rest)));
-    unfailed = s.sends.unfailed;
-  }
+  pub stops_sending : (values rest : List Data) (old now : W) → SentBefore values rest old now → StopsSending taken flushed failed old values now
+  stops_sending values rest old now s = record { done = s.done; others = rest; split = s.all; sends = s.sends }
 
   pub fails_to_send : (values rest : List Data) (value : Data) (old middle new : W) → SentBefore values (value ∷ rest) old middle
       → AppendsFront (taken middle) (taken new) (frame_text (compact_text value)) → failed new ≡ failed middle + 1 → FailsToSend taken failed old (frames_of values) new
   fails_to_send values rest value old middle new s p f = record {
-    front = subst (λ (l : List ℕ). AppendsFront (taken old) (taken new) l) (sym s.all)
-        (front_behind old middle new s.done (frames_of (value ∷ rest)) s.sends (front_of_more middle new (frame_text (compact_text value)) (frames_of rest) p));
+    front = subst (λ (l : List ℕ). AppendsFront (taken old) (taken new) l) (sym (ap frames_of s.all ∙ frames-append s.done (value ∷ rest)))
+        (front_behind old middle new (frames_of s.done) (frames_of (value ∷ rest)) s.sends (front_of_more middle new (frame_text (compact_text value)) (frames_of rest) p));
     counted = f ∙ ap (λ (n : ℕ). n + 1) s.sends.unfailed;
   }
 

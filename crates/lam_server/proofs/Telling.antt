@@ -62,7 +62,7 @@ module _ {S W : Type 0} (coming : S → Option (List ℕ)) (failed : S → ℕ) 
   told start source sink (Err Device) source_after sink_after input left r split end =
       device_front start r.pieces r.out input left r.last source_after sink sink_after split r.says
   told start source sink (Err Memory) source_after sink_after input left r split end =
-      front start input left (concat r.pieces) r.out (taken sink) (taken sink_after) split r.says.front r.says.appended
+      front start input left (concat r.pieces) r.out (taken sink) (taken sink_after) split r.says.front r.says.sends.appended
 
   where_told : (start : State) (source : S) (sink : W) (answer : Result ℕ RunFault) (source_after : S) (sink_after : W) (before last after : Option (List ℕ))
       → (r : Runs coming failed gave taken flushed sink_failed start source sink answer source_after sink_after)

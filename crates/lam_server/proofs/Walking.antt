@@ -1,7 +1,8 @@
 -- A run, as far as it has come: turn after turn, and then how it ends.
 use Rattle.std.proofs.Common.{◌≡◌, ◌≢◌, ◌≤◌, ℕ, ◌+◌, ◌^◌, List, [], ◌∷◌, ◌++◌, length, Option, Some, None, Result, Ok, Err, refl, sym, ap, ◌∙◌, subst, arith, append_assoc, append-nil, length-append}
 use Rattle.std.specs.List.{concat}
-use Rattle.std.proofs.KnownBytes.{Appends-nil, Appends-trans}
+use Rattle.serde_json.specs.Data.{Data}
+use Rattle.std.proofs.KnownBytes.{Appends-trans}
 use Rattle.lam_frame.specs.Frame.{HasFrame, IsOpen, IsRest}
 use Rattle.lam_frame.specs.Next.{EndsEmpty, OnlyLastEmpty, PulledWhile}
 use Rattle.lam_frame.specs.Steps.{NoneEmpty}
@@ -12,7 +13,7 @@ use Rattle.lam_frame.specs.declared.fault.FrameFault.{FrameFault}
 use Rattle.lam_frame.specs.declared.fault.FrameFault.TheVariants.{NoLength, BadLength, TooLong, BadHeader, Truncated, Device as DeviceFrame, Memory as MemoryFrame, TooManyTurns, Spent}
 use Rattle.lam_session.specs.State.{State, ended_status}
 use Rattle.lam_server.specs.Device.{Sends}
-use Rattle.lam_server.specs.Output.{Takes, Turns, IsLive, Outcome, ComesTo, IsFront}
+use Rattle.lam_server.specs.Output.{Takes, Turns, IsLive, Outcome, ComesTo, IsFront, frames_of}
 use Rattle.lam_server.specs.Output.Turns.{no_turn, next_turn}
 use Rattle.lam_server.specs.Run.{Runs, RunSays, MayFollow, IsSettled, DecidesNothing, AwaitsMore}
 use Rattle.lam_server.specs.Run.DeviceEnds.{at_pull, at_limit, at_sink}
@@ -25,7 +26,16 @@ use Rattle.lam_server.specs.declared.faults.RunFault.{RunFault}
 use Rattle.lam_server.specs.declared.faults.RunFault.TheVariants.{Header, Device, Memory}
 use Rattle.lam_server.specs.declared.server.Turn.TheVariants.{More, End}
 use Rattle.lam_server.proofs.Growing.{Turns-more, part_front, whole_front}
-use Rattle.lam_server.proofs.Sending.{Sends-nothing, Sends-both}
+use Rattle.lam_server.proofs.Sending.{Sends-nothing, Sends-both, frames-append}
+
+-- ---- frames
+
+-- what turns sent are whole frames
+turned_frames : {start : State} {bytes out : List ℕ} {s : State} {left : List ℕ} → Turns start bytes out s left → (values : List Data) × (out ≡ frames_of values)
+turned_frames no_turn = ([], refl)
+turned_frames (next_turn {done} {first} turns live takes) =
+    let before = turned_frames turns in
+    (before.0 ++ takes.values, ap (λ (l : List ℕ). l ++ first) before.1 ∙ ap (λ (l : List ℕ). frames_of before.0 ++ l) takes.frames ∙ sym (frames-append before.0 takes.values))
 
 -- ---- pulls
 
@@ -225,27 +235,31 @@ module _ {S W : Type 0} (coming : S → Option (List ℕ)) (failed : S → ℕ) 
           (failure.counted ∙ ap (λ (n : ℕ). n + 1) w.sends.unfailed) same,
     )
 
-    says_memory : (pieces : List (List ℕ)) (last source_after : S) (sink_after : W) → last ≡ source_after → MemoryStops taken sink_failed server.state (server.held ++ concat pieces) sink_now sink_after
+    says_memory : (pieces : List (List ℕ)) (last source_after : S) (sink_after : W) → last ≡ source_after → MemoryStops taken flushed sink_failed server.state (server.held ++ concat pieces) sink_now sink_after
         → (out : List ℕ) × RunSays coming failed taken flushed sink_failed start (w.pieces ++ pieces) last sink out (Err Memory) source_after sink_after
     says_memory pieces last source_after sink_after same (before_sending unsent) =
-        let sends = still sink_after unsent in (
+        let out = turned_frames (heard_turns pieces) in (
           w.out,
           record {
+            values = out.0;
+            whole = out.1;
             front = whole_front start (concat (w.pieces ++ pieces)) w.out (server.held ++ concat pieces) server.state (heard_turns pieces);
-            appended = sends.appended;
-            unfailed = sends.unfailed;
+            sends = still sink_after unsent;
             same = same;
           },
         )
-    says_memory pieces last source_after sink_after same (while_sending whole next left takes stops) = (
-      w.out ++ stops.front.front,
-      record {
-        front = front_of_part pieces whole stops.front.front stops.front.rest left next takes stops.front.split;
-        appended = Appends-trans (taken sink) (taken sink_now) (taken sink_after) w.out stops.front.front w.sends.appended stops.front.appended;
-        unfailed = stops.unfailed ∙ w.sends.unfailed;
-        same = same;
-      },
-    )
+    says_memory pieces last source_after sink_after same (while_sending values next left takes stops) =
+        let out = turned_frames (heard_turns pieces) in (
+          w.out ++ frames_of stops.done,
+          record {
+            values = out.0 ++ stops.done;
+            whole = ap (λ (l : List ℕ). l ++ frames_of stops.done) out.1 ∙ sym (frames-append out.0 stops.done);
+            front = front_of_part pieces (frames_of values) (frames_of stops.done) (frames_of stops.others) left next takes
+                (ap frames_of stops.split ∙ frames-append stops.done stops.others);
+            sends = Sends-both taken flushed sink_failed sink sink_now sink_after w.out (frames_of stops.done) w.sends stops.sends;
+            same = same;
+          },
+        )
 
     pub walk_to_fault : (fault : RunFault) (source_after : S) (sink_after : W) → TakesTurn coming failed gave taken flushed sink_failed server source_now sink_now (Err fault) source_after sink_after
         → Runs coming failed gave taken flushed sink_failed start source sink (Err fault) source_after sink_after
@@ -271,5 +285,5 @@ module _ {S W : Type 0} (coming : S → Option (List ℕ)) (failed : S → ℕ) 
     needed = refl;
     stopped = tt;
     few = omega arith;
-    says = record { front = whole_front start [] [] [] start no_turn; appended = Appends-nil (taken sink); unfailed = refl; same = refl };
+    says = record { values = []; whole = refl; front = whole_front start [] [] [] start no_turn; sends = Sends-nothing taken flushed sink_failed sink; same = refl };
   }

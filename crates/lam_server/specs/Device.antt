@@ -1,7 +1,9 @@
 -- What sending does to a sink.
-use Rattle.std.specs.Prelude.{◌≡◌, ℕ, ◌+◌, List, [], ◌∷◌, Option}
+use Rattle.std.specs.Prelude.{◌≡◌, ℕ, ◌+◌, List, [], ◌∷◌, ◌++◌, Option}
 use Rattle.std.specs.Io.KnownBytes.{Appends}
+use Rattle.serde_json.specs.Data.{Data}
 use Rattle.lam_frame.specs.Device.{AppendsFront, IsFlushed}
+use Rattle.lam_server.specs.Output.{frames_of}
 
 -- after these bytes all is flushed; without a byte the sink is as it was
 abbrev pub IsFlushedAfter : {W : Type 0} → (W → Option (List ℕ)) → (W → ℕ) → W → List ℕ → W → Type 0
@@ -19,7 +21,9 @@ pub record FailsToSend {W : Type 0} (taken : W → Option (List ℕ)) (failed : 
   pub front : AppendsFront (taken old) (taken new) out
   pub counted : failed new ≡ failed old + 1
 
--- the sink took a front of these bytes, and no call failed
-pub record StopsSending {W : Type 0} (taken : W → Option (List ℕ)) (failed : W → ℕ) (old : W) (out : List ℕ) (new : W) : Type 0 where
-  pub front : AppendsFront (taken old) (taken new) out
-  pub unfailed : failed new ≡ failed old
+-- the frames of the first of these values are sent, and nothing of the others
+pub record StopsSending {W : Type 0} (taken : W → Option (List ℕ)) (flushed failed : W → ℕ) (old : W) (values : List Data) (new : W) : Type 0 where
+  pub done : List Data
+  pub others : List Data
+  pub split : values ≡ done ++ others
+  pub sends : Sends taken flushed failed old (frames_of done) new

@@ -2,11 +2,12 @@
 use Rattle.std.specs.Prelude.{◌≡◌, ℕ, ◌+◌, ◌^◌, ◌≤◌, List, [], ◌++◌, length, Option, Some, None, Result, Ok, Err}
 use Rattle.std.specs.List.{concat}
 use Rattle.std.specs.Io.KnownBytes.{Appends}
+use Rattle.serde_json.specs.Data.{Data}
 use Rattle.lam_frame.specs.Device.{FailedPull}
 use Rattle.lam_frame.specs.Next.{EndsEmpty, OnlyLastEmpty, PulledWhile}
 use Rattle.lam_session.specs.State.{State}
 use Rattle.lam_server.specs.Device.{Sends}
-use Rattle.lam_server.specs.Output.{Outcome, IsAllowed, IsFront, IsAwaiting}
+use Rattle.lam_server.specs.Output.{Outcome, IsAllowed, IsFront, IsAwaiting, frames_of}
 use Rattle.lam_server.specs.declared.faults.RunFault.{RunFault}
 use Rattle.lam_server.specs.declared.faults.RunFault.TheVariants.{Header, Device, Memory}
 
@@ -38,12 +39,13 @@ pub data DeviceEnds {S W : Type 0} (coming : S → Option (List ℕ)) (source_fa
   at_sink : IsFront start (concat pieces) out → Appends (taken sink) (taken sink_after) out → sink_failed sink_after ≡ sink_failed sink + 1 → last ≡ source_after
       → DeviceEnds coming source_failed taken flushed sink_failed start pieces last sink out source_after sink_after
 
--- memory was wanting, somewhere
-pub record MemoryEnds {S W : Type 0} (taken : W → Option (List ℕ)) (sink_failed : W → ℕ)
+-- memory was wanting, somewhere: what is out are whole frames, all flushed
+pub record MemoryEnds {S W : Type 0} (taken : W → Option (List ℕ)) (flushed sink_failed : W → ℕ)
     (start : State) (pieces : List (List ℕ)) (last : S) (sink : W) (out : List ℕ) (source_after : S) (sink_after : W) : Type 0 where
+  pub values : List Data
+  pub whole : out ≡ frames_of values
   pub front : IsFront start (concat pieces) out
-  pub appended : Appends (taken sink) (taken sink_after) out
-  pub unfailed : sink_failed sink_after ≡ sink_failed sink
+  pub sends : Sends taken flushed sink_failed sink out sink_after
   pub same : last ≡ source_after
 
 -- what the answer of a run says of the pieces and of the bytes sent
@@ -56,7 +58,7 @@ RunSays coming source_failed taken flushed sink_failed start pieces last sink ou
 RunSays coming source_failed taken flushed sink_failed start pieces last sink out (Err Device) source_after sink_after =
     DeviceEnds coming source_failed taken flushed sink_failed start pieces last sink out source_after sink_after
 RunSays coming source_failed taken flushed sink_failed start pieces last sink out (Err Memory) source_after sink_after =
-    MemoryEnds taken sink_failed start pieces last sink out source_after sink_after
+    MemoryEnds taken flushed sink_failed start pieces last sink out source_after sink_after
 
 -- a run: the pieces pulled, each while nothing was decided and no end told, the bytes sent, and what its answer says of both
 pub record Runs {S W : Type 0} (coming : S → Option (List ℕ)) (source_failed : S → ℕ) (gave : S → List ℕ → S → Type 0)

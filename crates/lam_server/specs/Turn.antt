@@ -1,6 +1,7 @@
 -- What a turn does: with the bytes held and pulled, with the session, and with the sink.
 use Rattle.std.specs.Prelude.{◌≡◌, ◌≢◌, ℕ, ◌+◌, ◌^◌, ◌≤◌, List, [], ◌++◌, length, Option, Some, Result, Ok, Err}
 use Rattle.std.specs.List.{concat}
+use Rattle.serde_json.specs.Data.{Data}
 use Rattle.lam_frame.specs.Device.{FailedPull}
 use Rattle.lam_frame.specs.Frame.{HasFault, IsOpen}
 use Rattle.lam_frame.specs.Next.{EndsEmpty, OnlyLastEmpty, PulledWhile}
@@ -8,7 +9,7 @@ use Rattle.lam_frame.specs.declared.fault.FrameFault.{FrameFault}
 use Rattle.lam_frame.specs.declared.fault.FrameFault.TheVariants.{NoLength, BadLength, TooLong, BadHeader, Truncated}
 use Rattle.lam_session.specs.State.{State, ended_status}
 use Rattle.lam_server.specs.Device.{Sends, FailsToSend, StopsSending}
-use Rattle.lam_server.specs.Output.{Takes, IsLive}
+use Rattle.lam_server.specs.Output.{Takes, IsLive, frames_of}
 use Rattle.lam_server.specs.Waiting.{Waiting, HasLessWork}
 use Rattle.lam_server.specs.declared.faults.RunFault.{RunFault}
 use Rattle.lam_server.specs.declared.faults.RunFault.TheVariants.{Header, Device, Memory}
@@ -60,11 +61,11 @@ pub data DeviceStops {S W : Type 0} (coming : S → Option (List ℕ)) (source_f
       → DeviceStops coming source_failed taken sink_failed old heard pieces last sink source_after sink_after
 
 -- nothing was sent; or the memory for the text of a value of the answer was wanting
-pub data MemoryStops {W : Type 0} (taken : W → Option (List ℕ)) (failed : W → ℕ)
+pub data MemoryStops {W : Type 0} (taken : W → Option (List ℕ)) (flushed failed : W → ℕ)
     (s : State) (heard : List ℕ) (sink sink_after : W) : Type 0 where
-  before_sending : sink ≡ sink_after → MemoryStops taken failed s heard sink sink_after
-  while_sending : (out : List ℕ) (next : State) (left : List ℕ) → Takes s heard out next left → StopsSending taken failed sink out sink_after
-      → MemoryStops taken failed s heard sink sink_after
+  before_sending : sink ≡ sink_after → MemoryStops taken flushed failed s heard sink sink_after
+  while_sending : (values : List Data) (next : State) (left : List ℕ) → Takes s heard (frames_of values) next left
+      → StopsSending taken flushed failed sink values sink_after → MemoryStops taken flushed failed s heard sink sink_after
 
 -- what the answer of a turn says of the bytes heard
 abbrev pub TurnSays : {S W : Type 0} → (S → Option (List ℕ)) → (S → ℕ) → (W → Option (List ℕ)) → (W → ℕ) → (W → ℕ)
@@ -78,7 +79,7 @@ TurnSays coming source_failed taken flushed sink_failed old heard pieces last si
 TurnSays coming source_failed taken flushed sink_failed old heard pieces last sink (Err Device) source_after sink_after =
     DeviceStops coming source_failed taken sink_failed old heard pieces last sink source_after sink_after
 TurnSays coming source_failed taken flushed sink_failed old heard pieces last sink (Err Memory) source_after sink_after =
-    MemoryStops taken sink_failed old.state heard sink sink_after × (last ≡ source_after)
+    MemoryStops taken flushed sink_failed old.state heard sink sink_after × (last ≡ source_after)
 
 -- a turn: pulls while the bytes there decide nothing and no empty piece told the end, and then what the answer says
 pub record TakesTurn {S W : Type 0} (coming : S → Option (List ℕ)) (source_failed : S → ℕ) (gave : S → List ℕ → S → Type 0)
