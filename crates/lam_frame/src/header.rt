@@ -48,7 +48,7 @@ enum Line<'a> {
     Spoiled,
 }
 
-/// Looks at no more than 4,096 bytes.
+/// What an input begins with, as far as its first 4,096 bytes tell.
 pub(crate) fn start_of(bytes: &[u8]) -> Start
     ensures { IsStart bytes.now result }
 {

@@ -8,7 +8,7 @@ pub fn some_reading()
     ensures { (bytes : List ℕ) → HasReading bytes }
 {}
 
-/// It does so in no two ways.
+/// An input splits into frames and a rest in one way only.
 pub fn one_reading()
     ensures { (bytes : List ℕ) → ReadsOneWay bytes }
 {}

@@ -4,6 +4,8 @@
 //! however its pulls cut the bytes, and each fault just where the bytes have it; [`write_frame`]
 //! puts one frame into a [`Sink`], whole and flushed. Every input splits into frames and a rest, and only
 //! one way.
+//!
+//! Nothing here knows JSON, messages, sessions, or what a body is for.
 #![tactic(auto)]
 
 mod bytes;

@@ -5,6 +5,8 @@
 //! The rules stand in `specs/Subtyping.antt` and `specs/Typing.antt`. Those two files have to be
 //! believed, with what they are written in (`Types.antt`, `Terms.antt`), the texts, and the views
 //! that say which tree a value stands for.
+//!
+//! Nothing here knows spans, names of binders, tokens, JSON, how a subtype is found or a type is inferred.
 #![tactic(auto)]
 
 mod laws;

@@ -27,7 +27,7 @@ pub enum SubRule {
 impl SubRule {
     ghost use Rattle.lam_rules.specs.Rules.{name_of_sub_rule};
 
-    /// The name that TAPL gives the rule, as `S-Refl`.
+    /// The name of the rule, as TAPL writes it (`S-Refl`). TAPL gives the axiom of 15.5 no name: here it is `S-BoolNat`.
     pub fn name(self) -> &'static str
         ensures { result.now ≡ name_of_sub_rule self }
     {
@@ -69,7 +69,7 @@ pub enum TypeRule {
 impl TypeRule {
     ghost use Rattle.lam_rules.specs.Rules.{name_of_type_rule};
 
-    /// The name that TAPL gives the rule, as `T-Abs`.
+    /// The name of the rule, as TAPL writes it (`T-Abs`). `T-Num` is this project's own.
     pub fn name(self) -> &'static str
         ensures { result.now ≡ name_of_type_rule self }
     {

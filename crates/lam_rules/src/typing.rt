@@ -163,7 +163,7 @@ fn proves(proof: &TypeProof, entries: &Entries, term: &Core, ty: &Ty, dialect: D
     same(&proof.ty, ty)
 }
 
-/// The same under one more binder, of this type.
+/// Whether a tree is a proof that the term has this very type under one more binder, of type `inner`.
 #[cycle(check_type)]
 #[tactic(auto, using(crate::proofs::TypingShapes::typing_shapes))]
 fn proves_under(
@@ -275,7 +275,7 @@ fn is_entry(count: usize, entries: &Entries, ty: &Ty) -> bool
     }
 }
 
-/// The same among entries that begin with the outermost binder.
+/// Whether the entry that a variable counts to is this type, where entries begin with the outermost binder.
 #[tactic(auto, using(crate::proofs::Contexts::contexts))]
 fn is_given_entry(count: usize, context: &[Option<Ty>], ty: &Ty) -> bool
     ensures { IsTrue result ↔ IsEntry count (context_of context.now) (typ_of ty.now) }

@@ -16,14 +16,14 @@ pub record TextBinder : Type 0 where
   pub token : Span
   -- the binder of its kind just outside of it
   pub outer : Option ℕ
-  -- the binder that its uses, and its token, are told as: itself, or for a letrec's lambda the let's
+  -- the binder given as the answer for it and for its uses: itself, or, for a letrec's lambda, the let's
   pub answer : ℕ
   pub origin : Origin
 
 -- a use of a name or of a type name, in the order of the text
 pub record TextUse : Type 0 where
   pub token : Span
-  -- the one that it is told to have, or none where it is unbound
+  -- the binder given as the answer for it, or none where it is unbound
   pub binder : Option ℕ
   -- how many binders of its kind stand between it and its own, or none where it is unbound
   pub between : Option ℕ
@@ -53,13 +53,13 @@ s ⊕ t = record { binders = s.binders ++ t.binders; uses = s.uses ++ t.uses; pl
 abbrev pub empty_table : Table
 empty_table = record { binders = []; uses = []; places = [] }
 
--- a binder as the terms under it see it: its name, its number, and the binder that its uses are told as
+-- a binder as the terms under it see it: its name, its number, and the binder given as the answer for its uses
 pub record Entry : Type 0 where
   pub name : Option Name
   pub number : ℕ
   pub answer : ℕ
 
--- the binder of this name and this number, whose uses are told as those of the answer
+-- the binder of this name and this number, for whose uses the answer is given
 abbrev pub entry : Option Name → (number answer : ℕ) → Entry
 entry x n a = record { name = x; number = n; answer = a }
 
@@ -68,7 +68,7 @@ abbrev pub innermost : List Entry → Option ℕ
 innermost [] = None
 innermost (e ∷ es) = Some e.number
 
--- the binder that a use of this name is told to have, by the innermost one of the name; none where it is unbound
+-- the binder given as the answer for a use of this name, by the innermost one of the name; none where it is unbound
 abbrev pub bound_to : Name → List Entry → Option ℕ
 bound_to x [] = None
 bound_to x (e ∷ es) = if binds e.name x then Some e.answer else bound_to x es
@@ -314,7 +314,7 @@ visible_at t p = reverse (seen_in t.binders (length t.binders) (place_row_number
 abbrev pub is_token_at : ℕ → TextBinder → Bool
 is_token_at o b = if has_name b.name then b.token.start == o else false
 
--- what the binder whose name starts at byte o is told as, if there is one
+-- the answer for the binder whose name starts at byte o, if there is one
 abbrev pub binder_token_at : ℕ → List TextBinder → Option ℕ
 binder_token_at o [] = None
 binder_token_at o (b ∷ bs) = if is_token_at o b then Some b.answer else binder_token_at o bs

@@ -87,8 +87,8 @@ fn has_label(label: &str, fields: &[TyField]) -> bool
     false
 }
 
-/// The most nodes that a type of a document may have, the expansion of a written type as the type of a
-/// place: in place of types, a document with a larger one shows the fault that it is too large.
+/// The most nodes that a type in a document may have, be it an expansion or the type of a place. A document with a
+/// larger one gets that fault in place of types.
 pub const NODE_LIMIT: u64 = 4_096;
 
 /// Where sizes stop counting: one node over the limit, as `lam_rules` counts.

@@ -1,4 +1,5 @@
 //! What holds of the table and the nameless form of any commands.
+//! Each law is the contract of a function that does nothing.
 ghost use Rattle.std.specs.Prelude.{◌≡◌, ◌↔◌, ℕ, [], List, None, Some, map, length, get_or, reverse};
 ghost use Rattle.lam_syntax.specs.Trees.{CommandTree};
 ghost use Rattle.lam_scope.specs.Counted.{statements_counted, past_commands};
@@ -12,7 +13,7 @@ ghost use Rattle.lam_scope.specs.Nesting.{AreNested, AreSpelledFrom, IsInnermost
 ghost use Rattle.lam_scope.specs.Tables.{Table, table, Entry, entry_names, bound_to, binder_numbered, visible_at, place_at};
 
 /// The table of commands and their nameless form have as many places, and the binders that a place sees in the table take
-/// their types from where the nameless form says, the outermost first. (Nothing runs here: the contract is the law.)
+/// their types from where the nameless form says, the outermost first.
 pub fn one_sight()
     ensures places { (cs : List CommandTree) → length (table cs).places ≡ length (places_of [] (statements [] [] cs)) }
     ensures sights { (cs : List CommandTree) (n : ℕ) → map (λ b. (binder_numbered (table cs) b).origin) (visible_at (table cs) n) ≡ reverse (sight_numbered (statements [] [] cs) n) }
@@ -20,34 +21,34 @@ pub fn one_sight()
 
 /// The first place that has a byte is the innermost: each other place that has it is around it. That is so where of two
 /// places the earlier stands within the later, or ends where that has not begun, as those of any text do: of commands
-/// that are spelled by tokens one behind the other. (Nothing runs here: the contract is the law.)
+/// that are spelled by tokens one behind the other.
 pub fn innermost_place()
     ensures spelled { (cs : List CommandTree) → AreSpelledFrom 0 cs → AreNested (table cs).places }
     ensures innermost { (t : Table) (offset p : ℕ) → AreNested t.places → place_at t offset ≡ Some p → IsInnermost offset t p }
 {}
 
 /// The row of a number and the place of that number are of one term: its span is in the table, its nameless form among the
-/// places. (Nothing runs here: the contract is the law.)
+/// places.
 pub fn one_term()
     ensures spans { (cs : List CommandTree) → map (λ p. p.span) (table cs).places ≡ map (λ p. p.span) (commands_placed [] [] cs) }
     ensures terms { (cs : List CommandTree) → map (λ p. p.here) (places_of [] (statements [] [] cs)) ≡ map (λ p. p.term) (commands_placed [] [] cs) }
 {}
 
 /// Of any binders of names that a term sees, the one that a use is told to have is the one that its count names, and it
-/// has none where the count is none. (Nothing runs here: the contract is the law.)
+/// has none where the count is none.
 pub fn one_binder()
     ensures bound { (x : Name) (seen : List Entry) (n : ℕ) (e : Entry) → count x (entry_names seen) ≡ Some n → get_or seen n e ≡ e → bound_to x seen ≡ Some e.answer }
     ensures unbound { (x : Name) (seen : List Entry) → count x (entry_names seen) ≡ None → bound_to x seen ≡ None }
 {}
 
 /// The uses of a table tell the counts of the nameless form, one after the other in the order of the text, and none is left
-/// behind the last command. (Nothing runs here: the contract is the law.)
+/// behind the last command.
 pub fn one_count()
     ensures counts { (cs : List CommandTree) → statements_counted [] cs (table cs).uses ≡ statements [] [] cs }
     ensures left { (cs : List CommandTree) → past_commands cs (table cs).uses ≡ [] }
 {}
 
-/// No written type is at fault just where each of them stands for a type. (Nothing runs here: the contract is the law.)
+/// No written type is at fault just where each of them stands for a type.
 pub fn faultless_is_expanded()
     ensures { (cs : List CommandTree) → ((faults [] cs ≡ []) ↔ IsExpanded (statements [] [] cs)) }
 {}

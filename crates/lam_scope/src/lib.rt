@@ -2,6 +2,16 @@
 //! of a document's commands and the expansions of its written types.
 //!
 //! `bind` reads the commands and keeps no part of them. `resolve` gives the terms that typing speaks of.
+//!
+//! Binding: `walk` fills the tables of `rows`, with the binders in sight on a stack (`seen`, over `names` and
+//! `name_stack`); `room` counts the rows first. `use_chains` and `token_lists` give each binder its uses, `stretches`
+//! and `row_stretches` the search by a byte; `scopes` reads the tables.
+//!
+//! Resolving: `resolver` takes command by command, `nameless` makes a term's form, `expansion` a written type's over
+//! the `abbreviations` in sight, `uses_left` hands on the counts. `resolved` keeps the result, `search` finds a place's
+//! term in it.
+//!
+//! Nothing here knows tokens but for their spans, types of terms, subtyping, or positions in lines.
 #![tactic(auto)]
 
 mod abbreviations;

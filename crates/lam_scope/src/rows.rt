@@ -20,7 +20,7 @@ pub(crate) struct BinderRow {
     pub(crate) token: Span,
     /// The binder of its kind just outside of it.
     pub(crate) outer: Option<Binder>,
-    /// The binder that its uses, and its token, are told as: itself, or for a letrec's lambda the let's.
+    /// The binder given as the answer for it and for its uses: itself, or, for a letrec's lambda, the let's.
     pub(crate) answer: Binder,
     pub(crate) origin: Origin,
 }
@@ -29,7 +29,7 @@ pub(crate) struct BinderRow {
 #[derive(Drop)]
 pub(crate) struct UseRow {
     pub(crate) token: Span,
-    /// The binder that it is told to have, or none where it is unbound.
+    /// The binder given as the answer for it, or none where it is unbound.
     pub(crate) bound: Option<Bound>,
 }
 
@@ -197,7 +197,7 @@ impl Rows {
     }
 }
 
-/// The same name.
+/// A copy of a name, if there is one.
 fn copy_of_name(name: Option<&Text>) -> Result<Option<Text>, AllocError>
     ensures { IfOk result (λ copy. option_map (λ s. letters s) copy ≡ option_map (λ x. letters x.now) name.entry) }
 {

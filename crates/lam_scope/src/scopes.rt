@@ -148,7 +148,7 @@ fn shown_name(name: &Option<Text>) -> &str
     }
 }
 
-/// The binder that a binder's uses are told as.
+/// The binder given as the answer for a binder's uses.
 #[tactic(auto, using(crate::proofs::Reading::reading))]
 fn answer_of(binders: &[BinderRow], binder: Binder) -> Binder
     ensures { result.0 ≡ (binder_in (map text_binder binders.now) binder.0).answer }
@@ -181,7 +181,7 @@ fn binder_token_at(binders: &[BinderRow], runs: &[Stretch], offset: usize) -> Op
     }
 }
 
-/// What the token of the binder of that number is told as.
+/// The binder given as the answer for the token of the binder of that number.
 #[tactic(auto, using(crate::proofs::StretchedRows::row_reading))]
 fn answer_at(binders: &[BinderRow], index: usize) -> Option<Binder>
     ensures { option_map binder_number result ≡ answer_at (map text_binder binders.now) index }

@@ -14,7 +14,7 @@ use lam_syntax::Text;
 use std::alloc::{AllocError, Global};
 use std::marker::Model;
 
-/// A binder that is seen: its name, if it is no underscore, its number, and the binder that its uses are told as.
+/// A binder that is seen: its name, if it is no underscore, its number, and the binder given as the answer for its uses.
 #[derive(Drop)]
 pub(crate) struct SeenBinder<'a> {
     pub(crate) name: Option<&'a Text>,
@@ -25,7 +25,7 @@ pub(crate) struct SeenBinder<'a> {
 /// What a name that is seen means.
 #[derive(Clone, Copy)]
 pub(crate) struct Bound {
-    /// The binder that its uses are told as.
+    /// The binder given as the answer for its uses.
     pub(crate) binder: Binder,
     /// How many binders of its kind are seen further inside.
     pub(crate) between: usize,

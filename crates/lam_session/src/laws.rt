@@ -1,4 +1,5 @@
 //! What holds of all runs of a session.
+//! Each law is the contract of a function that does nothing.
 ghost use Rattle.std.specs.Prelude.{◌≡◌, ◌≢◌, ℕ, List, [], map, false, All};
 ghost use Rattle.serde_json.specs.Data.{Data};
 ghost use Rattle.lam_rpc.specs.Kind.{Message};
@@ -13,7 +14,6 @@ ghost use Rattle.lam_session.specs.Step.{Steps};
 /// What comes between does not change the answers about a document: the messages that shape the
 /// session or name the document, taken by themselves, are a run with the very values sent, which
 /// leaves the document with the same text; and no other message publishes anything about it.
-/// (Nothing runs here: the contract is the law.)
 pub fn isolation()
     ensures alone { (dialect : Dialect) (uri : List ℕ) (exchanges : List Exchange) (end : State)
         → Runs (fresh dialect) exchanges end → IsAlone dialect uri exchanges end }

@@ -12,6 +12,6 @@ pub enum ParseFault {
     WrongToken(usize),
     /// Some command starts with these tokens, but they are not a whole one.
     WrongEnd,
-    /// Memory ran out, of tokens that are neither too many nor bad: those two faults are found without any.
+    /// Memory ran out. The tokens were neither too many nor bad: that is told without memory.
     Memory,
 }

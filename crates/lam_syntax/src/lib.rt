@@ -2,7 +2,9 @@
 //!
 //! Semicolons divide a document's tokens into pieces, and a fault in one of them leaves the others as they are.
 //! `parse` answers the one tree of a piece, or the token at which the piece stops being the start of a command.
-//! The trees keep the place of each term, type, name and binder, and no part of the text.
+//! The trees keep the span of each term, type, name and binder, and no part of the text.
+//!
+//! Nothing here knows which names are bound, what a type or a term means, documents, or columns.
 #![tactic(auto)]
 
 mod fault;

@@ -1,6 +1,6 @@
 //! Reading of terms.
 //!
-//! Each function reads its part at the front of the tokens, with one token of foresight, and stops at the first
+//! Each function reads its part at the front of the tokens, with one token of lookahead, and stops at the first
 //! token that fits nowhere.
 ghost use Rattle.std.specs.Prelude.{◌≡◌, ◌<◌, ◌≤◌, length, IfOk, MatchBool};
 ghost use Rattle.lam_token.specs.declared.span.Span.{Span as Place};
@@ -43,7 +43,7 @@ pub(crate) fn parse_term<'a, 'b>(
     }
 }
 
-/// The binder, type and body of a lambda.
+/// The binder, type and body of a lambda, behind the keyword, whose span is `first`.
 #[cycle(terms)]
 fn parse_lambda<'a, 'b>(
     alloc: Global,
@@ -62,7 +62,7 @@ fn parse_lambda<'a, 'b>(
     Ok((term, rest))
 }
 
-/// The three terms of an if.
+/// The three terms of an if, behind the keyword, whose span is `first`.
 #[cycle(terms)]
 fn parse_if<'a, 'b>(
     alloc: Global,
@@ -81,7 +81,7 @@ fn parse_if<'a, 'b>(
     Ok((term, rest))
 }
 
-/// The binder and terms of a let.
+/// The binder and terms of a let, behind the keyword, whose span is `first`.
 #[cycle(terms)]
 fn parse_let<'a, 'b>(
     alloc: Global,
@@ -100,7 +100,7 @@ fn parse_let<'a, 'b>(
     Ok((term, rest))
 }
 
-/// The binder, type and terms of a letrec.
+/// The binder, type and terms of a letrec, behind the keyword, whose span is `first`.
 #[cycle(terms)]
 fn parse_letrec<'a, 'b>(
     alloc: Global,

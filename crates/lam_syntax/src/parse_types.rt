@@ -1,6 +1,6 @@
 //! Reading of types.
 //!
-//! Each function reads its part at the front of the tokens, with one token of foresight, and stops at the first
+//! Each function reads its part at the front of the tokens, with one token of lookahead, and stops at the first
 //! token that fits nowhere.
 ghost use Rattle.std.specs.Prelude.{◌<◌, length, IfOk};
 ghost use Rattle.lam_token.specs.declared.span.Span.{Span as Place};

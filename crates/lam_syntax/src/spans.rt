@@ -1,10 +1,10 @@
-//! Places that join others.
+//! Spans that join others.
 ghost use Rattle.std.specs.Prelude.{◌≡◌};
 ghost use Rattle.lam_syntax.specs.Trees.{from_to};
 
 use lam_token::Span;
 
-/// From the start of one place to the end of another.
+/// From the start of one span to the end of another.
 pub(crate) fn from_to(first: Span, last: Span) -> Span
     ensures { result ≡ from_to first last }
 {

@@ -5,7 +5,7 @@ ghost use Rattle.lam_syntax.specs.declared.stop.Stop.TheVariants.{Memory};
 use lam_token::Token;
 use std::alloc::{AllocError, AllocFailed};
 
-/// The tokens from the first on that fits nowhere, or want of memory.
+/// Why reading stops: at these tokens, the first of which fits nowhere, or because memory ran out.
 #[derive(Drop)]
 pub(crate) enum Stop<'a, 'b> {
     At(&'a [Token<'b>]),

@@ -129,7 +129,7 @@ pub enum Command {
     Evaluation(Tm),
 }
 
-/// The term with the place of the parentheses round it.
+/// The term with the span of the parentheses round it.
 pub(crate) fn spanning(term: Tm, first: Span, last: Span) -> Tm
     ensures { term_of result ≡ spanning_term (from_to first last) (term_of term) }
 {

@@ -11,7 +11,7 @@ use crate::text::Text;
 use lam_token::{Kind, Span, Token};
 use std::alloc::{AllocError, Global};
 
-/// The place of the first token and those behind it, if it is of this kind.
+/// Takes a token of this kind off the front, if there is one: its span, and the tokens after it.
 pub(crate) fn take<'a, 'b>(tokens: &'a [Token<'b>], kind: Kind) -> Option<(Span, &'a [Token<'b>])>
     ensures takes { Takes kind tokens.now result }
 {
@@ -23,7 +23,7 @@ pub(crate) fn take<'a, 'b>(tokens: &'a [Token<'b>], kind: Kind) -> Option<(Span,
     }
 }
 
-/// The same, where another token stops the reading.
+/// Takes a token of this kind off the front; any other token stops the reading.
 pub(crate) fn expect<'a, 'b>(
     tokens: &'a [Token<'b>],
     kind: Kind,
@@ -36,7 +36,7 @@ pub(crate) fn expect<'a, 'b>(
     }
 }
 
-/// The token's text and place.
+/// The token's text and span.
 pub(crate) fn identifier_of(alloc: Global, token: &Token<'_>) -> Result<Identifier, AllocError>
     ensures { IfOk result (λ i. word_of i ≡ word (text_of token.now) (span_of token.now)) }
 {

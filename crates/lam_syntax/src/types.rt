@@ -45,7 +45,7 @@ pub struct TyField {
     pub ty: WrittenTy,
 }
 
-/// The type with the place of the parentheses round it.
+/// The type with the span of the parentheses round it.
 pub(crate) fn spanning(ty: WrittenTy, first: Span, last: Span) -> WrittenTy
     ensures { type_of result ≡ spanning_type (from_to first last) (type_of ty) }
 {

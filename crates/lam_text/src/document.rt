@@ -91,7 +91,7 @@ impl Doc {
         }
     }
 
-    /// Makes these changes in turn, each in what its forerunners made. An error changes nothing.
+    /// Applies the changes in order, each to the text that the one before it left. On an error nothing is changed.
     pub fn apply(&mut self, changes: &[Change]) -> Result<(), AllocError>
         ensures text { OnOk result (self.new.text ≡ text_after self.old.encoding self.old.text changes.now) }
         ensures encoding { self.new.encoding ≡ self.old.encoding }

@@ -1,4 +1,4 @@
-//! The index that a document keeps of its lines: how it is found, read and mended.
+//! The index that a document keeps of its lines: how it is built, read and mended.
 ghost use Rattle.std.specs.Prelude.{◌≡◌, ℕ, ◌+◌, ◌-◌, ◌^◌, ◌<◌, ◌≤◌, ◌++◌, length, take, drop, map, slice_index, nat_lt, ◌==◌, ◌&&◌, if◌then◌else◌, IfOk, IsTrue, All};
 ghost use Rattle.std.specs.List.{prefix_len};
 ghost use Rattle.std.specs.Str.{IsAscii};
@@ -187,8 +187,8 @@ pub(crate) struct Splice {
     pub(crate) inserted: usize,
 }
 
-/// The line that is open at the byte `at`, as far as that byte: only of a line that is not all ASCII its bytes are
-/// looked at.
+/// The line that is open at the byte `at`, as far as that byte. The bytes are looked at only where the line is not all
+/// ASCII.
 fn open_at(marks: &[Mark], text: &[u8], number: usize, at: usize) -> Mark
     requires index { marks.now ≡ index_of text.now }
     requires within { at ≤ length text.now }
@@ -213,7 +213,7 @@ fn first_start(marks: &[Mark], end: usize) -> usize
     }
 }
 
-/// Whether the bytes of a line from `at` on are all ASCII: only of a line that is not all ASCII they are looked at.
+/// Whether the bytes of a line from `at` on are all ASCII. They are looked at only where the line is not all ASCII.
 fn ascii_from(marks: &[Mark], text: &[u8], number: usize, at: usize) -> bool
     requires index { marks.now ≡ index_of text.now }
     requires within { at ≤ length text.now }

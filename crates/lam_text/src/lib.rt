@@ -1,9 +1,9 @@
 //! Texts as an editor counts them: lines, positions in the units that the client chose, and edits.
 //!
 //! A [`Doc`] holds a text and says which byte offset a position means, which position an offset has, and what the
-//! text is after a list of changes. Contracts see a document as its text and its encoding. How it finds its lines
-//! is nobody's affair: it keeps for each line where it starts and whether it is all ASCII, found by `memchr` when
-//! it is opened and mended, not made anew, where a change comes.
+//! text is after a list of changes. Contracts see a document as its text and its encoding. Inside it
+//! keeps, for each line, where it starts and whether it is all ASCII. This index is built with `memchr` when the
+//! document is opened, and only mended by a change.
 //!
 //! Nothing here knows JSON, uris or versions, nor what the text means.
 #![tactic(auto)]

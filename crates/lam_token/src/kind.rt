@@ -49,7 +49,7 @@ pub enum Kind {
     BadComment,
 }
 
-/// What a longest segment of a text is.
+/// What a segment of a text is: white space, a closed comment, or a token.
 #[derive(Clone, Copy)]
 pub enum Segment {
     Blank,

@@ -12,8 +12,8 @@ use crate::scan::next_segment;
 use crate::token::{Token, token_at};
 use std::alloc::{AllocError, Global};
 
-/// The first token of a text, and the text behind it. The text's first byte has the offset `start` in
-/// the source, and the tokens of the source are this one and those behind it.
+/// The first token of a text, and the text behind it. `start` is the byte offset of `text` in the source. The tokens
+/// of `text` are this one and then those of the text behind it.
 pub fn first_token<'a>(text: &'a str, start: usize) -> Option<(Token<'a>, &'a str)>
     requires { start + length text.now < 2 ^ 64 }
     ensures first { IfSome result (λ found. (others : List Lexeme) → AreTokensFrom (end_of found.0) found.1.now others → AreTokensFrom start text.now (found.0 ∷ others)) }

@@ -3,7 +3,9 @@
 //! A text is cut from its start, each time behind the longest front that is white space, a closed
 //! comment or a lexeme. Where there is no such front, an open comment takes all that is left, and any
 //! other character stands alone as a fault. White space and closed comments are dropped; what stays
-//! are the tokens, each with its kind and its place in bytes.
+//! are the tokens, each with its kind and its span in bytes.
+//!
+//! Nothing here knows what tokens make together.
 #![tactic(auto)]
 
 mod characters;

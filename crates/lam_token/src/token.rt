@@ -58,7 +58,7 @@ impl<'a> Token<'a> {
         self.span().end
     }
 
-    /// Its place in the source.
+    /// Its span in the source.
     pub fn span(&self) -> Span
         ensures { result ≡ span_of self.now }
     {

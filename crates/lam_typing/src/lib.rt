@@ -4,6 +4,8 @@
 //! What is promised stands in `specs/Contexts.antt`, `LeastTypes.antt`, `Blaming.antt` and
 //! `Analysis.antt`, over the declarative rules alone. The walk behind it has no rule of subsumption
 //! (TAPL chapter 16) and keeps one type for each binder.
+//!
+//! Nothing here knows names, spans, texts of a document, how subtyping is decided or a join is built.
 #![tactic(auto)]
 
 mod analysing;

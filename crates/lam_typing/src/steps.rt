@@ -258,6 +258,7 @@ pub(crate) fn recorded(
         return Ok(None);
     }
     let number = table.intern(Shape::Record(fields))?;
+    // The types of the table have distinct labels: the rule wants the new one well formed.
     table.types_differ();
     Ok(Some(number))
 }

@@ -61,7 +61,7 @@ impl Typing {
     }
 
     /// A proof by the declarative rules of the least type of a place, in the context of the least entries of the binders
-    /// that it sees; none, where no type was found of it. It speaks of the document that was analysed.
+    /// that it sees; none, where no type was found of it. `resolved` has to be the document that was analysed.
     pub fn prove_at(
         &self,
         alloc: Global,

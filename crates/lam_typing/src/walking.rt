@@ -50,7 +50,7 @@ impl<T: Drop> From<AllocFailed<T>> for Stop {
     }
 }
 
-/// The types without parts.
+/// The numbers of Bool, Nat and Unit, the types of constants and numerals.
 #[derive(Clone, Copy)]
 pub(crate) struct Leaves {
     pub boolean: TyNo,
