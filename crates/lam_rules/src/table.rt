@@ -256,7 +256,7 @@ impl TyTable {
         ensures wf { (i : ℕ) → i < length self.now → IsWellFormed (type_at self.now i) }
         ensures differ { (i j : ℕ) → i < length self.now → j < length self.now → type_at self.now i ≡ type_at self.now j → i ≡ j }
     {
-        // The proof learns it where a field is used.
+        // No two entries are one type, and the proof learns it where a field is used.
         let _entries = &self.entries;
     }
 
