@@ -2,8 +2,8 @@
 use Rattle.std.proofs.Common.{◌≡◌, ℕ, ◌+◌, ◌≤◌, List, [], ◌∷◌, Bool, true, false, cond, Some, length, arith, sym, subst, inl, inr}
 use Rattle.std.specs.Prelude.{filter, encode_utf8_all}
 use Rattle.lam_token.specs.declared.kind.Kind.{Kind}
-use Rattle.lam_token.specs.declared.kind.Segment.{Segment}
-use Rattle.lam_token.specs.declared.kind.Segment.TheVariants.{Blank, Comment, Token}
+use Rattle.lam_token.specs.declared.segment.Segment.{Segment}
+use Rattle.lam_token.specs.declared.segment.Segment.TheVariants.{Blank, Comment, Token}
 use Rattle.lam_token.specs.declared.span.Span.{Span}
 use Rattle.lam_token.specs.Lexeme.{Lexeme, lexeme}
 use Rattle.lam_token.specs.Cut.{Part, with_token, tokens_of, AreTokensOf}

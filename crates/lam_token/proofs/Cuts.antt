@@ -11,10 +11,10 @@ use Rattle.std.proofs.lemmas.Str.{encodes-append, encodes-chars, chars-nil, leng
 use Rattle.std.proofs.Math.Seq.{take-append_seam, drop-append_seam}
 use Rattle.lam_token.specs.declared.kind.Kind.{Kind}
 use Rattle.lam_token.specs.declared.kind.Kind.TheVariants.{Name, TypeName, BadCharacter, BadComment}
-use Rattle.lam_token.specs.declared.kind.Segment.{Segment}
-use Rattle.lam_token.specs.declared.kind.Segment.TheVariants.{Blank, Comment, Token}
-use Rattle.lam_token.specs.declared.kind.Beginning.{Beginning}
-use Rattle.lam_token.specs.declared.kind.Beginning.TheVariants as begin
+use Rattle.lam_token.specs.declared.segment.Segment.{Segment}
+use Rattle.lam_token.specs.declared.segment.Segment.TheVariants.{Blank, Comment, Token}
+use Rattle.lam_token.specs.declared.segment.Beginning.{Beginning}
+use Rattle.lam_token.specs.declared.segment.Beginning.TheVariants as begin
 use Rattle.lam_token.specs.Lexeme.{Lexeme, lexeme_at, text_of, start_of, end_of}
 use Rattle.lam_token.specs.Shape.{beginning_of, shape_of, opened, opens_comment}
 use Rattle.lam_token.specs.Reading.{SegmentIs}

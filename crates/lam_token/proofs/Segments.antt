@@ -6,10 +6,10 @@ use Rattle.std.specs.List.{list_all}
 use Rattle.std.proofs.lemmas.Str.{chars-nil}
 use Rattle.lam_token.specs.declared.kind.Kind.{Kind}
 use Rattle.lam_token.specs.declared.kind.Kind.TheVariants.{Name, Numeral, Underscore, Arrow, BadCharacter, BadComment}
-use Rattle.lam_token.specs.declared.kind.Segment.{Segment}
-use Rattle.lam_token.specs.declared.kind.Segment.TheVariants.{Blank, Comment, Token}
-use Rattle.lam_token.specs.declared.kind.Beginning.{Beginning}
-use Rattle.lam_token.specs.declared.kind.Beginning.TheVariants as begin
+use Rattle.lam_token.specs.declared.segment.Segment.{Segment}
+use Rattle.lam_token.specs.declared.segment.Segment.TheVariants.{Blank, Comment, Token}
+use Rattle.lam_token.specs.declared.segment.Beginning.{Beginning}
+use Rattle.lam_token.specs.declared.segment.Beginning.TheVariants as begin
 use Rattle.lam_token.specs.Shape.{is_digit, is_continuing, beginning_of, rest_of_comment, alone, closed_at_end, begun, shape_of, opened, opens_comment}
 use Rattle.lam_token.specs.Words.{word_kind}
 use Rattle.lam_token.specs.Cut.{NothingBegins, NothingLonger, longest, unclosed, stray}

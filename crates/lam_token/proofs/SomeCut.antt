@@ -4,8 +4,8 @@ use Rattle.std.proofs.lemmas.Bool.{cases_order}
 use Rattle.std.proofs.lemmas.List.{append-nil}
 use Rattle.std.proofs.Math.Seq.{take-append_seam}
 use Rattle.lam_token.specs.declared.kind.Kind.TheVariants.{BadCharacter, BadComment}
-use Rattle.lam_token.specs.declared.kind.Segment.{Segment}
-use Rattle.lam_token.specs.declared.kind.Segment.TheVariants.{Token}
+use Rattle.lam_token.specs.declared.segment.Segment.{Segment}
+use Rattle.lam_token.specs.declared.segment.Segment.TheVariants.{Token}
 use Rattle.lam_token.specs.Shape.{shape_of, opens_comment}
 use Rattle.std.specs.Str.{chars}
 use Rattle.lam_token.specs.Lexeme.{Lexeme, end_of}

@@ -3,8 +3,8 @@ use Rattle.std.specs.Prelude.{◌≡◌, ℕ, ◌+◌, ◌<◌, true, false, Opt
 use Rattle.std.specs.Str.{chars, IsCharBoundary}
 use Rattle.lam_token.specs.declared.kind.Kind.{Kind}
 use Rattle.lam_token.specs.declared.kind.Kind.TheVariants.{BadCharacter, BadComment}
-use Rattle.lam_token.specs.declared.kind.Segment.{Segment}
-use Rattle.lam_token.specs.declared.kind.Segment.TheVariants.{Blank, Comment, Token}
+use Rattle.lam_token.specs.declared.segment.Segment.{Segment}
+use Rattle.lam_token.specs.declared.segment.Segment.TheVariants.{Blank, Comment, Token}
 use Rattle.lam_token.specs.Lexeme.{Lexeme, kind_of, text_of, lexeme_at, start_of, end_of}
 use Rattle.lam_token.specs.Shape.{shape_of, opens_comment}
 

@@ -3,10 +3,10 @@ use Rattle.std.specs.Prelude.{ℕ, ◌+◌, ◌-◌, Bool, false, ◌&&◌, ◌|
 use Rattle.std.specs.List.{list_all}
 use Rattle.unicode_ident.specs.Ident.{is_xid_start, is_xid_continue}
 use Rattle.lam_token.specs.declared.kind.Kind.TheVariants.{Name, Numeral, Semicolon, Equals, Colon, Dot, Comma, OpenParen, CloseParen, OpenBrace, CloseBrace, Arrow, Underscore}
-use Rattle.lam_token.specs.declared.kind.Segment.{Segment}
-use Rattle.lam_token.specs.declared.kind.Segment.TheVariants as segment
-use Rattle.lam_token.specs.declared.kind.Beginning.{Beginning}
-use Rattle.lam_token.specs.declared.kind.Beginning.TheVariants as first
+use Rattle.lam_token.specs.declared.segment.Segment.{Segment}
+use Rattle.lam_token.specs.declared.segment.Segment.TheVariants as segment
+use Rattle.lam_token.specs.declared.segment.Beginning.{Beginning}
+use Rattle.lam_token.specs.declared.segment.Beginning.TheVariants as first
 use Rattle.lam_token.specs.Words.{word_kind}
 
 -- space, tab, line feed, carriage return

@@ -5,7 +5,8 @@ ghost use Rattle.lam_token.specs.Shape.{is_blank, is_digit, is_continuing, is_op
 ghost use Rattle.lam_token.specs.Reading.{FirstIs};
 ghost use Rattle.unicode_ident.specs.Ident.{is_xid_start, is_xid_continue};
 
-use crate::kind::{Beginning, Kind};
+use crate::kind::Kind;
+use crate::segment::Beginning;
 
 /// The first character, and the text behind it.
 pub(crate) fn split_first(text: &str) -> Option<(char, &str)>

@@ -48,24 +48,3 @@ pub enum Kind {
     /// A comment that is not closed, up to the end of the text.
     BadComment,
 }
-
-/// What a segment of a text is: white space, a closed comment, or a token.
-#[derive(Clone, Copy)]
-pub enum Segment {
-    Blank,
-    Comment,
-    Token(Kind),
-}
-
-/// What a segment is, so far as its first character tells.
-#[derive(Clone, Copy)]
-pub(crate) enum Beginning {
-    Blank,
-    Slash,
-    Digit,
-    Letter,
-    Underscore,
-    Dash,
-    Mark(Kind),
-    Stray,
-}

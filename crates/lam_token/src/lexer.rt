@@ -1,14 +1,12 @@
 //! A text's tokens.
-ghost use Rattle.std.specs.Prelude.{◌≡◌, ◌↔◌, ◌+◌, ◌-◌, ◌<◌, ◌^◌, List, [], ◌∷◌, length, drop, Some, IfOk, IfSome, IfNone, IsTrue, All, map};
+ghost use Rattle.std.specs.Prelude.{◌≡◌, ◌+◌, ◌-◌, ◌<◌, ◌^◌, List, [], ◌∷◌, length, drop, Some, IfOk, IfSome, IfNone, All, map};
 ghost use Rattle.std.specs.List.{slice_range};
 ghost use Rattle.std.specs.List.Sorted.{IsStrictlyIncreasing};
-ghost use Rattle.std.specs.Str.{chars};
 ghost use Rattle.lam_token.specs.Lexeme.{Lexeme, text_of, start_of, end_of};
-ghost use Rattle.lam_token.specs.Shape.{shape_of};
-ghost use Rattle.lam_token.specs.Cut.{AreTokensFrom, AreTokensOf, StandsIn, IsWholeKind};
+ghost use Rattle.lam_token.specs.Cut.{AreTokensFrom, AreTokensOf, StandsIn};
 
-use crate::kind::{Kind, Segment};
 use crate::scan::next_segment;
+use crate::segment::Segment;
 use crate::token::{Token, token_at};
 use std::alloc::{AllocError, Global};
 
@@ -52,39 +50,4 @@ pub fn lex<'a>(alloc: Global, text: &'a str) -> Result<Vec<Token<'a>>, AllocErro
         tokens.push(token)?;
     }
     Ok(tokens)
-}
-
-/// The kind of a text that is one segment, where that is a token.
-fn whole_kind(text: &str) -> Option<Kind>
-    ensures { IsWholeKind (chars text.now) result }
-{
-    let (segment, after) = next_segment(text)?;
-    if !after.is_empty() {
-        return None;
-    }
-    match segment {
-        Segment::Token(kind) => Some(kind),
-        Segment::Blank => None,
-        Segment::Comment => None,
-    }
-}
-
-/// Whether a whole text is one name: neither a word of the language, nor anything more or less.
-pub fn is_name(text: &str) -> bool
-    ensures { IsTrue result ↔ (shape_of (chars text.now) ≡ Some (Segment.Token Kind.Name)) }
-{
-    match whole_kind(text) {
-        Some(kind) => matches!(kind, Kind::Name),
-        None => false,
-    }
-}
-
-/// Whether a whole text is one type name.
-pub fn is_type_name(text: &str) -> bool
-    ensures { IsTrue result ↔ (shape_of (chars text.now) ≡ Some (Segment.Token Kind.TypeName)) }
-{
-    match whole_kind(text) {
-        Some(kind) => matches!(kind, Kind::TypeName),
-        None => false,
-    }
 }

@@ -12,7 +12,9 @@ mod characters;
 mod kind;
 mod laws;
 mod lexer;
+mod names;
 mod scan;
+mod segment;
 mod span;
 #[cfg(test)]
 mod tests;
@@ -21,6 +23,7 @@ mod words;
 
 pub use kind::Kind;
 pub use laws::{comments_nest, some_cut};
-pub use lexer::{first_token, is_name, is_type_name, lex};
+pub use lexer::{first_token, lex};
+pub use names::{is_name, is_type_name};
 pub use span::Span;
 pub use token::Token;

@@ -1,6 +1,5 @@
 //! The first segment of a text.
 ghost use Rattle.std.specs.Prelude.{◌≡◌, [], MatchOption};
-ghost use Rattle.std.specs.Str.{chars};
 ghost use Rattle.std.specs.Option.{option_copied};
 ghost use Rattle.lam_token.specs.Shape.{is_digit, is_continuing, beginning_of};
 ghost use Rattle.lam_token.specs.Reading.{FirstIs, RunIs, IsBehind, SegmentIs};
@@ -8,7 +7,8 @@ ghost use Rattle.lam_token.specs.Reading.{FirstIs, RunIs, IsBehind, SegmentIs};
 use crate::characters::{
     beginning_of, is_closing, is_continuing, is_digit, is_opening, split_first,
 };
-use crate::kind::{Beginning, Kind, Segment};
+use crate::kind::Kind;
+use crate::segment::{Beginning, Segment};
 use crate::words::word_kind;
 
 /// The text behind the longest run of characters that an identifier may go on with.

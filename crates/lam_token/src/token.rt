@@ -13,7 +13,7 @@ use std::marker::Model;
 pub struct Token<'a> {
     kind: Kind,
     text: &'a str,
-    place: Span,
+    span: Span,
 }
 
 impl<'a> Model for Token<'a> {
@@ -22,9 +22,9 @@ impl<'a> Model for Token<'a> {
 
     ghost Value = { Lexeme };
 
-    ghost view = { λ t. lexeme t.kind t.text.now t.place };
+    ghost view = { λ t. lexeme t.kind t.text.now t.span };
 
-    ghost invariant = { λ t. IsToken (lexeme t.kind t.text.now t.place) };
+    ghost invariant = { λ t. IsToken (lexeme t.kind t.text.now t.span) };
 }
 
 impl<'a> Token<'a> {
@@ -62,7 +62,7 @@ impl<'a> Token<'a> {
     pub fn span(&self) -> Span
         ensures { result ≡ span_of self.now }
     {
-        self.place
+        self.span
     }
 }
 
@@ -76,6 +76,6 @@ pub(crate) fn token_at<'a>(kind: Kind, text: &'a str, start: usize) -> Token<'a>
     Token {
         kind,
         text,
-        place: Span { start, end },
+        span: Span { start, end },
     }
 }

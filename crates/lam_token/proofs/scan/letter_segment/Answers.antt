@@ -1,5 +1,5 @@
 use Rattle.std.proofs.Common.{sym, ◌∙◌, ap, subst}
-use Rattle.lam_token.specs.declared.kind.Segment.TheVariants.{Token}
+use Rattle.lam_token.specs.declared.segment.Segment.TheVariants.{Token}
 use Rattle.lam_token.specs.Words.{word_kind}
 use Rattle.lam_token.specs.Reading.{SegmentIs}
 use Rattle.lam_token.proofs.Reading.{front_behind, cut_behind, take_front}

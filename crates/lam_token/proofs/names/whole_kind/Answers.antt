@@ -2,7 +2,7 @@ use Rattle.std.proofs.Common.{sym, subst}
 use Rattle.std.specs.Str.{chars}
 use Rattle.lam_token.specs.Cut.{IsWholeKind}
 use Rattle.lam_token.proofs.Cuts.{empty_is_none, more_is_none, all_is_first}
-use Rattle.lam_token.proofs.lexer.whole_kind.Goals as goal
+use Rattle.lam_token.proofs.names.whole_kind.Goals as goal
 
 pub returns-in_err-segment : goal.returns-in_err-segment
 returns-in_err-segment c =

@@ -1,0 +1,44 @@
+//! Whether a text is one name by itself.
+ghost use Rattle.std.specs.Prelude.{◌≡◌, ◌↔◌, Some, IsTrue};
+ghost use Rattle.std.specs.Str.{chars};
+ghost use Rattle.lam_token.specs.Shape.{shape_of};
+ghost use Rattle.lam_token.specs.Cut.{IsWholeKind};
+
+use crate::kind::Kind;
+use crate::scan::next_segment;
+use crate::segment::Segment;
+
+/// Whether a whole text is one name: neither a word of the language, nor anything more or less.
+pub fn is_name(text: &str) -> bool
+    ensures { IsTrue result ↔ (shape_of (chars text.now) ≡ Some (Segment.Token Kind.Name)) }
+{
+    match whole_kind(text) {
+        Some(kind) => matches!(kind, Kind::Name),
+        None => false,
+    }
+}
+
+/// Whether a whole text is one type name.
+pub fn is_type_name(text: &str) -> bool
+    ensures { IsTrue result ↔ (shape_of (chars text.now) ≡ Some (Segment.Token Kind.TypeName)) }
+{
+    match whole_kind(text) {
+        Some(kind) => matches!(kind, Kind::TypeName),
+        None => false,
+    }
+}
+
+/// The kind of a text that is one segment, where that is a token.
+fn whole_kind(text: &str) -> Option<Kind>
+    ensures { IsWholeKind (chars text.now) result }
+{
+    let (segment, after) = next_segment(text)?;
+    if !after.is_empty() {
+        return None;
+    }
+    match segment {
+        Segment::Token(kind) => Some(kind),
+        Segment::Blank => None,
+        Segment::Comment => None,
+    }
+}
