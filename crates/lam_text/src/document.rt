@@ -1,13 +1,14 @@
 //! An open document.
-ghost use Rattle.std.specs.Prelude.{◌≡◌, ◌≤◌, ◌++◌, length, take, drop, IfOk, OnOk, OnErr};
+ghost use Rattle.std.specs.Prelude.{◌≡◌, ◌≤◌, ◌++◌, take, drop, IfOk, OnOk, OnErr};
 ghost use Rattle.std.specs.Str.{IsCharBoundary};
 ghost use Rattle.std.specs.String.{string_bytes};
 ghost use Rattle.lam_text.specs.Positions.{offset_of, position_of};
 ghost use Rattle.lam_text.specs.Edits.{edited, text_after};
 
 use crate::changes::Change;
-use crate::index::{Mark, Splice, content, front_len, index_of, line_at, mended, units};
+use crate::index::{Mark, content, front_len, index_of, line_at, units};
 use crate::places::Position;
+use crate::splice::{Splice, mended};
 use crate::units::Encoding;
 use std::alloc::{AllocError, Global};
 use std::marker::Model;

@@ -1,6 +1,6 @@
 //! What is true of lines, positions and edits for every text, beside what the calls of a [`Doc`](crate::Doc) answer.
 //! Each law is the contract of a function that does nothing.
-ghost use Rattle.std.specs.Prelude.{◌≡◌, ℕ, Some, nat_le, count_by};
+ghost use Rattle.std.specs.Prelude.{◌≡◌, Some, nat_le, count_by};
 ghost use Rattle.std.specs.Str.{IsCharBoundary, chars};
 ghost use Rattle.lam_text.specs.Units.{front_within};
 ghost use Rattle.lam_text.specs.Lines.{Lines, IsCutOf, lines_of};
@@ -8,7 +8,7 @@ ghost use Rattle.lam_text.specs.Positions.{offset_of, position_of, IsInsideCrLf}
 ghost use Rattle.lam_text.specs.Edits.{edited_in};
 ghost use Rattle.lam_text.specs.Laws.{IsLongestFront, line_ends};
 
-use crate::places::{Position, Range};
+use crate::places::Position;
 use crate::units::Encoding;
 
 /// A text is in one way a list of lines with their ends and a last line.

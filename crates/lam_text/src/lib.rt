@@ -13,6 +13,7 @@ mod document;
 mod index;
 mod laws;
 mod places;
+mod splice;
 mod units;
 
 pub use changes::Change;

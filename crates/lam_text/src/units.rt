@@ -14,7 +14,7 @@ pub enum Encoding {
 }
 
 /// How many units a character takes.
-pub(crate) fn units_of(encoding: Encoding, c: char) -> u64
+fn units_of(encoding: Encoding, c: char) -> u64
     ensures { result ≡ units_of encoding c }
 {
     match encoding {

@@ -3,8 +3,8 @@ use Rattle.lam_text.specs.Lines.{lines_of}
 use Rattle.lam_text.specs.Splice.{first_start}
 use Rattle.lam_text.proofs.Marks.{later_on}
 use Rattle.lam_text.proofs.Splices.{first_ascii-mark, later-read, first_start-bounds, first_ascii-stop}
-use Rattle.lam_text.proofs.index.ascii_from.Goals as goal
-use Rattle.lam_text.proofs.index.ascii_from.Goals.{After-first_start-end}
+use Rattle.lam_text.proofs.splice.ascii_from.Goals as goal
+use Rattle.lam_text.proofs.splice.ascii_from.Goals.{After-first_start-end}
 
 stop : (c : After-first_start-end) → c.first_start-end.result ≡ first_start (later_on c.args.at (lines_of (drop c.args.at c.args.text.now))) (length c.args.text.now)
 stop c =

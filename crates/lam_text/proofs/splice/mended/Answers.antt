@@ -1,7 +1,7 @@
 use Rattle.std.proofs.Common.{◌<◌, ◌+◌, ◌^◌, length, arith}
 use Rattle.std.proofs.lemmas.List.{take_rest}
 use Rattle.lam_text.proofs.Splices.{moved-bounds, mended-steps}
-use Rattle.lam_text.proofs.index.mended.Goals as goal
+use Rattle.lam_text.proofs.splice.mended.Goals as goal
 
 pub push_moved-requires : goal.push_moved-requires
 push_moved-requires c =

@@ -1,5 +1,5 @@
 use Rattle.lam_text.proofs.Splices.{read-start, open_at-ascii_mark, open_at-read}
-use Rattle.lam_text.proofs.index.open_at.Goals as goal
+use Rattle.lam_text.proofs.splice.open_at.Goals as goal
 
 pub is_ascii_between-requires : goal.is_ascii_between-requires
 is_ascii_between-requires c =
