@@ -73,7 +73,7 @@ pub(crate) fn owned_fields(
 ) -> Result<Vec<(String, TyNo)>, AllocError>
     ensures { IfOk result (λ items. AreCopies items.items fields.now) }
 {
-    let mut items = Vec::new(alloc);
+    let mut items = Vec::with_capacity(alloc, fields.len())?;
     for i in 0..fields.len() {
         let field = &fields[i];
         let label = String::from_str(alloc, field.0)?;
@@ -105,7 +105,7 @@ fn copy_of_numbers(
 ) -> Result<Vec<(String, TyNo)>, AllocError>
     ensures { IfOk result (λ copies. AreSame copies.items fields.now) }
 {
-    let mut copies = Vec::new(alloc);
+    let mut copies = Vec::with_capacity(alloc, fields.len())?;
     for i in 0..fields.len() {
         let field = &fields[i];
         let label = field.0.clone()?;

@@ -1,10 +1,10 @@
 //! Proof trees of subtyping, and their checker.
 
-ghost use Rattle.std.specs.Prelude.{◌≡◌, ◌↔◌, [], ◌∷◌, IsTrue};
+ghost use Rattle.std.specs.Prelude.{◌↔◌, IsTrue};
 ghost use Rattle.lam_rules.specs.Types.{IsWellFormed, AreWellFormed, Includes};
 ghost use Rattle.lam_rules.specs.TypeViews.{typ_of, fields_of};
 ghost use Rattle.lam_rules.specs.Subtyping.{BySubRule, BeginsWith, GoesFieldByField, IsPermutation, IsRuleOf, IsSubProof, AreSubProofs};
-ghost use Rattle.lam_rules.specs.SubViews.{claim_of, claims_of, sub_tree_of, sub_trees_of};
+ghost use Rattle.lam_rules.specs.SubViews.{claims_of, sub_tree_of, sub_trees_of};
 
 use crate::rules::{Dialect, SubRule};
 use crate::types::{Ty, has_field, same, wf};

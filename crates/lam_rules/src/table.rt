@@ -193,7 +193,7 @@ impl TyTable {
         ensures over { IfOk result (λ items. AreEarlier (length self.new) items.items) }
         ensures fields { IfOk result (λ items. fields_over self.new items.items ≡ fields_of fields.now) }
     {
-        let mut items = Vec::new(self.alloc);
+        let mut items = Vec::with_capacity(self.alloc, fields.len())?;
         for i in 0..fields.len() {
             let field = &fields[i];
             let number = self.add(&field.1)?;
@@ -232,7 +232,7 @@ impl TyTable {
         requires { AreEarlier (length self.now) fields.now }
         ensures { IfOk result (λ items. fields_of items.items ≡ fields_over self.now fields.now) }
     {
-        let mut items = Vec::new(self.alloc);
+        let mut items = Vec::with_capacity(self.alloc, fields.len())?;
         for i in 0..fields.len() {
             let field = &fields[i];
             let label = field.0.clone()?;
@@ -400,7 +400,7 @@ impl TyTable {
         ensures over { IfOk result (λ made. AreEarlier (length self.now) made.items) }
         ensures sorted { IfOk result (λ made. fields_over self.now made.items ≡ sorted_fields (fields_over self.now fields.now)) }
     {
-        let mut made = Vec::new(self.alloc);
+        let mut made = Vec::with_capacity(self.alloc, fields.len())?;
         for i in 0..fields.len() {
             let field = &fields[i];
             let label = field.0.clone()?;

@@ -7,7 +7,7 @@ use crate::tests::pair;
 use crate::{
     Shape, Ty, TyNo, TyTable, labels_differ, make_arrow, make_record, number_under, same, wf,
 };
-use std::alloc::{AllocError, Global};
+use std::alloc::AllocError;
 use std::process::Abort;
 use std::test::Fail;
 
@@ -75,7 +75,7 @@ fn check_turned(
 }
 
 #[test]
-#[tactic(auto, using(crate::proofs::Tables::numbers))]
+#[tactic(auto, using(crate::proofs::Tables::still_standing))]
 fn doubles_a_type_forty_times(rt: HostRuntime) -> Result<(), Fail> {
     let alloc = rt.alloc();
     let mut table = TyTable::new(alloc);
@@ -124,7 +124,7 @@ fn check_record(rt: &impl Abort, table: &TyTable, both: TyNo, first: TyNo, secon
 }
 
 #[test]
-#[tactic(auto, using(crate::proofs::Tables::numbers))]
+#[tactic(auto, using(crate::proofs::Tables::still_standing))]
 fn reads_the_outermost_form(rt: HostRuntime) -> Result<(), Fail> {
     let alloc = rt.alloc();
     let mut table = TyTable::new(alloc);
@@ -138,7 +138,7 @@ fn reads_the_outermost_form(rt: HostRuntime) -> Result<(), Fail> {
 }
 
 /// Arrows from types that are the same are the same, and others are not.
-#[tactic(auto, using(crate::proofs::Tables::numbers))]
+#[tactic(auto, using(crate::proofs::Tables::still_standing))]
 fn check_arrows(
     rt: &impl Abort,
     table: &mut TyTable,
@@ -159,7 +159,7 @@ fn check_arrows(
 }
 
 #[test]
-#[tactic(auto, using(crate::proofs::Tables::numbers))]
+#[tactic(auto, using(crate::proofs::Tables::still_standing))]
 fn tells_types_apart(rt: HostRuntime) -> Result<(), Fail> {
     let alloc = rt.alloc();
     let mut table = TyTable::new(alloc);

@@ -8,7 +8,7 @@ ghost use Rattle.lam_rules.specs.Sorting.{IsSortedForm};
 ghost use Rattle.lam_rules.specs.TypeViews.{typ_of, fields_of};
 
 use crate::sorting::sort_by_label;
-use crate::types::{Fields, Ty};
+use crate::types::{Ty, make_arrow, make_record};
 use std::alloc::{AllocError, Global};
 
 /// The text of a type with the fields of each record in their own order, as `{b:Bool, a:Nat}`.
@@ -98,7 +98,7 @@ pub fn text_of(alloc: Global, ty: &Ty) -> Result<String, AllocError>
 /// label keep their places.
 #[cycle(sorted)]
 #[tactic(auto, using(crate::proofs::TypeShapes::shapes))]
-pub(crate) fn sorted_of(alloc: Global, ty: &Ty) -> Result<Ty, AllocError>
+fn sorted_of(alloc: Global, ty: &Ty) -> Result<Ty, AllocError>
     ensures { IfOk result (λ made. typ_of made ≡ sorted (typ_of ty.now)) }
 {
     match ty {
@@ -109,14 +109,11 @@ pub(crate) fn sorted_of(alloc: Global, ty: &Ty) -> Result<Ty, AllocError>
         Ty::Arrow(parameter, outcome) => {
             let sorted_parameter = sorted_of(alloc, parameter)?;
             let sorted_outcome = sorted_of(alloc, outcome)?;
-            Ok(Ty::Arrow(
-                Box::new(alloc, sorted_parameter)?,
-                Box::new(alloc, sorted_outcome)?,
-            ))
+            make_arrow(alloc, sorted_parameter, sorted_outcome)
         }
         Ty::Record(fields) => {
             let items = sorted_fields_of(alloc, &fields.items)?;
-            Ok(Ty::Record(Fields { items }))
+            Ok(make_record(items))
         }
     }
 }
@@ -126,7 +123,7 @@ pub(crate) fn sorted_of(alloc: Global, ty: &Ty) -> Result<Ty, AllocError>
 fn sorted_fields_of(alloc: Global, fields: &[(String, Ty)]) -> Result<Vec<(String, Ty)>, AllocError>
     ensures { IfOk result (λ made. fields_of made.items ≡ sorted_fields (fields_of fields.now)) }
 {
-    let mut made = Vec::new(alloc);
+    let mut made = Vec::with_capacity(alloc, fields.len())?;
     for i in 0..fields.len() {
         let field = &fields[i];
         let label = field.0.clone()?;

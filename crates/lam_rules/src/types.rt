@@ -1,6 +1,6 @@
 //! Types, and what is read off one type alone.
 
-ghost use Rattle.std.specs.Prelude.{◌≡◌, ◌↔◌, ◌≤◌, ℕ, min, IsTrue, IfOk};
+ghost use Rattle.std.specs.Prelude.{◌≡◌, ◌↔◌, min, IsTrue, IfOk};
 ghost use Rattle.lam_rules.specs.Types.{IsWellFormed, AreWellFormed, IsAbsent, Has, nodes, nodes_in, arrow, record_of};
 ghost use Rattle.lam_rules.specs.TypeViews.{typ_of, fields_of};
 
@@ -81,7 +81,7 @@ fn wf_fields(fields: &[(String, Ty)]) -> bool
 
 /// Whether no field has this label.
 #[tactic(auto, using(crate::proofs::TypeShapes::shapes))]
-pub(crate) fn is_absent(label: &str, fields: &[(String, Ty)]) -> bool
+fn is_absent(label: &str, fields: &[(String, Ty)]) -> bool
     ensures { IsTrue result ↔ IsAbsent label.now (fields_of fields.now) }
 {
     for field in fields {
@@ -205,14 +205,11 @@ pub fn copy_of(alloc: Global, ty: &Ty) -> Result<Ty, AllocError>
         Ty::Arrow(parameter, outcome) => {
             let parameter_copy = copy_of(alloc, parameter)?;
             let outcome_copy = copy_of(alloc, outcome)?;
-            Ok(Ty::Arrow(
-                Box::new(alloc, parameter_copy)?,
-                Box::new(alloc, outcome_copy)?,
-            ))
+            make_arrow(alloc, parameter_copy, outcome_copy)
         }
         Ty::Record(fields) => {
             let items = copy_of_fields(alloc, &fields.items)?;
-            Ok(Ty::Record(Fields { items }))
+            Ok(make_record(items))
         }
     }
 }
@@ -226,7 +223,7 @@ pub fn copy_of_fields(
 ) -> Result<Vec<(String, Ty)>, AllocError>
     ensures { IfOk result (λ copies. fields_of copies.items ≡ fields_of fields.now) }
 {
-    let mut copies = Vec::new(alloc);
+    let mut copies = Vec::with_capacity(alloc, fields.len())?;
     for i in 0..fields.len() {
         let field = &fields[i];
         let label = field.0.clone()?;

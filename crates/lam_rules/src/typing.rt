@@ -1,6 +1,6 @@
 //! Proof trees of typing, and their checker.
 
-ghost use Rattle.std.specs.Prelude.{◌≡◌, ◌↔◌, IsTrue, ◌∷◌, Option, Some, None};
+ghost use Rattle.std.specs.Prelude.{◌↔◌, IsTrue, ◌∷◌, Option, Some, None};
 ghost use Rattle.lam_rules.specs.Types.{IsWellFormed, record_of};
 ghost use Rattle.lam_rules.specs.TypeViews.{typ_of, fields_of};
 ghost use Rattle.lam_rules.specs.Terms.{record_term};
