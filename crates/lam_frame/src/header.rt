@@ -117,10 +117,10 @@ fn plain_length(bytes: &[u8]) -> usize
     ensures length { result ≡ prefix_len is_plain bytes.now }
     ensures within { result ≤ length bytes.now }
 {
-    bytes.iter().take_while(|byte| is_line_byte(**byte)).count()
+    bytes.iter().take_while(|byte| is_plain(**byte)).count()
 }
 
-fn is_line_byte(byte: u8) -> bool
+fn is_plain(byte: u8) -> bool
     ensures { result ≡ is_plain byte }
 {
     byte.is_ascii() && !matches!(byte, b'\r' | b'\n')
@@ -184,7 +184,7 @@ fn without_blanks_in_front(value: &[u8]) -> &[u8]
 {
     let mut rest = value;
     while let Some((first, after)) = rest.split_first() {
-        if !is_space_or_tab(*first) {
+        if !is_blank(*first) {
             return rest;
         }
         rest = after;
@@ -198,7 +198,7 @@ fn without_blanks_behind(value: &[u8]) -> &[u8]
 {
     let mut rest = value;
     while let Some((last, before)) = rest.split_last() {
-        if !is_space_or_tab(*last) {
+        if !is_blank(*last) {
             return rest;
         }
         rest = before;
@@ -206,7 +206,7 @@ fn without_blanks_behind(value: &[u8]) -> &[u8]
     rest
 }
 
-fn is_space_or_tab(byte: u8) -> bool
+fn is_blank(byte: u8) -> bool
     ensures { result ≡ is_blank byte }
 {
     matches!(byte, b' ' | b'\t')
@@ -215,7 +215,7 @@ fn is_space_or_tab(byte: u8) -> bool
 fn length_of(value: &[u8]) -> Result<u64, FrameFault>
     ensures { result ≡ length_in value.now }
 {
-    if !is_numeral(value) {
+    if !is_number(value) {
         return Err(FrameFault::BadLength);
     }
     let length = number(value);
@@ -226,7 +226,7 @@ fn length_of(value: &[u8]) -> Result<u64, FrameFault>
 }
 
 /// One digit or more, and too few to pass 2^64.
-fn is_numeral(value: &[u8]) -> bool
+fn is_number(value: &[u8]) -> bool
     ensures { result ≡ is_number value.now }
 {
     if value.is_empty() || value.len() > DIGITS_LIMIT {

@@ -7,7 +7,6 @@ use crate::{
 use std::alloc::Global;
 use std::io;
 use std::io::{ErrorKind, Read, Write};
-use std::process::Abort;
 use std::test::Fail;
 
 /// Gives at most `step` bytes at a time, and tells counts alone.

@@ -3,6 +3,7 @@ ghost use Rattle.std.specs.Prelude.{◌≡◌, IfOk, codes, unwrap_or};
 ghost use Rattle.serde_json.specs.Data.{null};
 ghost use Rattle.serde_json.specs.Find.{get};
 ghost use Rattle.serde_json.specs.View.{view};
+ghost use Rattle.lam_rpc.specs.Kind.{message_of, kind_of, is_id, is_reply, IsKindOf, HasPlainId};
 
 use serde_json::Value;
 use std::alloc::{AllocError, Global};
@@ -28,8 +29,6 @@ pub enum Incoming {
     /// A JSON text that is no message.
     Invalid,
 }
-
-ghost use Rattle.lam_rpc.specs.Kind.{message_of, kind_of, is_id, is_reply, IsKindOf, HasPlainId};
 
 /// Says what a body is.
 ///

@@ -7,7 +7,7 @@ ghost use Rattle.lam_rpc.specs.Fields.{number_at, text_at, position_of, position
 
 use lam_text::{Change, Position, Range};
 use serde_json::Value;
-use std::alloc::{AllocError, Global};
+use std::alloc::Global;
 
 /// A field is missing, or has another shape.
 #[derive(Clone, Copy, Debug, PartialEq, Eq)]

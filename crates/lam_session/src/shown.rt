@@ -1,7 +1,6 @@
 //! Types and derivations as a client is told them (LSP 3.17, `Hover`).
-ghost use Rattle.std.specs.Prelude.{◌≡◌, Some, List, map, option_map, All, IfOk, IfSome};
-ghost use Rattle.serde_json.specs.View.{view, items_of};
-ghost use Rattle.serde_json.specs.Data.{array};
+ghost use Rattle.std.specs.Prelude.{◌≡◌, Some, map, option_map, All, IfOk, IfSome};
+ghost use Rattle.serde_json.specs.View.{view};
 ghost use Rattle.lam_rules.specs.TermViews.{written_of};
 ghost use Rattle.lam_query.specs.Views.{shown_of, entry_of, step_of, derivation_of, StepStandsIn};
 ghost use Rattle.lam_query.specs.Within.{StandsIn};

@@ -1,6 +1,6 @@
 //! Proofs that one type is below another.
 
-ghost use Rattle.std.specs.Prelude.{◌≡◌, [], IfOk, IfSome, IfNone};
+ghost use Rattle.std.specs.Prelude.{◌≡◌, IfOk, IfSome, IfNone};
 ghost use Rattle.lam_rules.specs.Types.{Typ, record_of, AreWellFormed, IsWellFormed};
 ghost use Rattle.lam_rules.specs.TypeViews.{typ_of, fields_of};
 ghost use Rattle.lam_rules.specs.Subtyping.{BySubRule, IsRuleOf, GoesFieldByField, AreSubProofs, ProvesBelow, IsBelow, sub_step};
