@@ -8,7 +8,7 @@ use Rattle.std.proofs.lemmas.Slice.Eq.{bytes_eq-Decides}
 use Rattle.lam_token.specs.declared.span.Span.{Span}
 use Rattle.lam_rules.specs.Types as rules
 use Rattle.lam_rules.specs.Types.{Typ, Fields, Label}
-use Rattle.lam_rules.specs.Terms.{Term}
+use Rattle.lam_rules.specs.Terms.{Term, TermFields}
 use Rattle.lam_syntax.specs.declared.terms.Prefix.{Prefix}
 use Rattle.lam_syntax.specs.declared.terms.Prefix.TheVariants as prefix
 use Rattle.lam_syntax.specs.Trees as tree
@@ -17,7 +17,16 @@ use Rattle.lam_scope.specs.declared.fault.TypeFault.TheVariants.{UnboundTypeName
 use Rattle.lam_scope.specs.Names.{Name, count}
 use Rattle.lam_scope.specs.Expansions.{Abbreviation, abbreviation, meaning, is_bound, has_label, both, expansion, expansion_of_node, expansion_of_fields, label_fault, type_faults, node_faults, field_faults}
 use Rattle.lam_scope.specs.Nameless.{use_counted, prefixed, nameless, nameless_node, nameless_fields, statements, written_in, written_in_node, written_in_fields, faults_in, faults}
-use Rattle.lam_scope.specs.Expanded.{HasExpansion, HasExpansions, HaveExpansions, IsExpanded}
+use Rattle.lam_scope.specs.EachWritten.{EachWrittenInTerm, EachWrittenInTerms}
+use Rattle.lam_scope.specs.Expanded.{HasExpansion, IsExpanded}
+
+-- each type that is written in a term stands for a type
+abbrev pub HasExpansions : Term → Type 0
+HasExpansions e = EachWrittenInTerm HasExpansion e
+
+-- each that is written in the terms of a record
+abbrev pub HaveExpansions : TermFields → Type 0
+HaveExpansions es = EachWrittenInTerms HasExpansion es
 
 -- lists of nothing
 

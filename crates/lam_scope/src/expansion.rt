@@ -1,7 +1,6 @@
 //! Written types: their faults, the sizes of their expansions, and the expansions.
 ghost use Rattle.std.specs.Prelude.{◌≡◌, ◌++◌, IfOk, OnOk};
 ghost use Rattle.lam_rules.specs.TermViews.{written_of};
-ghost use Rattle.lam_rules.specs.TypeViews.{fields_of};
 ghost use Rattle.lam_syntax.specs.Trees.{no_type_fields};
 ghost use Rattle.lam_syntax.specs.Views.{word_of, type_of, type_fields_of};
 ghost use Rattle.lam_scope.specs.Expansions.{expansion, expansion_of_fields, capped_nodes, capped_nodes_in, type_faults, field_faults, label_fault, has_label};
@@ -12,6 +11,13 @@ use crate::fault::TypeFault;
 use lam_rules::{Ty, copy_of, make_arrow, make_record, size};
 use lam_syntax::{TyField, TyNode, WrittenTy};
 use std::alloc::{AllocError, Global};
+
+/// The most nodes that a type in a document may have, be it an expansion or the type of a place. A document with a
+/// larger one gets that fault in place of types.
+pub const NODE_LIMIT: u64 = 4_096;
+
+/// Where sizes stop counting: one node over the limit, as `lam_rules` counts.
+const SIZE_CAP: u64 = NODE_LIMIT + 1;
 
 /// Puts the faults of a written type behind those before it, in the order of the text.
 #[cycle(faults)]
@@ -86,13 +92,6 @@ fn has_label(label: &str, fields: &[TyField]) -> bool
     }
     false
 }
-
-/// The most nodes that a type in a document may have, be it an expansion or the type of a place. A document with a
-/// larger one gets that fault in place of types.
-pub const NODE_LIMIT: u64 = 4_096;
-
-/// Where sizes stop counting: one node over the limit, as `lam_rules` counts.
-const SIZE_CAP: u64 = NODE_LIMIT + 1;
 
 /// How many nodes the expansion of a written type has, or `SIZE_CAP` where it has more. There is none where it is faulty.
 #[cycle(sizes)]

@@ -137,14 +137,14 @@ fn if_of(
     seen: &Abbreviations<'_>,
     term: &Conditional,
 ) -> Result<Core, ScopeFault>
-    ensures form { IfOk result (λ e. term_of e ≡ counted_node (abbreviations_of seen.now) (if_term (tree_of term.now.condition) (tree_of term.now.one) (tree_of term.now.other)) forming.old.uses) }
-    ensures uses { OnOk result (forming.new.uses ≡ past_node (if_term (tree_of term.now.condition) (tree_of term.now.one) (tree_of term.now.other)) forming.old.uses) }
-    ensures faults { OnOk result (forming.new.faults.items ≡ forming.old.faults.items ++ faults_in (abbreviations_of seen.now) (written_in_node (if_term (tree_of term.now.condition) (tree_of term.now.one) (tree_of term.now.other)))) }
-    ensures limit { IsLimit (first_over_limit (abbreviations_of seen.now) (written_in_node (if_term (tree_of term.now.condition) (tree_of term.now.one) (tree_of term.now.other)))) result }
+    ensures form { IfOk result (λ e. term_of e ≡ counted_node (abbreviations_of seen.now) (if_term (tree_of term.now.condition) (tree_of term.now.then_term) (tree_of term.now.else_term)) forming.old.uses) }
+    ensures uses { OnOk result (forming.new.uses ≡ past_node (if_term (tree_of term.now.condition) (tree_of term.now.then_term) (tree_of term.now.else_term)) forming.old.uses) }
+    ensures faults { OnOk result (forming.new.faults.items ≡ forming.old.faults.items ++ faults_in (abbreviations_of seen.now) (written_in_node (if_term (tree_of term.now.condition) (tree_of term.now.then_term) (tree_of term.now.else_term)))) }
+    ensures limit { IsLimit (first_over_limit (abbreviations_of seen.now) (written_in_node (if_term (tree_of term.now.condition) (tree_of term.now.then_term) (tree_of term.now.else_term)))) result }
 {
     let first = boxed(forming, seen, &term.condition)?;
-    let second = boxed(forming, seen, &term.one)?;
-    let third = boxed(forming, seen, &term.other)?;
+    let second = boxed(forming, seen, &term.then_term)?;
+    let third = boxed(forming, seen, &term.else_term)?;
     Ok(Core::If(first, second, third))
 }
 

@@ -46,8 +46,8 @@ fn add_term(room: &mut Room, term: &Tm) {
         }
         TmNode::If(conditional) => {
             add_term(room, &conditional.condition);
-            add_term(room, &conditional.one);
-            add_term(room, &conditional.other);
+            add_term(room, &conditional.then_term);
+            add_term(room, &conditional.else_term);
         }
         TmNode::Let(parts) => {
             room.binders = room.binders.saturating_add(1);

@@ -40,10 +40,10 @@ pub(crate) fn find_place<'t>(core: &'t Core, number: usize) -> Found<'t>
             let first = find_place(bound, number);
             at_end(find_behind(first, body), core)
         }
-        Core::If(condition, one, other) => {
+        Core::If(condition, then_term, else_term) => {
             let first = find_place(condition, number);
-            let second = find_behind(first, one);
-            at_end(find_behind(second, other), core)
+            let second = find_behind(first, then_term);
+            at_end(find_behind(second, else_term), core)
         }
         Core::Record(fields) => at_end(find_in_fields(fields, number), core),
     }

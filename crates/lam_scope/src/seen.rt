@@ -1,7 +1,6 @@
 //! The binders of one kind that a term sees.
 ghost use Rattle.std.specs.Prelude.{◌≡◌, ◌∷◌, [], IfOk, OnOk};
 ghost use Rattle.std.specs.Option.{option_map};
-ghost use Rattle.lam_syntax.specs.Letters.{letters};
 ghost use Rattle.lam_scope.specs.Stacks.{outside};
 ghost use Rattle.lam_scope.specs.Names.{count};
 ghost use Rattle.lam_scope.specs.Tables.{innermost, bound_to, entry_names};

@@ -14,8 +14,8 @@ use crate::numbers::{Binder, Origin, Place};
 use crate::rows::Rows;
 use crate::seen::{Seen, SeenBinder};
 use lam_syntax::{
-    Application, Binder as BoundName, Command, Conditional, Identifier, Lambda, Let, Letrec, Text,
-    Tm, TmField, TmNode, TyField, TyNode, WrittenTy,
+    Application, Binder as WrittenBinder, Command, Conditional, Identifier, Lambda, Let, Letrec,
+    Text, Tm, TmField, TmNode, TyField, TyNode, WrittenTy,
 };
 use lam_token::Span;
 use std::alloc::AllocError;
@@ -24,10 +24,69 @@ use std::alloc::AllocError;
 /// its lambda: only then that place has its number.
 const NOT_YET_KNOWN: Origin = Origin::TypeName;
 
+/// Adds the rows of a command, of that number. Those behind it then see what it binds.
+#[tactic(auto, using(crate::proofs::TableRows::walks))]
+pub(crate) fn walk_command<'a>(
+    rows: &mut Rows,
+    types: &mut Seen<'a>,
+    names: &mut Seen<'a>,
+    number: usize,
+    command: &'a Command,
+) -> Result<(), AllocError>
+    ensures table { OnOk result (rows_of rows.new ≡ rows_of rows.old ⊕ command_table types.old names.old (length rows.old.binders.items) (length rows.old.places.items) number (command_of command.now)) }
+    ensures types { OnOk result (types.new ≡ types_seen_after (length rows.old.binders.items) types.old (command_of command.now)) }
+    ensures names { OnOk result (names.new ≡ names_seen_after (length rows.old.binders.items) names.old (command_of command.now)) }
+    ensures binders { OnOk result (length rows.new.binders.items ≡ length rows.old.binders.items + binders_in_command (command_of command.now)) }
+    ensures places { OnOk result (length rows.new.places.items ≡ length rows.old.places.items + places_in_command (command_of command.now)) }
+{
+    let own = Binder(rows.binder_count());
+    match command {
+        Command::Definition(name, term) => {
+            let seen = named(name, own);
+            walk_bound(rows, types, names, term, seen.name, name.span)?;
+            names.enter(seen)
+        }
+        Command::Declaration(name, ty) => {
+            let seen = named(name, own);
+            rows.add_binder(
+                seen.name,
+                name.span,
+                names,
+                own,
+                Origin::Declaration(number),
+            )?;
+            walk_type(rows, types, ty)?;
+            names.enter(seen)
+        }
+        Command::Abbreviation(name, ty) => {
+            let seen = named(name, own);
+            rows.add_binder(seen.name, name.span, types, own, Origin::TypeName)?;
+            walk_type(rows, types, ty)?;
+            types.enter(seen)
+        }
+        Command::Evaluation(term) => {
+            walk_term(rows, types, names, term)?;
+            Ok(())
+        }
+    }
+}
+
+/// The binder of a command, as those behind it see it.
+fn named<'a>(name: &'a Identifier, own: Binder) -> SeenBinder<'a>
+    ensures entry { entry_of result ≡ entry (Some (letters name.now.text)) own.0 own.0 }
+    ensures name { option_map (λ x. letters x.now) result.name ≡ Some (letters name.now.text) }
+{
+    SeenBinder {
+        name: Some(&name.text),
+        number: own,
+        answer: own,
+    }
+}
+
 /// Adds the uses of type names in a written type.
 #[cycle(types)]
 #[tactic(auto, using(crate::proofs::TableRows::walks))]
-pub(crate) fn walk_type(rows: &mut Rows, types: &Seen<'_>, ty: &WrittenTy) -> Result<(), AllocError>
+fn walk_type(rows: &mut Rows, types: &Seen<'_>, ty: &WrittenTy) -> Result<(), AllocError>
     ensures table { OnOk result (rows_of rows.new ≡ rows_of rows.old ⊕ type_uses types.now (type_of ty.now)) }
     ensures binders { rows.new.binders ≡ rows.old.binders }
     ensures places { rows.new.places ≡ rows.old.places }
@@ -63,7 +122,7 @@ fn walk_type_fields(rows: &mut Rows, types: &Seen<'_>, fields: &[TyField]) -> Re
 /// Adds the rows of a term, and answers its place.
 #[cycle(terms)]
 #[tactic(auto, using(crate::proofs::TableRows::walks))]
-pub(crate) fn walk_term<'a>(
+fn walk_term<'a>(
     rows: &mut Rows,
     types: &Seen<'_>,
     names: &mut Seen<'a>,
@@ -122,15 +181,15 @@ fn walk_if<'a>(
     span: Span,
     term: &'a Conditional,
 ) -> Result<Place, AllocError>
-    ensures table { OnOk result (rows_of rows.new ≡ rows_of rows.old ⊕ term_table types.now names.old (length rows.old.binders.items) (length rows.old.places.items) (term_tree span (if_term (term_of term.now.condition) (term_of term.now.one) (term_of term.now.other)))) }
-    ensures place { IfOk result (λ p. p.0 ≡ root (length rows.old.places.items) (term_tree span (if_term (term_of term.now.condition) (term_of term.now.one) (term_of term.now.other)))) }
-    ensures binders { OnOk result (length rows.new.binders.items ≡ length rows.old.binders.items + binders_in_node (if_term (term_of term.now.condition) (term_of term.now.one) (term_of term.now.other))) }
-    ensures places { OnOk result (length rows.new.places.items ≡ behind (length rows.old.places.items) (term_tree span (if_term (term_of term.now.condition) (term_of term.now.one) (term_of term.now.other)))) }
+    ensures table { OnOk result (rows_of rows.new ≡ rows_of rows.old ⊕ term_table types.now names.old (length rows.old.binders.items) (length rows.old.places.items) (term_tree span (if_term (term_of term.now.condition) (term_of term.now.then_term) (term_of term.now.else_term)))) }
+    ensures place { IfOk result (λ p. p.0 ≡ root (length rows.old.places.items) (term_tree span (if_term (term_of term.now.condition) (term_of term.now.then_term) (term_of term.now.else_term)))) }
+    ensures binders { OnOk result (length rows.new.binders.items ≡ length rows.old.binders.items + binders_in_node (if_term (term_of term.now.condition) (term_of term.now.then_term) (term_of term.now.else_term))) }
+    ensures places { OnOk result (length rows.new.places.items ≡ behind (length rows.old.places.items) (term_tree span (if_term (term_of term.now.condition) (term_of term.now.then_term) (term_of term.now.else_term)))) }
     ensures names { OnOk result (names.new ≡ names.old) }
 {
     let first = walk_term(rows, types, names, &term.condition)?;
-    let second = walk_term(rows, types, names, &term.one)?;
-    let third = walk_term(rows, types, names, &term.other)?;
+    let second = walk_term(rows, types, names, &term.then_term)?;
+    let third = walk_term(rows, types, names, &term.else_term)?;
     rows.add_place(span, false, &[first, second, third], names)
 }
 
@@ -348,7 +407,7 @@ fn add_derived(
 }
 
 /// A binder as the terms under it see it.
-fn seen_as<'a>(binder: &'a BoundName, number: usize) -> SeenBinder<'a>
+fn seen_as<'a>(binder: &'a WrittenBinder, number: usize) -> SeenBinder<'a>
     ensures entry { entry_of result ≡ entry (option_map (λ s. letters s) binder.now.name) number number }
     ensures name { option_map (λ x. letters x.now) result.name ≡ option_map (λ s. letters s) binder.now.name }
 {
@@ -356,64 +415,5 @@ fn seen_as<'a>(binder: &'a BoundName, number: usize) -> SeenBinder<'a>
         name: name_of(binder),
         number: Binder(number),
         answer: Binder(number),
-    }
-}
-
-/// Adds the rows of a command, of that number. Those behind it then see what it binds.
-#[tactic(auto, using(crate::proofs::TableRows::walks))]
-pub(crate) fn walk_command<'a>(
-    rows: &mut Rows,
-    types: &mut Seen<'a>,
-    names: &mut Seen<'a>,
-    number: usize,
-    command: &'a Command,
-) -> Result<(), AllocError>
-    ensures table { OnOk result (rows_of rows.new ≡ rows_of rows.old ⊕ command_table types.old names.old (length rows.old.binders.items) (length rows.old.places.items) number (command_of command.now)) }
-    ensures types { OnOk result (types.new ≡ types_seen_after (length rows.old.binders.items) types.old (command_of command.now)) }
-    ensures names { OnOk result (names.new ≡ names_seen_after (length rows.old.binders.items) names.old (command_of command.now)) }
-    ensures binders { OnOk result (length rows.new.binders.items ≡ length rows.old.binders.items + binders_in_command (command_of command.now)) }
-    ensures places { OnOk result (length rows.new.places.items ≡ length rows.old.places.items + places_in_command (command_of command.now)) }
-{
-    let own = Binder(rows.binder_count());
-    match command {
-        Command::Definition(name, term) => {
-            let seen = named(name, own);
-            walk_bound(rows, types, names, term, seen.name, name.span)?;
-            names.enter(seen)
-        }
-        Command::Declaration(name, ty) => {
-            let seen = named(name, own);
-            rows.add_binder(
-                seen.name,
-                name.span,
-                names,
-                own,
-                Origin::Declaration(number),
-            )?;
-            walk_type(rows, types, ty)?;
-            names.enter(seen)
-        }
-        Command::Abbreviation(name, ty) => {
-            let seen = named(name, own);
-            rows.add_binder(seen.name, name.span, types, own, Origin::TypeName)?;
-            walk_type(rows, types, ty)?;
-            types.enter(seen)
-        }
-        Command::Evaluation(term) => {
-            walk_term(rows, types, names, term)?;
-            Ok(())
-        }
-    }
-}
-
-/// The binder of a command, as those behind it see it.
-fn named<'a>(name: &'a Identifier, own: Binder) -> SeenBinder<'a>
-    ensures entry { entry_of result ≡ entry (Some (letters name.now.text)) own.0 own.0 }
-    ensures name { option_map (λ x. letters x.now) result.name ≡ Some (letters name.now.text) }
-{
-    SeenBinder {
-        name: Some(&name.text),
-        number: own,
-        answer: own,
     }
 }

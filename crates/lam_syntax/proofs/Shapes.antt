@@ -96,9 +96,9 @@ ascription-fold : (a : Ascription) → fold-Ascription TermNode TermNode TermNod
 unfolding term_node_of
 ascription-fold a = fold_out-Ascription TermNode TermNode TermNode TermNode TermNode TermNode TermNode TermNode TermTree (Word × TermTree) node_step application_step ascription_step conditional_step lambda_step let_step letrec_step projection_step tree_step field_step a ∙ ap (λ t. ascribe t (type_of a.ty)) (term_of-fold a.operand)
 
-conditional-fold : (c : Conditional) → fold-Conditional TermNode TermNode TermNode TermNode TermNode TermNode TermNode TermNode TermTree (Word × TermTree) node_step application_step ascription_step conditional_step lambda_step let_step letrec_step projection_step tree_step field_step c ≡ if_term (term_of c.condition) (term_of c.one) (term_of c.other)
+conditional-fold : (c : Conditional) → fold-Conditional TermNode TermNode TermNode TermNode TermNode TermNode TermNode TermNode TermTree (Word × TermTree) node_step application_step ascription_step conditional_step lambda_step let_step letrec_step projection_step tree_step field_step c ≡ if_term (term_of c.condition) (term_of c.then_term) (term_of c.else_term)
 unfolding term_node_of
-conditional-fold c = fold_out-Conditional TermNode TermNode TermNode TermNode TermNode TermNode TermNode TermNode TermTree (Word × TermTree) node_step application_step ascription_step conditional_step lambda_step let_step letrec_step projection_step tree_step field_step c ∙ (λ i. if_term (term_of-fold c.condition i) (term_of-fold c.one i) (term_of-fold c.other i))
+conditional-fold c = fold_out-Conditional TermNode TermNode TermNode TermNode TermNode TermNode TermNode TermNode TermTree (Word × TermTree) node_step application_step ascription_step conditional_step lambda_step let_step letrec_step projection_step tree_step field_step c ∙ (λ i. if_term (term_of-fold c.condition i) (term_of-fold c.then_term i) (term_of-fold c.else_term i))
 
 lambda-fold : (l : Lambda) → fold-Lambda TermNode TermNode TermNode TermNode TermNode TermNode TermNode TermNode TermTree (Word × TermTree) node_step application_step ascription_step conditional_step lambda_step let_step letrec_step projection_step tree_step field_step l ≡ lambda (bound_of l.binder) (type_of l.ty) (term_of l.body)
 unfolding term_node_of
@@ -140,7 +140,7 @@ pub term_node_of-Lambda : (l : Box Lambda Global) → term_node_of (terms.Lambda
 unfolding term_node_of
 term_node_of-Lambda l = ap term_node_of (sym (terms.rolls-Lambda l)) ∙ fold-roll-TmNode TermNode TermNode TermNode TermNode TermNode TermNode TermNode TermNode TermTree (Word × TermTree) node_step application_step ascription_step conditional_step lambda_step let_step letrec_step projection_step tree_step field_step (TmNode-F.Lambda l) ∙ lambda-fold l.value
 
-pub term_node_of-If : (c : Box Conditional Global) → term_node_of (terms.If c) ≡ if_term (term_of c.value.condition) (term_of c.value.one) (term_of c.value.other)
+pub term_node_of-If : (c : Box Conditional Global) → term_node_of (terms.If c) ≡ if_term (term_of c.value.condition) (term_of c.value.then_term) (term_of c.value.else_term)
 unfolding term_node_of
 term_node_of-If c = ap term_node_of (sym (terms.rolls-If c)) ∙ fold-roll-TmNode TermNode TermNode TermNode TermNode TermNode TermNode TermNode TermNode TermTree (Word × TermTree) node_step application_step ascription_step conditional_step lambda_step let_step letrec_step projection_step tree_step field_step (TmNode-F.If c) ∙ conditional-fold c.value
 

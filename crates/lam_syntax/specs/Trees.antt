@@ -44,9 +44,9 @@ mutual
     variable : Word → TermNode
     numeral : Word → TermNode
     lambda : Bound → TypeTree → (body : TermTree) → TermNode
-    if_term : (condition one other : TermTree) → TermNode
-    let_term : Bound → (term body : TermTree) → TermNode
-    letrec_term : Bound → TypeTree → (term body : TermTree) → TermNode
+    if_term : (condition then_term else_term : TermTree) → TermNode
+    let_term : Bound → (bound body : TermTree) → TermNode
+    letrec_term : Bound → TypeTree → (bound body : TermTree) → TermNode
     prefixed : Prefix → TermTree → TermNode
     apply : (function argument : TermTree) → TermNode
     project : TermTree → Word → TermNode

@@ -83,7 +83,7 @@ ascription_step a = ascribe a.operand (type_of a.ty)
 
 -- the form of an if
 abbrev pub conditional_step : Conditional-F TermNode TermNode TermNode TermNode TermNode TermNode TermNode TermNode TermTree (Word × TermTree) → TermNode
-conditional_step c = if_term c.condition c.one c.other
+conditional_step c = if_term c.condition c.then_term c.else_term
 
 -- the form of a lambda
 abbrev pub lambda_step : Lambda-F TermNode TermNode TermNode TermNode TermNode TermNode TermNode TermNode TermTree (Word × TermTree) → TermNode

@@ -3,7 +3,7 @@
 //! Each function reads its part at the front of the tokens, with one token of lookahead, and stops at the first
 //! token that fits nowhere.
 ghost use Rattle.std.specs.Prelude.{◌≡◌, ◌<◌, ◌≤◌, length, IfOk, MatchBool};
-ghost use Rattle.lam_token.specs.declared.span.Span.{Span as Place};
+ghost use Rattle.lam_token.specs.declared.span.Span.{Span as TokenSpan};
 ghost use Rattle.lam_syntax.specs.Run.{Purpose, for_lambda, for_let, for_letrec, InTerm, InPath, need_binder, need_term, in_condition, in_parens, after_atom, need_field, next_field, begin_app, begin_atom, run, look};
 ghost use Rattle.lam_syntax.specs.Trees.{TermFields};
 ghost use Rattle.lam_syntax.specs.Views.{term_of};
@@ -74,10 +74,10 @@ fn parse_if<'a, 'b>(
 {
     let (condition, rest) = parse_term(alloc, tokens)?;
     let (_, rest) = expect(rest, Kind::Then)?;
-    let (one, rest) = parse_term(alloc, rest)?;
+    let (then_term, rest) = parse_term(alloc, rest)?;
     let (_, rest) = expect(rest, Kind::Else)?;
-    let (other, rest) = parse_term(alloc, rest)?;
-    let term = make_if(alloc, first, condition, one, other)?;
+    let (else_term, rest) = parse_term(alloc, rest)?;
+    let term = make_if(alloc, first, condition, then_term, else_term)?;
     Ok((term, rest))
 }
 
@@ -93,10 +93,10 @@ fn parse_let<'a, 'b>(
 {
     let (binder, rest) = parse_binder(alloc, tokens)?;
     let (_, rest) = expect(rest, Kind::Equals)?;
-    let (named, rest) = parse_term(alloc, rest)?;
+    let (bound, rest) = parse_term(alloc, rest)?;
     let (_, rest) = expect(rest, Kind::In)?;
     let (body, rest) = parse_term(alloc, rest)?;
-    let term = make_let(alloc, first, binder, named, body)?;
+    let term = make_let(alloc, first, binder, bound, body)?;
     Ok((term, rest))
 }
 
@@ -114,10 +114,10 @@ fn parse_letrec<'a, 'b>(
     let (_, rest) = expect(rest, Kind::Colon)?;
     let (ty, rest) = parse_type(alloc, rest)?;
     let (_, rest) = expect(rest, Kind::Equals)?;
-    let (named, rest) = parse_term(alloc, rest)?;
+    let (bound, rest) = parse_term(alloc, rest)?;
     let (_, rest) = expect(rest, Kind::In)?;
     let (body, rest) = parse_term(alloc, rest)?;
-    let term = make_letrec(alloc, first, binder, ty, named, body)?;
+    let term = make_letrec(alloc, first, binder, ty, bound, body)?;
     Ok((term, rest))
 }
 
@@ -228,7 +228,7 @@ fn parse_field<'a, 'b>(
     alloc: Global,
     tokens: &'a [Token<'b>],
 ) -> Result<(TmField, &'a [Token<'b>]), Stop<'a, 'b>>
-    ensures read { (s : Place) (before : TermFields) (k : InPath) → Reads result (run tokens.now (next_field s before k)) (behind_field s before k) }
+    ensures read { (s : TokenSpan) (before : TermFields) (k : InPath) → Reads result (run tokens.now (next_field s before k)) (behind_field s before k) }
     ensures shorter { IfOk result (λ r. length r.1.now < length tokens.now) }
 {
     let (label, rest) = expect_name(alloc, tokens)?;
@@ -242,7 +242,7 @@ fn parse_binder<'a, 'b>(
     alloc: Global,
     tokens: &'a [Token<'b>],
 ) -> Result<(Binder, &'a [Token<'b>]), Stop<'a, 'b>>
-    ensures read { (p : Purpose) (s : Place) (k : InTerm) → Reads result (run tokens.now (need_binder p s k)) (behind_binder p s k) }
+    ensures read { (p : Purpose) (s : TokenSpan) (k : InTerm) → Reads result (run tokens.now (need_binder p s k)) (behind_binder p s k) }
     ensures shorter { IfOk result (λ r. length r.1.now < length tokens.now) }
 {
     let Some((first, rest)) = tokens.split_first() else {

@@ -3,7 +3,7 @@
 //! Each function reads its part at the front of the tokens, with one token of lookahead, and stops at the first
 //! token that fits nowhere.
 ghost use Rattle.std.specs.Prelude.{◌<◌, length, IfOk};
-ghost use Rattle.lam_token.specs.declared.span.Span.{Span as Place};
+ghost use Rattle.lam_token.specs.declared.span.Span.{Span as TokenSpan};
 ghost use Rattle.lam_syntax.specs.Run.{InType, in_type_parens, need_type, need_type_field, next_type_field, run};
 ghost use Rattle.lam_syntax.specs.Trees.{TypeFields};
 ghost use Rattle.lam_syntax.specs.Reads.{Reads, behind_type, behind_atype, behind_type_field};
@@ -106,7 +106,7 @@ fn parse_type_field<'a, 'b>(
     alloc: Global,
     tokens: &'a [Token<'b>],
 ) -> Result<(TyField, &'a [Token<'b>]), Stop<'a, 'b>>
-    ensures read { (s : Place) (before : TypeFields) (k : InType) → Reads result (run tokens.now (next_type_field s before k)) (behind_type_field s before k) }
+    ensures read { (s : TokenSpan) (before : TypeFields) (k : InType) → Reads result (run tokens.now (next_type_field s before k)) (behind_type_field s before k) }
     ensures shorter { IfOk result (λ r. length r.1.now < length tokens.now) }
 {
     let (label, rest) = expect_name(alloc, tokens)?;

@@ -26,6 +26,16 @@ pub fn pieces<'a, 'b>(
     Ok(found)
 }
 
+/// Whether the token ends a piece.
+pub fn is_semicolon(token: &Token<'_>) -> bool
+    ensures { result ≡ is_semicolon token.now }
+{
+    match token.kind() {
+        Kind::Semicolon => true,
+        _ => false,
+    }
+}
+
 /// How many tokens stand before the first semicolon.
 fn run_len(tokens: &[Token<'_>]) -> usize
     ensures within { result ≤ length tokens.now }
@@ -45,14 +55,4 @@ fn behind_first<'a, 'b>(tokens: &'a [Token<'b>]) -> &'a [Token<'b>]
 {
     let (_, rest) = tokens.split_at(tokens.len().min(1));
     rest
-}
-
-/// Whether the token ends a piece.
-pub fn is_semicolon(token: &Token<'_>) -> bool
-    ensures { result ≡ is_semicolon token.now }
-{
-    match token.kind() {
-        Kind::Semicolon => true,
-        _ => false,
-    }
 }

@@ -57,13 +57,13 @@ pub struct Lambda {
     pub body: Tm,
 }
 
-/// `if condition then one else other`
+/// `if condition then then_term else else_term`
 #[cycle(terms)]
 #[derive(Drop)]
 pub struct Conditional {
     pub condition: Tm,
-    pub one: Tm,
-    pub other: Tm,
+    pub then_term: Tm,
+    pub else_term: Tm,
 }
 
 /// `let binder = bound in body`
@@ -164,16 +164,16 @@ pub(crate) fn make_if(
     alloc: Global,
     first: Span,
     condition: Tm,
-    one: Tm,
-    other: Tm,
+    then_term: Tm,
+    else_term: Tm,
 ) -> Result<Tm, AllocError>
-    ensures { IfOk result (λ t. term_of t ≡ term_tree (from_to first (term_span (term_of other))) (if_term (term_of condition) (term_of one) (term_of other))) }
+    ensures { IfOk result (λ t. term_of t ≡ term_tree (from_to first (term_span (term_of else_term))) (if_term (term_of condition) (term_of then_term) (term_of else_term))) }
 {
-    let span = from_to(first, other.span);
+    let span = from_to(first, else_term.span);
     let conditional = Conditional {
         condition,
-        one,
-        other,
+        then_term,
+        else_term,
     };
     Ok(Tm {
         span,
@@ -187,15 +187,15 @@ pub(crate) fn make_let(
     alloc: Global,
     first: Span,
     binder: Binder,
-    term: Tm,
+    bound: Tm,
     body: Tm,
 ) -> Result<Tm, AllocError>
-    ensures { IfOk result (λ t. term_of t ≡ term_tree (from_to first (term_span (term_of body))) (let_term (bound_of binder) (term_of term) (term_of body))) }
+    ensures { IfOk result (λ t. term_of t ≡ term_tree (from_to first (term_span (term_of body))) (let_term (bound_of binder) (term_of bound) (term_of body))) }
 {
     let span = from_to(first, body.span);
     let parts = Let {
         binder,
-        bound: term,
+        bound,
         body,
     };
     Ok(Tm {
@@ -211,16 +211,16 @@ pub(crate) fn make_letrec(
     first: Span,
     binder: Binder,
     ty: WrittenTy,
-    term: Tm,
+    bound: Tm,
     body: Tm,
 ) -> Result<Tm, AllocError>
-    ensures { IfOk result (λ t. term_of t ≡ term_tree (from_to first (term_span (term_of body))) (letrec_term (bound_of binder) (type_of ty) (term_of term) (term_of body))) }
+    ensures { IfOk result (λ t. term_of t ≡ term_tree (from_to first (term_span (term_of body))) (letrec_term (bound_of binder) (type_of ty) (term_of bound) (term_of body))) }
 {
     let span = from_to(first, body.span);
     let parts = Letrec {
         binder,
         ty,
-        bound: term,
+        bound,
         body,
     };
     Ok(Tm {

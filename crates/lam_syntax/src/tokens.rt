@@ -1,5 +1,5 @@
 //! Single tokens at the front of others.
-ghost use Rattle.std.specs.Prelude.{◌≡◌, ◌<◌, length, IfOk, IfSome};
+ghost use Rattle.std.specs.Prelude.{◌≡◌, ◌<◌, IfOk};
 ghost use Rattle.lam_token.specs.Lexeme.{text_of, span_of};
 ghost use Rattle.lam_syntax.specs.Trees.{word};
 ghost use Rattle.lam_syntax.specs.Views.{word_of};

@@ -9,7 +9,8 @@ use Rattle.lam_typing.specs.Contexts.{IsContext}
 use Rattle.lam_typing.specs.LeastTypes.{IsTyped}
 use Rattle.lam_typing.specs.Blaming.{ArePartsTyped, AreFieldsTyped, IsExcused, HasNoType, IsBlamed}
 use Rattle.lam_scope.specs.WellFormed.{IsWellFormedTerm, AreWellFormedTerms, IsWellFormedScope, AreWellFormedStatements}
-use Rattle.lam_scope.specs.Expanded.{HasExpansion, HasExpansions, HaveExpansions, IsExpanded}
+use Rattle.lam_scope.specs.Expanded.{HasExpansion, IsExpanded}
+use Rattle.lam_scope.proofs.Faultless.{HasExpansions, HaveExpansions}
 use Rattle.lam_typing.specs.WellTyped.{AreTyped, AreUnblamed, IsTypedWhereUnblamed}
 use Rattle.lam_typing.proofs.Derivations.{Derives, FieldsDerive, derives, has_type}
 use Rattle.lam_typing.proofs.Inversions.{of_succ, of_pred, of_is_zero, of_if, of_lambda, of_faulty_lambda, of_apply, of_ascribe, of_faulty_ascribe, of_let, of_record, of_project, of_fix, of_more}

@@ -13,7 +13,7 @@ ghost use Rattle.lam_typing.specs.Steps.{entry_at};
 ghost use Rattle.lam_typing.specs.Notes.{written_by, bound_by, AreSoundNotes, NotesTerm, NotesFields, NotesOne, NotesStatement, NotesDocument, IsLeaf, IsOver};
 
 use crate::reading::found_at;
-use crate::steps::added;
+use crate::steps::number_of_written;
 use crate::walking::entry_of;
 use lam_rules::{Core, Ty, TyNo, TyTable};
 use lam_scope::Statement;
@@ -106,7 +106,7 @@ fn note_statement(
             Ok(())
         }
         Statement::Declaration(written) => {
-            let entry = added(table, written)?;
+            let entry = number_of_written(table, written)?;
             notes.entries.push(entry)?;
             notes.declared.push(entry)?;
             Ok(())
@@ -230,7 +230,7 @@ fn note_lambda(
     requires body { IsWellFormedTerm (term_of body.now) }
     ensures { IfOk result (λ place. NotesTerm table.old table.new notes.old notes.new found.now (lambda (written_of written.now) (term_of body.now)) place) }
 {
-    let entry = added(table, written)?;
+    let entry = number_of_written(table, written)?;
     notes.entries.push(entry)?;
     note_term(table, notes, found, body)?;
     notes.entries.pop();

@@ -73,8 +73,8 @@ fn prove_form(
     match term {
         Core::True => prove_leaf(alloc, typing, TypeRule::True, Ty::Bool, place, ty),
         Core::False => prove_leaf(alloc, typing, TypeRule::False, Ty::Bool, place, ty),
-        Core::If(condition, one, other) => {
-            prove_if(alloc, typing, condition, one, other, place, ty)
+        Core::If(condition, then_term, else_term) => {
+            prove_if(alloc, typing, condition, then_term, else_term, place, ty)
         }
         Core::Num(_) => prove_leaf(alloc, typing, TypeRule::Num, Ty::Nat, place, ty),
         Core::Succ(number) => {
@@ -175,19 +175,19 @@ fn prove_if(
     alloc: Global,
     typing: &Typing,
     condition: &Core,
-    one: &Core,
-    other: &Core,
+    then_term: &Core,
+    else_term: &Core,
     place: usize,
     ty: &Ty,
 ) -> Result<Option<Proven>, AllocError>
-    requires { inside (if_then_else (term_of condition.now) (term_of one.now) (term_of other.now)) ≤ place }
-    ensures first { IfOk result (λ made. IfSome made (λ m. m.first + inside (if_then_else (term_of condition.now) (term_of one.now) (term_of other.now)) ≡ place)) }
-    ensures proves { IfOk result (λ made. IsProvenForm typing.now (if_then_else (term_of condition.now) (term_of one.now) (term_of other.now)) place (typ_of ty.now) (option_map tree_in made)) }
+    requires { inside (if_then_else (term_of condition.now) (term_of then_term.now) (term_of else_term.now)) ≤ place }
+    ensures first { IfOk result (λ made. IfSome made (λ m. m.first + inside (if_then_else (term_of condition.now) (term_of then_term.now) (term_of else_term.now)) ≡ place)) }
+    ensures proves { IfOk result (λ made. IsProvenForm typing.now (if_then_else (term_of condition.now) (term_of then_term.now) (term_of else_term.now)) place (typ_of ty.now) (option_map tree_in made)) }
 {
-    let Some(third) = prove_as(alloc, typing, other, place, ty)? else {
+    let Some(third) = prove_as(alloc, typing, else_term, place, ty)? else {
         return Ok(None);
     };
-    let Some(second) = prove_as(alloc, typing, one, third.first, ty)? else {
+    let Some(second) = prove_as(alloc, typing, then_term, third.first, ty)? else {
         return Ok(None);
     };
     let Some(first) = prove_as(alloc, typing, condition, second.first, &Ty::Bool)? else {

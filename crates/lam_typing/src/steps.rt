@@ -30,7 +30,10 @@ fn sides(table: &TyTable, number: TyNo) -> Option<(TyNo, TyNo)>
 }
 
 /// What is written, if it stands for a type.
-pub(crate) fn added(table: &mut TyTable, written: &Option<Ty>) -> Result<Option<TyNo>, AllocError>
+pub(crate) fn number_of_written(
+    table: &mut TyTable,
+    written: &Option<Ty>,
+) -> Result<Option<TyNo>, AllocError>
     requires wf { IsWellFormedEntry (written_of written.now) }
     ensures keeps { Keeps table.old table.new }
     ensures stands { IfOk result (λ entry. StandsIn table.new entry) }
@@ -46,7 +49,7 @@ pub(crate) fn added(table: &mut TyTable, written: &Option<Ty>) -> Result<Option<
 }
 
 /// T-Succ, T-Pred and T-IsZero: an operand below Nat.
-pub(crate) fn of_number(
+pub(crate) fn type_of_number(
     table: &TyTable,
     verdicts: &mut Verdicts,
     operand: Option<TyNo>,
@@ -73,7 +76,7 @@ pub(crate) fn of_number(
 }
 
 /// T-Abs.
-pub(crate) fn abstracted(
+pub(crate) fn type_of_lambda(
     table: &mut TyTable,
     written: Option<TyNo>,
     body: Option<TyNo>,
@@ -95,7 +98,7 @@ pub(crate) fn abstracted(
 }
 
 /// T-App: an argument below the parameter.
-pub(crate) fn applied(
+pub(crate) fn type_of_apply(
     table: &TyTable,
     verdicts: &mut Verdicts,
     function: Option<TyNo>,
@@ -126,7 +129,7 @@ pub(crate) fn applied(
 }
 
 /// T-Ascribe: a term below the type that is written.
-pub(crate) fn ascribed(
+pub(crate) fn type_of_ascribe(
     table: &TyTable,
     verdicts: &mut Verdicts,
     written: Option<TyNo>,
@@ -154,7 +157,7 @@ pub(crate) fn ascribed(
 }
 
 /// T-Let.
-pub(crate) fn bound_in(bound: Option<TyNo>, body: Option<TyNo>) -> Option<TyNo>
+pub(crate) fn type_of_let(bound: Option<TyNo>, body: Option<TyNo>) -> Option<TyNo>
     ensures { (ts : List Typ) → (StandsIn ts body → StandsIn ts result) × LetRule (answer ts bound) (answer ts body) (answer ts result) }
 {
     match bound {
@@ -164,32 +167,32 @@ pub(crate) fn bound_in(bound: Option<TyNo>, body: Option<TyNo>) -> Option<TyNo>
 }
 
 /// T-If: a condition below Bool, and the join of the branches.
-pub(crate) fn chosen(
+pub(crate) fn type_of_if(
     table: &mut TyTable,
     verdicts: &mut Verdicts,
     condition: Option<TyNo>,
-    then_branch: Option<TyNo>,
-    else_branch: Option<TyNo>,
+    then_term: Option<TyNo>,
+    else_term: Option<TyNo>,
     bool_number: TyNo,
 ) -> Result<Option<TyNo>, AllocError>
     requires condition { StandsIn table.old condition }
-    requires then_branch { StandsIn table.old then_branch }
-    requires else_branch { StandsIn table.old else_branch }
+    requires then_term { StandsIn table.old then_term }
+    requires else_term { StandsIn table.old else_term }
     requires bool_number { IsNumberOf table.old bool_number bool }
     requires right { AreRight table.old verdicts.old }
     ensures keeps { Keeps table.old table.new }
     ensures dialect { verdicts.new.dialect ≡ verdicts.old.dialect }
     ensures right { AreRight table.new verdicts.new }
     ensures stands { IfOk result (λ found. StandsIn table.new found) }
-    ensures rule { IfOk result (λ found. IfRule (answer table.old condition) (answer table.old then_branch) (answer table.old else_branch) (answer table.new found) verdicts.old.dialect) }
+    ensures rule { IfOk result (λ found. IfRule (answer table.old condition) (answer table.old then_term) (answer table.old else_term) (answer table.new found) verdicts.old.dialect) }
 {
     let Some(condition_number) = condition else {
         return Ok(None);
     };
-    let Some(then_number) = then_branch else {
+    let Some(then_number) = then_term else {
         return Ok(None);
     };
-    let Some(else_number) = else_branch else {
+    let Some(else_number) = else_term else {
         return Ok(None);
     };
     if !is_sub_no(table, verdicts, condition_number, bool_number)? {
@@ -200,7 +203,7 @@ pub(crate) fn chosen(
 }
 
 /// T-Fix: a function whose result is below its parameter.
-pub(crate) fn fixed(
+pub(crate) fn type_of_fix(
     table: &TyTable,
     verdicts: &mut Verdicts,
     operand: Option<TyNo>,
@@ -226,7 +229,7 @@ pub(crate) fn fixed(
 }
 
 /// T-Proj.
-pub(crate) fn projected(table: &TyTable, operand: Option<TyNo>, label: &str) -> Option<TyNo>
+pub(crate) fn type_of_project(table: &TyTable, operand: Option<TyNo>, label: &str) -> Option<TyNo>
     requires { StandsIn table.now operand }
     ensures stands { StandsIn table.now result }
     ensures rule { ProjectRule label.now (answer table.now operand) (answer table.now result) }
@@ -241,7 +244,7 @@ pub(crate) fn projected(table: &TyTable, operand: Option<TyNo>, label: &str) -> 
 }
 
 /// T-Rcd: all the terms have types, and no label is there twice.
-pub(crate) fn recorded(
+pub(crate) fn type_of_record(
     table: &mut TyTable,
     all: bool,
     fields: Vec<(String, TyNo)>,

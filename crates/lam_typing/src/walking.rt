@@ -18,7 +18,8 @@ ghost use Rattle.lam_typing.specs.declared.walking.Stop.TheVariants.{Memory};
 
 use crate::blame::Blame;
 use crate::steps::{
-    abstracted, added, applied, ascribed, bound_in, chosen, fixed, of_number, projected, recorded,
+    number_of_written, type_of_apply, type_of_ascribe, type_of_fix, type_of_if, type_of_lambda,
+    type_of_let, type_of_number, type_of_project, type_of_record,
 };
 use lam_rules::{Core, Shape, Ty, TyNo, TyTable};
 use lam_scope::{NODE_LIMIT, Place, Statement};
@@ -89,7 +90,7 @@ pub(crate) fn walk_statements(walk: &mut Walk, statements: &[Statement]) -> Resu
 }
 
 /// What a command states, and the entry that it puts onto the others.
-pub(crate) fn walk_statement(walk: &mut Walk, statement: &Statement) -> Result<(), Stop>
+fn walk_statement(walk: &mut Walk, statement: &Statement) -> Result<(), Stop>
     requires sound { IsSoundWalk walk.old }
     requires wf { IsWellFormedStatement (statement_of statement.now) }
     ensures grows { Grows walk.old walk.new }
@@ -103,7 +104,7 @@ pub(crate) fn walk_statement(walk: &mut Walk, statement: &Statement) -> Result<(
             Ok(())
         }
         Statement::Declaration(written) => {
-            let entry = added(&mut walk.table, written)?;
+            let entry = number_of_written(&mut walk.table, written)?;
             walk.entries.push(entry)?;
             Ok(())
         }
@@ -118,7 +119,7 @@ pub(crate) fn walk_statement(walk: &mut Walk, statement: &Statement) -> Result<(
 /// The type of a term, whose places all come behind those that were found.
 #[cycle(walk_term)]
 #[tactic(auto, using(lam_rules::proofs::TermShapes::term_shapes))]
-pub(crate) fn walk_term(walk: &mut Walk, term: &Core) -> Result<Option<TyNo>, Stop>
+fn walk_term(walk: &mut Walk, term: &Core) -> Result<Option<TyNo>, Stop>
     requires sound { IsSoundWalk walk.old }
     requires wf { IsWellFormedTerm (term_of term.now) }
     ensures grows { Grows walk.old walk.new }
@@ -168,7 +169,7 @@ fn walk_if(
     let second = walk_term(walk, then_term)?;
     let third = walk_term(walk, else_term)?;
     let boolean = walk.leaves.boolean;
-    let found = chosen(
+    let found = type_of_if(
         &mut walk.table,
         &mut walk.verdicts,
         first,
@@ -192,7 +193,7 @@ fn walk_number(walk: &mut Walk, operand: &Core, outcome: TyNo) -> Result<Option<
 {
     let part = walk_term(walk, operand)?;
     let natural = walk.leaves.natural;
-    let found = of_number(&walk.table, &mut walk.verdicts, part, natural, outcome)?;
+    let found = type_of_number(&walk.table, &mut walk.verdicts, part, natural, outcome)?;
     let blame = blame_if(part.is_some(), found, "E6");
     settle(walk, found, blame)
 }
@@ -206,11 +207,11 @@ fn walk_lambda(walk: &mut Walk, written: &Option<Ty>, body: &Core) -> Result<Opt
     ensures walked { IfOk result (λ found. WalkedOver walk.old walk.new (lambda (written_of written.now) (term_of body.now)) found) }
     ensures stopped { IfErr result (λ stop. HasStopped stop walk.old walk.new (lambda (written_of written.now) (term_of body.now))) }
 {
-    let parameter = added(&mut walk.table, written)?;
+    let parameter = number_of_written(&mut walk.table, written)?;
     walk.entries.push(parameter)?;
     let outcome = walk_term(walk, body)?;
     walk.entries.pop();
-    let found = abstracted(&mut walk.table, parameter, outcome)?;
+    let found = type_of_lambda(&mut walk.table, parameter, outcome)?;
     settle(walk, found, None)
 }
 
@@ -225,7 +226,7 @@ fn walk_apply(walk: &mut Walk, function: &Core, argument: &Core) -> Result<Optio
 {
     let first = walk_term(walk, function)?;
     let second = walk_term(walk, argument)?;
-    let found = applied(&walk.table, &mut walk.verdicts, first, second)?;
+    let found = type_of_apply(&walk.table, &mut walk.verdicts, first, second)?;
     let code = application_code(&walk.table, first);
     let blame = blame_if(are_both_found(first, second), found, code);
     settle(walk, found, blame)
@@ -241,8 +242,8 @@ fn walk_ascribe(walk: &mut Walk, operand: &Core, written: &Option<Ty>) -> Result
     ensures stopped { IfErr result (λ stop. HasStopped stop walk.old walk.new (ascribe (term_of operand.now) (written_of written.now))) }
 {
     let part = walk_term(walk, operand)?;
-    let entry = added(&mut walk.table, written)?;
-    let found = ascribed(&walk.table, &mut walk.verdicts, entry, part)?;
+    let entry = number_of_written(&mut walk.table, written)?;
+    let found = type_of_ascribe(&walk.table, &mut walk.verdicts, entry, part)?;
     let blame = blame_if(are_both_found(part, entry), found, "E7");
     settle(walk, found, blame)
 }
@@ -260,7 +261,7 @@ fn walk_let(walk: &mut Walk, bound: &Core, body: &Core) -> Result<Option<TyNo>, 
     walk.entries.push(entry)?;
     let outcome = walk_term(walk, body)?;
     walk.entries.pop();
-    settle(walk, bound_in(entry, outcome), None)
+    settle(walk, type_of_let(entry, outcome), None)
 }
 
 #[cycle(walk_term)]
@@ -273,7 +274,7 @@ fn walk_record(walk: &mut Walk, fields: &[(String, Core)]) -> Result<Option<TyNo
 {
     let mut parts = Vec::with_capacity(walk.verdicts.alloc, fields.len())?;
     let all = walk_fields(walk, fields, &mut parts)?;
-    let found = recorded(&mut walk.table, all, parts)?;
+    let found = type_of_record(&mut walk.table, all, parts)?;
     let blame = blame_if(all, found, "E9");
     settle(walk, found, blame)
 }
@@ -287,7 +288,7 @@ fn walk_project(walk: &mut Walk, operand: &Core, label: &str) -> Result<Option<T
     ensures stopped { IfErr result (λ stop. HasStopped stop walk.old walk.new (project (term_of operand.now) label.now)) }
 {
     let part = walk_term(walk, operand)?;
-    let found = projected(&walk.table, part, label);
+    let found = type_of_project(&walk.table, part, label);
     let blame = blame_if(part.is_some(), found, "E4");
     settle(walk, found, blame)
 }
@@ -301,7 +302,7 @@ fn walk_fix(walk: &mut Walk, operand: &Core) -> Result<Option<TyNo>, Stop>
     ensures stopped { IfErr result (λ stop. HasStopped stop walk.old walk.new (fix (term_of operand.now))) }
 {
     let part = walk_term(walk, operand)?;
-    let found = fixed(&walk.table, &mut walk.verdicts, part)?;
+    let found = type_of_fix(&walk.table, &mut walk.verdicts, part)?;
     let blame = blame_if(part.is_some(), found, "E8");
     settle(walk, found, blame)
 }

@@ -28,7 +28,7 @@ abbrev pub decreases-lambda_of : goal.decreases-lambda_of
 decreases-lambda_of l = 4 * tree_size (term_of l.term.now.body) + 2
 
 abbrev pub decreases-if_of : goal.decreases-if_of
-decreases-if_of l = 4 * (tree_size (term_of l.term.now.condition) + tree_size (term_of l.term.now.one) + tree_size (term_of l.term.now.other)) + 2
+decreases-if_of l = 4 * (tree_size (term_of l.term.now.condition) + tree_size (term_of l.term.now.then_term) + tree_size (term_of l.term.now.else_term)) + 2
 
 abbrev pub decreases-let_of : goal.decreases-let_of
 decreases-let_of l = 4 * (tree_size (term_of l.term.now.bound) + tree_size (term_of l.term.now.body)) + 2

@@ -21,7 +21,7 @@ abbrev pub decreases-walk_term : goal.decreases-walk_term
 decreases-walk_term l = 6 * tree_size (term_of l.term.now) + 1
 
 abbrev pub decreases-walk_if : goal.decreases-walk_if
-decreases-walk_if l = 6 * (tree_size (term_of l.term.now.condition) + tree_size (term_of l.term.now.one) + tree_size (term_of l.term.now.other)) + 5
+decreases-walk_if l = 6 * (tree_size (term_of l.term.now.condition) + tree_size (term_of l.term.now.then_term) + tree_size (term_of l.term.now.else_term)) + 5
 
 abbrev pub decreases-walk_let : goal.decreases-walk_let
 decreases-walk_let l = 6 * (tree_size (term_of l.term.now.bound) + tree_size (term_of l.term.now.body)) + 5

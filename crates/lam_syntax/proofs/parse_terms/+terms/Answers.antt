@@ -55,7 +55,7 @@ pub parse_if-returns-in_err-rest-2-clause-read : goal.parse_if-returns-in_err-re
 parse_if-returns-in_err-rest-2-clause-read t c =
     let p = err_from_is_err_and c.from_residual-in_err-rest-2.result c.from_residual-in_err-rest-2.ensures.1 in
     rw (p.1, p.2)
-    (λ k. expect_stop _ kind.Else c.in_err-rest-2.field-0.0 _ _ (λ ts. look ts (λ o. ended_term o (term_of c.in_ok-one.one) (in_then c.args.first (term_of c.in_ok-condition.condition) k))) (c.in_ok-condition.ensures.read (in_condition c.args.first k) ∙ ap (λ ts. look ts (λ o. ended_term o (term_of c.in_ok-condition.condition) (in_condition c.args.first k))) c.in_ok-rest.ensures.expects.1 ∙ c.in_ok-one.ensures.read (in_then c.args.first (term_of c.in_ok-condition.condition) k)) (no_else _ _ _ c.args.first k) c.in_err-rest-2.ensures.expects)
+    (λ k. expect_stop _ kind.Else c.in_err-rest-2.field-0.0 _ _ (λ ts. look ts (λ o. ended_term o (term_of c.in_ok-then_term.then_term) (in_then c.args.first (term_of c.in_ok-condition.condition) k))) (c.in_ok-condition.ensures.read (in_condition c.args.first k) ∙ ap (λ ts. look ts (λ o. ended_term o (term_of c.in_ok-condition.condition) (in_condition c.args.first k))) c.in_ok-rest.ensures.expects.1 ∙ c.in_ok-then_term.ensures.read (in_then c.args.first (term_of c.in_ok-condition.condition) k)) (no_else _ _ _ c.args.first k) c.in_err-rest-2.ensures.expects)
 
 pub parse_let-returns-in_err-rest-clause-read : goal.parse_let-returns-in_err-rest-clause-read
 parse_let-returns-in_err-rest-clause-read t c =
@@ -67,7 +67,7 @@ pub parse_let-returns-in_err-rest-2-clause-read : goal.parse_let-returns-in_err-
 parse_let-returns-in_err-rest-2-clause-read t c =
     let p = err_from_is_err_and c.from_residual-in_err-rest-2.result c.from_residual-in_err-rest-2.ensures.1 in
     rw (p.1, p.2)
-    (λ k. expect_stop _ kind.In c.in_err-rest-2.field-0.0 _ _ (λ ts. look ts (λ o. ended_term o (term_of c.in_ok-named.named) (in_let c.args.first (bound_of c.in_ok-binder.binder) k))) (c.in_ok-binder.ensures.read for_let c.args.first k ∙ ap (λ ts. run ts (after_binder for_let c.args.first (bound_of c.in_ok-binder.binder) k)) c.in_ok-rest.ensures.expects.1 ∙ c.in_ok-named.ensures.read (in_let c.args.first (bound_of c.in_ok-binder.binder) k)) (no_let_in _ _ c.args.first (bound_of c.in_ok-binder.binder) k) c.in_err-rest-2.ensures.expects)
+    (λ k. expect_stop _ kind.In c.in_err-rest-2.field-0.0 _ _ (λ ts. look ts (λ o. ended_term o (term_of c.in_ok-bound.bound) (in_let c.args.first (bound_of c.in_ok-binder.binder) k))) (c.in_ok-binder.ensures.read for_let c.args.first k ∙ ap (λ ts. run ts (after_binder for_let c.args.first (bound_of c.in_ok-binder.binder) k)) c.in_ok-rest.ensures.expects.1 ∙ c.in_ok-bound.ensures.read (in_let c.args.first (bound_of c.in_ok-binder.binder) k)) (no_let_in _ _ c.args.first (bound_of c.in_ok-binder.binder) k) c.in_err-rest-2.ensures.expects)
 
 pub parse_letrec-returns-in_err-rest-clause-read : goal.parse_letrec-returns-in_err-rest-clause-read
 parse_letrec-returns-in_err-rest-clause-read t c =
@@ -85,7 +85,7 @@ pub parse_letrec-returns-in_err-rest-3-clause-read : goal.parse_letrec-returns-i
 parse_letrec-returns-in_err-rest-3-clause-read t c =
     let p = err_from_is_err_and c.from_residual-in_err-rest-3.result c.from_residual-in_err-rest-3.ensures.1 in
     rw (p.1, p.2)
-    (λ k. expect_stop _ kind.In c.in_err-rest-3.field-0.0 _ _ (λ ts. look ts (λ o. ended_term o (term_of c.in_ok-named.named) (in_letrec c.args.first (bound_of c.in_ok-binder.binder) (type_of c.in_ok-ty.ty) k))) (c.in_ok-binder.ensures.read for_letrec c.args.first k ∙ ap (λ ts. run ts (after_binder for_letrec c.args.first (bound_of c.in_ok-binder.binder) k)) c.in_ok-rest.ensures.expects.1 ∙ c.in_ok-ty.ensures.read (of_letrec c.args.first (bound_of c.in_ok-binder.binder) k) ∙ ap (λ ts. look ts (λ o. ended_type o (type_of c.in_ok-ty.ty) (of_letrec c.args.first (bound_of c.in_ok-binder.binder) k))) c.in_ok-rest-2.ensures.expects.1 ∙ c.in_ok-named.ensures.read (in_letrec c.args.first (bound_of c.in_ok-binder.binder) (type_of c.in_ok-ty.ty) k)) (no_letrec_in _ _ c.args.first (bound_of c.in_ok-binder.binder) _ k) c.in_err-rest-3.ensures.expects)
+    (λ k. expect_stop _ kind.In c.in_err-rest-3.field-0.0 _ _ (λ ts. look ts (λ o. ended_term o (term_of c.in_ok-bound.bound) (in_letrec c.args.first (bound_of c.in_ok-binder.binder) (type_of c.in_ok-ty.ty) k))) (c.in_ok-binder.ensures.read for_letrec c.args.first k ∙ ap (λ ts. run ts (after_binder for_letrec c.args.first (bound_of c.in_ok-binder.binder) k)) c.in_ok-rest.ensures.expects.1 ∙ c.in_ok-ty.ensures.read (of_letrec c.args.first (bound_of c.in_ok-binder.binder) k) ∙ ap (λ ts. look ts (λ o. ended_type o (type_of c.in_ok-ty.ty) (of_letrec c.args.first (bound_of c.in_ok-binder.binder) k))) c.in_ok-rest-2.ensures.expects.1 ∙ c.in_ok-bound.ensures.read (in_letrec c.args.first (bound_of c.in_ok-binder.binder) (type_of c.in_ok-ty.ty) k)) (no_letrec_in _ _ c.args.first (bound_of c.in_ok-binder.binder) _ k) c.in_err-rest-3.ensures.expects)
 
 -- an application
 

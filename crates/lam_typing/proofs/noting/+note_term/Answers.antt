@@ -62,7 +62,7 @@ note_if-returns t c =
 
 pub note_lambda-note_term-requires : goal.note_lambda-note_term-requires
 note_lambda-note_term-requires t c =
-    (omega (arith, c.decreases), (pushed_sound c.args.table.now c.added.new.table c.args.notes.now c.push.new.self c.in_ok-entry.entry c.requires.sound c.added.ensures.keeps c.in_ok-push.ensures.items c.in_ok-entry.ensures.stands, (all_stand_keep c.args.table.now c.added.new.table c.args.found.now c.added.ensures.keeps c.requires.found, c.requires.body)))
+    (omega (arith, c.decreases), (pushed_sound c.args.table.now c.number_of_written.new.table c.args.notes.now c.push.new.self c.in_ok-entry.entry c.requires.sound c.number_of_written.ensures.keeps c.in_ok-push.ensures.items c.in_ok-entry.ensures.stands, (all_stand_keep c.args.table.now c.number_of_written.new.table c.args.found.now c.number_of_written.ensures.keeps c.requires.found, c.requires.body)))
 
 pub note_lambda-returns : goal.note_lambda-returns
 note_lambda-returns t c =
@@ -70,11 +70,11 @@ note_lambda-returns t c =
     let e = term_of c.args.body.now in
     let over = c.in_ok-note_term.ensures in
     let popped = popped_items c.push.new.self c.pop.new.self c.note_term.new.notes.entries.items c.args.notes.now.entries.items c.in_ok-entry.entry (vec_len c.note_term.new.notes.entries) c.in_ok-push.ensures.items over.more.entries c.note_term.new.notes.entries.ok.0 c.pop.ensures.rest in
-    let body = under_done c.args.table.now c.added.new.table c.note_term.new.table c.args.notes.now c.note_term.new.notes c.push.new.self c.pop.new.self c.args.found.now c.in_ok-entry.entry w e _ c.requires.sound c.requires.found c.added.ensures.keeps c.in_ok-push.ensures.items c.in_ok-entry.ensures.entry over popped in
+    let body = under_done c.args.table.now c.number_of_written.new.table c.note_term.new.table c.args.notes.now c.note_term.new.notes c.push.new.self c.pop.new.self c.args.found.now c.in_ok-entry.entry w e _ c.requires.sound c.requires.found c.number_of_written.ensures.keeps c.in_ok-push.ensures.items c.in_ok-entry.ensures.entry over popped in
     ok_map c.note_here.result _ _ (λ place one. term_done c.args.table.now c.note_term.new.table c.args.notes.now (record c.note_term.new.notes { entries = c.pop.new.self }) c.note_here.new.notes c.args.found.now (lambda w e) _ (inside e + 1) c.of_lambda.result place refl refl body one
-    (subst (λ o. StandsIn c.note_term.new.table o) (sym c.of_lambda.ensures.written) (stands_keep c.added.new.table c.note_term.new.table c.in_ok-entry.entry over.more.keeps c.in_ok-entry.ensures.stands))
+    (subst (λ o. StandsIn c.note_term.new.table o) (sym c.of_lambda.ensures.written) (stands_keep c.number_of_written.new.table c.note_term.new.table c.in_ok-entry.entry over.more.keeps c.in_ok-entry.ensures.stands))
     (subst (λ o. StandsIn c.note_term.new.table o) (sym c.of_lambda.ensures.bound) tt)
-    (ap (λ o. answer c.note_term.new.table o) c.of_lambda.ensures.written ∙ answer_keep c.added.new.table c.note_term.new.table c.in_ok-entry.entry over.more.keeps c.in_ok-entry.ensures.stands ∙ c.in_ok-entry.ensures.entry)
+    (ap (λ o. answer c.note_term.new.table o) c.of_lambda.ensures.written ∙ answer_keep c.number_of_written.new.table c.note_term.new.table c.in_ok-entry.entry over.more.keeps c.in_ok-entry.ensures.stands ∙ c.in_ok-entry.ensures.entry)
     (ap (λ o. answer c.note_term.new.table o) c.of_lambda.ensures.bound)) c.note_here.ensures
 
 pub note_let-note_term-requires-2 : goal.note_let-note_term-requires-2

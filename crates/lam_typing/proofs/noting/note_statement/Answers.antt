@@ -11,7 +11,7 @@ returns-in_ok-push-in-Definition-2 c = rw (ap statement_of c.in-Definition.is)
 
 pub returns-in_ok-push-in-Declaration-2 : goal.returns-in_ok-push-in-Declaration-2
 returns-in_ok-push-in-Declaration-2 c = rw (ap statement_of c.in-Declaration.is)
-    (declared_done c.args.table.now c.added.new.table c.args.notes.now c.push-in-Declaration.new.self c.push-in-Declaration-2.new.self c.args.found.now c.in_ok-entry-in-Declaration.entry (written_of c.in-Declaration.written) c.requires.sound c.requires.found c.added.ensures.keeps
+    (declared_done c.args.table.now c.number_of_written.new.table c.args.notes.now c.push-in-Declaration.new.self c.push-in-Declaration-2.new.self c.args.found.now c.in_ok-entry-in-Declaration.entry (written_of c.in-Declaration.written) c.requires.sound c.requires.found c.number_of_written.ensures.keeps
     c.in_ok-entry-in-Declaration.ensures.stands c.in_ok-entry-in-Declaration.ensures.entry c.in_ok-push-in-Declaration.ensures.items c.in_ok-push-in-Declaration-2.ensures.items)
 
 pub returns-in_ok-push-in-Abbreviation : goal.returns-in_ok-push-in-Abbreviation

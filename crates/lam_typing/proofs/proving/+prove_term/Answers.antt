@@ -107,20 +107,20 @@ prove_fix-returns-clause-proves t c =
 
 pub prove_if-returns-in_default-clause-proves : goal.prove_if-returns-in_default-clause-proves
 prove_if-returns-in_default-clause-proves t c =
-    if_none_else c.args.typing.now (term_of c.args.condition.now) (term_of c.args.one.now) (term_of c.args.other.now) c.args.place (typ_of c.args.ty.now) (none_as c.args.typing.now (term_of c.args.other.now) c.args.place (typ_of c.args.ty.now) c.in_ok-third.field-0 c.in_default.is c.in_ok-third.ensures.proves)
+    if_none_else c.args.typing.now (term_of c.args.condition.now) (term_of c.args.then_term.now) (term_of c.args.else_term.now) c.args.place (typ_of c.args.ty.now) (none_as c.args.typing.now (term_of c.args.else_term.now) c.args.place (typ_of c.args.ty.now) c.in_ok-third.field-0 c.in_default.is c.in_ok-third.ensures.proves)
 
 pub prove_if-returns-in_default-2-clause-proves : goal.prove_if-returns-in_default-2-clause-proves
 prove_if-returns-in_default-2-clause-proves t c =
-    if_none_then c.args.typing.now (term_of c.args.condition.now) (term_of c.args.one.now) (term_of c.args.other.now) c.args.place c.in-Some.third.first (typ_of c.args.ty.now) (some_holds c.in_ok-third.field-0 c.in-Some.third _ c.in-Some.is c.in_ok-third.ensures.first) (none_as c.args.typing.now (term_of c.args.one.now) c.in-Some.third.first (typ_of c.args.ty.now) c.in_ok-second.field-0 c.in_default-2.is c.in_ok-second.ensures.proves)
+    if_none_then c.args.typing.now (term_of c.args.condition.now) (term_of c.args.then_term.now) (term_of c.args.else_term.now) c.args.place c.in-Some.third.first (typ_of c.args.ty.now) (some_holds c.in_ok-third.field-0 c.in-Some.third _ c.in-Some.is c.in_ok-third.ensures.first) (none_as c.args.typing.now (term_of c.args.then_term.now) c.in-Some.third.first (typ_of c.args.ty.now) c.in_ok-second.field-0 c.in_default-2.is c.in_ok-second.ensures.proves)
 
 pub prove_if-returns-in_default-3-clause-proves : goal.prove_if-returns-in_default-3-clause-proves
 prove_if-returns-in_default-3-clause-proves t c =
-    if_none_condition c.args.typing.now (term_of c.args.condition.now) (term_of c.args.one.now) (term_of c.args.other.now) c.args.place c.in-Some.third.first c.in-Some-2.second.first (typ_of c.args.ty.now) (some_holds c.in_ok-third.field-0 c.in-Some.third _ c.in-Some.is c.in_ok-third.ensures.first) (some_holds c.in_ok-second.field-0 c.in-Some-2.second _ c.in-Some-2.is c.in_ok-second.ensures.first) (none_as c.args.typing.now (term_of c.args.condition.now) c.in-Some-2.second.first bool c.in_ok-first.field-0 c.in_default-3.is (subst (λ u. IsProvenAs c.args.typing.now (term_of c.args.condition.now) c.in-Some-2.second.first u (option_map tree_in c.in_ok-first.field-0)) typ_of-Bool c.in_ok-first.ensures.proves))
+    if_none_condition c.args.typing.now (term_of c.args.condition.now) (term_of c.args.then_term.now) (term_of c.args.else_term.now) c.args.place c.in-Some.third.first c.in-Some-2.second.first (typ_of c.args.ty.now) (some_holds c.in_ok-third.field-0 c.in-Some.third _ c.in-Some.is c.in_ok-third.ensures.first) (some_holds c.in_ok-second.field-0 c.in-Some-2.second _ c.in-Some-2.is c.in_ok-second.ensures.first) (none_as c.args.typing.now (term_of c.args.condition.now) c.in-Some-2.second.first bool c.in_ok-first.field-0 c.in_default-3.is (subst (λ u. IsProvenAs c.args.typing.now (term_of c.args.condition.now) c.in-Some-2.second.first u (option_map tree_in c.in_ok-first.field-0)) typ_of-Bool c.in_ok-first.ensures.proves))
 
 pub prove_if-returns-clause-proves : goal.prove_if-returns-clause-proves
 prove_if-returns-clause-proves t c =
-    ok_map c.finish.result _ _ (λ made wide. if_form c.args.typing.now (term_of c.args.condition.now) (term_of c.args.one.now) (term_of c.args.other.now) c.args.place c.in-Some.third.first c.in-Some-2.second.first (typ_of c.args.ty.now) (tree_in c.in-Some-3.first) (tree_in c.in-Some-2.second) (tree_in c.in-Some.third) (option_map tree_in made) (some_holds c.in_ok-third.field-0 c.in-Some.third _ c.in-Some.is c.in_ok-third.ensures.first) (some_holds c.in_ok-second.field-0 c.in-Some-2.second _ c.in-Some-2.is c.in_ok-second.ensures.first)
-    (some_as c.args.typing.now (term_of c.args.other.now) c.args.place (typ_of c.args.ty.now) c.in_ok-third.field-0 c.in-Some.third c.in-Some.is c.in_ok-third.ensures.proves) (some_as c.args.typing.now (term_of c.args.one.now) c.in-Some.third.first (typ_of c.args.ty.now) c.in_ok-second.field-0 c.in-Some-2.second c.in-Some-2.is c.in_ok-second.ensures.proves)
+    ok_map c.finish.result _ _ (λ made wide. if_form c.args.typing.now (term_of c.args.condition.now) (term_of c.args.then_term.now) (term_of c.args.else_term.now) c.args.place c.in-Some.third.first c.in-Some-2.second.first (typ_of c.args.ty.now) (tree_in c.in-Some-3.first) (tree_in c.in-Some-2.second) (tree_in c.in-Some.third) (option_map tree_in made) (some_holds c.in_ok-third.field-0 c.in-Some.third _ c.in-Some.is c.in_ok-third.ensures.first) (some_holds c.in_ok-second.field-0 c.in-Some-2.second _ c.in-Some-2.is c.in_ok-second.ensures.first)
+    (some_as c.args.typing.now (term_of c.args.else_term.now) c.args.place (typ_of c.args.ty.now) c.in_ok-third.field-0 c.in-Some.third c.in-Some.is c.in_ok-third.ensures.proves) (some_as c.args.typing.now (term_of c.args.then_term.now) c.in-Some.third.first (typ_of c.args.ty.now) c.in_ok-second.field-0 c.in-Some-2.second c.in-Some-2.is c.in_ok-second.ensures.proves)
     (some_as c.args.typing.now (term_of c.args.condition.now) c.in-Some-2.second.first bool c.in_ok-first.field-0 c.in-Some-3.first c.in-Some-3.is (subst (λ u. IsProvenAs c.args.typing.now (term_of c.args.condition.now) c.in-Some-2.second.first u (option_map tree_in c.in_ok-first.field-0)) typ_of-Bool c.in_ok-first.ensures.proves))
     (step_as TypeRule.If _ (typ_of c.args.ty.now) _ _ (typ_of c.args.ty.now) (option_map tree_in made) c.args.typing.now.dialect c.in_ok-conclusion.ensures (three_pushed c.new-premises.result.items c.push.new.self.items c.push-2.new.self.items c.push-3.new.self.items c.in-Some-3.first.proof c.in-Some-2.second.proof c.in-Some.third.proof c.new-premises.ensures.items c.in_ok-push.ensures.items c.in_ok-push-2.ensures.items c.in_ok-push-3.ensures.items) wide)) c.finish.ensures.wide
 
@@ -206,7 +206,7 @@ prove_form-returns-in-False-clause-proves t c =
 
 pub prove_form-returns-in-If-clause-proves : goal.prove_form-returns-in-If-clause-proves
 prove_form-returns-in-If-clause-proves t c =
-    rw (ap term_of c.in-If.is ∙ term_of-If c.in-If.condition c.in-If.one c.in-If.other ∙ (λ i. if_then_else (term_of (sym c.deref.ensures i)) (term_of (sym c.deref-in-If.ensures i)) (term_of (sym c.deref-in-If-2.ensures i)))) c.prove_if.ensures.proves
+    rw (ap term_of c.in-If.is ∙ term_of-If c.in-If.condition c.in-If.then_term c.in-If.else_term ∙ (λ i. if_then_else (term_of (sym c.deref.ensures i)) (term_of (sym c.deref-in-If.ensures i)) (term_of (sym c.deref-in-If-2.ensures i)))) c.prove_if.ensures.proves
 
 pub prove_form-returns-in-Num-clause-proves : goal.prove_form-returns-in-Num-clause-proves
 prove_form-returns-in-Num-clause-proves t c =

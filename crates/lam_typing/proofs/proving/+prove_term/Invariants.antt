@@ -13,7 +13,7 @@ abbrev pub decreases-prove_number : goal.decreases-prove_number
 decreases-prove_number l = 4 * size_of (term_of l.operand.now) + 3
 
 abbrev pub decreases-prove_if : goal.decreases-prove_if
-decreases-prove_if l = 4 * (size_of (term_of l.condition.now) + size_of (term_of l.one.now) + size_of (term_of l.other.now)) + 3
+decreases-prove_if l = 4 * (size_of (term_of l.condition.now) + size_of (term_of l.then_term.now) + size_of (term_of l.else_term.now)) + 3
 
 abbrev pub decreases-prove_lambda : goal.decreases-prove_lambda
 decreases-prove_lambda l = 4 * size_of (term_of l.body.now) + 2

@@ -27,7 +27,7 @@ walk_number-returns-in_err-part-clause-stopped t c =
 pub walk_number-returns-clause-walked : goal.walk_number-returns-clause-walked
 walk_number-returns-clause-walked t c =
     ok_of_each _ (λ e. IsNumeric e (term_of c.args.operand.now) (type_of c.args.walk.now.table c.args.outcome)) (λ found e. WalkedOver c.args.walk.now c.settle.new.walk e found) (λ e is.
-    settled_ok _ c.args.walk.now (record c.walk_term.new.walk { verdicts = c.of_number.new.verdicts }) c.settle.new.walk e (λ s. places s (term_of c.args.operand.now)) c.in_ok-found.found c.blame_if-blame.result
+    settled_ok _ c.args.walk.now (record c.walk_term.new.walk { verdicts = c.type_of_number.new.verdicts }) c.settle.new.walk e (λ s. places s (term_of c.args.operand.now)) c.in_ok-found.found c.blame_if-blame.result
     (numeric_places e (term_of c.args.operand.now) _ is) c.in_ok-part.ensures.walked.entries c.in_ok-found.ensures.stands
     (numeric_parts c.args.walk.now c.walk_term.new.walk (term_of c.args.operand.now) c.in_ok-part.part c.in_ok-found.found c.blame_if-blame.result c.in_ok-part.ensures.grows c.in_ok-part.ensures.walked e c.args.outcome c.requires.outcome is c.in_ok-found.ensures.rule
     (subst (λ b. Blames b c.in_ok-found.found (codes "E6") c.blame_if-blame.result) c.is_some.ensures c.blame_if-blame.ensures))
@@ -36,7 +36,7 @@ walk_number-returns-clause-walked t c =
 pub walk_number-returns-clause-stopped : goal.walk_number-returns-clause-stopped
 walk_number-returns-clause-stopped t c =
     err_of_each _ (λ e. IsNumeric e (term_of c.args.operand.now) (type_of c.args.walk.now.table c.args.outcome)) (λ stop e. HasStopped stop c.args.walk.now c.settle.new.walk e) (λ e is.
-    settled_err _ c.args.walk.now (record c.walk_term.new.walk { verdicts = c.of_number.new.verdicts }) c.settle.new.walk e (λ s. places s (term_of c.args.operand.now)) c.in_ok-found.found c.blame_if-blame.result
+    settled_err _ c.args.walk.now (record c.walk_term.new.walk { verdicts = c.type_of_number.new.verdicts }) c.settle.new.walk e (λ s. places s (term_of c.args.operand.now)) c.in_ok-found.found c.blame_if-blame.result
     (numeric_places e (term_of c.args.operand.now) _ is) c.in_ok-part.ensures.walked.entries c.in_ok-found.ensures.stands
     (numeric_parts c.args.walk.now c.walk_term.new.walk (term_of c.args.operand.now) c.in_ok-part.part c.in_ok-found.found c.blame_if-blame.result c.in_ok-part.ensures.grows c.in_ok-part.ensures.walked e c.args.outcome c.requires.outcome is c.in_ok-found.ensures.rule
     (subst (λ b. Blames b c.in_ok-found.found (codes "E6") c.blame_if-blame.result) c.is_some.ensures c.blame_if-blame.ensures))
@@ -49,14 +49,14 @@ walk_fix-returns-in_err-part-clause-stopped t c =
 
 pub walk_fix-returns-clause-walked : goal.walk_fix-returns-clause-walked
 walk_fix-returns-clause-walked t c =
-    settled_ok _ c.args.walk.now (record c.walk_term.new.walk { verdicts = c.fixed.new.verdicts }) c.settle.new.walk (fix (term_of c.args.operand.now)) (λ s. places s (term_of c.args.operand.now)) c.in_ok-found.found c.blame_if-blame.result (λ s. refl) c.in_ok-part.ensures.walked.entries c.in_ok-found.ensures.stands
+    settled_ok _ c.args.walk.now (record c.walk_term.new.walk { verdicts = c.type_of_fix.new.verdicts }) c.settle.new.walk (fix (term_of c.args.operand.now)) (λ s. places s (term_of c.args.operand.now)) c.in_ok-found.found c.blame_if-blame.result (λ s. refl) c.in_ok-part.ensures.walked.entries c.in_ok-found.ensures.stands
     (fix_parts c.args.walk.now c.walk_term.new.walk (term_of c.args.operand.now) c.in_ok-part.part c.in_ok-found.found c.blame_if-blame.result c.in_ok-part.ensures.grows c.in_ok-part.ensures.walked c.in_ok-found.ensures.rule
     (subst (λ b. Blames b c.in_ok-found.found (codes "E8") c.blame_if-blame.result) c.is_some.ensures c.blame_if-blame.ensures))
     c.settle.ensures.settled
 
 pub walk_fix-returns-clause-stopped : goal.walk_fix-returns-clause-stopped
 walk_fix-returns-clause-stopped t c =
-    settled_err _ c.args.walk.now (record c.walk_term.new.walk { verdicts = c.fixed.new.verdicts }) c.settle.new.walk (fix (term_of c.args.operand.now)) (λ s. places s (term_of c.args.operand.now)) c.in_ok-found.found c.blame_if-blame.result (λ s. refl) c.in_ok-part.ensures.walked.entries c.in_ok-found.ensures.stands
+    settled_err _ c.args.walk.now (record c.walk_term.new.walk { verdicts = c.type_of_fix.new.verdicts }) c.settle.new.walk (fix (term_of c.args.operand.now)) (λ s. places s (term_of c.args.operand.now)) c.in_ok-found.found c.blame_if-blame.result (λ s. refl) c.in_ok-part.ensures.walked.entries c.in_ok-found.ensures.stands
     (fix_parts c.args.walk.now c.walk_term.new.walk (term_of c.args.operand.now) c.in_ok-part.part c.in_ok-found.found c.blame_if-blame.result c.in_ok-part.ensures.grows c.in_ok-part.ensures.walked c.in_ok-found.ensures.rule
     (subst (λ b. Blames b c.in_ok-found.found (codes "E8") c.blame_if-blame.result) c.is_some.ensures c.blame_if-blame.ensures))
     c.settle.ensures.stopped
@@ -68,16 +68,16 @@ walk_project-returns-in_err-part-clause-stopped t c =
 
 pub walk_project-returns-clause-walked : goal.walk_project-returns-clause-walked
 walk_project-returns-clause-walked t c =
-    settled_ok _ c.args.walk.now c.walk_term.new.walk c.settle.new.walk (project (term_of c.args.operand.now) c.args.label.now) (λ s. places s (term_of c.args.operand.now)) c.projected-found.result c.blame_if-blame.result (λ s. refl) c.in_ok-part.ensures.walked.entries c.projected-found.ensures.stands
-    (project_parts c.args.walk.now c.walk_term.new.walk (term_of c.args.operand.now) c.in_ok-part.part c.projected-found.result c.blame_if-blame.result c.in_ok-part.ensures.grows c.in_ok-part.ensures.walked c.args.label.now c.projected-found.ensures.rule
-    (subst (λ b. Blames b c.projected-found.result (codes "E4") c.blame_if-blame.result) c.is_some.ensures c.blame_if-blame.ensures))
+    settled_ok _ c.args.walk.now c.walk_term.new.walk c.settle.new.walk (project (term_of c.args.operand.now) c.args.label.now) (λ s. places s (term_of c.args.operand.now)) c.type_of_project-found.result c.blame_if-blame.result (λ s. refl) c.in_ok-part.ensures.walked.entries c.type_of_project-found.ensures.stands
+    (project_parts c.args.walk.now c.walk_term.new.walk (term_of c.args.operand.now) c.in_ok-part.part c.type_of_project-found.result c.blame_if-blame.result c.in_ok-part.ensures.grows c.in_ok-part.ensures.walked c.args.label.now c.type_of_project-found.ensures.rule
+    (subst (λ b. Blames b c.type_of_project-found.result (codes "E4") c.blame_if-blame.result) c.is_some.ensures c.blame_if-blame.ensures))
     c.settle.ensures.settled
 
 pub walk_project-returns-clause-stopped : goal.walk_project-returns-clause-stopped
 walk_project-returns-clause-stopped t c =
-    settled_err _ c.args.walk.now c.walk_term.new.walk c.settle.new.walk (project (term_of c.args.operand.now) c.args.label.now) (λ s. places s (term_of c.args.operand.now)) c.projected-found.result c.blame_if-blame.result (λ s. refl) c.in_ok-part.ensures.walked.entries c.projected-found.ensures.stands
-    (project_parts c.args.walk.now c.walk_term.new.walk (term_of c.args.operand.now) c.in_ok-part.part c.projected-found.result c.blame_if-blame.result c.in_ok-part.ensures.grows c.in_ok-part.ensures.walked c.args.label.now c.projected-found.ensures.rule
-    (subst (λ b. Blames b c.projected-found.result (codes "E4") c.blame_if-blame.result) c.is_some.ensures c.blame_if-blame.ensures))
+    settled_err _ c.args.walk.now c.walk_term.new.walk c.settle.new.walk (project (term_of c.args.operand.now) c.args.label.now) (λ s. places s (term_of c.args.operand.now)) c.type_of_project-found.result c.blame_if-blame.result (λ s. refl) c.in_ok-part.ensures.walked.entries c.type_of_project-found.ensures.stands
+    (project_parts c.args.walk.now c.walk_term.new.walk (term_of c.args.operand.now) c.in_ok-part.part c.type_of_project-found.result c.blame_if-blame.result c.in_ok-part.ensures.grows c.in_ok-part.ensures.walked c.args.label.now c.type_of_project-found.ensures.rule
+    (subst (λ b. Blames b c.type_of_project-found.result (codes "E4") c.blame_if-blame.result) c.is_some.ensures c.blame_if-blame.ensures))
     c.settle.ensures.stopped
 
 pub walk_apply-returns-in_err-first-clause-stopped : goal.walk_apply-returns-in_err-first-clause-stopped
@@ -96,7 +96,7 @@ walk_apply-returns-in_err-second-clause-stopped t c =
 
 pub walk_apply-returns-clause-walked : goal.walk_apply-returns-clause-walked
 walk_apply-returns-clause-walked t c =
-    settled_ok _ c.args.walk.now (record c.walk_term-2.new.walk { verdicts = c.applied.new.verdicts }) c.settle.new.walk (apply (term_of c.args.function.now) (term_of c.args.argument.now)) (λ s. places s (term_of c.args.function.now) ++ places s (term_of c.args.argument.now)) c.in_ok-found.found c.blame_if-blame.result (λ s. refl)
+    settled_ok _ c.args.walk.now (record c.walk_term-2.new.walk { verdicts = c.type_of_apply.new.verdicts }) c.settle.new.walk (apply (term_of c.args.function.now) (term_of c.args.argument.now)) (λ s. places s (term_of c.args.function.now) ++ places s (term_of c.args.argument.now)) c.in_ok-found.found c.blame_if-blame.result (λ s. refl)
     (c.in_ok-second.ensures.walked.entries ∙ c.in_ok-first.ensures.walked.entries) c.in_ok-found.ensures.stands
     (apply_parts c.args.walk.now c.walk_term.new.walk c.walk_term-2.new.walk (term_of c.args.function.now) (term_of c.args.argument.now) c.in_ok-first.first c.in_ok-second.second c.in_ok-found.found c.application_code-code.result.now c.blame_if-blame.result
     c.requires.sound c.in_ok-first.ensures.grows c.in_ok-first.ensures.walked c.in_ok-second.ensures.grows c.in_ok-second.ensures.walked c.in_ok-found.ensures.rule c.application_code-code.ensures
@@ -105,7 +105,7 @@ walk_apply-returns-clause-walked t c =
 
 pub walk_apply-returns-clause-stopped : goal.walk_apply-returns-clause-stopped
 walk_apply-returns-clause-stopped t c =
-    settled_err _ c.args.walk.now (record c.walk_term-2.new.walk { verdicts = c.applied.new.verdicts }) c.settle.new.walk (apply (term_of c.args.function.now) (term_of c.args.argument.now)) (λ s. places s (term_of c.args.function.now) ++ places s (term_of c.args.argument.now)) c.in_ok-found.found c.blame_if-blame.result (λ s. refl)
+    settled_err _ c.args.walk.now (record c.walk_term-2.new.walk { verdicts = c.type_of_apply.new.verdicts }) c.settle.new.walk (apply (term_of c.args.function.now) (term_of c.args.argument.now)) (λ s. places s (term_of c.args.function.now) ++ places s (term_of c.args.argument.now)) c.in_ok-found.found c.blame_if-blame.result (λ s. refl)
     (c.in_ok-second.ensures.walked.entries ∙ c.in_ok-first.ensures.walked.entries) c.in_ok-found.ensures.stands
     (apply_parts c.args.walk.now c.walk_term.new.walk c.walk_term-2.new.walk (term_of c.args.function.now) (term_of c.args.argument.now) c.in_ok-first.first c.in_ok-second.second c.in_ok-found.found c.application_code-code.result.now c.blame_if-blame.result
     c.requires.sound c.in_ok-first.ensures.grows c.in_ok-first.ensures.walked c.in_ok-second.ensures.grows c.in_ok-second.ensures.walked c.in_ok-found.ensures.rule c.application_code-code.ensures
@@ -140,32 +140,32 @@ walk_if-returns-in_err-third-clause-stopped t c =
     (among_from _ (entries_of c.walk_term-2.new.walk) (entries_of c.args.walk.now) (λ s. places s (term_of c.args.else_term.now)) c.walk_term-2.new.walk c.walk_term-2.new.walk c.walk_term-3.new.walk _ _ same_2 refl (c.in_ok-second.ensures.grows.dialect ∙ c.in_ok-first.ensures.grows.dialect) c.in_err-third.ensures.stopped)))
 
 pub walk_if-returns-in_err-found-clause-grows : goal.walk_if-returns-in_err-found-clause-grows
-walk_if-returns-in_err-found-clause-grows t c = stepped_grows c.args.walk.now c.walk_term-3.new.walk c.chosen.new.table c.chosen.new.verdicts (grows_trans c.args.walk.now c.walk_term-2.new.walk c.walk_term-3.new.walk (grows_trans c.args.walk.now c.walk_term.new.walk c.walk_term-2.new.walk c.in_ok-first.ensures.grows c.in_ok-second.ensures.grows) c.in_ok-third.ensures.grows) c.chosen.ensures.keeps c.chosen.ensures.right c.chosen.ensures.dialect
+walk_if-returns-in_err-found-clause-grows t c = stepped_grows c.args.walk.now c.walk_term-3.new.walk c.type_of_if.new.table c.type_of_if.new.verdicts (grows_trans c.args.walk.now c.walk_term-2.new.walk c.walk_term-3.new.walk (grows_trans c.args.walk.now c.walk_term.new.walk c.walk_term-2.new.walk c.in_ok-first.ensures.grows c.in_ok-second.ensures.grows) c.in_ok-third.ensures.grows) c.type_of_if.ensures.keeps c.type_of_if.ensures.right c.type_of_if.ensures.dialect
 
 pub walk_if-settle-requires-clause-sound : goal.walk_if-settle-requires-clause-sound
-walk_if-settle-requires-clause-sound t c = (stepped_grows c.args.walk.now c.walk_term-3.new.walk c.chosen.new.table c.chosen.new.verdicts (grows_trans c.args.walk.now c.walk_term-2.new.walk c.walk_term-3.new.walk (grows_trans c.args.walk.now c.walk_term.new.walk c.walk_term-2.new.walk c.in_ok-first.ensures.grows c.in_ok-second.ensures.grows) c.in_ok-third.ensures.grows) c.chosen.ensures.keeps c.chosen.ensures.right c.chosen.ensures.dialect).sound
+walk_if-settle-requires-clause-sound t c = (stepped_grows c.args.walk.now c.walk_term-3.new.walk c.type_of_if.new.table c.type_of_if.new.verdicts (grows_trans c.args.walk.now c.walk_term-2.new.walk c.walk_term-3.new.walk (grows_trans c.args.walk.now c.walk_term.new.walk c.walk_term-2.new.walk c.in_ok-first.ensures.grows c.in_ok-second.ensures.grows) c.in_ok-third.ensures.grows) c.type_of_if.ensures.keeps c.type_of_if.ensures.right c.type_of_if.ensures.dialect).sound
 
 pub walk_if-returns-clause-grows : goal.walk_if-returns-clause-grows
-walk_if-returns-clause-grows t c = grows_trans c.args.walk.now (stepped c.walk_term-3.new.walk c.chosen.new.table c.chosen.new.verdicts) c.settle.new.walk (stepped_grows c.args.walk.now c.walk_term-3.new.walk c.chosen.new.table c.chosen.new.verdicts (grows_trans c.args.walk.now c.walk_term-2.new.walk c.walk_term-3.new.walk (grows_trans c.args.walk.now c.walk_term.new.walk c.walk_term-2.new.walk c.in_ok-first.ensures.grows c.in_ok-second.ensures.grows) c.in_ok-third.ensures.grows) c.chosen.ensures.keeps c.chosen.ensures.right c.chosen.ensures.dialect) c.settle.ensures.grows
+walk_if-returns-clause-grows t c = grows_trans c.args.walk.now (stepped c.walk_term-3.new.walk c.type_of_if.new.table c.type_of_if.new.verdicts) c.settle.new.walk (stepped_grows c.args.walk.now c.walk_term-3.new.walk c.type_of_if.new.table c.type_of_if.new.verdicts (grows_trans c.args.walk.now c.walk_term-2.new.walk c.walk_term-3.new.walk (grows_trans c.args.walk.now c.walk_term.new.walk c.walk_term-2.new.walk c.in_ok-first.ensures.grows c.in_ok-second.ensures.grows) c.in_ok-third.ensures.grows) c.type_of_if.ensures.keeps c.type_of_if.ensures.right c.type_of_if.ensures.dialect) c.settle.ensures.grows
 
 pub walk_if-returns-clause-walked : goal.walk_if-returns-clause-walked
 walk_if-returns-clause-walked t c =
-    settled_ok _ c.args.walk.now (stepped c.walk_term-3.new.walk c.chosen.new.table c.chosen.new.verdicts) c.settle.new.walk (if_then_else (term_of c.args.condition.now) (term_of c.args.then_term.now) (term_of c.args.else_term.now)) (λ s. (places s (term_of c.args.condition.now) ++ places s (term_of c.args.then_term.now)) ++ places s (term_of c.args.else_term.now)) c.in_ok-found.found c.blame_if-blame.result (λ s. refl)
+    settled_ok _ c.args.walk.now (stepped c.walk_term-3.new.walk c.type_of_if.new.table c.type_of_if.new.verdicts) c.settle.new.walk (if_then_else (term_of c.args.condition.now) (term_of c.args.then_term.now) (term_of c.args.else_term.now)) (λ s. (places s (term_of c.args.condition.now) ++ places s (term_of c.args.then_term.now)) ++ places s (term_of c.args.else_term.now)) c.in_ok-found.found c.blame_if-blame.result (λ s. refl)
     (c.in_ok-third.ensures.walked.entries ∙ c.in_ok-second.ensures.walked.entries ∙ c.in_ok-first.ensures.walked.entries) c.in_ok-found.ensures.stands
-    (if_parts c.args.walk.now c.walk_term.new.walk c.walk_term-2.new.walk c.walk_term-3.new.walk (stepped c.walk_term-3.new.walk c.chosen.new.table c.chosen.new.verdicts) (term_of c.args.condition.now) (term_of c.args.then_term.now) (term_of c.args.else_term.now) c.in_ok-first.first c.in_ok-second.second c.in_ok-third.third c.in_ok-found.found c.blame_if-blame.result
+    (if_parts c.args.walk.now c.walk_term.new.walk c.walk_term-2.new.walk c.walk_term-3.new.walk (stepped c.walk_term-3.new.walk c.type_of_if.new.table c.type_of_if.new.verdicts) (term_of c.args.condition.now) (term_of c.args.then_term.now) (term_of c.args.else_term.now) c.in_ok-first.first c.in_ok-second.second c.in_ok-third.third c.in_ok-found.found c.blame_if-blame.result
     c.requires.sound c.in_ok-first.ensures.grows c.in_ok-first.ensures.walked c.in_ok-second.ensures.grows c.in_ok-second.ensures.walked c.in_ok-third.ensures.grows c.in_ok-third.ensures.walked
-    (progress_same c.walk_term-3.new.walk (stepped c.walk_term-3.new.walk c.chosen.new.table c.chosen.new.verdicts) c.in_ok-third.ensures.grows.sound c.chosen.ensures.keeps refl refl)
+    (progress_same c.walk_term-3.new.walk (stepped c.walk_term-3.new.walk c.type_of_if.new.table c.type_of_if.new.verdicts) c.in_ok-third.ensures.grows.sound c.type_of_if.ensures.keeps refl refl)
     c.in_ok-found.ensures.rule
     (subst (λ b. Blames b c.in_ok-found.found (codes "E5") c.blame_if-blame.result) c.are_all_found.ensures c.blame_if-blame.ensures))
     c.settle.ensures.settled
 
 pub walk_if-returns-clause-stopped : goal.walk_if-returns-clause-stopped
 walk_if-returns-clause-stopped t c =
-    settled_err _ c.args.walk.now (stepped c.walk_term-3.new.walk c.chosen.new.table c.chosen.new.verdicts) c.settle.new.walk (if_then_else (term_of c.args.condition.now) (term_of c.args.then_term.now) (term_of c.args.else_term.now)) (λ s. (places s (term_of c.args.condition.now) ++ places s (term_of c.args.then_term.now)) ++ places s (term_of c.args.else_term.now)) c.in_ok-found.found c.blame_if-blame.result (λ s. refl)
+    settled_err _ c.args.walk.now (stepped c.walk_term-3.new.walk c.type_of_if.new.table c.type_of_if.new.verdicts) c.settle.new.walk (if_then_else (term_of c.args.condition.now) (term_of c.args.then_term.now) (term_of c.args.else_term.now)) (λ s. (places s (term_of c.args.condition.now) ++ places s (term_of c.args.then_term.now)) ++ places s (term_of c.args.else_term.now)) c.in_ok-found.found c.blame_if-blame.result (λ s. refl)
     (c.in_ok-third.ensures.walked.entries ∙ c.in_ok-second.ensures.walked.entries ∙ c.in_ok-first.ensures.walked.entries) c.in_ok-found.ensures.stands
-    (if_parts c.args.walk.now c.walk_term.new.walk c.walk_term-2.new.walk c.walk_term-3.new.walk (stepped c.walk_term-3.new.walk c.chosen.new.table c.chosen.new.verdicts) (term_of c.args.condition.now) (term_of c.args.then_term.now) (term_of c.args.else_term.now) c.in_ok-first.first c.in_ok-second.second c.in_ok-third.third c.in_ok-found.found c.blame_if-blame.result
+    (if_parts c.args.walk.now c.walk_term.new.walk c.walk_term-2.new.walk c.walk_term-3.new.walk (stepped c.walk_term-3.new.walk c.type_of_if.new.table c.type_of_if.new.verdicts) (term_of c.args.condition.now) (term_of c.args.then_term.now) (term_of c.args.else_term.now) c.in_ok-first.first c.in_ok-second.second c.in_ok-third.third c.in_ok-found.found c.blame_if-blame.result
     c.requires.sound c.in_ok-first.ensures.grows c.in_ok-first.ensures.walked c.in_ok-second.ensures.grows c.in_ok-second.ensures.walked c.in_ok-third.ensures.grows c.in_ok-third.ensures.walked
-    (progress_same c.walk_term-3.new.walk (stepped c.walk_term-3.new.walk c.chosen.new.table c.chosen.new.verdicts) c.in_ok-third.ensures.grows.sound c.chosen.ensures.keeps refl refl)
+    (progress_same c.walk_term-3.new.walk (stepped c.walk_term-3.new.walk c.type_of_if.new.table c.type_of_if.new.verdicts) c.in_ok-third.ensures.grows.sound c.type_of_if.ensures.keeps refl refl)
     c.in_ok-found.ensures.rule
     (subst (λ b. Blames b c.in_ok-found.found (codes "E5") c.blame_if-blame.result) c.are_all_found.ensures c.blame_if-blame.ensures))
     c.settle.ensures.stopped
@@ -176,77 +176,77 @@ walk_ascribe-returns-in_err-part-clause-stopped t c =
     (among_front _ (entries_of c.args.walk.now) (λ s. places s (term_of c.args.operand.now)) (λ s. record { scope = s; here = (ascribe (term_of c.args.operand.now) (written_of c.args.written.now)) } ∷ []) c.args.walk.now c.walk_term.new.walk _ c.in_err-part.ensures.stopped)
 
 pub walk_ascribe-returns-in_err-entry-clause-grows : goal.walk_ascribe-returns-in_err-entry-clause-grows
-walk_ascribe-returns-in_err-entry-clause-grows t c = retabled_grows c.args.walk.now c.walk_term.new.walk c.added.new.table c.in_ok-part.ensures.grows c.added.ensures.keeps
+walk_ascribe-returns-in_err-entry-clause-grows t c = retabled_grows c.args.walk.now c.walk_term.new.walk c.number_of_written.new.table c.in_ok-part.ensures.grows c.number_of_written.ensures.keeps
 
-pub walk_ascribe-ascribed-requires-clause-right : goal.walk_ascribe-ascribed-requires-clause-right
-walk_ascribe-ascribed-requires-clause-right t c = (retabled_grows c.args.walk.now c.walk_term.new.walk c.added.new.table c.in_ok-part.ensures.grows c.added.ensures.keeps).sound.verdicts
+pub walk_ascribe-type_of_ascribe-requires-clause-right : goal.walk_ascribe-type_of_ascribe-requires-clause-right
+walk_ascribe-type_of_ascribe-requires-clause-right t c = (retabled_grows c.args.walk.now c.walk_term.new.walk c.number_of_written.new.table c.in_ok-part.ensures.grows c.number_of_written.ensures.keeps).sound.verdicts
 
-pub walk_ascribe-ascribed-requires-clause-operand : goal.walk_ascribe-ascribed-requires-clause-operand
-walk_ascribe-ascribed-requires-clause-operand t c = stands_keep c.walk_term.new.walk.table c.added.new.table c.in_ok-part.part c.added.ensures.keeps c.in_ok-part.ensures.walked.stands
+pub walk_ascribe-type_of_ascribe-requires-clause-operand : goal.walk_ascribe-type_of_ascribe-requires-clause-operand
+walk_ascribe-type_of_ascribe-requires-clause-operand t c = stands_keep c.walk_term.new.walk.table c.number_of_written.new.table c.in_ok-part.part c.number_of_written.ensures.keeps c.in_ok-part.ensures.walked.stands
 
 pub walk_ascribe-returns-in_err-found-clause-grows : goal.walk_ascribe-returns-in_err-found-clause-grows
-walk_ascribe-returns-in_err-found-clause-grows t c = stepped_grows c.args.walk.now c.walk_term.new.walk c.added.new.table c.ascribed.new.verdicts c.in_ok-part.ensures.grows c.added.ensures.keeps c.ascribed.ensures.right c.ascribed.ensures.dialect
+walk_ascribe-returns-in_err-found-clause-grows t c = stepped_grows c.args.walk.now c.walk_term.new.walk c.number_of_written.new.table c.type_of_ascribe.new.verdicts c.in_ok-part.ensures.grows c.number_of_written.ensures.keeps c.type_of_ascribe.ensures.right c.type_of_ascribe.ensures.dialect
 
 pub walk_ascribe-settle-requires-clause-sound : goal.walk_ascribe-settle-requires-clause-sound
-walk_ascribe-settle-requires-clause-sound t c = (stepped_grows c.args.walk.now c.walk_term.new.walk c.added.new.table c.ascribed.new.verdicts c.in_ok-part.ensures.grows c.added.ensures.keeps c.ascribed.ensures.right c.ascribed.ensures.dialect).sound
+walk_ascribe-settle-requires-clause-sound t c = (stepped_grows c.args.walk.now c.walk_term.new.walk c.number_of_written.new.table c.type_of_ascribe.new.verdicts c.in_ok-part.ensures.grows c.number_of_written.ensures.keeps c.type_of_ascribe.ensures.right c.type_of_ascribe.ensures.dialect).sound
 
 pub walk_ascribe-returns-clause-walked : goal.walk_ascribe-returns-clause-walked
 walk_ascribe-returns-clause-walked t c =
-    settled_ok _ c.args.walk.now (stepped c.walk_term.new.walk c.added.new.table c.ascribed.new.verdicts) c.settle.new.walk (ascribe (term_of c.args.operand.now) (written_of c.args.written.now)) (λ s. places s (term_of c.args.operand.now)) c.in_ok-found.found c.blame_if-blame.result (λ s. refl) c.in_ok-part.ensures.walked.entries c.in_ok-found.ensures.stands
-    (ascribe_parts c.args.walk.now c.walk_term.new.walk (record c.walk_term.new.walk { table = c.added.new.table }) (term_of c.args.operand.now) (written_of c.args.written.now) c.in_ok-entry.entry c.in_ok-part.part c.in_ok-found.found c.blame_if-blame.result c.in_ok-part.ensures.grows c.in_ok-part.ensures.walked c.added.ensures.keeps
-    (progress_same c.walk_term.new.walk (record c.walk_term.new.walk { table = c.added.new.table }) c.in_ok-part.ensures.grows.sound c.added.ensures.keeps refl refl)
+    settled_ok _ c.args.walk.now (stepped c.walk_term.new.walk c.number_of_written.new.table c.type_of_ascribe.new.verdicts) c.settle.new.walk (ascribe (term_of c.args.operand.now) (written_of c.args.written.now)) (λ s. places s (term_of c.args.operand.now)) c.in_ok-found.found c.blame_if-blame.result (λ s. refl) c.in_ok-part.ensures.walked.entries c.in_ok-found.ensures.stands
+    (ascribe_parts c.args.walk.now c.walk_term.new.walk (record c.walk_term.new.walk { table = c.number_of_written.new.table }) (term_of c.args.operand.now) (written_of c.args.written.now) c.in_ok-entry.entry c.in_ok-part.part c.in_ok-found.found c.blame_if-blame.result c.in_ok-part.ensures.grows c.in_ok-part.ensures.walked c.number_of_written.ensures.keeps
+    (progress_same c.walk_term.new.walk (record c.walk_term.new.walk { table = c.number_of_written.new.table }) c.in_ok-part.ensures.grows.sound c.number_of_written.ensures.keeps refl refl)
     c.in_ok-entry.ensures.entry c.in_ok-found.ensures.rule
     (subst (λ b. Blames b c.in_ok-found.found (codes "E7") c.blame_if-blame.result) c.are_both_found.ensures c.blame_if-blame.ensures))
     c.settle.ensures.settled
 
 pub walk_ascribe-returns-clause-stopped : goal.walk_ascribe-returns-clause-stopped
 walk_ascribe-returns-clause-stopped t c =
-    settled_err _ c.args.walk.now (stepped c.walk_term.new.walk c.added.new.table c.ascribed.new.verdicts) c.settle.new.walk (ascribe (term_of c.args.operand.now) (written_of c.args.written.now)) (λ s. places s (term_of c.args.operand.now)) c.in_ok-found.found c.blame_if-blame.result (λ s. refl) c.in_ok-part.ensures.walked.entries c.in_ok-found.ensures.stands
-    (ascribe_parts c.args.walk.now c.walk_term.new.walk (record c.walk_term.new.walk { table = c.added.new.table }) (term_of c.args.operand.now) (written_of c.args.written.now) c.in_ok-entry.entry c.in_ok-part.part c.in_ok-found.found c.blame_if-blame.result c.in_ok-part.ensures.grows c.in_ok-part.ensures.walked c.added.ensures.keeps
-    (progress_same c.walk_term.new.walk (record c.walk_term.new.walk { table = c.added.new.table }) c.in_ok-part.ensures.grows.sound c.added.ensures.keeps refl refl)
+    settled_err _ c.args.walk.now (stepped c.walk_term.new.walk c.number_of_written.new.table c.type_of_ascribe.new.verdicts) c.settle.new.walk (ascribe (term_of c.args.operand.now) (written_of c.args.written.now)) (λ s. places s (term_of c.args.operand.now)) c.in_ok-found.found c.blame_if-blame.result (λ s. refl) c.in_ok-part.ensures.walked.entries c.in_ok-found.ensures.stands
+    (ascribe_parts c.args.walk.now c.walk_term.new.walk (record c.walk_term.new.walk { table = c.number_of_written.new.table }) (term_of c.args.operand.now) (written_of c.args.written.now) c.in_ok-entry.entry c.in_ok-part.part c.in_ok-found.found c.blame_if-blame.result c.in_ok-part.ensures.grows c.in_ok-part.ensures.walked c.number_of_written.ensures.keeps
+    (progress_same c.walk_term.new.walk (record c.walk_term.new.walk { table = c.number_of_written.new.table }) c.in_ok-part.ensures.grows.sound c.number_of_written.ensures.keeps refl refl)
     c.in_ok-entry.ensures.entry c.in_ok-found.ensures.rule
     (subst (λ b. Blames b c.in_ok-found.found (codes "E7") c.blame_if-blame.result) c.are_both_found.ensures c.blame_if-blame.ensures))
     c.settle.ensures.stopped
 
 pub walk_lambda-returns-in_err-parameter-clause-grows : goal.walk_lambda-returns-in_err-parameter-clause-grows
-walk_lambda-returns-in_err-parameter-clause-grows t c = retabled_grows c.args.walk.now c.args.walk.now c.added.new.table (grows_same c.args.walk.now c.requires.sound) c.added.ensures.keeps
+walk_lambda-returns-in_err-parameter-clause-grows t c = retabled_grows c.args.walk.now c.args.walk.now c.number_of_written.new.table (grows_same c.args.walk.now c.requires.sound) c.number_of_written.ensures.keeps
 
 pub walk_lambda-returns-in_err-push-clause-grows : goal.walk_lambda-returns-in_err-push-clause-grows
-walk_lambda-returns-in_err-push-clause-grows t c = pushed_grows c.args.walk.now c.added.new.table c.push.new.self c.in_ok-parameter.parameter c.requires.sound c.added.ensures.keeps (put_or_not _ _ _ _ c.push.ensures.items) c.in_ok-parameter.ensures.stands
+walk_lambda-returns-in_err-push-clause-grows t c = pushed_grows c.args.walk.now c.number_of_written.new.table c.push.new.self c.in_ok-parameter.parameter c.requires.sound c.number_of_written.ensures.keeps (put_or_not _ _ _ _ c.push.ensures.items) c.in_ok-parameter.ensures.stands
 
 pub walk_lambda-walk_term-requires : goal.walk_lambda-walk_term-requires
-walk_lambda-walk_term-requires t c = (omega (arith, c.decreases), ((pushed_grows c.args.walk.now c.added.new.table c.push.new.self c.in_ok-parameter.parameter c.requires.sound c.added.ensures.keeps (inl c.in_ok-push.ensures.items) c.in_ok-parameter.ensures.stands).sound, c.requires.body))
+walk_lambda-walk_term-requires t c = (omega (arith, c.decreases), ((pushed_grows c.args.walk.now c.number_of_written.new.table c.push.new.self c.in_ok-parameter.parameter c.requires.sound c.number_of_written.ensures.keeps (inl c.in_ok-push.ensures.items) c.in_ok-parameter.ensures.stands).sound, c.requires.body))
 
 pub walk_lambda-returns-in_err-outcome-clause-stopped : goal.walk_lambda-returns-in_err-outcome-clause-stopped
 walk_lambda-returns-in_err-outcome-clause-stopped t c =
     err_stopped c.from_residual-in_err-outcome.result _ c.args.walk.now c.walk_term.new.walk (lambda (written_of c.args.written.now) (term_of c.args.body.now)) c.from_residual-in_err-outcome.ensures.1
     (among_front _ (entries_of c.args.walk.now) (λ s. places (written (written_of c.args.written.now) ∷ s) (term_of c.args.body.now)) (λ s. record { scope = s; here = (lambda (written_of c.args.written.now) (term_of c.args.body.now)) } ∷ []) c.args.walk.now c.walk_term.new.walk _
     (among_under _ (written (written_of c.args.written.now)) (written_of c.args.written.now) (entries_of c.args.walk.now) (λ s. places s (term_of c.args.body.now)) c.args.walk.now c.walk_term.new.walk _ (λ s low. lowest_written (written_of c.args.written.now) s (written_of c.args.written.now) (entries_of c.args.walk.now) _ c.requires.written refl low)
-    (among_from _ (entries_of (record c.args.walk.now { table = c.added.new.table; entries = c.push.new.self })) ((written_of c.args.written.now) ∷ entries_of c.args.walk.now) (λ s. places s (term_of c.args.body.now)) (record c.args.walk.now { table = c.added.new.table; entries = c.push.new.self }) c.args.walk.now c.walk_term.new.walk _ _ (under_entry c.args.walk.now c.added.new.table c.push.new.self c.in_ok-parameter.parameter (written_of c.args.written.now) c.requires.sound c.added.ensures.keeps c.in_ok-push.ensures.items c.in_ok-parameter.ensures.entry) (progress_same c.args.walk.now (record c.args.walk.now { table = c.added.new.table; entries = c.push.new.self }) c.requires.sound c.added.ensures.keeps refl refl) refl c.in_err-outcome.ensures.stopped)))
+    (among_from _ (entries_of (record c.args.walk.now { table = c.number_of_written.new.table; entries = c.push.new.self })) ((written_of c.args.written.now) ∷ entries_of c.args.walk.now) (λ s. places s (term_of c.args.body.now)) (record c.args.walk.now { table = c.number_of_written.new.table; entries = c.push.new.self }) c.args.walk.now c.walk_term.new.walk _ _ (under_entry c.args.walk.now c.number_of_written.new.table c.push.new.self c.in_ok-parameter.parameter (written_of c.args.written.now) c.requires.sound c.number_of_written.ensures.keeps c.in_ok-push.ensures.items c.in_ok-parameter.ensures.entry) (progress_same c.args.walk.now (record c.args.walk.now { table = c.number_of_written.new.table; entries = c.push.new.self }) c.requires.sound c.number_of_written.ensures.keeps refl refl) refl c.in_err-outcome.ensures.stopped)))
 
 pub walk_lambda-returns-in_err-found-clause-grows : goal.walk_lambda-returns-in_err-found-clause-grows
-walk_lambda-returns-in_err-found-clause-grows t c = (popped_grows c.args.walk.now (record c.args.walk.now { table = c.added.new.table; entries = c.push.new.self }) c.walk_term.new.walk c.abstracted.new.table c.pop.new.self (pushed_grows c.args.walk.now c.added.new.table c.push.new.self c.in_ok-parameter.parameter c.requires.sound c.added.ensures.keeps (inl c.in_ok-push.ensures.items) c.in_ok-parameter.ensures.stands) c.in_ok-outcome.ensures.grows c.abstracted.ensures.keeps (popped_is c.push.new.self c.walk_term.new.walk c.pop.new.self c.args.walk.now.entries.items c.in_ok-parameter.parameter c.in_ok-push.ensures.items c.in_ok-outcome.ensures.walked.entries c.pop.ensures.rest) c.requires.sound)
+walk_lambda-returns-in_err-found-clause-grows t c = (popped_grows c.args.walk.now (record c.args.walk.now { table = c.number_of_written.new.table; entries = c.push.new.self }) c.walk_term.new.walk c.type_of_lambda.new.table c.pop.new.self (pushed_grows c.args.walk.now c.number_of_written.new.table c.push.new.self c.in_ok-parameter.parameter c.requires.sound c.number_of_written.ensures.keeps (inl c.in_ok-push.ensures.items) c.in_ok-parameter.ensures.stands) c.in_ok-outcome.ensures.grows c.type_of_lambda.ensures.keeps (popped_is c.push.new.self c.walk_term.new.walk c.pop.new.self c.args.walk.now.entries.items c.in_ok-parameter.parameter c.in_ok-push.ensures.items c.in_ok-outcome.ensures.walked.entries c.pop.ensures.rest) c.requires.sound)
 
 pub walk_lambda-settle-requires-clause-sound : goal.walk_lambda-settle-requires-clause-sound
-walk_lambda-settle-requires-clause-sound t c = (popped_grows c.args.walk.now (record c.args.walk.now { table = c.added.new.table; entries = c.push.new.self }) c.walk_term.new.walk c.abstracted.new.table c.pop.new.self (pushed_grows c.args.walk.now c.added.new.table c.push.new.self c.in_ok-parameter.parameter c.requires.sound c.added.ensures.keeps (inl c.in_ok-push.ensures.items) c.in_ok-parameter.ensures.stands) c.in_ok-outcome.ensures.grows c.abstracted.ensures.keeps (popped_is c.push.new.self c.walk_term.new.walk c.pop.new.self c.args.walk.now.entries.items c.in_ok-parameter.parameter c.in_ok-push.ensures.items c.in_ok-outcome.ensures.walked.entries c.pop.ensures.rest) c.requires.sound).sound
+walk_lambda-settle-requires-clause-sound t c = (popped_grows c.args.walk.now (record c.args.walk.now { table = c.number_of_written.new.table; entries = c.push.new.self }) c.walk_term.new.walk c.type_of_lambda.new.table c.pop.new.self (pushed_grows c.args.walk.now c.number_of_written.new.table c.push.new.self c.in_ok-parameter.parameter c.requires.sound c.number_of_written.ensures.keeps (inl c.in_ok-push.ensures.items) c.in_ok-parameter.ensures.stands) c.in_ok-outcome.ensures.grows c.type_of_lambda.ensures.keeps (popped_is c.push.new.self c.walk_term.new.walk c.pop.new.self c.args.walk.now.entries.items c.in_ok-parameter.parameter c.in_ok-push.ensures.items c.in_ok-outcome.ensures.walked.entries c.pop.ensures.rest) c.requires.sound).sound
 
 pub walk_lambda-returns-clause-walked : goal.walk_lambda-returns-clause-walked
 walk_lambda-returns-clause-walked t c =
-    settled_ok _ c.args.walk.now (record c.walk_term.new.walk { table = c.abstracted.new.table; entries = c.pop.new.self }) c.settle.new.walk (lambda (written_of c.args.written.now) (term_of c.args.body.now)) (λ s. places (written (written_of c.args.written.now) ∷ s) (term_of c.args.body.now)) c.in_ok-found.found None (λ s. refl) (popped_is c.push.new.self c.walk_term.new.walk c.pop.new.self c.args.walk.now.entries.items c.in_ok-parameter.parameter c.in_ok-push.ensures.items c.in_ok-outcome.ensures.walked.entries c.pop.ensures.rest) c.in_ok-found.ensures.stands
-    (lambda_parts c.args.walk.now (record c.args.walk.now { table = c.added.new.table; entries = c.push.new.self }) c.walk_term.new.walk (record c.walk_term.new.walk { table = c.abstracted.new.table; entries = c.pop.new.self }) (term_of c.args.body.now) (written_of c.args.written.now) c.in_ok-outcome.outcome c.in_ok-found.found c.requires.written (under_entry c.args.walk.now c.added.new.table c.push.new.self c.in_ok-parameter.parameter (written_of c.args.written.now) c.requires.sound c.added.ensures.keeps c.in_ok-push.ensures.items c.in_ok-parameter.ensures.entry) (progress_same c.args.walk.now (record c.args.walk.now { table = c.added.new.table; entries = c.push.new.self }) c.requires.sound c.added.ensures.keeps refl refl) refl c.in_ok-outcome.ensures.walked
-    (progress_same c.walk_term.new.walk (record c.walk_term.new.walk { table = c.abstracted.new.table; entries = c.pop.new.self }) c.in_ok-outcome.ensures.grows.sound c.abstracted.ensures.keeps refl refl)
-    (subst (λ v. LambdaRule v (answer c.walk_term.new.walk.table c.in_ok-outcome.outcome) (answer c.abstracted.new.table c.in_ok-found.found))
-    (answer_keep c.added.new.table c.walk_term.new.walk.table c.in_ok-parameter.parameter c.in_ok-outcome.ensures.grows.keeps c.in_ok-parameter.ensures.stands ∙ c.in_ok-parameter.ensures.entry)
+    settled_ok _ c.args.walk.now (record c.walk_term.new.walk { table = c.type_of_lambda.new.table; entries = c.pop.new.self }) c.settle.new.walk (lambda (written_of c.args.written.now) (term_of c.args.body.now)) (λ s. places (written (written_of c.args.written.now) ∷ s) (term_of c.args.body.now)) c.in_ok-found.found None (λ s. refl) (popped_is c.push.new.self c.walk_term.new.walk c.pop.new.self c.args.walk.now.entries.items c.in_ok-parameter.parameter c.in_ok-push.ensures.items c.in_ok-outcome.ensures.walked.entries c.pop.ensures.rest) c.in_ok-found.ensures.stands
+    (lambda_parts c.args.walk.now (record c.args.walk.now { table = c.number_of_written.new.table; entries = c.push.new.self }) c.walk_term.new.walk (record c.walk_term.new.walk { table = c.type_of_lambda.new.table; entries = c.pop.new.self }) (term_of c.args.body.now) (written_of c.args.written.now) c.in_ok-outcome.outcome c.in_ok-found.found c.requires.written (under_entry c.args.walk.now c.number_of_written.new.table c.push.new.self c.in_ok-parameter.parameter (written_of c.args.written.now) c.requires.sound c.number_of_written.ensures.keeps c.in_ok-push.ensures.items c.in_ok-parameter.ensures.entry) (progress_same c.args.walk.now (record c.args.walk.now { table = c.number_of_written.new.table; entries = c.push.new.self }) c.requires.sound c.number_of_written.ensures.keeps refl refl) refl c.in_ok-outcome.ensures.walked
+    (progress_same c.walk_term.new.walk (record c.walk_term.new.walk { table = c.type_of_lambda.new.table; entries = c.pop.new.self }) c.in_ok-outcome.ensures.grows.sound c.type_of_lambda.ensures.keeps refl refl)
+    (subst (λ v. LambdaRule v (answer c.walk_term.new.walk.table c.in_ok-outcome.outcome) (answer c.type_of_lambda.new.table c.in_ok-found.found))
+    (answer_keep c.number_of_written.new.table c.walk_term.new.walk.table c.in_ok-parameter.parameter c.in_ok-outcome.ensures.grows.keeps c.in_ok-parameter.ensures.stands ∙ c.in_ok-parameter.ensures.entry)
     c.in_ok-found.ensures.rule))
     c.settle.ensures.settled
 
 pub walk_lambda-returns-clause-stopped : goal.walk_lambda-returns-clause-stopped
 walk_lambda-returns-clause-stopped t c =
-    settled_err _ c.args.walk.now (record c.walk_term.new.walk { table = c.abstracted.new.table; entries = c.pop.new.self }) c.settle.new.walk (lambda (written_of c.args.written.now) (term_of c.args.body.now)) (λ s. places (written (written_of c.args.written.now) ∷ s) (term_of c.args.body.now)) c.in_ok-found.found None (λ s. refl) (popped_is c.push.new.self c.walk_term.new.walk c.pop.new.self c.args.walk.now.entries.items c.in_ok-parameter.parameter c.in_ok-push.ensures.items c.in_ok-outcome.ensures.walked.entries c.pop.ensures.rest) c.in_ok-found.ensures.stands
-    (lambda_parts c.args.walk.now (record c.args.walk.now { table = c.added.new.table; entries = c.push.new.self }) c.walk_term.new.walk (record c.walk_term.new.walk { table = c.abstracted.new.table; entries = c.pop.new.self }) (term_of c.args.body.now) (written_of c.args.written.now) c.in_ok-outcome.outcome c.in_ok-found.found c.requires.written (under_entry c.args.walk.now c.added.new.table c.push.new.self c.in_ok-parameter.parameter (written_of c.args.written.now) c.requires.sound c.added.ensures.keeps c.in_ok-push.ensures.items c.in_ok-parameter.ensures.entry) (progress_same c.args.walk.now (record c.args.walk.now { table = c.added.new.table; entries = c.push.new.self }) c.requires.sound c.added.ensures.keeps refl refl) refl c.in_ok-outcome.ensures.walked
-    (progress_same c.walk_term.new.walk (record c.walk_term.new.walk { table = c.abstracted.new.table; entries = c.pop.new.self }) c.in_ok-outcome.ensures.grows.sound c.abstracted.ensures.keeps refl refl)
-    (subst (λ v. LambdaRule v (answer c.walk_term.new.walk.table c.in_ok-outcome.outcome) (answer c.abstracted.new.table c.in_ok-found.found))
-    (answer_keep c.added.new.table c.walk_term.new.walk.table c.in_ok-parameter.parameter c.in_ok-outcome.ensures.grows.keeps c.in_ok-parameter.ensures.stands ∙ c.in_ok-parameter.ensures.entry)
+    settled_err _ c.args.walk.now (record c.walk_term.new.walk { table = c.type_of_lambda.new.table; entries = c.pop.new.self }) c.settle.new.walk (lambda (written_of c.args.written.now) (term_of c.args.body.now)) (λ s. places (written (written_of c.args.written.now) ∷ s) (term_of c.args.body.now)) c.in_ok-found.found None (λ s. refl) (popped_is c.push.new.self c.walk_term.new.walk c.pop.new.self c.args.walk.now.entries.items c.in_ok-parameter.parameter c.in_ok-push.ensures.items c.in_ok-outcome.ensures.walked.entries c.pop.ensures.rest) c.in_ok-found.ensures.stands
+    (lambda_parts c.args.walk.now (record c.args.walk.now { table = c.number_of_written.new.table; entries = c.push.new.self }) c.walk_term.new.walk (record c.walk_term.new.walk { table = c.type_of_lambda.new.table; entries = c.pop.new.self }) (term_of c.args.body.now) (written_of c.args.written.now) c.in_ok-outcome.outcome c.in_ok-found.found c.requires.written (under_entry c.args.walk.now c.number_of_written.new.table c.push.new.self c.in_ok-parameter.parameter (written_of c.args.written.now) c.requires.sound c.number_of_written.ensures.keeps c.in_ok-push.ensures.items c.in_ok-parameter.ensures.entry) (progress_same c.args.walk.now (record c.args.walk.now { table = c.number_of_written.new.table; entries = c.push.new.self }) c.requires.sound c.number_of_written.ensures.keeps refl refl) refl c.in_ok-outcome.ensures.walked
+    (progress_same c.walk_term.new.walk (record c.walk_term.new.walk { table = c.type_of_lambda.new.table; entries = c.pop.new.self }) c.in_ok-outcome.ensures.grows.sound c.type_of_lambda.ensures.keeps refl refl)
+    (subst (λ v. LambdaRule v (answer c.walk_term.new.walk.table c.in_ok-outcome.outcome) (answer c.type_of_lambda.new.table c.in_ok-found.found))
+    (answer_keep c.number_of_written.new.table c.walk_term.new.walk.table c.in_ok-parameter.parameter c.in_ok-outcome.ensures.grows.keeps c.in_ok-parameter.ensures.stands ∙ c.in_ok-parameter.ensures.entry)
     c.in_ok-found.ensures.rule))
     c.settle.ensures.stopped
 
@@ -272,20 +272,20 @@ walk_let-settle-requires-clause-sound t c = (popped_grows c.walk_term.new.walk (
 
 pub walk_let-returns-clause-walked : goal.walk_let-returns-clause-walked
 walk_let-returns-clause-walked t c =
-    settled_ok _ c.args.walk.now (record c.walk_term-2.new.walk { entries = c.pop.new.self }) c.settle.new.walk (let_in (term_of c.args.bound.now) (term_of c.args.body.now)) (λ s. places s (term_of c.args.bound.now) ++ places (of_term (term_of c.args.bound.now) ∷ s) (term_of c.args.body.now)) c.bound_in.result None (λ s. refl) ((popped_is c.push.new.self c.walk_term-2.new.walk c.pop.new.self c.walk_term.new.walk.entries.items c.in_ok-entry.entry c.in_ok-push.ensures.items c.in_ok-outcome.ensures.walked.entries c.pop.ensures.rest) ∙ c.in_ok-entry.ensures.walked.entries) ((c.bound_in.ensures c.walk_term-2.new.walk.table).0 c.in_ok-outcome.ensures.walked.stands)
-    (let_parts c.args.walk.now c.walk_term.new.walk (record c.walk_term.new.walk { entries = c.push.new.self }) c.walk_term-2.new.walk (record c.walk_term-2.new.walk { entries = c.pop.new.self }) (term_of c.args.bound.now) (term_of c.args.body.now) c.in_ok-entry.entry c.in_ok-outcome.outcome c.bound_in.result c.requires.sound c.in_ok-entry.ensures.grows.keeps c.in_ok-entry.ensures.walked (under_entry c.walk_term.new.walk c.walk_term.new.walk.table c.push.new.self c.in_ok-entry.entry (answer c.walk_term.new.walk.table c.in_ok-entry.entry) c.in_ok-entry.ensures.grows.sound (keeps_same c.walk_term.new.walk.table) c.in_ok-push.ensures.items refl) refl c.in_ok-entry.ensures.grows.dialect c.in_ok-outcome.ensures.walked refl
-    (subst (λ v. LetRule v (answer c.walk_term-2.new.walk.table c.in_ok-outcome.outcome) (answer c.walk_term-2.new.walk.table c.bound_in.result))
+    settled_ok _ c.args.walk.now (record c.walk_term-2.new.walk { entries = c.pop.new.self }) c.settle.new.walk (let_in (term_of c.args.bound.now) (term_of c.args.body.now)) (λ s. places s (term_of c.args.bound.now) ++ places (of_term (term_of c.args.bound.now) ∷ s) (term_of c.args.body.now)) c.type_of_let.result None (λ s. refl) ((popped_is c.push.new.self c.walk_term-2.new.walk c.pop.new.self c.walk_term.new.walk.entries.items c.in_ok-entry.entry c.in_ok-push.ensures.items c.in_ok-outcome.ensures.walked.entries c.pop.ensures.rest) ∙ c.in_ok-entry.ensures.walked.entries) ((c.type_of_let.ensures c.walk_term-2.new.walk.table).0 c.in_ok-outcome.ensures.walked.stands)
+    (let_parts c.args.walk.now c.walk_term.new.walk (record c.walk_term.new.walk { entries = c.push.new.self }) c.walk_term-2.new.walk (record c.walk_term-2.new.walk { entries = c.pop.new.self }) (term_of c.args.bound.now) (term_of c.args.body.now) c.in_ok-entry.entry c.in_ok-outcome.outcome c.type_of_let.result c.requires.sound c.in_ok-entry.ensures.grows.keeps c.in_ok-entry.ensures.walked (under_entry c.walk_term.new.walk c.walk_term.new.walk.table c.push.new.self c.in_ok-entry.entry (answer c.walk_term.new.walk.table c.in_ok-entry.entry) c.in_ok-entry.ensures.grows.sound (keeps_same c.walk_term.new.walk.table) c.in_ok-push.ensures.items refl) refl c.in_ok-entry.ensures.grows.dialect c.in_ok-outcome.ensures.walked refl
+    (subst (λ v. LetRule v (answer c.walk_term-2.new.walk.table c.in_ok-outcome.outcome) (answer c.walk_term-2.new.walk.table c.type_of_let.result))
     (answer_keep c.walk_term.new.walk.table c.walk_term-2.new.walk.table c.in_ok-entry.entry c.in_ok-outcome.ensures.grows.keeps c.in_ok-entry.ensures.walked.stands)
-    (c.bound_in.ensures c.walk_term-2.new.walk.table).1))
+    (c.type_of_let.ensures c.walk_term-2.new.walk.table).1))
     c.settle.ensures.settled
 
 pub walk_let-returns-clause-stopped : goal.walk_let-returns-clause-stopped
 walk_let-returns-clause-stopped t c =
-    settled_err _ c.args.walk.now (record c.walk_term-2.new.walk { entries = c.pop.new.self }) c.settle.new.walk (let_in (term_of c.args.bound.now) (term_of c.args.body.now)) (λ s. places s (term_of c.args.bound.now) ++ places (of_term (term_of c.args.bound.now) ∷ s) (term_of c.args.body.now)) c.bound_in.result None (λ s. refl) ((popped_is c.push.new.self c.walk_term-2.new.walk c.pop.new.self c.walk_term.new.walk.entries.items c.in_ok-entry.entry c.in_ok-push.ensures.items c.in_ok-outcome.ensures.walked.entries c.pop.ensures.rest) ∙ c.in_ok-entry.ensures.walked.entries) ((c.bound_in.ensures c.walk_term-2.new.walk.table).0 c.in_ok-outcome.ensures.walked.stands)
-    (let_parts c.args.walk.now c.walk_term.new.walk (record c.walk_term.new.walk { entries = c.push.new.self }) c.walk_term-2.new.walk (record c.walk_term-2.new.walk { entries = c.pop.new.self }) (term_of c.args.bound.now) (term_of c.args.body.now) c.in_ok-entry.entry c.in_ok-outcome.outcome c.bound_in.result c.requires.sound c.in_ok-entry.ensures.grows.keeps c.in_ok-entry.ensures.walked (under_entry c.walk_term.new.walk c.walk_term.new.walk.table c.push.new.self c.in_ok-entry.entry (answer c.walk_term.new.walk.table c.in_ok-entry.entry) c.in_ok-entry.ensures.grows.sound (keeps_same c.walk_term.new.walk.table) c.in_ok-push.ensures.items refl) refl c.in_ok-entry.ensures.grows.dialect c.in_ok-outcome.ensures.walked refl
-    (subst (λ v. LetRule v (answer c.walk_term-2.new.walk.table c.in_ok-outcome.outcome) (answer c.walk_term-2.new.walk.table c.bound_in.result))
+    settled_err _ c.args.walk.now (record c.walk_term-2.new.walk { entries = c.pop.new.self }) c.settle.new.walk (let_in (term_of c.args.bound.now) (term_of c.args.body.now)) (λ s. places s (term_of c.args.bound.now) ++ places (of_term (term_of c.args.bound.now) ∷ s) (term_of c.args.body.now)) c.type_of_let.result None (λ s. refl) ((popped_is c.push.new.self c.walk_term-2.new.walk c.pop.new.self c.walk_term.new.walk.entries.items c.in_ok-entry.entry c.in_ok-push.ensures.items c.in_ok-outcome.ensures.walked.entries c.pop.ensures.rest) ∙ c.in_ok-entry.ensures.walked.entries) ((c.type_of_let.ensures c.walk_term-2.new.walk.table).0 c.in_ok-outcome.ensures.walked.stands)
+    (let_parts c.args.walk.now c.walk_term.new.walk (record c.walk_term.new.walk { entries = c.push.new.self }) c.walk_term-2.new.walk (record c.walk_term-2.new.walk { entries = c.pop.new.self }) (term_of c.args.bound.now) (term_of c.args.body.now) c.in_ok-entry.entry c.in_ok-outcome.outcome c.type_of_let.result c.requires.sound c.in_ok-entry.ensures.grows.keeps c.in_ok-entry.ensures.walked (under_entry c.walk_term.new.walk c.walk_term.new.walk.table c.push.new.self c.in_ok-entry.entry (answer c.walk_term.new.walk.table c.in_ok-entry.entry) c.in_ok-entry.ensures.grows.sound (keeps_same c.walk_term.new.walk.table) c.in_ok-push.ensures.items refl) refl c.in_ok-entry.ensures.grows.dialect c.in_ok-outcome.ensures.walked refl
+    (subst (λ v. LetRule v (answer c.walk_term-2.new.walk.table c.in_ok-outcome.outcome) (answer c.walk_term-2.new.walk.table c.type_of_let.result))
     (answer_keep c.walk_term.new.walk.table c.walk_term-2.new.walk.table c.in_ok-entry.entry c.in_ok-outcome.ensures.grows.keeps c.in_ok-entry.ensures.walked.stands)
-    (c.bound_in.ensures c.walk_term-2.new.walk.table).1))
+    (c.type_of_let.ensures c.walk_term-2.new.walk.table).1))
     c.settle.ensures.stopped
 
 pub walk_record-returns-in_err-all-clause-stopped : goal.walk_record-returns-in_err-all-clause-stopped
@@ -294,31 +294,31 @@ walk_record-returns-in_err-all-clause-stopped t c =
     (among_front _ (entries_of c.args.walk.now) (λ s. places_in s (terms_of c.args.fields.now)) (λ s. record { scope = s; here = (record_term (terms_of c.args.fields.now)) } ∷ []) c.args.walk.now c.walk_fields.new.walk _ c.in_err-all.ensures.stopped)
 
 pub walk_record-returns-in_err-found-clause-grows : goal.walk_record-returns-in_err-found-clause-grows
-walk_record-returns-in_err-found-clause-grows t c = (retabled_grows c.args.walk.now c.walk_fields.new.walk c.recorded.new.table c.in_ok-all.ensures.grows c.recorded.ensures.keeps)
+walk_record-returns-in_err-found-clause-grows t c = (retabled_grows c.args.walk.now c.walk_fields.new.walk c.type_of_record.new.table c.in_ok-all.ensures.grows c.type_of_record.ensures.keeps)
 
 pub walk_record-settle-requires-clause-sound : goal.walk_record-settle-requires-clause-sound
-walk_record-settle-requires-clause-sound t c = (retabled_grows c.args.walk.now c.walk_fields.new.walk c.recorded.new.table c.in_ok-all.ensures.grows c.recorded.ensures.keeps).sound
+walk_record-settle-requires-clause-sound t c = (retabled_grows c.args.walk.now c.walk_fields.new.walk c.type_of_record.new.table c.in_ok-all.ensures.grows c.type_of_record.ensures.keeps).sound
 
 pub walk_record-returns-clause-walked : goal.walk_record-returns-clause-walked
 walk_record-returns-clause-walked t c =
-    settled_ok _ c.args.walk.now (record c.walk_fields.new.walk { table = c.recorded.new.table }) c.settle.new.walk (record_term (terms_of c.args.fields.now)) (λ s. places_in s (terms_of c.args.fields.now)) c.in_ok-found.found c.blame_if-blame.result (λ s. refl) c.in_ok-all.ensures.walked.entries c.in_ok-found.ensures.stands
-    (record_parts c.args.walk.now c.walk_fields.new.walk (record c.walk_fields.new.walk { table = c.recorded.new.table }) (terms_of c.args.fields.now) _ _ c.in_ok-all.all c.in_ok-found.found c.blame_if-blame.result c.in_ok-all.ensures.walked
-    (progress_same c.walk_fields.new.walk (record c.walk_fields.new.walk { table = c.recorded.new.table }) c.in_ok-all.ensures.grows.sound c.recorded.ensures.keeps refl refl)
-    (subst (λ items. RecordRule (if_all c.in_ok-all.all (fields_over c.walk_fields.new.walk.table items)) (answer c.recorded.new.table c.in_ok-found.found)) (parts_empty _ _ _ c.in_ok-all.ensures.walked.parts_are c.in_ok-parts.ensures.items) c.in_ok-found.ensures.rule)
+    settled_ok _ c.args.walk.now (record c.walk_fields.new.walk { table = c.type_of_record.new.table }) c.settle.new.walk (record_term (terms_of c.args.fields.now)) (λ s. places_in s (terms_of c.args.fields.now)) c.in_ok-found.found c.blame_if-blame.result (λ s. refl) c.in_ok-all.ensures.walked.entries c.in_ok-found.ensures.stands
+    (record_parts c.args.walk.now c.walk_fields.new.walk (record c.walk_fields.new.walk { table = c.type_of_record.new.table }) (terms_of c.args.fields.now) _ _ c.in_ok-all.all c.in_ok-found.found c.blame_if-blame.result c.in_ok-all.ensures.walked
+    (progress_same c.walk_fields.new.walk (record c.walk_fields.new.walk { table = c.type_of_record.new.table }) c.in_ok-all.ensures.grows.sound c.type_of_record.ensures.keeps refl refl)
+    (subst (λ items. RecordRule (if_all c.in_ok-all.all (fields_over c.walk_fields.new.walk.table items)) (answer c.type_of_record.new.table c.in_ok-found.found)) (parts_empty _ _ _ c.in_ok-all.ensures.walked.parts_are c.in_ok-parts.ensures.items) c.in_ok-found.ensures.rule)
     c.blame_if-blame.ensures)
     c.settle.ensures.settled
 
 pub walk_record-returns-clause-stopped : goal.walk_record-returns-clause-stopped
 walk_record-returns-clause-stopped t c =
-    settled_err _ c.args.walk.now (record c.walk_fields.new.walk { table = c.recorded.new.table }) c.settle.new.walk (record_term (terms_of c.args.fields.now)) (λ s. places_in s (terms_of c.args.fields.now)) c.in_ok-found.found c.blame_if-blame.result (λ s. refl) c.in_ok-all.ensures.walked.entries c.in_ok-found.ensures.stands
-    (record_parts c.args.walk.now c.walk_fields.new.walk (record c.walk_fields.new.walk { table = c.recorded.new.table }) (terms_of c.args.fields.now) _ _ c.in_ok-all.all c.in_ok-found.found c.blame_if-blame.result c.in_ok-all.ensures.walked
-    (progress_same c.walk_fields.new.walk (record c.walk_fields.new.walk { table = c.recorded.new.table }) c.in_ok-all.ensures.grows.sound c.recorded.ensures.keeps refl refl)
-    (subst (λ items. RecordRule (if_all c.in_ok-all.all (fields_over c.walk_fields.new.walk.table items)) (answer c.recorded.new.table c.in_ok-found.found)) (parts_empty _ _ _ c.in_ok-all.ensures.walked.parts_are c.in_ok-parts.ensures.items) c.in_ok-found.ensures.rule)
+    settled_err _ c.args.walk.now (record c.walk_fields.new.walk { table = c.type_of_record.new.table }) c.settle.new.walk (record_term (terms_of c.args.fields.now)) (λ s. places_in s (terms_of c.args.fields.now)) c.in_ok-found.found c.blame_if-blame.result (λ s. refl) c.in_ok-all.ensures.walked.entries c.in_ok-found.ensures.stands
+    (record_parts c.args.walk.now c.walk_fields.new.walk (record c.walk_fields.new.walk { table = c.type_of_record.new.table }) (terms_of c.args.fields.now) _ _ c.in_ok-all.all c.in_ok-found.found c.blame_if-blame.result c.in_ok-all.ensures.walked
+    (progress_same c.walk_fields.new.walk (record c.walk_fields.new.walk { table = c.type_of_record.new.table }) c.in_ok-all.ensures.grows.sound c.type_of_record.ensures.keeps refl refl)
+    (subst (λ items. RecordRule (if_all c.in_ok-all.all (fields_over c.walk_fields.new.walk.table items)) (answer c.type_of_record.new.table c.in_ok-found.found)) (parts_empty _ _ _ c.in_ok-all.ensures.walked.parts_are c.in_ok-parts.ensures.items) c.in_ok-found.ensures.rule)
     c.blame_if-blame.ensures)
     c.settle.ensures.stopped
 
-pub walk_record-recorded-requires : goal.walk_record-recorded-requires
-walk_record-recorded-requires t c = subst (λ items. AreEarlier (length c.walk_fields.new.walk.table) items) (sym (parts_empty _ _ _ c.in_ok-all.ensures.walked.parts_are c.in_ok-parts.ensures.items)) c.in_ok-all.ensures.walked.stand
+pub walk_record-type_of_record-requires : goal.walk_record-type_of_record-requires
+walk_record-type_of_record-requires t c = subst (λ items. AreEarlier (length c.walk_fields.new.walk.table) items) (sym (parts_empty _ _ _ c.in_ok-all.ensures.walked.parts_are c.in_ok-parts.ensures.items)) c.in_ok-all.ensures.walked.stand
 
 pub walk_fields-returns-in_default-clause-walked : goal.walk_fields-returns-in_default-clause-walked
 walk_fields-returns-in_default-clause-walked t c = no_fields_walked c.args.walk.now c.args.fields.now c.args.parts.now.items c.in_default.ensures.cases

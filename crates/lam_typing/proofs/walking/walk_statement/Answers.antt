@@ -23,20 +23,20 @@ returns-in_ok-push-in-Definition-clause-goes_on c = rw (ap statement_of c.in-Def
     (goes_on_defined c.args.walk.now c.walk_term.new.walk c.push.new.self (term_of c.in-Definition.core) c.in_ok-found-in-Definition.found c.requires.sound c.in_ok-found-in-Definition.ensures.grows c.in_ok-found-in-Definition.ensures.walked c.in_ok-push-in-Definition.ensures.items)
 
 pub returns-in_err-entry-in-Declaration-clause-grows : goal.returns-in_err-entry-in-Declaration-clause-grows
-returns-in_err-entry-in-Declaration-clause-grows c = retabled_grows c.args.walk.now c.args.walk.now c.added.new.table (grows_same c.args.walk.now c.requires.sound) c.added.ensures.keeps
+returns-in_err-entry-in-Declaration-clause-grows c = retabled_grows c.args.walk.now c.args.walk.now c.number_of_written.new.table (grows_same c.args.walk.now c.requires.sound) c.number_of_written.ensures.keeps
 
 pub returns-in_err-push-in-Declaration-clause-grows : goal.returns-in_err-push-in-Declaration-clause-grows
 returns-in_err-push-in-Declaration-clause-grows c =
-    pushed_grows c.args.walk.now c.added.new.table c.push-in-Declaration.new.self c.in_ok-entry-in-Declaration.entry c.requires.sound c.added.ensures.keeps (put_or_not _ _ _ _ c.push-in-Declaration.ensures.items) c.in_ok-entry-in-Declaration.ensures.stands
+    pushed_grows c.args.walk.now c.number_of_written.new.table c.push-in-Declaration.new.self c.in_ok-entry-in-Declaration.entry c.requires.sound c.number_of_written.ensures.keeps (put_or_not _ _ _ _ c.push-in-Declaration.ensures.items) c.in_ok-entry-in-Declaration.ensures.stands
 
 pub returns-in_ok-push-in-Declaration-clause-grows : goal.returns-in_ok-push-in-Declaration-clause-grows
 returns-in_ok-push-in-Declaration-clause-grows c =
-    pushed_grows c.args.walk.now c.added.new.table c.push-in-Declaration.new.self c.in_ok-entry-in-Declaration.entry c.requires.sound c.added.ensures.keeps (inl c.in_ok-push-in-Declaration.ensures.items) c.in_ok-entry-in-Declaration.ensures.stands
+    pushed_grows c.args.walk.now c.number_of_written.new.table c.push-in-Declaration.new.self c.in_ok-entry-in-Declaration.entry c.requires.sound c.number_of_written.ensures.keeps (inl c.in_ok-push-in-Declaration.ensures.items) c.in_ok-entry-in-Declaration.ensures.stands
 
 pub returns-in_ok-push-in-Declaration-clause-goes_on : goal.returns-in_ok-push-in-Declaration-clause-goes_on
 returns-in_ok-push-in-Declaration-clause-goes_on c = rw (ap statement_of c.in-Declaration.is)
-    (goes_on_declared c.args.walk.now c.added.new.table c.push-in-Declaration.new.self (written_of c.in-Declaration.written) c.in_ok-entry-in-Declaration.entry c.requires.sound
-    (subst IsWellFormedStatement (ap statement_of c.in-Declaration.is) c.requires.wf) c.added.ensures.keeps c.in_ok-push-in-Declaration.ensures.items c.in_ok-entry-in-Declaration.ensures.entry)
+    (goes_on_declared c.args.walk.now c.number_of_written.new.table c.push-in-Declaration.new.self (written_of c.in-Declaration.written) c.in_ok-entry-in-Declaration.entry c.requires.sound
+    (subst IsWellFormedStatement (ap statement_of c.in-Declaration.is) c.requires.wf) c.number_of_written.ensures.keeps c.in_ok-push-in-Declaration.ensures.items c.in_ok-entry-in-Declaration.ensures.entry)
 
 pub returns-in_err-walk_term-in-Evaluation-clause-stopped : goal.returns-in_err-walk_term-in-Evaluation-clause-stopped
 returns-in_err-walk_term-in-Evaluation-clause-stopped c = rw (ap statement_of c.in-Evaluation.is)

@@ -1,7 +1,7 @@
 use Rattle.std.proofs.Common.{IsTrue, subst, sym}
 use Rattle.lam_rules.specs.Numbers.{HaveDistinctLabels}
 use Rattle.lam_typing.proofs.StepRules.{distinct_labels}
-use Rattle.lam_typing.proofs.steps.recorded.Goals as goal
+use Rattle.lam_typing.proofs.steps.type_of_record.Goals as goal
 
 pub returns-then-not-labels_differ-clause-rule : goal.returns-then-not-labels_differ-clause-rule
 returns-then-not-labels_differ-clause-rule c = rw c.if-not-all.false (λ wf.
