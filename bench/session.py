@@ -137,8 +137,9 @@ def row(name, figure):
     print(f"| {name} | {figure} |")
 
 
-def spread(taken):
-    return f"{statistics.median(taken):.1f} ms, from {min(taken):.1f} to {max(taken):.1f} ms"
+def spread(taken, places=1):
+    least, most = min(taken), max(taken)
+    return f"{statistics.median(taken):.{places}f} ms, from {least:.{places}f} to {most:.{places}f} ms"
 
 
 def main():
@@ -155,7 +156,7 @@ def main():
     after_ten = client.peak()
     row(f"a key in the middle, {KEYS} times", spread(client.keys(middle, KEYS)))
     row("a key and a hover behind it", spread(client.keys_and_hovers(middle, term, 20)))
-    row("a hover on a quiet document", spread([client.hover(middle, term) for _ in range(200)]))
+    row("a hover on a quiet document", spread([client.hover(middle, term) for _ in range(200)], places=3))
     client.keys(middle, 1000)
     peak = client.peak()
     row("peak of memory after ten keys", f"{after_ten / len(text):.1f} times the text")
