@@ -123,19 +123,17 @@ concluded rule s t ps d r none wf of by =
     (λ made is. stepped rule s t ps (sub_tree_of made) d wf.0 wf.1 of (subst (λ qs. BySubRule rule (claims_of qs) s t) (sym none) by) (no_premises ps d none) is)
 
 -- of two arrows: the first premise is of the parameters, the second of the outcomes
-pub concluded_arrow : (s1 s2 t1 t2 : Typ) (p q : SubProof) (none one two : List SubProof) (d : Dialect) (r : Result SubProof AllocError)
-    → none ≡ [] → one ≡ none ++ p ∷ [] → two ≡ one ++ q ∷ []
+pub concluded_arrow : (s1 s2 t1 t2 : Typ) (p q : SubProof) (both : List SubProof) (d : Dialect) (r : Result SubProof AllocError) → both ≡ p ∷ q ∷ []
     → ProvesBelow (sub_tree_of p) t1 s1 d → ProvesBelow (sub_tree_of q) s2 t2 d
-    → IfOk r (λ made. sub_tree_of made ≡ sub_step SubRule.Arrow (arrow s1 s2) (arrow t1 t2) (sub_trees_of two))
+    → IfOk r (λ made. sub_tree_of made ≡ sub_step SubRule.Arrow (arrow s1 s2) (arrow t1 t2) (sub_trees_of both))
     → IfOk r (λ made. ProvesBelow (sub_tree_of made) (arrow s1 s2) (arrow t1 t2) d)
-concluded_arrow s1 s2 t1 t2 p q none one two d r is_none is_one is_two first second =
-    let are : two ≡ p ∷ q ∷ [] = is_two ∙ ap (λ ps. ps ++ q ∷ []) (is_one ∙ ap (λ ps. ps ++ p ∷ []) is_none) in
+concluded_arrow s1 s2 t1 t2 p q both d r are first second =
     let parameters = claim_is p t1 s1 d first in
     let outcomes = claim_is q s2 t2 d second in
     let wf = below_wf t1 s1 d (sub_tree_of p, first) in
     let wf_outcomes = below_wf s2 t2 d (sub_tree_of q, second) in
-    IfOk-weaker r (λ made. sub_tree_of made ≡ sub_step SubRule.Arrow (arrow s1 s2) (arrow t1 t2) (sub_trees_of two)) (λ made. ProvesBelow (sub_tree_of made) (arrow s1 s2) (arrow t1 t2) d)
-    (λ made is. stepped SubRule.Arrow (arrow s1 s2) (arrow t1 t2) two (sub_tree_of made) d (wf.1, wf_outcomes.0) (wf.0, wf_outcomes.1) tt
+    IfOk-weaker r (λ made. sub_tree_of made ≡ sub_step SubRule.Arrow (arrow s1 s2) (arrow t1 t2) (sub_trees_of both)) (λ made. ProvesBelow (sub_tree_of made) (arrow s1 s2) (arrow t1 t2) d)
+    (λ made is. stepped SubRule.Arrow (arrow s1 s2) (arrow t1 t2) both (sub_tree_of made) d (wf.1, wf_outcomes.0) (wf.0, wf_outcomes.1) tt
     (subst (λ qs. BySubRule SubRule.Arrow (claims_of qs) (arrow s1 s2) (arrow t1 t2)) (sym are) (parameters.0, parameters.1, outcomes.0, outcomes.1))
     (subst (λ qs. AreSubProofs (sub_trees_of qs) d) (sym are) (first.0, (second.0, tt)))
     is)
@@ -145,10 +143,8 @@ pub step_made : (rule : SubRule) (lower upper : Ty) (premises : Vec SubProof Glo
 step_made rule lower upper premises s t is_s is_t =
     sub_tree_of-made rule lower upper premises ∙ ap (λ x. sub_step rule x (typ_of upper) (sub_trees_of premises.items)) is_s ∙ ap (λ x. sub_step rule s x (sub_trees_of premises.items)) is_t
 
-pub chain_made : (lower upper : Ty) (premises : Vec SubProof Global) (p q : SubProof) (none one : List SubProof)
-    → none ≡ [] → one ≡ none ++ p ∷ [] → premises.items ≡ one ++ q ∷ []
+pub chain_made : (lower upper : Ty) (premises : Vec SubProof Global) (p q : SubProof) → premises.items ≡ p ∷ q ∷ []
     → sub_tree_of (roll-SubProof record { rule = SubRule.Trans; lower = lower; upper = upper; premises = premises })
     ≡ sub_step SubRule.Trans (typ_of lower) (typ_of upper) (sub_first (sub_tree_of p) (sub_first (sub_tree_of q) no_subs))
-chain_made lower upper premises p q none one is_none is_one is_two =
-    sub_tree_of-made SubRule.Trans lower upper premises
-    ∙ ap (λ ps. sub_step SubRule.Trans (typ_of lower) (typ_of upper) (sub_trees_of ps)) (is_two ∙ ap (λ ps. ps ++ q ∷ []) (is_one ∙ ap (λ ps. ps ++ p ∷ []) is_none))
+chain_made lower upper premises p q are =
+    sub_tree_of-made SubRule.Trans lower upper premises ∙ ap (λ ps. sub_step SubRule.Trans (typ_of lower) (typ_of upper) (sub_trees_of ps)) are

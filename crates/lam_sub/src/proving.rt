@@ -53,9 +53,9 @@ fn prove(alloc: Global, lower: &Ty, upper: &Ty, dialect: Dialect) -> Result<SubP
             let Ty::Arrow(lower_parameter, lower_outcome) = lower else {
                 unreachable!();
             };
-            let mut premises = Vec::new(alloc);
-            premises.push(prove(alloc, upper_parameter, lower_parameter, dialect)?)?;
-            premises.push(prove(alloc, lower_outcome, upper_outcome, dialect)?)?;
+            let parameter = prove(alloc, upper_parameter, lower_parameter, dialect)?;
+            let outcome = prove(alloc, lower_outcome, upper_outcome, dialect)?;
+            let premises = vec![in alloc; parameter, outcome]?;
             conclude(alloc, SubRule::Arrow, premises, lower, upper)
         }
         Ty::Record(upper_fields) => {
@@ -121,7 +121,7 @@ fn prove_fields(
     ensures proofs { IfOk result (λ made. AreSubProofs (sub_trees_of made.items) dialect) }
     ensures claims { IfOk result (λ made. GoesFieldByField (picked (fields_of lower.now) (fields_of upper.now)) (fields_of upper.now) (claims_of made.items)) }
 {
-    let mut proofs = Vec::new(alloc);
+    let mut proofs = Vec::with_capacity(alloc, upper.len())?;
     for i in 0..upper.len() {
         let field = &upper[i];
         let Some(ty) = field_type(&field.0, lower, i) else {
@@ -143,7 +143,7 @@ fn picked_fields(
     requires labels { HasLabelsOf (fields_of fields.now) (fields_of asked.now) }
     ensures { IfOk result (λ made. fields_of made.items ≡ picked (fields_of fields.now) (fields_of asked.now)) }
 {
-    let mut copies = Vec::new(alloc);
+    let mut copies = Vec::with_capacity(alloc, asked.len())?;
     for i in 0..asked.len() {
         let field = &asked[i];
         let Some(ty) = field_type(&field.0, fields, i) else {
@@ -218,9 +218,7 @@ fn chain(
     };
     let lower = copy_of(alloc, &first_proof.lower)?;
     let upper = copy_of(alloc, &second_proof.upper)?;
-    let mut premises = Vec::new(alloc);
-    premises.push(first_proof)?;
-    premises.push(second_proof)?;
+    let premises = vec![in alloc; first_proof, second_proof]?;
     Ok(Some(SubProof {
         rule: SubRule::Trans,
         lower,

@@ -75,20 +75,7 @@ trees_pushed ps p = ap typings_of (reverse-append ps (p ∷ []))
 pub types_pushed : (fs : List (String Global × Ty)) (f : String Global × Ty) → fields_of (reverse (fs ++ f ∷ [])) ≡ field (string_bytes f.0) (typ_of f.1) (fields_of (reverse fs))
 types_pushed fs f = ap fields_of (reverse-append fs (f ∷ []))
 
--- premises that were pushed one by one
-
-pub none_pushed : (ps : List TypeProof) → ps ≡ [] → typings_of ps ≡ no_typings
-none_pushed ps e = ap typings_of e
-
-pub one_pushed : (start ps : List TypeProof) (p : TypeProof) → start ≡ [] → ps ≡ start ++ p ∷ [] → typings_of ps ≡ typing_first (typing_tree_of p) no_typings
-one_pushed start ps p e f = ap typings_of (f ∙ ap (λ qs. qs ++ p ∷ []) e)
-
-pub two_pushed : (start one ps : List TypeProof) (p q : TypeProof) → start ≡ [] → one ≡ start ++ p ∷ [] → ps ≡ one ++ q ∷ [] → typings_of ps ≡ typing_first (typing_tree_of p) (typing_first (typing_tree_of q) no_typings)
-two_pushed start one ps p q e f h = ap typings_of (h ∙ ap (λ qs. qs ++ q ∷ []) (f ∙ ap (λ qs. qs ++ p ∷ []) e))
-
-pub three_pushed : (start one two ps : List TypeProof) (p q r : TypeProof) → start ≡ [] → one ≡ start ++ p ∷ [] → two ≡ one ++ q ∷ [] → ps ≡ two ++ r ∷ []
-    → typings_of ps ≡ typing_first (typing_tree_of p) (typing_first (typing_tree_of q) (typing_first (typing_tree_of r) no_typings))
-three_pushed start one two ps p q r e f h i = ap typings_of (i ∙ ap (λ qs. qs ++ r ∷ []) (h ∙ ap (λ qs. qs ++ q ∷ []) (f ∙ ap (λ qs. qs ++ p ∷ []) e)))
+-- a step whose parts are equal to those of another
 
 pub step_as : (rule : TypeRule) (u v : Typ) (ps qs : TypingTrees) (t : Typ) (o : Option TypingTree) (d : Dialect) → u ≡ v → ps ≡ qs → IsWidened (typing_step rule u ps None) t o d → IsWidened (typing_step rule v qs None) t o d
 step_as rule u v ps qs t o d e f wide = subst (λ n. IsWidened n t o d) (λ i. typing_step rule (e i) (f i) None) wide

@@ -164,8 +164,7 @@ fn prove_number(
         return Ok(None);
     };
     let Proven { proof, first } = made;
-    let mut premises = Vec::new(alloc);
-    premises.push(proof)?;
+    let premises = vec![in alloc; proof]?;
     finish(alloc, rule, conclusion, premises, ty, first, typing.dialect)
 }
 
@@ -195,10 +194,7 @@ fn prove_if(
     };
     let conclusion = copy_of(alloc, ty)?;
     let Proven { proof, first } = first;
-    let mut premises = Vec::new(alloc);
-    premises.push(proof)?;
-    premises.push(second.proof)?;
-    premises.push(third.proof)?;
+    let premises = vec![in alloc; proof, second.proof, third.proof]?;
     finish(
         alloc,
         TypeRule::If,
@@ -234,8 +230,7 @@ fn prove_lambda(
     let parameter = copy_of(alloc, parameter)?;
     let outcome = copy_of(alloc, &proof.ty)?;
     let conclusion = make_arrow(alloc, parameter, outcome)?;
-    let mut premises = Vec::new(alloc);
-    premises.push(proof)?;
+    let premises = vec![in alloc; proof]?;
     finish(
         alloc,
         TypeRule::Abs,
@@ -275,9 +270,7 @@ fn prove_apply(
         return Ok(None);
     };
     let conclusion = copy_of(alloc, outcome)?;
-    let mut premises = Vec::new(alloc);
-    premises.push(proof)?;
-    premises.push(operand)?;
+    let premises = vec![in alloc; proof, operand]?;
     finish(
         alloc,
         TypeRule::App,
@@ -311,8 +304,7 @@ fn prove_ascribe(
     };
     let Proven { proof, first } = made;
     let conclusion = copy_of(alloc, wanted)?;
-    let mut premises = Vec::new(alloc);
-    premises.push(proof)?;
+    let premises = vec![in alloc; proof]?;
     finish(
         alloc,
         TypeRule::Ascribe,
@@ -346,9 +338,7 @@ fn prove_let(
     };
     let Proven { proof, first } = made;
     let conclusion = copy_of(alloc, &second.proof.ty)?;
-    let mut premises = Vec::new(alloc);
-    premises.push(proof)?;
-    premises.push(second.proof)?;
+    let premises = vec![in alloc; proof, second.proof]?;
     finish(
         alloc,
         TypeRule::Let,
@@ -461,8 +451,7 @@ fn prove_project(
         return Ok(None);
     };
     let conclusion = copy_of(alloc, field)?;
-    let mut premises = Vec::new(alloc);
-    premises.push(proof)?;
+    let premises = vec![in alloc; proof]?;
     finish(
         alloc,
         TypeRule::Proj,
@@ -495,8 +484,7 @@ fn prove_fix(
     };
     let Proven { proof, first } = made;
     let conclusion = copy_of(alloc, ty)?;
-    let mut premises = Vec::new(alloc);
-    premises.push(proof)?;
+    let premises = vec![in alloc; proof]?;
     finish(
         alloc,
         TypeRule::Fix,

@@ -177,14 +177,13 @@ prove-returns-in-Top t c =
     concluded SubRule.Top (typ_of c.args.lower.now) (typ_of c.args.upper.now) c.new-in-Top.result.items c.args.dialect c.conclude-in-Top.result c.new-in-Top.ensures.items
     (below_wf _ _ _ c.requires) tt (ap typ_of c.in-Top.is ∙ typ_of-Top) c.conclude-in-Top.ensures
 
-pub prove-returns-in_ok-push-in-Arrow-2 : goal.prove-returns-in_ok-push-in-Arrow-2
-prove-returns-in_ok-push-in-Arrow-2 t c =
+pub prove-returns-in_ok-premises-in-Arrow : goal.prove-returns-in_ok-premises-in-Arrow
+prove-returns-in_ok-premises-in-Arrow t c =
     rw (c.in-Arrow-lower.is, c.in-Arrow.is, typ_of-Arrow c.in-Arrow-lower.lower_parameter c.in-Arrow-lower.lower_outcome, typ_of-Arrow c.in-Arrow.upper_parameter c.in-Arrow.upper_outcome)
     (concluded_arrow (typ_of c.in-Arrow-lower.lower_parameter.value) (typ_of c.in-Arrow-lower.lower_outcome.value) (typ_of c.in-Arrow.upper_parameter.value) (typ_of c.in-Arrow.upper_outcome.value)
-    c.in_ok-prove-in-Arrow.field-0 c.in_ok-prove-in-Arrow-2.field-0 c.new-premises.result.items c.push.new.self.items c.push-in-Arrow.new.self.items c.args.dialect c.conclude-in-Arrow.result
-    c.new-premises.ensures.items c.in_ok-push-in-Arrow.ensures.items c.in_ok-push-in-Arrow-2.ensures.items
-    (rw (sym c.deref.ensures, sym c.deref-in-Arrow.ensures) c.in_ok-prove-in-Arrow.ensures)
-    (rw (sym c.deref-in-Arrow-2.ensures, sym c.deref-in-Arrow-3.ensures) c.in_ok-prove-in-Arrow-2.ensures)
+    c.in_ok-parameter-in-Arrow.parameter c.in_ok-outcome-in-Arrow.outcome c.in_ok-premises-in-Arrow.premises.items c.args.dialect c.conclude-in-Arrow.result c.in_ok-premises-in-Arrow.ensures.items
+    (rw (sym c.deref.ensures, sym c.deref-in-Arrow.ensures) c.in_ok-parameter-in-Arrow.ensures)
+    (rw (sym c.deref-in-Arrow-2.ensures, sym c.deref-in-Arrow-3.ensures) c.in_ok-outcome-in-Arrow.ensures)
     (rw (sym (typ_of-Arrow c.in-Arrow-lower.lower_parameter c.in-Arrow-lower.lower_outcome), sym (typ_of-Arrow c.in-Arrow.upper_parameter c.in-Arrow.upper_outcome), sym c.in-Arrow-lower.is, sym c.in-Arrow.is) c.conclude-in-Arrow.ensures))
 
 pub prove-returns-in-Some : goal.prove-returns-in-Some

@@ -14,7 +14,7 @@ use Rattle.lam_typing.specs.Proving.{tree_in, trees_in, IsProvenAs}
 use Rattle.lam_typing.proofs.Sizes.{size_of, size_of_fields}
 use Rattle.lam_typing.proofs.NotedParts.{ok_map}
 use Rattle.lam_typing.proofs.BuiltProofs.{free_none, as_wide, as_none, number_form, number_none, if_form, if_none_else, if_none_then, if_none_condition, lambda_form, lambda_none, faulty_lambda_none, apply_form, apply_none_argument, apply_none_function, apply_no_arrow, apply_not_below, ascribe_form, ascribe_none, faulty_ascribe_none, let_form, let_none_body, let_none_bound, record_form, record_none, no_fields_form, more_fields_form, more_fields_none, first_field_none, project_form, project_none, project_no_record, project_no_field, fix_form, fix_none}
-use Rattle.lam_typing.proofs.BuiltSteps.{no_terms_of, trees_pushed, types_pushed, one_pushed, two_pushed, three_pushed, step_as, some_holds, some_term, none_term, some_as, none_as, some_fields, none_fields, some_wide, none_wide, found_type, found_none, term_of_form, term_none, arrow_in, no_arrow_in, record_in, no_record_in}
+use Rattle.lam_typing.proofs.BuiltSteps.{no_terms_of, trees_pushed, types_pushed, step_as, some_holds, some_term, none_term, some_as, none_as, some_fields, none_fields, some_wide, none_wide, found_type, found_none, term_of_form, term_none, arrow_in, no_arrow_in, record_in, no_record_in}
 use Rattle.lam_typing.proofs.proving.+prove_term.Goals as goal
 
 pub prove_apply-returns-in_default-clause-proves : goal.prove_apply-returns-in_default-clause-proves
@@ -37,7 +37,7 @@ pub prove_apply-returns-clause-proves : goal.prove_apply-returns-clause-proves
 prove_apply-returns-clause-proves t c =
     ok_map c.finish.result _ _ (λ made wide. apply_form c.args.typing.now (term_of c.args.function.now) (term_of c.args.argument.now) c.args.place c.in-Some.second.first (typ_of c.in-Arrow.outcome.value) (typ_of c.in-Arrow.parameter.value) (typ_of c.args.ty.now) (tree_in c.in-Some-2.made) (tree_in c.in-Some.second) (typing_tree_of c.in-Some-3.operand) (option_map tree_in made) (some_holds c.in_ok-second.field-0 c.in-Some.second _ c.in-Some.is c.in_ok-second.ensures.first) (some_term c.args.typing.now (term_of c.args.argument.now) c.args.place c.in_ok-second.field-0 c.in-Some.second c.in-Some.is c.in_ok-second.ensures.proves) (some_term c.args.typing.now (term_of c.args.function.now) c.in-Some.second.first c.in_ok-made.field-0 c.in-Some-2.made c.in-Some-2.is c.in_ok-made.ensures.proves) (arrow_in c.in-Some-2.made c.in-Arrow.parameter c.in-Arrow.outcome c.in-Arrow.is)
     (some_wide (typing_tree_of c.in-Some.second.proof) (typ_of c.in-Arrow.parameter.value) c.in_ok-operand.field-0 c.in-Some-3.operand c.args.typing.now.dialect c.in-Some-3.is (rw c.deref.ensures at c.in_ok-operand.ensures))
-    (step_as TypeRule.App _ (typ_of c.in-Arrow.outcome.value) _ _ (typ_of c.args.ty.now) (option_map tree_in made) c.args.typing.now.dialect (rw c.deref-2.ensures at c.in_ok-conclusion.ensures) (two_pushed c.new-premises.result.items c.push.new.self.items c.push-2.new.self.items c.in-Some-2.made.proof c.in-Some-3.operand c.new-premises.ensures.items c.in_ok-push.ensures.items c.in_ok-push-2.ensures.items) wide)) c.finish.ensures.wide
+    (step_as TypeRule.App _ (typ_of c.in-Arrow.outcome.value) _ _ (typ_of c.args.ty.now) (option_map tree_in made) c.args.typing.now.dialect (rw c.deref-2.ensures at c.in_ok-conclusion.ensures) (ap typings_of c.in_ok-premises.ensures.items) wide)) c.finish.ensures.wide
 
 pub prove_as-returns-in_default-clause-proves : goal.prove_as-returns-in_default-clause-proves
 prove_as-returns-in_default-clause-proves t c =
@@ -62,7 +62,7 @@ prove_ascribe-returns-in_default-2-clause-proves t c =
 pub prove_ascribe-returns-clause-proves : goal.prove_ascribe-returns-clause-proves
 prove_ascribe-returns-clause-proves t c =
     rw (ap written_of c.in-Some.is) (ok_map c.finish.result _ _ (λ made wide. ascribe_form c.args.typing.now (term_of c.args.operand.now) (typ_of c.in-Some.wanted) c.args.place _ (typ_of c.args.ty.now) (tree_in c.in-Some-2.made) (option_map tree_in made) refl (some_as c.args.typing.now (term_of c.args.operand.now) c.args.place (typ_of c.in-Some.wanted) c.in_ok-made.field-0 c.in-Some-2.made c.in-Some-2.is c.in_ok-made.ensures.proves)
-    (step_as TypeRule.Ascribe _ (typ_of c.in-Some.wanted) _ _ (typ_of c.args.ty.now) (option_map tree_in made) c.args.typing.now.dialect c.in_ok-conclusion.ensures (one_pushed c.new-premises.result.items c.push.new.self.items c.in-Some-2.made.proof c.new-premises.ensures.items c.in_ok-push.ensures.items) wide)) c.finish.ensures.wide)
+    (step_as TypeRule.Ascribe _ (typ_of c.in-Some.wanted) _ _ (typ_of c.args.ty.now) (option_map tree_in made) c.args.typing.now.dialect c.in_ok-conclusion.ensures (ap typings_of c.in_ok-premises.ensures.items) wide)) c.finish.ensures.wide)
 
 pub prove_fields-returns-in_default-clause-proves : goal.prove_fields-returns-in_default-clause-proves
 prove_fields-returns-in_default-clause-proves t c =
@@ -103,7 +103,7 @@ prove_fix-returns-in_default-clause-proves t c =
 pub prove_fix-returns-clause-proves : goal.prove_fix-returns-clause-proves
 prove_fix-returns-clause-proves t c =
     ok_map c.finish.result _ _ (λ made wide. fix_form c.args.typing.now (term_of c.args.operand.now) c.args.place _ _ (typ_of c.args.ty.now) (tree_in c.in-Some.made) (option_map tree_in made) (c.in_ok-wanted.ensures ∙ (λ i. arrow (c.in_ok-parameter.ensures i) (c.in_ok-outcome.ensures i))) refl (some_as c.args.typing.now (term_of c.args.operand.now) c.args.place _ c.in_ok-made.field-0 c.in-Some.made c.in-Some.is c.in_ok-made.ensures.proves)
-    (step_as TypeRule.Fix _ (typ_of c.args.ty.now) _ _ (typ_of c.args.ty.now) (option_map tree_in made) c.args.typing.now.dialect c.in_ok-conclusion.ensures (one_pushed c.new-premises.result.items c.push.new.self.items c.in-Some.made.proof c.new-premises.ensures.items c.in_ok-push.ensures.items) wide)) c.finish.ensures.wide
+    (step_as TypeRule.Fix _ (typ_of c.args.ty.now) _ _ (typ_of c.args.ty.now) (option_map tree_in made) c.args.typing.now.dialect c.in_ok-conclusion.ensures (ap typings_of c.in_ok-premises.ensures.items) wide)) c.finish.ensures.wide
 
 pub prove_if-returns-in_default-clause-proves : goal.prove_if-returns-in_default-clause-proves
 prove_if-returns-in_default-clause-proves t c =
@@ -122,7 +122,7 @@ prove_if-returns-clause-proves t c =
     ok_map c.finish.result _ _ (λ made wide. if_form c.args.typing.now (term_of c.args.condition.now) (term_of c.args.then_term.now) (term_of c.args.else_term.now) c.args.place c.in-Some.third.first c.in-Some-2.second.first (typ_of c.args.ty.now) (tree_in c.in-Some-3.first) (tree_in c.in-Some-2.second) (tree_in c.in-Some.third) (option_map tree_in made) (some_holds c.in_ok-third.field-0 c.in-Some.third _ c.in-Some.is c.in_ok-third.ensures.first) (some_holds c.in_ok-second.field-0 c.in-Some-2.second _ c.in-Some-2.is c.in_ok-second.ensures.first)
     (some_as c.args.typing.now (term_of c.args.else_term.now) c.args.place (typ_of c.args.ty.now) c.in_ok-third.field-0 c.in-Some.third c.in-Some.is c.in_ok-third.ensures.proves) (some_as c.args.typing.now (term_of c.args.then_term.now) c.in-Some.third.first (typ_of c.args.ty.now) c.in_ok-second.field-0 c.in-Some-2.second c.in-Some-2.is c.in_ok-second.ensures.proves)
     (some_as c.args.typing.now (term_of c.args.condition.now) c.in-Some-2.second.first bool c.in_ok-first.field-0 c.in-Some-3.first c.in-Some-3.is (subst (λ u. IsProvenAs c.args.typing.now (term_of c.args.condition.now) c.in-Some-2.second.first u (option_map tree_in c.in_ok-first.field-0)) typ_of-Bool c.in_ok-first.ensures.proves))
-    (step_as TypeRule.If _ (typ_of c.args.ty.now) _ _ (typ_of c.args.ty.now) (option_map tree_in made) c.args.typing.now.dialect c.in_ok-conclusion.ensures (three_pushed c.new-premises.result.items c.push.new.self.items c.push-2.new.self.items c.push-3.new.self.items c.in-Some-3.first.proof c.in-Some-2.second.proof c.in-Some.third.proof c.new-premises.ensures.items c.in_ok-push.ensures.items c.in_ok-push-2.ensures.items c.in_ok-push-3.ensures.items) wide)) c.finish.ensures.wide
+    (step_as TypeRule.If _ (typ_of c.args.ty.now) _ _ (typ_of c.args.ty.now) (option_map tree_in made) c.args.typing.now.dialect c.in_ok-conclusion.ensures (ap typings_of c.in_ok-premises.ensures.items) wide)) c.finish.ensures.wide
 
 pub prove_lambda-returns-in_default-clause-proves : goal.prove_lambda-returns-in_default-clause-proves
 prove_lambda-returns-in_default-clause-proves t c =
@@ -136,7 +136,7 @@ pub prove_lambda-returns-clause-proves : goal.prove_lambda-returns-clause-proves
 prove_lambda-returns-clause-proves t c =
     rw (ap written_of c.in-Some.is) (ok_map c.finish.result _ _ (λ made wide. lambda_form c.args.typing.now (typ_of c.in-Some.parameter) (term_of c.args.body.now) c.args.place _ (typ_of c.args.ty.now) (tree_in c.in-Some-2.made) (option_map tree_in made)
     (c.in_ok-conclusion.ensures ∙ (λ i. arrow (c.in_ok-parameter.ensures i) ((c.in_ok-outcome.ensures ∙ sym (type_in-typing_tree_of c.in-Some-2.made.proof)) i))) (some_term c.args.typing.now (term_of c.args.body.now) c.args.place c.in_ok-made.field-0 c.in-Some-2.made c.in-Some-2.is c.in_ok-made.ensures.proves)
-    (step_as TypeRule.Abs _ _ _ _ (typ_of c.args.ty.now) (option_map tree_in made) c.args.typing.now.dialect refl (one_pushed c.new-premises.result.items c.push.new.self.items c.in-Some-2.made.proof c.new-premises.ensures.items c.in_ok-push.ensures.items) wide)) c.finish.ensures.wide)
+    (step_as TypeRule.Abs _ _ _ _ (typ_of c.args.ty.now) (option_map tree_in made) c.args.typing.now.dialect refl (ap typings_of c.in_ok-premises.ensures.items) wide)) c.finish.ensures.wide)
 
 pub prove_let-returns-in_default-clause-proves : goal.prove_let-returns-in_default-clause-proves
 prove_let-returns-in_default-clause-proves t c =
@@ -150,7 +150,7 @@ pub prove_let-returns-clause-proves : goal.prove_let-returns-clause-proves
 prove_let-returns-clause-proves t c =
     ok_map c.finish.result _ _ (λ made wide. let_form c.args.typing.now (term_of c.args.bound.now) (term_of c.args.body.now) c.args.place c.in-Some.second.first _ (typ_of c.args.ty.now) (tree_in c.in-Some-2.made) (tree_in c.in-Some.second) (option_map tree_in made) (some_holds c.in_ok-second.field-0 c.in-Some.second _ c.in-Some.is c.in_ok-second.ensures.first)
     (c.in_ok-conclusion.ensures ∙ sym (type_in-typing_tree_of c.in-Some.second.proof)) (some_term c.args.typing.now (term_of c.args.body.now) c.args.place c.in_ok-second.field-0 c.in-Some.second c.in-Some.is c.in_ok-second.ensures.proves) (some_term c.args.typing.now (term_of c.args.bound.now) c.in-Some.second.first c.in_ok-made.field-0 c.in-Some-2.made c.in-Some-2.is c.in_ok-made.ensures.proves)
-    (step_as TypeRule.Let _ _ _ _ (typ_of c.args.ty.now) (option_map tree_in made) c.args.typing.now.dialect refl (two_pushed c.new-premises.result.items c.push.new.self.items c.push-2.new.self.items c.in-Some-2.made.proof c.in-Some.second.proof c.new-premises.ensures.items c.in_ok-push.ensures.items c.in_ok-push-2.ensures.items) wide)) c.finish.ensures.wide
+    (step_as TypeRule.Let _ _ _ _ (typ_of c.args.ty.now) (option_map tree_in made) c.args.typing.now.dialect refl (ap typings_of c.in_ok-premises.ensures.items) wide)) c.finish.ensures.wide
 
 pub prove_number-returns-in_default-clause-proves : goal.prove_number-returns-in_default-clause-proves
 prove_number-returns-in_default-clause-proves t c =
@@ -160,7 +160,7 @@ pub prove_number-returns-clause-proves : goal.prove_number-returns-clause-proves
 prove_number-returns-clause-proves t c =
     ok_map c.finish.result _ _ (λ made wide e is. number_form c.args.typing.now c.args.rule e (term_of c.args.operand.now) (typ_of c.args.conclusion) (typ_of c.args.ty.now) c.args.place (tree_in c.in-Some.made) (option_map tree_in made) is
     (some_as c.args.typing.now (term_of c.args.operand.now) c.args.place nat c.in_ok-made.field-0 c.in-Some.made c.in-Some.is (subst (λ u. IsProvenAs c.args.typing.now (term_of c.args.operand.now) c.args.place u (option_map tree_in c.in_ok-made.field-0)) typ_of-Nat c.in_ok-made.ensures.proves))
-    (step_as c.args.rule _ _ _ _ (typ_of c.args.ty.now) (option_map tree_in made) c.args.typing.now.dialect refl (one_pushed c.new-premises.result.items c.push.new.self.items c.in-Some.made.proof c.new-premises.ensures.items c.in_ok-push.ensures.items) wide)) c.finish.ensures.wide
+    (step_as c.args.rule _ _ _ _ (typ_of c.args.ty.now) (option_map tree_in made) c.args.typing.now.dialect refl (ap typings_of c.in_ok-premises.ensures.items) wide)) c.finish.ensures.wide
 
 pub prove_project-returns-in_default-clause-proves : goal.prove_project-returns-in_default-clause-proves
 prove_project-returns-in_default-clause-proves t c =
@@ -177,7 +177,7 @@ prove_project-returns-in_default-field_type-clause-proves t c =
 pub prove_project-returns-clause-proves : goal.prove_project-returns-clause-proves
 prove_project-returns-clause-proves t c =
     ok_map c.finish.result _ _ (λ made wide. project_form c.args.typing.now (term_of c.args.operand.now) c.args.label.now c.args.place (fields_of c.deref.result.now) (typ_of c.in-Some-field_type.field.now) _ (typ_of c.args.ty.now) (tree_in c.in-Some.made) (option_map tree_in made) (some_term c.args.typing.now (term_of c.args.operand.now) c.args.place c.in_ok-made.field-0 c.in-Some.made c.in-Some.is c.in_ok-made.ensures.proves) (record_in c.in-Some.made c.in-Record.fields c.in-Record.is ∙ ap (λ fs. record_of (fields_of fs)) (sym c.deref.ensures.value)) c.in-Some-field_type.ensures.found c.in_ok-conclusion.ensures
-    (step_as TypeRule.Proj _ _ _ _ (typ_of c.args.ty.now) (option_map tree_in made) c.args.typing.now.dialect refl (one_pushed c.new-premises.result.items c.push.new.self.items c.in-Some.made.proof c.new-premises.ensures.items c.in_ok-push.ensures.items) wide)) c.finish.ensures.wide
+    (step_as TypeRule.Proj _ _ _ _ (typ_of c.args.ty.now) (option_map tree_in made) c.args.typing.now.dialect refl (ap typings_of c.in_ok-premises.ensures.items) wide)) c.finish.ensures.wide
 
 pub prove_record-returns-in_default-clause-proves : goal.prove_record-returns-in_default-clause-proves
 prove_record-returns-in_default-clause-proves t c =
