@@ -34,7 +34,7 @@ fn context_of(
 ) -> Result<Vec<(String, Option<Ty>)>, AllocError>
     ensures { IfOk result (λ made. map entry_of made.items ≡ map (entry_shown (table_of scopes.now) (entries_in typing.now)) (map binder_number binders.now)) }
 {
-    let mut context = Vec::new(alloc);
+    let mut context = Vec::with_capacity(alloc, binders.len())?;
     for i in 0..binders.len() {
         let binder = binders[i];
         let name = String::from_str(alloc, scopes.name_of(binder))?;

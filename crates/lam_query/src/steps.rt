@@ -84,7 +84,7 @@ fn list_typings(
 ) -> Result<Vec<usize>, AllocError>
     ensures { IfOk result (λ numbers. AreListed steps.old.items (typing_proofs (table_of scopes.now) place.0 (map place_number terms.now) (typings_of proofs.now)) steps.new.items numbers.items) }
 {
-    let mut numbers = Vec::new(alloc);
+    let mut numbers = Vec::with_capacity(alloc, proofs.len())?;
     for i in 0..proofs.len() {
         let proof = &proofs[i];
         let about = place_or(terms, i, place);
@@ -154,7 +154,7 @@ fn list_subs(
 ) -> Result<Vec<usize>, AllocError>
     ensures { IfOk result (λ numbers. AreListed steps.old.items (sub_proofs (sub_trees_of proofs.now)) steps.new.items numbers.items) }
 {
-    let mut numbers = Vec::new(alloc);
+    let mut numbers = Vec::with_capacity(alloc, proofs.len())?;
     for proof in proofs {
         let last = list_sub(alloc, steps, proof)?;
         numbers.push(last)?;

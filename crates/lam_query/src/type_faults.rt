@@ -15,7 +15,7 @@ use std::alloc::{AllocError, Global};
 pub(crate) fn written_faults(alloc: Global, faults: &[TypeFault]) -> Result<Vec<Fault>, AllocError>
     ensures { IfOk result (λ found. map fault_of found.items ≡ map written_fault faults.now) }
 {
-    let mut found = Vec::new(alloc);
+    let mut found = Vec::with_capacity(alloc, faults.len())?;
     for i in 0..faults.len() {
         found.push(written_fault(faults[i]))?;
     }
@@ -39,7 +39,7 @@ pub(crate) fn blame_faults(
 ) -> Result<Vec<Fault>, AllocError>
     ensures { IfOk result (λ found. map fault_of found.items ≡ map (λ b. fault_at b.code.now (place_row_numbered (table_of scopes.now) b.place.0).span) blames.now) }
 {
-    let mut found = Vec::new(alloc);
+    let mut found = Vec::with_capacity(alloc, blames.len())?;
     for i in 0..blames.len() {
         let blame = &blames[i];
         found.push(Fault {

@@ -18,7 +18,7 @@ list_sub-returns-clause-last t c =
     rw (sub_tree_of-node c.args.proof.now) (c.len-last.ensures ∙ c.list_subs.new.steps.ok.0 ∙ length-listed c.args.steps.now.items _ c.list_subs.new.steps.items _ listed)
 
 pub list_subs-loop-proof-init : goal.list_subs-loop-proof-init
-list_subs-loop-proof-init t c = rw c.new-numbers.ensures.items (all_left _ _)
+list_subs-loop-proof-init t c = rw c.in_ok-numbers.ensures.items (all_left _ _)
 
 pub list_subs-loop-proof-preserved : goal.list_subs-loop-proof-preserved
 list_subs-loop-proof-preserved t c =

@@ -19,7 +19,7 @@ list_typing-returns-clause-last t c =
     (c.len-last.ensures ∙ c.list_side.new.steps.ok.0 ∙ length-listed c.args.steps.now.items _ c.list_side.new.steps.items _ listed)
 
 pub list_typings-loop-i-init : goal.list_typings-loop-i-init
-list_typings-loop-i-init t c = rw c.new-numbers.ensures.items (all_left _ _)
+list_typings-loop-i-init t c = rw c.in_ok-numbers.ensures.items (all_left _ _)
 
 pub list_typings-loop-i-preserved : goal.list_typings-loop-i-preserved
 list_typings-loop-i-preserved t c =
