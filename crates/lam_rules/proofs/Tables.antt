@@ -59,5 +59,3 @@ over_more m n (Shape.Arrow p q) over le = let a = over.0 in let b = over.1 in (o
 over_more m n (Shape.Record fs) over le = below_more m n fs.items over le
 
 pub ruleset numbers = (keeps_same, keeps_trans, keeps_length, kept_type, kept_number, kept_fields, kept_shaped, below_more, over_more)
-
-pub ruleset still_standing = (keeps_trans, keeps_length)

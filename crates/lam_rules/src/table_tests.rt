@@ -75,7 +75,7 @@ fn check_turned(
 }
 
 #[test]
-#[tactic(auto, using(crate::proofs::Tables::still_standing))]
+#[tactic(auto, using(crate::proofs::Tables::numbers))]
 fn doubles_a_type_forty_times(rt: HostRuntime) -> Result<(), Fail> {
     let alloc = rt.alloc();
     let mut table = TyTable::new(alloc);
@@ -124,7 +124,7 @@ fn check_record(rt: &impl Abort, table: &TyTable, both: TyNo, first: TyNo, secon
 }
 
 #[test]
-#[tactic(auto, using(crate::proofs::Tables::still_standing))]
+#[tactic(auto, using(crate::proofs::Tables::numbers))]
 fn reads_the_outermost_form(rt: HostRuntime) -> Result<(), Fail> {
     let alloc = rt.alloc();
     let mut table = TyTable::new(alloc);
@@ -138,7 +138,7 @@ fn reads_the_outermost_form(rt: HostRuntime) -> Result<(), Fail> {
 }
 
 /// Arrows from types that are the same are the same, and others are not.
-#[tactic(auto, using(crate::proofs::Tables::still_standing))]
+#[tactic(auto, using(crate::proofs::Tables::numbers))]
 fn check_arrows(
     rt: &impl Abort,
     table: &mut TyTable,
@@ -158,19 +158,33 @@ fn check_arrows(
     Ok(())
 }
 
+/// Record types of the same fields are the same in each order, and one of fewer fields is another.
+#[tactic(auto, using(crate::proofs::Tables::numbers))]
+fn check_records(
+    rt: &impl Abort,
+    table: &mut TyTable,
+    nat: TyNo,
+    bool_type: TyNo,
+) -> Result<(), AllocError>
+    requires nat { Stands table.old nat }
+    requires bool_type { Stands table.old bool_type }
+{
+    let wide = table.record(&[("a", nat), ("b", bool_type)])?;
+    let turned = table.record(&[("b", bool_type), ("a", nat)])?;
+    let narrow = table.record(&[("a", nat)])?;
+    assert!(rt; table.same(wide, turned));
+    assert!(rt; !table.same(wide, narrow));
+    check_arrows(rt, table, wide, turned, narrow)
+}
+
 #[test]
-#[tactic(auto, using(crate::proofs::Tables::still_standing))]
+#[tactic(auto, using(crate::proofs::Tables::numbers))]
 fn tells_types_apart(rt: HostRuntime) -> Result<(), Fail> {
     let alloc = rt.alloc();
     let mut table = TyTable::new(alloc);
     let nat = table.intern(Shape::Nat)?;
     let bool_type = table.intern(Shape::Bool)?;
     assert!(rt; !table.same(bool_type, nat));
-    let wide = table.record(&[("a", nat), ("b", bool_type)])?;
-    let turned = table.record(&[("b", bool_type), ("a", nat)])?;
-    let narrow = table.record(&[("a", nat)])?;
-    assert!(rt; table.same(wide, turned));
-    assert!(rt; !table.same(wide, narrow));
-    check_arrows(&rt, &mut table, wide, turned, narrow)?;
+    check_records(&rt, &mut table, nat, bool_type)?;
     Ok(())
 }

@@ -23,10 +23,8 @@ pub(crate) fn pair(
     other_label: &str,
     other: Ty,
 ) -> Result<Ty, AllocError> {
-    let mut items = Vec::new(alloc);
-    items.push((String::from_str(alloc, label)?, ty))?;
-    items.push((String::from_str(alloc, other_label)?, other))?;
-    Ok(make_record(items))
+    let types = vec![in alloc; ty, other]?;
+    record(alloc, &[label, other_label], types)
 }
 
 /// `Nat->Nat->..->Nat` with so many arrows.
@@ -310,24 +308,27 @@ fn lifted(alloc: Global, typing: TypeProof, sub: SubProof) -> Result<TypeProof, 
     })
 }
 
-/// `(lambda r:{x:Nat}. r.x) {y=true, x=0}`
-fn projecting(alloc: Global) -> Result<Core, AllocError> {
+/// `lambda r:{x:Nat}. r.x`
+fn projection(alloc: Global) -> Result<Core, AllocError> {
     let label = String::from_str(alloc, "x")?;
     let body = Core::Proj(Box::new(alloc, Core::Var(0))?, label);
-    let function = Core::Abs(
-        Box::new(alloc, Some(of_nat(alloc, &["x"])?))?,
-        Box::new(alloc, body)?,
-    );
-    let mut terms = Vec::new(alloc);
-    terms.push((String::from_str(alloc, "y")?, Core::True))?;
-    terms.push((
-        String::from_str(alloc, "x")?,
-        Core::Num(String::from_str(alloc, "0")?),
-    ))?;
-    Ok(Core::App(
-        Box::new(alloc, function)?,
-        Box::new(alloc, Core::Record(terms))?,
-    ))
+    let written = of_nat(alloc, &["x"])?;
+    Ok(Core::Abs(Box::new(alloc, Some(written))?, Box::new(alloc, body)?))
+}
+
+/// `{y=true, x=0}`
+fn wide_argument(alloc: Global) -> Result<Core, AllocError> {
+    let y = String::from_str(alloc, "y")?;
+    let x = String::from_str(alloc, "x")?;
+    let zero = Core::Num(String::from_str(alloc, "0")?);
+    Ok(Core::Record(vec![in alloc; (y, Core::True), (x, zero)]?))
+}
+
+/// That function at that argument.
+fn projecting(alloc: Global) -> Result<Core, AllocError> {
+    let function = Box::new(alloc, projection(alloc)?)?;
+    let argument = Box::new(alloc, wide_argument(alloc)?)?;
+    Ok(Core::App(function, argument))
 }
 
 /// The type of that function.
