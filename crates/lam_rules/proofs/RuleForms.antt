@@ -44,12 +44,12 @@ pub no_false : (term : Core) → (term ≡ False → ⊥)
     → (g : Context) (t : Typ) (ps : TypingTrees) (d : Dialect) → ByTypeRule TypeRule.False None g (term_of term) t ps d → ⊥
 no_false term = not_false (seen term)
 
-not_if : {term : Core} {u : Term} → Seen term u → ((e1 : Box Core Global) (e2 : Box Core Global) (e3 : Box Core Global) → term ≡ (If e1 e2 e3) → ⊥)
+not_if : {term : Core} {u : Term} → Seen term u → ((p : Box (Core × Core × Core) Global) → term ≡ (If p) → ⊥)
     → (g : Context) (t : Typ) (ps : TypingTrees) (d : Dialect) → ByTypeRule TypeRule.If None g u t ps d → ⊥
-not_if (seen_If e1 e2 e3) other g t ps d h = other e1 e2 e3 refl
+not_if (seen_If p) other g t ps d h = other p refl
 not_if _ other g t ps d h = h
 
-pub no_if : (term : Core) → ((e1 : Box Core Global) (e2 : Box Core Global) (e3 : Box Core Global) → term ≡ (If e1 e2 e3) → ⊥)
+pub no_if : (term : Core) → ((p : Box (Core × Core × Core) Global) → term ≡ (If p) → ⊥)
     → (g : Context) (t : Typ) (ps : TypingTrees) (d : Dialect) → ByTypeRule TypeRule.If None g (term_of term) t ps d → ⊥
 no_if term = not_if (seen term)
 
@@ -98,21 +98,21 @@ pub no_var : (term : Core) → ((n : ℕ) → term ≡ (Var n) → ⊥)
     → (g : Context) (t : Typ) (ps : TypingTrees) (d : Dialect) → ByTypeRule TypeRule.Var None g (term_of term) t ps d → ⊥
 no_var term = not_var (seen term)
 
-not_abs : {term : Core} {u : Term} → Seen term u → ((w : Box (Option Ty) Global) (e : Box Core Global) → term ≡ (Abs w e) → ⊥)
+not_abs : {term : Core} {u : Term} → Seen term u → ((p : Box (Option Ty × Core) Global) → term ≡ (Abs p) → ⊥)
     → (g : Context) (t : Typ) (ps : TypingTrees) (d : Dialect) → ByTypeRule TypeRule.Abs None g u t ps d → ⊥
-not_abs (seen_Abs w e) other g t ps d h = other w e refl
+not_abs (seen_Abs p) other g t ps d h = other p refl
 not_abs _ other g t ps d h = h
 
-pub no_abs : (term : Core) → ((w : Box (Option Ty) Global) (e : Box Core Global) → term ≡ (Abs w e) → ⊥)
+pub no_abs : (term : Core) → ((p : Box (Option Ty × Core) Global) → term ≡ (Abs p) → ⊥)
     → (g : Context) (t : Typ) (ps : TypingTrees) (d : Dialect) → ByTypeRule TypeRule.Abs None g (term_of term) t ps d → ⊥
 no_abs term = not_abs (seen term)
 
-not_app : {term : Core} {u : Term} → Seen term u → ((e1 : Box Core Global) (e2 : Box Core Global) → term ≡ (App e1 e2) → ⊥)
+not_app : {term : Core} {u : Term} → Seen term u → ((p : Box (Core × Core) Global) → term ≡ (App p) → ⊥)
     → (g : Context) (t : Typ) (ps : TypingTrees) (d : Dialect) → ByTypeRule TypeRule.App None g u t ps d → ⊥
-not_app (seen_App e1 e2) other g t ps d h = other e1 e2 refl
+not_app (seen_App p) other g t ps d h = other p refl
 not_app _ other g t ps d h = h
 
-pub no_app : (term : Core) → ((e1 : Box Core Global) (e2 : Box Core Global) → term ≡ (App e1 e2) → ⊥)
+pub no_app : (term : Core) → ((p : Box (Core × Core) Global) → term ≡ (App p) → ⊥)
     → (g : Context) (t : Typ) (ps : TypingTrees) (d : Dialect) → ByTypeRule TypeRule.App None g (term_of term) t ps d → ⊥
 no_app term = not_app (seen term)
 
@@ -125,21 +125,21 @@ pub no_unit : (term : Core) → (term ≡ UnitTerm → ⊥)
     → (g : Context) (t : Typ) (ps : TypingTrees) (d : Dialect) → ByTypeRule TypeRule.Unit None g (term_of term) t ps d → ⊥
 no_unit term = not_unit (seen term)
 
-not_ascribe : {term : Core} {u : Term} → Seen term u → ((e : Box Core Global) (w : Box (Option Ty) Global) → term ≡ (Ascribe e w) → ⊥)
+not_ascribe : {term : Core} {u : Term} → Seen term u → ((p : Box (Core × Option Ty) Global) → term ≡ (Ascribe p) → ⊥)
     → (g : Context) (t : Typ) (ps : TypingTrees) (d : Dialect) → ByTypeRule TypeRule.Ascribe None g u t ps d → ⊥
-not_ascribe (seen_Ascribe e w) other g t ps d h = other e w refl
+not_ascribe (seen_Ascribe p) other g t ps d h = other p refl
 not_ascribe _ other g t ps d h = h
 
-pub no_ascribe : (term : Core) → ((e : Box Core Global) (w : Box (Option Ty) Global) → term ≡ (Ascribe e w) → ⊥)
+pub no_ascribe : (term : Core) → ((p : Box (Core × Option Ty) Global) → term ≡ (Ascribe p) → ⊥)
     → (g : Context) (t : Typ) (ps : TypingTrees) (d : Dialect) → ByTypeRule TypeRule.Ascribe None g (term_of term) t ps d → ⊥
 no_ascribe term = not_ascribe (seen term)
 
-not_let : {term : Core} {u : Term} → Seen term u → ((e1 : Box Core Global) (e2 : Box Core Global) → term ≡ (Let e1 e2) → ⊥)
+not_let : {term : Core} {u : Term} → Seen term u → ((p : Box (Core × Core) Global) → term ≡ (Let p) → ⊥)
     → (g : Context) (t : Typ) (ps : TypingTrees) (d : Dialect) → ByTypeRule TypeRule.Let None g u t ps d → ⊥
-not_let (seen_Let e1 e2) other g t ps d h = other e1 e2 refl
+not_let (seen_Let p) other g t ps d h = other p refl
 not_let _ other g t ps d h = h
 
-pub no_let : (term : Core) → ((e1 : Box Core Global) (e2 : Box Core Global) → term ≡ (Let e1 e2) → ⊥)
+pub no_let : (term : Core) → ((p : Box (Core × Core) Global) → term ≡ (Let p) → ⊥)
     → (g : Context) (t : Typ) (ps : TypingTrees) (d : Dialect) → ByTypeRule TypeRule.Let None g (term_of term) t ps d → ⊥
 no_let term = not_let (seen term)
 
@@ -152,12 +152,12 @@ pub no_rcd : (term : Core) → ((fs : Vec (String Global × Core) Global) → te
     → (g : Context) (t : Typ) (ps : TypingTrees) (d : Dialect) → ByTypeRule TypeRule.Rcd None g (term_of term) t ps d → ⊥
 no_rcd term = not_rcd (seen term)
 
-not_proj : {term : Core} {u : Term} → Seen term u → ((e : Box Core Global) (s : String Global) → term ≡ (Proj e s) → ⊥)
+not_proj : {term : Core} {u : Term} → Seen term u → ((p : Box (Core × String Global) Global) → term ≡ (Proj p) → ⊥)
     → (g : Context) (t : Typ) (ps : TypingTrees) (d : Dialect) → ByTypeRule TypeRule.Proj None g u t ps d → ⊥
-not_proj (seen_Proj e s) other g t ps d h = other e s refl
+not_proj (seen_Proj p) other g t ps d h = other p refl
 not_proj _ other g t ps d h = h
 
-pub no_proj : (term : Core) → ((e : Box Core Global) (s : String Global) → term ≡ (Proj e s) → ⊥)
+pub no_proj : (term : Core) → ((p : Box (Core × String Global) Global) → term ≡ (Proj p) → ⊥)
     → (g : Context) (t : Typ) (ps : TypingTrees) (d : Dialect) → ByTypeRule TypeRule.Proj None g (term_of term) t ps d → ⊥
 no_proj term = not_proj (seen term)
 

@@ -41,41 +41,41 @@ pub here_is_zero : (term : Core) (e : Box Core Global) (a : Core) → term ≡ I
     → ByTypeRule TypeRule.IsZero None g (term_of term) t (typings_of ps) d ↔ (IsTyping g (term_of a) (typing_tree_of p) d × (type_in (typing_tree_of p) ≡ nat) × (t ≡ bool))
 here_is_zero term e a is is_a ps p low high is_p g t d = rw (is, term_of-IsZero e, sym is_a, one_premise ps p low high is_p) both_ways
 
-pub here_if : (term : Core) (e1 e2 e3 : Box Core Global) (a b c : Core) → term ≡ If e1 e2 e3 → a ≡ e1.value → b ≡ e2.value → c ≡ e3.value
+pub here_if : (term : Core) (e : Box (Core × Core × Core) Global) (x : Core × Core × Core) → term ≡ If e → x ≡ e.value
     → (ps : List TypeProof) (p q r : TypeProof) → 3 ≤ length ps → length ps < 4 → p ≡ get_or ps 0 p → q ≡ get_or ps 1 q → r ≡ get_or ps 2 r
     → (g : Context) (t : Typ) (d : Dialect)
-    → ByTypeRule TypeRule.If None g (term_of term) t (typings_of ps) d ↔ (IsTyping g (term_of a) (typing_tree_of p) d × (type_in (typing_tree_of p) ≡ bool) × IsTyping g (term_of b) (typing_tree_of q) d × (type_in (typing_tree_of q) ≡ t) × IsTyping g (term_of c) (typing_tree_of r) d × (type_in (typing_tree_of r) ≡ t))
-here_if term e1 e2 e3 a b c is is_a is_b is_c ps p q r low high is_p is_q is_r g t d = rw (is, term_of-If e1 e2 e3, sym is_a, sym is_b, sym is_c, three_premises ps p q r low high is_p is_q is_r) both_ways
+    → ByTypeRule TypeRule.If None g (term_of term) t (typings_of ps) d ↔ (IsTyping g (term_of x.0) (typing_tree_of p) d × (type_in (typing_tree_of p) ≡ bool) × IsTyping g (term_of x.1) (typing_tree_of q) d × (type_in (typing_tree_of q) ≡ t) × IsTyping g (term_of x.2) (typing_tree_of r) d × (type_in (typing_tree_of r) ≡ t))
+here_if term e x is is_e ps p q r low high is_p is_q is_r g t d = rw (is, term_of-If e, sym is_e, three_premises ps p q r low high is_p is_q is_r) both_ways
 
-pub here_abs : (term : Core) (w : Box (Option Ty) Global) (e : Box Core Global) (b : Core) (o : Option Ty) (u : Ty) → term ≡ Abs w e → b ≡ e.value → o ≡ w.value → o ≡ Some u
+pub here_abs : (term : Core) (e : Box (Option Ty × Core) Global) (x : Option Ty × Core) (u : Ty) → term ≡ Abs e → x ≡ e.value → x.0 ≡ Some u
     → (ps : List TypeProof) (p : TypeProof) → 1 ≤ length ps → length ps < 2 → p ≡ get_or ps 0 p
     → (g : Context) (t : Typ) (d : Dialect)
-    → ByTypeRule TypeRule.Abs None g (term_of term) t (typings_of ps) d ↔ (IsTyping (Some (typ_of u) ∷ g) (term_of b) (typing_tree_of p) d × (t ≡ arrow (typ_of u) (type_in (typing_tree_of p))))
-here_abs term w e b o u is is_b is_o is_u ps p low high is_p g t d = rw (is, term_of-Abs w e, sym is_b, sym is_o ∙ is_u, one_premise ps p low high is_p) both_ways
+    → ByTypeRule TypeRule.Abs None g (term_of term) t (typings_of ps) d ↔ (IsTyping (Some (typ_of u) ∷ g) (term_of x.1) (typing_tree_of p) d × (t ≡ arrow (typ_of u) (type_in (typing_tree_of p))))
+here_abs term e x u is is_e is_u ps p low high is_p g t d = rw (is, term_of-Abs e, sym is_e, is_u, one_premise ps p low high is_p) both_ways
 
-pub here_app : (term : Core) (e1 e2 : Box Core Global) (a b : Core) → term ≡ App e1 e2 → a ≡ e1.value → b ≡ e2.value
+pub here_app : (term : Core) (e : Box (Core × Core) Global) (x : Core × Core) → term ≡ App e → x ≡ e.value
     → (ps : List TypeProof) (p q : TypeProof) → 2 ≤ length ps → length ps < 3 → p ≡ get_or ps 0 p → q ≡ get_or ps 1 q
     → (g : Context) (t : Typ) (d : Dialect)
-    → ByTypeRule TypeRule.App None g (term_of term) t (typings_of ps) d ↔ (IsTyping g (term_of a) (typing_tree_of p) d × IsTyping g (term_of b) (typing_tree_of q) d × (typ_of (out-TypeProof p).ty ≡ arrow (typ_of (out-TypeProof q).ty) t))
-here_app term e1 e2 a b is is_a is_b ps p q low high is_p is_q g t d = rw (is, term_of-App e1 e2, sym is_a, sym is_b, two_premises ps p q low high is_p is_q, type_in-typing_tree_of p, type_in-typing_tree_of q) both_ways
+    → ByTypeRule TypeRule.App None g (term_of term) t (typings_of ps) d ↔ (IsTyping g (term_of x.0) (typing_tree_of p) d × IsTyping g (term_of x.1) (typing_tree_of q) d × (typ_of (out-TypeProof p).ty ≡ arrow (typ_of (out-TypeProof q).ty) t))
+here_app term e x is is_e ps p q low high is_p is_q g t d = rw (is, term_of-App e, sym is_e, two_premises ps p q low high is_p is_q, type_in-typing_tree_of p, type_in-typing_tree_of q) both_ways
 
-pub here_ascribe : (term : Core) (e : Box Core Global) (w : Box (Option Ty) Global) (a : Core) (o : Option Ty) (u : Ty) → term ≡ Ascribe e w → a ≡ e.value → o ≡ w.value → o ≡ Some u
+pub here_ascribe : (term : Core) (e : Box (Core × Option Ty) Global) (x : Core × Option Ty) (u : Ty) → term ≡ Ascribe e → x ≡ e.value → x.1 ≡ Some u
     → (ps : List TypeProof) (p : TypeProof) → 1 ≤ length ps → length ps < 2 → p ≡ get_or ps 0 p
     → (g : Context) (t : Typ) (d : Dialect)
-    → ByTypeRule TypeRule.Ascribe None g (term_of term) t (typings_of ps) d ↔ (IsTyping g (term_of a) (typing_tree_of p) d × (type_in (typing_tree_of p) ≡ typ_of u) × (t ≡ typ_of u))
-here_ascribe term e w a o u is is_a is_o is_u ps p low high is_p g t d = rw (is, term_of-Ascribe e w, sym is_a, sym is_o ∙ is_u, one_premise ps p low high is_p) both_ways
+    → ByTypeRule TypeRule.Ascribe None g (term_of term) t (typings_of ps) d ↔ (IsTyping g (term_of x.0) (typing_tree_of p) d × (type_in (typing_tree_of p) ≡ typ_of u) × (t ≡ typ_of u))
+here_ascribe term e x u is is_e is_u ps p low high is_p g t d = rw (is, term_of-Ascribe e, sym is_e, is_u, one_premise ps p low high is_p) both_ways
 
-pub here_let : (term : Core) (e1 e2 : Box Core Global) (a b : Core) → term ≡ Let e1 e2 → a ≡ e1.value → b ≡ e2.value
+pub here_let : (term : Core) (e : Box (Core × Core) Global) (x : Core × Core) → term ≡ Let e → x ≡ e.value
     → (ps : List TypeProof) (p q : TypeProof) → 2 ≤ length ps → length ps < 3 → p ≡ get_or ps 0 p → q ≡ get_or ps 1 q
     → (g : Context) (t : Typ) (d : Dialect)
-    → ByTypeRule TypeRule.Let None g (term_of term) t (typings_of ps) d ↔ (IsTyping g (term_of a) (typing_tree_of p) d × IsTyping (Some (typ_of (out-TypeProof p).ty) ∷ g) (term_of b) (typing_tree_of q) d × (type_in (typing_tree_of q) ≡ t))
-here_let term e1 e2 a b is is_a is_b ps p q low high is_p is_q g t d = rw (is, term_of-Let e1 e2, sym is_a, sym is_b, two_premises ps p q low high is_p is_q, type_in-typing_tree_of p) both_ways
+    → ByTypeRule TypeRule.Let None g (term_of term) t (typings_of ps) d ↔ (IsTyping g (term_of x.0) (typing_tree_of p) d × IsTyping (Some (typ_of (out-TypeProof p).ty) ∷ g) (term_of x.1) (typing_tree_of q) d × (type_in (typing_tree_of q) ≡ t))
+here_let term e x is is_e ps p q low high is_p is_q g t d = rw (is, term_of-Let e, sym is_e, two_premises ps p q low high is_p is_q, type_in-typing_tree_of p) both_ways
 
-pub here_proj : (term : Core) (e : Box Core Global) (s : String Global) (a : Core) → term ≡ Proj e s → a ≡ e.value
+pub here_proj : (term : Core) (e : Box (Core × String Global) Global) (x : Core × String Global) → term ≡ Proj e → x ≡ e.value
     → (ps : List TypeProof) (p : TypeProof) → 1 ≤ length ps → length ps < 2 → p ≡ get_or ps 0 p
     → (g : Context) (t : Typ) (d : Dialect)
-    → ByTypeRule TypeRule.Proj None g (term_of term) t (typings_of ps) d ↔ (IsTyping g (term_of a) (typing_tree_of p) d × HasField (typ_of (out-TypeProof p).ty) (string_bytes s) t)
-here_proj term e s a is is_a ps p low high is_p g t d = rw (is, term_of-Proj e s, sym is_a, one_premise ps p low high is_p, type_in-typing_tree_of p) both_ways
+    → ByTypeRule TypeRule.Proj None g (term_of term) t (typings_of ps) d ↔ (IsTyping g (term_of x.0) (typing_tree_of p) d × HasField (typ_of (out-TypeProof p).ty) (string_bytes x.1) t)
+here_proj term e x is is_e ps p low high is_p g t d = rw (is, term_of-Proj e, sym is_e, one_premise ps p low high is_p, type_in-typing_tree_of p) both_ways
 
 pub here_fix : (term : Core) (e : Box Core Global) (a : Core) → term ≡ Fix e → a ≡ e.value
     → (ps : List TypeProof) (p : TypeProof) → 1 ≤ length ps → length ps < 2 → p ≡ get_or ps 0 p

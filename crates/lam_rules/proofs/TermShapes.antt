@@ -22,9 +22,9 @@ pub term_of-False : term_of False ≡ false_term
 unfolding term_of
 term_of-False = ap term_of (sym rolls-False) ∙ fold-roll-Core Term term_step Core-F.False
 
-pub term_of-If : (e1 : Box Core Global) (e2 : Box Core Global) (e3 : Box Core Global) → term_of (If e1 e2 e3) ≡ if_then_else (term_of e1.value) (term_of e2.value) (term_of e3.value)
+pub term_of-If : (p : Box (Core × Core × Core) Global) → term_of (If p) ≡ if_then_else (term_of p.value.0) (term_of p.value.1) (term_of p.value.2)
 unfolding term_of
-term_of-If e1 e2 e3 = ap term_of (sym (rolls-If e1 e2 e3)) ∙ fold-roll-Core Term term_step (Core-F.If e1 e2 e3)
+term_of-If p = ap term_of (sym (rolls-If p)) ∙ fold-roll-Core Term term_step (Core-F.If p)
 
 pub term_of-Num : (s : String Global) → term_of (Num s) ≡ numeral (string_bytes s)
 unfolding term_of
@@ -50,33 +50,33 @@ pub term_of-Free : (s : String Global) → term_of (Free s) ≡ free (string_byt
 unfolding term_of
 term_of-Free s = ap term_of (sym (rolls-Free s)) ∙ fold-roll-Core Term term_step (Core-F.Free s)
 
-pub term_of-Abs : (w : Box (Option Ty) Global) (e : Box Core Global) → term_of (Abs w e) ≡ lambda (written_of w.value) (term_of e.value)
+pub term_of-Abs : (p : Box (Option Ty × Core) Global) → term_of (Abs p) ≡ lambda (written_of p.value.0) (term_of p.value.1)
 unfolding term_of
-term_of-Abs w e = ap term_of (sym (rolls-Abs w e)) ∙ fold-roll-Core Term term_step (Core-F.Abs w e)
+term_of-Abs p = ap term_of (sym (rolls-Abs p)) ∙ fold-roll-Core Term term_step (Core-F.Abs p)
 
-pub term_of-App : (e1 : Box Core Global) (e2 : Box Core Global) → term_of (App e1 e2) ≡ apply (term_of e1.value) (term_of e2.value)
+pub term_of-App : (p : Box (Core × Core) Global) → term_of (App p) ≡ apply (term_of p.value.0) (term_of p.value.1)
 unfolding term_of
-term_of-App e1 e2 = ap term_of (sym (rolls-App e1 e2)) ∙ fold-roll-Core Term term_step (Core-F.App e1 e2)
+term_of-App p = ap term_of (sym (rolls-App p)) ∙ fold-roll-Core Term term_step (Core-F.App p)
 
 pub term_of-Unit : term_of UnitTerm ≡ unit_term
 unfolding term_of
 term_of-Unit = ap term_of (sym rolls-Unit) ∙ fold-roll-Core Term term_step Core-F.Unit
 
-pub term_of-Ascribe : (e : Box Core Global) (w : Box (Option Ty) Global) → term_of (Ascribe e w) ≡ ascribe (term_of e.value) (written_of w.value)
+pub term_of-Ascribe : (p : Box (Core × Option Ty) Global) → term_of (Ascribe p) ≡ ascribe (term_of p.value.0) (written_of p.value.1)
 unfolding term_of
-term_of-Ascribe e w = ap term_of (sym (rolls-Ascribe e w)) ∙ fold-roll-Core Term term_step (Core-F.Ascribe e w)
+term_of-Ascribe p = ap term_of (sym (rolls-Ascribe p)) ∙ fold-roll-Core Term term_step (Core-F.Ascribe p)
 
-pub term_of-Let : (e1 : Box Core Global) (e2 : Box Core Global) → term_of (Let e1 e2) ≡ let_in (term_of e1.value) (term_of e2.value)
+pub term_of-Let : (p : Box (Core × Core) Global) → term_of (Let p) ≡ let_in (term_of p.value.0) (term_of p.value.1)
 unfolding term_of
-term_of-Let e1 e2 = ap term_of (sym (rolls-Let e1 e2)) ∙ fold-roll-Core Term term_step (Core-F.Let e1 e2)
+term_of-Let p = ap term_of (sym (rolls-Let p)) ∙ fold-roll-Core Term term_step (Core-F.Let p)
 
 pub term_of-Record : (fs : Vec (String Global × Core) Global) → term_of (Record fs) ≡ record_term (terms_of fs.items)
 unfolding term_of
 term_of-Record fs = ap term_of (sym (rolls-Record fs)) ∙ fold-roll-Core Term term_step (Core-F.Record fs) ∙ ap record_term (terms_made-map fs.items)
 
-pub term_of-Proj : (e : Box Core Global) (s : String Global) → term_of (Proj e s) ≡ project (term_of e.value) (string_bytes s)
+pub term_of-Proj : (p : Box (Core × String Global) Global) → term_of (Proj p) ≡ project (term_of p.value.0) (string_bytes p.value.1)
 unfolding term_of
-term_of-Proj e s = ap term_of (sym (rolls-Proj e s)) ∙ fold-roll-Core Term term_step (Core-F.Proj e s)
+term_of-Proj p = ap term_of (sym (rolls-Proj p)) ∙ fold-roll-Core Term term_step (Core-F.Proj p)
 
 pub term_of-Fix : (e : Box Core Global) → term_of (Fix e) ≡ fix (term_of e.value)
 unfolding term_of
@@ -86,20 +86,20 @@ term_of-Fix e = ap term_of (sym (rolls-Fix e)) ∙ fold-roll-Core Term term_step
 pub data Seen : Core → Term → Type 0 where
   seen_True : Seen True true_term
   seen_False : Seen False false_term
-  seen_If : (e1 : Box Core Global) (e2 : Box Core Global) (e3 : Box Core Global) → Seen (If e1 e2 e3) (if_then_else (term_of e1.value) (term_of e2.value) (term_of e3.value))
+  seen_If : (p : Box (Core × Core × Core) Global) → Seen (If p) (if_then_else (term_of p.value.0) (term_of p.value.1) (term_of p.value.2))
   seen_Num : (s : String Global) → Seen (Num s) (numeral (string_bytes s))
   seen_Succ : (e : Box Core Global) → Seen (Succ e) (succ (term_of e.value))
   seen_Pred : (e : Box Core Global) → Seen (Pred e) (pred (term_of e.value))
   seen_IsZero : (e : Box Core Global) → Seen (IsZero e) (is_zero (term_of e.value))
   seen_Var : (n : ℕ) → Seen (Var n) (variable n)
   seen_Free : (s : String Global) → Seen (Free s) (free (string_bytes s))
-  seen_Abs : (w : Box (Option Ty) Global) (e : Box Core Global) → Seen (Abs w e) (lambda (written_of w.value) (term_of e.value))
-  seen_App : (e1 : Box Core Global) (e2 : Box Core Global) → Seen (App e1 e2) (apply (term_of e1.value) (term_of e2.value))
+  seen_Abs : (p : Box (Option Ty × Core) Global) → Seen (Abs p) (lambda (written_of p.value.0) (term_of p.value.1))
+  seen_App : (p : Box (Core × Core) Global) → Seen (App p) (apply (term_of p.value.0) (term_of p.value.1))
   seen_Unit : Seen UnitTerm unit_term
-  seen_Ascribe : (e : Box Core Global) (w : Box (Option Ty) Global) → Seen (Ascribe e w) (ascribe (term_of e.value) (written_of w.value))
-  seen_Let : (e1 : Box Core Global) (e2 : Box Core Global) → Seen (Let e1 e2) (let_in (term_of e1.value) (term_of e2.value))
+  seen_Ascribe : (p : Box (Core × Option Ty) Global) → Seen (Ascribe p) (ascribe (term_of p.value.0) (written_of p.value.1))
+  seen_Let : (p : Box (Core × Core) Global) → Seen (Let p) (let_in (term_of p.value.0) (term_of p.value.1))
   seen_Record : (fs : Vec (String Global × Core) Global) → Seen (Record fs) (record_term (terms_of fs.items))
-  seen_Proj : (e : Box Core Global) (s : String Global) → Seen (Proj e s) (project (term_of e.value) (string_bytes s))
+  seen_Proj : (p : Box (Core × String Global) Global) → Seen (Proj p) (project (term_of p.value.0) (string_bytes p.value.1))
   seen_Fix : (e : Box Core Global) → Seen (Fix e) (fix (term_of e.value))
 
 pub seen : (e : Core) → Seen e (term_of e)
@@ -108,20 +108,20 @@ seen e = subst (λ e. Seen e (term_of e)) (roll-out-Core e) (rolled (out-Core e)
     rolled : (o : Core-F Core) → Seen (roll-Core o) (term_of (roll-Core o))
     rolled Core-F.True = subst (λ e. Seen e (term_of e)) (sym rolls-True) (subst (λ u. Seen True u) (sym term_of-True) seen_True)
     rolled Core-F.False = subst (λ e. Seen e (term_of e)) (sym rolls-False) (subst (λ u. Seen False u) (sym term_of-False) seen_False)
-    rolled (Core-F.If e1 e2 e3) = subst (λ e. Seen e (term_of e)) (sym (rolls-If e1 e2 e3)) (subst (λ u. Seen (If e1 e2 e3) u) (sym (term_of-If e1 e2 e3)) (seen_If e1 e2 e3))
+    rolled (Core-F.If p) = subst (λ e. Seen e (term_of e)) (sym (rolls-If p)) (subst (λ u. Seen (If p) u) (sym (term_of-If p)) (seen_If p))
     rolled (Core-F.Num s) = subst (λ e. Seen e (term_of e)) (sym (rolls-Num s)) (subst (λ u. Seen (Num s) u) (sym (term_of-Num s)) (seen_Num s))
     rolled (Core-F.Succ e) = subst (λ e. Seen e (term_of e)) (sym (rolls-Succ e)) (subst (λ u. Seen (Succ e) u) (sym (term_of-Succ e)) (seen_Succ e))
     rolled (Core-F.Pred e) = subst (λ e. Seen e (term_of e)) (sym (rolls-Pred e)) (subst (λ u. Seen (Pred e) u) (sym (term_of-Pred e)) (seen_Pred e))
     rolled (Core-F.IsZero e) = subst (λ e. Seen e (term_of e)) (sym (rolls-IsZero e)) (subst (λ u. Seen (IsZero e) u) (sym (term_of-IsZero e)) (seen_IsZero e))
     rolled (Core-F.Var n) = subst (λ e. Seen e (term_of e)) (sym (rolls-Var n)) (subst (λ u. Seen (Var n) u) (sym (term_of-Var n)) (seen_Var n))
     rolled (Core-F.Free s) = subst (λ e. Seen e (term_of e)) (sym (rolls-Free s)) (subst (λ u. Seen (Free s) u) (sym (term_of-Free s)) (seen_Free s))
-    rolled (Core-F.Abs w e) = subst (λ e. Seen e (term_of e)) (sym (rolls-Abs w e)) (subst (λ u. Seen (Abs w e) u) (sym (term_of-Abs w e)) (seen_Abs w e))
-    rolled (Core-F.App e1 e2) = subst (λ e. Seen e (term_of e)) (sym (rolls-App e1 e2)) (subst (λ u. Seen (App e1 e2) u) (sym (term_of-App e1 e2)) (seen_App e1 e2))
+    rolled (Core-F.Abs p) = subst (λ e. Seen e (term_of e)) (sym (rolls-Abs p)) (subst (λ u. Seen (Abs p) u) (sym (term_of-Abs p)) (seen_Abs p))
+    rolled (Core-F.App p) = subst (λ e. Seen e (term_of e)) (sym (rolls-App p)) (subst (λ u. Seen (App p) u) (sym (term_of-App p)) (seen_App p))
     rolled Core-F.Unit = subst (λ e. Seen e (term_of e)) (sym rolls-Unit) (subst (λ u. Seen UnitTerm u) (sym term_of-Unit) seen_Unit)
-    rolled (Core-F.Ascribe e w) = subst (λ e. Seen e (term_of e)) (sym (rolls-Ascribe e w)) (subst (λ u. Seen (Ascribe e w) u) (sym (term_of-Ascribe e w)) (seen_Ascribe e w))
-    rolled (Core-F.Let e1 e2) = subst (λ e. Seen e (term_of e)) (sym (rolls-Let e1 e2)) (subst (λ u. Seen (Let e1 e2) u) (sym (term_of-Let e1 e2)) (seen_Let e1 e2))
+    rolled (Core-F.Ascribe p) = subst (λ e. Seen e (term_of e)) (sym (rolls-Ascribe p)) (subst (λ u. Seen (Ascribe p) u) (sym (term_of-Ascribe p)) (seen_Ascribe p))
+    rolled (Core-F.Let p) = subst (λ e. Seen e (term_of e)) (sym (rolls-Let p)) (subst (λ u. Seen (Let p) u) (sym (term_of-Let p)) (seen_Let p))
     rolled (Core-F.Record fs) = subst (λ e. Seen e (term_of e)) (sym (rolls-Record fs)) (subst (λ u. Seen (Record fs) u) (sym (term_of-Record fs)) (seen_Record fs))
-    rolled (Core-F.Proj e s) = subst (λ e. Seen e (term_of e)) (sym (rolls-Proj e s)) (subst (λ u. Seen (Proj e s) u) (sym (term_of-Proj e s)) (seen_Proj e s))
+    rolled (Core-F.Proj p) = subst (λ e. Seen e (term_of e)) (sym (rolls-Proj p)) (subst (λ u. Seen (Proj p) u) (sym (term_of-Proj p)) (seen_Proj p))
     rolled (Core-F.Fix e) = subst (λ e. Seen e (term_of e)) (sym (rolls-Fix e)) (subst (λ u. Seen (Fix e) u) (sym (term_of-Fix e)) (seen_Fix e))
 
 -- lists of labelled terms

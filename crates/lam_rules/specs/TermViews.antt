@@ -22,20 +22,20 @@ terms_made (f ∷ fs) = term_field (string_bytes f.0) f.1 (terms_made fs)
 abbrev pub term_step : Core-F Term → Term
 term_step Core-F.True = true_term
 term_step Core-F.False = false_term
-term_step (Core-F.If c a b) = if_then_else c.value a.value b.value
+term_step (Core-F.If p) = if_then_else p.value.0 p.value.1 p.value.2
 term_step (Core-F.Num s) = numeral (string_bytes s)
 term_step (Core-F.Succ e) = succ e.value
 term_step (Core-F.Pred e) = pred e.value
 term_step (Core-F.IsZero e) = is_zero e.value
 term_step (Core-F.Var n) = variable n
 term_step (Core-F.Free s) = free (string_bytes s)
-term_step (Core-F.Abs o e) = lambda (written_of o.value) e.value
-term_step (Core-F.App f a) = apply f.value a.value
+term_step (Core-F.Abs p) = lambda (written_of p.value.0) p.value.1
+term_step (Core-F.App p) = apply p.value.0 p.value.1
 term_step Core-F.Unit = unit_term
-term_step (Core-F.Ascribe e o) = ascribe e.value (written_of o.value)
-term_step (Core-F.Let a b) = let_in a.value b.value
+term_step (Core-F.Ascribe p) = ascribe p.value.0 (written_of p.value.1)
+term_step (Core-F.Let p) = let_in p.value.0 p.value.1
 term_step (Core-F.Record fs) = record_term (terms_made fs.items)
-term_step (Core-F.Proj e s) = project e.value (string_bytes s)
+term_step (Core-F.Proj p) = project p.value.0 (string_bytes p.value.1)
 term_step (Core-F.Fix e) = fix e.value
 
 -- the tree of a term

@@ -7,12 +7,13 @@ ghost use Rattle.lam_rules.specs.TermViews.{term_of, written_of};
 use crate::types::Ty;
 use std::alloc::{AllocError, Global};
 
-/// A term that tells a name by its binder and not by its letters (TAPL chapter 6).
+/// A term that tells a name by its binder and not by its letters (TAPL chapter 6). The parts of a term stand in one box.
 #[derive(Drop)]
 pub enum Core {
     True,
     False,
-    If(Box<Core>, Box<Core>, Box<Core>),
+    /// An if: the condition, the term where it is true, and the other.
+    If(Box<(Core, Core, Core)>),
     /// A numeral, by its digits.
     Num(String),
     Succ(Box<Core>),
@@ -22,17 +23,18 @@ pub enum Core {
     Var(usize),
     /// A name that no binder in sight has, by its letters.
     Free(String),
-    /// A lambda. The type is what the written one stands for, or none where it stands for no type. It is boxed: few terms
-    /// have one, and each would take the room of it.
-    Abs(Box<Option<Ty>>, Box<Core>),
-    App(Box<Core>, Box<Core>),
+    /// A lambda: what the written type stands for, or none where it stands for no type, and the term under the binder.
+    Abs(Box<(Option<Ty>, Core)>),
+    /// A function and its argument.
+    App(Box<(Core, Core)>),
     Unit,
     /// An ascription, with its type as in a lambda.
-    Ascribe(Box<Core>, Box<Option<Ty>>),
+    Ascribe(Box<(Core, Option<Ty>)>),
     /// A let: the term that is bound, and the one under its binder.
-    Let(Box<Core>, Box<Core>),
+    Let(Box<(Core, Core)>),
     Record(Vec<(String, Core)>),
-    Proj(Box<Core>, String),
+    /// A record and the label of one of its fields.
+    Proj(Box<(Core, String)>),
     Fix(Box<Core>),
 }
 
@@ -47,7 +49,7 @@ pub fn make_letrec(
 ) -> Result<Core, AllocError>
     ensures { IfOk result (λ made. term_of made ≡ letrec_in (written_of written) (term_of bound) (term_of body)) }
 {
-    let lambda = Core::Abs(Box::new(alloc, written)?, Box::new(alloc, bound)?);
+    let lambda = Core::Abs(Box::new(alloc, (written, bound))?);
     let fixed = Core::Fix(Box::new(alloc, lambda)?);
-    Ok(Core::Let(Box::new(alloc, fixed)?, Box::new(alloc, body)?))
+    Ok(Core::Let(Box::new(alloc, (fixed, body))?))
 }

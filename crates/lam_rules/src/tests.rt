@@ -311,9 +311,9 @@ fn lifted(alloc: Global, typing: TypeProof, sub: SubProof) -> Result<TypeProof, 
 /// `lambda r:{x:Nat}. r.x`
 fn projection(alloc: Global) -> Result<Core, AllocError> {
     let label = String::from_str(alloc, "x")?;
-    let body = Core::Proj(Box::new(alloc, Core::Var(0))?, label);
+    let body = Core::Proj(Box::new(alloc, (Core::Var(0), label))?);
     let written = of_nat(alloc, &["x"])?;
-    Ok(Core::Abs(Box::new(alloc, Some(written))?, Box::new(alloc, body)?))
+    Ok(Core::Abs(Box::new(alloc, (Some(written), body))?))
 }
 
 /// `{y=true, x=0}`
@@ -326,9 +326,9 @@ fn wide_argument(alloc: Global) -> Result<Core, AllocError> {
 
 /// That function at that argument.
 fn projecting(alloc: Global) -> Result<Core, AllocError> {
-    let function = Box::new(alloc, projection(alloc)?)?;
-    let argument = Box::new(alloc, wide_argument(alloc)?)?;
-    Ok(Core::App(function, argument))
+    let function = projection(alloc)?;
+    let argument = wide_argument(alloc)?;
+    Ok(Core::App(Box::new(alloc, (function, argument))?))
 }
 
 /// The type of that function.
@@ -404,11 +404,7 @@ fn branches_proof(alloc: Global, lifts: bool) -> Result<TypeProof, AllocError> {
 fn checks_branches_of_two_types(rt: HostRuntime) -> Result<(), Fail> {
     let alloc = rt.alloc();
     let zero = Core::Num(String::from_str(alloc, "0")?);
-    let term = Core::If(
-        Box::new(alloc, Core::True)?,
-        Box::new(alloc, zero)?,
-        Box::new(alloc, Core::True)?,
-    );
+    let term = Core::If(Box::new(alloc, (Core::True, zero, Core::True))?);
     // whether T-Sub lifts the second branch from Bool to Nat, the dialect, and whether this is a proof
     let rows = [
         (false, Dialect::One, false),
@@ -469,10 +465,7 @@ fn takes_subtyping_at_t_sub_alone(rt: HostRuntime) -> Result<(), Fail> {
 
 /// `letrec f:Nat->Nat = lambda n:Nat. n in f`
 fn recursive(alloc: Global) -> Result<Core, AllocError> {
-    let identity = Core::Abs(
-        Box::new(alloc, Some(Ty::Nat))?,
-        Box::new(alloc, Core::Var(0))?,
-    );
+    let identity = Core::Abs(Box::new(alloc, (Some(Ty::Nat), Core::Var(0)))?);
     let arrow = make_arrow(alloc, Ty::Nat, Ty::Nat)?;
     make_letrec(alloc, Some(arrow), identity, Core::Var(0))
 }
@@ -503,7 +496,7 @@ fn tested(alloc: Global) -> Result<Core, AllocError> {
     let pred = Core::Pred(Box::new(alloc, zero)?);
     let succ = Core::Succ(Box::new(alloc, pred)?);
     let test = Core::IsZero(Box::new(alloc, succ)?);
-    Ok(Core::Ascribe(Box::new(alloc, test)?, Box::new(alloc, Some(Ty::Bool))?))
+    Ok(Core::Ascribe(Box::new(alloc, (test, Some(Ty::Bool)))?))
 }
 
 #[test]

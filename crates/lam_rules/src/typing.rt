@@ -298,9 +298,10 @@ fn by_if(premises: &[TypeProof], entries: &Entries, term: &Core, ty: &Ty, dialec
     requires ty { IsWellFormed (typ_of ty.now) }
     ensures { IsTrue result ↔ ByTypeRule TypeRule.If None (entries_of entries.now) (term_of term.now) (typ_of ty.now) (typings_of premises.now) dialect }
 {
-    let Core::If(condition, then_term, else_term) = term else {
+    let Core::If(parts) = term else {
         return false;
     };
+    let (condition, then_term, else_term) = &**parts;
     let [first, second, third] = premises else {
         return false;
     };
@@ -399,10 +400,11 @@ fn by_abs(premises: &[TypeProof], entries: &Entries, term: &Core, ty: &Ty, diale
     requires ty { IsWellFormed (typ_of ty.now) }
     ensures { IsTrue result ↔ ByTypeRule TypeRule.Abs None (entries_of entries.now) (term_of term.now) (typ_of ty.now) (typings_of premises.now) dialect }
 {
-    let Core::Abs(written, body) = term else {
+    let Core::Abs(parts) = term else {
         return false;
     };
-    let Some(parameter) = &**written else {
+    let (written, body) = &**parts;
+    let Some(parameter) = written else {
         return false;
     };
     let [premise] = premises else {
@@ -425,9 +427,10 @@ fn by_app(premises: &[TypeProof], entries: &Entries, term: &Core, ty: &Ty, diale
     requires ty { IsWellFormed (typ_of ty.now) }
     ensures { IsTrue result ↔ ByTypeRule TypeRule.App None (entries_of entries.now) (term_of term.now) (typ_of ty.now) (typings_of premises.now) dialect }
 {
-    let Core::App(function, argument) = term else {
+    let Core::App(parts) = term else {
         return false;
     };
+    let (function, argument) = &**parts;
     let [first, second] = premises else {
         return false;
     };
@@ -460,10 +463,11 @@ fn by_ascribe(
     requires ty { IsWellFormed (typ_of ty.now) }
     ensures { IsTrue result ↔ ByTypeRule TypeRule.Ascribe None (entries_of entries.now) (term_of term.now) (typ_of ty.now) (typings_of premises.now) dialect }
 {
-    let Core::Ascribe(operand, written) = term else {
+    let Core::Ascribe(parts) = term else {
         return false;
     };
-    let Some(ascribed) = &**written else {
+    let (operand, written) = &**parts;
+    let Some(ascribed) = written else {
         return false;
     };
     let [premise] = premises else {
@@ -483,9 +487,10 @@ fn by_let(premises: &[TypeProof], entries: &Entries, term: &Core, ty: &Ty, diale
     requires ty { IsWellFormed (typ_of ty.now) }
     ensures { IsTrue result ↔ ByTypeRule TypeRule.Let None (entries_of entries.now) (term_of term.now) (typ_of ty.now) (typings_of premises.now) dialect }
 {
-    let Core::Let(bound, body) = term else {
+    let Core::Let(parts) = term else {
         return false;
     };
+    let (bound, body) = &**parts;
     let [first, second] = premises else {
         return false;
     };
@@ -559,9 +564,10 @@ fn by_proj(
     requires ty { IsWellFormed (typ_of ty.now) }
     ensures { IsTrue result ↔ ByTypeRule TypeRule.Proj None (entries_of entries.now) (term_of term.now) (typ_of ty.now) (typings_of premises.now) dialect }
 {
-    let Core::Proj(operand, label) = term else {
+    let Core::Proj(parts) = term else {
         return false;
     };
+    let (operand, label) = &**parts;
     let [premise] = premises else {
         return false;
     };

@@ -63,4 +63,30 @@ over_limit-append bs (u ∷ us) vs =
     ap (λ o. if is_over_limit (expansion bs u) then Some (type_span u) else o) (over_limit-append bs us vs)
     ∙ or_else (is_over_limit (expansion bs u)) (type_span u) (first_over_limit bs us) (first_over_limit bs vs)
 
-pub ruleset forms = (term_of-True, term_of-False, term_of-If, term_of-Num, term_of-Succ, term_of-Pred, term_of-IsZero, term_of-Var, term_of-Free, term_of-Abs, term_of-App, term_of-Unit, term_of-Ascribe, term_of-Let, term_of-Record, term_of-Proj, term_of-Fix, term_node_of-True, term_node_of-False, term_node_of-Unit, term_node_of-Variable, term_node_of-Numeral, term_node_of-Lambda, term_node_of-If, term_node_of-Let, term_node_of-Letrec, term_node_of-Prefixed, term_node_of-Apply, term_node_of-Project, term_node_of-Ascribe, term_node_of-Record, fields_of-drop, joined_terms-none, joined_terms-push, is_capped-nodes, over_limit-append, faults_in-append, append-nil, append_assoc)
+pub ruleset joining = (over_limit-append, faults_in-append, append-nil, append_assoc)
+
+-- what each step of a nameless form needs
+
+pub ruleset node_forms = (term_node_of-True, term_node_of-False, term_node_of-Unit, term_node_of-Variable, term_node_of-Numeral, term_node_of-Lambda, term_node_of-If, term_node_of-Let, term_node_of-Letrec, term_node_of-Prefixed, term_node_of-Apply, term_node_of-Project, term_node_of-Ascribe, term_node_of-Record, term_of-True, term_of-False, term_of-Unit, append-nil)
+
+pub ruleset type_forms = (is_capped-nodes, append-nil)
+
+pub ruleset use_forms = (term_of-Var, term_of-Free, term_of-Num)
+
+pub ruleset lambda_form = (term_of-Abs, joining)
+
+pub ruleset if_form = (term_of-If, joining)
+
+pub ruleset let_form = (term_of-Let, joining)
+
+pub ruleset prefixed_forms = (term_of-Fix, term_of-Succ, term_of-Pred, term_of-IsZero)
+
+pub ruleset apply_form = (term_of-App, joining)
+
+pub ruleset project_form = (term_of-Proj, joining)
+
+pub ruleset ascribe_form = (term_of-Ascribe, joining)
+
+pub ruleset record_form = (term_of-Record, append-nil)
+
+pub ruleset field_forms = (fields_of-drop, joined_terms-none, joined_terms-push, joining)

@@ -35,7 +35,7 @@ pub(crate) struct Forming<'a> {
 /// The nameless form of a term that sees these abbreviations. Its uses are the first of those that are left, and are
 /// passed. The faults of its written types are put behind those before them, and the first that is too large is refused.
 #[cycle(nameless)]
-#[tactic(auto, using(crate::proofs::Forms::forms))]
+#[tactic(auto, using(crate::proofs::Forms::node_forms))]
 pub(crate) fn nameless(
     forming: &mut Forming<'_>,
     seen: &Abbreviations<'_>,
@@ -66,7 +66,7 @@ pub(crate) fn nameless(
 
 /// What a written type stands for, with its uses and faults as those of a term. Where it is too large it is refused for
 /// its size, before any of it is built.
-#[tactic(auto, using(crate::proofs::Forms::forms))]
+#[tactic(auto, using(crate::proofs::Forms::type_forms))]
 pub(crate) fn nameless_type(
     forming: &mut Forming<'_>,
     seen: &Abbreviations<'_>,
@@ -95,26 +95,8 @@ fn is_over_limit(size: Option<u64>) -> bool
     }
 }
 
-/// The form of a part, in a box of its own.
 #[cycle(nameless)]
-#[tactic(auto, using(crate::proofs::Forms::forms))]
-fn boxed(
-    forming: &mut Forming<'_>,
-    seen: &Abbreviations<'_>,
-    term: &Tm,
-) -> Result<Box<Core>, ScopeFault>
-    ensures form { IfOk result (λ e. term_of e.value ≡ counted (abbreviations_of seen.now) (tree_of term.now) forming.old.uses) }
-    ensures uses { OnOk result (forming.new.uses ≡ past (tree_of term.now) forming.old.uses) }
-    ensures faults { OnOk result (forming.new.faults.items ≡ forming.old.faults.items ++ faults_in (abbreviations_of seen.now) (written_in (tree_of term.now))) }
-    ensures limit { IsLimit (first_over_limit (abbreviations_of seen.now) (written_in (tree_of term.now))) result }
-{
-    let form = nameless(forming, seen, term)?;
-    let part = Box::new(forming.alloc, form)?;
-    Ok(part)
-}
-
-#[cycle(nameless)]
-#[tactic(auto, using(crate::proofs::Forms::forms))]
+#[tactic(auto, using(crate::proofs::Forms::lambda_form))]
 fn lambda_of(
     forming: &mut Forming<'_>,
     seen: &Abbreviations<'_>,
@@ -126,12 +108,12 @@ fn lambda_of(
     ensures limit { IsLimit (first_over_limit (abbreviations_of seen.now) (written_in_node (lambda (bound_of term.now.binder) (type_of term.now.ty) (tree_of term.now.body)))) result }
 {
     let written = nameless_type(forming, seen, &term.ty)?;
-    let body = boxed(forming, seen, &term.body)?;
-    Ok(Core::Abs(Box::new(forming.alloc, written)?, body))
+    let body = nameless(forming, seen, &term.body)?;
+    Ok(Core::Abs(Box::new(forming.alloc, (written, body))?))
 }
 
 #[cycle(nameless)]
-#[tactic(auto, using(crate::proofs::Forms::forms))]
+#[tactic(auto, using(crate::proofs::Forms::if_form))]
 fn if_of(
     forming: &mut Forming<'_>,
     seen: &Abbreviations<'_>,
@@ -142,14 +124,14 @@ fn if_of(
     ensures faults { OnOk result (forming.new.faults.items ≡ forming.old.faults.items ++ faults_in (abbreviations_of seen.now) (written_in_node (if_term (tree_of term.now.condition) (tree_of term.now.then_term) (tree_of term.now.else_term)))) }
     ensures limit { IsLimit (first_over_limit (abbreviations_of seen.now) (written_in_node (if_term (tree_of term.now.condition) (tree_of term.now.then_term) (tree_of term.now.else_term)))) result }
 {
-    let first = boxed(forming, seen, &term.condition)?;
-    let second = boxed(forming, seen, &term.then_term)?;
-    let third = boxed(forming, seen, &term.else_term)?;
-    Ok(Core::If(first, second, third))
+    let first = nameless(forming, seen, &term.condition)?;
+    let second = nameless(forming, seen, &term.then_term)?;
+    let third = nameless(forming, seen, &term.else_term)?;
+    Ok(Core::If(Box::new(forming.alloc, (first, second, third))?))
 }
 
 #[cycle(nameless)]
-#[tactic(auto, using(crate::proofs::Forms::forms))]
+#[tactic(auto, using(crate::proofs::Forms::let_form))]
 fn let_of(
     forming: &mut Forming<'_>,
     seen: &Abbreviations<'_>,
@@ -160,13 +142,13 @@ fn let_of(
     ensures faults { OnOk result (forming.new.faults.items ≡ forming.old.faults.items ++ faults_in (abbreviations_of seen.now) (written_in_node (let_term (bound_of term.now.binder) (tree_of term.now.bound) (tree_of term.now.body)))) }
     ensures limit { IsLimit (first_over_limit (abbreviations_of seen.now) (written_in_node (let_term (bound_of term.now.binder) (tree_of term.now.bound) (tree_of term.now.body)))) result }
 {
-    let first = boxed(forming, seen, &term.bound)?;
-    let second = boxed(forming, seen, &term.body)?;
-    Ok(Core::Let(first, second))
+    let first = nameless(forming, seen, &term.bound)?;
+    let second = nameless(forming, seen, &term.body)?;
+    Ok(Core::Let(Box::new(forming.alloc, (first, second))?))
 }
 
 #[cycle(nameless)]
-#[tactic(auto, using(crate::proofs::Forms::forms))]
+#[tactic(auto, using(crate::proofs::Forms::joining))]
 fn letrec_of(
     forming: &mut Forming<'_>,
     seen: &Abbreviations<'_>,
@@ -184,7 +166,7 @@ fn letrec_of(
 }
 
 #[cycle(nameless)]
-#[tactic(auto, using(crate::proofs::Forms::forms))]
+#[tactic(auto, using(crate::proofs::Forms::joining))]
 fn prefixed_of(
     forming: &mut Forming<'_>,
     seen: &Abbreviations<'_>,
@@ -196,12 +178,12 @@ fn prefixed_of(
     ensures faults { OnOk result (forming.new.faults.items ≡ forming.old.faults.items ++ faults_in (abbreviations_of seen.now) (written_in_node (prefixed_term prefix (tree_of operand.now)))) }
     ensures limit { IsLimit (first_over_limit (abbreviations_of seen.now) (written_in_node (prefixed_term prefix (tree_of operand.now)))) result }
 {
-    let form = boxed(forming, seen, operand)?;
-    Ok(make_prefixed(prefix, form))
+    let form = nameless(forming, seen, operand)?;
+    Ok(make_prefixed(prefix, Box::new(forming.alloc, form)?))
 }
 
 #[cycle(nameless)]
-#[tactic(auto, using(crate::proofs::Forms::forms))]
+#[tactic(auto, using(crate::proofs::Forms::apply_form))]
 fn apply_of(
     forming: &mut Forming<'_>,
     seen: &Abbreviations<'_>,
@@ -212,13 +194,13 @@ fn apply_of(
     ensures faults { OnOk result (forming.new.faults.items ≡ forming.old.faults.items ++ faults_in (abbreviations_of seen.now) (written_in_node (apply (tree_of term.now.function) (tree_of term.now.argument)))) }
     ensures limit { IsLimit (first_over_limit (abbreviations_of seen.now) (written_in_node (apply (tree_of term.now.function) (tree_of term.now.argument)))) result }
 {
-    let first = boxed(forming, seen, &term.function)?;
-    let second = boxed(forming, seen, &term.argument)?;
-    Ok(Core::App(first, second))
+    let first = nameless(forming, seen, &term.function)?;
+    let second = nameless(forming, seen, &term.argument)?;
+    Ok(Core::App(Box::new(forming.alloc, (first, second))?))
 }
 
 #[cycle(nameless)]
-#[tactic(auto, using(crate::proofs::Forms::forms))]
+#[tactic(auto, using(crate::proofs::Forms::project_form))]
 fn project_of(
     forming: &mut Forming<'_>,
     seen: &Abbreviations<'_>,
@@ -229,13 +211,13 @@ fn project_of(
     ensures faults { OnOk result (forming.new.faults.items ≡ forming.old.faults.items ++ faults_in (abbreviations_of seen.now) (written_in_node (project (tree_of term.now.record) (word_of term.now.label)))) }
     ensures limit { IsLimit (first_over_limit (abbreviations_of seen.now) (written_in_node (project (tree_of term.now.record) (word_of term.now.label)))) result }
 {
-    let form = boxed(forming, seen, &term.record)?;
+    let form = nameless(forming, seen, &term.record)?;
     let copy = String::from_str(forming.alloc, term.label.text.as_str())?;
-    Ok(Core::Proj(form, copy))
+    Ok(Core::Proj(Box::new(forming.alloc, (form, copy))?))
 }
 
 #[cycle(nameless)]
-#[tactic(auto, using(crate::proofs::Forms::forms))]
+#[tactic(auto, using(crate::proofs::Forms::ascribe_form))]
 fn ascribe_of(
     forming: &mut Forming<'_>,
     seen: &Abbreviations<'_>,
@@ -246,13 +228,13 @@ fn ascribe_of(
     ensures faults { OnOk result (forming.new.faults.items ≡ forming.old.faults.items ++ faults_in (abbreviations_of seen.now) (written_in_node (ascribe (tree_of term.now.operand) (type_of term.now.ty)))) }
     ensures limit { IsLimit (first_over_limit (abbreviations_of seen.now) (written_in_node (ascribe (tree_of term.now.operand) (type_of term.now.ty)))) result }
 {
-    let form = boxed(forming, seen, &term.operand)?;
+    let form = nameless(forming, seen, &term.operand)?;
     let written = nameless_type(forming, seen, &term.ty)?;
-    Ok(Core::Ascribe(form, Box::new(forming.alloc, written)?))
+    Ok(Core::Ascribe(Box::new(forming.alloc, (form, written))?))
 }
 
 #[cycle(nameless)]
-#[tactic(auto, using(crate::proofs::Forms::forms))]
+#[tactic(auto, using(crate::proofs::Forms::record_form))]
 fn record_of(
     forming: &mut Forming<'_>,
     seen: &Abbreviations<'_>,
@@ -268,7 +250,7 @@ fn record_of(
 }
 
 #[cycle(nameless)]
-#[tactic(auto, using(crate::proofs::Forms::forms))]
+#[tactic(auto, using(crate::proofs::Forms::field_forms))]
 fn nameless_fields(
     forming: &mut Forming<'_>,
     seen: &Abbreviations<'_>,
@@ -290,7 +272,7 @@ fn nameless_fields(
 }
 
 /// The count of a use, or its name where it is unbound.
-#[tactic(auto, using(crate::proofs::Forms::forms))]
+#[tactic(auto, using(crate::proofs::Forms::use_forms))]
 fn use_of(alloc: Global, name: &Identifier, uses: &mut UsesLeft<'_>) -> Result<Core, AllocError>
     ensures form { IfOk result (λ e. term_of e ≡ use_counted (letters name.now.text) (first_between uses.old)) }
     ensures uses { OnOk result (uses.new ≡ past_first uses.old) }
@@ -304,7 +286,7 @@ fn use_of(alloc: Global, name: &Identifier, uses: &mut UsesLeft<'_>) -> Result<C
     }
 }
 
-#[tactic(auto, using(crate::proofs::Forms::forms))]
+#[tactic(auto, using(crate::proofs::Forms::use_forms))]
 fn numeral_of(alloc: Global, digits: &Identifier) -> Result<Core, AllocError>
     ensures { IfOk result (λ e. term_of e ≡ numeral (letters digits.now.text)) }
 {
@@ -312,7 +294,7 @@ fn numeral_of(alloc: Global, digits: &Identifier) -> Result<Core, AllocError>
     Ok(Core::Num(copy))
 }
 
-#[tactic(auto, using(crate::proofs::Forms::forms))]
+#[tactic(auto, using(crate::proofs::Forms::prefixed_forms))]
 fn make_prefixed(prefix: Prefix, operand: Box<Core>) -> Core
     ensures { term_of result ≡ prefixed prefix (term_of operand.value) }
 {

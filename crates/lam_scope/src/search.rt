@@ -28,22 +28,22 @@ pub(crate) fn find_place<'t>(core: &'t Core, number: usize) -> Found<'t>
         Core::Succ(operand) => at_end(find_place(operand, number), core),
         Core::Pred(operand) => at_end(find_place(operand, number), core),
         Core::IsZero(operand) => at_end(find_place(operand, number), core),
-        Core::Abs(_, body) => at_end(find_place(body, number), core),
-        Core::Ascribe(operand, _) => at_end(find_place(operand, number), core),
-        Core::Proj(operand, _) => at_end(find_place(operand, number), core),
+        Core::Abs(parts) => at_end(find_place(&parts.1, number), core),
+        Core::Ascribe(parts) => at_end(find_place(&parts.0, number), core),
+        Core::Proj(parts) => at_end(find_place(&parts.0, number), core),
         Core::Fix(operand) => at_end(find_place(operand, number), core),
-        Core::App(function, argument) => {
-            let first = find_place(function, number);
-            at_end(find_behind(first, argument), core)
+        Core::App(parts) => {
+            let first = find_place(&parts.0, number);
+            at_end(find_behind(first, &parts.1), core)
         }
-        Core::Let(bound, body) => {
-            let first = find_place(bound, number);
-            at_end(find_behind(first, body), core)
+        Core::Let(parts) => {
+            let first = find_place(&parts.0, number);
+            at_end(find_behind(first, &parts.1), core)
         }
-        Core::If(condition, then_term, else_term) => {
-            let first = find_place(condition, number);
-            let second = find_behind(first, then_term);
-            at_end(find_behind(second, else_term), core)
+        Core::If(parts) => {
+            let first = find_place(&parts.0, number);
+            let second = find_behind(first, &parts.1);
+            at_end(find_behind(second, &parts.2), core)
         }
         Core::Record(fields) => at_end(find_in_fields(fields, number), core),
     }

@@ -140,22 +140,20 @@ fn note_term(
     match term {
         Core::True => note_leaf(table, notes),
         Core::False => note_leaf(table, notes),
-        Core::If(condition, then_term, else_term) => {
-            note_if(table, notes, found, condition, then_term, else_term)
-        }
+        Core::If(parts) => note_if(table, notes, found, &parts.0, &parts.1, &parts.2),
         Core::Num(_) => note_leaf(table, notes),
         Core::Succ(operand) => note_over(table, notes, found, operand),
         Core::Pred(operand) => note_over(table, notes, found, operand),
         Core::IsZero(operand) => note_over(table, notes, found, operand),
         Core::Var(count) => note_variable(table, notes, *count),
         Core::Free(_) => note_leaf(table, notes),
-        Core::Abs(written, body) => note_lambda(table, notes, found, written, body),
-        Core::App(function, argument) => note_apply(table, notes, found, function, argument),
+        Core::Abs(parts) => note_lambda(table, notes, found, &parts.0, &parts.1),
+        Core::App(parts) => note_apply(table, notes, found, &parts.0, &parts.1),
         Core::Unit => note_leaf(table, notes),
-        Core::Ascribe(operand, _) => note_over(table, notes, found, operand),
-        Core::Let(bound, body) => note_let(table, notes, found, bound, body),
+        Core::Ascribe(parts) => note_over(table, notes, found, &parts.0),
+        Core::Let(parts) => note_let(table, notes, found, &parts.0, &parts.1),
         Core::Record(fields) => note_record(table, notes, found, fields),
-        Core::Proj(operand, _) => note_over(table, notes, found, operand),
+        Core::Proj(parts) => note_over(table, notes, found, &parts.0),
         Core::Fix(operand) => note_over(table, notes, found, operand),
     }
 }

@@ -73,9 +73,7 @@ fn prove_form(
     match term {
         Core::True => prove_leaf(alloc, typing, TypeRule::True, Ty::Bool, place, ty),
         Core::False => prove_leaf(alloc, typing, TypeRule::False, Ty::Bool, place, ty),
-        Core::If(condition, then_term, else_term) => {
-            prove_if(alloc, typing, condition, then_term, else_term, place, ty)
-        }
+        Core::If(parts) => prove_if(alloc, typing, &parts.0, &parts.1, &parts.2, place, ty),
         Core::Num(_) => prove_leaf(alloc, typing, TypeRule::Num, Ty::Nat, place, ty),
         Core::Succ(number) => {
             prove_number(alloc, typing, TypeRule::Succ, number, Ty::Nat, place, ty)
@@ -88,17 +86,13 @@ fn prove_form(
         }
         Core::Var(_) => prove_variable(alloc, typing, place, ty),
         Core::Free(_) => Ok(None),
-        Core::Abs(written, body) => prove_lambda(alloc, typing, written, body, place, ty),
-        Core::App(function, argument) => {
-            prove_apply(alloc, typing, function, argument, place, ty)
-        }
+        Core::Abs(parts) => prove_lambda(alloc, typing, &parts.0, &parts.1, place, ty),
+        Core::App(parts) => prove_apply(alloc, typing, &parts.0, &parts.1, place, ty),
         Core::Unit => prove_leaf(alloc, typing, TypeRule::Unit, Ty::Unit, place, ty),
-        Core::Ascribe(operand, written) => {
-            prove_ascribe(alloc, typing, operand, written, place, ty)
-        }
-        Core::Let(bound, body) => prove_let(alloc, typing, bound, body, place, ty),
+        Core::Ascribe(parts) => prove_ascribe(alloc, typing, &parts.0, &parts.1, place, ty),
+        Core::Let(parts) => prove_let(alloc, typing, &parts.0, &parts.1, place, ty),
         Core::Record(fields) => prove_record(alloc, typing, fields, place, ty),
-        Core::Proj(operand, label) => prove_project(alloc, typing, operand, label, place, ty),
+        Core::Proj(parts) => prove_project(alloc, typing, &parts.0, &parts.1, place, ty),
         Core::Fix(operand) => prove_fix(alloc, typing, operand, place, ty),
     }
 }

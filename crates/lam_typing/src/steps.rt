@@ -49,7 +49,7 @@ pub(crate) fn number_of_written(
 }
 
 /// T-Succ, T-Pred and T-IsZero: an operand below Nat.
-pub(crate) fn type_of_number(
+pub(crate) fn type_of_numeric(
     table: &TyTable,
     verdicts: &mut Verdicts,
     operand: Option<TyNo>,

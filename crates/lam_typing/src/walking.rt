@@ -19,7 +19,7 @@ ghost use Rattle.lam_typing.specs.declared.walking.Stop.TheVariants.{Memory};
 use crate::blame::Blame;
 use crate::steps::{
     number_of_written, type_of_apply, type_of_ascribe, type_of_fix, type_of_if, type_of_lambda,
-    type_of_let, type_of_number, type_of_project, type_of_record,
+    type_of_let, type_of_numeric, type_of_project, type_of_record,
 };
 use lam_rules::{Core, Shape, Ty, TyNo, TyTable};
 use lam_scope::{NODE_LIMIT, Place, Statement};
@@ -129,7 +129,7 @@ fn walk_term(walk: &mut Walk, term: &Core) -> Result<Option<TyNo>, Stop>
     match term {
         Core::True => settle(walk, Some(walk.leaves.boolean), None),
         Core::False => settle(walk, Some(walk.leaves.boolean), None),
-        Core::If(condition, then_term, else_term) => walk_if(walk, condition, then_term, else_term),
+        Core::If(parts) => walk_if(walk, &parts.0, &parts.1, &parts.2),
         Core::Num(_) => settle(walk, Some(walk.leaves.natural), None),
         Core::Succ(operand) => walk_number(walk, operand, walk.leaves.natural),
         Core::Pred(operand) => walk_number(walk, operand, walk.leaves.natural),
@@ -139,13 +139,13 @@ fn walk_term(walk: &mut Walk, term: &Core) -> Result<Option<TyNo>, Stop>
             let blame = blame_if(true, None, "E1");
             settle(walk, None, blame)
         }
-        Core::Abs(written, body) => walk_lambda(walk, written, body),
-        Core::App(function, argument) => walk_apply(walk, function, argument),
+        Core::Abs(parts) => walk_lambda(walk, &parts.0, &parts.1),
+        Core::App(parts) => walk_apply(walk, &parts.0, &parts.1),
         Core::Unit => settle(walk, Some(walk.leaves.unit), None),
-        Core::Ascribe(operand, written) => walk_ascribe(walk, operand, written),
-        Core::Let(bound, body) => walk_let(walk, bound, body),
+        Core::Ascribe(parts) => walk_ascribe(walk, &parts.0, &parts.1),
+        Core::Let(parts) => walk_let(walk, &parts.0, &parts.1),
         Core::Record(fields) => walk_record(walk, fields),
-        Core::Proj(operand, label) => walk_project(walk, operand, label),
+        Core::Proj(parts) => walk_project(walk, &parts.0, &parts.1),
         Core::Fix(operand) => walk_fix(walk, operand),
     }
 }
@@ -193,7 +193,7 @@ fn walk_number(walk: &mut Walk, operand: &Core, outcome: TyNo) -> Result<Option<
 {
     let part = walk_term(walk, operand)?;
     let natural = walk.leaves.natural;
-    let found = type_of_number(&walk.table, &mut walk.verdicts, part, natural, outcome)?;
+    let found = type_of_numeric(&walk.table, &mut walk.verdicts, part, natural, outcome)?;
     let blame = blame_if(part.is_some(), found, "E6");
     settle(walk, found, blame)
 }

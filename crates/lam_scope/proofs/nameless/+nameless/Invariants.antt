@@ -21,9 +21,6 @@ invariant-nameless_fields-loop-i l = record {
 abbrev pub decreases-nameless : goal.decreases-nameless
 decreases-nameless l = 4 * tree_size (term_of l.term.now)
 
-abbrev pub decreases-boxed : goal.decreases-boxed
-decreases-boxed l = 4 * tree_size (term_of l.term.now) + 1
-
 abbrev pub decreases-lambda_of : goal.decreases-lambda_of
 decreases-lambda_of l = 4 * tree_size (term_of l.term.now.body) + 2
 

@@ -206,7 +206,7 @@ prove_form-returns-in-False-clause-proves t c =
 
 pub prove_form-returns-in-If-clause-proves : goal.prove_form-returns-in-If-clause-proves
 prove_form-returns-in-If-clause-proves t c =
-    rw (ap term_of c.in-If.is ∙ term_of-If c.in-If.condition c.in-If.then_term c.in-If.else_term ∙ (λ i. if_then_else (term_of (sym c.deref.ensures i)) (term_of (sym c.deref-in-If.ensures i)) (term_of (sym c.deref-in-If-2.ensures i)))) c.prove_if.ensures.proves
+    rw (ap term_of c.in-If.is ∙ term_of-If c.in-If.parts ∙ (λ i. if_then_else (term_of (sym c.deref.ensures i).0) (term_of (sym c.deref-in-If.ensures i).1) (term_of (sym c.deref-in-If-2.ensures i).2))) c.prove_if.ensures.proves
 
 pub prove_form-returns-in-Num-clause-proves : goal.prove_form-returns-in-Num-clause-proves
 prove_form-returns-in-Num-clause-proves t c =
@@ -234,11 +234,11 @@ prove_form-returns-in-Free-clause-proves t c =
 
 pub prove_form-returns-in-Abs-clause-proves : goal.prove_form-returns-in-Abs-clause-proves
 prove_form-returns-in-Abs-clause-proves t c =
-    rw (ap term_of c.in-Abs.is ∙ term_of-Abs c.in-Abs.written c.in-Abs.body ∙ (λ i. lambda (written_of (sym c.deref-in-Abs.ensures i)) (term_of (sym c.deref-in-Abs-2.ensures i)))) c.prove_lambda.ensures.proves
+    rw (ap term_of c.in-Abs.is ∙ term_of-Abs c.in-Abs.parts ∙ (λ i. lambda (written_of (sym c.deref-in-Abs.ensures i).0) (term_of (sym c.deref-in-Abs-2.ensures i).1))) c.prove_lambda.ensures.proves
 
 pub prove_form-returns-in-App-clause-proves : goal.prove_form-returns-in-App-clause-proves
 prove_form-returns-in-App-clause-proves t c =
-    rw (ap term_of c.in-App.is ∙ term_of-App c.in-App.function c.in-App.argument ∙ (λ i. apply (term_of (sym c.deref-in-App.ensures i)) (term_of (sym c.deref-in-App-2.ensures i)))) c.prove_apply.ensures.proves
+    rw (ap term_of c.in-App.is ∙ term_of-App c.in-App.parts ∙ (λ i. apply (term_of (sym c.deref-in-App.ensures i).0) (term_of (sym c.deref-in-App-2.ensures i).1))) c.prove_apply.ensures.proves
 
 pub prove_form-returns-in-Unit-clause-proves : goal.prove_form-returns-in-Unit-clause-proves
 prove_form-returns-in-Unit-clause-proves t c =
@@ -246,11 +246,11 @@ prove_form-returns-in-Unit-clause-proves t c =
 
 pub prove_form-returns-in-Ascribe-clause-proves : goal.prove_form-returns-in-Ascribe-clause-proves
 prove_form-returns-in-Ascribe-clause-proves t c =
-    rw (ap term_of c.in-Ascribe.is ∙ term_of-Ascribe c.in-Ascribe.operand c.in-Ascribe.written ∙ (λ i. ascribe (term_of (sym c.deref-in-Ascribe.ensures i)) (written_of (sym c.deref-in-Ascribe-2.ensures i)))) c.prove_ascribe.ensures.proves
+    rw (ap term_of c.in-Ascribe.is ∙ term_of-Ascribe c.in-Ascribe.parts ∙ (λ i. ascribe (term_of (sym c.deref-in-Ascribe.ensures i).0) (written_of (sym c.deref-in-Ascribe-2.ensures i).1))) c.prove_ascribe.ensures.proves
 
 pub prove_form-returns-in-Let-clause-proves : goal.prove_form-returns-in-Let-clause-proves
 prove_form-returns-in-Let-clause-proves t c =
-    rw (ap term_of c.in-Let.is ∙ term_of-Let c.in-Let.bound c.in-Let.body ∙ (λ i. let_in (term_of (sym c.deref-in-Let.ensures i)) (term_of (sym c.deref-in-Let-2.ensures i)))) c.prove_let.ensures.proves
+    rw (ap term_of c.in-Let.is ∙ term_of-Let c.in-Let.parts ∙ (λ i. let_in (term_of (sym c.deref-in-Let.ensures i).0) (term_of (sym c.deref-in-Let-2.ensures i).1))) c.prove_let.ensures.proves
 
 pub prove_form-returns-in-Record-clause-proves : goal.prove_form-returns-in-Record-clause-proves
 prove_form-returns-in-Record-clause-proves t c =
@@ -258,7 +258,7 @@ prove_form-returns-in-Record-clause-proves t c =
 
 pub prove_form-returns-in-Proj-clause-proves : goal.prove_form-returns-in-Proj-clause-proves
 prove_form-returns-in-Proj-clause-proves t c =
-    rw (ap term_of c.in-Proj.is ∙ term_of-Proj c.in-Proj.operand c.in-Proj.label ∙ (λ i. project (term_of (sym c.deref-in-Proj.ensures i)) (sym c.deref-in-Proj-2.ensures i))) c.prove_project.ensures.proves
+    rw (ap term_of c.in-Proj.is ∙ term_of-Proj c.in-Proj.parts ∙ (λ i. project (term_of (sym c.deref-in-Proj.ensures i).0) ((ap (λ p. string_bytes p.1) (sym c.deref-in-Proj-2.ensures) ∙ sym c.deref-in-Proj-3.ensures) i))) c.prove_project.ensures.proves
 
 pub prove_form-returns-in-Fix-clause-proves : goal.prove_form-returns-in-Fix-clause-proves
 prove_form-returns-in-Fix-clause-proves t c =

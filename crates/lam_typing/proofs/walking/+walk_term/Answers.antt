@@ -27,7 +27,7 @@ walk_number-returns-in_err-part-clause-stopped t c =
 pub walk_number-returns-clause-walked : goal.walk_number-returns-clause-walked
 walk_number-returns-clause-walked t c =
     ok_of_each _ (λ e. IsNumeric e (term_of c.args.operand.now) (type_of c.args.walk.now.table c.args.outcome)) (λ found e. WalkedOver c.args.walk.now c.settle.new.walk e found) (λ e is.
-    settled_ok _ c.args.walk.now (record c.walk_term.new.walk { verdicts = c.type_of_number.new.verdicts }) c.settle.new.walk e (λ s. places s (term_of c.args.operand.now)) c.in_ok-found.found c.blame_if-blame.result
+    settled_ok _ c.args.walk.now (record c.walk_term.new.walk { verdicts = c.type_of_numeric.new.verdicts }) c.settle.new.walk e (λ s. places s (term_of c.args.operand.now)) c.in_ok-found.found c.blame_if-blame.result
     (numeric_places e (term_of c.args.operand.now) _ is) c.in_ok-part.ensures.walked.entries c.in_ok-found.ensures.stands
     (numeric_parts c.args.walk.now c.walk_term.new.walk (term_of c.args.operand.now) c.in_ok-part.part c.in_ok-found.found c.blame_if-blame.result c.in_ok-part.ensures.grows c.in_ok-part.ensures.walked e c.args.outcome c.requires.outcome is c.in_ok-found.ensures.rule
     (subst (λ b. Blames b c.in_ok-found.found (codes "E6") c.blame_if-blame.result) c.is_some.ensures c.blame_if-blame.ensures))
@@ -36,7 +36,7 @@ walk_number-returns-clause-walked t c =
 pub walk_number-returns-clause-stopped : goal.walk_number-returns-clause-stopped
 walk_number-returns-clause-stopped t c =
     err_of_each _ (λ e. IsNumeric e (term_of c.args.operand.now) (type_of c.args.walk.now.table c.args.outcome)) (λ stop e. HasStopped stop c.args.walk.now c.settle.new.walk e) (λ e is.
-    settled_err _ c.args.walk.now (record c.walk_term.new.walk { verdicts = c.type_of_number.new.verdicts }) c.settle.new.walk e (λ s. places s (term_of c.args.operand.now)) c.in_ok-found.found c.blame_if-blame.result
+    settled_err _ c.args.walk.now (record c.walk_term.new.walk { verdicts = c.type_of_numeric.new.verdicts }) c.settle.new.walk e (λ s. places s (term_of c.args.operand.now)) c.in_ok-found.found c.blame_if-blame.result
     (numeric_places e (term_of c.args.operand.now) _ is) c.in_ok-part.ensures.walked.entries c.in_ok-found.ensures.stands
     (numeric_parts c.args.walk.now c.walk_term.new.walk (term_of c.args.operand.now) c.in_ok-part.part c.in_ok-found.found c.blame_if-blame.result c.in_ok-part.ensures.grows c.in_ok-part.ensures.walked e c.args.outcome c.requires.outcome is c.in_ok-found.ensures.rule
     (subst (λ b. Blames b c.in_ok-found.found (codes "E6") c.blame_if-blame.result) c.is_some.ensures c.blame_if-blame.ensures))
