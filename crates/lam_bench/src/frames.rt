@@ -6,9 +6,6 @@ use std::alloc::Global;
 use std::rt::Clock;
 use std::time::Instant;
 
-/// A body whose frame has 60 bytes: 22 of header part and 38 of its own.
-const SMALL_BODY: [u8; 38] = [b'.'; 38];
-
 /// Gives at most `step` bytes a pull.
 #[derive(Drop)]
 struct Pieces<'a> {
@@ -34,43 +31,29 @@ impl Source for Pieces<'_> {
     }
 }
 
-/// One frame with a body of so many bytes.
-fn one_frame(alloc: Global, size: usize) -> Result<Vec<u8>, BenchFault> {
+/// So many frames with bodies of `size` bytes.
+fn frames(alloc: Global, size: usize, count: usize) -> Result<Vec<u8>, BenchFault> {
     let body = vec![in alloc; b'.'; size]?;
-    let mut sink = BytesOut::new(alloc);
-    write_frame(&mut sink, &body)?;
-    Ok(Vec::from_slice(alloc, sink.bytes())?)
-}
-
-/// So many frames of 60 bytes.
-fn small_frames(alloc: Global, count: usize) -> Result<Vec<u8>, BenchFault> {
-    let mut sink = BytesOut::new(alloc);
-    write_frame(&mut sink, &SMALL_BODY)?;
+    let mut frame = BytesOut::new(alloc);
+    write_frame(&mut frame, &body)?;
     let mut input = Vec::new(alloc);
     for _ in 0..count {
-        input.extend_from_slice(sink.bytes())?;
+        input.extend_from_slice(frame.bytes())?;
     }
     Ok(input)
 }
 
-/// How long it takes to read one body of so many bytes, pulled in pieces of so many.
-pub fn one_body(
+/// How long it takes to read so many bodies of `size` bytes, pulled in pieces of `step` bytes.
+pub fn reading(
     alloc: Global,
     rt: &impl Clock,
     size: usize,
+    count: usize,
     step: usize,
 ) -> Result<u128, BenchFault> {
-    let input = one_frame(alloc, size)?;
+    let input = frames(alloc, size, count)?;
     let start = Instant::now(rt)?;
-    read_all(alloc, &input, step, 1)?;
-    Ok(start.elapsed(rt)?.as_micros())
-}
-
-/// How long it takes to read so many frames of 60 bytes.
-pub fn small_bodies(alloc: Global, rt: &impl Clock, count: usize) -> Result<u128, BenchFault> {
-    let input = small_frames(alloc, count)?;
-    let start = Instant::now(rt)?;
-    read_all(alloc, &input, input.len(), count)?;
+    read_all(alloc, &input, step, count)?;
     Ok(start.elapsed(rt)?.as_micros())
 }
 

@@ -11,7 +11,7 @@ mod texts;
 mod types;
 
 use fault::BenchFault;
-use measure::Measure;
+use measure::{MEASURES, measure_named};
 use std::env;
 
 fn main(rt: HostRuntime) -> Result<(), BenchFault> {
@@ -20,18 +20,19 @@ fn main(rt: HostRuntime) -> Result<(), BenchFault> {
         words.push(word)?;
     }
     if words.len() < 3 {
-        for measure in Measure::ALL {
+        for (_, measure) in MEASURES.as_slice() {
             measure.take(rt.alloc(), &rt, 100)?;
         }
         return Ok(());
     }
-    let Some(measure) = Measure::named(words[1].as_str()) else {
+    let name = words[1].as_str();
+    let Some(measure) = measure_named(name) else {
         return Err(BenchFault::Words);
     };
     let Ok(size) = words[2].as_str().parse::<usize>() else {
         return Err(BenchFault::Words);
     };
     let micros = measure.take(rt.alloc(), &rt, size)?;
-    rt.eprintln(format_args!("{measure} {size}: {micros} microseconds"))?;
+    rt.eprintln(format_args!("{name} {size}: {micros} microseconds"))?;
     Ok(())
 }
