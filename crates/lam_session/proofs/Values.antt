@@ -1,5 +1,6 @@
 -- Lists of values that are built one behind the other.
-use Rattle.std.proofs.Common.{◌≡◌, ℕ, ◌+◌, ◌<◌, List, [], ◌∷◌, ◌++◌, length, drop, map, get_or, drop-cons, add-one, sym, refl, ap, ◌∙◌}
+use Rattle.std.proofs.Common.{◌≡◌, ℕ, ◌+◌, ◌<◌, List, [], ◌∷◌, ◌++◌, length, drop, map, get_or, drop-cons, add-one, sym, refl, ap, ◌∙◌, ◌≤◌, append-nil}
+use Rattle.std.proofs.Math.ListN.{drop_of_length-le}
 use Rattle.serde_json.specs.Data.{Data}
 use Rattle.serde_json.specs.View.{view}
 use Rattle.serde_json.specs.declared.value.Value.{Value}
@@ -28,4 +29,12 @@ number_more shown values more v xs i x inside shows pushed so_far =
     ∙ ap (λ d. map view values ++ d ∷ map shown (drop (i + 1) xs)) shows
     ∙ ap (λ n. map view values ++ shown (get_or xs i x) ∷ map shown (drop n xs)) (add-one i)
     ∙ ap (λ l. map view values ++ map shown l) (sym (drop-cons xs i x inside))
+    ∙ so_far
+
+-- where none is to come, the values so far are all
+pub all_shown : {A : Type 0} (shown : A → Data) (values : List Value) (xs : List A) (i : ℕ) → length xs ≤ i
+    → map view values ++ map shown (drop i xs) ≡ map shown xs → map view values ≡ map shown xs
+all_shown shown values xs i past so_far =
+    sym (append-nil (map view values))
+    ∙ ap (λ l. map view values ++ map shown l) (sym (drop_of_length-le xs past))
     ∙ so_far
