@@ -118,10 +118,11 @@ impl Analysis {
         let Some(place) = self.scopes.place_at(offset) else {
             return Ok(None);
         };
-        let Some(proof) = typing.prove_at(alloc, resolved, place)? else {
+        let grounds = typing.grounds(alloc, resolved)?;
+        let Some(proof) = grounds.prove_at(alloc, place)? else {
             return Ok(None);
         };
-        let context = context_at(alloc, &self.scopes, typing, place)?;
+        let context = context_at(alloc, &self.scopes, &grounds, place)?;
         let steps = steps_of_proof(alloc, &self.scopes, place, &proof)?;
         Ok(Some(Derivation { context, steps }))
     }

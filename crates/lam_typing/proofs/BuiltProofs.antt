@@ -13,9 +13,9 @@ use Rattle.lam_typing.specs.LeastTypes.{IsLeastAt}
 use Rattle.lam_typing.specs.Progress.{IsLowest}
 use Rattle.lam_typing.specs.Steps.{entry_at, LetRule, MoreRule}
 use Rattle.lam_typing.specs.Seeing.{note_among, Sees}
-use Rattle.lam_typing.specs.Typings.{found_of, noted_in, dialect_of}
+use Rattle.lam_typing.specs.Grounds.{found_in, noted_in, dialect_in}
 use Rattle.lam_typing.specs.Proving.{IsSetting, ProvesFound, IsProvenTerm, ProvesThis, IsProvenForm, IsProvenAs, IsWidened, IsLeafBy, IsNatBy, FieldTrees, AreProvenFields}
-use Rattle.lam_typing.specs.declared.typing.Typing.{Typing}
+use Rattle.lam_typing.specs.declared.grounds.Grounds.{Grounds}
 use Rattle.lam_typing.proofs.Derivations.{Derives, t_fix, t_sub, derives, has_type, derives_wf, entry_wf}
 use Rattle.lam_typing.proofs.Forms.{fields_least}
 use Rattle.lam_typing.proofs.LeastIn.{LeastIn, lowest_written, lowest_some, lowest_none, least_in}
@@ -26,23 +26,23 @@ use Rattle.lam_typing.proofs.Sighted.{own_least}
 
 -- what is known of a term, and of a part of it
 
-whole : (t : Typing) (all : List Place) (k : ℕ) (s : Scope) (g : Context) (e : Term) (place : ℕ) (type : Typ) → IsSetting t all s g → Sees all (found_of t) (noted_in t) k s g e
-    → place ≡ place_of_term k e → place < length (found_of t) → get_or (found_of t) place None ≡ Some type → LeastIn g e (Some type) (dialect_of t)
+whole : (t : Grounds) (all : List Place) (k : ℕ) (s : Scope) (g : Context) (e : Term) (place : ℕ) (type : Typ) → IsSetting t all s g → Sees all (found_in t) (noted_in t) k s g e
+    → place ≡ place_of_term k e → place < length (found_in t) → get_or (found_in t) place None ≡ Some type → LeastIn g e (Some type) (dialect_in t)
 whole t all k s g e place type setting sees at lt is =
-    let here : place_of_term k e < length (found_of t) = omega (arith, at, lt) in
-    let least = own_least all (found_of t) (noted_in t) (dialect_of t) k s g e setting.least sees here in
-    subst (λ o. LeastIn g e o (dialect_of t)) (ap (λ n. get_or (found_of t) n None) (sym at) ∙ is) (least_in s g e (get_or (found_of t) (place_of_term k e) None) (dialect_of t) setting.low least)
+    let here : place_of_term k e < length (found_in t) = omega (arith, at, lt) in
+    let least = own_least all (found_in t) (noted_in t) (dialect_in t) k s g e setting.least sees here in
+    subst (λ o. LeastIn g e o (dialect_in t)) (ap (λ n. get_or (found_in t) n None) (sym at) ∙ is) (least_in s g e (get_or (found_in t) (place_of_term k e) None) (dialect_in t) setting.low least)
 
 record Part (o : Option TypingTree) (g : Context) (e : Term) (d : Dialect) : Type 0 where
   found : Option Typ
   least : LeastIn g e found d
   proves : ProvesFound o found g e d
 
-part : (t : Typing) (all : List Place) (k : ℕ) (s : Scope) (g : Context) (e : Term) (behind : ℕ) (o : Option TypingTree) → IsSetting t all s g → Sees all (found_of t) (noted_in t) k s g e
-    → behind ≡ behind_term k e → behind ≤ length (found_of t) → IsProvenTerm t e behind o → Part o g e (dialect_of t)
+part : (t : Grounds) (all : List Place) (k : ℕ) (s : Scope) (g : Context) (e : Term) (behind : ℕ) (o : Option TypingTree) → IsSetting t all s g → Sees all (found_in t) (noted_in t) k s g e
+    → behind ≡ behind_term k e → behind ≤ length (found_in t) → IsProvenTerm t e behind o → Part o g e (dialect_in t)
 part t all k s g e behind o setting sees at le proven = record {
-  found = get_or (found_of t) (place_of_term k e) None;
-  least = least_in s g e (get_or (found_of t) (place_of_term k e) None) (dialect_of t) setting.low (own_least all (found_of t) (noted_in t) (dialect_of t) k s g e setting.least sees (omega (arith, at, le)));
+  found = get_or (found_in t) (place_of_term k e) None;
+  least = least_in s g e (get_or (found_in t) (place_of_term k e) None) (dialect_in t) setting.low (own_least all (found_in t) (noted_in t) (dialect_in t) k s g e setting.least sees (omega (arith, at, le)));
   proves = proven all k s g setting sees at le;
 }
 
@@ -70,89 +70,89 @@ finished : (rule : TypeRule) (u t : Typ) (ps : TypingTrees) (o : Option TypingTr
 finished rule u t ps o g e d wide wf by least below =
     widened_to (typing_step rule u ps None) t o g e d wide ((derives_wf g e t d least.0).0, wf, by) below
 
-module _ (t : Typing) where
+module _ (t : Grounds) where
   -- constants and numerals
 
-  leaf : (rule : TypeRule) (e : Term) (u type : Typ) (o : Option TypingTree) (g : Context) → IsLeafBy rule e u → LeastIn g e (Some type) (dialect_of t)
-      → IsWidened (typing_step rule u no_typings None) type o (dialect_of t) → ProvesThis o type g e (dialect_of t)
+  leaf : (rule : TypeRule) (e : Term) (u type : Typ) (o : Option TypingTree) (g : Context) → IsLeafBy rule e u → LeastIn g e (Some type) (dialect_in t)
+      → IsWidened (typing_step rule u no_typings None) type o (dialect_in t) → ProvesThis o type g e (dialect_in t)
   leaf TypeRule.True true_term u type o g is least wide =
-      finished TypeRule.True u type no_typings o g true_term (dialect_of t) wide (subst (λ v. IsWellFormed v) (sym is) tt) is least (subst (λ v. IsBelow v type (dialect_of t)) (sym is) (of_true g type (dialect_of t) least.0))
+      finished TypeRule.True u type no_typings o g true_term (dialect_in t) wide (subst (λ v. IsWellFormed v) (sym is) tt) is least (subst (λ v. IsBelow v type (dialect_in t)) (sym is) (of_true g type (dialect_in t) least.0))
   leaf TypeRule.False false_term u type o g is least wide =
-      finished TypeRule.False u type no_typings o g false_term (dialect_of t) wide (subst (λ v. IsWellFormed v) (sym is) tt) is least (subst (λ v. IsBelow v type (dialect_of t)) (sym is) (of_false g type (dialect_of t) least.0))
+      finished TypeRule.False u type no_typings o g false_term (dialect_in t) wide (subst (λ v. IsWellFormed v) (sym is) tt) is least (subst (λ v. IsBelow v type (dialect_in t)) (sym is) (of_false g type (dialect_in t) least.0))
   leaf TypeRule.Num (numeral digits) u type o g is least wide =
-      finished TypeRule.Num u type no_typings o g (numeral digits) (dialect_of t) wide (subst (λ v. IsWellFormed v) (sym is) tt) is least (subst (λ v. IsBelow v type (dialect_of t)) (sym is) (of_num g digits type (dialect_of t) least.0))
+      finished TypeRule.Num u type no_typings o g (numeral digits) (dialect_in t) wide (subst (λ v. IsWellFormed v) (sym is) tt) is least (subst (λ v. IsBelow v type (dialect_in t)) (sym is) (of_num g digits type (dialect_in t) least.0))
   leaf TypeRule.Unit unit_term u type o g is least wide =
-      finished TypeRule.Unit u type no_typings o g unit_term (dialect_of t) wide (subst (λ v. IsWellFormed v) (sym is) tt) is least (subst (λ v. IsBelow v type (dialect_of t)) (sym is) (of_unit g type (dialect_of t) least.0))
+      finished TypeRule.Unit u type no_typings o g unit_term (dialect_in t) wide (subst (λ v. IsWellFormed v) (sym is) tt) is least (subst (λ v. IsBelow v type (dialect_in t)) (sym is) (of_unit g type (dialect_in t) least.0))
   leaf _ _ u type o g is least wide = absurd is
 
-  pub leaf_form : (rule : TypeRule) (e : Term) (u type : Typ) (place : ℕ) (o : Option TypingTree) → IsLeafBy rule e u → IsWidened (typing_step rule u no_typings None) type o (dialect_of t) → IsProvenForm t e place type o
+  pub leaf_form : (rule : TypeRule) (e : Term) (u type : Typ) (place : ℕ) (o : Option TypingTree) → IsLeafBy rule e u → IsWidened (typing_step rule u no_typings None) type o (dialect_in t) → IsProvenForm t e place type o
   leaf_form rule e u type place o is wide all k s g setting sees at lt found = leaf rule e u type o g is (whole t all k s g e place type setting sees at lt found) wide
 
   -- a variable
 
-  pub variable_form : (n : ℕ) (place : ℕ) (u type : Typ) (o : Option TypingTree) → (note_among (noted_in t) place).bound ≡ Some u → IsWidened (typing_step TypeRule.Var u no_typings None) type o (dialect_of t)
+  pub variable_form : (n : ℕ) (place : ℕ) (u type : Typ) (o : Option TypingTree) → (note_among (noted_in t) place).bound ≡ Some u → IsWidened (typing_step TypeRule.Var u no_typings None) type o (dialect_in t)
       → IsProvenForm t (variable n) place type o
   variable_form n place u type o noted wide all k s g setting sees at lt found =
       let least = whole t all k s g (variable n) place type setting sees at lt found in
       let entry : entry_at n g ≡ Some u = sym sees.1 ∙ ap (λ m. (note_among (noted_in t) m).bound) (sym at) ∙ noted in
       let is = entry_is n g u entry in
-      let h = of_variable g n type (dialect_of t) least.0 in
+      let h = of_variable g n type (dialect_in t) least.0 in
       let same : u ≡ h.entry = (let e : Some u ≡ Some h.entry = sym entry ∙ is_entry_at n g h.entry h.is_entry in cc) in
-      finished TypeRule.Var u type no_typings o g (variable n) (dialect_of t) wide (entry_wf n g u setting.low.wf is) is least (subst (λ v. IsBelow v type (dialect_of t)) (sym same) h.below)
+      finished TypeRule.Var u type no_typings o g (variable n) (dialect_in t) wide (entry_wf n g u setting.low.wf is) is least (subst (λ v. IsBelow v type (dialect_in t)) (sym same) h.below)
 
   pub variable_none : (n : ℕ) (place : ℕ) (type : Typ) → (note_among (noted_in t) place).bound ≡ None → IsProvenForm t (variable n) place type None
   variable_none n place type noted all k s g setting sees at lt found =
       let least = whole t all k s g (variable n) place type setting sees at lt found in
       let entry : entry_at n g ≡ None = sym sees.1 ∙ ap (λ m. (note_among (noted_in t) m).bound) (sym at) ∙ noted in
-      let h = of_variable g n type (dialect_of t) least.0 in
+      let h = of_variable g n type (dialect_in t) least.0 in
       let wrong : Some h.entry ≡ None = sym (is_entry_at n g h.entry h.is_entry) ∙ entry in
       absurd (cc)
 
   pub free_none : (x : List ℕ) (place : ℕ) (type : Typ) → IsProvenForm t (free x) place type None
-  free_none x place type all k s g setting sees at lt found = of_free g x type (dialect_of t) (whole t all k s g (free x) place type setting sees at lt found).0
+  free_none x place type all k s g setting sees at lt found = of_free g x type (dialect_in t) (whole t all k s g (free x) place type setting sees at lt found).0
 
   -- a type that may be wider
 
-  pub as_wide : (e : Term) (behind : ℕ) (p : TypingTree) (type : Typ) (o : Option TypingTree) → IsProvenTerm t e behind (Some p) → IsWidened p type o (dialect_of t) → IsProvenAs t e behind type o
-  as_wide e behind p type (Some q) proves wide all k s g setting sees at le = wide g e (proven p g e (dialect_of t) (part t all k s g e behind (Some p) setting sees at le proves)).0
+  pub as_wide : (e : Term) (behind : ℕ) (p : TypingTree) (type : Typ) (o : Option TypingTree) → IsProvenTerm t e behind (Some p) → IsWidened p type o (dialect_in t) → IsProvenAs t e behind type o
+  as_wide e behind p type (Some q) proves wide all k s g setting sees at le = wide g e (proven p g e (dialect_in t) (part t all k s g e behind (Some p) setting sees at le proves)).0
   as_wide e behind p type None proves wide all k s g setting sees at le = λ has.
-      let h = proven p g e (dialect_of t) (part t all k s g e behind (Some p) setting sees at le proves) in
-      wide g e h.0 (h.1.1 type (derives g e type (dialect_of t) has))
+      let h = proven p g e (dialect_in t) (part t all k s g e behind (Some p) setting sees at le proves) in
+      wide g e h.0 (h.1.1 type (derives g e type (dialect_in t) has))
 
   pub as_none : (e : Term) (behind : ℕ) (type : Typ) → IsProvenTerm t e behind None → IsProvenAs t e behind type None
   as_none e behind type proves all k s g setting sees at le = λ has.
-      unfound g e (dialect_of t) type (part t all k s g e behind None setting sees at le proves) (derives g e type (dialect_of t) has)
+      unfound g e (dialect_in t) type (part t all k s g e behind None setting sees at le proves) (derives g e type (dialect_in t) has)
 
   -- T-Succ, T-Pred and T-IsZero
 
-  operand_of : (rule : TypeRule) (e operand : Term) (u : Typ) (all : List Place) (k : ℕ) (s : Scope) (g : Context) → IsNatBy rule e operand u → Sees all (found_of t) (noted_in t) k s g e
-      → Sees all (found_of t) (noted_in t) k s g operand × (place_of_term k e ≡ behind_term k operand)
-  operand_of TypeRule.Succ (succ e) operand u all k s g is sees = (subst (λ x. Sees all (found_of t) (noted_in t) k s g x) is.0 sees.1, subst (λ x. k + (inside e + 1) ≡ behind_term k x) is.0 (omega arith))
-  operand_of TypeRule.Pred (pred e) operand u all k s g is sees = (subst (λ x. Sees all (found_of t) (noted_in t) k s g x) is.0 sees.1, subst (λ x. k + (inside e + 1) ≡ behind_term k x) is.0 (omega arith))
-  operand_of TypeRule.IsZero (is_zero e) operand u all k s g is sees = (subst (λ x. Sees all (found_of t) (noted_in t) k s g x) is.0 sees.1, subst (λ x. k + (inside e + 1) ≡ behind_term k x) is.0 (omega arith))
+  operand_of : (rule : TypeRule) (e operand : Term) (u : Typ) (all : List Place) (k : ℕ) (s : Scope) (g : Context) → IsNatBy rule e operand u → Sees all (found_in t) (noted_in t) k s g e
+      → Sees all (found_in t) (noted_in t) k s g operand × (place_of_term k e ≡ behind_term k operand)
+  operand_of TypeRule.Succ (succ e) operand u all k s g is sees = (subst (λ x. Sees all (found_in t) (noted_in t) k s g x) is.0 sees.1, subst (λ x. k + (inside e + 1) ≡ behind_term k x) is.0 (omega arith))
+  operand_of TypeRule.Pred (pred e) operand u all k s g is sees = (subst (λ x. Sees all (found_in t) (noted_in t) k s g x) is.0 sees.1, subst (λ x. k + (inside e + 1) ≡ behind_term k x) is.0 (omega arith))
+  operand_of TypeRule.IsZero (is_zero e) operand u all k s g is sees = (subst (λ x. Sees all (found_in t) (noted_in t) k s g x) is.0 sees.1, subst (λ x. k + (inside e + 1) ≡ behind_term k x) is.0 (omega arith))
   operand_of _ _ operand u all k s g is sees = absurd is
 
-  number : (rule : TypeRule) (e operand : Term) (u type : Typ) (p : TypingTree) (o : Option TypingTree) (g : Context) → IsNatBy rule e operand u → LeastIn g e (Some type) (dialect_of t) → ProvesTyping p g operand nat (dialect_of t)
-      → IsWidened (typing_step rule u (typing_first p no_typings) None) type o (dialect_of t) → ProvesThis o type g e (dialect_of t)
+  number : (rule : TypeRule) (e operand : Term) (u type : Typ) (p : TypingTree) (o : Option TypingTree) (g : Context) → IsNatBy rule e operand u → LeastIn g e (Some type) (dialect_in t) → ProvesTyping p g operand nat (dialect_in t)
+      → IsWidened (typing_step rule u (typing_first p no_typings) None) type o (dialect_in t) → ProvesThis o type g e (dialect_in t)
   number TypeRule.Succ (succ e) operand u type p o g is least proves wide =
-      finished TypeRule.Succ u type (typing_first p no_typings) o g (succ e) (dialect_of t) wide (subst (λ v. IsWellFormed v) (sym is.1) tt) (subst (λ x. IsTyping g x p (dialect_of t)) (sym is.0) proves.0, proves.1, is.1) least
-      (subst (λ v. IsBelow v type (dialect_of t)) (sym is.1) (of_succ g e type (dialect_of t) least.0).1)
+      finished TypeRule.Succ u type (typing_first p no_typings) o g (succ e) (dialect_in t) wide (subst (λ v. IsWellFormed v) (sym is.1) tt) (subst (λ x. IsTyping g x p (dialect_in t)) (sym is.0) proves.0, proves.1, is.1) least
+      (subst (λ v. IsBelow v type (dialect_in t)) (sym is.1) (of_succ g e type (dialect_in t) least.0).1)
   number TypeRule.Pred (pred e) operand u type p o g is least proves wide =
-      finished TypeRule.Pred u type (typing_first p no_typings) o g (pred e) (dialect_of t) wide (subst (λ v. IsWellFormed v) (sym is.1) tt) (subst (λ x. IsTyping g x p (dialect_of t)) (sym is.0) proves.0, proves.1, is.1) least
-      (subst (λ v. IsBelow v type (dialect_of t)) (sym is.1) (of_pred g e type (dialect_of t) least.0).1)
+      finished TypeRule.Pred u type (typing_first p no_typings) o g (pred e) (dialect_in t) wide (subst (λ v. IsWellFormed v) (sym is.1) tt) (subst (λ x. IsTyping g x p (dialect_in t)) (sym is.0) proves.0, proves.1, is.1) least
+      (subst (λ v. IsBelow v type (dialect_in t)) (sym is.1) (of_pred g e type (dialect_in t) least.0).1)
   number TypeRule.IsZero (is_zero e) operand u type p o g is least proves wide =
-      finished TypeRule.IsZero u type (typing_first p no_typings) o g (is_zero e) (dialect_of t) wide (subst (λ v. IsWellFormed v) (sym is.1) tt) (subst (λ x. IsTyping g x p (dialect_of t)) (sym is.0) proves.0, proves.1, is.1) least
-      (subst (λ v. IsBelow v type (dialect_of t)) (sym is.1) (of_is_zero g e type (dialect_of t) least.0).1)
+      finished TypeRule.IsZero u type (typing_first p no_typings) o g (is_zero e) (dialect_in t) wide (subst (λ v. IsWellFormed v) (sym is.1) tt) (subst (λ x. IsTyping g x p (dialect_in t)) (sym is.0) proves.0, proves.1, is.1) least
+      (subst (λ v. IsBelow v type (dialect_in t)) (sym is.1) (of_is_zero g e type (dialect_in t) least.0).1)
   number _ _ operand u type p o g is least proves wide = absurd is
 
-  no_number : (rule : TypeRule) (e operand : Term) (u type : Typ) (g : Context) → IsNatBy rule e operand u → Derives g e type (dialect_of t) → HasType g operand nat (dialect_of t)
-  no_number TypeRule.Succ (succ e) operand u type g is x = subst (λ y. HasType g y nat (dialect_of t)) is.0 (has_type g e nat (dialect_of t) (of_succ g e type (dialect_of t) x).0)
-  no_number TypeRule.Pred (pred e) operand u type g is x = subst (λ y. HasType g y nat (dialect_of t)) is.0 (has_type g e nat (dialect_of t) (of_pred g e type (dialect_of t) x).0)
-  no_number TypeRule.IsZero (is_zero e) operand u type g is x = subst (λ y. HasType g y nat (dialect_of t)) is.0 (has_type g e nat (dialect_of t) (of_is_zero g e type (dialect_of t) x).0)
+  no_number : (rule : TypeRule) (e operand : Term) (u type : Typ) (g : Context) → IsNatBy rule e operand u → Derives g e type (dialect_in t) → HasType g operand nat (dialect_in t)
+  no_number TypeRule.Succ (succ e) operand u type g is x = subst (λ y. HasType g y nat (dialect_in t)) is.0 (has_type g e nat (dialect_in t) (of_succ g e type (dialect_in t) x).0)
+  no_number TypeRule.Pred (pred e) operand u type g is x = subst (λ y. HasType g y nat (dialect_in t)) is.0 (has_type g e nat (dialect_in t) (of_pred g e type (dialect_in t) x).0)
+  no_number TypeRule.IsZero (is_zero e) operand u type g is x = subst (λ y. HasType g y nat (dialect_in t)) is.0 (has_type g e nat (dialect_in t) (of_is_zero g e type (dialect_in t) x).0)
   no_number _ _ operand u type g is x = absurd is
 
   pub number_form : (rule : TypeRule) (e operand : Term) (u type : Typ) (place : ℕ) (p : TypingTree) (o : Option TypingTree) → IsNatBy rule e operand u → IsProvenAs t operand place nat (Some p)
-      → IsWidened (typing_step rule u (typing_first p no_typings) None) type o (dialect_of t) → IsProvenForm t e place type o
+      → IsWidened (typing_step rule u (typing_first p no_typings) None) type o (dialect_in t) → IsProvenForm t e place type o
   number_form rule e operand u type place p o is proves wide all k s g setting sees at lt found =
       let parts = operand_of rule e operand u all k s g is sees in
       number rule e operand u type p o g is (whole t all k s g e place type setting sees at lt found) (proves all k s g setting parts.0 (at ∙ parts.1) (omega (arith, lt))) wide
@@ -166,67 +166,67 @@ module _ (t : Typing) where
 
   pub if_form : (c a b : Term) (place m3 m2 : ℕ) (type : Typ) (p1 p2 p3 : TypingTree) (o : Option TypingTree) → m3 + inside b + 1 ≡ place → m2 + inside a + 1 ≡ m3
       → IsProvenAs t b place type (Some p3) → IsProvenAs t a m3 type (Some p2) → IsProvenAs t c m2 bool (Some p1)
-      → IsWidened (typing_step TypeRule.If type (typing_first p1 (typing_first p2 (typing_first p3 no_typings))) None) type o (dialect_of t) → IsProvenForm t (if_then_else c a b) place type o
+      → IsWidened (typing_step TypeRule.If type (typing_first p1 (typing_first p2 (typing_first p3 no_typings))) None) type o (dialect_in t) → IsProvenForm t (if_then_else c a b) place type o
   if_form c a b place m3 m2 type p1 p2 p3 o e3 e2 third second first wide all k s g setting sees at lt found =
       let least = whole t all k s g (if_then_else c a b) place type setting sees at lt found in
       let h3 = third all (behind_term (behind_term k c) a) s g setting sees.3 (omega (arith, at)) (omega (arith, lt)) in
       let h2 = second all (behind_term k c) s g setting sees.2 (omega (arith, at, e3)) (omega (arith, lt, e3)) in
       let h1 = first all k s g setting sees.1 (omega (arith, at, e3, e2)) (omega (arith, lt, e3, e2)) in
-      let wf = (derives_wf g (if_then_else c a b) type (dialect_of t) least.0).1 in
-      finished TypeRule.If type type (typing_first p1 (typing_first p2 (typing_first p3 no_typings))) o g (if_then_else c a b) (dialect_of t) wide wf (h1.0, h1.1, h2.0, h2.1, h3.0, h3.1) least (below_refl type (dialect_of t) wf)
+      let wf = (derives_wf g (if_then_else c a b) type (dialect_in t) least.0).1 in
+      finished TypeRule.If type type (typing_first p1 (typing_first p2 (typing_first p3 no_typings))) o g (if_then_else c a b) (dialect_in t) wide wf (h1.0, h1.1, h2.0, h2.1, h3.0, h3.1) least (below_refl type (dialect_in t) wf)
 
   pub if_none_else : (c a b : Term) (place : ℕ) (type : Typ) → IsProvenAs t b place type None → IsProvenForm t (if_then_else c a b) place type None
   if_none_else c a b place type third all k s g setting sees at lt found =
       let least = whole t all k s g (if_then_else c a b) place type setting sees at lt found in
-      third all (behind_term (behind_term k c) a) s g setting sees.3 (omega (arith, at)) (omega (arith, lt)) (has_type g b type (dialect_of t) (of_if g c a b type (dialect_of t) least.0).else_term)
+      third all (behind_term (behind_term k c) a) s g setting sees.3 (omega (arith, at)) (omega (arith, lt)) (has_type g b type (dialect_in t) (of_if g c a b type (dialect_in t) least.0).else_term)
 
   pub if_none_then : (c a b : Term) (place m3 : ℕ) (type : Typ) → m3 + inside b + 1 ≡ place → IsProvenAs t a m3 type None → IsProvenForm t (if_then_else c a b) place type None
   if_none_then c a b place m3 type e3 second all k s g setting sees at lt found =
       let least = whole t all k s g (if_then_else c a b) place type setting sees at lt found in
-      second all (behind_term k c) s g setting sees.2 (omega (arith, at, e3)) (omega (arith, lt, e3)) (has_type g a type (dialect_of t) (of_if g c a b type (dialect_of t) least.0).then_term)
+      second all (behind_term k c) s g setting sees.2 (omega (arith, at, e3)) (omega (arith, lt, e3)) (has_type g a type (dialect_in t) (of_if g c a b type (dialect_in t) least.0).then_term)
 
   pub if_none_condition : (c a b : Term) (place m3 m2 : ℕ) (type : Typ) → m3 + inside b + 1 ≡ place → m2 + inside a + 1 ≡ m3 → IsProvenAs t c m2 bool None → IsProvenForm t (if_then_else c a b) place type None
   if_none_condition c a b place m3 m2 type e3 e2 first all k s g setting sees at lt found =
       let least = whole t all k s g (if_then_else c a b) place type setting sees at lt found in
-      first all k s g setting sees.1 (omega (arith, at, e3, e2)) (omega (arith, lt, e3, e2)) (has_type g c bool (dialect_of t) (of_if g c a b type (dialect_of t) least.0).condition)
+      first all k s g setting sees.1 (omega (arith, at, e3, e2)) (omega (arith, lt, e3, e2)) (has_type g c bool (dialect_in t) (of_if g c a b type (dialect_in t) least.0).condition)
 
   -- T-Abs
 
-  under : (w : Typ) (e : Term) (type : Typ) (all : List Place) (s : Scope) (g : Context) → IsSetting t all s g → Derives g (lambda (Some w) e) type (dialect_of t) → IsSetting t all (written (Some w) ∷ s) (Some w ∷ g)
+  under : (w : Typ) (e : Term) (type : Typ) (all : List Place) (s : Scope) (g : Context) → IsSetting t all s g → Derives g (lambda (Some w) e) type (dialect_in t) → IsSetting t all (written (Some w) ∷ s) (Some w ∷ g)
   under w e type all s g setting x =
-      let h = of_lambda g w e type (dialect_of t) x in
-      record { least = setting.least; low = lowest_written (Some w) s (Some w) g (dialect_of t) (derives_wf (Some w ∷ g) e h.outcome (dialect_of t) h.body).0.0 refl setting.low }
+      let h = of_lambda g w e type (dialect_in t) x in
+      record { least = setting.least; low = lowest_written (Some w) s (Some w) g (dialect_in t) (derives_wf (Some w ∷ g) e h.outcome (dialect_in t) h.body).0.0 refl setting.low }
 
   pub lambda_form : (w : Typ) (e : Term) (place : ℕ) (u type : Typ) (p : TypingTree) (o : Option TypingTree) → u ≡ arrow w (type_in p) → IsProvenTerm t e place (Some p)
-      → IsWidened (typing_step TypeRule.Abs u (typing_first p no_typings) None) type o (dialect_of t) → IsProvenForm t (lambda (Some w) e) place type o
+      → IsWidened (typing_step TypeRule.Abs u (typing_first p no_typings) None) type o (dialect_in t) → IsProvenForm t (lambda (Some w) e) place type o
   lambda_form w e place u type p o is proves wide all k s g setting sees at lt found =
       let least = whole t all k s g (lambda (Some w) e) place type setting sees at lt found in
-      let body = proven p (Some w ∷ g) e (dialect_of t) (part t all k (written (Some w) ∷ s) (Some w ∷ g) e place (Some p) (under w e type all s g setting least.0) sees.1 (omega (arith, at)) (omega (arith, lt)) proves) in
-      let own = lambda_least g (Some w) e (Some (type_in p)) (Some (arrow w (type_in p))) (dialect_of t) body.1 refl in
-      finished TypeRule.Abs u type (typing_first p no_typings) o g (lambda (Some w) e) (dialect_of t) wide
-      (subst (λ v. IsWellFormed v) (sym is) (derives_wf g (lambda (Some w) e) (arrow w (type_in p)) (dialect_of t) own.0).1) (body.0, is) least (subst (λ v. IsBelow v type (dialect_of t)) (sym is) (own.1 type least.0))
+      let body = proven p (Some w ∷ g) e (dialect_in t) (part t all k (written (Some w) ∷ s) (Some w ∷ g) e place (Some p) (under w e type all s g setting least.0) sees.1 (omega (arith, at)) (omega (arith, lt)) proves) in
+      let own = lambda_least g (Some w) e (Some (type_in p)) (Some (arrow w (type_in p))) (dialect_in t) body.1 refl in
+      finished TypeRule.Abs u type (typing_first p no_typings) o g (lambda (Some w) e) (dialect_in t) wide
+      (subst (λ v. IsWellFormed v) (sym is) (derives_wf g (lambda (Some w) e) (arrow w (type_in p)) (dialect_in t) own.0).1) (body.0, is) least (subst (λ v. IsBelow v type (dialect_in t)) (sym is) (own.1 type least.0))
 
   pub lambda_none : (w : Typ) (e : Term) (place : ℕ) (type : Typ) → IsProvenTerm t e place None → IsProvenForm t (lambda (Some w) e) place type None
   lambda_none w e place type proves all k s g setting sees at lt found =
       let least = whole t all k s g (lambda (Some w) e) place type setting sees at lt found in
-      let h = of_lambda g w e type (dialect_of t) least.0 in
-      unfound (Some w ∷ g) e (dialect_of t) h.outcome (part t all k (written (Some w) ∷ s) (Some w ∷ g) e place None (under w e type all s g setting least.0) sees.1 (omega (arith, at)) (omega (arith, lt)) proves) h.body
+      let h = of_lambda g w e type (dialect_in t) least.0 in
+      unfound (Some w ∷ g) e (dialect_in t) h.outcome (part t all k (written (Some w) ∷ s) (Some w ∷ g) e place None (under w e type all s g setting least.0) sees.1 (omega (arith, at)) (omega (arith, lt)) proves) h.body
 
   pub faulty_lambda_none : (e : Term) (place : ℕ) (type : Typ) → IsProvenForm t (lambda None e) place type None
-  faulty_lambda_none e place type all k s g setting sees at lt found = of_faulty_lambda g e type (dialect_of t) (whole t all k s g (lambda None e) place type setting sees at lt found).0
+  faulty_lambda_none e place type all k s g setting sees at lt found = of_faulty_lambda g e type (dialect_in t) (whole t all k s g (lambda None e) place type setting sees at lt found).0
 
   -- T-App
 
-  argument_below : (f a : Term) (g : Context) (p r q type : Typ) → LeastIn g f (Some (arrow p r)) (dialect_of t) → LeastIn g a (Some q) (dialect_of t) → Derives g (apply f a) type (dialect_of t) → IsBelow q p (dialect_of t)
+  argument_below : (f a : Term) (g : Context) (p r q type : Typ) → LeastIn g f (Some (arrow p r)) (dialect_in t) → LeastIn g a (Some q) (dialect_in t) → Derives g (apply f a) type (dialect_in t) → IsBelow q p (dialect_in t)
   argument_below f a g p r q type lf la x =
-      let h = of_apply g f a type (dialect_of t) x in
-      below_trans q h.parameter p (dialect_of t) (la.1 h.parameter h.argument) (arrows_below p r h.parameter h.outcome (dialect_of t) (lf.1 (arrow h.parameter h.outcome) h.function)).0
+      let h = of_apply g f a type (dialect_in t) x in
+      below_trans q h.parameter p (dialect_in t) (la.1 h.parameter h.argument) (arrows_below p r h.parameter h.outcome (dialect_in t) (lf.1 (arrow h.parameter h.outcome) h.function)).0
 
   pub apply_form : (f a : Term) (place m : ℕ) (r p type : Typ) (pf pa qa : TypingTree) (o : Option TypingTree) → m + inside a + 1 ≡ place → IsProvenTerm t a place (Some pa) → IsProvenTerm t f m (Some pf)
-      → type_in pf ≡ arrow p r → IsWidened pa p (Some qa) (dialect_of t)
-      → IsWidened (typing_step TypeRule.App r (typing_first pf (typing_first qa no_typings)) None) type o (dialect_of t) → IsProvenForm t (apply f a) place type o
+      → type_in pf ≡ arrow p r → IsWidened pa p (Some qa) (dialect_in t)
+      → IsWidened (typing_step TypeRule.App r (typing_first pf (typing_first qa no_typings)) None) type o (dialect_in t) → IsProvenForm t (apply f a) place type o
   apply_form f a place m r p type pf pa qa o e second first is wide_a wide all k s g setting sees at lt found =
-      let d = dialect_of t in
+      let d = dialect_in t in
       let least = whole t all k s g (apply f a) place type setting sees at lt found in
       let ha = proven pa g a d (part t all (behind_term k f) s g a place (Some pa) setting sees.2 (omega (arith, at)) (omega (arith, lt)) second) in
       let hf = proven pf g f d (part t all k s g f m (Some pf) setting sees.1 (omega (arith, at, e)) (omega (arith, lt, e)) first) in
@@ -238,25 +238,25 @@ module _ (t : Typing) where
 
   pub apply_none_argument : (f a : Term) (place : ℕ) (type : Typ) → IsProvenTerm t a place None → IsProvenForm t (apply f a) place type None
   apply_none_argument f a place type second all k s g setting sees at lt found =
-      let h = of_apply g f a type (dialect_of t) (whole t all k s g (apply f a) place type setting sees at lt found).0 in
-      unfound g a (dialect_of t) h.parameter (part t all (behind_term k f) s g a place None setting sees.2 (omega (arith, at)) (omega (arith, lt)) second) h.argument
+      let h = of_apply g f a type (dialect_in t) (whole t all k s g (apply f a) place type setting sees at lt found).0 in
+      unfound g a (dialect_in t) h.parameter (part t all (behind_term k f) s g a place None setting sees.2 (omega (arith, at)) (omega (arith, lt)) second) h.argument
 
   pub apply_none_function : (f a : Term) (place m : ℕ) (type : Typ) → m + inside a + 1 ≡ place → IsProvenTerm t f m None → IsProvenForm t (apply f a) place type None
   apply_none_function f a place m type e first all k s g setting sees at lt found =
-      let h = of_apply g f a type (dialect_of t) (whole t all k s g (apply f a) place type setting sees at lt found).0 in
-      unfound g f (dialect_of t) (arrow h.parameter h.outcome) (part t all k s g f m None setting sees.1 (omega (arith, at, e)) (omega (arith, lt, e)) first) h.function
+      let h = of_apply g f a type (dialect_in t) (whole t all k s g (apply f a) place type setting sees at lt found).0 in
+      unfound g f (dialect_in t) (arrow h.parameter h.outcome) (part t all k s g f m None setting sees.1 (omega (arith, at, e)) (omega (arith, lt, e)) first) h.function
 
   pub apply_no_arrow : (f a : Term) (place m : ℕ) (type : Typ) (pf : TypingTree) → m + inside a + 1 ≡ place → IsProvenTerm t f m (Some pf) → ((p r : Typ) → type_in pf ≡ arrow p r → ⊥) → IsProvenForm t (apply f a) place type None
   apply_no_arrow f a place m type pf e first other all k s g setting sees at lt found =
-      let h = of_apply g f a type (dialect_of t) (whole t all k s g (apply f a) place type setting sees at lt found).0 in
-      let hf = proven pf g f (dialect_of t) (part t all k s g f m (Some pf) setting sees.1 (omega (arith, at, e)) (omega (arith, lt, e)) first) in
-      let arrow_is = below_arrow_is (type_in pf) h.parameter h.outcome (dialect_of t) (hf.1.1 (arrow h.parameter h.outcome) h.function) in
+      let h = of_apply g f a type (dialect_in t) (whole t all k s g (apply f a) place type setting sees at lt found).0 in
+      let hf = proven pf g f (dialect_in t) (part t all k s g f m (Some pf) setting sees.1 (omega (arith, at, e)) (omega (arith, lt, e)) first) in
+      let arrow_is = below_arrow_is (type_in pf) h.parameter h.outcome (dialect_in t) (hf.1.1 (arrow h.parameter h.outcome) h.function) in
       other arrow_is.parameter arrow_is.outcome arrow_is.is
 
   pub apply_not_below : (f a : Term) (place m : ℕ) (p r type : Typ) (pf pa : TypingTree) → m + inside a + 1 ≡ place → IsProvenTerm t a place (Some pa) → IsProvenTerm t f m (Some pf)
-      → type_in pf ≡ arrow p r → IsWidened pa p None (dialect_of t) → IsProvenForm t (apply f a) place type None
+      → type_in pf ≡ arrow p r → IsWidened pa p None (dialect_in t) → IsProvenForm t (apply f a) place type None
   apply_not_below f a place m p r type pf pa e second first is wide_a all k s g setting sees at lt found =
-      let d = dialect_of t in
+      let d = dialect_in t in
       let least = whole t all k s g (apply f a) place type setting sees at lt found in
       let ha = proven pa g a d (part t all (behind_term k f) s g a place (Some pa) setting sees.2 (omega (arith, at)) (omega (arith, lt)) second) in
       let hf = proven pf g f d (part t all k s g f m (Some pf) setting sees.1 (omega (arith, at, e)) (omega (arith, lt, e)) first) in
@@ -265,9 +265,9 @@ module _ (t : Typing) where
   -- T-Ascribe
 
   pub ascribe_form : (e : Term) (w : Typ) (place : ℕ) (u type : Typ) (p : TypingTree) (o : Option TypingTree) → u ≡ w → IsProvenAs t e place w (Some p)
-      → IsWidened (typing_step TypeRule.Ascribe u (typing_first p no_typings) None) type o (dialect_of t) → IsProvenForm t (ascribe e (Some w)) place type o
+      → IsWidened (typing_step TypeRule.Ascribe u (typing_first p no_typings) None) type o (dialect_in t) → IsProvenForm t (ascribe e (Some w)) place type o
   ascribe_form e w place u type p o is proves wide all k s g setting sees at lt found =
-      let d = dialect_of t in
+      let d = dialect_in t in
       let least = whole t all k s g (ascribe e (Some w)) place type setting sees at lt found in
       let h = of_ascribe g e w type d least.0 in
       let q = proves all k s g setting sees.1 (omega (arith, at)) (omega (arith, lt)) in
@@ -275,28 +275,28 @@ module _ (t : Typing) where
 
   pub ascribe_none : (e : Term) (w : Typ) (place : ℕ) (type : Typ) → IsProvenAs t e place w None → IsProvenForm t (ascribe e (Some w)) place type None
   ascribe_none e w place type proves all k s g setting sees at lt found =
-      let h = of_ascribe g e w type (dialect_of t) (whole t all k s g (ascribe e (Some w)) place type setting sees at lt found).0 in
-      proves all k s g setting sees.1 (omega (arith, at)) (omega (arith, lt)) (has_type g e w (dialect_of t) h.0)
+      let h = of_ascribe g e w type (dialect_in t) (whole t all k s g (ascribe e (Some w)) place type setting sees at lt found).0 in
+      proves all k s g setting sees.1 (omega (arith, at)) (omega (arith, lt)) (has_type g e w (dialect_in t) h.0)
 
   pub faulty_ascribe_none : (e : Term) (place : ℕ) (type : Typ) → IsProvenForm t (ascribe e None) place type None
-  faulty_ascribe_none e place type all k s g setting sees at lt found = of_faulty_ascribe g e type (dialect_of t) (whole t all k s g (ascribe e None) place type setting sees at lt found).0
+  faulty_ascribe_none e place type all k s g setting sees at lt found = of_faulty_ascribe g e type (dialect_in t) (whole t all k s g (ascribe e None) place type setting sees at lt found).0
 
   -- T-Let
 
-  bound_low : (a : Term) (s : Scope) (g : Context) (x : Option Typ) → LeastIn g a x (dialect_of t) → IsLowest s g (dialect_of t) → IsLowest (of_term a ∷ s) (x ∷ g) (dialect_of t)
-  bound_low a s g (Some u) least low = lowest_some a s u g (dialect_of t) least low
-  bound_low a s g None least low = lowest_none a s g (dialect_of t) least low
+  bound_low : (a : Term) (s : Scope) (g : Context) (x : Option Typ) → LeastIn g a x (dialect_in t) → IsLowest s g (dialect_in t) → IsLowest (of_term a ∷ s) (x ∷ g) (dialect_in t)
+  bound_low a s g (Some u) least low = lowest_some a s u g (dialect_in t) least low
+  bound_low a s g None least low = lowest_none a s g (dialect_in t) least low
 
-  bound_least : (a : Term) (all : List Place) (k : ℕ) (s : Scope) (g : Context) → IsSetting t all s g → Sees all (found_of t) (noted_in t) k s g a → place_of_term k a < length (found_of t)
-      → LeastIn g a (get_or (found_of t) (place_of_term k a) None) (dialect_of t)
+  bound_least : (a : Term) (all : List Place) (k : ℕ) (s : Scope) (g : Context) → IsSetting t all s g → Sees all (found_in t) (noted_in t) k s g a → place_of_term k a < length (found_in t)
+      → LeastIn g a (get_or (found_in t) (place_of_term k a) None) (dialect_in t)
   bound_least a all k s g setting sees lt =
-      least_in s g a (get_or (found_of t) (place_of_term k a) None) (dialect_of t) setting.low (own_least all (found_of t) (noted_in t) (dialect_of t) k s g a setting.least sees lt)
+      least_in s g a (get_or (found_in t) (place_of_term k a) None) (dialect_in t) setting.low (own_least all (found_in t) (noted_in t) (dialect_in t) k s g a setting.least sees lt)
 
   pub let_form : (a b : Term) (place m : ℕ) (u type : Typ) (pa pb : TypingTree) (o : Option TypingTree) → m + inside b + 1 ≡ place → u ≡ type_in pb → IsProvenTerm t b place (Some pb) → IsProvenTerm t a m (Some pa)
-      → IsWidened (typing_step TypeRule.Let u (typing_first pa (typing_first pb no_typings)) None) type o (dialect_of t) → IsProvenForm t (let_in a b) place type o
+      → IsWidened (typing_step TypeRule.Let u (typing_first pa (typing_first pb no_typings)) None) type o (dialect_in t) → IsProvenForm t (let_in a b) place type o
   let_form a b place m u type pa pb o e is second first wide all k s g setting sees at lt found =
-      let d = dialect_of t in
-      let x = get_or (found_of t) (place_of_term k a) None in
+      let d = dialect_in t in
+      let x = get_or (found_in t) (place_of_term k a) None in
       let least = whole t all k s g (let_in a b) place type setting sees at lt found in
       let la = bound_least a all k s g setting sees.1 (omega (arith, at, lt)) in
       let ha = proven_by x pa g a d la (first all k s g setting sees.1 (omega (arith, at, e)) (omega (arith, lt, e))) in
@@ -310,8 +310,8 @@ module _ (t : Typing) where
 
   pub let_none_body : (a b : Term) (place : ℕ) (type : Typ) → IsProvenTerm t b place None → IsProvenForm t (let_in a b) place type None
   let_none_body a b place type second all k s g setting sees at lt found =
-      let d = dialect_of t in
-      let x = get_or (found_of t) (place_of_term k a) None in
+      let d = dialect_in t in
+      let x = get_or (found_in t) (place_of_term k a) None in
       let least = whole t all k s g (let_in a b) place type setting sees at lt found in
       let la = bound_least a all k s g setting sees.1 (omega (arith, at, lt)) in
       let inner : IsSetting t all (of_term a ∷ s) (x ∷ g) = record { least = setting.least; low = bound_low a s g x la setting.low } in
@@ -324,15 +324,15 @@ module _ (t : Typing) where
 
   pub let_none_bound : (a b : Term) (place m : ℕ) (type : Typ) → m + inside b + 1 ≡ place → IsProvenTerm t a m None → IsProvenForm t (let_in a b) place type None
   let_none_bound a b place m type e first all k s g setting sees at lt found =
-      let h = of_let g a b type (dialect_of t) (whole t all k s g (let_in a b) place type setting sees at lt found).0 in
-      unfound g a (dialect_of t) h.type_of_bound (part t all k s g a m None setting sees.1 (omega (arith, at, e)) (omega (arith, lt, e)) first) h.bound
+      let h = of_let g a b type (dialect_in t) (whole t all k s g (let_in a b) place type setting sees at lt found).0 in
+      unfound g a (dialect_in t) h.type_of_bound (part t all k s g a m None setting sees.1 (omega (arith, at, e)) (omega (arith, lt, e)) first) h.bound
 
   -- T-Rcd
 
   pub record_form : (es : TermFields) (place : ℕ) (ps : FieldTrees) (type : Typ) (o : Option TypingTree) → AreProvenFields t es place (Some ps)
-      → IsWidened (typing_step TypeRule.Rcd (record_of ps.types) ps.trees None) type o (dialect_of t) → IsProvenForm t (record_term es) place type o
+      → IsWidened (typing_step TypeRule.Rcd (record_of ps.types) ps.trees None) type o (dialect_in t) → IsProvenForm t (record_term es) place type o
   record_form es place ps type o proves wide all k s g setting sees at lt found =
-      let d = dialect_of t in
+      let d = dialect_in t in
       let least = whole t all k s g (record_term es) place type setting sees at lt found in
       let h = proves all k s g setting sees.1 at (omega (arith, lt)) in
       let lf = fields_least s g es (Some ps.types) d setting.low h.1 in
@@ -343,22 +343,22 @@ module _ (t : Typing) where
 
   pub record_none : (es : TermFields) (place : ℕ) (type : Typ) → AreProvenFields t es place None → IsProvenForm t (record_term es) place type None
   record_none es place type proves all k s g setting sees at lt found =
-      let d = dialect_of t in
+      let d = dialect_in t in
       let least = whole t all k s g (record_term es) place type setting sees at lt found in
       let lf = fields_least s g es None d setting.low (proves all k s g setting sees.1 at (omega (arith, lt))) in
       record_least g es None None d lf refl type least.0
 
   pub no_fields_form : (behind : ℕ) (ps : FieldTrees) → ps.trees ≡ no_typings → ps.types ≡ no_fields → AreProvenFields t no_terms behind (Some ps)
   no_fields_form behind ps trees types all k s g setting sees at le =
-      (subst (λ q. ByTypeRule TypeRule.Rcd None g (record_term no_terms) (record_of ps.types) q (dialect_of t)) (sym trees) (subst (λ fs. ByTypeRule TypeRule.Rcd None g (record_term no_terms) (record_of fs) no_typings (dialect_of t)) (sym types) tt), ap Some types)
+      (subst (λ q. ByTypeRule TypeRule.Rcd None g (record_term no_terms) (record_of ps.types) q (dialect_in t)) (sym trees) (subst (λ fs. ByTypeRule TypeRule.Rcd None g (record_term no_terms) (record_of fs) no_typings (dialect_in t)) (sym types) tt), ap Some types)
 
   pub more_fields_form : (l : Label) (e : Term) (es : TermFields) (behind m : ℕ) (p : TypingTree) (ps qs : FieldTrees) → m + inside_fields es ≡ behind → AreProvenFields t es behind (Some ps) → IsProvenTerm t e m (Some p)
       → qs.trees ≡ typing_first p ps.trees → qs.types ≡ field l (type_in p) ps.types → AreProvenFields t (term_field l e es) behind (Some qs)
   more_fields_form l e es behind m p ps qs count rest first trees types all k s g setting sees at le =
-      let d = dialect_of t in
-      let x = get_or (found_of t) (place_of_term k e) None in
+      let d = dialect_in t in
+      let x = get_or (found_in t) (place_of_term k e) None in
       let hs = rest all (behind_term k e) s g setting sees.1 (omega (arith, at)) le in
-      let least = own_least all (found_of t) (noted_in t) d k s g e setting.least sees.0 (omega (arith, at, le)) in
+      let least = own_least all (found_in t) (noted_in t) d k s g e setting.least sees.0 (omega (arith, at, le)) in
       let h = proven_by x p g e d (least_in s g e x d setting.low least) (first all k s g setting sees.0 (omega (arith, at, count)) (omega (arith, le, count))) in (
         subst (λ q. ByTypeRule TypeRule.Rcd None g (record_term (term_field l e es)) (record_of qs.types) q d) (sym trees)
             (subst (λ fs. ByTypeRule TypeRule.Rcd None g (record_term (term_field l e es)) (record_of fs) (typing_first p ps.trees) d) (sym types) (refl, h.0, refl, hs.0)),
@@ -367,9 +367,9 @@ module _ (t : Typing) where
 
   pub more_fields_none : (l : Label) (e : Term) (es : TermFields) (behind : ℕ) → AreProvenFields t es behind None → AreProvenFields t (term_field l e es) behind None
   more_fields_none l e es behind rest all k s g setting sees at le =
-      let d = dialect_of t in
-      let x = get_or (found_of t) (place_of_term k e) None in
-      (x, None, own_least all (found_of t) (noted_in t) d k s g e setting.least sees.0 (omega (arith, at, le)), rest all (behind_term k e) s g setting sees.1 (omega (arith, at)) le, more_rule x)
+      let d = dialect_in t in
+      let x = get_or (found_in t) (place_of_term k e) None in
+      (x, None, own_least all (found_in t) (noted_in t) d k s g e setting.least sees.0 (omega (arith, at, le)), rest all (behind_term k e) s g setting sees.1 (omega (arith, at)) le, more_rule x)
     where
       more_rule : (x : Option Typ) → MoreRule l x None None
       more_rule None = refl
@@ -378,10 +378,10 @@ module _ (t : Typing) where
   pub first_field_none : (l : Label) (e : Term) (es : TermFields) (behind m : ℕ) (ps : FieldTrees) → m + inside_fields es ≡ behind → AreProvenFields t es behind (Some ps) → IsProvenTerm t e m None
       → AreProvenFields t (term_field l e es) behind None
   first_field_none l e es behind m ps count rest first all k s g setting sees at le =
-      let d = dialect_of t in
-      let x = get_or (found_of t) (place_of_term k e) None in
+      let d = dialect_in t in
+      let x = get_or (found_in t) (place_of_term k e) None in
       let hs = rest all (behind_term k e) s g setting sees.1 (omega (arith, at)) le in
-      let least = own_least all (found_of t) (noted_in t) d k s g e setting.least sees.0 (omega (arith, at, le)) in
+      let least = own_least all (found_in t) (noted_in t) d k s g e setting.least sees.0 (omega (arith, at, le)) in
       let none = none_found x g e d (first all k s g setting sees.0 (omega (arith, at, count)) (omega (arith, le, count))) in
       (None, Some ps.types, subst (λ o. IsLeastAt s e o d) none least, hs.1, refl)
     where
@@ -392,9 +392,9 @@ module _ (t : Typing) where
   -- T-Proj
 
   pub project_form : (e : Term) (l : Label) (place : ℕ) (fs : Fields) (v u type : Typ) (p : TypingTree) (o : Option TypingTree) → IsProvenTerm t e place (Some p) → type_in p ≡ record_of fs → Has l v fs → u ≡ v
-      → IsWidened (typing_step TypeRule.Proj u (typing_first p no_typings) None) type o (dialect_of t) → IsProvenForm t (project e l) place type o
+      → IsWidened (typing_step TypeRule.Proj u (typing_first p no_typings) None) type o (dialect_in t) → IsProvenForm t (project e l) place type o
   project_form e l place fs v u type p o proves is has same wide all k s g setting sees at lt found =
-      let d = dialect_of t in
+      let d = dialect_in t in
       let least = whole t all k s g (project e l) place type setting sees at lt found in
       let h = proven p g e d (part t all k s g e place (Some p) setting sees.1 (omega (arith, at)) (omega (arith, lt)) proves) in
       let le : LeastIn g e (Some (record_of fs)) d = subst (λ w. LeastIn g e (Some w) d) is h.1 in
@@ -404,12 +404,12 @@ module _ (t : Typing) where
 
   pub project_none : (e : Term) (l : Label) (place : ℕ) (type : Typ) → IsProvenTerm t e place None → IsProvenForm t (project e l) place type None
   project_none e l place type proves all k s g setting sees at lt found =
-      let h = of_project g e l type (dialect_of t) (whole t all k s g (project e l) place type setting sees at lt found).0 in
-      unfound g e (dialect_of t) (record_of h.fields) (part t all k s g e place None setting sees.1 (omega (arith, at)) (omega (arith, lt)) proves) h.operand
+      let h = of_project g e l type (dialect_in t) (whole t all k s g (project e l) place type setting sees at lt found).0 in
+      unfound g e (dialect_in t) (record_of h.fields) (part t all k s g e place None setting sees.1 (omega (arith, at)) (omega (arith, lt)) proves) h.operand
 
   pub project_no_record : (e : Term) (l : Label) (place : ℕ) (type : Typ) (p : TypingTree) → IsProvenTerm t e place (Some p) → ((fs : Fields) → type_in p ≡ record_of fs → ⊥) → IsProvenForm t (project e l) place type None
   project_no_record e l place type p proves other all k s g setting sees at lt found =
-      let d = dialect_of t in
+      let d = dialect_in t in
       let h = of_project g e l type d (whole t all k s g (project e l) place type setting sees at lt found).0 in
       let hp = proven p g e d (part t all k s g e place (Some p) setting sees.1 (omega (arith, at)) (omega (arith, lt)) proves) in
       let r = below_record_is (type_in p) h.fields d (hp.1.1 (record_of h.fields) h.operand) in
@@ -417,7 +417,7 @@ module _ (t : Typing) where
 
   pub project_no_field : (e : Term) (l : Label) (place : ℕ) (fs : Fields) (type : Typ) (p : TypingTree) → IsProvenTerm t e place (Some p) → type_in p ≡ record_of fs → IsAbsent l fs → IsProvenForm t (project e l) place type None
   project_no_field e l place fs type p proves is absent all k s g setting sees at lt found =
-      let d = dialect_of t in
+      let d = dialect_in t in
       let least = whole t all k s g (project e l) place type setting sees at lt found in
       let h = proven p g e d (part t all k s g e place (Some p) setting sees.1 (omega (arith, at)) (omega (arith, lt)) proves) in
       project_least g e l (Some (record_of fs)) None d (subst (λ w. LeastIn g e (Some w) d) is h.1) absent type least.0
@@ -425,9 +425,9 @@ module _ (t : Typing) where
   -- T-Fix
 
   pub fix_form : (e : Term) (place : ℕ) (w u type : Typ) (p : TypingTree) (o : Option TypingTree) → w ≡ arrow type type → u ≡ type → IsProvenAs t e place w (Some p)
-      → IsWidened (typing_step TypeRule.Fix u (typing_first p no_typings) None) type o (dialect_of t) → IsProvenForm t (fix e) place type o
+      → IsWidened (typing_step TypeRule.Fix u (typing_first p no_typings) None) type o (dialect_in t) → IsProvenForm t (fix e) place type o
   fix_form e place w u type p o arrow_is is proves wide all k s g setting sees at lt found =
-      let d = dialect_of t in
+      let d = dialect_in t in
       let least = whole t all k s g (fix e) place type setting sees at lt found in
       let wf = (derives_wf g (fix e) type d least.0).1 in
       let q = proves all k s g setting sees.1 (omega (arith, at)) (omega (arith, lt)) in
@@ -435,7 +435,7 @@ module _ (t : Typing) where
 
   pub fix_none : (e : Term) (place : ℕ) (w type : Typ) → w ≡ arrow type type → IsProvenAs t e place w None → IsProvenForm t (fix e) place type None
   fix_none e place w type arrow_is proves all k s g setting sees at lt found =
-      let d = dialect_of t in
+      let d = dialect_in t in
       let least = whole t all k s g (fix e) place type setting sees at lt found in
       let h = of_fix g e type d least.0 in
       let back = least.1 h.fixed (t_fix h.operand) in

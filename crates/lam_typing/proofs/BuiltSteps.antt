@@ -26,11 +26,11 @@ use Rattle.lam_rules.proofs.ByShape.{below_wf}
 use Rattle.lam_rules.proofs.TypingShapes.{typing_tree_of-node, type_in-typing_tree_of, typing_wf_of}
 use Rattle.lam_scope.specs.Sights.{place_of_term}
 use Rattle.lam_typing.specs.Answers.{answer}
-use Rattle.lam_typing.specs.Typings.{found_of, dialect_of}
+use Rattle.lam_typing.specs.Grounds.{found_in, dialect_in}
 use Rattle.lam_typing.specs.Proving.{tree_in, trees_in, ProvesFound, ProvesThis, IsProvenTerm, IsProvenForm, IsProvenAs, AreProvenFields, IsWidened}
 use Rattle.lam_typing.specs.declared.proving.Proven.{Proven}
 use Rattle.lam_typing.specs.declared.proving.ProvenFields.{ProvenFields}
-use Rattle.lam_typing.specs.declared.typing.Typing.{Typing}
+use Rattle.lam_typing.specs.declared.grounds.Grounds.{Grounds}
 use Rattle.lam_typing.proofs.Finishing.{answers_at}
 
 pub step_tree : (rule : TypeRule) (ty : Ty) (premises : Vec TypeProof Global) (sub : Option (Box SubProof Global))
@@ -85,22 +85,22 @@ step_as rule u v ps qs t o d e f wide = subst (λ n. IsWidened n t o d) (λ i. t
 pub some_holds : {A : Type 0} (o : Option A) (x : A) (P : A → Type 0) → o ≡ Some x → IfSome o P → P x
 some_holds o x P e h = subst (λ q. IfSome q P) e h
 
-pub some_term : (t : Typing) (e : Term) (n : ℕ) (o : Option Proven) (m : Proven) → o ≡ Some m → IsProvenTerm t e n (option_map tree_in o) → IsProvenTerm t e n (Some (tree_in m))
+pub some_term : (t : Grounds) (e : Term) (n : ℕ) (o : Option Proven) (m : Proven) → o ≡ Some m → IsProvenTerm t e n (option_map tree_in o) → IsProvenTerm t e n (Some (tree_in m))
 some_term t e n o m is proves = subst (λ q. IsProvenTerm t e n (option_map tree_in q)) is proves
 
-pub none_term : (t : Typing) (e : Term) (n : ℕ) (o : Option Proven) → o ≡ None → IsProvenTerm t e n (option_map tree_in o) → IsProvenTerm t e n None
+pub none_term : (t : Grounds) (e : Term) (n : ℕ) (o : Option Proven) → o ≡ None → IsProvenTerm t e n (option_map tree_in o) → IsProvenTerm t e n None
 none_term t e n o is proves = subst (λ q. IsProvenTerm t e n (option_map tree_in q)) is proves
 
-pub some_as : (t : Typing) (e : Term) (n : ℕ) (u : Typ) (o : Option Proven) (m : Proven) → o ≡ Some m → IsProvenAs t e n u (option_map tree_in o) → IsProvenAs t e n u (Some (tree_in m))
+pub some_as : (t : Grounds) (e : Term) (n : ℕ) (u : Typ) (o : Option Proven) (m : Proven) → o ≡ Some m → IsProvenAs t e n u (option_map tree_in o) → IsProvenAs t e n u (Some (tree_in m))
 some_as t e n u o m is proves = subst (λ q. IsProvenAs t e n u (option_map tree_in q)) is proves
 
-pub none_as : (t : Typing) (e : Term) (n : ℕ) (u : Typ) (o : Option Proven) → o ≡ None → IsProvenAs t e n u (option_map tree_in o) → IsProvenAs t e n u None
+pub none_as : (t : Grounds) (e : Term) (n : ℕ) (u : Typ) (o : Option Proven) → o ≡ None → IsProvenAs t e n u (option_map tree_in o) → IsProvenAs t e n u None
 none_as t e n u o is proves = subst (λ q. IsProvenAs t e n u (option_map tree_in q)) is proves
 
-pub some_fields : (t : Typing) (es : TermFields) (n : ℕ) (o : Option ProvenFields) (m : ProvenFields) → o ≡ Some m → AreProvenFields t es n (option_map trees_in o) → AreProvenFields t es n (Some (trees_in m))
+pub some_fields : (t : Grounds) (es : TermFields) (n : ℕ) (o : Option ProvenFields) (m : ProvenFields) → o ≡ Some m → AreProvenFields t es n (option_map trees_in o) → AreProvenFields t es n (Some (trees_in m))
 some_fields t es n o m is proves = subst (λ q. AreProvenFields t es n (option_map trees_in q)) is proves
 
-pub none_fields : (t : Typing) (es : TermFields) (n : ℕ) (o : Option ProvenFields) → o ≡ None → AreProvenFields t es n (option_map trees_in o) → AreProvenFields t es n None
+pub none_fields : (t : Grounds) (es : TermFields) (n : ℕ) (o : Option ProvenFields) → o ≡ None → AreProvenFields t es n (option_map trees_in o) → AreProvenFields t es n None
 none_fields t es n o is proves = subst (λ q. AreProvenFields t es n (option_map trees_in q)) is proves
 
 pub some_wide : (p : TypingTree) (u : Typ) (o : Option TypeProof) (m : TypeProof) (d : Dialect) → o ≡ Some m → IsWidened p u (option_map typing_tree_of o) d → IsWidened p u (Some (typing_tree_of m)) d
@@ -111,27 +111,20 @@ none_wide p u o d is wide = subst (λ q. IsWidened p u (option_map typing_tree_o
 
 -- from a form to the term, by what was found
 
-pub found_type : (t : Typing) (place : ℕ) (r : Option TyNo) (number : TyNo) (ty : Typ) → r ≡ get_or t.found.items place None → r ≡ Some number → ty ≡ type_of t.table number
-    → get_or (found_of t) place None ≡ Some ty
-found_type t place r number ty is some type = sym (answers_at t.table t.found.items place) ∙ ap (λ o. answer t.table o) (sym is ∙ some) ∙ ap Some (sym type)
-
-pub found_none : (t : Typing) (place : ℕ) (r : Option TyNo) → r ≡ get_or t.found.items place None → r ≡ None → get_or (found_of t) place None ≡ None
-found_none t place r is none = sym (answers_at t.table t.found.items place) ∙ ap (λ o. answer t.table o) (sym is ∙ none)
-
 this_found : (o : Option TypingTree) (type : Typ) (g : Context) (e : Term) (d : Dialect) → ProvesThis o type g e d → ProvesFound o (Some type) g e d
 this_found (Some p) type g e d h = h
 this_found None type g e d h = absurd h
 
-pub term_of_form : (t : Typing) (e : Term) (behind : ℕ) (type : Typ) (o : Option TypingTree) → get_or (found_of t) (behind - 1) None ≡ Some type → IsProvenForm t e (behind - 1) type o → IsProvenTerm t e behind o
+pub term_of_form : (t : Grounds) (e : Term) (behind : ℕ) (type : Typ) (o : Option TypingTree) → get_or (found_in t) (behind - 1) None ≡ Some type → IsProvenForm t e (behind - 1) type o → IsProvenTerm t e behind o
 term_of_form t e behind type o found form all k s g setting sees at le =
     let place : behind - 1 ≡ place_of_term k e = omega (arith, at) in
-    let proves = this_found o type g e (dialect_of t) (form all k s g setting sees place (omega (arith, at, le)) found) in
-    subst (λ x. ProvesFound o x g e (dialect_of t)) (sym found ∙ ap (λ n. get_or (found_of t) n None) place) proves
+    let proves = this_found o type g e (dialect_in t) (form all k s g setting sees place (omega (arith, at, le)) found) in
+    subst (λ x. ProvesFound o x g e (dialect_in t)) (sym found ∙ ap (λ n. get_or (found_in t) n None) place) proves
 
-pub term_none : (t : Typing) (e : Term) (behind : ℕ) → get_or (found_of t) (behind - 1) None ≡ None → IsProvenTerm t e behind None
+pub term_none : (t : Grounds) (e : Term) (behind : ℕ) → get_or (found_in t) (behind - 1) None ≡ None → IsProvenTerm t e behind None
 term_none t e behind found all k s g setting sees at le =
     let place : behind - 1 ≡ place_of_term k e = omega (arith, at) in
-    subst (λ x. ProvesFound None x g e (dialect_of t)) (sym found ∙ ap (λ n. get_or (found_of t) n None) place) tt
+    subst (λ x. ProvesFound None x g e (dialect_in t)) (sym found ∙ ap (λ n. get_or (found_in t) n None) place) tt
 
 -- the types of proofs, by their form
 

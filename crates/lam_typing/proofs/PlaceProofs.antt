@@ -10,9 +10,12 @@ use Rattle.lam_scope.specs.WellFormed.{IsWellFormedScope}
 use Rattle.lam_typing.specs.Entries.{AreLeastEntries}
 use Rattle.lam_typing.specs.Progress.{IsLowest}
 use Rattle.lam_typing.specs.Seeing.{Sees}
-use Rattle.lam_typing.specs.Typings.{found_of, noted_in, dialect_of, IsTypingOf, context_at, IsProofAt}
+use Rattle.lam_typing.specs.Notes.{notes_of}
+use Rattle.lam_typing.specs.Grounds.{found_in, dialect_in, noted_in}
+use Rattle.lam_typing.specs.Typings.{found_of, dialect_of, IsTypingOf, context_at, IsProofAt}
 use Rattle.lam_typing.specs.Proving.{ProvesFound, IsProvenTerm}
 use Rattle.lam_typing.specs.declared.typing.Typing.{Typing}
+use Rattle.lam_typing.specs.declared.grounds.Grounds.{Grounds}
 use Rattle.lam_typing.proofs.Completing.{least_among}
 use Rattle.lam_typing.proofs.Growing.{length-answers}
 use Rattle.lam_typing.proofs.LeastIn.{lowest, lowest_written, lowest_some, lowest_none, least_in}
@@ -45,18 +48,6 @@ place_within ss t n typing lt =
     let le = taken_shorter (places_of [] ss) (length (found_of t)) in
     omega arith
 
-seen_at : (ss : List Statement) (t : Typing) (n : ℕ) → IsTypingOf ss t → n < length t.found.items → Seen ss (found_of t) (noted_in t) (dialect_of t) n (place_numbered ss n) (sight_numbered ss n)
-seen_at ss t n typing lt =
-    place_seen ss (found_of t) (noted_in t) (dialect_of t) n (least_among (places_of [] ss) (found_of t) (dialect_of t) typing.least) typing.wf typing.noted (place_within ss t n typing lt)
-
--- the places of a term end with its own
-pub inside_within : (ss : List Statement) (t : Typing) (n : ℕ) (e : Term) → IsTypingOf ss t → n < length t.found.items → e ≡ (place_numbered ss n).here → inside e < n + 1
-inside_within ss t n e typing lt is =
-    let seen = seen_at ss t n typing lt in
-    let at = seen.is in
-    let same : inside e ≡ inside (place_numbered ss n).here = ap inside is in
-    omega arith
-
 found_proof : (o : Option TypingTree) (x : Option Typ) (ss : List Statement) (t : Typing) (n : ℕ) (e : Term) → e ≡ (place_numbered ss n).here → get_or (found_of t) n None ≡ x
     → AreLeastEntries (place_numbered ss n).scope (context_at ss t n) (dialect_of t) → ProvesFound o x (context_at ss t n) e (dialect_of t)
     → IfSome o (λ p. IsProofAt ss t n p) × IfNone o (get_or (found_of t) n None ≡ None)
@@ -66,19 +57,32 @@ found_proof None None ss t n e is found least proves = (tt, found)
 found_proof (Some p) None ss t n e is found least proves = absurd proves
 found_proof None (Some u) ss t n e is found least proves = absurd proves
 
-pub proof_at : (ss : List Statement) (t : Typing) (n : ℕ) (e : Term) (o : Option TypingTree) → IsTypingOf ss t → n < length t.found.items → e ≡ (place_numbered ss n).here → IsProvenTerm t e (n + 1) o
-    → IfSome o (λ p. IsProofAt ss t n p) × IfNone o (get_or (found_of t) n None ≡ None)
-proof_at ss t n e o typing lt is proven =
-    let seen = seen_at ss t n typing lt in
-    let count = length-answers t.table t.found.items in
-    let entries = seen.entries (omega (arith, lt, count)) in
-    let low = entries_lowest (place_numbered ss n).scope (context_at ss t n) (dialect_of t) seen.wf entries in
-    let at = seen.is in
-    let here : n ≡ place_of_term seen.first e = seen.is ∙ ap (λ x. place_of_term seen.first x) (sym is) in
-    let sees = subst (λ x. Sees (places_of [] ss) (found_of t) (noted_in t) seen.first (place_numbered ss n).scope (context_at ss t n) x) (sym is) seen.sees in
-    let proves = proven (places_of [] ss) seen.first (place_numbered ss n).scope (context_at ss t n)
-    (record { least = least_among (places_of [] ss) (found_of t) (dialect_of t) typing.least; low = low }) sees (omega (arith, here)) (omega (arith, lt, count)) in
-    found_proof o (get_or (found_of t) (place_of_term seen.first e) None) ss t n e is (ap (λ k. get_or (found_of t) k None) here) entries proves
+module _ (ss : List Statement) (t : Grounds) (typing : IsTypingOf ss t.typing.now) (noted : noted_in t ≡ notes_of 0 (found_in t) [] ss) where
+  seen_at : (n : ℕ) → n < length t.typing.now.found.items → Seen ss (found_in t) (noted_in t) (dialect_in t) n (place_numbered ss n) (sight_numbered ss n)
+  seen_at n lt =
+      place_seen ss (found_in t) (noted_in t) (dialect_in t) n (least_among (places_of [] ss) (found_in t) (dialect_in t) typing.least) typing.wf noted (place_within ss t.typing.now n typing lt)
+
+  -- the places of a term end with its own
+  pub inside_within : (n : ℕ) (e : Term) → n < length t.typing.now.found.items → e ≡ (place_numbered ss n).here → inside e < n + 1
+  inside_within n e lt is =
+      let seen = seen_at n lt in
+      let at = seen.is in
+      let same : inside e ≡ inside (place_numbered ss n).here = ap inside is in
+      omega arith
+
+  pub proof_at : (n : ℕ) (e : Term) (o : Option TypingTree) → n < length t.typing.now.found.items → e ≡ (place_numbered ss n).here → IsProvenTerm t e (n + 1) o
+      → IfSome o (λ p. IsProofAt ss t.typing.now n p) × IfNone o (get_or (found_in t) n None ≡ None)
+  proof_at n e o lt is proven =
+      let seen = seen_at n lt in
+      let count = length-answers t.typing.now.table t.typing.now.found.items in
+      let entries = seen.entries (omega (arith, lt, count)) in
+      let low = entries_lowest (place_numbered ss n).scope (context_at ss t.typing.now n) (dialect_in t) seen.wf entries in
+      let at = seen.is in
+      let here : n ≡ place_of_term seen.first e = seen.is ∙ ap (λ x. place_of_term seen.first x) (sym is) in
+      let sees = subst (λ x. Sees (places_of [] ss) (found_in t) (noted_in t) seen.first (place_numbered ss n).scope (context_at ss t.typing.now n) x) (sym is) seen.sees in
+      let proves = proven (places_of [] ss) seen.first (place_numbered ss n).scope (context_at ss t.typing.now n)
+      (record { least = least_among (places_of [] ss) (found_in t) (dialect_in t) typing.least; low = low }) sees (omega (arith, here)) (omega (arith, lt, count)) in
+      found_proof o (get_or (found_in t) (place_of_term seen.first e) None) ss t.typing.now n e is (ap (λ k. get_or (found_in t) k None) here) entries proves
 
 pub past_all : (t : Typing) (n : ℕ) → length t.found.items ≤ n → get_or (found_of t) n None ≡ None
 past_all t n le = let count = length-answers t.table t.found.items in past (found_of t) n (omega (arith, le, count))

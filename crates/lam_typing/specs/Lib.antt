@@ -12,4 +12,5 @@ pub mod Entries
 pub mod Notes
 pub mod Seeing
 pub mod Typings
+pub mod Grounds
 pub mod Proving

@@ -1,17 +1,17 @@
 -- What is noted of each place beside its type: the entry of the binder of a lambda, and that of the binder that a variable counts to.
-use Rattle.std.specs.Prelude.{◌≡◌, ℕ, ◌+◌, List, [], ◌∷◌, ◌++◌, length, map, Option, Some, None, get_or}
+use Rattle.std.specs.Prelude.{◌≡◌, ℕ, ◌+◌, List, [], ◌∷◌, ◌++◌, length, Option, Some, None, get_or}
 use Rattle.lam_rules.specs.Types.{Typ}
 use Rattle.lam_rules.specs.Terms.{Term, true_term, false_term, if_then_else, numeral, succ, pred, is_zero, variable, free, lambda, apply, unit_term, ascribe, let_in, record_term, project, fix, TermFields, no_terms, term_field}
 use Rattle.lam_rules.specs.Typing.{Context}
-use Rattle.lam_rules.specs.Numbers.{Keeps}
-use Rattle.lam_rules.specs.declared.numbers.TyNo.{TyNo}
+use Rattle.lam_rules.specs.TermViews.{written_of}
 use Rattle.lam_scope.specs.Places.{Statement, defines, declares, abbreviates, states}
 use Rattle.lam_scope.specs.Sights.{inside, inside_fields, place_of_term, behind_term}
-use Rattle.lam_typing.specs.Answers.{answer, answers, StandsIn, AllStandIn, context_under}
-use Rattle.lam_typing.specs.Entries.{written_in, declared_in}
+use Rattle.lam_typing.specs.Entries.{written_in}
 use Rattle.lam_typing.specs.Steps.{entry_at}
 use Rattle.lam_typing.specs.declared.noting.Note.{Note}
-use Rattle.lam_typing.specs.declared.noting.Note.TheVariants.{Written, Bound, Nothing}
+use Rattle.lam_typing.specs.declared.noting.Note.TheVariants.{Lambda, Variable, Nothing}
+use Rattle.lam_typing.specs.declared.noting.Entry.{Entry}
+use Rattle.lam_typing.specs.declared.noting.Entry.TheVariants.{Written, Term as TermAt}
 use Rattle.lam_typing.specs.declared.noting.Notes.{Notes}
 
 -- what is noted of a place: of a lambda the type that is written, of a variable the entry of the binder that it counts to
@@ -58,67 +58,58 @@ notes_of k found g (declares w ∷ rest) = notes_of k found (w ∷ g) rest
 notes_of k found g (abbreviates w ∷ rest) = notes_of k found g rest
 notes_of k found g (states e ∷ rest) = notes k found g e ++ notes_of (behind_term k e) found g rest
 
--- the number of the type that is written, where the note is one of a lambda
-abbrev pub written_by : Note → Option TyNo
-written_by (Written number) = Some number
-written_by _ = None
+-- the type that an entry gives, where these were found of the places
+abbrev pub entry_in : List (Option Typ) → Entry → Option Typ
+entry_in found (Written w) = written_of w.now
+entry_in found (TermAt p) = get_or found p.0 None
 
--- the number of the entry of the binder that is counted to, where the note is one of a variable
-abbrev pub bound_by : Note → Option TyNo
-bound_by (Bound number) = Some number
-bound_by _ = None
+-- the type that an entry gives, if there is one
+abbrev pub told_in : List (Option Typ) → Option Entry → Option Typ
+told_in found None = None
+told_in found (Some entry) = entry_in found entry
 
--- what a note says by the numbers of a table
-abbrev pub noted_as : List Typ → Note → Noted
-noted_as ts n = record { written = answer ts (written_by n); bound = answer ts (bound_by n) }
+-- a context with entries put onto it one by one, so that the last of them is the innermost
+abbrev pub entries_onto : List (Option Typ) → Context → List Entry → Context
+entries_onto found g [] = g
+entries_onto found g (entry ∷ entries) = entries_onto found (entry_in found entry ∷ g) entries
 
--- what notes say by the numbers of a table, one by one
-abbrev pub noted_by : List Typ → List Note → List Noted
-noted_by ts [] = []
-noted_by ts (n ∷ ns) = noted_as ts n ∷ noted_by ts ns
+-- the context of these entries alone, which begin with the outermost
+abbrev pub context_in : List (Option Typ) → List Entry → Context
+context_in found entries = entries_onto found [] entries
 
--- the number of what is written, in the note of a place
-abbrev pub written_number : List Note → ℕ → Option TyNo
-written_number ns k = written_by (get_or ns k Nothing)
+-- what a note says, where these types were found of the places
+abbrev pub noted_as : List (Option Typ) → Note → Noted
+noted_as found (Lambda w) = record { written = written_of w.now; bound = None }
+noted_as found (Variable entry) = record { written = None; bound = entry_in found entry }
+noted_as found Nothing = record { written = None; bound = None }
 
--- the number of the entry that is counted to, in the note of a place
-abbrev pub bound_number : List Note → ℕ → Option TyNo
-bound_number ns k = bound_by (get_or ns k Nothing)
+-- what notes say, one by one
+abbrev pub noted_by : List (Option Typ) → List Note → List Noted
+noted_by found [] = []
+noted_by found (n ∷ ns) = noted_as found n ∷ noted_by found ns
 
--- each number in the notes is one of the table
-abbrev pub AllNoted : List Typ → List Note → Type 0
-AllNoted ts [] = Unit {0}
-AllNoted ts (n ∷ ns) = StandsIn ts (written_by n) × StandsIn ts (bound_by n) × AllNoted ts ns
+-- a note speaks of the entry of the binder that a variable counts to
+abbrev pub IsEntryCounted : Note → ℕ → List Entry → Type 0
+IsEntryCounted n count entries = (found : List (Option Typ)) → noted_as found n ≡ record { written = None; bound = entry_at count (context_in found entries) }
 
--- each number that is kept is one of the table
-pub record AreSoundNotes (ts : List Typ) (ns : Notes) : Type 0 where
-  pub entries : AllStandIn ts ns.entries.items
-  pub noted : AllNoted ts ns.noted.items
-  pub declared : AllStandIn ts ns.declared.items
-
--- the table grew, and these are the notes that were put behind the others, as many as this, under the same binders as before
-pub record NotesMore (old now : List Typ) (before after : Notes) (more : List Noted) (count : ℕ) : Type 0 where
-  pub keeps : Keeps old now
-  pub sound : AreSoundNotes now after
+-- these are the notes that were put behind the others, as many as this, under the same binders as before
+pub record NotesMore (before after : Notes) (more : List (Option Typ) → List Noted) (count : ℕ) : Type 0 where
   pub entries : after.entries.items ≡ before.entries.items
-  pub declared : after.declared.items ≡ before.declared.items
-  pub noted : noted_by now after.noted.items ≡ noted_by old before.noted.items ++ more
+  pub noted : (found : List (Option Typ)) → noted_by found after.noted.items ≡ noted_by found before.noted.items ++ more found
   pub behind : length after.noted.items ≡ length before.noted.items + count
 
 -- the notes of a term were put there, the last of them at this place
-pub record NotesTerm (old now : List Typ) (before after : Notes) (found : List (Option TyNo)) (e : Term) (place : ℕ) : Type 0 where
-  pub more : NotesMore old now before after (notes (length before.noted.items) (answers old found) (context_under old before.entries.items) e) (inside e + 1)
+pub record NotesTerm (before after : Notes) (e : Term) (place : ℕ) : Type 0 where
+  pub more : NotesMore before after (λ found. notes (length before.noted.items) found (context_in found before.entries.items) e) (inside e + 1)
   pub place_is : place ≡ place_of_term (length before.noted.items) e
 
 -- the notes of the terms of a record were put there
-abbrev pub NotesFields : List Typ → List Typ → Notes → Notes → List (Option TyNo) → TermFields → Type 0
-NotesFields old now before after found es =
-    NotesMore old now before after (notes_in (length before.noted.items) (answers old found) (context_under old before.entries.items) es) (inside_fields es)
+abbrev pub NotesFields : Notes → Notes → TermFields → Type 0
+NotesFields before after es = NotesMore before after (λ found. notes_in (length before.noted.items) found (context_in found before.entries.items) es) (inside_fields es)
 
 -- this note was put behind the others
 pub record NotesOne (before after : Notes) (own : Note) (place : ℕ) : Type 0 where
   pub entries : after.entries.items ≡ before.entries.items
-  pub declared : after.declared.items ≡ before.declared.items
   pub noted : after.noted.items ≡ before.noted.items ++ own ∷ []
   pub place_is : place ≡ length before.noted.items
 
@@ -141,18 +132,13 @@ IsOver (project e l) operand = e ≡ operand
 IsOver (fix e) operand = e ≡ operand
 IsOver _ operand = ⊥
 
--- A statement is done: the notes of those that follow, if they are put there, are with its own those of all; so with what they declare.
-pub record NotesStatement (old now : List Typ) (before after : Notes) (found : List (Option TyNo)) (statement : Statement) : Type 0 where
-  pub keeps : Keeps old now
-  pub sound : AreSoundNotes now after
-  pub declared : answers now after.declared.items ≡ answers old before.declared.items ++ declared_in statement ∷ []
-  pub noted : (rest : List Statement)
-      → noted_by now after.noted.items ++ notes_of (length after.noted.items) (answers now found) (context_under now after.entries.items) rest
-      ≡ noted_by old before.noted.items ++ notes_of (length before.noted.items) (answers old found) (context_under old before.entries.items) (statement ∷ rest)
+-- A statement is done: the notes of those that follow, if they are put there, are with its own those of all.
+abbrev pub NotesStatement : Notes → Notes → Statement → Type 0
+NotesStatement before after statement =
+    (found : List (Option Typ)) (rest : List Statement)
+    → noted_by found after.noted.items ++ notes_of (length after.noted.items) found (context_in found after.entries.items) rest
+    ≡ noted_by found before.noted.items ++ notes_of (length before.noted.items) found (context_in found before.entries.items) (statement ∷ rest)
 
 -- these are the notes of a document
-pub record NotesDocument (old now : List Typ) (ns : Notes) (found : List (Option TyNo)) (statements : List Statement) : Type 0 where
-  pub keeps : Keeps old now
-  pub sound : AreSoundNotes now ns
-  pub declared : answers now ns.declared.items ≡ map declared_in statements
-  pub noted : noted_by now ns.noted.items ≡ notes_of 0 (answers old found) [] statements
+abbrev pub NotesDocument : List Note → List Statement → Type 0
+NotesDocument ns statements = (found : List (Option Typ)) → noted_by found ns ≡ notes_of 0 found [] statements

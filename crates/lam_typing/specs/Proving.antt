@@ -12,8 +12,8 @@ use Rattle.lam_scope.specs.Places.{Scope, Place}
 use Rattle.lam_scope.specs.Sights.{inside_fields, place_of_term, behind_term}
 use Rattle.lam_typing.specs.Progress.{IsLowest, AreFieldsAt}
 use Rattle.lam_typing.specs.Seeing.{LeastAmong, Sees, SeesFields}
-use Rattle.lam_typing.specs.Typings.{found_of, noted_in, dialect_of}
-use Rattle.lam_typing.specs.declared.typing.Typing.{Typing}
+use Rattle.lam_typing.specs.Grounds.{found_in, noted_in, dialect_in}
+use Rattle.lam_typing.specs.declared.grounds.Grounds.{Grounds}
 use Rattle.lam_typing.specs.declared.proving.Proven.{Proven}
 use Rattle.lam_typing.specs.declared.proving.ProvenFields.{ProvenFields}
 
@@ -22,9 +22,9 @@ abbrev pub tree_in : Proven → TypingTree
 tree_in m = typing_tree_of m.proof
 
 -- The context is that of the least entries of the scope, and what was found of the places are their least types.
-pub record IsSetting (t : Typing) (all : List Place) (s : Scope) (g : Context) : Type 0 where
-  pub least : LeastAmong all (found_of t) (dialect_of t)
-  pub low : IsLowest s g (dialect_of t)
+pub record IsSetting (t : Grounds) (all : List Place) (s : Scope) (g : Context) : Type 0 where
+  pub least : LeastAmong all (found_in t) (dialect_in t)
+  pub low : IsLowest s g (dialect_in t)
 
 -- a proof exactly where a type was found, and of this very type
 abbrev pub ProvesFound : Option TypingTree → Option Typ → Context → Term → Dialect → Type 0
@@ -33,10 +33,10 @@ ProvesFound None None g e d = Unit {0}
 ProvesFound _ _ g e d = ⊥
 
 -- what is built for a term, whose places were analysed and end before this number: a proof exactly where a type was found of it, and of this very type
-abbrev pub IsProvenTerm : Typing → Term → ℕ → Option TypingTree → Type 0
+abbrev pub IsProvenTerm : Grounds → Term → ℕ → Option TypingTree → Type 0
 IsProvenTerm t e behind o =
-    (all : List Place) (k : ℕ) (s : Scope) (g : Context) → IsSetting t all s g → Sees all (found_of t) (noted_in t) k s g e → behind ≡ behind_term k e → behind ≤ length (found_of t)
-    → ProvesFound o (get_or (found_of t) (place_of_term k e) None) g e (dialect_of t)
+    (all : List Place) (k : ℕ) (s : Scope) (g : Context) → IsSetting t all s g → Sees all (found_in t) (noted_in t) k s g e → behind ≡ behind_term k e → behind ≤ length (found_in t)
+    → ProvesFound o (get_or (found_in t) (place_of_term k e) None) g e (dialect_in t)
 
 -- there is a proof, and it is of this type
 abbrev pub ProvesThis : Option TypingTree → Typ → Context → Term → Dialect → Type 0
@@ -44,10 +44,10 @@ ProvesThis (Some p) t g e d = ProvesTyping p g e t d
 ProvesThis None t g e d = ⊥
 
 -- what is built for a term at this place, of which this type was found: a proof of it
-abbrev pub IsProvenForm : Typing → Term → ℕ → Typ → Option TypingTree → Type 0
+abbrev pub IsProvenForm : Grounds → Term → ℕ → Typ → Option TypingTree → Type 0
 IsProvenForm t e place type o =
-    (all : List Place) (k : ℕ) (s : Scope) (g : Context) → IsSetting t all s g → Sees all (found_of t) (noted_in t) k s g e → place ≡ place_of_term k e → place < length (found_of t)
-    → get_or (found_of t) place None ≡ Some type → ProvesThis o type g e (dialect_of t)
+    (all : List Place) (k : ℕ) (s : Scope) (g : Context) → IsSetting t all s g → Sees all (found_in t) (noted_in t) k s g e → place ≡ place_of_term k e → place < length (found_in t)
+    → get_or (found_in t) place None ≡ Some type → ProvesThis o type g e (dialect_in t)
 
 -- a proof of this type, where the term has it
 abbrev pub ProvesWide : Option TypingTree → Typ → Context → Term → Dialect → Type 0
@@ -55,10 +55,10 @@ ProvesWide (Some p) t g e d = ProvesTyping p g e t d
 ProvesWide None t g e d = HasType g e t d → ⊥
 
 -- what is built for a term, whose places were analysed and end before this number: a proof that it has this type, or none where it has it not
-abbrev pub IsProvenAs : Typing → Term → ℕ → Typ → Option TypingTree → Type 0
+abbrev pub IsProvenAs : Grounds → Term → ℕ → Typ → Option TypingTree → Type 0
 IsProvenAs t e behind type o =
-    (all : List Place) (k : ℕ) (s : Scope) (g : Context) → IsSetting t all s g → Sees all (found_of t) (noted_in t) k s g e → behind ≡ behind_term k e → behind ≤ length (found_of t)
-    → ProvesWide o type g e (dialect_of t)
+    (all : List Place) (k : ℕ) (s : Scope) (g : Context) → IsSetting t all s g → Sees all (found_in t) (noted_in t) k s g e → behind ≡ behind_term k e → behind ≤ length (found_in t)
+    → ProvesWide o type g e (dialect_in t)
 
 -- what is proved by the tree has the wider type by the other, where its type is below that
 abbrev pub IsWidened : TypingTree → Typ → Option TypingTree → Dialect → Type 0
@@ -95,7 +95,7 @@ ProveFields (Some ps) s g es d = ByTypeRule TypeRule.Rcd None g (record_term es)
 ProveFields None s g es d = AreFieldsAt s es None d
 
 -- what is built for the terms of a record, whose places were analysed and end before this number: proofs where all of them have types
-abbrev pub AreProvenFields : Typing → TermFields → ℕ → Option FieldTrees → Type 0
+abbrev pub AreProvenFields : Grounds → TermFields → ℕ → Option FieldTrees → Type 0
 AreProvenFields t es behind o =
-    (all : List Place) (k : ℕ) (s : Scope) (g : Context) → IsSetting t all s g → SeesFields all (found_of t) (noted_in t) k s g es → behind ≡ k + inside_fields es → behind ≤ length (found_of t)
-    → ProveFields o s g es (dialect_of t)
+    (all : List Place) (k : ℕ) (s : Scope) (g : Context) → IsSetting t all s g → SeesFields all (found_in t) (noted_in t) k s g es → behind ≡ k + inside_fields es → behind ≤ length (found_in t)
+    → ProveFields o s g es (dialect_in t)

@@ -2,19 +2,15 @@
 use Rattle.std.specs.Prelude.{◌≡◌, ℕ, ◌+◌, List, [], length, map, take, get_or, Option, Some, None, Result, Ok, Err}
 use Rattle.lam_rules.specs.Types.{Typ}
 use Rattle.lam_rules.specs.Typing.{Context, TypingTree, type_in, IsTyping}
-use Rattle.lam_rules.specs.Numbers.{Keeps}
 use Rattle.lam_rules.specs.declared.rules.Dialect.{Dialect}
 use Rattle.lam_scope.specs.Places.{Place, Statement, places_of, place_numbered}
 use Rattle.lam_scope.specs.Sights.{sight_numbered}
 use Rattle.lam_scope.specs.WellFormed.{AreWellFormedStatements}
 use Rattle.lam_scope.specs.declared.numbers.Place.{Place as PlaceNumber}
 use Rattle.lam_scope.specs.declared.numbers.Origin.{Origin}
-use Rattle.lam_scope.specs.declared.numbers.Origin.TheVariants.{Lambda, Term as TermAt, Declaration, TypeName}
 use Rattle.lam_typing.specs.Blaming.{Blamed, AreBlamed}
 use Rattle.lam_typing.specs.Analysis.{AreLeast, AreSmall, IsFirstTooLarge}
-use Rattle.lam_typing.specs.Entries.{AreLeastEntries, declared_in, IsLeastFrom, HasTermAmong, entry_from}
-use Rattle.lam_typing.specs.Notes.{Noted, noted_by, notes_of}
-use Rattle.lam_typing.specs.Seeing.{note_among}
+use Rattle.lam_typing.specs.Entries.{AreLeastEntries, IsLeastFrom, HasTermAmong, entry_from}
 use Rattle.lam_typing.specs.Answers.{answers, AllStandIn}
 use Rattle.lam_typing.specs.Walk.{blames_of}
 use Rattle.lam_typing.specs.declared.fault.TypingFault.{TypingFault}
@@ -37,25 +33,6 @@ blamed_in t = blames_of t.blames.items
 -- the dialect that it was analysed in
 abbrev pub dialect_of : Typing → Dialect
 dialect_of t = t.dialect
-
--- what is noted of each place, in the order of places
-abbrev pub noted_in : Typing → List Noted
-noted_in t = noted_by t.table t.noted.items
-
--- the type that each statement declares, or none, in the order of statements
-abbrev pub declared_by : Typing → List (Option Typ)
-declared_by t = answers t.table t.declared.items
-
--- the entry of a binder that takes its type from there
-abbrev pub entry_by : Typing → Origin → Option Typ
-entry_by t (Lambda p) = (note_among (noted_in t) p.0).written
-entry_by t (TermAt p) = get_or (found_of t) p.0 None
-entry_by t (Declaration i) = get_or (declared_by t) i None
-entry_by t TypeName = None
-
--- the entry of each binder, by its number
-abbrev pub entries_in : Typing → List (Option Typ)
-entries_in t = map (entry_by t) t.origins.items
 
 -- these places and no others were analysed: each has its least type or none, of no more nodes than a place may show, and
 -- those to blame are told in their order
@@ -82,18 +59,15 @@ pub record Begins (w : Walk) (asked : Option PlaceNumber) : Type 0 where
   pub blames : w.blames.items ≡ []
   pub last : w.last ≡ asked
 
--- A typing is one of this document: its types were found of the first places of it, as many as there are, and its notes are of all of them.
+-- A typing is one of this document: its types were found of the first places of it, as many as there are.
 pub record IsTypingOf (ss : List Statement) (t : Typing) : Type 0 where
   pub wf : AreWellFormedStatements ss
   pub stand : AllStandIn t.table t.found.items
   pub least : AreLeast (take (length (found_of t)) (places_of [] ss)) (found_of t) (dialect_of t)
-  pub noted : noted_in t ≡ notes_of 0 (found_of t) [] ss
-  pub declared : declared_by t ≡ map declared_in ss
 
--- the entry of each binder is told by its origin, and is the least one, where the term that it may come from was analysed
-pub record AreEntries (ss : List Statement) (origins : List Origin) (t : Typing) : Type 0 where
-  pub each : entries_in t ≡ map (entry_from ss (found_of t)) origins
-  pub least : (o : Origin) → HasTermAmong o (length (found_of t)) → IsLeastFrom ss o (entry_from ss (found_of t) o) (dialect_of t)
+-- the entry that a binder takes from its origin is the least one, where the term that it may come from was analysed
+abbrev pub AreLeastFrom : List Statement → Typing → Type 0
+AreLeastFrom ss t = (o : Origin) → HasTermAmong o (length (found_of t)) → IsLeastFrom ss o (entry_from ss (found_of t) o) (dialect_of t)
 
 -- the entries of the binders that a place sees, the innermost first
 abbrev pub context_at : List Statement → Typing → ℕ → Context
@@ -105,19 +79,16 @@ pub record IsProofAt (ss : List Statement) (t : Typing) (n : ℕ) (p : TypingTre
   pub proof : IsTyping (context_at ss t n) (place_numbered ss n).here p (dialect_of t)
   pub type : get_or (found_of t) n None ≡ Some (type_in p)
 
--- what a walk found, with the notes of the document that it went over
-pub record Completes (w : Walk) (ss : List Statement) (origins : List Origin) (t : Typing) : Type 0 where
-  pub keeps : Keeps w.table t.table
+-- what a walk found
+pub record Completes (w : Walk) (t : Typing) : Type 0 where
+  pub table : t.table ≡ w.table
   pub found : t.found.items ≡ w.found.items
   pub blames : t.blames.items ≡ w.blames.items
-  pub noted : noted_in t ≡ notes_of 0 (answers w.table w.found.items) [] ss
-  pub declared : declared_by t ≡ map declared_in ss
-  pub origins_are : t.origins.items ≡ origins
   pub dialect : t.dialect ≡ w.verdicts.dialect
 
 -- what is answered where a walk stopped
-abbrev pub IsEndOf : Stop → Walk → List Statement → List Origin → Result Typing TypingFault → Type 0
-IsEndOf Stop.Enough w ss origins (Ok t) = Completes w ss origins t
-IsEndOf Stop.TooLarge w ss origins (Err (TypingFault.TooLarge place)) = place.0 ≡ length w.found.items
-IsEndOf stop w ss origins (Err TypingFault.Memory) = Unit {0}
-IsEndOf _ w ss origins r = ⊥
+abbrev pub IsEndOf : Stop → Walk → Result Typing TypingFault → Type 0
+IsEndOf Stop.Enough w (Ok t) = Completes w t
+IsEndOf Stop.TooLarge w (Err (TypingFault.TooLarge place)) = place.0 ≡ length w.found.items
+IsEndOf stop w (Err TypingFault.Memory) = Unit {0}
+IsEndOf _ w r = ⊥

@@ -1,15 +1,14 @@
-//! The analysis of a document: one walk over its places finds their types, a second notes which entries they speak of.
+//! The analysis of a document: one walk over its places finds their types.
 
 ghost use Rattle.std.specs.Prelude.{◌≡◌, ◌+◌, [], take, IfOk, IfErr};
 ghost use Rattle.lam_scope.specs.Places.{places_of};
-ghost use Rattle.lam_scope.specs.Views.{statements_of, origins_of};
+ghost use Rattle.lam_scope.specs.Views.{statements_of};
 ghost use Rattle.lam_scope.specs.WellFormed.{AreWellFormedStatements};
 ghost use Rattle.lam_typing.specs.Walk.{IsSoundWalk};
-ghost use Rattle.lam_typing.specs.Typings.{IsAnalysis, IsTypingOf, AreEntries, dialect_of, IsFaultOf, up_to, Begins, Completes, IsEndOf};
+ghost use Rattle.lam_typing.specs.Typings.{IsAnalysis, IsTypingOf, dialect_of, IsFaultOf, up_to, Begins, Completes, IsEndOf};
 ghost use Rattle.lam_typing.specs.declared.fault.TypingFault.TheVariants.{Memory};
 
 use crate::fault::TypingFault;
-use crate::noting::note_statements;
 use crate::typing::Typing;
 use crate::walking::{Leaves, Stop, Walk, walk_statements};
 use lam_rules::{Dialect, Shape, TyTable};
@@ -22,7 +21,6 @@ pub fn analyse(alloc: Global, resolved: &Resolved, dialect: Dialect) -> Result<T
     requires { AreWellFormedStatements (statements_of resolved.now) }
     ensures analysis { IfOk result (λ typing. IsAnalysis (places_of [] (statements_of resolved.now)) typing dialect) }
     ensures of { IfOk result (λ typing. IsTypingOf (statements_of resolved.now) typing) }
-    ensures entries { IfOk result (λ typing. AreEntries (statements_of resolved.now) (origins_of resolved.now) typing) }
     ensures dialect { IfOk result (λ typing. dialect_of typing ≡ dialect) }
     ensures fault { IfErr result (λ fault. IsFaultOf fault (places_of [] (statements_of resolved.now)) dialect) }
 {
@@ -39,7 +37,6 @@ pub fn analyse_to(
     requires { AreWellFormedStatements (statements_of resolved.now) }
     ensures analysis { IfOk result (λ typing. IsAnalysis (take (place.0 + 1) (places_of [] (statements_of resolved.now))) typing dialect) }
     ensures of { IfOk result (λ typing. IsTypingOf (statements_of resolved.now) typing) }
-    ensures entries { IfOk result (λ typing. AreEntries (statements_of resolved.now) (origins_of resolved.now) typing) }
     ensures dialect { IfOk result (λ typing. dialect_of typing ≡ dialect) }
     ensures fault { IfErr result (λ fault. IsFaultOf fault (take (place.0 + 1) (places_of [] (statements_of resolved.now))) dialect) }
 {
@@ -55,7 +52,6 @@ fn analyse_up_to(
     requires { AreWellFormedStatements (statements_of resolved.now) }
     ensures analysis { IfOk result (λ typing. IsAnalysis (up_to last (places_of [] (statements_of resolved.now))) typing dialect) }
     ensures of { IfOk result (λ typing. IsTypingOf (statements_of resolved.now) typing) }
-    ensures entries { IfOk result (λ typing. AreEntries (statements_of resolved.now) (origins_of resolved.now) typing) }
     ensures dialect { IfOk result (λ typing. dialect_of typing ≡ dialect) }
     ensures fault { IfErr result (λ fault. IsFaultOf fault (up_to last (places_of [] (statements_of resolved.now))) dialect) }
 {
@@ -63,62 +59,45 @@ fn analyse_up_to(
         return Err(TypingFault::Memory);
     };
     match walk_statements(&mut walk, resolved.statements()) {
-        Ok(()) => complete(alloc, walk, resolved),
-        Err(stop) => end(alloc, walk, stop, resolved),
+        Ok(()) => Ok(complete(walk)),
+        Err(stop) => end(walk, stop),
     }
 }
 
 /// What is known where a walk ended early: all that was asked for, or why not.
-fn end(alloc: Global, walk: Walk, stop: Stop, resolved: &Resolved) -> Result<Typing, TypingFault>
-    requires sound { IsSoundWalk walk }
-    requires wf { AreWellFormedStatements (statements_of resolved.now) }
-    ensures { IsEndOf stop walk (statements_of resolved.now) (origins_of resolved.now) result }
+fn end(walk: Walk, stop: Stop) -> Result<Typing, TypingFault>
+    requires { IsSoundWalk walk }
+    ensures { IsEndOf stop walk result }
 {
     match stop {
-        Stop::Enough => complete(alloc, walk, resolved),
+        Stop::Enough => Ok(complete(walk)),
         Stop::TooLarge => Err(TypingFault::TooLarge(Place(walk.found.len()))),
         Stop::Memory => Err(TypingFault::Memory),
     }
 }
 
-/// What a walk found, with the entries that the places speak of. What the walk held beside it is given back.
-fn complete(alloc: Global, walk: Walk, resolved: &Resolved) -> Result<Typing, TypingFault>
-    requires sound { IsSoundWalk walk }
-    requires wf { AreWellFormedStatements (statements_of resolved.now) }
-    ensures completes { IfOk result (λ typing. Completes walk (statements_of resolved.now) (origins_of resolved.now) typing) }
-    ensures fault { IfErr result (λ fault. fault ≡ Memory) }
+/// What a walk found. What it held beside that is given back.
+fn complete(walk: Walk) -> Typing
+    requires { IsSoundWalk walk }
+    ensures { Completes walk result }
 {
     let Walk {
-        mut table,
+        table,
         verdicts,
         leaves: _leaves,
-        entries,
+        entries: _entries,
         mut found,
         blames,
         last: _last,
     } = walk;
-    let dialect = verdicts.dialect;
-    // Memory is at its peak in the second pass. What the first one knew of types and its entries are of no use there, and
-    // up to half of a list that grew is spare.
-    drop(verdicts);
-    drop(entries);
+    // Up to half of a list that grew is spare.
     found.shrink_to_fit();
-    let Ok(notes) = note_statements(alloc, &mut table, &found, resolved.statements()) else {
-        return Err(TypingFault::Memory);
-    };
-    drop(notes.entries);
-    let Ok(origins) = resolved.origins().to_vec(alloc) else {
-        return Err(TypingFault::Memory);
-    };
-    Ok(Typing {
+    Typing {
         table,
         found,
         blames,
-        noted: notes.noted,
-        declared: notes.declared,
-        origins,
-        dialect,
-    })
+        dialect: verdicts.dialect,
+    }
 }
 
 /// A walk that has found nothing yet.

@@ -11,6 +11,7 @@
 mod analysing;
 mod blame;
 mod fault;
+mod grounds;
 mod laws;
 mod noting;
 mod proving;
@@ -22,6 +23,7 @@ mod walking;
 pub use analysing::{analyse, analyse_to};
 pub use blame::Blame;
 pub use fault::TypingFault;
+pub use grounds::Grounds;
 pub use laws::{
     blame_is_just, least_types_exist, least_types_have_one_text, narrowing, never_blamed,
     scopes_have_contexts, typed_where_unblamed,

@@ -13,11 +13,11 @@ ghost use Rattle.lam_rules.specs.TypingViews.{typing_tree_of, typings_of};
 ghost use Rattle.lam_scope.specs.Sights.{inside, inside_fields};
 ghost use Rattle.lam_typing.specs.Proving.{tree_in, trees_in, IsProvenTerm, IsProvenForm, IsProvenAs, IsWidened, IsLeafBy, IsNatBy, AreProvenFields};
 
-use crate::reading::{bound_at, found_at};
-use crate::typing::Typing;
+use crate::grounds::Grounds;
 use lam_rules::{
     Core, Dialect, Ty, TypeProof, TypeRule, copy_of, make_arrow, make_record, same, wf,
 };
+use lam_scope::Place;
 use lam_sub::{field_type, prove_sub};
 use std::alloc::{AllocError, Global};
 
@@ -40,20 +40,19 @@ struct ProvenFields {
 #[cycle(prove_term)]
 pub(crate) fn prove_term(
     alloc: Global,
-    typing: &Typing,
+    grounds: &Grounds<'_>,
     term: &Core,
     behind: usize,
 ) -> Result<Option<Proven>, AllocError>
     requires { inside (term_of term.now) < behind }
     ensures first { IfOk result (λ made. IfSome made (λ m. m.first + inside (term_of term.now) + 1 ≡ behind)) }
-    ensures proves { IfOk result (λ made. IsProvenTerm typing.now (term_of term.now) behind (option_map tree_in made)) }
+    ensures proves { IfOk result (λ made. IsProvenTerm grounds.now (term_of term.now) behind (option_map tree_in made)) }
 {
     let place = behind - 1;
-    let Some(number) = found_at(&typing.found, place) else {
+    let Some(ty) = grounds.typing.tree_at(Place(place))? else {
         return Ok(None);
     };
-    let ty = typing.table.tree(number)?;
-    prove_form(alloc, typing, term, place, &ty)
+    prove_form(alloc, grounds, term, place, &ty)
 }
 
 /// A proof of the type that was found of the term of a place, by the rule of its form.
@@ -61,72 +60,87 @@ pub(crate) fn prove_term(
 #[tactic(auto, using(lam_rules::proofs::TermShapes::term_shapes))]
 fn prove_form(
     alloc: Global,
-    typing: &Typing,
+    grounds: &Grounds<'_>,
     term: &Core,
     place: usize,
     ty: &Ty,
 ) -> Result<Option<Proven>, AllocError>
     requires { inside (term_of term.now) ≤ place }
     ensures first { IfOk result (λ made. IfSome made (λ m. m.first + inside (term_of term.now) ≡ place)) }
-    ensures proves { IfOk result (λ made. IsProvenForm typing.now (term_of term.now) place (typ_of ty.now) (option_map tree_in made)) }
+    ensures proves { IfOk result (λ made. IsProvenForm grounds.now (term_of term.now) place (typ_of ty.now) (option_map tree_in made)) }
 {
     match term {
-        Core::True => prove_leaf(alloc, typing, TypeRule::True, Ty::Bool, place, ty),
-        Core::False => prove_leaf(alloc, typing, TypeRule::False, Ty::Bool, place, ty),
-        Core::If(parts) => prove_if(alloc, typing, &parts.0, &parts.1, &parts.2, place, ty),
-        Core::Num(_) => prove_leaf(alloc, typing, TypeRule::Num, Ty::Nat, place, ty),
+        Core::True => prove_leaf(alloc, grounds, TypeRule::True, Ty::Bool, place, ty),
+        Core::False => prove_leaf(alloc, grounds, TypeRule::False, Ty::Bool, place, ty),
+        Core::If(parts) => prove_if(alloc, grounds, &parts.0, &parts.1, &parts.2, place, ty),
+        Core::Num(_) => prove_leaf(alloc, grounds, TypeRule::Num, Ty::Nat, place, ty),
         Core::Succ(number) => {
-            prove_number(alloc, typing, TypeRule::Succ, number, Ty::Nat, place, ty)
+            prove_number(alloc, grounds, TypeRule::Succ, number, Ty::Nat, place, ty)
         }
         Core::Pred(number) => {
-            prove_number(alloc, typing, TypeRule::Pred, number, Ty::Nat, place, ty)
+            prove_number(alloc, grounds, TypeRule::Pred, number, Ty::Nat, place, ty)
         }
         Core::IsZero(number) => {
-            prove_number(alloc, typing, TypeRule::IsZero, number, Ty::Bool, place, ty)
+            prove_number(
+                alloc,
+                grounds,
+                TypeRule::IsZero,
+                number,
+                Ty::Bool,
+                place,
+                ty,
+            )
         }
-        Core::Var(_) => prove_variable(alloc, typing, place, ty),
+        Core::Var(_) => prove_variable(alloc, grounds, place, ty),
         Core::Free(_) => Ok(None),
-        Core::Abs(parts) => prove_lambda(alloc, typing, &parts.0, &parts.1, place, ty),
-        Core::App(parts) => prove_apply(alloc, typing, &parts.0, &parts.1, place, ty),
-        Core::Unit => prove_leaf(alloc, typing, TypeRule::Unit, Ty::Unit, place, ty),
-        Core::Ascribe(parts) => prove_ascribe(alloc, typing, &parts.0, &parts.1, place, ty),
-        Core::Let(parts) => prove_let(alloc, typing, &parts.0, &parts.1, place, ty),
-        Core::Record(fields) => prove_record(alloc, typing, fields, place, ty),
-        Core::Proj(parts) => prove_project(alloc, typing, &parts.0, &parts.1, place, ty),
-        Core::Fix(operand) => prove_fix(alloc, typing, operand, place, ty),
+        Core::Abs(parts) => prove_lambda(alloc, grounds, &parts.0, &parts.1, place, ty),
+        Core::App(parts) => prove_apply(alloc, grounds, &parts.0, &parts.1, place, ty),
+        Core::Unit => prove_leaf(alloc, grounds, TypeRule::Unit, Ty::Unit, place, ty),
+        Core::Ascribe(parts) => prove_ascribe(alloc, grounds, &parts.0, &parts.1, place, ty),
+        Core::Let(parts) => prove_let(alloc, grounds, &parts.0, &parts.1, place, ty),
+        Core::Record(fields) => prove_record(alloc, grounds, fields, place, ty),
+        Core::Proj(parts) => prove_project(alloc, grounds, &parts.0, &parts.1, place, ty),
+        Core::Fix(operand) => prove_fix(alloc, grounds, operand, place, ty),
     }
 }
 
 /// Constants and numerals.
 fn prove_leaf(
     alloc: Global,
-    typing: &Typing,
+    grounds: &Grounds<'_>,
     rule: TypeRule,
     conclusion: Ty,
     place: usize,
     ty: &Ty,
 ) -> Result<Option<Proven>, AllocError>
     ensures first { IfOk result (λ made. IfSome made (λ m. m.first ≡ place)) }
-    ensures proves { IfOk result (λ made. (e : Term) → IsLeafBy rule e (typ_of conclusion) → IsProvenForm typing.now e place (typ_of ty.now) (option_map tree_in made)) }
+    ensures proves { IfOk result (λ made. (e : Term) → IsLeafBy rule e (typ_of conclusion) → IsProvenForm grounds.now e place (typ_of ty.now) (option_map tree_in made)) }
 {
     let premises = Vec::new(alloc);
-    finish(alloc, rule, conclusion, premises, ty, place, typing.dialect)
+    finish(
+        alloc,
+        rule,
+        conclusion,
+        premises,
+        ty,
+        place,
+        grounds.typing.dialect,
+    )
 }
 
 /// A variable has the entry of its binder.
 fn prove_variable(
     alloc: Global,
-    typing: &Typing,
+    grounds: &Grounds<'_>,
     place: usize,
     ty: &Ty,
 ) -> Result<Option<Proven>, AllocError>
     ensures first { IfOk result (λ made. IfSome made (λ m. m.first ≡ place)) }
-    ensures proves { IfOk result (λ made. (count : ℕ) → IsProvenForm typing.now (variable count) place (typ_of ty.now) (option_map tree_in made)) }
+    ensures proves { IfOk result (λ made. (count : ℕ) → IsProvenForm grounds.now (variable count) place (typ_of ty.now) (option_map tree_in made)) }
 {
-    let Some(number) = bound_at(&typing.noted, place) else {
+    let Some(entry) = grounds.entry_counted(alloc, place)? else {
         return Ok(None);
     };
-    let entry = typing.table.tree(number)?;
     let premises = Vec::new(alloc);
     finish(
         alloc,
@@ -135,7 +149,7 @@ fn prove_variable(
         premises,
         ty,
         place,
-        typing.dialect,
+        grounds.typing.dialect,
     )
 }
 
@@ -143,7 +157,7 @@ fn prove_variable(
 #[cycle(prove_term)]
 fn prove_number(
     alloc: Global,
-    typing: &Typing,
+    grounds: &Grounds<'_>,
     rule: TypeRule,
     operand: &Core,
     conclusion: Ty,
@@ -152,21 +166,29 @@ fn prove_number(
 ) -> Result<Option<Proven>, AllocError>
     requires { inside (term_of operand.now) < place }
     ensures first { IfOk result (λ made. IfSome made (λ m. m.first + (inside (term_of operand.now) + 1) ≡ place)) }
-    ensures proves { IfOk result (λ made. (e : Term) → IsNatBy rule e (term_of operand.now) (typ_of conclusion) → IsProvenForm typing.now e place (typ_of ty.now) (option_map tree_in made)) }
+    ensures proves { IfOk result (λ made. (e : Term) → IsNatBy rule e (term_of operand.now) (typ_of conclusion) → IsProvenForm grounds.now e place (typ_of ty.now) (option_map tree_in made)) }
 {
-    let Some(made) = prove_as(alloc, typing, operand, place, &Ty::Nat)? else {
+    let Some(made) = prove_as(alloc, grounds, operand, place, &Ty::Nat)? else {
         return Ok(None);
     };
     let Proven { proof, first } = made;
     let premises = vec![in alloc; proof]?;
-    finish(alloc, rule, conclusion, premises, ty, first, typing.dialect)
+    finish(
+        alloc,
+        rule,
+        conclusion,
+        premises,
+        ty,
+        first,
+        grounds.typing.dialect,
+    )
 }
 
 /// T-If: both branches are made as wide as the whole.
 #[cycle(prove_term)]
 fn prove_if(
     alloc: Global,
-    typing: &Typing,
+    grounds: &Grounds<'_>,
     condition: &Core,
     then_term: &Core,
     else_term: &Core,
@@ -175,15 +197,15 @@ fn prove_if(
 ) -> Result<Option<Proven>, AllocError>
     requires { inside (if_then_else (term_of condition.now) (term_of then_term.now) (term_of else_term.now)) ≤ place }
     ensures first { IfOk result (λ made. IfSome made (λ m. m.first + inside (if_then_else (term_of condition.now) (term_of then_term.now) (term_of else_term.now)) ≡ place)) }
-    ensures proves { IfOk result (λ made. IsProvenForm typing.now (if_then_else (term_of condition.now) (term_of then_term.now) (term_of else_term.now)) place (typ_of ty.now) (option_map tree_in made)) }
+    ensures proves { IfOk result (λ made. IsProvenForm grounds.now (if_then_else (term_of condition.now) (term_of then_term.now) (term_of else_term.now)) place (typ_of ty.now) (option_map tree_in made)) }
 {
-    let Some(third) = prove_as(alloc, typing, else_term, place, ty)? else {
+    let Some(third) = prove_as(alloc, grounds, else_term, place, ty)? else {
         return Ok(None);
     };
-    let Some(second) = prove_as(alloc, typing, then_term, third.first, ty)? else {
+    let Some(second) = prove_as(alloc, grounds, then_term, third.first, ty)? else {
         return Ok(None);
     };
-    let Some(first) = prove_as(alloc, typing, condition, second.first, &Ty::Bool)? else {
+    let Some(first) = prove_as(alloc, grounds, condition, second.first, &Ty::Bool)? else {
         return Ok(None);
     };
     let conclusion = copy_of(alloc, ty)?;
@@ -196,7 +218,7 @@ fn prove_if(
         premises,
         ty,
         first,
-        typing.dialect,
+        grounds.typing.dialect,
     )
 }
 
@@ -204,7 +226,7 @@ fn prove_if(
 #[cycle(prove_term)]
 fn prove_lambda(
     alloc: Global,
-    typing: &Typing,
+    grounds: &Grounds<'_>,
     written: &Option<Ty>,
     body: &Core,
     place: usize,
@@ -212,12 +234,12 @@ fn prove_lambda(
 ) -> Result<Option<Proven>, AllocError>
     requires { inside (term_of body.now) < place }
     ensures first { IfOk result (λ made. IfSome made (λ m. m.first + (inside (term_of body.now) + 1) ≡ place)) }
-    ensures proves { IfOk result (λ made. IsProvenForm typing.now (lambda (written_of written.now) (term_of body.now)) place (typ_of ty.now) (option_map tree_in made)) }
+    ensures proves { IfOk result (λ made. IsProvenForm grounds.now (lambda (written_of written.now) (term_of body.now)) place (typ_of ty.now) (option_map tree_in made)) }
 {
     let Some(parameter) = written else {
         return Ok(None);
     };
-    let Some(made) = prove_term(alloc, typing, body, place)? else {
+    let Some(made) = prove_term(alloc, grounds, body, place)? else {
         return Ok(None);
     };
     let Proven { proof, first } = made;
@@ -232,7 +254,7 @@ fn prove_lambda(
         premises,
         ty,
         first,
-        typing.dialect,
+        grounds.typing.dialect,
     )
 }
 
@@ -240,7 +262,7 @@ fn prove_lambda(
 #[cycle(prove_term)]
 fn prove_apply(
     alloc: Global,
-    typing: &Typing,
+    grounds: &Grounds<'_>,
     function: &Core,
     argument: &Core,
     place: usize,
@@ -248,19 +270,19 @@ fn prove_apply(
 ) -> Result<Option<Proven>, AllocError>
     requires { inside (apply (term_of function.now) (term_of argument.now)) ≤ place }
     ensures first { IfOk result (λ made. IfSome made (λ m. m.first + inside (apply (term_of function.now) (term_of argument.now)) ≡ place)) }
-    ensures proves { IfOk result (λ made. IsProvenForm typing.now (apply (term_of function.now) (term_of argument.now)) place (typ_of ty.now) (option_map tree_in made)) }
+    ensures proves { IfOk result (λ made. IsProvenForm grounds.now (apply (term_of function.now) (term_of argument.now)) place (typ_of ty.now) (option_map tree_in made)) }
 {
-    let Some(second) = prove_term(alloc, typing, argument, place)? else {
+    let Some(second) = prove_term(alloc, grounds, argument, place)? else {
         return Ok(None);
     };
-    let Some(made) = prove_term(alloc, typing, function, second.first)? else {
+    let Some(made) = prove_term(alloc, grounds, function, second.first)? else {
         return Ok(None);
     };
     let Proven { proof, first } = made;
     let Ty::Arrow(parameter, outcome) = &proof.ty else {
         return Ok(None);
     };
-    let Some(operand) = widened(alloc, second.proof, parameter, typing.dialect)? else {
+    let Some(operand) = widened(alloc, second.proof, parameter, grounds.typing.dialect)? else {
         return Ok(None);
     };
     let conclusion = copy_of(alloc, outcome)?;
@@ -272,7 +294,7 @@ fn prove_apply(
         premises,
         ty,
         first,
-        typing.dialect,
+        grounds.typing.dialect,
     )
 }
 
@@ -280,7 +302,7 @@ fn prove_apply(
 #[cycle(prove_term)]
 fn prove_ascribe(
     alloc: Global,
-    typing: &Typing,
+    grounds: &Grounds<'_>,
     operand: &Core,
     written: &Option<Ty>,
     place: usize,
@@ -288,12 +310,12 @@ fn prove_ascribe(
 ) -> Result<Option<Proven>, AllocError>
     requires { inside (term_of operand.now) < place }
     ensures first { IfOk result (λ made. IfSome made (λ m. m.first + (inside (term_of operand.now) + 1) ≡ place)) }
-    ensures proves { IfOk result (λ made. IsProvenForm typing.now (ascribe (term_of operand.now) (written_of written.now)) place (typ_of ty.now) (option_map tree_in made)) }
+    ensures proves { IfOk result (λ made. IsProvenForm grounds.now (ascribe (term_of operand.now) (written_of written.now)) place (typ_of ty.now) (option_map tree_in made)) }
 {
     let Some(wanted) = written else {
         return Ok(None);
     };
-    let Some(made) = prove_as(alloc, typing, operand, place, wanted)? else {
+    let Some(made) = prove_as(alloc, grounds, operand, place, wanted)? else {
         return Ok(None);
     };
     let Proven { proof, first } = made;
@@ -306,7 +328,7 @@ fn prove_ascribe(
         premises,
         ty,
         first,
-        typing.dialect,
+        grounds.typing.dialect,
     )
 }
 
@@ -314,7 +336,7 @@ fn prove_ascribe(
 #[cycle(prove_term)]
 fn prove_let(
     alloc: Global,
-    typing: &Typing,
+    grounds: &Grounds<'_>,
     bound: &Core,
     body: &Core,
     place: usize,
@@ -322,12 +344,12 @@ fn prove_let(
 ) -> Result<Option<Proven>, AllocError>
     requires { inside (let_in (term_of bound.now) (term_of body.now)) ≤ place }
     ensures first { IfOk result (λ made. IfSome made (λ m. m.first + inside (let_in (term_of bound.now) (term_of body.now)) ≡ place)) }
-    ensures proves { IfOk result (λ made. IsProvenForm typing.now (let_in (term_of bound.now) (term_of body.now)) place (typ_of ty.now) (option_map tree_in made)) }
+    ensures proves { IfOk result (λ made. IsProvenForm grounds.now (let_in (term_of bound.now) (term_of body.now)) place (typ_of ty.now) (option_map tree_in made)) }
 {
-    let Some(second) = prove_term(alloc, typing, body, place)? else {
+    let Some(second) = prove_term(alloc, grounds, body, place)? else {
         return Ok(None);
     };
-    let Some(made) = prove_term(alloc, typing, bound, second.first)? else {
+    let Some(made) = prove_term(alloc, grounds, bound, second.first)? else {
         return Ok(None);
     };
     let Proven { proof, first } = made;
@@ -340,7 +362,7 @@ fn prove_let(
         premises,
         ty,
         first,
-        typing.dialect,
+        grounds.typing.dialect,
     )
 }
 
@@ -348,16 +370,16 @@ fn prove_let(
 #[cycle(prove_term)]
 fn prove_record(
     alloc: Global,
-    typing: &Typing,
+    grounds: &Grounds<'_>,
     fields: &[(String, Core)],
     place: usize,
     ty: &Ty,
 ) -> Result<Option<Proven>, AllocError>
     requires { inside_fields (terms_of fields.now) ≤ place }
     ensures first { IfOk result (λ made. IfSome made (λ m. m.first + inside_fields (terms_of fields.now) ≡ place)) }
-    ensures proves { IfOk result (λ made. IsProvenForm typing.now (record_term (terms_of fields.now)) place (typ_of ty.now) (option_map tree_in made)) }
+    ensures proves { IfOk result (λ made. IsProvenForm grounds.now (record_term (terms_of fields.now)) place (typ_of ty.now) (option_map tree_in made)) }
 {
-    let Some(made) = prove_fields(alloc, typing, fields, place)? else {
+    let Some(made) = prove_fields(alloc, grounds, fields, place)? else {
         return Ok(None);
     };
     let ProvenFields {
@@ -374,7 +396,7 @@ fn prove_record(
         proofs,
         ty,
         first,
-        typing.dialect,
+        grounds.typing.dialect,
     )
 }
 
@@ -382,13 +404,13 @@ fn prove_record(
 #[cycle(prove_term)]
 fn prove_fields(
     alloc: Global,
-    typing: &Typing,
+    grounds: &Grounds<'_>,
     fields: &[(String, Core)],
     behind: usize,
 ) -> Result<Option<ProvenFields>, AllocError>
     requires { inside_fields (terms_of fields.now) ≤ behind }
     ensures first { IfOk result (λ made. IfSome made (λ m. m.first + inside_fields (terms_of fields.now) ≡ behind)) }
-    ensures proves { IfOk result (λ made. AreProvenFields typing.now (terms_of fields.now) behind (option_map trees_in made)) }
+    ensures proves { IfOk result (λ made. AreProvenFields grounds.now (terms_of fields.now) behind (option_map trees_in made)) }
 {
     let Some((field, others)) = fields.split_first() else {
         return Ok(Some(ProvenFields {
@@ -397,7 +419,7 @@ fn prove_fields(
             first: behind,
         }));
     };
-    let Some(made) = prove_fields(alloc, typing, others, behind)? else {
+    let Some(made) = prove_fields(alloc, grounds, others, behind)? else {
         return Ok(None);
     };
     let ProvenFields {
@@ -405,7 +427,7 @@ fn prove_fields(
         mut types,
         first,
     } = made;
-    let Some(own) = prove_term(alloc, typing, &field.1, first)? else {
+    let Some(own) = prove_term(alloc, grounds, &field.1, first)? else {
         return Ok(None);
     };
     let Proven { proof, first } = own;
@@ -424,7 +446,7 @@ fn prove_fields(
 #[cycle(prove_term)]
 fn prove_project(
     alloc: Global,
-    typing: &Typing,
+    grounds: &Grounds<'_>,
     operand: &Core,
     label: &str,
     place: usize,
@@ -432,9 +454,9 @@ fn prove_project(
 ) -> Result<Option<Proven>, AllocError>
     requires { inside (term_of operand.now) < place }
     ensures first { IfOk result (λ made. IfSome made (λ m. m.first + (inside (term_of operand.now) + 1) ≡ place)) }
-    ensures proves { IfOk result (λ made. IsProvenForm typing.now (project (term_of operand.now) label.now) place (typ_of ty.now) (option_map tree_in made)) }
+    ensures proves { IfOk result (λ made. IsProvenForm grounds.now (project (term_of operand.now) label.now) place (typ_of ty.now) (option_map tree_in made)) }
 {
-    let Some(made) = prove_term(alloc, typing, operand, place)? else {
+    let Some(made) = prove_term(alloc, grounds, operand, place)? else {
         return Ok(None);
     };
     let Proven { proof, first } = made;
@@ -453,7 +475,7 @@ fn prove_project(
         premises,
         ty,
         first,
-        typing.dialect,
+        grounds.typing.dialect,
     )
 }
 
@@ -461,19 +483,19 @@ fn prove_project(
 #[cycle(prove_term)]
 fn prove_fix(
     alloc: Global,
-    typing: &Typing,
+    grounds: &Grounds<'_>,
     operand: &Core,
     place: usize,
     ty: &Ty,
 ) -> Result<Option<Proven>, AllocError>
     requires { inside (term_of operand.now) < place }
     ensures first { IfOk result (λ made. IfSome made (λ m. m.first + (inside (term_of operand.now) + 1) ≡ place)) }
-    ensures proves { IfOk result (λ made. IsProvenForm typing.now (fix (term_of operand.now)) place (typ_of ty.now) (option_map tree_in made)) }
+    ensures proves { IfOk result (λ made. IsProvenForm grounds.now (fix (term_of operand.now)) place (typ_of ty.now) (option_map tree_in made)) }
 {
     let parameter = copy_of(alloc, ty)?;
     let outcome = copy_of(alloc, ty)?;
     let wanted = make_arrow(alloc, parameter, outcome)?;
-    let Some(made) = prove_as(alloc, typing, operand, place, &wanted)? else {
+    let Some(made) = prove_as(alloc, grounds, operand, place, &wanted)? else {
         return Ok(None);
     };
     let Proven { proof, first } = made;
@@ -486,7 +508,7 @@ fn prove_fix(
         premises,
         ty,
         first,
-        typing.dialect,
+        grounds.typing.dialect,
     )
 }
 
@@ -494,20 +516,20 @@ fn prove_fix(
 #[cycle(prove_term)]
 fn prove_as(
     alloc: Global,
-    typing: &Typing,
+    grounds: &Grounds<'_>,
     term: &Core,
     behind: usize,
     wanted: &Ty,
 ) -> Result<Option<Proven>, AllocError>
     requires { inside (term_of term.now) < behind }
     ensures first { IfOk result (λ made. IfSome made (λ m. m.first + inside (term_of term.now) + 1 ≡ behind)) }
-    ensures proves { IfOk result (λ made. IsProvenAs typing.now (term_of term.now) behind (typ_of wanted.now) (option_map tree_in made)) }
+    ensures proves { IfOk result (λ made. IsProvenAs grounds.now (term_of term.now) behind (typ_of wanted.now) (option_map tree_in made)) }
 {
-    let Some(made) = prove_term(alloc, typing, term, behind)? else {
+    let Some(made) = prove_term(alloc, grounds, term, behind)? else {
         return Ok(None);
     };
     let Proven { proof, first } = made;
-    let Some(proof) = widened(alloc, proof, wanted, typing.dialect)? else {
+    let Some(proof) = widened(alloc, proof, wanted, grounds.typing.dialect)? else {
         return Ok(None);
     };
     Ok(Some(Proven { proof, first }))

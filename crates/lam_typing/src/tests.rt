@@ -4,7 +4,7 @@ ghost use Rattle.lam_scope.specs.Views.{statements_of};
 ghost use Rattle.lam_scope.specs.WellFormed.{AreWellFormedStatements};
 ghost use Rattle.lam_typing.specs.Typings.{IsTypingOf};
 
-use crate::{Typing, TypingFault, analyse, analyse_to};
+use crate::{Grounds, Typing, TypingFault, analyse, analyse_to};
 use Dialect::{One, Two};
 use lam_rules::{Dialect, Ty, check_type, text_of};
 use lam_scope::{Binder, Place, Resolved, Scopes, Statement, bind, resolve};
@@ -246,15 +246,16 @@ fn the_first_type_that_is_too_large_is_refused(rt: HostRuntime) -> Result<(), Fa
 }
 
 /// The entries of the binders that a place sees, the outermost first.
-fn context_of(alloc: Global, found: &Analysis, place: Place) -> Result<Vec<Option<Ty>>, Fail> {
+fn context_of(
+    alloc: Global,
+    found: &Analysis,
+    grounds: &Grounds<'_>,
+    place: Place,
+) -> Result<Vec<Option<Ty>>, Fail> {
     let binders = found.scopes.visible_at(alloc, place)?;
     let mut context = Vec::new(alloc);
     for binder in &binders {
-        let entry = match found.typing.type_of_binder(*binder) {
-            Some(number) => Some(found.typing.table().tree(number)?),
-            None => None,
-        };
-        context.push(entry)?;
+        context.push(grounds.entry_of(alloc, *binder)?)?;
     }
     Ok(context)
 }
@@ -279,10 +280,11 @@ fn proved_type(
 ) -> Result<Option<String>, Fail> {
     let found = analysed(rt, alloc, text, dialect)?;
     let place = last_place(&found.scopes);
-    let Some(proof) = found.typing.prove_at(alloc, &found.resolved, place)? else {
+    let grounds = found.typing.grounds(alloc, &found.resolved)?;
+    let Some(proof) = grounds.prove_at(alloc, place)? else {
         return Ok(None);
     };
-    let context = context_of(alloc, &found, place)?;
+    let context = context_of(alloc, &found, &grounds, place)?;
     let Some(Statement::Evaluation(term)) = found.resolved.statements().last() else {
         return Ok(None);
     };
@@ -341,11 +343,12 @@ fn each_binder_has_its_least_entry(rt: HostRuntime) -> Result<(), Fail> {
         None,
         None,
     ];
-    let found = analysed(&rt, rt.alloc(), text, One)?;
-    let typing = &found.typing;
+    let alloc = rt.alloc();
+    let found = analysed(&rt, alloc, text, One)?;
+    let grounds = found.typing.grounds(alloc, &found.resolved)?;
     for number in 0..expected.len() {
-        let shown = match typing.type_of_binder(Binder(number)) {
-            Some(entry) => Some(typing.table().text(entry)?),
+        let shown = match grounds.entry_of(alloc, Binder(number))? {
+            Some(entry) => Some(text_of(alloc, &entry)?),
             None => None,
         };
         assert_eq!(rt; shown.as_deref(), expected[number], "binder {number}");
@@ -391,7 +394,8 @@ fn the_deepest_commands_are_analysed_and_proved(rt: HostRuntime) -> Result<(), F
         let found = analysed(&rt, alloc, text, One)?;
         if let Some(place) = last {
             let place = Place(*place);
-            let proof = found.typing.prove_at(alloc, &found.resolved, place)?;
+            let grounds = found.typing.grounds(alloc, &found.resolved)?;
+            let proof = grounds.prove_at(alloc, place)?;
             assert!(rt; proof.is_some(), "{place:?}");
         }
     }

@@ -14,59 +14,59 @@ use Rattle.lam_typing.specs.Proving.{tree_in, trees_in, IsProvenAs}
 use Rattle.lam_typing.proofs.Sizes.{size_of, size_of_fields}
 use Rattle.lam_typing.proofs.NotedParts.{ok_map}
 use Rattle.lam_typing.proofs.BuiltProofs.{free_none, as_wide, as_none, number_form, number_none, if_form, if_none_else, if_none_then, if_none_condition, lambda_form, lambda_none, faulty_lambda_none, apply_form, apply_none_argument, apply_none_function, apply_no_arrow, apply_not_below, ascribe_form, ascribe_none, faulty_ascribe_none, let_form, let_none_body, let_none_bound, record_form, record_none, no_fields_form, more_fields_form, more_fields_none, first_field_none, project_form, project_none, project_no_record, project_no_field, fix_form, fix_none}
-use Rattle.lam_typing.proofs.BuiltSteps.{no_terms_of, trees_pushed, types_pushed, step_as, some_holds, some_term, none_term, some_as, none_as, some_fields, none_fields, some_wide, none_wide, found_type, found_none, term_of_form, term_none, arrow_in, no_arrow_in, record_in, no_record_in}
+use Rattle.lam_typing.proofs.BuiltSteps.{no_terms_of, trees_pushed, types_pushed, step_as, some_holds, some_term, none_term, some_as, none_as, some_fields, none_fields, some_wide, none_wide, term_of_form, term_none, arrow_in, no_arrow_in, record_in, no_record_in}
 use Rattle.lam_typing.proofs.proving.+prove_term.Goals as goal
 
 pub prove_apply-returns-in_default-clause-proves : goal.prove_apply-returns-in_default-clause-proves
 prove_apply-returns-in_default-clause-proves t c =
-    apply_none_argument c.args.typing.now (term_of c.args.function.now) (term_of c.args.argument.now) c.args.place (typ_of c.args.ty.now) (none_term c.args.typing.now (term_of c.args.argument.now) c.args.place c.in_ok-second.field-0 c.in_default.is c.in_ok-second.ensures.proves)
+    apply_none_argument c.args.grounds.now (term_of c.args.function.now) (term_of c.args.argument.now) c.args.place (typ_of c.args.ty.now) (none_term c.args.grounds.now (term_of c.args.argument.now) c.args.place c.in_ok-second.field-0 c.in_default.is c.in_ok-second.ensures.proves)
 
 pub prove_apply-returns-in_default-2-clause-proves : goal.prove_apply-returns-in_default-2-clause-proves
 prove_apply-returns-in_default-2-clause-proves t c =
-    apply_none_function c.args.typing.now (term_of c.args.function.now) (term_of c.args.argument.now) c.args.place c.in-Some.second.first (typ_of c.args.ty.now) (some_holds c.in_ok-second.field-0 c.in-Some.second _ c.in-Some.is c.in_ok-second.ensures.first) (none_term c.args.typing.now (term_of c.args.function.now) c.in-Some.second.first c.in_ok-made.field-0 c.in_default-2.is c.in_ok-made.ensures.proves)
+    apply_none_function c.args.grounds.now (term_of c.args.function.now) (term_of c.args.argument.now) c.args.place c.in-Some.second.first (typ_of c.args.ty.now) (some_holds c.in_ok-second.field-0 c.in-Some.second _ c.in-Some.is c.in_ok-second.ensures.first) (none_term c.args.grounds.now (term_of c.args.function.now) c.in-Some.second.first c.in_ok-made.field-0 c.in_default-2.is c.in_ok-made.ensures.proves)
 
 pub prove_apply-returns-in_default-ty : goal.prove_apply-returns-in_default-ty
 prove_apply-returns-in_default-ty t c =
-    record { first = tt; proves = apply_no_arrow c.args.typing.now (term_of c.args.function.now) (term_of c.args.argument.now) c.args.place c.in-Some.second.first (typ_of c.args.ty.now) (tree_in c.in-Some-2.made) (some_holds c.in_ok-second.field-0 c.in-Some.second _ c.in-Some.is c.in_ok-second.ensures.first) (some_term c.args.typing.now (term_of c.args.function.now) c.in-Some.second.first c.in_ok-made.field-0 c.in-Some-2.made c.in-Some-2.is c.in_ok-made.ensures.proves) (no_arrow_in c.in-Some-2.made c.in_default-ty.not-Arrow) }
+    record { first = tt; proves = apply_no_arrow c.args.grounds.now (term_of c.args.function.now) (term_of c.args.argument.now) c.args.place c.in-Some.second.first (typ_of c.args.ty.now) (tree_in c.in-Some-2.made) (some_holds c.in_ok-second.field-0 c.in-Some.second _ c.in-Some.is c.in_ok-second.ensures.first) (some_term c.args.grounds.now (term_of c.args.function.now) c.in-Some.second.first c.in_ok-made.field-0 c.in-Some-2.made c.in-Some-2.is c.in_ok-made.ensures.proves) (no_arrow_in c.in-Some-2.made c.in_default-ty.not-Arrow) }
 
 pub prove_apply-returns-in_default-3-clause-proves : goal.prove_apply-returns-in_default-3-clause-proves
 prove_apply-returns-in_default-3-clause-proves t c =
-    apply_not_below c.args.typing.now (term_of c.args.function.now) (term_of c.args.argument.now) c.args.place c.in-Some.second.first (typ_of c.in-Arrow.parameter.value) (typ_of c.in-Arrow.outcome.value) (typ_of c.args.ty.now) (tree_in c.in-Some-2.made) (tree_in c.in-Some.second) (some_holds c.in_ok-second.field-0 c.in-Some.second _ c.in-Some.is c.in_ok-second.ensures.first) (some_term c.args.typing.now (term_of c.args.argument.now) c.args.place c.in_ok-second.field-0 c.in-Some.second c.in-Some.is c.in_ok-second.ensures.proves) (some_term c.args.typing.now (term_of c.args.function.now) c.in-Some.second.first c.in_ok-made.field-0 c.in-Some-2.made c.in-Some-2.is c.in_ok-made.ensures.proves) (arrow_in c.in-Some-2.made c.in-Arrow.parameter c.in-Arrow.outcome c.in-Arrow.is) (none_wide (typing_tree_of c.in-Some.second.proof) (typ_of c.in-Arrow.parameter.value) c.in_ok-operand.field-0 c.args.typing.now.dialect c.in_default-3.is (rw c.deref.ensures at c.in_ok-operand.ensures))
+    apply_not_below c.args.grounds.now (term_of c.args.function.now) (term_of c.args.argument.now) c.args.place c.in-Some.second.first (typ_of c.in-Arrow.parameter.value) (typ_of c.in-Arrow.outcome.value) (typ_of c.args.ty.now) (tree_in c.in-Some-2.made) (tree_in c.in-Some.second) (some_holds c.in_ok-second.field-0 c.in-Some.second _ c.in-Some.is c.in_ok-second.ensures.first) (some_term c.args.grounds.now (term_of c.args.argument.now) c.args.place c.in_ok-second.field-0 c.in-Some.second c.in-Some.is c.in_ok-second.ensures.proves) (some_term c.args.grounds.now (term_of c.args.function.now) c.in-Some.second.first c.in_ok-made.field-0 c.in-Some-2.made c.in-Some-2.is c.in_ok-made.ensures.proves) (arrow_in c.in-Some-2.made c.in-Arrow.parameter c.in-Arrow.outcome c.in-Arrow.is) (none_wide (typing_tree_of c.in-Some.second.proof) (typ_of c.in-Arrow.parameter.value) c.in_ok-operand.field-0 c.args.grounds.now.typing.now.dialect c.in_default-3.is (rw c.deref.ensures at c.in_ok-operand.ensures))
 
 pub prove_apply-returns-clause-proves : goal.prove_apply-returns-clause-proves
 prove_apply-returns-clause-proves t c =
-    ok_map c.finish.result _ _ (λ made wide. apply_form c.args.typing.now (term_of c.args.function.now) (term_of c.args.argument.now) c.args.place c.in-Some.second.first (typ_of c.in-Arrow.outcome.value) (typ_of c.in-Arrow.parameter.value) (typ_of c.args.ty.now) (tree_in c.in-Some-2.made) (tree_in c.in-Some.second) (typing_tree_of c.in-Some-3.operand) (option_map tree_in made) (some_holds c.in_ok-second.field-0 c.in-Some.second _ c.in-Some.is c.in_ok-second.ensures.first) (some_term c.args.typing.now (term_of c.args.argument.now) c.args.place c.in_ok-second.field-0 c.in-Some.second c.in-Some.is c.in_ok-second.ensures.proves) (some_term c.args.typing.now (term_of c.args.function.now) c.in-Some.second.first c.in_ok-made.field-0 c.in-Some-2.made c.in-Some-2.is c.in_ok-made.ensures.proves) (arrow_in c.in-Some-2.made c.in-Arrow.parameter c.in-Arrow.outcome c.in-Arrow.is)
-    (some_wide (typing_tree_of c.in-Some.second.proof) (typ_of c.in-Arrow.parameter.value) c.in_ok-operand.field-0 c.in-Some-3.operand c.args.typing.now.dialect c.in-Some-3.is (rw c.deref.ensures at c.in_ok-operand.ensures))
-    (step_as TypeRule.App _ (typ_of c.in-Arrow.outcome.value) _ _ (typ_of c.args.ty.now) (option_map tree_in made) c.args.typing.now.dialect (rw c.deref-2.ensures at c.in_ok-conclusion.ensures) (ap typings_of c.in_ok-premises.ensures.items) wide)) c.finish.ensures.wide
+    ok_map c.finish.result _ _ (λ made wide. apply_form c.args.grounds.now (term_of c.args.function.now) (term_of c.args.argument.now) c.args.place c.in-Some.second.first (typ_of c.in-Arrow.outcome.value) (typ_of c.in-Arrow.parameter.value) (typ_of c.args.ty.now) (tree_in c.in-Some-2.made) (tree_in c.in-Some.second) (typing_tree_of c.in-Some-3.operand) (option_map tree_in made) (some_holds c.in_ok-second.field-0 c.in-Some.second _ c.in-Some.is c.in_ok-second.ensures.first) (some_term c.args.grounds.now (term_of c.args.argument.now) c.args.place c.in_ok-second.field-0 c.in-Some.second c.in-Some.is c.in_ok-second.ensures.proves) (some_term c.args.grounds.now (term_of c.args.function.now) c.in-Some.second.first c.in_ok-made.field-0 c.in-Some-2.made c.in-Some-2.is c.in_ok-made.ensures.proves) (arrow_in c.in-Some-2.made c.in-Arrow.parameter c.in-Arrow.outcome c.in-Arrow.is)
+    (some_wide (typing_tree_of c.in-Some.second.proof) (typ_of c.in-Arrow.parameter.value) c.in_ok-operand.field-0 c.in-Some-3.operand c.args.grounds.now.typing.now.dialect c.in-Some-3.is (rw c.deref.ensures at c.in_ok-operand.ensures))
+    (step_as TypeRule.App _ (typ_of c.in-Arrow.outcome.value) _ _ (typ_of c.args.ty.now) (option_map tree_in made) c.args.grounds.now.typing.now.dialect (rw c.deref-2.ensures at c.in_ok-conclusion.ensures) (ap typings_of c.in_ok-premises.ensures.items) wide)) c.finish.ensures.wide
 
 pub prove_as-returns-in_default-clause-proves : goal.prove_as-returns-in_default-clause-proves
 prove_as-returns-in_default-clause-proves t c =
-    as_none c.args.typing.now (term_of c.args.term.now) c.args.behind (typ_of c.args.wanted.now) (none_term c.args.typing.now (term_of c.args.term.now) c.args.behind c.in_ok-made.field-0 c.in_default.is c.in_ok-made.ensures.proves)
+    as_none c.args.grounds.now (term_of c.args.term.now) c.args.behind (typ_of c.args.wanted.now) (none_term c.args.grounds.now (term_of c.args.term.now) c.args.behind c.in_ok-made.field-0 c.in_default.is c.in_ok-made.ensures.proves)
 
 pub prove_as-returns-in_default-2-clause-proves : goal.prove_as-returns-in_default-2-clause-proves
 prove_as-returns-in_default-2-clause-proves t c =
-    as_wide c.args.typing.now (term_of c.args.term.now) c.args.behind (tree_in c.in-Some.made) (typ_of c.args.wanted.now) None (some_term c.args.typing.now (term_of c.args.term.now) c.args.behind c.in_ok-made.field-0 c.in-Some.made c.in-Some.is c.in_ok-made.ensures.proves) (none_wide (tree_in c.in-Some.made) (typ_of c.args.wanted.now) c.in_ok-proof.field-0 c.args.typing.now.dialect c.in_default-2.is c.in_ok-proof.ensures)
+    as_wide c.args.grounds.now (term_of c.args.term.now) c.args.behind (tree_in c.in-Some.made) (typ_of c.args.wanted.now) None (some_term c.args.grounds.now (term_of c.args.term.now) c.args.behind c.in_ok-made.field-0 c.in-Some.made c.in-Some.is c.in_ok-made.ensures.proves) (none_wide (tree_in c.in-Some.made) (typ_of c.args.wanted.now) c.in_ok-proof.field-0 c.args.grounds.now.typing.now.dialect c.in_default-2.is c.in_ok-proof.ensures)
 
 pub prove_as-returns-clause-proves : goal.prove_as-returns-clause-proves
 prove_as-returns-clause-proves t c =
-    as_wide c.args.typing.now (term_of c.args.term.now) c.args.behind (tree_in c.in-Some.made) (typ_of c.args.wanted.now) (Some (typing_tree_of c.in-Some-2.proof)) (some_term c.args.typing.now (term_of c.args.term.now) c.args.behind c.in_ok-made.field-0 c.in-Some.made c.in-Some.is c.in_ok-made.ensures.proves) (some_wide (tree_in c.in-Some.made) (typ_of c.args.wanted.now) c.in_ok-proof.field-0 c.in-Some-2.proof c.args.typing.now.dialect c.in-Some-2.is c.in_ok-proof.ensures)
+    as_wide c.args.grounds.now (term_of c.args.term.now) c.args.behind (tree_in c.in-Some.made) (typ_of c.args.wanted.now) (Some (typing_tree_of c.in-Some-2.proof)) (some_term c.args.grounds.now (term_of c.args.term.now) c.args.behind c.in_ok-made.field-0 c.in-Some.made c.in-Some.is c.in_ok-made.ensures.proves) (some_wide (tree_in c.in-Some.made) (typ_of c.args.wanted.now) c.in_ok-proof.field-0 c.in-Some-2.proof c.args.grounds.now.typing.now.dialect c.in-Some-2.is c.in_ok-proof.ensures)
 
 pub prove_ascribe-returns-in_default-clause-proves : goal.prove_ascribe-returns-in_default-clause-proves
 prove_ascribe-returns-in_default-clause-proves t c =
-    rw (ap written_of c.in_default.is) (faulty_ascribe_none c.args.typing.now (term_of c.args.operand.now) c.args.place (typ_of c.args.ty.now))
+    rw (ap written_of c.in_default.is) (faulty_ascribe_none c.args.grounds.now (term_of c.args.operand.now) c.args.place (typ_of c.args.ty.now))
 
 pub prove_ascribe-returns-in_default-2-clause-proves : goal.prove_ascribe-returns-in_default-2-clause-proves
 prove_ascribe-returns-in_default-2-clause-proves t c =
-    rw (ap written_of c.in-Some.is) (ascribe_none c.args.typing.now (term_of c.args.operand.now) (typ_of c.in-Some.wanted) c.args.place (typ_of c.args.ty.now) (none_as c.args.typing.now (term_of c.args.operand.now) c.args.place (typ_of c.in-Some.wanted) c.in_ok-made.field-0 c.in_default-2.is c.in_ok-made.ensures.proves))
+    rw (ap written_of c.in-Some.is) (ascribe_none c.args.grounds.now (term_of c.args.operand.now) (typ_of c.in-Some.wanted) c.args.place (typ_of c.args.ty.now) (none_as c.args.grounds.now (term_of c.args.operand.now) c.args.place (typ_of c.in-Some.wanted) c.in_ok-made.field-0 c.in_default-2.is c.in_ok-made.ensures.proves))
 
 pub prove_ascribe-returns-clause-proves : goal.prove_ascribe-returns-clause-proves
 prove_ascribe-returns-clause-proves t c =
-    rw (ap written_of c.in-Some.is) (ok_map c.finish.result _ _ (λ made wide. ascribe_form c.args.typing.now (term_of c.args.operand.now) (typ_of c.in-Some.wanted) c.args.place _ (typ_of c.args.ty.now) (tree_in c.in-Some-2.made) (option_map tree_in made) refl (some_as c.args.typing.now (term_of c.args.operand.now) c.args.place (typ_of c.in-Some.wanted) c.in_ok-made.field-0 c.in-Some-2.made c.in-Some-2.is c.in_ok-made.ensures.proves)
-    (step_as TypeRule.Ascribe _ (typ_of c.in-Some.wanted) _ _ (typ_of c.args.ty.now) (option_map tree_in made) c.args.typing.now.dialect c.in_ok-conclusion.ensures (ap typings_of c.in_ok-premises.ensures.items) wide)) c.finish.ensures.wide)
+    rw (ap written_of c.in-Some.is) (ok_map c.finish.result _ _ (λ made wide. ascribe_form c.args.grounds.now (term_of c.args.operand.now) (typ_of c.in-Some.wanted) c.args.place _ (typ_of c.args.ty.now) (tree_in c.in-Some-2.made) (option_map tree_in made) refl (some_as c.args.grounds.now (term_of c.args.operand.now) c.args.place (typ_of c.in-Some.wanted) c.in_ok-made.field-0 c.in-Some-2.made c.in-Some-2.is c.in_ok-made.ensures.proves)
+    (step_as TypeRule.Ascribe _ (typ_of c.in-Some.wanted) _ _ (typ_of c.args.ty.now) (option_map tree_in made) c.args.grounds.now.typing.now.dialect c.in_ok-conclusion.ensures (ap typings_of c.in_ok-premises.ensures.items) wide)) c.finish.ensures.wide)
 
 pub prove_fields-returns-in_default-clause-proves : goal.prove_fields-returns-in_default-clause-proves
 prove_fields-returns-in_default-clause-proves t c =
-    rw (no_terms_of c.args.fields.now c.in_default.ensures.cases) (no_fields_form c.args.typing.now c.args.behind (record { trees = typings_of (reverse c.new.result.items); types = fields_of (reverse c.new-in_default.result.items) }) (ap (λ ps. typings_of (reverse ps)) c.new.ensures.items) (ap (λ fs. fields_of (reverse fs)) c.new-in_default.ensures.items))
+    rw (no_terms_of c.args.fields.now c.in_default.ensures.cases) (no_fields_form c.args.grounds.now c.args.behind (record { trees = typings_of (reverse c.new.result.items); types = fields_of (reverse c.new-in_default.result.items) }) (ap (λ ps. typings_of (reverse ps)) c.new.ensures.items) (ap (λ fs. fields_of (reverse fs)) c.new-in_default.ensures.items))
 
 pub prove_fields-prove_fields-requires : goal.prove_fields-prove_fields-requires
 prove_fields-prove_fields-requires t c =
@@ -76,7 +76,7 @@ prove_fields-prove_fields-requires t c =
 
 pub prove_fields-returns-in_default-2-clause-proves : goal.prove_fields-returns-in_default-2-clause-proves
 prove_fields-returns-in_default-2-clause-proves t c =
-    rw (ap terms_of c.in-Some.ensures.cases.0) (more_fields_none c.args.typing.now (string_bytes c.in-Some.field.now.0) (term_of c.in-Some.field.now.1) (terms_of c.in-Some.others.now) c.args.behind (none_fields c.args.typing.now (terms_of c.in-Some.others.now) c.args.behind c.in_ok-made.field-0 c.in_default-2.is c.in_ok-made.ensures.proves))
+    rw (ap terms_of c.in-Some.ensures.cases.0) (more_fields_none c.args.grounds.now (string_bytes c.in-Some.field.now.0) (term_of c.in-Some.field.now.1) (terms_of c.in-Some.others.now) c.args.behind (none_fields c.args.grounds.now (terms_of c.in-Some.others.now) c.args.behind c.in_ok-made.field-0 c.in_default-2.is c.in_ok-made.ensures.proves))
 
 pub prove_fields-prove_term-requires : goal.prove_fields-prove_term-requires
 prove_fields-prove_term-requires t c =
@@ -87,114 +87,113 @@ prove_fields-prove_term-requires t c =
 
 pub prove_fields-returns-in_default-3-clause-proves : goal.prove_fields-returns-in_default-3-clause-proves
 prove_fields-returns-in_default-3-clause-proves t c =
-    rw (ap terms_of c.in-Some.ensures.cases.0) (first_field_none c.args.typing.now (string_bytes c.in-Some.field.now.0) (term_of c.in-Some.field.now.1) (terms_of c.in-Some.others.now) c.args.behind c.in-Some-2.made.first (trees_in c.in-Some-2.made) (some_holds c.in_ok-made.field-0 c.in-Some-2.made _ c.in-Some-2.is c.in_ok-made.ensures.first) (some_fields c.args.typing.now (terms_of c.in-Some.others.now) c.args.behind c.in_ok-made.field-0 c.in-Some-2.made c.in-Some-2.is c.in_ok-made.ensures.proves) (none_term c.args.typing.now (term_of c.in-Some.field.now.1) c.in-Some-2.made.first c.in_ok-own.field-0 c.in_default-3.is c.in_ok-own.ensures.proves))
+    rw (ap terms_of c.in-Some.ensures.cases.0) (first_field_none c.args.grounds.now (string_bytes c.in-Some.field.now.0) (term_of c.in-Some.field.now.1) (terms_of c.in-Some.others.now) c.args.behind c.in-Some-2.made.first (trees_in c.in-Some-2.made) (some_holds c.in_ok-made.field-0 c.in-Some-2.made _ c.in-Some-2.is c.in_ok-made.ensures.first) (some_fields c.args.grounds.now (terms_of c.in-Some.others.now) c.args.behind c.in_ok-made.field-0 c.in-Some-2.made c.in-Some-2.is c.in_ok-made.ensures.proves) (none_term c.args.grounds.now (term_of c.in-Some.field.now.1) c.in-Some-2.made.first c.in_ok-own.field-0 c.in_default-3.is c.in_ok-own.ensures.proves))
 
 pub prove_fields-returns-clause-proves : goal.prove_fields-returns-clause-proves
 prove_fields-returns-clause-proves t c =
-    rw (ap terms_of c.in-Some.ensures.cases.0) (more_fields_form c.args.typing.now (string_bytes c.in-Some.field.now.0) (term_of c.in-Some.field.now.1) (terms_of c.in-Some.others.now) c.args.behind c.in-Some-2.made.first (tree_in c.in-Some-3.own) (trees_in c.in-Some-2.made) _ (some_holds c.in_ok-made.field-0 c.in-Some-2.made _ c.in-Some-2.is c.in_ok-made.ensures.first) (some_fields c.args.typing.now (terms_of c.in-Some.others.now) c.args.behind c.in_ok-made.field-0 c.in-Some-2.made c.in-Some-2.is c.in_ok-made.ensures.proves) (some_term c.args.typing.now (term_of c.in-Some.field.now.1) c.in-Some-2.made.first c.in_ok-own.field-0 c.in-Some-3.own c.in-Some-3.is c.in_ok-own.ensures.proves)
+    rw (ap terms_of c.in-Some.ensures.cases.0) (more_fields_form c.args.grounds.now (string_bytes c.in-Some.field.now.0) (term_of c.in-Some.field.now.1) (terms_of c.in-Some.others.now) c.args.behind c.in-Some-2.made.first (tree_in c.in-Some-3.own) (trees_in c.in-Some-2.made) _ (some_holds c.in_ok-made.field-0 c.in-Some-2.made _ c.in-Some-2.is c.in_ok-made.ensures.first) (some_fields c.args.grounds.now (terms_of c.in-Some.others.now) c.args.behind c.in_ok-made.field-0 c.in-Some-2.made c.in-Some-2.is c.in_ok-made.ensures.proves) (some_term c.args.grounds.now (term_of c.in-Some.field.now.1) c.in-Some-2.made.first c.in_ok-own.field-0 c.in-Some-3.own c.in-Some-3.is c.in_ok-own.ensures.proves)
     (ap (λ ps. typings_of (reverse ps)) c.in_ok-push-2.ensures.items ∙ trees_pushed c.in-Some-2.made.proofs.items c.in-Some-3.own.proof)
     (ap (λ fs. fields_of (reverse fs)) c.in_ok-push.ensures.items ∙ types_pushed c.in-Some-2.made.types.items (c.in_ok-label.label, c.in_ok-ty.ty)
     ∙ (λ i. field (c.in_ok-label.ensures.cases i) ((c.in_ok-ty.ensures ∙ sym (type_in-typing_tree_of c.in-Some-3.own.proof)) i) (fields_of (reverse c.in-Some-2.made.types.items)))))
 
 pub prove_fix-returns-in_default-clause-proves : goal.prove_fix-returns-in_default-clause-proves
 prove_fix-returns-in_default-clause-proves t c =
-    fix_none c.args.typing.now (term_of c.args.operand.now) c.args.place _ (typ_of c.args.ty.now) (c.in_ok-wanted.ensures ∙ (λ i. arrow (c.in_ok-parameter.ensures i) (c.in_ok-outcome.ensures i))) (none_as c.args.typing.now (term_of c.args.operand.now) c.args.place _ c.in_ok-made.field-0 c.in_default.is c.in_ok-made.ensures.proves)
+    fix_none c.args.grounds.now (term_of c.args.operand.now) c.args.place _ (typ_of c.args.ty.now) (c.in_ok-wanted.ensures ∙ (λ i. arrow (c.in_ok-parameter.ensures i) (c.in_ok-outcome.ensures i))) (none_as c.args.grounds.now (term_of c.args.operand.now) c.args.place _ c.in_ok-made.field-0 c.in_default.is c.in_ok-made.ensures.proves)
 
 pub prove_fix-returns-clause-proves : goal.prove_fix-returns-clause-proves
 prove_fix-returns-clause-proves t c =
-    ok_map c.finish.result _ _ (λ made wide. fix_form c.args.typing.now (term_of c.args.operand.now) c.args.place _ _ (typ_of c.args.ty.now) (tree_in c.in-Some.made) (option_map tree_in made) (c.in_ok-wanted.ensures ∙ (λ i. arrow (c.in_ok-parameter.ensures i) (c.in_ok-outcome.ensures i))) refl (some_as c.args.typing.now (term_of c.args.operand.now) c.args.place _ c.in_ok-made.field-0 c.in-Some.made c.in-Some.is c.in_ok-made.ensures.proves)
-    (step_as TypeRule.Fix _ (typ_of c.args.ty.now) _ _ (typ_of c.args.ty.now) (option_map tree_in made) c.args.typing.now.dialect c.in_ok-conclusion.ensures (ap typings_of c.in_ok-premises.ensures.items) wide)) c.finish.ensures.wide
+    ok_map c.finish.result _ _ (λ made wide. fix_form c.args.grounds.now (term_of c.args.operand.now) c.args.place _ _ (typ_of c.args.ty.now) (tree_in c.in-Some.made) (option_map tree_in made) (c.in_ok-wanted.ensures ∙ (λ i. arrow (c.in_ok-parameter.ensures i) (c.in_ok-outcome.ensures i))) refl (some_as c.args.grounds.now (term_of c.args.operand.now) c.args.place _ c.in_ok-made.field-0 c.in-Some.made c.in-Some.is c.in_ok-made.ensures.proves)
+    (step_as TypeRule.Fix _ (typ_of c.args.ty.now) _ _ (typ_of c.args.ty.now) (option_map tree_in made) c.args.grounds.now.typing.now.dialect c.in_ok-conclusion.ensures (ap typings_of c.in_ok-premises.ensures.items) wide)) c.finish.ensures.wide
 
 pub prove_if-returns-in_default-clause-proves : goal.prove_if-returns-in_default-clause-proves
 prove_if-returns-in_default-clause-proves t c =
-    if_none_else c.args.typing.now (term_of c.args.condition.now) (term_of c.args.then_term.now) (term_of c.args.else_term.now) c.args.place (typ_of c.args.ty.now) (none_as c.args.typing.now (term_of c.args.else_term.now) c.args.place (typ_of c.args.ty.now) c.in_ok-third.field-0 c.in_default.is c.in_ok-third.ensures.proves)
+    if_none_else c.args.grounds.now (term_of c.args.condition.now) (term_of c.args.then_term.now) (term_of c.args.else_term.now) c.args.place (typ_of c.args.ty.now) (none_as c.args.grounds.now (term_of c.args.else_term.now) c.args.place (typ_of c.args.ty.now) c.in_ok-third.field-0 c.in_default.is c.in_ok-third.ensures.proves)
 
 pub prove_if-returns-in_default-2-clause-proves : goal.prove_if-returns-in_default-2-clause-proves
 prove_if-returns-in_default-2-clause-proves t c =
-    if_none_then c.args.typing.now (term_of c.args.condition.now) (term_of c.args.then_term.now) (term_of c.args.else_term.now) c.args.place c.in-Some.third.first (typ_of c.args.ty.now) (some_holds c.in_ok-third.field-0 c.in-Some.third _ c.in-Some.is c.in_ok-third.ensures.first) (none_as c.args.typing.now (term_of c.args.then_term.now) c.in-Some.third.first (typ_of c.args.ty.now) c.in_ok-second.field-0 c.in_default-2.is c.in_ok-second.ensures.proves)
+    if_none_then c.args.grounds.now (term_of c.args.condition.now) (term_of c.args.then_term.now) (term_of c.args.else_term.now) c.args.place c.in-Some.third.first (typ_of c.args.ty.now) (some_holds c.in_ok-third.field-0 c.in-Some.third _ c.in-Some.is c.in_ok-third.ensures.first) (none_as c.args.grounds.now (term_of c.args.then_term.now) c.in-Some.third.first (typ_of c.args.ty.now) c.in_ok-second.field-0 c.in_default-2.is c.in_ok-second.ensures.proves)
 
 pub prove_if-returns-in_default-3-clause-proves : goal.prove_if-returns-in_default-3-clause-proves
 prove_if-returns-in_default-3-clause-proves t c =
-    if_none_condition c.args.typing.now (term_of c.args.condition.now) (term_of c.args.then_term.now) (term_of c.args.else_term.now) c.args.place c.in-Some.third.first c.in-Some-2.second.first (typ_of c.args.ty.now) (some_holds c.in_ok-third.field-0 c.in-Some.third _ c.in-Some.is c.in_ok-third.ensures.first) (some_holds c.in_ok-second.field-0 c.in-Some-2.second _ c.in-Some-2.is c.in_ok-second.ensures.first) (none_as c.args.typing.now (term_of c.args.condition.now) c.in-Some-2.second.first bool c.in_ok-first.field-0 c.in_default-3.is (subst (λ u. IsProvenAs c.args.typing.now (term_of c.args.condition.now) c.in-Some-2.second.first u (option_map tree_in c.in_ok-first.field-0)) typ_of-Bool c.in_ok-first.ensures.proves))
+    if_none_condition c.args.grounds.now (term_of c.args.condition.now) (term_of c.args.then_term.now) (term_of c.args.else_term.now) c.args.place c.in-Some.third.first c.in-Some-2.second.first (typ_of c.args.ty.now) (some_holds c.in_ok-third.field-0 c.in-Some.third _ c.in-Some.is c.in_ok-third.ensures.first) (some_holds c.in_ok-second.field-0 c.in-Some-2.second _ c.in-Some-2.is c.in_ok-second.ensures.first) (none_as c.args.grounds.now (term_of c.args.condition.now) c.in-Some-2.second.first bool c.in_ok-first.field-0 c.in_default-3.is (subst (λ u. IsProvenAs c.args.grounds.now (term_of c.args.condition.now) c.in-Some-2.second.first u (option_map tree_in c.in_ok-first.field-0)) typ_of-Bool c.in_ok-first.ensures.proves))
 
 pub prove_if-returns-clause-proves : goal.prove_if-returns-clause-proves
 prove_if-returns-clause-proves t c =
-    ok_map c.finish.result _ _ (λ made wide. if_form c.args.typing.now (term_of c.args.condition.now) (term_of c.args.then_term.now) (term_of c.args.else_term.now) c.args.place c.in-Some.third.first c.in-Some-2.second.first (typ_of c.args.ty.now) (tree_in c.in-Some-3.first) (tree_in c.in-Some-2.second) (tree_in c.in-Some.third) (option_map tree_in made) (some_holds c.in_ok-third.field-0 c.in-Some.third _ c.in-Some.is c.in_ok-third.ensures.first) (some_holds c.in_ok-second.field-0 c.in-Some-2.second _ c.in-Some-2.is c.in_ok-second.ensures.first)
-    (some_as c.args.typing.now (term_of c.args.else_term.now) c.args.place (typ_of c.args.ty.now) c.in_ok-third.field-0 c.in-Some.third c.in-Some.is c.in_ok-third.ensures.proves) (some_as c.args.typing.now (term_of c.args.then_term.now) c.in-Some.third.first (typ_of c.args.ty.now) c.in_ok-second.field-0 c.in-Some-2.second c.in-Some-2.is c.in_ok-second.ensures.proves)
-    (some_as c.args.typing.now (term_of c.args.condition.now) c.in-Some-2.second.first bool c.in_ok-first.field-0 c.in-Some-3.first c.in-Some-3.is (subst (λ u. IsProvenAs c.args.typing.now (term_of c.args.condition.now) c.in-Some-2.second.first u (option_map tree_in c.in_ok-first.field-0)) typ_of-Bool c.in_ok-first.ensures.proves))
-    (step_as TypeRule.If _ (typ_of c.args.ty.now) _ _ (typ_of c.args.ty.now) (option_map tree_in made) c.args.typing.now.dialect c.in_ok-conclusion.ensures (ap typings_of c.in_ok-premises.ensures.items) wide)) c.finish.ensures.wide
+    ok_map c.finish.result _ _ (λ made wide. if_form c.args.grounds.now (term_of c.args.condition.now) (term_of c.args.then_term.now) (term_of c.args.else_term.now) c.args.place c.in-Some.third.first c.in-Some-2.second.first (typ_of c.args.ty.now) (tree_in c.in-Some-3.first) (tree_in c.in-Some-2.second) (tree_in c.in-Some.third) (option_map tree_in made) (some_holds c.in_ok-third.field-0 c.in-Some.third _ c.in-Some.is c.in_ok-third.ensures.first) (some_holds c.in_ok-second.field-0 c.in-Some-2.second _ c.in-Some-2.is c.in_ok-second.ensures.first)
+    (some_as c.args.grounds.now (term_of c.args.else_term.now) c.args.place (typ_of c.args.ty.now) c.in_ok-third.field-0 c.in-Some.third c.in-Some.is c.in_ok-third.ensures.proves) (some_as c.args.grounds.now (term_of c.args.then_term.now) c.in-Some.third.first (typ_of c.args.ty.now) c.in_ok-second.field-0 c.in-Some-2.second c.in-Some-2.is c.in_ok-second.ensures.proves)
+    (some_as c.args.grounds.now (term_of c.args.condition.now) c.in-Some-2.second.first bool c.in_ok-first.field-0 c.in-Some-3.first c.in-Some-3.is (subst (λ u. IsProvenAs c.args.grounds.now (term_of c.args.condition.now) c.in-Some-2.second.first u (option_map tree_in c.in_ok-first.field-0)) typ_of-Bool c.in_ok-first.ensures.proves))
+    (step_as TypeRule.If _ (typ_of c.args.ty.now) _ _ (typ_of c.args.ty.now) (option_map tree_in made) c.args.grounds.now.typing.now.dialect c.in_ok-conclusion.ensures (ap typings_of c.in_ok-premises.ensures.items) wide)) c.finish.ensures.wide
 
 pub prove_lambda-returns-in_default-clause-proves : goal.prove_lambda-returns-in_default-clause-proves
 prove_lambda-returns-in_default-clause-proves t c =
-    rw (ap written_of c.in_default.is) (faulty_lambda_none c.args.typing.now (term_of c.args.body.now) c.args.place (typ_of c.args.ty.now))
+    rw (ap written_of c.in_default.is) (faulty_lambda_none c.args.grounds.now (term_of c.args.body.now) c.args.place (typ_of c.args.ty.now))
 
 pub prove_lambda-returns-in_default-2-clause-proves : goal.prove_lambda-returns-in_default-2-clause-proves
 prove_lambda-returns-in_default-2-clause-proves t c =
-    rw (ap written_of c.in-Some.is) (lambda_none c.args.typing.now (typ_of c.in-Some.parameter) (term_of c.args.body.now) c.args.place (typ_of c.args.ty.now) (none_term c.args.typing.now (term_of c.args.body.now) c.args.place c.in_ok-made.field-0 c.in_default-2.is c.in_ok-made.ensures.proves))
+    rw (ap written_of c.in-Some.is) (lambda_none c.args.grounds.now (typ_of c.in-Some.parameter) (term_of c.args.body.now) c.args.place (typ_of c.args.ty.now) (none_term c.args.grounds.now (term_of c.args.body.now) c.args.place c.in_ok-made.field-0 c.in_default-2.is c.in_ok-made.ensures.proves))
 
 pub prove_lambda-returns-clause-proves : goal.prove_lambda-returns-clause-proves
 prove_lambda-returns-clause-proves t c =
-    rw (ap written_of c.in-Some.is) (ok_map c.finish.result _ _ (λ made wide. lambda_form c.args.typing.now (typ_of c.in-Some.parameter) (term_of c.args.body.now) c.args.place _ (typ_of c.args.ty.now) (tree_in c.in-Some-2.made) (option_map tree_in made)
-    (c.in_ok-conclusion.ensures ∙ (λ i. arrow (c.in_ok-parameter.ensures i) ((c.in_ok-outcome.ensures ∙ sym (type_in-typing_tree_of c.in-Some-2.made.proof)) i))) (some_term c.args.typing.now (term_of c.args.body.now) c.args.place c.in_ok-made.field-0 c.in-Some-2.made c.in-Some-2.is c.in_ok-made.ensures.proves)
-    (step_as TypeRule.Abs _ _ _ _ (typ_of c.args.ty.now) (option_map tree_in made) c.args.typing.now.dialect refl (ap typings_of c.in_ok-premises.ensures.items) wide)) c.finish.ensures.wide)
+    rw (ap written_of c.in-Some.is) (ok_map c.finish.result _ _ (λ made wide. lambda_form c.args.grounds.now (typ_of c.in-Some.parameter) (term_of c.args.body.now) c.args.place _ (typ_of c.args.ty.now) (tree_in c.in-Some-2.made) (option_map tree_in made)
+    (c.in_ok-conclusion.ensures ∙ (λ i. arrow (c.in_ok-parameter.ensures i) ((c.in_ok-outcome.ensures ∙ sym (type_in-typing_tree_of c.in-Some-2.made.proof)) i))) (some_term c.args.grounds.now (term_of c.args.body.now) c.args.place c.in_ok-made.field-0 c.in-Some-2.made c.in-Some-2.is c.in_ok-made.ensures.proves)
+    (step_as TypeRule.Abs _ _ _ _ (typ_of c.args.ty.now) (option_map tree_in made) c.args.grounds.now.typing.now.dialect refl (ap typings_of c.in_ok-premises.ensures.items) wide)) c.finish.ensures.wide)
 
 pub prove_let-returns-in_default-clause-proves : goal.prove_let-returns-in_default-clause-proves
 prove_let-returns-in_default-clause-proves t c =
-    let_none_body c.args.typing.now (term_of c.args.bound.now) (term_of c.args.body.now) c.args.place (typ_of c.args.ty.now) (none_term c.args.typing.now (term_of c.args.body.now) c.args.place c.in_ok-second.field-0 c.in_default.is c.in_ok-second.ensures.proves)
+    let_none_body c.args.grounds.now (term_of c.args.bound.now) (term_of c.args.body.now) c.args.place (typ_of c.args.ty.now) (none_term c.args.grounds.now (term_of c.args.body.now) c.args.place c.in_ok-second.field-0 c.in_default.is c.in_ok-second.ensures.proves)
 
 pub prove_let-returns-in_default-2-clause-proves : goal.prove_let-returns-in_default-2-clause-proves
 prove_let-returns-in_default-2-clause-proves t c =
-    let_none_bound c.args.typing.now (term_of c.args.bound.now) (term_of c.args.body.now) c.args.place c.in-Some.second.first (typ_of c.args.ty.now) (some_holds c.in_ok-second.field-0 c.in-Some.second _ c.in-Some.is c.in_ok-second.ensures.first) (none_term c.args.typing.now (term_of c.args.bound.now) c.in-Some.second.first c.in_ok-made.field-0 c.in_default-2.is c.in_ok-made.ensures.proves)
+    let_none_bound c.args.grounds.now (term_of c.args.bound.now) (term_of c.args.body.now) c.args.place c.in-Some.second.first (typ_of c.args.ty.now) (some_holds c.in_ok-second.field-0 c.in-Some.second _ c.in-Some.is c.in_ok-second.ensures.first) (none_term c.args.grounds.now (term_of c.args.bound.now) c.in-Some.second.first c.in_ok-made.field-0 c.in_default-2.is c.in_ok-made.ensures.proves)
 
 pub prove_let-returns-clause-proves : goal.prove_let-returns-clause-proves
 prove_let-returns-clause-proves t c =
-    ok_map c.finish.result _ _ (λ made wide. let_form c.args.typing.now (term_of c.args.bound.now) (term_of c.args.body.now) c.args.place c.in-Some.second.first _ (typ_of c.args.ty.now) (tree_in c.in-Some-2.made) (tree_in c.in-Some.second) (option_map tree_in made) (some_holds c.in_ok-second.field-0 c.in-Some.second _ c.in-Some.is c.in_ok-second.ensures.first)
-    (c.in_ok-conclusion.ensures ∙ sym (type_in-typing_tree_of c.in-Some.second.proof)) (some_term c.args.typing.now (term_of c.args.body.now) c.args.place c.in_ok-second.field-0 c.in-Some.second c.in-Some.is c.in_ok-second.ensures.proves) (some_term c.args.typing.now (term_of c.args.bound.now) c.in-Some.second.first c.in_ok-made.field-0 c.in-Some-2.made c.in-Some-2.is c.in_ok-made.ensures.proves)
-    (step_as TypeRule.Let _ _ _ _ (typ_of c.args.ty.now) (option_map tree_in made) c.args.typing.now.dialect refl (ap typings_of c.in_ok-premises.ensures.items) wide)) c.finish.ensures.wide
+    ok_map c.finish.result _ _ (λ made wide. let_form c.args.grounds.now (term_of c.args.bound.now) (term_of c.args.body.now) c.args.place c.in-Some.second.first _ (typ_of c.args.ty.now) (tree_in c.in-Some-2.made) (tree_in c.in-Some.second) (option_map tree_in made) (some_holds c.in_ok-second.field-0 c.in-Some.second _ c.in-Some.is c.in_ok-second.ensures.first)
+    (c.in_ok-conclusion.ensures ∙ sym (type_in-typing_tree_of c.in-Some.second.proof)) (some_term c.args.grounds.now (term_of c.args.body.now) c.args.place c.in_ok-second.field-0 c.in-Some.second c.in-Some.is c.in_ok-second.ensures.proves) (some_term c.args.grounds.now (term_of c.args.bound.now) c.in-Some.second.first c.in_ok-made.field-0 c.in-Some-2.made c.in-Some-2.is c.in_ok-made.ensures.proves)
+    (step_as TypeRule.Let _ _ _ _ (typ_of c.args.ty.now) (option_map tree_in made) c.args.grounds.now.typing.now.dialect refl (ap typings_of c.in_ok-premises.ensures.items) wide)) c.finish.ensures.wide
 
 pub prove_number-returns-in_default-clause-proves : goal.prove_number-returns-in_default-clause-proves
 prove_number-returns-in_default-clause-proves t c =
-    λ e is. number_none c.args.typing.now c.args.rule e (term_of c.args.operand.now) (typ_of c.args.conclusion) (typ_of c.args.ty.now) c.args.place is (none_as c.args.typing.now (term_of c.args.operand.now) c.args.place nat c.in_ok-made.field-0 c.in_default.is (subst (λ u. IsProvenAs c.args.typing.now (term_of c.args.operand.now) c.args.place u (option_map tree_in c.in_ok-made.field-0)) typ_of-Nat c.in_ok-made.ensures.proves))
+    λ e is. number_none c.args.grounds.now c.args.rule e (term_of c.args.operand.now) (typ_of c.args.conclusion) (typ_of c.args.ty.now) c.args.place is (none_as c.args.grounds.now (term_of c.args.operand.now) c.args.place nat c.in_ok-made.field-0 c.in_default.is (subst (λ u. IsProvenAs c.args.grounds.now (term_of c.args.operand.now) c.args.place u (option_map tree_in c.in_ok-made.field-0)) typ_of-Nat c.in_ok-made.ensures.proves))
 
 pub prove_number-returns-clause-proves : goal.prove_number-returns-clause-proves
 prove_number-returns-clause-proves t c =
-    ok_map c.finish.result _ _ (λ made wide e is. number_form c.args.typing.now c.args.rule e (term_of c.args.operand.now) (typ_of c.args.conclusion) (typ_of c.args.ty.now) c.args.place (tree_in c.in-Some.made) (option_map tree_in made) is
-    (some_as c.args.typing.now (term_of c.args.operand.now) c.args.place nat c.in_ok-made.field-0 c.in-Some.made c.in-Some.is (subst (λ u. IsProvenAs c.args.typing.now (term_of c.args.operand.now) c.args.place u (option_map tree_in c.in_ok-made.field-0)) typ_of-Nat c.in_ok-made.ensures.proves))
-    (step_as c.args.rule _ _ _ _ (typ_of c.args.ty.now) (option_map tree_in made) c.args.typing.now.dialect refl (ap typings_of c.in_ok-premises.ensures.items) wide)) c.finish.ensures.wide
+    ok_map c.finish.result _ _ (λ made wide e is. number_form c.args.grounds.now c.args.rule e (term_of c.args.operand.now) (typ_of c.args.conclusion) (typ_of c.args.ty.now) c.args.place (tree_in c.in-Some.made) (option_map tree_in made) is
+    (some_as c.args.grounds.now (term_of c.args.operand.now) c.args.place nat c.in_ok-made.field-0 c.in-Some.made c.in-Some.is (subst (λ u. IsProvenAs c.args.grounds.now (term_of c.args.operand.now) c.args.place u (option_map tree_in c.in_ok-made.field-0)) typ_of-Nat c.in_ok-made.ensures.proves))
+    (step_as c.args.rule _ _ _ _ (typ_of c.args.ty.now) (option_map tree_in made) c.args.grounds.now.typing.now.dialect refl (ap typings_of c.in_ok-premises.ensures.items) wide)) c.finish.ensures.wide
 
 pub prove_project-returns-in_default-clause-proves : goal.prove_project-returns-in_default-clause-proves
 prove_project-returns-in_default-clause-proves t c =
-    project_none c.args.typing.now (term_of c.args.operand.now) c.args.label.now c.args.place (typ_of c.args.ty.now) (none_term c.args.typing.now (term_of c.args.operand.now) c.args.place c.in_ok-made.field-0 c.in_default.is c.in_ok-made.ensures.proves)
+    project_none c.args.grounds.now (term_of c.args.operand.now) c.args.label.now c.args.place (typ_of c.args.ty.now) (none_term c.args.grounds.now (term_of c.args.operand.now) c.args.place c.in_ok-made.field-0 c.in_default.is c.in_ok-made.ensures.proves)
 
 pub prove_project-returns-in_default-ty : goal.prove_project-returns-in_default-ty
 prove_project-returns-in_default-ty t c =
-    record { first = tt; proves = project_no_record c.args.typing.now (term_of c.args.operand.now) c.args.label.now c.args.place (typ_of c.args.ty.now) (tree_in c.in-Some.made) (some_term c.args.typing.now (term_of c.args.operand.now) c.args.place c.in_ok-made.field-0 c.in-Some.made c.in-Some.is c.in_ok-made.ensures.proves) (no_record_in c.in-Some.made c.in_default-ty.not-Record) }
+    record { first = tt; proves = project_no_record c.args.grounds.now (term_of c.args.operand.now) c.args.label.now c.args.place (typ_of c.args.ty.now) (tree_in c.in-Some.made) (some_term c.args.grounds.now (term_of c.args.operand.now) c.args.place c.in_ok-made.field-0 c.in-Some.made c.in-Some.is c.in_ok-made.ensures.proves) (no_record_in c.in-Some.made c.in_default-ty.not-Record) }
 
 pub prove_project-returns-in_default-field_type-clause-proves : goal.prove_project-returns-in_default-field_type-clause-proves
 prove_project-returns-in_default-field_type-clause-proves t c =
-    project_no_field c.args.typing.now (term_of c.args.operand.now) c.args.label.now c.args.place (fields_of c.deref.result.now) (typ_of c.args.ty.now) (tree_in c.in-Some.made) (some_term c.args.typing.now (term_of c.args.operand.now) c.args.place c.in_ok-made.field-0 c.in-Some.made c.in-Some.is c.in_ok-made.ensures.proves) (record_in c.in-Some.made c.in-Record.fields c.in-Record.is ∙ ap (λ fs. record_of (fields_of fs)) (sym c.deref.ensures.value)) c.in_default-field_type.ensures.absent
+    project_no_field c.args.grounds.now (term_of c.args.operand.now) c.args.label.now c.args.place (fields_of c.deref.result.now) (typ_of c.args.ty.now) (tree_in c.in-Some.made) (some_term c.args.grounds.now (term_of c.args.operand.now) c.args.place c.in_ok-made.field-0 c.in-Some.made c.in-Some.is c.in_ok-made.ensures.proves) (record_in c.in-Some.made c.in-Record.fields c.in-Record.is ∙ ap (λ fs. record_of (fields_of fs)) (sym c.deref.ensures.value)) c.in_default-field_type.ensures.absent
 
 pub prove_project-returns-clause-proves : goal.prove_project-returns-clause-proves
 prove_project-returns-clause-proves t c =
-    ok_map c.finish.result _ _ (λ made wide. project_form c.args.typing.now (term_of c.args.operand.now) c.args.label.now c.args.place (fields_of c.deref.result.now) (typ_of c.in-Some-field_type.field.now) _ (typ_of c.args.ty.now) (tree_in c.in-Some.made) (option_map tree_in made) (some_term c.args.typing.now (term_of c.args.operand.now) c.args.place c.in_ok-made.field-0 c.in-Some.made c.in-Some.is c.in_ok-made.ensures.proves) (record_in c.in-Some.made c.in-Record.fields c.in-Record.is ∙ ap (λ fs. record_of (fields_of fs)) (sym c.deref.ensures.value)) c.in-Some-field_type.ensures.found c.in_ok-conclusion.ensures
-    (step_as TypeRule.Proj _ _ _ _ (typ_of c.args.ty.now) (option_map tree_in made) c.args.typing.now.dialect refl (ap typings_of c.in_ok-premises.ensures.items) wide)) c.finish.ensures.wide
+    ok_map c.finish.result _ _ (λ made wide. project_form c.args.grounds.now (term_of c.args.operand.now) c.args.label.now c.args.place (fields_of c.deref.result.now) (typ_of c.in-Some-field_type.field.now) _ (typ_of c.args.ty.now) (tree_in c.in-Some.made) (option_map tree_in made) (some_term c.args.grounds.now (term_of c.args.operand.now) c.args.place c.in_ok-made.field-0 c.in-Some.made c.in-Some.is c.in_ok-made.ensures.proves) (record_in c.in-Some.made c.in-Record.fields c.in-Record.is ∙ ap (λ fs. record_of (fields_of fs)) (sym c.deref.ensures.value)) c.in-Some-field_type.ensures.found c.in_ok-conclusion.ensures
+    (step_as TypeRule.Proj _ _ _ _ (typ_of c.args.ty.now) (option_map tree_in made) c.args.grounds.now.typing.now.dialect refl (ap typings_of c.in_ok-premises.ensures.items) wide)) c.finish.ensures.wide
 
 pub prove_record-returns-in_default-clause-proves : goal.prove_record-returns-in_default-clause-proves
 prove_record-returns-in_default-clause-proves t c =
-    record_none c.args.typing.now (terms_of c.args.fields.now) c.args.place (typ_of c.args.ty.now) (none_fields c.args.typing.now (terms_of c.args.fields.now) c.args.place c.in_ok-made.field-0 c.in_default.is c.in_ok-made.ensures.proves)
+    record_none c.args.grounds.now (terms_of c.args.fields.now) c.args.place (typ_of c.args.ty.now) (none_fields c.args.grounds.now (terms_of c.args.fields.now) c.args.place c.in_ok-made.field-0 c.in_default.is c.in_ok-made.ensures.proves)
 
 pub prove_record-returns-clause-proves : goal.prove_record-returns-clause-proves
 prove_record-returns-clause-proves t c =
-    ok_map c.finish.result _ _ (λ made wide. record_form c.args.typing.now (terms_of c.args.fields.now) c.args.place (trees_in c.in-Some.made) (typ_of c.args.ty.now) (option_map tree_in made) (some_fields c.args.typing.now (terms_of c.args.fields.now) c.args.place c.in_ok-made.field-0 c.in-Some.made c.in-Some.is c.in_ok-made.ensures.proves)
-    (step_as TypeRule.Rcd _ _ _ _ (typ_of c.args.ty.now) (option_map tree_in made) c.args.typing.now.dialect (c.make_record.ensures ∙ ap (λ fs. record_of (fields_of fs)) c.reverse-2.ensures.items) (ap typings_of c.reverse.ensures.items) wide)) c.finish.ensures.wide
+    ok_map c.finish.result _ _ (λ made wide. record_form c.args.grounds.now (terms_of c.args.fields.now) c.args.place (trees_in c.in-Some.made) (typ_of c.args.ty.now) (option_map tree_in made) (some_fields c.args.grounds.now (terms_of c.args.fields.now) c.args.place c.in_ok-made.field-0 c.in-Some.made c.in-Some.is c.in_ok-made.ensures.proves)
+    (step_as TypeRule.Rcd _ _ _ _ (typ_of c.args.ty.now) (option_map tree_in made) c.args.grounds.now.typing.now.dialect (c.make_record.ensures ∙ ap (λ fs. record_of (fields_of fs)) c.reverse-2.ensures.items) (ap typings_of c.reverse.ensures.items) wide)) c.finish.ensures.wide
 
 pub prove_term-returns-in_default-clause-proves : goal.prove_term-returns-in_default-clause-proves
-prove_term-returns-in_default-clause-proves t c =
-    term_none c.args.typing.now (term_of c.args.term.now) c.args.behind (found_none c.args.typing.now (c.args.behind - 1) c.found_at.result (c.found_at.ensures ∙ ap (λ os. get_or os (c.args.behind - 1) None) c.deref.ensures.value) c.in_default.is)
+prove_term-returns-in_default-clause-proves t c = term_none c.args.grounds.now (term_of c.args.term.now) c.args.behind (sym (rw c.in_default.is at c.in_ok-ty.ensures))
 
 pub prove_term-returns-clause-proves : goal.prove_term-returns-clause-proves
 prove_term-returns-clause-proves t c =
-    ok_map c.prove_form.result _ _ (λ made form. term_of_form c.args.typing.now (term_of c.args.term.now) c.args.behind (typ_of c.in_ok-ty.ty) (option_map tree_in made) (found_type c.args.typing.now (c.args.behind - 1) c.found_at.result c.in-Some.number (typ_of c.in_ok-ty.ty) (c.found_at.ensures ∙ ap (λ os. get_or os (c.args.behind - 1) None) c.deref.ensures.value) c.in-Some.is c.in_ok-ty.ensures) form) c.prove_form.ensures.proves
+    ok_map c.prove_form.result _ _ (λ made form. term_of_form c.args.grounds.now (term_of c.args.term.now) c.args.behind (typ_of c.in-Some.ty) (option_map tree_in made) (sym (rw c.in-Some.is at c.in_ok-ty.ensures)) form) c.prove_form.ensures.proves
 
 pub prove_form-returns-in-True-clause-proves : goal.prove_form-returns-in-True-clause-proves
 prove_form-returns-in-True-clause-proves t c =
@@ -230,7 +229,7 @@ prove_form-returns-in-Var-clause-proves t c =
 
 pub prove_form-returns-in-Free-clause-proves : goal.prove_form-returns-in-Free-clause-proves
 prove_form-returns-in-Free-clause-proves t c =
-    rw (ap term_of c.in-Free.is ∙ term_of-Free c.in-Free.field-0) (free_none c.args.typing.now (string_bytes c.in-Free.field-0) c.args.place (typ_of c.args.ty.now))
+    rw (ap term_of c.in-Free.is ∙ term_of-Free c.in-Free.field-0) (free_none c.args.grounds.now (string_bytes c.in-Free.field-0) c.args.place (typ_of c.args.ty.now))
 
 pub prove_form-returns-in-Abs-clause-proves : goal.prove_form-returns-in-Abs-clause-proves
 prove_form-returns-in-Abs-clause-proves t c =

@@ -9,5 +9,5 @@ use Rattle.lam_typing.proofs.BuiltSteps.{step_as}
 use Rattle.lam_typing.proofs.proving.prove_leaf.Goals as goal
 
 pub returns-clause-proves : goal.returns-clause-proves
-returns-clause-proves c = ok_map c.finish.result _ _ (λ made wide e is. leaf_form c.args.typing.now c.args.rule e (typ_of c.args.conclusion) (typ_of c.args.ty.now) c.args.place (option_map tree_in made) is
-    (step_as c.args.rule _ _ _ _ (typ_of c.args.ty.now) (option_map tree_in made) c.args.typing.now.dialect refl (ap typings_of c.new-premises.ensures.items) wide)) c.finish.ensures.wide
+returns-clause-proves c = ok_map c.finish.result _ _ (λ made wide e is. leaf_form c.args.grounds.now c.args.rule e (typ_of c.args.conclusion) (typ_of c.args.ty.now) c.args.place (option_map tree_in made) is
+    (step_as c.args.rule _ _ _ _ (typ_of c.args.ty.now) (option_map tree_in made) c.args.grounds.now.typing.now.dialect refl (ap typings_of c.new-premises.ensures.items) wide)) c.finish.ensures.wide

@@ -1,0 +1,38 @@
+-- What `Grounds` hold, and what is promised of them.
+use Rattle.std.specs.Prelude.{◌≡◌, List, [], map, Option}
+use Rattle.lam_rules.specs.Types.{Typ}
+use Rattle.lam_rules.specs.declared.rules.Dialect.{Dialect}
+use Rattle.lam_scope.specs.Views.{statements_of, origins_of}
+use Rattle.lam_scope.specs.declared.resolved.Resolved.{Resolved}
+use Rattle.lam_typing.specs.Entries.{entry_from}
+use Rattle.lam_typing.specs.Notes.{Noted, noted_by, notes_of}
+use Rattle.lam_typing.specs.Typings.{found_of, dialect_of, IsTypingOf}
+use Rattle.lam_typing.specs.declared.typing.Typing.{Typing}
+use Rattle.lam_typing.specs.declared.grounds.Grounds.{Grounds}
+
+-- the types that were found of the places, in their order
+abbrev pub found_in : Grounds → List (Option Typ)
+found_in g = found_of g.typing.now
+
+-- the dialect that they were found in
+abbrev pub dialect_in : Grounds → Dialect
+dialect_in g = dialect_of g.typing.now
+
+-- the entry of each binder, by its number: what is written of it, or what was found of its term
+abbrev pub entries_in : Grounds → List (Option Typ)
+entries_in g = map (entry_from (statements_of g.resolved.now) (found_in g)) (origins_of g.resolved.now)
+
+-- what is noted of each place, in the order of places
+abbrev pub noted_in : Grounds → List Noted
+noted_in g = noted_by (found_in g) g.noted.items
+
+-- the typing is one of the document, and the notes are of all its places
+pub record AreGrounds (g : Grounds) : Type 0 where
+  pub typing : IsTypingOf (statements_of g.resolved.now) g.typing.now
+  pub noted : noted_in g ≡ notes_of 0 (found_in g) [] (statements_of g.resolved.now)
+
+-- they are grounds of this document and this typing of it
+pub record AreGroundsOf (document : Resolved) (t : Typing) (g : Grounds) : Type 0 where
+  pub are : AreGrounds g
+  pub resolved : g.resolved.now ≡ document
+  pub typing : g.typing.now ≡ t
