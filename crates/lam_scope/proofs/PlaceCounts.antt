@@ -6,12 +6,15 @@ use Rattle.lam_syntax.specs.declared.terms.Prefix.TheVariants as prefix
 use Rattle.lam_syntax.specs.Trees as tree
 use Rattle.lam_syntax.specs.Trees.{word, bound, TypeTree, type_tree, TypeNode, bool, nat, unit, top, named, arrow, record_type, TypeFields, no_type_fields, type_field, TermTree, term_tree, TermNode, CommandTree, definition, declaration, evaluation, term_span}
 use Rattle.lam_scope.specs.declared.numbers.Origin.TheVariants.{Declaration, TypeName}
+use Rattle.lam_scope.specs.declared.rows.Rows.{Rows}
 use Rattle.lam_scope.specs.Names.{Name, count}
 use Rattle.lam_scope.specs.Expansions.{Abbreviation, expansion}
 use Rattle.lam_scope.specs.Nameless.{use_counted, prefixed, nameless, nameless_node, nameless_fields, statements, abbreviations_after, names_after}
 use Rattle.lam_scope.specs.Places.{written, of_term, Scope, Place, places, places_in, places_of}
+use Rattle.lam_scope.specs.TableViews.{rows_of, terms_start, text_place}
 use Rattle.lam_scope.specs.Sights.{inside, inside_fields, lambda_at, term_at}
 use Rattle.lam_scope.specs.Tables.{Table, ◌⊕◌, Entry, entry, binder_row, place_row, root, behind, roots, below, below_node, below_fields, binders_in, type_uses, node_uses, field_uses, term_table, node_table, fields_table, command_table, commands_table, table, types_seen_after, names_seen_after, binders_in_command, places_in_command}
+use Rattle.lam_scope.proofs.Slices.{sliced-length}
 
 -- of tables behind one another
 
@@ -210,3 +213,6 @@ same_places types names n k i s bs xs (evaluation t ∷ cs) =
 
 pub as_many_places : (cs : List CommandTree) → length (places_of [] (statements [] [] cs)) ≡ length (table cs).places
 as_many_places cs = sym (same_places [] [] 0 0 0 [] [] [] cs)
+
+pub rows_counted : (r : Rows) (cs : List CommandTree) → rows_of r ≡ table cs → length r.places.items ≡ length (places_of [] (statements [] [] cs))
+rows_counted r cs same = sym (sliced-length terms_start text_place r.terms.items r.places.items) ∙ ap (λ t. length t.places) same ∙ sym (as_many_places cs)

@@ -19,4 +19,5 @@ pub mod Expanded
 pub mod PlacedTerms
 pub mod Stretches
 pub mod RowStretches
+pub mod StatementViews
 pub mod Views

@@ -5,9 +5,6 @@ use Rattle.std.specs.declared.alloc.Global.{Global}
 use Rattle.lam_rules.specs.Types.{Fields}
 use Rattle.lam_rules.specs.TypeViews.{fields_of}
 use Rattle.lam_rules.specs.declared.types.Ty.{Ty}
-use Rattle.lam_rules.specs.TermViews.{term_of, written_of}
-use Rattle.lam_scope.specs.declared.statement.Statement.{Statement as RustStatement}
-use Rattle.lam_scope.specs.declared.statement.Statement.TheVariants as rust
 use Rattle.lam_scope.specs.declared.abbreviations.Abbreviations.{Abbreviations}
 use Rattle.lam_syntax.specs.Trees.{CommandTree}
 use Rattle.lam_token.specs.declared.span.Span.{Span}
@@ -21,14 +18,8 @@ use Rattle.lam_scope.specs.Tables.{Table, table, tokens_by}
 use Rattle.lam_scope.specs.TableViews.{rows_of, lists_in}
 use Rattle.lam_scope.specs.Expansions.{Abbreviation}
 use Rattle.lam_scope.specs.Abbreviations.{abbreviations_in}
-use Rattle.lam_scope.specs.Places.{Statement, defines, declares, abbreviates, states}
-
--- what a `Statement` says: a term, or a type, which is none where the written one is faulty
-abbrev pub statement_of : RustStatement → Statement
-statement_of (rust.Definition e) = defines (term_of e)
-statement_of (rust.Declaration w) = declares (written_of w)
-statement_of (rust.Abbreviation w) = abbreviates (written_of w)
-statement_of (rust.Evaluation e) = states (term_of e)
+use Rattle.lam_scope.specs.Places.{Statement}
+pub use Rattle.lam_scope.specs.StatementViews.{statement_of}
 
 -- what the commands of a nameless document state, in their order
 abbrev pub statements_of : Resolved → List Statement

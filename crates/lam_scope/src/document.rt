@@ -41,6 +41,7 @@ pub fn resolve(alloc: Global, commands: &[Command], scopes: &Scopes) -> Result<R
         statements,
         origins,
         faults: forming.faults,
+        places: scopes.rows.place_count(),
     })
 }
 

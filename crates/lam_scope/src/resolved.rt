@@ -3,7 +3,7 @@ ghost use Rattle.std.specs.Prelude.{◌≡◌, ◌<◌, [], map, length};
 ghost use Rattle.lam_rules.specs.TermViews.{term_of};
 ghost use Rattle.lam_scope.specs.Places.{places_of, place_numbered};
 ghost use Rattle.lam_scope.specs.Found.{terms_stated, seek, sought_of};
-ghost use Rattle.lam_scope.specs.Views.{statement_of, statements_of, origins_of, faults_of};
+ghost use Rattle.lam_scope.specs.StatementViews.{statement_of};
 
 use crate::fault::TypeFault;
 use crate::numbers::{Origin, Place};
@@ -18,9 +18,13 @@ pub struct Resolved {
     pub(crate) statements: Vec<Statement>,
     pub(crate) origins: Vec<Origin>,
     pub(crate) faults: Vec<TypeFault>,
+    pub(crate) places: usize,
+    ghost places_counted: { places ≡ length (places_of [] (map statement_of statements.items)) },
 }
 
 impl Resolved {
+    ghost use Rattle.lam_scope.specs.Views.{statements_of, origins_of, faults_of};
+
     /// What the commands state, in their order.
     pub fn statements(&self) -> &[Statement]
         ensures { map statement_of result.now ≡ statements_of self.now }
@@ -40,6 +44,13 @@ impl Resolved {
         ensures { result.now ≡ faults_of self.now }
     {
         &self.faults
+    }
+
+    /// How many places the statements have.
+    pub fn place_count(&self) -> usize
+        ensures { result ≡ length (places_of [] (statements_of self.now)) }
+    {
+        self.places
     }
 
     /// The term of a place. The search for it goes over the places before it.

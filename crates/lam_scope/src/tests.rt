@@ -221,11 +221,12 @@ fn expansions_have_a_limit(rt: HostRuntime) -> Result<(), Fail> {
     Ok(())
 }
 
-/// A text, the number of its statements, and where each of its binders takes its type from.
-static ORIGINS: [(&str, usize, &[Origin]); 2] = [
+/// A text, the numbers of its statements and of its places, and where each of its binders takes its type from.
+static ORIGINS: [(&str, usize, usize, &[Origin]); 3] = [
     (
         "x = 0; T = Nat; y : T; lambda _:T. let z = x in z",
         4,
+        5,
         &[
             Origin::Term(Place(0)),
             Origin::TypeName,
@@ -237,6 +238,7 @@ static ORIGINS: [(&str, usize, &[Origin]); 2] = [
     (
         "x = 0; T = Nat; lambda _:T. lambda y:T. x y z",
         3,
+        8,
         &[
             Origin::Term(Place(0)),
             Origin::TypeName,
@@ -244,18 +246,25 @@ static ORIGINS: [(&str, usize, &[Origin]); 2] = [
             Origin::Lambda(Place(6)),
         ],
     ),
+    (
+        "letrec x:Nat = true in x",
+        1,
+        5,
+        &[Origin::Lambda(Place(1)), Origin::Term(Place(2))],
+    ),
 ];
 
 #[test]
 fn binders_take_their_types_from_places_and_statements(rt: HostRuntime) -> Result<(), Fail> {
     let alloc = rt.alloc();
-    for (text, statements, origins) in &ORIGINS {
+    for (text, statements, places, origins) in &ORIGINS {
         let commands = commands_of(&rt, alloc, text)?;
         let scopes = bind(alloc, &commands)?;
         let resolved = resolve(alloc, &commands, &scopes)
             .ok()
             .expect(&rt, "its forms");
         assert_eq!(rt; resolved.statements().len(), *statements, "of {text:?}");
+        assert_eq!(rt; resolved.place_count(), *places, "of {text:?}");
         assert_eq!(rt; resolved.origins(), *origins, "of {text:?}");
     }
     Ok(())

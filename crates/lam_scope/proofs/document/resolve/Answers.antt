@@ -1,7 +1,7 @@
 use Rattle.std.proofs.Common.{sym, ◌∙◌, ap, map, length, []}
 use Rattle.lam_syntax.specs.Views.{command_of}
 use Rattle.lam_scope.specs.Places.{places_of}
-use Rattle.lam_scope.proofs.PlaceCounts.{as_many_places}
+use Rattle.lam_scope.proofs.PlaceCounts.{as_many_places, rows_counted}
 use Rattle.lam_scope.proofs.Resolving.{origins-rows}
 use Rattle.lam_scope.proofs.document.resolve.Goals as goal
 
@@ -15,3 +15,11 @@ returns-clause-origins c =
 pub returns-clause-places : goal.returns-clause-places
 returns-clause-places c =
     (ap (λ ss. length (places_of [] ss)) c.in_ok-abbreviations.ensures.statements ∙ as_many_places (map command_of c.args.commands.now))
+
+pub invariant_of-result : goal.invariant_of-result
+invariant_of-result c = record {
+  places_counted =
+      c.place_count.ensures
+      ∙ rows_counted c.args.scopes.now.rows (map command_of c.args.commands.now) c.requires.same_table
+      ∙ ap (λ ss. length (places_of [] ss)) (sym c.in_ok-abbreviations.ensures.statements);
+}
