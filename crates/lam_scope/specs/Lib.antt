@@ -21,3 +21,4 @@ pub mod Stretches
 pub mod RowStretches
 pub mod StatementViews
 pub mod Views
+pub mod Formed

@@ -3,12 +3,13 @@
 ghost use Rattle.std.specs.Prelude.{◌≡◌, ◌++◌, ◌∷◌, [], IfOk, OnOk};
 ghost use Rattle.lam_syntax.specs.Letters.{letters};
 ghost use Rattle.lam_rules.specs.TermViews.{term_of, terms_of, written_of};
-ghost use Rattle.lam_rules.specs.Terms.{numeral, record_term};
-ghost use Rattle.lam_syntax.specs.Trees.{lambda, if_term, let_term, letrec_term, prefixed as prefixed_term, apply, project, ascribe};
-ghost use Rattle.lam_syntax.specs.Views.{term_of as tree_of, fields_of, bound_of, word_of, type_of};
-ghost use Rattle.lam_scope.specs.Counted.{first_between, past_first, past_type, past, past_node, past_fields, counted, counted_node, counted_fields};
+ghost use Rattle.lam_rules.specs.Terms.{numeral};
+ghost use Rattle.lam_syntax.specs.Trees.{lambda, if_term, let_term, letrec_term, prefixed as prefixed_term, apply, project, ascribe, record_term};
+ghost use Rattle.lam_syntax.specs.Views.{term_of as tree_of, term_node_of, fields_of, bound_of, word_of, type_of};
+ghost use Rattle.lam_scope.specs.Counted.{first_between, past_first, past_type, past_fields, counted_fields};
 ghost use Rattle.lam_scope.specs.Expansions.{expansion, type_faults, is_capped};
-ghost use Rattle.lam_scope.specs.Nameless.{use_counted, prefixed, written_in, written_in_node, written_in_fields, faults_in, first_over_limit};
+ghost use Rattle.lam_scope.specs.Formed.{IsFormed};
+ghost use Rattle.lam_scope.specs.Nameless.{use_counted, prefixed, written_in_fields, faults_in, first_over_limit};
 ghost use Rattle.lam_scope.specs.Views.{abbreviations_of, IsLimit};
 
 use crate::abbreviations::Abbreviations;
@@ -41,10 +42,7 @@ pub(crate) fn nameless(
     seen: &Abbreviations<'_>,
     term: &Tm,
 ) -> Result<Core, ScopeFault>
-    ensures form { IfOk result (λ e. term_of e ≡ counted (abbreviations_of seen.now) (tree_of term.now) forming.old.uses) }
-    ensures uses { OnOk result (forming.new.uses ≡ past (tree_of term.now) forming.old.uses) }
-    ensures faults { OnOk result (forming.new.faults.items ≡ forming.old.faults.items ++ faults_in (abbreviations_of seen.now) (written_in (tree_of term.now))) }
-    ensures limit { IsLimit (first_over_limit (abbreviations_of seen.now) (written_in (tree_of term.now))) result }
+    ensures { IsFormed (abbreviations_of seen.now) (term_node_of term.now.node) forming.old forming.new result }
 {
     match &term.node {
         TmNode::True => Ok(Core::True),
@@ -102,10 +100,7 @@ fn lambda_of(
     seen: &Abbreviations<'_>,
     term: &Lambda,
 ) -> Result<Core, ScopeFault>
-    ensures form { IfOk result (λ e. term_of e ≡ counted_node (abbreviations_of seen.now) (lambda (bound_of term.now.binder) (type_of term.now.ty) (tree_of term.now.body)) forming.old.uses) }
-    ensures uses { OnOk result (forming.new.uses ≡ past_node (lambda (bound_of term.now.binder) (type_of term.now.ty) (tree_of term.now.body)) forming.old.uses) }
-    ensures faults { OnOk result (forming.new.faults.items ≡ forming.old.faults.items ++ faults_in (abbreviations_of seen.now) (written_in_node (lambda (bound_of term.now.binder) (type_of term.now.ty) (tree_of term.now.body)))) }
-    ensures limit { IsLimit (first_over_limit (abbreviations_of seen.now) (written_in_node (lambda (bound_of term.now.binder) (type_of term.now.ty) (tree_of term.now.body)))) result }
+    ensures { IsFormed (abbreviations_of seen.now) (lambda (bound_of term.now.binder) (type_of term.now.ty) (tree_of term.now.body)) forming.old forming.new result }
 {
     let written = nameless_type(forming, seen, &term.ty)?;
     let body = nameless(forming, seen, &term.body)?;
@@ -119,10 +114,7 @@ fn if_of(
     seen: &Abbreviations<'_>,
     term: &Conditional,
 ) -> Result<Core, ScopeFault>
-    ensures form { IfOk result (λ e. term_of e ≡ counted_node (abbreviations_of seen.now) (if_term (tree_of term.now.condition) (tree_of term.now.then_term) (tree_of term.now.else_term)) forming.old.uses) }
-    ensures uses { OnOk result (forming.new.uses ≡ past_node (if_term (tree_of term.now.condition) (tree_of term.now.then_term) (tree_of term.now.else_term)) forming.old.uses) }
-    ensures faults { OnOk result (forming.new.faults.items ≡ forming.old.faults.items ++ faults_in (abbreviations_of seen.now) (written_in_node (if_term (tree_of term.now.condition) (tree_of term.now.then_term) (tree_of term.now.else_term)))) }
-    ensures limit { IsLimit (first_over_limit (abbreviations_of seen.now) (written_in_node (if_term (tree_of term.now.condition) (tree_of term.now.then_term) (tree_of term.now.else_term)))) result }
+    ensures { IsFormed (abbreviations_of seen.now) (if_term (tree_of term.now.condition) (tree_of term.now.then_term) (tree_of term.now.else_term)) forming.old forming.new result }
 {
     let first = nameless(forming, seen, &term.condition)?;
     let second = nameless(forming, seen, &term.then_term)?;
@@ -137,10 +129,7 @@ fn let_of(
     seen: &Abbreviations<'_>,
     term: &Let,
 ) -> Result<Core, ScopeFault>
-    ensures form { IfOk result (λ e. term_of e ≡ counted_node (abbreviations_of seen.now) (let_term (bound_of term.now.binder) (tree_of term.now.bound) (tree_of term.now.body)) forming.old.uses) }
-    ensures uses { OnOk result (forming.new.uses ≡ past_node (let_term (bound_of term.now.binder) (tree_of term.now.bound) (tree_of term.now.body)) forming.old.uses) }
-    ensures faults { OnOk result (forming.new.faults.items ≡ forming.old.faults.items ++ faults_in (abbreviations_of seen.now) (written_in_node (let_term (bound_of term.now.binder) (tree_of term.now.bound) (tree_of term.now.body)))) }
-    ensures limit { IsLimit (first_over_limit (abbreviations_of seen.now) (written_in_node (let_term (bound_of term.now.binder) (tree_of term.now.bound) (tree_of term.now.body)))) result }
+    ensures { IsFormed (abbreviations_of seen.now) (let_term (bound_of term.now.binder) (tree_of term.now.bound) (tree_of term.now.body)) forming.old forming.new result }
 {
     let first = nameless(forming, seen, &term.bound)?;
     let second = nameless(forming, seen, &term.body)?;
@@ -154,10 +143,7 @@ fn letrec_of(
     seen: &Abbreviations<'_>,
     term: &Letrec,
 ) -> Result<Core, ScopeFault>
-    ensures form { IfOk result (λ e. term_of e ≡ counted_node (abbreviations_of seen.now) (letrec_term (bound_of term.now.binder) (type_of term.now.ty) (tree_of term.now.bound) (tree_of term.now.body)) forming.old.uses) }
-    ensures uses { OnOk result (forming.new.uses ≡ past_node (letrec_term (bound_of term.now.binder) (type_of term.now.ty) (tree_of term.now.bound) (tree_of term.now.body)) forming.old.uses) }
-    ensures faults { OnOk result (forming.new.faults.items ≡ forming.old.faults.items ++ faults_in (abbreviations_of seen.now) (written_in_node (letrec_term (bound_of term.now.binder) (type_of term.now.ty) (tree_of term.now.bound) (tree_of term.now.body)))) }
-    ensures limit { IsLimit (first_over_limit (abbreviations_of seen.now) (written_in_node (letrec_term (bound_of term.now.binder) (type_of term.now.ty) (tree_of term.now.bound) (tree_of term.now.body)))) result }
+    ensures { IsFormed (abbreviations_of seen.now) (letrec_term (bound_of term.now.binder) (type_of term.now.ty) (tree_of term.now.bound) (tree_of term.now.body)) forming.old forming.new result }
 {
     let written = nameless_type(forming, seen, &term.ty)?;
     let first = nameless(forming, seen, &term.bound)?;
@@ -173,10 +159,7 @@ fn prefixed_of(
     prefix: Prefix,
     operand: &Tm,
 ) -> Result<Core, ScopeFault>
-    ensures form { IfOk result (λ e. term_of e ≡ counted_node (abbreviations_of seen.now) (prefixed_term prefix (tree_of operand.now)) forming.old.uses) }
-    ensures uses { OnOk result (forming.new.uses ≡ past_node (prefixed_term prefix (tree_of operand.now)) forming.old.uses) }
-    ensures faults { OnOk result (forming.new.faults.items ≡ forming.old.faults.items ++ faults_in (abbreviations_of seen.now) (written_in_node (prefixed_term prefix (tree_of operand.now)))) }
-    ensures limit { IsLimit (first_over_limit (abbreviations_of seen.now) (written_in_node (prefixed_term prefix (tree_of operand.now)))) result }
+    ensures { IsFormed (abbreviations_of seen.now) (prefixed_term prefix (tree_of operand.now)) forming.old forming.new result }
 {
     let form = nameless(forming, seen, operand)?;
     Ok(make_prefixed(prefix, Box::new(forming.alloc, form)?))
@@ -189,10 +172,7 @@ fn apply_of(
     seen: &Abbreviations<'_>,
     term: &Application,
 ) -> Result<Core, ScopeFault>
-    ensures form { IfOk result (λ e. term_of e ≡ counted_node (abbreviations_of seen.now) (apply (tree_of term.now.function) (tree_of term.now.argument)) forming.old.uses) }
-    ensures uses { OnOk result (forming.new.uses ≡ past_node (apply (tree_of term.now.function) (tree_of term.now.argument)) forming.old.uses) }
-    ensures faults { OnOk result (forming.new.faults.items ≡ forming.old.faults.items ++ faults_in (abbreviations_of seen.now) (written_in_node (apply (tree_of term.now.function) (tree_of term.now.argument)))) }
-    ensures limit { IsLimit (first_over_limit (abbreviations_of seen.now) (written_in_node (apply (tree_of term.now.function) (tree_of term.now.argument)))) result }
+    ensures { IsFormed (abbreviations_of seen.now) (apply (tree_of term.now.function) (tree_of term.now.argument)) forming.old forming.new result }
 {
     let first = nameless(forming, seen, &term.function)?;
     let second = nameless(forming, seen, &term.argument)?;
@@ -206,10 +186,7 @@ fn project_of(
     seen: &Abbreviations<'_>,
     term: &Projection,
 ) -> Result<Core, ScopeFault>
-    ensures form { IfOk result (λ e. term_of e ≡ counted_node (abbreviations_of seen.now) (project (tree_of term.now.record) (word_of term.now.label)) forming.old.uses) }
-    ensures uses { OnOk result (forming.new.uses ≡ past_node (project (tree_of term.now.record) (word_of term.now.label)) forming.old.uses) }
-    ensures faults { OnOk result (forming.new.faults.items ≡ forming.old.faults.items ++ faults_in (abbreviations_of seen.now) (written_in_node (project (tree_of term.now.record) (word_of term.now.label)))) }
-    ensures limit { IsLimit (first_over_limit (abbreviations_of seen.now) (written_in_node (project (tree_of term.now.record) (word_of term.now.label)))) result }
+    ensures { IsFormed (abbreviations_of seen.now) (project (tree_of term.now.record) (word_of term.now.label)) forming.old forming.new result }
 {
     let form = nameless(forming, seen, &term.record)?;
     let copy = String::from_str(forming.alloc, term.label.text.as_str())?;
@@ -223,10 +200,7 @@ fn ascribe_of(
     seen: &Abbreviations<'_>,
     term: &Ascription,
 ) -> Result<Core, ScopeFault>
-    ensures form { IfOk result (λ e. term_of e ≡ counted_node (abbreviations_of seen.now) (ascribe (tree_of term.now.operand) (type_of term.now.ty)) forming.old.uses) }
-    ensures uses { OnOk result (forming.new.uses ≡ past_node (ascribe (tree_of term.now.operand) (type_of term.now.ty)) forming.old.uses) }
-    ensures faults { OnOk result (forming.new.faults.items ≡ forming.old.faults.items ++ faults_in (abbreviations_of seen.now) (written_in_node (ascribe (tree_of term.now.operand) (type_of term.now.ty)))) }
-    ensures limit { IsLimit (first_over_limit (abbreviations_of seen.now) (written_in_node (ascribe (tree_of term.now.operand) (type_of term.now.ty)))) result }
+    ensures { IsFormed (abbreviations_of seen.now) (ascribe (tree_of term.now.operand) (type_of term.now.ty)) forming.old forming.new result }
 {
     let form = nameless(forming, seen, &term.operand)?;
     let written = nameless_type(forming, seen, &term.ty)?;
@@ -240,10 +214,7 @@ fn record_of(
     seen: &Abbreviations<'_>,
     fields: &[TmField],
 ) -> Result<Core, ScopeFault>
-    ensures form { IfOk result (λ e. term_of e ≡ record_term (counted_fields (abbreviations_of seen.now) (fields_of fields.now) forming.old.uses)) }
-    ensures uses { OnOk result (forming.new.uses ≡ past_fields (fields_of fields.now) forming.old.uses) }
-    ensures faults { OnOk result (forming.new.faults.items ≡ forming.old.faults.items ++ faults_in (abbreviations_of seen.now) (written_in_fields (fields_of fields.now))) }
-    ensures limit { IsLimit (first_over_limit (abbreviations_of seen.now) (written_in_fields (fields_of fields.now))) result }
+    ensures { IsFormed (abbreviations_of seen.now) (record_term (fields_of fields.now)) forming.old forming.new result }
 {
     let forms = nameless_fields(forming, seen, fields)?;
     Ok(Core::Record(forms))
