@@ -22,3 +22,4 @@ pub mod RowStretches
 pub mod StatementViews
 pub mod Views
 pub mod Formed
+pub mod Walked

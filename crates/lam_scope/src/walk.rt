@@ -8,6 +8,7 @@ ghost use Rattle.lam_syntax.specs.Views.{bound_of, type_of, type_fields_of, term
 ghost use Rattle.lam_scope.specs.Sights.{lambda_at, term_at};
 ghost use Rattle.lam_scope.specs.Tables.{◌⊕◌, entry, binder_row, place_row, root, behind, roots_of_fields, binders_in, binders_in_node, binders_in_fields, below_fields, type_uses, field_uses, term_table, node_table, letrec_rows, fields_table, command_table, types_seen_after, names_seen_after, binders_in_command, places_in_command};
 ghost use Rattle.lam_scope.specs.TableViews.{place_number, rows_of, entry_of, with_origin};
+ghost use Rattle.lam_scope.specs.Walked.{IsWalked};
 
 use crate::names::name_of;
 use crate::numbers::{Binder, Origin, Place};
@@ -128,10 +129,7 @@ fn walk_term<'a>(
     names: &mut Seen<'a>,
     term: &'a Tm,
 ) -> Result<Place, AllocError>
-    ensures table { OnOk result (rows_of rows.new ≡ rows_of rows.old ⊕ term_table types.now names.old (length rows.old.binders.items) (length rows.old.places.items) (term_of term.now)) }
-    ensures place { IfOk result (λ p. p.0 ≡ root (length rows.old.places.items) (term_of term.now)) }
-    ensures binders { OnOk result (length rows.new.binders.items ≡ length rows.old.binders.items + binders_in (term_of term.now)) }
-    ensures places { OnOk result (length rows.new.places.items ≡ behind (length rows.old.places.items) (term_of term.now)) }
+    ensures walked { IsWalked types.now names.old (term_of term.now) rows.old rows.new result }
     ensures names { OnOk result (names.new ≡ names.old) }
 {
     let span = term.span;
@@ -181,10 +179,7 @@ fn walk_if<'a>(
     span: Span,
     term: &'a Conditional,
 ) -> Result<Place, AllocError>
-    ensures table { OnOk result (rows_of rows.new ≡ rows_of rows.old ⊕ term_table types.now names.old (length rows.old.binders.items) (length rows.old.places.items) (term_tree span (if_term (term_of term.now.condition) (term_of term.now.then_term) (term_of term.now.else_term)))) }
-    ensures place { IfOk result (λ p. p.0 ≡ root (length rows.old.places.items) (term_tree span (if_term (term_of term.now.condition) (term_of term.now.then_term) (term_of term.now.else_term)))) }
-    ensures binders { OnOk result (length rows.new.binders.items ≡ length rows.old.binders.items + binders_in_node (if_term (term_of term.now.condition) (term_of term.now.then_term) (term_of term.now.else_term))) }
-    ensures places { OnOk result (length rows.new.places.items ≡ behind (length rows.old.places.items) (term_tree span (if_term (term_of term.now.condition) (term_of term.now.then_term) (term_of term.now.else_term)))) }
+    ensures walked { IsWalked types.now names.old (term_tree span (if_term (term_of term.now.condition) (term_of term.now.then_term) (term_of term.now.else_term))) rows.old rows.new result }
     ensures names { OnOk result (names.new ≡ names.old) }
 {
     let first = walk_term(rows, types, names, &term.condition)?;
@@ -202,10 +197,7 @@ fn walk_let<'a>(
     span: Span,
     term: &'a Let,
 ) -> Result<Place, AllocError>
-    ensures table { OnOk result (rows_of rows.new ≡ rows_of rows.old ⊕ term_table types.now names.old (length rows.old.binders.items) (length rows.old.places.items) (term_tree span (let_term (bound_of term.now.binder) (term_of term.now.bound) (term_of term.now.body)))) }
-    ensures place { IfOk result (λ p. p.0 ≡ root (length rows.old.places.items) (term_tree span (let_term (bound_of term.now.binder) (term_of term.now.bound) (term_of term.now.body)))) }
-    ensures binders { OnOk result (length rows.new.binders.items ≡ length rows.old.binders.items + binders_in_node (let_term (bound_of term.now.binder) (term_of term.now.bound) (term_of term.now.body))) }
-    ensures places { OnOk result (length rows.new.places.items ≡ behind (length rows.old.places.items) (term_tree span (let_term (bound_of term.now.binder) (term_of term.now.bound) (term_of term.now.body)))) }
+    ensures walked { IsWalked types.now names.old (term_tree span (let_term (bound_of term.now.binder) (term_of term.now.bound) (term_of term.now.body))) rows.old rows.new result }
     ensures names { OnOk result (names.new ≡ names.old) }
 {
     let seen = seen_as(&term.binder, rows.binder_count());
@@ -224,10 +216,7 @@ fn walk_letrec<'a>(
     span: Span,
     term: &'a Letrec,
 ) -> Result<Place, AllocError>
-    ensures table { OnOk result (rows_of rows.new ≡ rows_of rows.old ⊕ term_table types.now names.old (length rows.old.binders.items) (length rows.old.places.items) (term_tree span (letrec_term (bound_of term.now.binder) (type_of term.now.ty) (term_of term.now.bound) (term_of term.now.body)))) }
-    ensures place { IfOk result (λ p. p.0 ≡ root (length rows.old.places.items) (term_tree span (letrec_term (bound_of term.now.binder) (type_of term.now.ty) (term_of term.now.bound) (term_of term.now.body)))) }
-    ensures binders { OnOk result (length rows.new.binders.items ≡ length rows.old.binders.items + binders_in_node (letrec_term (bound_of term.now.binder) (type_of term.now.ty) (term_of term.now.bound) (term_of term.now.body))) }
-    ensures places { OnOk result (length rows.new.places.items ≡ behind (length rows.old.places.items) (term_tree span (letrec_term (bound_of term.now.binder) (type_of term.now.ty) (term_of term.now.bound) (term_of term.now.body)))) }
+    ensures walked { IsWalked types.now names.old (term_tree span (letrec_term (bound_of term.now.binder) (type_of term.now.ty) (term_of term.now.bound) (term_of term.now.body))) rows.old rows.new result }
     ensures names { OnOk result (names.new ≡ names.old) }
 {
     let seen = seen_as(&term.binder, rows.binder_count() + 1);
@@ -245,10 +234,7 @@ fn walk_apply<'a>(
     span: Span,
     term: &'a Application,
 ) -> Result<Place, AllocError>
-    ensures table { OnOk result (rows_of rows.new ≡ rows_of rows.old ⊕ term_table types.now names.old (length rows.old.binders.items) (length rows.old.places.items) (term_tree span (apply (term_of term.now.function) (term_of term.now.argument)))) }
-    ensures place { IfOk result (λ p. p.0 ≡ root (length rows.old.places.items) (term_tree span (apply (term_of term.now.function) (term_of term.now.argument)))) }
-    ensures binders { OnOk result (length rows.new.binders.items ≡ length rows.old.binders.items + binders_in_node (apply (term_of term.now.function) (term_of term.now.argument))) }
-    ensures places { OnOk result (length rows.new.places.items ≡ behind (length rows.old.places.items) (term_tree span (apply (term_of term.now.function) (term_of term.now.argument)))) }
+    ensures walked { IsWalked types.now names.old (term_tree span (apply (term_of term.now.function) (term_of term.now.argument))) rows.old rows.new result }
     ensures names { OnOk result (names.new ≡ names.old) }
 {
     let first = walk_term(rows, types, names, &term.function)?;
@@ -289,10 +275,7 @@ fn walk_under<'a>(
     body: &'a Tm,
     seen: SeenBinder<'a>,
 ) -> Result<Place, AllocError>
-    ensures table { OnOk result (rows_of rows.new ≡ rows_of rows.old ⊕ term_table types.now (entry_of seen.entry ∷ names.old) (length rows.old.binders.items) (length rows.old.places.items) (term_of body.now)) }
-    ensures place { IfOk result (λ p. p.0 ≡ root (length rows.old.places.items) (term_of body.now)) }
-    ensures binders { OnOk result (length rows.new.binders.items ≡ length rows.old.binders.items + binders_in (term_of body.now)) }
-    ensures places { OnOk result (length rows.new.places.items ≡ behind (length rows.old.places.items) (term_of body.now)) }
+    ensures walked { IsWalked types.now (entry_of seen.entry ∷ names.old) (term_of body.now) rows.old rows.new result }
     ensures names { OnOk result (names.new ≡ names.old) }
 {
     names.enter(seen)?;

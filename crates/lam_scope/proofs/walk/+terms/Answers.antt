@@ -18,13 +18,13 @@ walk_fields-loop-i-preserved t c =
     let f = c.index-fields-i.result in
     let lt = c.loop-i-test.true in
     let is = c.index-fields-i.is in
-    let e = c.in_ok-place.ensures in
+    let e = c.in_ok-place.ensures.walked in
     record {
-      table = fields_more (rows_of c.loop-i.rows) _ _ _ _ _ _ _ _ _ fs i f lt is e.table e.names e.binders e.places c.loop-i.invariant.table;
+      table = fields_more (rows_of c.loop-i.rows) _ _ _ _ _ _ _ _ _ fs i f lt is e.table c.in_ok-place.ensures.names e.binders e.places c.loop-i.invariant.table;
       terms = roots_more c.loop-i.terms.items _ c.in_ok-place.place _ _ fs i f _ lt is c.in_ok-push.ensures.items e.place e.places c.loop-i.invariant.terms;
       binders = binders_more (length c.loop-i.rows.binders.items) _ _ fs i f lt is e.binders c.loop-i.invariant.binders;
       places = places_more (length c.loop-i.rows.places.items) _ _ fs i f lt is e.places c.loop-i.invariant.places;
-      names = e.names ∙ c.loop-i.invariant.names;
+      names = c.in_ok-place.ensures.names ∙ c.loop-i.invariant.names;
     }
 
 pub walk_fields-returns-clause-table : goal.walk_fields-returns-clause-table
@@ -34,7 +34,7 @@ pub walk_bound-returns-clause-table : goal.walk_bound-returns-clause-table
 walk_bound-returns-clause-table t c =
     let old = c.args.rows.now in
     let added = c.in_ok-add_binder.ensures in
-    let walked = c.in_ok-place.ensures in
+    let walked = c.in_ok-place.ensures.walked in
     let tree = term_of c.args.bound.now in
     bound_rows (rows_of old) _ _ _ _ _ _ _ _ _ _ _ _ _
     (added.table ∙ ap (λ a. rows_of old ⊕ binder_row (option_map (λ x. letters x.now) c.args.name) c.args.token c.args.names.now a TypeName) c.binder_count.ensures)
@@ -48,7 +48,7 @@ walk_lambda-returns-clause-table t c =
     let nm = c.args.names.now in
     let added = c.in_ok-add_binder.ensures in
     let typed = c.in_ok-walk_type.ensures in
-    let walked = c.in_ok-place.ensures in
+    let walked = c.in_ok-place.ensures.walked in
     let named = c.seen_as-seen.ensures in
     let tree = term_of c.args.term.now.body in
     let same_places = typed.places ∙ added.places in
@@ -66,7 +66,7 @@ walk_fix-returns-clause-table t c =
     let first = c.in_ok-add_binder.ensures in
     let second = c.in_ok-add_binder-2.ensures in
     let typed = c.in_ok-walk_type.ensures in
-    let walked = c.in_ok-place.ensures in
+    let walked = c.in_ok-place.ensures.walked in
     let tree = term_of c.args.term.now.bound in
     let n = length old.binders.items in
     let two_more : n + 1 + 1 ≡ n + 2 = omega arith in
@@ -74,7 +74,7 @@ walk_fix-returns-clause-table t c =
     letrec_walked c.args.types.now c.args.names.now c.walk_under.new.names (rows_of old) (rows_of c.add_binder.new.self) (rows_of c.add_binder-2.new.self) (rows_of c.walk_type.new.rows)
     (rows_of c.walk_under.new.rows) (rows_of c.add_derived.new.rows) _ _ _ _ c.args.term.now.bound.span c.binder_count.result n
     (length c.walk_type.new.rows.binders.items) (length old.places.items) (length c.walk_type.new.rows.places.items) (length c.walk_under.new.rows.places.items) c.in_ok-place.place.0 tree
-    c.name_of.ensures c.binder_count.ensures first.table second.table typed.table walked.table c.in_ok-fixed.ensures.table walked.names
+    c.name_of.ensures c.binder_count.ensures first.table second.table typed.table walked.table c.in_ok-fixed.ensures.table c.in_ok-place.ensures.names
     (ap (λ v. length v.items) typed.binders ∙ second.binders ∙ ap (λ m. m + 1) first.binders ∙ two_more)
     same_places
     (walked.places ∙ ap (λ m. behind m tree) same_places)
