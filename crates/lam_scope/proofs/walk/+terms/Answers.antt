@@ -1,12 +1,12 @@
-use Rattle.std.proofs.Common.{sym, ◌∙◌, ap, length, ◌≡◌, ◌+◌, ◌∷◌, arith}
+use Rattle.std.proofs.Common.{sym, ◌∙◌, ap, map, length, ◌≡◌, ◌+◌, ◌∷◌, arith}
 use Rattle.lam_syntax.specs.Letters.{letters}
 use Rattle.std.specs.Option.{option_map}
 use Rattle.lam_syntax.specs.Views.{term_of}
 use Rattle.lam_scope.specs.declared.numbers.Origin.TheVariants.{TypeName}
 use Rattle.lam_scope.specs.Sights.{lambda_at, term_at}
 use Rattle.lam_scope.specs.Tables.{◌⊕◌, entry, root, behind, binder_row, term_table}
-use Rattle.std.proofs.lemmas.List.{length-map}
-use Rattle.lam_scope.specs.TableViews.{rows_of, text_binder}
+use Rattle.std.proofs.lemmas.List.{append-nil, drop_all, length-map}
+use Rattle.lam_scope.specs.TableViews.{rows_of, place_number, text_binder}
 use Rattle.lam_scope.proofs.TableRows.{fields_more, roots_more, binders_more, places_more, fields_walked, bound_rows, lambda_rows, letrec_walked}
 use Rattle.lam_scope.proofs.TreeSizes.{field_size}
 use Rattle.lam_scope.proofs.walk.+terms.Goals as goal
@@ -29,6 +29,15 @@ walk_fields-loop-i-preserved t c =
 
 pub walk_fields-returns-clause-table : goal.walk_fields-returns-clause-table
 walk_fields-returns-clause-table t c = fields_walked (rows_of c.loop-i.rows) _ c.args.types.now _ _ _ c.args.fields.now c.loop-i.i c.loop-i-test.false c.loop-i.invariant.table
+
+pub walk_fields-returns-clause-terms : goal.walk_fields-returns-clause-terms
+walk_fields-returns-clause-terms t c = sym (append-nil (map place_number c.loop-i.terms.items)) ∙ (rw (drop_all c.loop-i.i c.args.fields.now c.loop-i-test.false) at c.loop-i.invariant.terms)
+
+pub walk_fields-returns-clause-binders : goal.walk_fields-returns-clause-binders
+walk_fields-returns-clause-binders t c = let whole = rw (drop_all c.loop-i.i c.args.fields.now c.loop-i-test.false) at c.loop-i.invariant.binders in omega arith
+
+pub walk_fields-returns-clause-places : goal.walk_fields-returns-clause-places
+walk_fields-returns-clause-places t c = let whole = rw (drop_all c.loop-i.i c.args.fields.now c.loop-i-test.false) at c.loop-i.invariant.places in omega arith
 
 pub walk_bound-returns-clause-table : goal.walk_bound-returns-clause-table
 walk_bound-returns-clause-table t c =
