@@ -1,5 +1,4 @@
 pub mod Reading
-pub mod FirstBytes
 mod AsciiNames
 pub mod Shapes
 pub mod Segments

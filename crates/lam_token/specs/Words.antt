@@ -1,6 +1,5 @@
 -- The words of the language, and what any other text of letters is.
-use Rattle.std.specs.Prelude.{ℕ, Bool, ◌&&◌, ◌==◌, nat_le, if◌then◌else◌, Option, Some, None, List, [], ◌∷◌, codes}
-use Rattle.std.specs.List.{filter}
+use Rattle.std.specs.Prelude.{ℕ, Bool, ◌&&◌, nat_le, if◌then◌else◌, Option, Some, None, List, [], ◌∷◌, codes}
 use Rattle.std.specs.Option.{unwrap_or}
 use Rattle.std.specs.Str.{bytes_eq}
 use Rattle.lam_token.specs.declared.kind.Kind.{Kind}
@@ -31,12 +30,3 @@ kind_of_name first = if is_capital first then TypeName else Name
 -- the kind of a word, given as the bytes of its text: one of the words of the language, and else a name
 unfoldable pub word_kind : (first : ℕ) → List ℕ → Kind
 word_kind first word = unwrap_or (kind_among words word) (kind_of_name first)
-
--- the byte that a text begins with, or 0 for none
-abbrev pub first_byte : List ℕ → ℕ
-first_byte [] = 0
-first_byte (b ∷ bs) = b
-
--- the words that begin with a byte
-unfoldable pub words_beginning : ℕ → List (List ℕ × Kind)
-words_beginning b = filter (λ w. first_byte w.0 == b) words

@@ -1,6 +1,6 @@
 //! The words of the language.
-ghost use Rattle.std.specs.Prelude.{◌≡◌, [], ◌∷◌};
-ghost use Rattle.lam_token.specs.Words.{words, first_byte, words_beginning, kind_among, is_capital, kind_of_name, word_kind};
+ghost use Rattle.std.specs.Prelude.{◌≡◌};
+ghost use Rattle.lam_token.specs.Words.{words, kind_among, is_capital, kind_of_name, word_kind};
 
 use crate::kind::Kind;
 
@@ -32,89 +32,32 @@ fn is_capital(c: char) -> bool
     c >= 'A' && c <= 'Z'
 }
 
-/// The byte that a word begins with, or 0 for none.
-fn first_byte(word: &str) -> u8
-    ensures { result ≡ first_byte word.now }
-{
-    match word.as_bytes().first() {
-        Some(first) => *first,
-        None => 0,
-    }
-}
-
-/// The kind of a word of the language. Most words of a text are names, so a word is compared with those alone that
-/// begin as it does.
-#[tactic(auto, using(crate::proofs::FirstBytes::by_first_byte), unfolding(crate::specs::Words::words_beginning, crate::specs::Words::words))]
+/// The kind of a word of the language. Its bytes are looked at one by one, where a `str` would be compared with each
+/// word in turn.
+#[tactic(auto, unfolding(crate::specs::Words::words))]
 fn language_word(word: &str) -> Option<Kind>
     ensures { result ≡ kind_among words word.now }
 {
-    match first_byte(word) {
-        b'a' => only(word, "as", Kind::As),
-        b'e' => only(word, "else", Kind::Else),
-        b'f' => of_f(word),
-        b'i' => of_i(word),
-        b'l' => of_l(word),
-        b'p' => only(word, "pred", Kind::Pred),
-        b's' => only(word, "succ", Kind::Succ),
-        b't' => of_t(word),
-        b'u' => only(word, "unit", Kind::UnitTerm),
-        b'B' => only(word, "Bool", Kind::BoolType),
-        b'N' => only(word, "Nat", Kind::NatType),
-        b'T' => only(word, "Top", Kind::TopType),
-        b'U' => only(word, "Unit", Kind::UnitType),
-        _ => None,
-    }
-}
-
-/// This kind, if the word is this text.
-fn only(word: &str, text: &str, kind: Kind) -> Option<Kind>
-    ensures { result ≡ kind_among ((text.now, kind) ∷ []) word.now }
-{
-    if word == text { Some(kind) } else { None }
-}
-
-#[tactic(auto, unfolding(crate::specs::Words::words_beginning, crate::specs::Words::words))]
-fn of_f(word: &str) -> Option<Kind>
-    ensures { result ≡ kind_among (words_beginning 102) word.now }
-{
-    match word {
-        "fix" => Some(Kind::Fix),
-        "false" => Some(Kind::False),
-        _ => None,
-    }
-}
-
-#[tactic(auto, unfolding(crate::specs::Words::words_beginning, crate::specs::Words::words))]
-fn of_i(word: &str) -> Option<Kind>
-    ensures { result ≡ kind_among (words_beginning 105) word.now }
-{
-    match word {
-        "if" => Some(Kind::If),
-        "in" => Some(Kind::In),
-        "iszero" => Some(Kind::IsZero),
-        _ => None,
-    }
-}
-
-#[tactic(auto, unfolding(crate::specs::Words::words_beginning, crate::specs::Words::words))]
-fn of_l(word: &str) -> Option<Kind>
-    ensures { result ≡ kind_among (words_beginning 108) word.now }
-{
-    match word {
-        "lambda" => Some(Kind::Lambda),
-        "let" => Some(Kind::Let),
-        "letrec" => Some(Kind::Letrec),
-        _ => None,
-    }
-}
-
-#[tactic(auto, unfolding(crate::specs::Words::words_beginning, crate::specs::Words::words))]
-fn of_t(word: &str) -> Option<Kind>
-    ensures { result ≡ kind_among (words_beginning 116) word.now }
-{
-    match word {
-        "then" => Some(Kind::Then),
-        "true" => Some(Kind::True),
+    match word.as_bytes() {
+        b"lambda" => Some(Kind::Lambda),
+        b"if" => Some(Kind::If),
+        b"then" => Some(Kind::Then),
+        b"else" => Some(Kind::Else),
+        b"let" => Some(Kind::Let),
+        b"letrec" => Some(Kind::Letrec),
+        b"in" => Some(Kind::In),
+        b"fix" => Some(Kind::Fix),
+        b"succ" => Some(Kind::Succ),
+        b"pred" => Some(Kind::Pred),
+        b"iszero" => Some(Kind::IsZero),
+        b"true" => Some(Kind::True),
+        b"false" => Some(Kind::False),
+        b"unit" => Some(Kind::UnitTerm),
+        b"as" => Some(Kind::As),
+        b"Bool" => Some(Kind::BoolType),
+        b"Nat" => Some(Kind::NatType),
+        b"Unit" => Some(Kind::UnitType),
+        b"Top" => Some(Kind::TopType),
         _ => None,
     }
 }
