@@ -1,5 +1,5 @@
 -- What the tests of the code mean to the run.
-use Rattle.std.proofs.Common.{◌≡◌, ℕ, List, [], ◌∷◌, refl, ap, sym, ◌∙◌}
+use Rattle.std.proofs.Common.{◌≡◌, inl, inr, ℕ, List, [], ◌∷◌, refl, ap, sym, ◌∙◌}
 use Rattle.std.specs.Prelude.{Option, Some, None, Result, Ok, Err}
 use Rattle.std.specs.Borrow.{Bor}
 use Rattle.lam_token.specs.declared.kind.Kind.{Kind}
@@ -8,12 +8,13 @@ use Rattle.lam_token.specs.declared.span.Span.{Span}
 use Rattle.lam_token.specs.Lexeme.{Lexeme, lexeme, kind_of, text_of, span_of}
 use Rattle.lam_syntax.specs.declared.terms.Command.{Command}
 use Rattle.lam_syntax.specs.declared.terms.Prefix.{Prefix}
+use Rattle.lam_syntax.specs.declared.terms.Tm.{Tm}
 use Rattle.lam_syntax.specs.declared.stop.Stop.{Stop}
 use Rattle.lam_syntax.specs.declared.stop.Stop.TheVariants.{At, Memory}
 use Rattle.lam_syntax.proofs.Ends.{run-look}
 use Rattle.lam_syntax.specs.Trees.{Word, word, Bound, from_to, term_span, term_tree, project, TypeFields, no_type_fields, type_field, joined_types, TypeTree, TermTree, TermFields, no_fields, field, joined}
-use Rattle.lam_syntax.specs.Run.{Purpose, for_lambda, for_let, for_letrec, in_then, in_let, in_letrec, of_lambda, of_letrec, after_binder, InTerm, InPath, as_head, InType, in_type_field, in_field, State, need_command, after_type_name, need_type, need_type_field, next_type_field, need_binder, need_term, need_field, next_field, after_label, after_type_label, need_label, after_asc, after_atom, of_evaluation, begin_app, begin_atom, ended_type, ended_term, ended_app, ended_asc, applied, outside, Outcome, fault, run, look}
-use Rattle.lam_syntax.specs.Reads.{Reads, ReadsAll, Names, Expects, Front, Starts, NoFront, placed, prefixed_by, type_fields_next, fields_next}
+use Rattle.lam_syntax.specs.Run.{Purpose, for_lambda, for_let, for_letrec, in_condition, in_then, in_let, in_letrec, of_lambda, of_letrec, after_binder, InTerm, InPath, as_head, InType, in_type_field, in_field, State, need_command, after_type_name, need_type, need_type_field, next_type_field, need_binder, need_term, need_field, next_field, after_label, after_type_label, need_label, after_asc, after_atom, of_evaluation, begin_app, begin_atom, ended_type, ended_term, ended_app, ended_asc, applied, outside, Outcome, fault, run, look}
+use Rattle.lam_syntax.specs.Reads.{Reads, ReadsBehind, ReadsAll, Names, Expects, Front, Starts, NoFront, behind_term, placed, prefixed_by, type_fields_next, fields_next}
 
 -- a token of a known kind
 pub known_kind : (tokens rest : List Lexeme) (t : Lexeme) (k : Kind) → tokens ≡ t ∷ rest → k ≡ kind_of t → tokens ≡ lexeme k (text_of t) (span_of t) ∷ rest
@@ -195,14 +196,10 @@ pub field_label_stop : {X : Type 0} (tokens : List Lexeme) (e : Stop) (s : Span)
 field_label_stop tokens (At left) s before k f h = no_field_label tokens s before k h.1 ∙ ap fault (sym h.0)
 field_label_stop tokens Memory s before k f h = tt
 
-no_equals : (tokens : List Lexeme) (s : Span) (before : TermFields) (l : List ℕ) (r : Span) (k : InPath) → NoFront kind.Equals tokens → run tokens (after_label s before (word l r) k) ≡ fault tokens
+pub no_equals : (tokens : List Lexeme) (s : Span) (before : TermFields) (l : List ℕ) (r : Span) (k : InPath) → NoFront kind.Equals tokens → run tokens (after_label s before (word l r) k) ≡ fault tokens
 no_equals [] s before l r k none = refl
 no_equals (lexeme kind.Equals x m ∷ ts) s before l r k none = absurd (none x m ts refl)
 no_equals (lexeme _ x m ∷ ts) s before l r k none = refl
-
-pub equals_stop : {X : Type 0} (tokens rest : List Lexeme) (e : Stop) (s : Span) (before : TermFields) (l : List ℕ) (r : Span) (k : InPath) (f : X → List Lexeme → Outcome) → tokens ≡ lexeme kind.Name l r ∷ rest → Expects kind.Equals rest (Err e) → Reads (Err e) (run tokens (next_field s before k)) f
-equals_stop tokens rest (At left) s before l r k f are h = ap (λ ts. run ts (next_field s before k)) are ∙ no_equals rest s before l r k h.1 ∙ ap fault (sym h.0)
-equals_stop tokens rest Memory s before l r k f are h = tt
 
 -- the labels of a path
 
@@ -232,6 +229,32 @@ reads_same (Err e) o p f same h = reads_stop e o p f f same h
 pub expect_stop : {X : Type 0} (tokens : List Lexeme) (k : Kind) (e : Stop) (o : Outcome) (f : X → List Lexeme → Outcome) (g : List Lexeme → Outcome) → o ≡ g tokens → (NoFront k tokens → g tokens ≡ fault tokens) → Expects k tokens (Err e) → Reads (Err e) o f
 expect_stop tokens k (At left) o f g same stops h = same ∙ stops h.1 ∙ ap fault (sym h.0)
 expect_stop tokens k Memory o f g same stops h = tt
+
+-- a term behind a token: the token is there, or is missing
+
+pub behind_front : (tokens after : List Lexeme) (k : Kind) (s : Span) (r : Result (Tm × Bor (List Lexeme)) Stop) → Front k tokens s after → ((j : InTerm) → Reads r (run after (need_term j)) (behind_term j)) → ReadsBehind k tokens r
+behind_front tokens after k s (Ok r) front read = (s, after, front, read)
+behind_front tokens after k s (Err (At left)) front read = inr (s, after, front, read)
+behind_front tokens after k s (Err Memory) front read = tt
+
+pub behind_none : (tokens : List Lexeme) (k : Kind) (e : Stop) → Expects k tokens (Err e) → ReadsBehind k tokens (Err e)
+behind_none tokens k (At left) h = inl h
+behind_none tokens k Memory h = tt
+
+-- where the run from `g` wants such a token and a term in the place `j`, it stops as the reading of them does, and goes on as it does
+
+pub behind_stop : {X : Type 0} (tokens : List Lexeme) (k : Kind) (e : Stop) (j : InTerm) (o : Outcome) (f : X → List Lexeme → Outcome) (g : List Lexeme → Outcome) → o ≡ g tokens → (NoFront k tokens → g tokens ≡ fault tokens) → ((x : List ℕ) (s : Span) (after : List Lexeme) → g (lexeme k x s ∷ after) ≡ run after (need_term j)) → ReadsBehind k tokens (Err e) → Reads (Err e) o f
+behind_stop tokens k (At left) j o f g same stops there (inl h) = same ∙ stops h.1 ∙ ap fault (sym h.0)
+behind_stop tokens k (At left) j o f g same stops there (inr h) = same ∙ ap g h.2.1 ∙ there h.2.0 h.0 h.1 ∙ h.3 j
+behind_stop tokens k Memory j o f g same stops there h = tt
+
+pub behind_read : (tokens : List Lexeme) (k : Kind) (r : Tm × Bor (List Lexeme)) (j : InTerm) (g : List Lexeme → Outcome) → ((x : List ℕ) (s : Span) (after : List Lexeme) → g (lexeme k x s ∷ after) ≡ run after (need_term j)) → ReadsBehind k tokens (Ok r) → g tokens ≡ behind_term j r.0 r.1.now
+behind_read tokens k r j g there h = ap g h.2.1 ∙ there h.2.0 h.0 h.1 ∙ h.3 j
+
+pub no_then : (tokens : List Lexeme) (c : TermTree) (s : Span) (k : InTerm) → NoFront kind.Then tokens → look tokens (λ o. ended_term o c (in_condition s k)) ≡ fault tokens
+no_then [] c s k none = refl
+no_then (lexeme kind.Then x m ∷ ts) c s k none = absurd (none x m ts refl)
+no_then (lexeme _ x m ∷ ts) c s k none = refl
 
 pub no_lambda_colon : (tokens : List Lexeme) (s : Span) (b : Bound) (k : InTerm) → NoFront kind.Colon tokens → run tokens (after_binder for_lambda s b k) ≡ fault tokens
 no_lambda_colon [] s b k none = refl

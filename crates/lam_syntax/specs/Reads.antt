@@ -1,5 +1,5 @@
 -- What the functions that read a part of a command answer, against the run. For private contracts alone, as `Run` is.
-use Rattle.std.specs.Prelude.{◌≡◌, ℕ, suc, if◌then◌else◌, Option, Some, None, Result, Ok, Err, List, [], ◌∷◌}
+use Rattle.std.specs.Prelude.{◌≡◌, ◌⊎◌, ℕ, suc, if◌then◌else◌, Option, Some, None, Result, Ok, Err, List, [], ◌∷◌}
 use Rattle.std.specs.Borrow.{Bor}
 use Rattle.lam_token.specs.declared.kind.Kind.{Kind}
 use Rattle.lam_token.specs.declared.kind.Kind.TheVariants as kind
@@ -15,8 +15,8 @@ use Rattle.lam_syntax.specs.declared.terms.TmField.{TmField}
 use Rattle.lam_syntax.specs.declared.terms.Command.{Command}
 use Rattle.lam_syntax.specs.declared.types.WrittenTy.{WrittenTy}
 use Rattle.lam_syntax.specs.declared.types.TyField.{TyField}
-use Rattle.lam_syntax.specs.Trees.{word, TermTree, term_tree, term_span, prefixed, record_term, TermFields, no_fields, field, joined, TypeFields, no_type_fields, type_field, joined_types, type_tree, record_type, from_to}
-use Rattle.lam_syntax.specs.Run.{Purpose, InTerm, InPath, as_head, as_operand, after_binder, after_atom, next_field, ended_asc, ended_app, ended_term, applied, outside, tree, InType, after_atype, next_type_field, Next, go, stop, ended_type, Outcome, fault, run, look}
+use Rattle.lam_syntax.specs.Trees.{word, Bound, TermTree, term_tree, term_span, prefixed, record_term, TermFields, no_fields, field, joined, TypeFields, no_type_fields, type_field, joined_types, type_tree, record_type, from_to}
+use Rattle.lam_syntax.specs.Run.{Purpose, InTerm, InPath, as_head, as_operand, after_binder, after_atom, next_field, ended_asc, ended_app, ended_term, applied, outside, tree, InType, need_term, after_atype, next_type_field, Next, go, stop, ended_type, Outcome, fault, run, look}
 use Rattle.lam_syntax.specs.Answers.{is_semicolon}
 use Rattle.lam_syntax.specs.Views.{word_of, bound_of, type_of, term_of, command_of}
 
@@ -78,6 +78,10 @@ Starts ts = ⊥
 abbrev pub behind_binder : Purpose → Span → InTerm → Binder → List Lexeme → Outcome
 behind_binder p s k b rest = run rest (after_binder p s (bound_of b) k)
 
+-- what follows a binder and its type that were read, by what they are for
+abbrev pub behind_typed_binder : (Span → Bound → InTerm → InType) → Span → InTerm → Binder × WrittenTy → List Lexeme → Outcome
+behind_typed_binder of s k b rest = look rest (λ o. ended_type o (type_of b.1) (of s (bound_of b.0) k))
+
 -- what follows an atom that was read
 abbrev pub behind_atom : InPath → Tm → List Lexeme → Outcome
 behind_atom k t rest = run rest (after_atom (term_of t) k)
@@ -93,6 +97,12 @@ behind_path k t rest = look rest (λ o. ended_app o (applied (term_of t) k) (out
 -- what follows a whole term that was read
 abbrev pub behind_term : InTerm → Tm → List Lexeme → Outcome
 behind_term k t rest = look rest (λ o. ended_term o (term_of t) k)
+
+-- A token of that kind is taken off, and a term is read behind it; or reading stops, at the first token or in the term.
+abbrev pub ReadsBehind : Kind → List Lexeme → Result (Tm × Bor (List Lexeme)) Stop → Type 0
+ReadsBehind kind tokens (Ok r) = (s : Span) × (after : List Lexeme) × Front kind tokens s after × ((k : InTerm) → run after (need_term k) ≡ behind_term k r.0 r.1.now)
+ReadsBehind kind tokens (Err (At left)) = ((left.now ≡ tokens) × NoFront kind tokens) ⊎ ((s : Span) × (after : List Lexeme) × Front kind tokens s after × ((k : InTerm) → run after (need_term k) ≡ fault left.now))
+ReadsBehind kind tokens (Err Memory) = Unit {0}
 
 -- where the path behind a prefix, or behind none, stands
 abbrev pub placed : Option (Prefix × Span) → InTerm → InPath

@@ -4,10 +4,10 @@
 //! token that fits nowhere.
 ghost use Rattle.std.specs.Prelude.{◌≡◌, ◌<◌, ◌≤◌, length, IfOk, MatchBool};
 ghost use Rattle.lam_token.specs.declared.span.Span.{Span as TokenSpan};
-ghost use Rattle.lam_syntax.specs.Run.{Purpose, for_lambda, for_let, for_letrec, InTerm, InPath, need_binder, need_term, in_condition, in_parens, after_atom, need_field, next_field, begin_app, begin_atom, run, look};
+ghost use Rattle.lam_syntax.specs.Run.{Purpose, for_lambda, for_let, for_letrec, of_lambda, of_letrec, InTerm, InPath, need_binder, need_term, in_condition, in_parens, after_atom, need_field, next_field, begin_app, begin_atom, run, look};
 ghost use Rattle.lam_syntax.specs.Trees.{TermFields};
 ghost use Rattle.lam_syntax.specs.Views.{term_of};
-ghost use Rattle.lam_syntax.specs.Reads.{Reads, Starts, behind_binder, behind_atom, behind_asc, behind_path, behind_term, behind_field, placed};
+ghost use Rattle.lam_syntax.specs.Reads.{Reads, ReadsBehind, Starts, behind_binder, behind_typed_binder, behind_atom, behind_asc, behind_path, behind_term, behind_field, placed};
 
 use crate::identifier::Binder;
 use crate::parse_types::parse_type;
@@ -18,6 +18,7 @@ use crate::terms::{
 };
 use crate::text::Text;
 use crate::tokens::{expect, expect_name, identifier_of, take};
+use crate::types::WrittenTy;
 use lam_token::{Kind, Span, Token};
 use std::alloc::Global;
 
@@ -43,6 +44,20 @@ pub(crate) fn parse_term<'a, 'b>(
     }
 }
 
+/// A term behind a token of this kind.
+#[cycle(terms)]
+fn parse_term_behind<'a, 'b>(
+    alloc: Global,
+    kind: Kind,
+    tokens: &'a [Token<'b>],
+) -> Result<(Tm, &'a [Token<'b>]), Stop<'a, 'b>>
+    ensures read { ReadsBehind kind tokens.now result }
+    ensures shorter { IfOk result (λ r. length r.1.now < length tokens.now) }
+{
+    let (_, rest) = expect(tokens, kind)?;
+    parse_term(alloc, rest)
+}
+
 /// The binder, type and body of a lambda, behind the keyword, whose span is `first`.
 #[cycle(terms)]
 fn parse_lambda<'a, 'b>(
@@ -53,11 +68,8 @@ fn parse_lambda<'a, 'b>(
     ensures read { (k : InTerm) → Reads result (run tokens.now (need_binder for_lambda first k)) (behind_term k) }
     ensures shorter { IfOk result (λ r. length r.1.now < length tokens.now) }
 {
-    let (binder, rest) = parse_binder(alloc, tokens)?;
-    let (_, rest) = expect(rest, Kind::Colon)?;
-    let (ty, rest) = parse_type(alloc, rest)?;
-    let (_, rest) = expect(rest, Kind::Dot)?;
-    let (body, rest) = parse_term(alloc, rest)?;
+    let ((binder, ty), rest) = parse_typed_binder(alloc, tokens)?;
+    let (body, rest) = parse_term_behind(alloc, Kind::Dot, rest)?;
     let term = make_lambda(alloc, first, binder, ty, body)?;
     Ok((term, rest))
 }
@@ -73,10 +85,8 @@ fn parse_if<'a, 'b>(
     ensures shorter { IfOk result (λ r. length r.1.now < length tokens.now) }
 {
     let (condition, rest) = parse_term(alloc, tokens)?;
-    let (_, rest) = expect(rest, Kind::Then)?;
-    let (then_term, rest) = parse_term(alloc, rest)?;
-    let (_, rest) = expect(rest, Kind::Else)?;
-    let (else_term, rest) = parse_term(alloc, rest)?;
+    let (then_term, rest) = parse_term_behind(alloc, Kind::Then, rest)?;
+    let (else_term, rest) = parse_term_behind(alloc, Kind::Else, rest)?;
     let term = make_if(alloc, first, condition, then_term, else_term)?;
     Ok((term, rest))
 }
@@ -92,10 +102,8 @@ fn parse_let<'a, 'b>(
     ensures shorter { IfOk result (λ r. length r.1.now < length tokens.now) }
 {
     let (binder, rest) = parse_binder(alloc, tokens)?;
-    let (_, rest) = expect(rest, Kind::Equals)?;
-    let (bound, rest) = parse_term(alloc, rest)?;
-    let (_, rest) = expect(rest, Kind::In)?;
-    let (body, rest) = parse_term(alloc, rest)?;
+    let (bound, rest) = parse_term_behind(alloc, Kind::Equals, rest)?;
+    let (body, rest) = parse_term_behind(alloc, Kind::In, rest)?;
     let term = make_let(alloc, first, binder, bound, body)?;
     Ok((term, rest))
 }
@@ -110,13 +118,9 @@ fn parse_letrec<'a, 'b>(
     ensures read { (k : InTerm) → Reads result (run tokens.now (need_binder for_letrec first k)) (behind_term k) }
     ensures shorter { IfOk result (λ r. length r.1.now < length tokens.now) }
 {
-    let (binder, rest) = parse_binder(alloc, tokens)?;
-    let (_, rest) = expect(rest, Kind::Colon)?;
-    let (ty, rest) = parse_type(alloc, rest)?;
-    let (_, rest) = expect(rest, Kind::Equals)?;
-    let (bound, rest) = parse_term(alloc, rest)?;
-    let (_, rest) = expect(rest, Kind::In)?;
-    let (body, rest) = parse_term(alloc, rest)?;
+    let ((binder, ty), rest) = parse_typed_binder(alloc, tokens)?;
+    let (bound, rest) = parse_term_behind(alloc, Kind::Equals, rest)?;
+    let (body, rest) = parse_term_behind(alloc, Kind::In, rest)?;
     let term = make_letrec(alloc, first, binder, ty, bound, body)?;
     Ok((term, rest))
 }
@@ -232,8 +236,7 @@ fn parse_field<'a, 'b>(
     ensures shorter { IfOk result (λ r. length r.1.now < length tokens.now) }
 {
     let (label, rest) = expect_name(alloc, tokens)?;
-    let (_, rest) = expect(rest, Kind::Equals)?;
-    let (term, rest) = parse_term(alloc, rest)?;
+    let (term, rest) = parse_term_behind(alloc, Kind::Equals, rest)?;
     Ok((TmField { label, term }, rest))
 }
 
@@ -257,6 +260,21 @@ fn parse_binder<'a, 'b>(
         Kind::Underscore => Ok((Binder { name: None, span }, rest)),
         _ => Err(Stop::At(tokens)),
     }
+}
+
+/// The name of a binder, or its underscore, and the type that is written to it.
+fn parse_typed_binder<'a, 'b>(
+    alloc: Global,
+    tokens: &'a [Token<'b>],
+) -> Result<((Binder, WrittenTy), &'a [Token<'b>]), Stop<'a, 'b>>
+    ensures lambda { (s : TokenSpan) (k : InTerm) → Reads result (run tokens.now (need_binder for_lambda s k)) (behind_typed_binder of_lambda s k) }
+    ensures letrec { (s : TokenSpan) (k : InTerm) → Reads result (run tokens.now (need_binder for_letrec s k)) (behind_typed_binder of_letrec s k) }
+    ensures shorter { IfOk result (λ r. length r.1.now < length tokens.now) }
+{
+    let (binder, rest) = parse_binder(alloc, tokens)?;
+    let (_, rest) = expect(rest, Kind::Colon)?;
+    let (ty, rest) = parse_type(alloc, rest)?;
+    Ok(((binder, ty), rest))
 }
 
 /// The word that stands before a path, if there is one, and the tokens from the path on.

@@ -1,12 +1,12 @@
-use Rattle.std.proofs.Common.{sym, ◌∙◌, ap, ◌++◌, ◌∷◌, arith}
+use Rattle.std.proofs.Common.{refl, sym, ◌∙◌, ap, ◌++◌, ◌∷◌, arith}
 use Rattle.std.proofs.lemmas.Result.{err_from_is_err_and}
 use Rattle.lam_token.specs.declared.kind.Kind.TheVariants as kind
-use Rattle.lam_syntax.specs.Run.{for_lambda, for_let, for_letrec, of_lambda, of_letrec, in_condition, in_then, in_let, in_letrec, as_argument, after_binder, ended_type, ended_term, ended_app, run, look}
-use Rattle.lam_syntax.specs.Trees.{no_fields}
+use Rattle.lam_syntax.specs.Run.{for_let, of_lambda, of_letrec, in_lambda, in_condition, in_then, in_else, in_let, in_let_body, in_letrec, in_letrec_body, in_field, next_field, after_label, as_argument, after_binder, ended_type, ended_term, ended_app, run, look}
+use Rattle.lam_syntax.specs.Trees.{word, no_fields}
 use Rattle.lam_syntax.specs.Views.{bound_of, type_of, term_of, fields_of}
 use Rattle.lam_syntax.specs.Reads.{placed, fields_next}
 use Rattle.lam_syntax.proofs.Ends.{argument_begun}
-use Rattle.lam_syntax.proofs.Steps.{reads_stop, reads_same, expect_stop, some_fields, field_label_stop, equals_stop, placed_app, no_word, no_lambda_colon, no_lambda_dot, no_let_equals, no_let_in, no_letrec_colon, no_letrec_equals, no_letrec_in, no_else}
+use Rattle.lam_syntax.proofs.Steps.{reads_stop, reads_same, behind_front, behind_none, behind_stop, behind_read, some_fields, field_label_stop, no_equals, placed_app, no_word, no_lambda_dot, no_let_equals, no_let_in, no_letrec_equals, no_letrec_in, no_then, no_else}
 use Rattle.lam_syntax.proofs.parse_terms.+terms.Goals as goal
 
 pub parse_record-returns-in_err-field-clause-read : goal.parse_record-returns-in_err-field-clause-read
@@ -31,61 +31,79 @@ parse_field-returns-in_err-label-clause-read t c =
     let p = err_from_is_err_and c.from_residual.result c.from_residual.ensures.1 in
     rw (p.1, p.2) (λ s before k. field_label_stop _ c.in_err-label.field-0.0 s before k _ c.in_err-label.ensures.named)
 
-pub parse_field-returns-in_err-rest-clause-read : goal.parse_field-returns-in_err-rest-clause-read
-parse_field-returns-in_err-rest-clause-read t c =
-    let p = err_from_is_err_and c.from_residual-in_err-rest.result c.from_residual-in_err-rest.ensures.1 in
+pub parse_field-returns-in_err-term-clause-read : goal.parse_field-returns-in_err-term-clause-read
+parse_field-returns-in_err-term-clause-read t c =
+    let p = err_from_is_err_and c.from_residual-in_err-term.result c.from_residual-in_err-term.ensures.1 in
     let named = c.in_ok-label.ensures.named in
-    rw (p.1, p.2) (λ s before k. equals_stop _ _ c.in_err-rest.field-0.0 s before _ _ k _ named.2 c.in_err-rest.ensures.expects)
-
--- behind the binder of a term, and the tokens that it wants
-
-pub parse_lambda-returns-in_err-rest-clause-read : goal.parse_lambda-returns-in_err-rest-clause-read
-parse_lambda-returns-in_err-rest-clause-read t c =
-    let p = err_from_is_err_and c.from_residual-in_err-rest.result c.from_residual-in_err-rest.ensures.1 in
     rw (p.1, p.2)
-    (λ k. expect_stop _ kind.Colon c.in_err-rest.field-0.0 _ _ (λ ts. run ts (after_binder for_lambda c.args.first (bound_of c.in_ok-binder.binder) k)) (c.in_ok-binder.ensures.read for_lambda c.args.first k) (no_lambda_colon _ c.args.first (bound_of c.in_ok-binder.binder) k) c.in_err-rest.ensures.expects)
+    (λ s before k. behind_stop _ kind.Equals c.in_err-term.field-0.0 (in_field s before (word named.0 named.1) k) _ _ (λ ts. run ts (after_label s before (word named.0 named.1) k)) (ap (λ ts. run ts (next_field s before k)) named.2) (no_equals _ s before _ _ k) (λ x e after. refl) c.in_err-term.ensures.read)
 
-pub parse_lambda-returns-in_err-rest-2-clause-read : goal.parse_lambda-returns-in_err-rest-2-clause-read
-parse_lambda-returns-in_err-rest-2-clause-read t c =
-    let p = err_from_is_err_and c.from_residual-in_err-rest-2.result c.from_residual-in_err-rest-2.ensures.1 in
-    rw (p.1, p.2)
-    (λ k. expect_stop _ kind.Dot c.in_err-rest-2.field-0.0 _ _ (λ ts. look ts (λ o. ended_type o (type_of c.in_ok-ty.ty) (of_lambda c.args.first (bound_of c.in_ok-binder.binder) k))) (c.in_ok-binder.ensures.read for_lambda c.args.first k ∙ ap (λ ts. run ts (after_binder for_lambda c.args.first (bound_of c.in_ok-binder.binder) k)) c.in_ok-rest.ensures.expects.1 ∙ c.in_ok-ty.ensures.read (of_lambda c.args.first (bound_of c.in_ok-binder.binder) k)) (no_lambda_dot _ _ c.args.first (bound_of c.in_ok-binder.binder) k) c.in_err-rest-2.ensures.expects)
+-- a term behind a token
 
-pub parse_if-returns-in_err-rest-2-clause-read : goal.parse_if-returns-in_err-rest-2-clause-read
-parse_if-returns-in_err-rest-2-clause-read t c =
-    let p = err_from_is_err_and c.from_residual-in_err-rest-2.result c.from_residual-in_err-rest-2.ensures.1 in
-    rw (p.1, p.2)
-    (λ k. expect_stop _ kind.Else c.in_err-rest-2.field-0.0 _ _ (λ ts. look ts (λ o. ended_term o (term_of c.in_ok-then_term.then_term) (in_then c.args.first (term_of c.in_ok-condition.condition) k))) (c.in_ok-condition.ensures.read (in_condition c.args.first k) ∙ ap (λ ts. look ts (λ o. ended_term o (term_of c.in_ok-condition.condition) (in_condition c.args.first k))) c.in_ok-rest.ensures.expects.1 ∙ c.in_ok-then_term.ensures.read (in_then c.args.first (term_of c.in_ok-condition.condition) k)) (no_else _ _ _ c.args.first k) c.in_err-rest-2.ensures.expects)
+pub parse_term_behind-returns-in_err-rest-clause-read : goal.parse_term_behind-returns-in_err-rest-clause-read
+parse_term_behind-returns-in_err-rest-clause-read t c =
+    let p = err_from_is_err_and c.from_residual.result c.from_residual.ensures.1 in
+    rw (p.1, p.2) (behind_none _ _ c.in_err-rest.field-0.0 c.in_err-rest.ensures.expects)
 
-pub parse_let-returns-in_err-rest-clause-read : goal.parse_let-returns-in_err-rest-clause-read
-parse_let-returns-in_err-rest-clause-read t c =
-    let p = err_from_is_err_and c.from_residual-in_err-rest.result c.from_residual-in_err-rest.ensures.1 in
-    rw (p.1, p.2)
-    (λ k. expect_stop _ kind.Equals c.in_err-rest.field-0.0 _ _ (λ ts. run ts (after_binder for_let c.args.first (bound_of c.in_ok-binder.binder) k)) (c.in_ok-binder.ensures.read for_let c.args.first k) (no_let_equals _ c.args.first (bound_of c.in_ok-binder.binder) k) c.in_err-rest.ensures.expects)
+pub parse_term_behind-returns-clause-read : goal.parse_term_behind-returns-clause-read
+parse_term_behind-returns-clause-read t c = behind_front _ _ _ _ c.parse_term.result c.in_ok-rest.ensures.expects c.parse_term.ensures.read
 
-pub parse_let-returns-in_err-rest-2-clause-read : goal.parse_let-returns-in_err-rest-2-clause-read
-parse_let-returns-in_err-rest-2-clause-read t c =
-    let p = err_from_is_err_and c.from_residual-in_err-rest-2.result c.from_residual-in_err-rest-2.ensures.1 in
-    rw (p.1, p.2)
-    (λ k. expect_stop _ kind.In c.in_err-rest-2.field-0.0 _ _ (λ ts. look ts (λ o. ended_term o (term_of c.in_ok-bound.bound) (in_let c.args.first (bound_of c.in_ok-binder.binder) k))) (c.in_ok-binder.ensures.read for_let c.args.first k ∙ ap (λ ts. run ts (after_binder for_let c.args.first (bound_of c.in_ok-binder.binder) k)) c.in_ok-rest.ensures.expects.1 ∙ c.in_ok-bound.ensures.read (in_let c.args.first (bound_of c.in_ok-binder.binder) k)) (no_let_in _ _ c.args.first (bound_of c.in_ok-binder.binder) k) c.in_err-rest-2.ensures.expects)
+-- the terms that begin with a word
 
-pub parse_letrec-returns-in_err-rest-clause-read : goal.parse_letrec-returns-in_err-rest-clause-read
-parse_letrec-returns-in_err-rest-clause-read t c =
-    let p = err_from_is_err_and c.from_residual-in_err-rest.result c.from_residual-in_err-rest.ensures.1 in
+pub parse_lambda-returns-in_err-body-clause-read : goal.parse_lambda-returns-in_err-body-clause-read
+parse_lambda-returns-in_err-body-clause-read t c =
+    let p = err_from_is_err_and c.from_residual-in_err-body.result c.from_residual-in_err-body.ensures.1 in
+    let b = bound_of c.in_ok-binder.binder in
+    let u = type_of c.in_ok-binder.ty in
     rw (p.1, p.2)
-    (λ k. expect_stop _ kind.Colon c.in_err-rest.field-0.0 _ _ (λ ts. run ts (after_binder for_letrec c.args.first (bound_of c.in_ok-binder.binder) k)) (c.in_ok-binder.ensures.read for_letrec c.args.first k) (no_letrec_colon _ c.args.first (bound_of c.in_ok-binder.binder) k) c.in_err-rest.ensures.expects)
+    (λ k. behind_stop _ kind.Dot c.in_err-body.field-0.0 (in_lambda c.args.first b u k) _ _ (λ ts. look ts (λ o. ended_type o u (of_lambda c.args.first b k))) (c.in_ok-binder.ensures.lambda c.args.first k) (no_lambda_dot _ u c.args.first b k) (λ x e after. refl) c.in_err-body.ensures.read)
 
-pub parse_letrec-returns-in_err-rest-2-clause-read : goal.parse_letrec-returns-in_err-rest-2-clause-read
-parse_letrec-returns-in_err-rest-2-clause-read t c =
-    let p = err_from_is_err_and c.from_residual-in_err-rest-2.result c.from_residual-in_err-rest-2.ensures.1 in
+pub parse_if-returns-in_err-then_term-clause-read : goal.parse_if-returns-in_err-then_term-clause-read
+parse_if-returns-in_err-then_term-clause-read t c =
+    let p = err_from_is_err_and c.from_residual-in_err-then_term.result c.from_residual-in_err-then_term.ensures.1 in
+    let a = term_of c.in_ok-condition.condition in
     rw (p.1, p.2)
-    (λ k. expect_stop _ kind.Equals c.in_err-rest-2.field-0.0 _ _ (λ ts. look ts (λ o. ended_type o (type_of c.in_ok-ty.ty) (of_letrec c.args.first (bound_of c.in_ok-binder.binder) k))) (c.in_ok-binder.ensures.read for_letrec c.args.first k ∙ ap (λ ts. run ts (after_binder for_letrec c.args.first (bound_of c.in_ok-binder.binder) k)) c.in_ok-rest.ensures.expects.1 ∙ c.in_ok-ty.ensures.read (of_letrec c.args.first (bound_of c.in_ok-binder.binder) k)) (no_letrec_equals _ _ c.args.first (bound_of c.in_ok-binder.binder) k) c.in_err-rest-2.ensures.expects)
+    (λ k. behind_stop _ kind.Then c.in_err-then_term.field-0.0 (in_then c.args.first a k) _ _ (λ ts. look ts (λ o. ended_term o a (in_condition c.args.first k))) (c.in_ok-condition.ensures.read (in_condition c.args.first k)) (no_then _ a c.args.first k) (λ x e after. refl) c.in_err-then_term.ensures.read)
 
-pub parse_letrec-returns-in_err-rest-3-clause-read : goal.parse_letrec-returns-in_err-rest-3-clause-read
-parse_letrec-returns-in_err-rest-3-clause-read t c =
-    let p = err_from_is_err_and c.from_residual-in_err-rest-3.result c.from_residual-in_err-rest-3.ensures.1 in
+pub parse_if-returns-in_err-else_term-clause-read : goal.parse_if-returns-in_err-else_term-clause-read
+parse_if-returns-in_err-else_term-clause-read t c =
+    let p = err_from_is_err_and c.from_residual-in_err-else_term.result c.from_residual-in_err-else_term.ensures.1 in
+    let a = term_of c.in_ok-condition.condition in
+    let b = term_of c.in_ok-then_term.then_term in
     rw (p.1, p.2)
-    (λ k. expect_stop _ kind.In c.in_err-rest-3.field-0.0 _ _ (λ ts. look ts (λ o. ended_term o (term_of c.in_ok-bound.bound) (in_letrec c.args.first (bound_of c.in_ok-binder.binder) (type_of c.in_ok-ty.ty) k))) (c.in_ok-binder.ensures.read for_letrec c.args.first k ∙ ap (λ ts. run ts (after_binder for_letrec c.args.first (bound_of c.in_ok-binder.binder) k)) c.in_ok-rest.ensures.expects.1 ∙ c.in_ok-ty.ensures.read (of_letrec c.args.first (bound_of c.in_ok-binder.binder) k) ∙ ap (λ ts. look ts (λ o. ended_type o (type_of c.in_ok-ty.ty) (of_letrec c.args.first (bound_of c.in_ok-binder.binder) k))) c.in_ok-rest-2.ensures.expects.1 ∙ c.in_ok-bound.ensures.read (in_letrec c.args.first (bound_of c.in_ok-binder.binder) (type_of c.in_ok-ty.ty) k)) (no_letrec_in _ _ c.args.first (bound_of c.in_ok-binder.binder) _ k) c.in_err-rest-3.ensures.expects)
+    (λ k. behind_stop _ kind.Else c.in_err-else_term.field-0.0 (in_else c.args.first a b k) _ _ (λ ts. look ts (λ o. ended_term o b (in_then c.args.first a k))) (c.in_ok-condition.ensures.read (in_condition c.args.first k) ∙ behind_read _ kind.Then (c.in_ok-then_term.then_term, c.in_ok-then_term.rest) (in_then c.args.first a k) (λ ts. look ts (λ o. ended_term o a (in_condition c.args.first k))) (λ x e after. refl) c.in_ok-then_term.ensures.read) (no_else _ b a c.args.first k) (λ x e after. refl) c.in_err-else_term.ensures.read)
+
+pub parse_let-returns-in_err-bound-clause-read : goal.parse_let-returns-in_err-bound-clause-read
+parse_let-returns-in_err-bound-clause-read t c =
+    let p = err_from_is_err_and c.from_residual-in_err-bound.result c.from_residual-in_err-bound.ensures.1 in
+    let b = bound_of c.in_ok-binder.binder in
+    rw (p.1, p.2)
+    (λ k. behind_stop _ kind.Equals c.in_err-bound.field-0.0 (in_let c.args.first b k) _ _ (λ ts. run ts (after_binder for_let c.args.first b k)) (c.in_ok-binder.ensures.read for_let c.args.first k) (no_let_equals _ c.args.first b k) (λ x e after. refl) c.in_err-bound.ensures.read)
+
+pub parse_let-returns-in_err-body-clause-read : goal.parse_let-returns-in_err-body-clause-read
+parse_let-returns-in_err-body-clause-read t c =
+    let p = err_from_is_err_and c.from_residual-in_err-body.result c.from_residual-in_err-body.ensures.1 in
+    let b = bound_of c.in_ok-binder.binder in
+    let a = term_of c.in_ok-bound.bound in
+    rw (p.1, p.2)
+    (λ k. behind_stop _ kind.In c.in_err-body.field-0.0 (in_let_body c.args.first b a k) _ _ (λ ts. look ts (λ o. ended_term o a (in_let c.args.first b k))) (c.in_ok-binder.ensures.read for_let c.args.first k ∙ behind_read _ kind.Equals (c.in_ok-bound.bound, c.in_ok-bound.rest) (in_let c.args.first b k) (λ ts. run ts (after_binder for_let c.args.first b k)) (λ x e after. refl) c.in_ok-bound.ensures.read) (no_let_in _ a c.args.first b k) (λ x e after. refl) c.in_err-body.ensures.read)
+
+pub parse_letrec-returns-in_err-bound-clause-read : goal.parse_letrec-returns-in_err-bound-clause-read
+parse_letrec-returns-in_err-bound-clause-read t c =
+    let p = err_from_is_err_and c.from_residual-in_err-bound.result c.from_residual-in_err-bound.ensures.1 in
+    let b = bound_of c.in_ok-binder.binder in
+    let u = type_of c.in_ok-binder.ty in
+    rw (p.1, p.2)
+    (λ k. behind_stop _ kind.Equals c.in_err-bound.field-0.0 (in_letrec c.args.first b u k) _ _ (λ ts. look ts (λ o. ended_type o u (of_letrec c.args.first b k))) (c.in_ok-binder.ensures.letrec c.args.first k) (no_letrec_equals _ u c.args.first b k) (λ x e after. refl) c.in_err-bound.ensures.read)
+
+pub parse_letrec-returns-in_err-body-clause-read : goal.parse_letrec-returns-in_err-body-clause-read
+parse_letrec-returns-in_err-body-clause-read t c =
+    let p = err_from_is_err_and c.from_residual-in_err-body.result c.from_residual-in_err-body.ensures.1 in
+    let b = bound_of c.in_ok-binder.binder in
+    let u = type_of c.in_ok-binder.ty in
+    let a = term_of c.in_ok-bound.bound in
+    rw (p.1, p.2)
+    (λ k. behind_stop _ kind.In c.in_err-body.field-0.0 (in_letrec_body c.args.first b u a k) _ _ (λ ts. look ts (λ o. ended_term o a (in_letrec c.args.first b u k))) (c.in_ok-binder.ensures.letrec c.args.first k ∙ behind_read _ kind.Equals (c.in_ok-bound.bound, c.in_ok-bound.rest) (in_letrec c.args.first b u k) (λ ts. look ts (λ o. ended_type o u (of_letrec c.args.first b k))) (λ x e after. refl) c.in_ok-bound.ensures.read) (no_letrec_in _ a c.args.first b u k) (λ x e after. refl) c.in_err-body.ensures.read)
 
 -- an application
 

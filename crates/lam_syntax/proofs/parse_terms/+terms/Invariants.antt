@@ -7,6 +7,9 @@ use Rattle.lam_syntax.proofs.parse_terms.+terms.Given as goal
 abbrev pub decreases-parse_term : goal.decreases-parse_term
 decreases-parse_term l = 7 * length l.tokens.now + 3
 
+abbrev pub decreases-parse_term_behind : goal.decreases-parse_term_behind
+decreases-parse_term_behind l = 7 * length l.tokens.now + 4
+
 abbrev pub decreases-parse_lambda : goal.decreases-parse_lambda
 decreases-parse_lambda l = 7 * length l.tokens.now + 6
 
