@@ -1,14 +1,15 @@
--- What is made of the form of a term, and what is found beside it.
+-- What is made of the form of a term and of a command, and what is found beside it.
 use Rattle.std.specs.Prelude.{◌≡◌, List, ◌++◌, Result, IfOk, OnOk}
 use Rattle.lam_rules.specs.declared.terms.Core.{Core}
 use Rattle.lam_rules.specs.TermViews.{term_of}
-use Rattle.lam_syntax.specs.Trees.{TermNode}
+use Rattle.lam_syntax.specs.Trees.{TermNode, CommandTree}
 use Rattle.lam_scope.specs.declared.fault.ScopeFault.{ScopeFault}
 use Rattle.lam_scope.specs.declared.nameless.Forming.{Forming}
-use Rattle.lam_scope.specs.Counted.{counted_node, past_node}
+use Rattle.lam_scope.specs.declared.resolver.Resolver.{Resolver}
+use Rattle.lam_scope.specs.Counted.{counted_node, past_node, past_command}
 use Rattle.lam_scope.specs.Expansions.{Abbreviation}
-use Rattle.lam_scope.specs.Nameless.{written_in_node, faults_in, first_over_limit}
-use Rattle.lam_scope.specs.Views.{IsLimit}
+use Rattle.lam_scope.specs.Nameless.{abbreviations_after, written_in_node, written_in_command, faults_in, first_over_limit}
+use Rattle.lam_scope.specs.Views.{abbreviations_of, IsLimit}
 
 -- An answer is the nameless form of a term that sees these abbreviations: its uses were the first of those that were left, and the faults of its written types are behind those before them. Else one of its written types is too large.
 pub record IsFormed (bs : List Abbreviation) (n : TermNode) (old new : Forming) (answer : Result Core ScopeFault) : Type 0 where
@@ -16,3 +17,10 @@ pub record IsFormed (bs : List Abbreviation) (n : TermNode) (old new : Forming) 
   pub uses : OnOk answer (new.uses ≡ past_node n old.uses)
   pub faults : OnOk answer (new.faults.items ≡ old.faults.items ++ faults_in bs (written_in_node n))
   pub limit : IsLimit (first_over_limit bs (written_in_node n)) answer
+
+-- A command is passed: those behind it see what it binds, its uses were the first of those that were left, and the faults of its written types are behind those before them. Else one of its written types is too large.
+pub record IsPassed {T : Type 0} (c : CommandTree) (old new : Resolver) (answer : Result T ScopeFault) : Type 0 where
+  pub abbreviations : OnOk answer (abbreviations_of new.abbreviations ≡ abbreviations_after (abbreviations_of old.abbreviations) c)
+  pub uses : OnOk answer (new.forming.uses ≡ past_command c old.forming.uses)
+  pub faults : OnOk answer (new.forming.faults.items ≡ old.forming.faults.items ++ faults_in (abbreviations_of old.abbreviations) (written_in_command c))
+  pub limit : IsLimit (first_over_limit (abbreviations_of old.abbreviations) (written_in_command c)) answer

@@ -1,10 +1,10 @@
 //! The commands of a document, one after the other.
 ghost use Rattle.std.specs.Prelude.{◌≡◌, ◌++◌, ◌∷◌, [], map, IfOk, OnOk};
 ghost use Rattle.lam_syntax.specs.Views.{command_of};
-ghost use Rattle.lam_scope.specs.Counted.{past_command, statement_counted};
-ghost use Rattle.lam_scope.specs.Nameless.{abbreviations_after, written_in_command, faults_in, first_over_limit};
+ghost use Rattle.lam_scope.specs.Counted.{statement_counted};
+ghost use Rattle.lam_scope.specs.Formed.{IsPassed};
 ghost use Rattle.lam_scope.specs.TableViews.{text_use};
-ghost use Rattle.lam_scope.specs.Views.{statement_of, abbreviations_of, IsLimit};
+ghost use Rattle.lam_scope.specs.Views.{statement_of, abbreviations_of};
 
 use crate::abbreviations::Abbreviations;
 use crate::expansion::copy_of_written;
@@ -51,10 +51,7 @@ impl<'a> Resolver<'a> {
     #[tactic(auto, using(crate::proofs::Resolving::resolving))]
     pub(crate) fn add(&mut self, command: &'a Command) -> Result<(), ScopeFault>
         ensures statement { OnOk result (map statement_of self.new.statements.items ≡ map statement_of self.old.statements.items ++ statement_counted (abbreviations_of self.old.abbreviations) (command_of command.now) self.old.forming.uses ∷ []) }
-        ensures abbreviations { OnOk result (abbreviations_of self.new.abbreviations ≡ abbreviations_after (abbreviations_of self.old.abbreviations) (command_of command.now)) }
-        ensures uses { OnOk result (self.new.forming.uses ≡ past_command (command_of command.now) self.old.forming.uses) }
-        ensures faults { OnOk result (self.new.forming.faults.items ≡ self.old.forming.faults.items ++ faults_in (abbreviations_of self.old.abbreviations) (written_in_command (command_of command.now))) }
-        ensures limit { IsLimit (first_over_limit (abbreviations_of self.old.abbreviations) (written_in_command (command_of command.now))) result }
+        ensures passed { IsPassed (command_of command.now) self.old self.new result }
     {
         let statement = self.state(command)?;
         self.statements.push(statement)?;
@@ -65,10 +62,7 @@ impl<'a> Resolver<'a> {
     #[tactic(auto, using(crate::proofs::Resolving::resolving))]
     fn state(&mut self, command: &'a Command) -> Result<Statement, ScopeFault>
         ensures statement { IfOk result (λ s. statement_of s ≡ statement_counted (abbreviations_of self.old.abbreviations) (command_of command.now) self.old.forming.uses) }
-        ensures abbreviations { OnOk result (abbreviations_of self.new.abbreviations ≡ abbreviations_after (abbreviations_of self.old.abbreviations) (command_of command.now)) }
-        ensures uses { OnOk result (self.new.forming.uses ≡ past_command (command_of command.now) self.old.forming.uses) }
-        ensures faults { OnOk result (self.new.forming.faults.items ≡ self.old.forming.faults.items ++ faults_in (abbreviations_of self.old.abbreviations) (written_in_command (command_of command.now))) }
-        ensures limit { IsLimit (first_over_limit (abbreviations_of self.old.abbreviations) (written_in_command (command_of command.now))) result }
+        ensures passed { IsPassed (command_of command.now) self.old self.new result }
         ensures statements { self.new.statements ≡ self.old.statements }
     {
         let seen = &self.abbreviations;

@@ -8,7 +8,7 @@ ghost use Rattle.lam_syntax.specs.Views.{bound_of, type_of, type_fields_of, term
 ghost use Rattle.lam_scope.specs.Sights.{lambda_at, term_at};
 ghost use Rattle.lam_scope.specs.Tables.{◌⊕◌, entry, binder_row, place_row, root, behind, roots_of_fields, binders_in, binders_in_node, binders_in_fields, below_fields, type_uses, field_uses, term_table, node_table, letrec_rows, fields_table, command_table, types_seen_after, names_seen_after, binders_in_command, places_in_command};
 ghost use Rattle.lam_scope.specs.TableViews.{place_number, rows_of, entry_of, with_origin};
-ghost use Rattle.lam_scope.specs.Walked.{IsWalked};
+ghost use Rattle.lam_scope.specs.Walked.{IsWalked, IsCommandWalked};
 
 use crate::names::name_of;
 use crate::numbers::{Binder, Origin, Place};
@@ -34,11 +34,7 @@ pub(crate) fn walk_command<'a>(
     number: usize,
     command: &'a Command,
 ) -> Result<(), AllocError>
-    ensures table { OnOk result (rows_of rows.new ≡ rows_of rows.old ⊕ command_table types.old names.old (length rows.old.binders.items) (length rows.old.places.items) number (command_of command.now)) }
-    ensures types { OnOk result (types.new ≡ types_seen_after (length rows.old.binders.items) types.old (command_of command.now)) }
-    ensures names { OnOk result (names.new ≡ names_seen_after (length rows.old.binders.items) names.old (command_of command.now)) }
-    ensures binders { OnOk result (length rows.new.binders.items ≡ length rows.old.binders.items + binders_in_command (command_of command.now)) }
-    ensures places { OnOk result (length rows.new.places.items ≡ length rows.old.places.items + places_in_command (command_of command.now)) }
+    ensures { IsCommandWalked types.old names.old number (command_of command.now) rows.old rows.new types.new names.new result }
 {
     let own = Binder(rows.binder_count());
     match command {

@@ -109,6 +109,7 @@ fn start(
     ensures begins { IfOk result (λ walk. Begins walk last) }
     ensures dialect { IfOk result (λ walk. walk.verdicts.dialect ≡ dialect) }
 {
+    let found = Vec::with_capacity(alloc, places)?;
     let mut table = TyTable::new(alloc);
     let boolean = table.intern(Shape::Bool)?;
     let natural = table.intern(Shape::Nat)?;
@@ -122,7 +123,7 @@ fn start(
             unit,
         },
         entries: Vec::new(alloc),
-        found: Vec::with_capacity(alloc, places)?,
+        found,
         blames: Vec::new(alloc),
         last,
     })
