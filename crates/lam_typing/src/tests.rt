@@ -2,6 +2,7 @@
 ghost use Rattle.std.specs.Prelude.{IfOk};
 ghost use Rattle.lam_scope.specs.Views.{statements_of};
 ghost use Rattle.lam_scope.specs.WellFormed.{AreWellFormedStatements};
+ghost use Rattle.lam_typing.specs.Grounds.{AreGrounds};
 ghost use Rattle.lam_typing.specs.Typings.{IsTypingOf};
 
 use crate::{Grounds, Typing, TypingFault, analyse, analyse_to};
@@ -251,7 +252,9 @@ fn context_of(
     found: &Analysis,
     grounds: &Grounds<'_>,
     place: Place,
-) -> Result<Vec<Option<Ty>>, Fail> {
+) -> Result<Vec<Option<Ty>>, Fail>
+    requires { AreGrounds grounds.now }
+{
     let binders = found.scopes.visible_at(alloc, place)?;
     let mut context = Vec::new(alloc);
     for binder in &binders {
