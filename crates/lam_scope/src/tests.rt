@@ -1,5 +1,5 @@
 //! Rows: documents, what their names are bound to, and what their written types stand for.
-use crate::{Binder, Origin, Place, ScopeFault, TypeFault, bind, resolve};
+use crate::{Binder, Origin, Place, Resolved, ScopeFault, Scopes, TypeFault, bind, resolve};
 use lam_syntax::{Command, parse, pieces};
 use lam_token::{Span, lex};
 use std::alloc::Global;
@@ -16,6 +16,23 @@ fn commands_of(rt: &impl Abort, alloc: Global, text: &str) -> Result<Vec<Command
         commands.push(command)?;
     }
     Ok(commands)
+}
+
+/// The scopes of a text.
+fn scopes_of(rt: &impl Abort, alloc: Global, text: &str) -> Result<Scopes, Fail> {
+    let commands = commands_of(rt, alloc, text)?;
+    Ok(bind(alloc, &commands)?)
+}
+
+/// The nameless form of a text.
+fn resolved_of(rt: &impl Abort, alloc: Global, text: &str) -> Result<Resolved, Fail> {
+    let commands = commands_of(rt, alloc, text)?;
+    let scopes = bind(alloc, &commands)?;
+    Ok(
+        resolve(alloc, &commands, &scopes)
+            .ok()
+            .expect(rt, "its forms"),
+    )
 }
 
 fn span(start: usize, end: usize) -> Span {
@@ -45,8 +62,7 @@ fn names_are_bound_by_the_innermost_binder_before(rt: HostRuntime) -> Result<(),
     ];
     let alloc = rt.alloc();
     for (text, offset, token) in rows {
-        let commands = commands_of(&rt, alloc, text)?;
-        let scopes = bind(alloc, &commands)?;
+        let scopes = scopes_of(&rt, alloc, text)?;
         let found = scopes
             .binder_at(offset)
             .map(|binder| scopes.token_of(binder));
@@ -63,8 +79,7 @@ fn starts_of_uses(
     text: &str,
     offset: usize,
 ) -> Result<Vec<usize>, Fail> {
-    let commands = commands_of(rt, alloc, text)?;
-    let scopes = bind(alloc, &commands)?;
+    let scopes = scopes_of(rt, alloc, text)?;
     let binder = scopes.binder_at(offset).expect(rt, "a binder");
     let mut starts = Vec::new(alloc);
     for token in scopes.uses_of(binder) {
@@ -105,8 +120,7 @@ fn the_innermost_place_is_touched(rt: HostRuntime) -> Result<(), Fail> {
     ];
     let alloc = rt.alloc();
     for (text, offset, place) in rows {
-        let commands = commands_of(&rt, alloc, text)?;
-        let scopes = bind(alloc, &commands)?;
+        let scopes = scopes_of(&rt, alloc, text)?;
         let found = scopes.place_at(offset).map(|place| scopes.span_of(place));
         let expected = place.map(|(start, end)| span(start, end));
         assert_eq!(rt; found, expected, "{offset} in {text:?}");
@@ -114,15 +128,21 @@ fn the_innermost_place_is_touched(rt: HostRuntime) -> Result<(), Fail> {
     Ok(())
 }
 
+/// The immediate terms of the application, the lambda, the fix and the let.
+static LETREC_TERMS: [(Place, &[Place]); 4] = [
+    (Place(2), &[Place(0), Place(1)]),
+    (Place(3), &[Place(2)]),
+    (Place(4), &[Place(3)]),
+    (Place(6), &[Place(4), Place(5)]),
+];
+
 #[test]
 fn a_letrec_has_a_lambda_and_a_fix(rt: HostRuntime) -> Result<(), Fail> {
     let alloc = rt.alloc();
-    let commands = commands_of(&rt, alloc, "letrec f:Nat = g f in f")?;
-    let scopes = bind(alloc, &commands)?;
-    assert_eq!(rt; scopes.terms_of(Place(2)), [Place(0), Place(1)].as_slice());
-    assert_eq!(rt; scopes.terms_of(Place(3)), [Place(2)].as_slice());
-    assert_eq!(rt; scopes.terms_of(Place(4)), [Place(3)].as_slice());
-    assert_eq!(rt; scopes.terms_of(Place(6)), [Place(4), Place(5)].as_slice());
+    let scopes = scopes_of(&rt, alloc, "letrec f:Nat = g f in f")?;
+    for (place, terms) in &LETREC_TERMS {
+        assert_eq!(rt; scopes.terms_of(*place), *terms, "of {place:?}");
+    }
     assert_eq!(rt; scopes.span_of(Place(4)), span(15, 18));
     assert_eq!(rt; scopes.binder_at(7), Some(Binder(1)));
     let under_lambda = scopes.visible_at(alloc, Place(1))?;
@@ -135,8 +155,7 @@ fn a_letrec_has_a_lambda_and_a_fix(rt: HostRuntime) -> Result<(), Fail> {
 #[test]
 fn all_binders_of_names_are_visible(rt: HostRuntime) -> Result<(), Fail> {
     let alloc = rt.alloc();
-    let commands = commands_of(&rt, alloc, "T = Nat; a = 0; let _ = a in lambda a:T. a")?;
-    let scopes = bind(alloc, &commands)?;
+    let scopes = scopes_of(&rt, alloc, "T = Nat; a = 0; let _ = a in lambda a:T. a")?;
     let place = scopes.place_at(41).expect(&rt, "a place");
     let visible = scopes.visible_at(alloc, place)?;
     assert_eq!(rt;
@@ -155,11 +174,7 @@ fn expect_faults(
     text: &str,
     faults: &[TypeFault],
 ) -> Result<(), Fail> {
-    let commands = commands_of(rt, alloc, text)?;
-    let scopes = bind(alloc, &commands)?;
-    let resolved = resolve(alloc, &commands, &scopes)
-        .ok()
-        .expect(rt, "its forms");
+    let resolved = resolved_of(rt, alloc, text)?;
     assert_eq!(rt; resolved.faults(), faults, "{text:?}");
     Ok(())
 }
@@ -258,11 +273,7 @@ static ORIGINS: [(&str, usize, usize, &[Origin]); 3] = [
 fn binders_take_their_types_from_places_and_statements(rt: HostRuntime) -> Result<(), Fail> {
     let alloc = rt.alloc();
     for (text, statements, places, origins) in &ORIGINS {
-        let commands = commands_of(&rt, alloc, text)?;
-        let scopes = bind(alloc, &commands)?;
-        let resolved = resolve(alloc, &commands, &scopes)
-            .ok()
-            .expect(&rt, "its forms");
+        let resolved = resolved_of(&rt, alloc, text)?;
         assert_eq!(rt; resolved.statements().len(), *statements, "of {text:?}");
         assert_eq!(rt; resolved.place_count(), *places, "of {text:?}");
         assert_eq!(rt; resolved.origins(), *origins, "of {text:?}");
@@ -305,11 +316,7 @@ fn the_deepest_terms_of_a_command_fit_on_the_stack(rt: HostRuntime) -> Result<()
     ];
     for (before, inner, behind, count) in rows {
         let text = wrapped(alloc, before, inner, behind, count)?;
-        let commands = commands_of(&rt, alloc, &text)?;
-        let scopes = bind(alloc, &commands)?;
-        let resolved = resolve(alloc, &commands, &scopes)
-            .ok()
-            .expect(&rt, "its forms");
+        let resolved = resolved_of(&rt, alloc, &text)?;
         assert_eq!(rt; resolved.statements().len(), 1, "{before}");
     }
     Ok(())
@@ -319,8 +326,7 @@ fn the_deepest_terms_of_a_command_fit_on_the_stack(rt: HostRuntime) -> Result<()
 fn places_and_names_are_found_behind_many_others(rt: HostRuntime) -> Result<(), Fail> {
     let alloc = rt.alloc();
     let text = wrapped(alloc, "x = x; ", "", "", 200)?;
-    let commands = commands_of(&rt, alloc, &text)?;
-    let scopes = bind(alloc, &commands)?;
+    let scopes = scopes_of(&rt, alloc, &text)?;
     assert_eq!(rt; scopes.binder_at(4), None);
     for number in 1..200usize {
         let start = number * 7;
