@@ -6,7 +6,7 @@ ghost use Rattle.std.specs.Option.{option_map};
 ghost use Rattle.lam_syntax.specs.Trees.{term_tree, lambda, if_term, let_term, letrec_term, apply};
 ghost use Rattle.lam_syntax.specs.Views.{bound_of, type_of, type_fields_of, term_of, fields_of, command_of};
 ghost use Rattle.lam_scope.specs.Sights.{lambda_at, term_at};
-ghost use Rattle.lam_scope.specs.Tables.{◌⊕◌, entry, binder_row, place_row, root, behind, roots_of_fields, binders_in, binders_in_node, binders_in_fields, below_fields, type_uses, field_uses, term_table, node_table, letrec_rows, fields_table, command_table, types_seen_after, names_seen_after, binders_in_command, places_in_command};
+ghost use Rattle.lam_scope.specs.Tables.{◌⊕◌, entry, binder_row, place_row, root, behind, roots_of_fields, binders_in, binders_in_fields, below_fields, type_uses, field_uses, term_table, node_table, letrec_rows, fields_table};
 ghost use Rattle.lam_scope.specs.TableViews.{place_number, rows_of, entry_of, with_origin};
 ghost use Rattle.lam_scope.specs.Walked.{IsWalked, IsCommandWalked};
 
