@@ -72,37 +72,31 @@ fn names_are_bound_by_the_innermost_binder_before(rt: HostRuntime) -> Result<(),
     Ok(())
 }
 
-/// The starts of the tokens of the uses of the binder there.
-fn starts_of_uses(
-    rt: &impl Abort,
-    alloc: Global,
-    text: &str,
-    offset: usize,
-) -> Result<Vec<usize>, Fail> {
-    let scopes = scopes_of(rt, alloc, text)?;
-    let binder = scopes.binder_at(offset).expect(rt, "a binder");
-    let mut starts = Vec::new(alloc);
-    for token in scopes.uses_of(binder) {
-        starts.push(token.start)?;
-    }
-    Ok(starts)
-}
+/// A text, where a binder is in it, and where the tokens of its uses start.
+static USES: [(&str, usize, &[usize]); 5] = [
+    ("x = 0; x = succ x; x", 7, &[19]),
+    ("x = 0; y", 0, &[]),
+    ("x = 0; succ x; {x=x}", 0, &[12, 18]),
+    ("T = Nat; lambda x:T->T. x as T", 0, &[18, 21, 29]),
+    (
+        "letrec down:Nat->Bool = lambda n:Nat. if iszero n then true else down (pred n) in down 3",
+        7,
+        &[65, 82],
+    ),
+];
 
 #[test]
 fn uses_come_in_the_order_of_the_text(rt: HostRuntime) -> Result<(), Fail> {
     let alloc = rt.alloc();
-    let shadowed = starts_of_uses(&rt, alloc, "x = 0; x = succ x; x", 7)?;
-    assert_eq!(rt; shadowed.as_slice(), [19].as_slice());
-    let unused = starts_of_uses(&rt, alloc, "x = 0; y", 0)?;
-    assert_eq!(rt; unused.len(), 0);
-    let labels = starts_of_uses(&rt, alloc, "x = 0; succ x; {x=x}", 0)?;
-    assert_eq!(rt; labels.as_slice(), [12, 18].as_slice());
-    let types = starts_of_uses(&rt, alloc, "T = Nat; lambda x:T->T. x as T", 0)?;
-    assert_eq!(rt; types.as_slice(), [18, 21, 29].as_slice());
-    let down =
-        "letrec down:Nat->Bool = lambda n:Nat. if iszero n then true else down (pred n) in down 3";
-    let both = starts_of_uses(&rt, alloc, down, 7)?;
-    assert_eq!(rt; both.as_slice(), [65, 82].as_slice());
+    for (text, offset, starts) in &USES {
+        let scopes = scopes_of(&rt, alloc, text)?;
+        let binder = scopes.binder_at(*offset).expect(&rt, "a binder");
+        let mut found = Vec::new(alloc);
+        for token in scopes.uses_of(binder) {
+            found.push(token.start)?;
+        }
+        assert_eq!(rt; found.as_slice(), *starts, "{offset} in {text:?}");
+    }
     Ok(())
 }
 
