@@ -139,10 +139,10 @@ fn a_letrec_has_a_lambda_and_a_fix(rt: HostRuntime) -> Result<(), Fail> {
     }
     assert_eq!(rt; scopes.span_of(Place(4)), span(15, 18));
     assert_eq!(rt; scopes.binder_at(7), Some(Binder(1)));
-    let under_lambda = scopes.visible_at(alloc, Place(1))?;
-    assert_eq!(rt; under_lambda.as_slice(), [Binder(0)].as_slice());
-    let under_let = scopes.visible_at(alloc, Place(5))?;
-    assert_eq!(rt; under_let.as_slice(), [Binder(1)].as_slice());
+    for (place, binder) in [(Place(1), Binder(0)), (Place(5), Binder(1))] {
+        let visible = scopes.visible_at(alloc, place)?;
+        assert_eq!(rt; visible.as_slice(), [binder].as_slice(), "in {place:?}");
+    }
     Ok(())
 }
 
