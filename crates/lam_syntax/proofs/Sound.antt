@@ -8,7 +8,7 @@ use Rattle.lam_syntax.specs.declared.terms.Prefix.{Prefix}
 use Rattle.lam_syntax.specs.declared.terms.Prefix.TheVariants as prefix
 use Rattle.lam_syntax.specs.Trees.{word, Bound, TypeTree, type_tree, record_type, TypeFields, no_type_fields, type_field, TermTree, term_tree, record_term, TermFields, no_fields, field, CommandTree, evaluation, definition, declaration, abbreviation, from_to, joined_types, joined}
 use Rattle.lam_syntax.specs.Grammar.{BinderIs, name_binder, blank_binder, TypeIs, atype_type, arrow_type, ATypeIs, parens_atype, bool_atype, nat_atype, unit_atype, top_atype, name_atype, empty_atype, record_atype, TypeFieldsAre, last_type_field, more_type_fields, TermIs, lambda_is, if_is, let_is, letrec_is, app_is, AppIs, head_app, argument_app, path_head, fix_head, succ_head, pred_head, iszero_head, PathIs, asc_path, label_path, atom_asc, typed_asc, AtomIs, parens_atom, true_atom, false_atom, unit_atom, name_atom, numeral_atom, empty_atom, record_atom, FieldsAre, last_field, more_fields, Spells, definition_command, declaration_command, abbreviation_command, evaluation_command}
-use Rattle.lam_syntax.specs.Run.{Purpose, for_lambda, for_let, for_letrec, InTerm, of_evaluation, of_definition, in_lambda, in_condition, in_then, in_else, in_let, in_let_body, in_letrec, in_letrec_body, in_parens, in_field, InPath, as_head, as_operand, as_argument, InType, of_declaration, of_abbreviation, of_lambda, of_letrec, of_ascription, right_of, in_type_parens, in_type_field, State, need_command, after_name, after_type_name, need_type, after_atype, need_type_field, next_type_field, after_type_label, need_binder, after_binder, need_term, need_path, after_atom, after_asc, need_label, need_field, next_field, after_label, step, ended_type, ended_atype, ended_asc, ended_atom, ended_app, ended_term, begin_atom, begin_term, begin_type, begin_command, name_next, type_name_next, binder_next, bound_next, begin_type_field, more_type_field, type_label_next, begin_field, more_field, label_next, projected, applied, outside, tree, run, look}
+use Rattle.lam_syntax.specs.Run.{Purpose, for_lambda, for_let, for_letrec, InTerm, of_evaluation, of_definition, in_lambda, in_condition, in_then, in_else, in_let, in_let_body, in_letrec, in_letrec_body, in_parens, in_field, InPath, as_head, as_operand, as_argument, InType, of_declaration, of_abbreviation, of_lambda, of_letrec, of_ascription, right_of, in_type_parens, in_type_field, State, need_command, after_name, after_type_name, need_type, after_atype, need_type_field, next_type_field, after_type_label, need_binder, after_binder, need_term, need_path, after_atom, after_asc, need_label, need_field, next_field, after_label, step, ended_type, ended_atype, ended_asc, ended_atom, ended_app, ended_term, begin_atom, begin_term, begin_type, begin_command, name_next, type_name_next, binder_next, bound_next, begin_type_field, more_type_field, type_label_next, begin_field, more_field, label_next, projected, applied, outside, tree, fault, run, look}
 use Rattle.lam_syntax.proofs.Complete.{joined_types-joined, joined-joined}
 
 abbrev prefix_kind : Prefix → Kind
@@ -123,6 +123,10 @@ abbrev Known : List Lexeme → CommandTree → Type 0
 Known [] c = Unit {0}
 Known (t ∷ ts) c = (s : State) → run ts s ≡ tree c → Goes s ts c
 
+-- a fault is no command
+no_tree : (left : List Lexeme) (c : CommandTree) → fault left ≡ tree c → ⊥
+no_tree left c h = cc
+
 -- one step back, by what was read last
 
 term_goes : (ts : List Lexeme) (t : TermTree) (k : InTerm) (c : CommandTree) → Known ts c → look ts (λ o. ended_term o t k) ≡ tree c → TermGoes k t ts c
@@ -142,7 +146,7 @@ term_goes (lexeme kind.Comma y e ∷ ts) t (in_field s before (word l r) k) c kn
     (field (word l r) t found.0, found.1, found.2, found.3, more_fields d found.4, subst (λ fs. AtomGoes k (term_tree (from_to s found.2) (record_term fs)) found.3 c) (joined-joined before (word l r) t found.0) found.5)
 term_goes (lexeme kind.CloseBrace y e ∷ ts) t (in_field s before (word l r) k) c known h = λ mid d x m.
     (field (word l r) t no_fields, y, e, ts, last_field d, known (after_atom _ k) h)
-term_goes ts t k c known h = absurd cc
+term_goes ts t k c known h = absurd (no_tree _ _ h)
 
 -- where an atom begins, in each place of a path
 
@@ -154,7 +158,7 @@ atom_begun (lexeme kind.UnitTerm x s ∷ ts) k c known h = known (after_atom _ k
 atom_begun (lexeme kind.Name x s ∷ ts) k c known h = known (after_atom _ k) h _ name_atom
 atom_begun (lexeme kind.Numeral x s ∷ ts) k c known h = known (after_atom _ k) h _ numeral_atom
 atom_begun (lexeme kind.OpenBrace x s ∷ ts) k c known h = known (need_field s k) h x
-atom_begun ts k c known h = absurd cc
+atom_begun ts k c known h = absurd (no_tree _ _ h)
 
 app_goes : (ts : List Lexeme) (t : TermTree) (k : InTerm) (c : CommandTree) → Known ts c → look ts (λ o. ended_app o t k) ≡ tree c → AppGoes k t ts c
 app_goes (lexeme kind.OpenParen x s ∷ ts) t k c known h = atom_begun (lexeme kind.OpenParen x s ∷ ts) (as_argument t k) c known h
@@ -199,7 +203,7 @@ type_goes (lexeme kind.Comma y e ∷ ts) t (in_type_field s before (word l r) k)
     (type_field (word l r) t found.0, found.1, found.2, found.3, more_type_fields d found.4, subst (λ fs. ATypeGoes k (type_tree (from_to s found.2) (record_type fs)) found.3 c) (joined_types-joined before (word l r) t found.0) found.5)
 type_goes (lexeme kind.CloseBrace y e ∷ ts) t (in_type_field s before (word l r) k) c known h = λ mid d x m.
     (type_field (word l r) t no_type_fields, y, e, ts, last_type_field d, known (after_atype _ k) h)
-type_goes ts t k c known h = absurd cc
+type_goes ts t k c known h = absurd (no_tree _ _ h)
 
 atype_goes : (ts : List Lexeme) (t : TypeTree) (k : InType) (c : CommandTree) → Known ts c → look ts (λ o. ended_atype o t k) ≡ tree c → ATypeGoes k t ts c
 atype_goes (lexeme kind.Arrow x m ∷ ts) t k c known h = λ mid d. known (need_type (right_of t k)) h x m mid d
@@ -214,7 +218,7 @@ type_begun (lexeme kind.UnitType x s ∷ ts) k c known h = known (after_atype _ 
 type_begun (lexeme kind.TopType x s ∷ ts) k c known h = known (after_atype _ k) h _ top_atype
 type_begun (lexeme kind.TypeName x s ∷ ts) k c known h = known (after_atype _ k) h _ name_atype
 type_begun (lexeme kind.OpenBrace x s ∷ ts) k c known h = known (need_type_field s k) h x
-type_begun ts k c known h = absurd cc
+type_begun ts k c known h = absurd (no_tree _ _ h)
 
 term_begun : (ts : List Lexeme) (k : InTerm) (c : CommandTree) → Known ts c → look ts (λ o. begin_term o k) ≡ tree c → TermNeeds k ts c
 term_begun (lexeme kind.Lambda x s ∷ ts) k c known h = known (need_binder for_lambda s k) h x
@@ -231,13 +235,13 @@ term_begun (lexeme j x s ∷ ts) k c known h = atom_begun (lexeme j x s ∷ ts) 
 binder_goes : (ts : List Lexeme) (p : Purpose) (s : Span) (k : InTerm) (c : CommandTree) → Known ts c → look ts (λ o. binder_next o p s k) ≡ tree c → Goes (need_binder p s k) ts c
 binder_goes (lexeme kind.Name x r ∷ ts) p s k c known h = λ y. known (after_binder p s _ k) h y _ name_binder
 binder_goes (lexeme kind.Underscore x r ∷ ts) p s k c known h = λ y. known (after_binder p s _ k) h y _ blank_binder
-binder_goes ts p s k c known h = absurd cc
+binder_goes ts p s k c known h = absurd (no_tree _ _ h)
 
 bound_goes : (ts : List Lexeme) (p : Purpose) (s : Span) (b : Bound) (k : InTerm) (c : CommandTree) → Known ts c → look ts (λ o. bound_next o p s b k) ≡ tree c → Goes (after_binder p s b k) ts c
 bound_goes (lexeme kind.Colon y m ∷ ts) for_lambda s b k c known h = λ x us d. known (need_type (of_lambda s b k)) h x y m us d
 bound_goes (lexeme kind.Equals y m ∷ ts) for_let s b k c known h = λ x us d. known (need_term (in_let s b k)) h x y m us d
 bound_goes (lexeme kind.Colon y m ∷ ts) for_letrec s b k c known h = λ x us d. known (need_type (of_letrec s b k)) h x y m us d
-bound_goes ts p s b k c known h = absurd cc
+bound_goes ts p s b k c known h = absurd (no_tree _ _ h)
 
 command_begun : (ts : List Lexeme) (c : CommandTree) → Known ts c → look ts begin_command ≡ tree c → Spells ts c
 command_begun (lexeme kind.Name x s ∷ ts) c known h = known (after_name (word x s)) h
@@ -253,39 +257,39 @@ name_goes (lexeme j y q ∷ ts) x s c known h = atom_goes (lexeme j y q ∷ ts) 
 
 type_name_goes : (ts : List Lexeme) (x : List ℕ) (s : Span) (c : CommandTree) → Known ts c → look ts (λ o. type_name_next o (word x s)) ≡ tree c → Spells (lexeme kind.TypeName x s ∷ ts) c
 type_name_goes (lexeme kind.Equals y q ∷ ts) x s c known h = known (need_type (of_abbreviation (word x s))) h y q
-type_name_goes ts x s c known h = absurd cc
+type_name_goes ts x s c known h = absurd (no_tree _ _ h)
 
 type_field_begun : (ts : List Lexeme) (s : Span) (k : InType) (c : CommandTree) → Known ts c → look ts (λ o. begin_type_field o s k) ≡ tree c → Goes (need_type_field s k) ts c
 type_field_begun (lexeme kind.CloseBrace y e ∷ ts) s k c known h = λ x. known (after_atype _ k) h _ empty_atype
 type_field_begun (lexeme kind.Name l r ∷ ts) s k c known h = λ x.
     let found = known (after_type_label s no_type_fields (word l r) k) h in found.5 _ (record_atype found.4)
-type_field_begun ts s k c known h = absurd cc
+type_field_begun ts s k c known h = absurd (no_tree _ _ h)
 
 type_field_more : (ts : List Lexeme) (s : Span) (before : TypeFields) (k : InType) (c : CommandTree) → Known ts c → look ts (λ o. more_type_field o s before k) ≡ tree c → Goes (next_type_field s before k) ts c
 type_field_more (lexeme kind.Name l r ∷ ts) s before k c known h = known (after_type_label s before (word l r) k) h
-type_field_more ts s before k c known h = absurd cc
+type_field_more ts s before k c known h = absurd (no_tree _ _ h)
 
 type_label_goes : (ts : List Lexeme) (s : Span) (before : TypeFields) (l : List ℕ) (r : Span) (k : InType) (c : CommandTree) → Known ts c → look ts (λ o. type_label_next o s before (word l r) k) ≡ tree c → Goes (after_type_label s before (word l r) k) ts c
 type_label_goes (lexeme kind.Colon x m ∷ ts) s before l r k c known h = known (need_type (in_type_field s before (word l r) k)) h x m
-type_label_goes ts s before l r k c known h = absurd cc
+type_label_goes ts s before l r k c known h = absurd (no_tree _ _ h)
 
 field_begun : (ts : List Lexeme) (s : Span) (k : InPath) (c : CommandTree) → Known ts c → look ts (λ o. begin_field o s k) ≡ tree c → Goes (need_field s k) ts c
 field_begun (lexeme kind.CloseBrace y e ∷ ts) s k c known h = λ x. known (after_atom _ k) h _ empty_atom
 field_begun (lexeme kind.Name l r ∷ ts) s k c known h = λ x.
     let found = known (after_label s no_fields (word l r) k) h in found.5 _ (record_atom found.4)
-field_begun ts s k c known h = absurd cc
+field_begun ts s k c known h = absurd (no_tree _ _ h)
 
 field_more : (ts : List Lexeme) (s : Span) (before : TermFields) (k : InPath) (c : CommandTree) → Known ts c → look ts (λ o. more_field o s before k) ≡ tree c → Goes (next_field s before k) ts c
 field_more (lexeme kind.Name l r ∷ ts) s before k c known h = known (after_label s before (word l r) k) h
-field_more ts s before k c known h = absurd cc
+field_more ts s before k c known h = absurd (no_tree _ _ h)
 
 label_goes : (ts : List Lexeme) (s : Span) (before : TermFields) (l : List ℕ) (r : Span) (k : InPath) (c : CommandTree) → Known ts c → look ts (λ o. label_next o s before (word l r) k) ≡ tree c → Goes (after_label s before (word l r) k) ts c
 label_goes (lexeme kind.Equals x m ∷ ts) s before l r k c known h = known (need_term (in_field s before (word l r) k)) h x m
-label_goes ts s before l r k c known h = absurd cc
+label_goes ts s before l r k c known h = absurd (no_tree _ _ h)
 
 projected_goes : (ts : List Lexeme) (t : TermTree) (k : InPath) (c : CommandTree) → Known ts c → look ts (λ o. projected o t k) ≡ tree c → Goes (need_label t k) ts c
 projected_goes (lexeme kind.Name l s ∷ ts) t k c known h = λ x m mid d. known (after_asc _ k) h mid (label_path d)
-projected_goes ts t k c known h = absurd cc
+projected_goes ts t k c known h = absurd (no_tree _ _ h)
 
 step_goes : (ts : List Lexeme) (s : State) (c : CommandTree) → Known ts c → look ts (step s) ≡ tree c → Goes s ts c
 step_goes ts need_command c known h = command_begun ts c known h
