@@ -55,7 +55,7 @@ fn analyse_up_to(
     ensures dialect { IfOk result (λ typing. dialect_of typing ≡ dialect) }
     ensures fault { IfErr result (λ fault. IsFaultOf fault (up_to last (places_of [] (statements_of resolved.now))) dialect) }
 {
-    let Ok(mut walk) = start(alloc, resolved.place_count(), last, dialect) else {
+    let Ok(mut walk) = start(alloc, last, dialect) else {
         return Err(TypingFault::Memory);
     };
     match walk_statements(&mut walk, resolved.statements()) {
@@ -86,10 +86,12 @@ fn complete(walk: Walk) -> Typing
         verdicts,
         leaves: _leaves,
         entries: _entries,
-        found,
+        mut found,
         blames,
         last: _last,
     } = walk;
+    // Up to half of a list that grew is spare.
+    found.shrink_to_fit();
     Typing {
         table,
         found,
@@ -98,18 +100,12 @@ fn complete(walk: Walk) -> Typing
     }
 }
 
-/// A walk that has found nothing yet, with room for the types of so many places.
-fn start(
-    alloc: Global,
-    places: usize,
-    last: Option<Place>,
-    dialect: Dialect,
-) -> Result<Walk, AllocError>
+/// A walk that has found nothing yet.
+fn start(alloc: Global, last: Option<Place>, dialect: Dialect) -> Result<Walk, AllocError>
     ensures sound { IfOk result (λ walk. IsSoundWalk walk) }
     ensures begins { IfOk result (λ walk. Begins walk last) }
     ensures dialect { IfOk result (λ walk. walk.verdicts.dialect ≡ dialect) }
 {
-    let found = Vec::with_capacity(alloc, places)?;
     let mut table = TyTable::new(alloc);
     let boolean = table.intern(Shape::Bool)?;
     let natural = table.intern(Shape::Nat)?;
@@ -123,7 +119,7 @@ fn start(
             unit,
         },
         entries: Vec::new(alloc),
-        found,
+        found: Vec::new(alloc),
         blames: Vec::new(alloc),
         last,
     })

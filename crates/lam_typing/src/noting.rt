@@ -39,16 +39,17 @@ pub(crate) struct Notes<'t> {
     pub noted: Vec<Note<'t>>,
 }
 
-/// The notes of a document's places.
+/// The notes of a document's places, of which there are so many.
 pub(crate) fn note_statements<'t>(
     alloc: Global,
+    places: usize,
     statements: &'t [Statement],
 ) -> Result<Vec<Note<'t>>, AllocError>
     ensures { IfOk result (λ noted. NotesDocument noted.items (map statement_of statements.now)) }
 {
     let mut notes = Notes {
         entries: Vec::with_capacity(alloc, statements.len())?,
-        noted: Vec::new(alloc),
+        noted: Vec::with_capacity(alloc, places)?,
     };
     for i in 0..statements.len() {
         note_statement(&mut notes, &statements[i])?;

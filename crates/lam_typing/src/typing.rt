@@ -48,7 +48,7 @@ impl Typing {
         ensures grounds { IfOk result (λ made. AreGroundsOf resolved.now self.now made) }
         ensures least { IfOk result (λ _. AreLeastFrom (statements_of resolved.now) self.now) }
     {
-        let noted = note_statements(alloc, resolved.statements())?;
+        let noted = note_statements(alloc, resolved.place_count(), resolved.statements())?;
         Ok(Grounds {
             typing: self,
             resolved,
