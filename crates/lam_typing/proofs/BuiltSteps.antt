@@ -10,8 +10,6 @@ use Rattle.lam_rules.specs.Subtyping.{ProvesBelow, IsBelow}
 use Rattle.lam_rules.specs.Terms.{Term, TermFields, no_terms}
 use Rattle.lam_rules.specs.TermViews.{terms_of}
 use Rattle.lam_rules.specs.declared.terms.Core.{Core}
-use Rattle.lam_rules.specs.Numbers.{type_of}
-use Rattle.lam_rules.specs.declared.numbers.TyNo.{TyNo}
 use Rattle.lam_rules.specs.declared.types.Fields.{Fields as RustFields, out-Fields}
 use Rattle.lam_rules.specs.declared.types.Ty.TheVariants.{Arrow, Record}
 use Rattle.lam_rules.proofs.TypeShapes.{typ_of-Arrow, typ_of-Record, no_arrow, no_record}
@@ -25,13 +23,11 @@ use Rattle.lam_rules.specs.declared.typing.TypeProof.{TypeProof, roll-TypeProof,
 use Rattle.lam_rules.proofs.ByShape.{below_wf}
 use Rattle.lam_rules.proofs.TypingShapes.{typing_tree_of-node, type_in-typing_tree_of, typing_wf_of}
 use Rattle.lam_scope.specs.Sights.{place_of_term}
-use Rattle.lam_typing.specs.Answers.{answer}
 use Rattle.lam_typing.specs.Grounds.{found_in, dialect_in}
 use Rattle.lam_typing.specs.Proving.{tree_in, trees_in, ProvesFound, ProvesThis, IsProvenTerm, IsProvenForm, IsProvenAs, AreProvenFields, IsWidened}
 use Rattle.lam_typing.specs.declared.proving.Proven.{Proven}
 use Rattle.lam_typing.specs.declared.proving.ProvenFields.{ProvenFields}
 use Rattle.lam_typing.specs.declared.grounds.Grounds.{Grounds}
-use Rattle.lam_typing.proofs.Finishing.{answers_at}
 
 pub step_tree : (rule : TypeRule) (ty : Ty) (premises : Vec TypeProof Global) (sub : Option (Box SubProof Global))
     → typing_tree_of (roll-TypeProof record { rule = rule; ty = ty; typing = premises; sub = sub }) ≡ typing_step rule (typ_of ty) (typings_of premises.items) (option_map (λ q. sub_tree_of q.value) sub)

@@ -1,21 +1,20 @@
 -- How the notes of the parts of a term go together, and those of statements.
-use Rattle.std.proofs.Common.{◌≡◌, ℕ, ◌+◌, ◌-◌, ◌<◌, ◌≤◌, List, [], ◌∷◌, ◌++◌, length, map, drop, take, get_or, Vec, Result, Ok, Err, IfOk, OnOk, Option, Some, None, ap, refl, sym, subst, ◌∙◌, arith, append_assoc, drop-cons, add-one, suc, zero}
+use Rattle.std.proofs.Common.{◌≡◌, ℕ, ◌+◌, ◌-◌, ◌<◌, ◌≤◌, List, [], ◌∷◌, ◌++◌, length, map, drop, take, get_or, Vec, Result, Ok, Err, IfOk, OnOk, Option, None, ap, refl, sym, subst, ◌∙◌, arith, append_assoc, drop-cons, add-one, suc, zero}
 use Rattle.std.proofs.lemmas.List.{append-nil, length-append, drop_all}
 use Rattle.std.specs.declared.alloc.Global.{Global}
 use Rattle.lam_rules.specs.Types.{Typ}
 use Rattle.lam_rules.specs.Terms.{Term, true_term, false_term, if_then_else, numeral, succ, pred, is_zero, variable, free, lambda, apply, unit_term, ascribe, let_in, record_term, project, fix, TermFields, term_field}
 use Rattle.lam_rules.specs.Typing.{Context}
-use Rattle.lam_scope.specs.Places.{Statement, defines, declares, abbreviates, states}
+use Rattle.lam_scope.specs.Places.{Statement, defines, declares, states}
 use Rattle.lam_scope.specs.Sights.{inside, inside_fields, place_of_term, behind_term}
 use Rattle.lam_scope.specs.Views.{statement_of}
 use Rattle.lam_scope.specs.declared.numbers.Place.{Place}
 use Rattle.lam_scope.specs.declared.statement.Statement.{Statement as RustStatement}
-use Rattle.lam_typing.specs.Entries.{written_in}
-use Rattle.lam_typing.specs.Notes.{Noted, bound_in, note, notes, notes_in, notes_of, entry_in, entries_onto, context_in, noted_as, noted_by, NotesMore, NotesTerm, NotesFields, NotesOne, NotesStatement, NotesDocument, IsLeaf, IsOver}
+use Rattle.lam_typing.specs.Notes.{Noted, note, notes, notes_in, notes_of, entry_in, entries_onto, context_in, noted_as, noted_by, NotesMore, NotesTerm, NotesFields, NotesOne, NotesStatement, NotesDocument, IsLeaf, IsOver}
 use Rattle.lam_typing.specs.Seeing.{note_among}
 use Rattle.lam_typing.specs.Steps.{entry_at}
 use Rattle.lam_typing.specs.declared.noting.Entry.{Entry}
-use Rattle.lam_typing.specs.declared.noting.Entry.TheVariants.{Written, Term as TermAt}
+use Rattle.lam_typing.specs.declared.noting.Entry.TheVariants.{Term as TermAt}
 use Rattle.lam_typing.specs.declared.noting.Note.{Note}
 use Rattle.lam_typing.specs.declared.noting.Note.TheVariants.{Nothing}
 use Rattle.lam_typing.specs.declared.noting.Notes.{Notes}

@@ -1,4 +1,4 @@
-use Rattle.std.proofs.Common.{◌≡◌, ◌+◌, [], ◌∷◌, ◌++◌, length, vec_len, ap, refl, ◌∙◌, arith, string_bytes}
+use Rattle.std.proofs.Common.{◌+◌, length, vec_len, ap, refl, arith, string_bytes}
 use Rattle.lam_rules.specs.Terms.{if_then_else, lambda, apply, let_in, record_term}
 use Rattle.lam_rules.specs.TermViews.{term_of, terms_of, written_of}
 use Rattle.lam_scope.specs.Sights.{inside, inside_fields, behind_term}

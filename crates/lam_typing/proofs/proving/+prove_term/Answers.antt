@@ -1,4 +1,4 @@
-use Rattle.std.proofs.Common.{◌≡◌, ◌+◌, ◌-◌, Some, None, ap, refl, sym, subst, ◌∙◌, string_bytes, arith, reverse, get_or}
+use Rattle.std.proofs.Common.{◌≡◌, ◌+◌, Some, None, ap, refl, sym, subst, ◌∙◌, string_bytes, arith, reverse}
 use Rattle.std.specs.Option.{option_map}
 use Rattle.lam_rules.specs.Types.{bool, nat, arrow, record_of, field}
 use Rattle.lam_rules.specs.Terms.{true_term, false_term, unit_term, numeral, if_then_else, succ, pred, is_zero, lambda, apply, ascribe, let_in, record_term, project, fix}
