@@ -1,5 +1,5 @@
--- The document without names: each use of a name is a count of binders of names. A written type is its expansion, so names of
--- types have no count.
+-- The document without names: each use of a name is a count of binders of names. A written type is its expansion, so no name of
+-- a type is left in a term.
 use Rattle.std.specs.Prelude.{ℕ, List, [], ◌∷◌, ◌++◌, Option, Some, None, if◌then◌else◌}
 use Rattle.std.specs.Option.{option_or}
 use Rattle.lam_token.specs.declared.span.Span.{Span}

@@ -20,7 +20,7 @@ pub fn bind(alloc: Global, commands: &[Command]) -> Result<Scopes, AllocError>
     ensures { IfOk result (λ s. AreScopesOf s (map command_of commands.now)) }
 {
     let mut rows = walk_commands(alloc, commands)?;
-    // Behind the walk, whose names are dropped by then.
+    // Here, where the names that the walk had in sight are dropped already.
     rows.trim();
     let tokens = group_tokens(alloc, rows.binders.len(), &rows.uses)?;
     Scopes::new(alloc, rows, tokens)

@@ -1,7 +1,7 @@
 //! Who binds what: the binders of names and of type names, the uses of each, what each place sees, the nameless form
 //! of a document's commands and the expansions of its written types.
 //!
-//! `bind` reads the commands and keeps no part of them. `resolve` gives the terms that typing speaks of.
+//! `bind` reads the commands and borrows nothing of them. `resolve` gives the terms that typing speaks of.
 //!
 //! Binding: `walk` fills the tables of `rows`, with the binders in sight on a stack (`seen`, over `names` and
 //! `name_stack`); `room` counts the rows first. `use_chains` and `token_lists` give each binder its uses, `stretches`

@@ -11,13 +11,14 @@ use crate::search::{Found, find_place};
 use crate::statement::Statement;
 use lam_rules::Core;
 
-/// The commands of a document without their names, where each binder takes its type from, and the faults of written
-/// types.
+/// The commands of a document without their names, where each binder takes its type from, the faults of written types,
+/// and how many places there are.
 #[derive(Drop)]
 pub struct Resolved {
     pub(crate) statements: Vec<Statement>,
     pub(crate) origins: Vec<Origin>,
     pub(crate) faults: Vec<TypeFault>,
+    /// How many places the statements have.
     pub(crate) places: usize,
     ghost places_counted: { places ≡ length (places_of [] (map statement_of statements.items)) },
 }

@@ -15,7 +15,7 @@ use lam_syntax::Text;
 use lam_token::Span;
 use std::alloc::{AllocError, Global};
 
-/// What the names and type names of a document's commands are bound to. It keeps no part of the commands.
+/// What the names and type names of a document's commands are bound to. It borrows nothing of the commands.
 #[derive(Drop)]
 pub struct Scopes {
     pub(crate) rows: Rows,
@@ -113,7 +113,7 @@ impl Scopes {
         self.rows.terms_of(place)
     }
 
-    /// The name of a binder; `_` where it is an underscore.
+    /// The name of a binder; `_` where it is an underscore, and for a number that no binder has.
     #[tactic(auto, using(crate::proofs::Reading::reading))]
     pub fn name_of(&self, binder: Binder) -> &str
         ensures { result.now ≡ shown_name (binder_numbered (table_of self.now) binder.0).name }

@@ -230,8 +230,8 @@ fn expansions_have_a_limit(rt: HostRuntime) -> Result<(), Fail> {
     Ok(())
 }
 
-/// A text, the numbers of its statements and of its places, and where each of its binders takes its type from.
-static ORIGINS: [(&str, usize, usize, &[Origin]); 3] = [
+/// A text, how many statements and places it has, and where each of its binders takes its type from.
+static ORIGINS: [(&str, usize, usize, &[Origin]); 6] = [
     (
         "x = 0; T = Nat; y : T; lambda _:T. let z = x in z",
         4,
@@ -260,6 +260,19 @@ static ORIGINS: [(&str, usize, usize, &[Origin]); 3] = [
         1,
         5,
         &[Origin::Lambda(Place(1)), Origin::Term(Place(2))],
+    ),
+    (
+        "{a=x, a={b=lambda x:Nat. x, b=x}} {a=0}.a",
+        1,
+        10,
+        &[Origin::Lambda(Place(2))],
+    ),
+    ("if true then succ 0 else fix unit; (0 as Nat).a", 2, 9, &[]),
+    (
+        "T = Nat; x : T",
+        2,
+        0,
+        &[Origin::TypeName, Origin::Declaration(1)],
     ),
 ];
 

@@ -32,7 +32,7 @@ impl<'a> UsesLeft<'a> {
         UsesLeft { rows }
     }
 
-    /// Passes the first use, and answers how many binders stand between it and its own. None do where it is unbound.
+    /// Passes the first use, and answers how many binders stand between it and its own. None where it is unbound.
     pub(crate) fn pass(&mut self) -> Option<usize>
         ensures between { result ≡ first_between self.old }
         ensures left { self.new ≡ past_first self.old }
