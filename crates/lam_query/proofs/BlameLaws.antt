@@ -1,68 +1,20 @@
 -- Whether a place is to blame is decided, and for what; so places have one list of blames.
-use Rattle.std.proofs.Common.{◌≡◌, ◌⊎◌, ℕ, zero, suc, ◌+◌, List, [], ◌∷◌, ◌++◌, Option, Some, None, refl, sym, ap, ◌∙◌, inl, inr}
-use Rattle.std.specs.Prelude.{codes}
-use Rattle.std.specs.List.{AllByRecursion}
+use Rattle.std.proofs.Common.{◌≡◌, ◌⊎◌, ℕ, zero, suc, ◌+◌, List, [], ◌∷◌, Option, Some, None, refl, sym, ap, ◌∙◌, inl, inr}
 use Rattle.lam_rules.specs.Types.{Typ, bool, nat, unit, top, arrow, record_of}
 use Rattle.lam_rules.specs.Terms.{Term, true_term, false_term, if_then_else, numeral, succ, pred, is_zero, variable, free, lambda, apply, unit_term, ascribe, let_in, record_term, project, fix, TermFields, no_terms, term_field}
-use Rattle.lam_rules.specs.Texts.{Text, sorted}
+use Rattle.lam_rules.specs.Texts.{sorted}
 use Rattle.lam_rules.specs.Typing.{Context}
 use Rattle.lam_rules.specs.declared.rules.Dialect.{Dialect}
 use Rattle.lam_rules.proofs.SharedTexts.{sorted_same}
-use Rattle.lam_scope.specs.Places.{written, of_term, Scope, Place, places, places_in, Statement, defines, declares, abbreviates, states, places_of}
-use Rattle.lam_scope.specs.WellFormed.{IsWellFormedTerm, AreWellFormedTerms, IsWellFormedScope, AreWellFormedStatements}
+use Rattle.lam_scope.specs.Places.{written, of_term, Scope, Place}
+use Rattle.lam_scope.specs.WellFormed.{IsWellFormedTerm, AreWellFormedTerms, IsWellFormedScope}
 use Rattle.lam_typing.specs.Contexts.{IsContext}
 use Rattle.lam_typing.specs.LeastTypes.{IsTyped, IsLeastAt}
 use Rattle.lam_typing.specs.Blaming.{ArePartsTyped, AreFieldsTyped, HasNoType, IsExcused, IsBlamed, application_code, IsBlamedFor, Blamed, AreBlamed}
+use Rattle.lam_typing.specs.declared.blame.BlameCode.{BlameCode}
 use Rattle.lam_typing.proofs.Existing.{exists_at, typed_or_not, lowest_exists}
+use Rattle.lam_typing.proofs.WellFormedPlaces.{IsWellFormedPlace, AreWellFormedPlaces}
 use Rattle.lam_typing.proofs.NeverBlamed.{true_unblamed, false_unblamed, unit_unblamed, numeral_unblamed, lambda_unblamed, let_unblamed}
-
--- ---- the places of a document are well formed
-
--- the types written in the term of a place and in its scope have distinct labels
-abbrev pub IsWellFormedPlace : Place → Type 0
-IsWellFormedPlace p = IsWellFormedScope p.scope × IsWellFormedTerm p.here
-
-abbrev pub AreWellFormedPlaces : List Place → Type 0
-AreWellFormedPlaces = AllByRecursion IsWellFormedPlace
-
-joined : (ps qs : List Place) → AreWellFormedPlaces ps → AreWellFormedPlaces qs → AreWellFormedPlaces (ps ++ qs)
-joined [] qs h k = k
-joined (p ∷ ps) qs h k = (h.0, joined ps qs h.1 k)
-
-mutual
-  places_wf : (s : Scope) (e : Term) → IsWellFormedScope s → IsWellFormedTerm e → AreWellFormedPlaces (places s e)
-  places_wf s (if_then_else c a b) ws we =
-      joined ((places s c ++ places s a) ++ places s b) _
-      (joined (places s c ++ places s a) (places s b) (joined (places s c) (places s a) (places_wf s c ws we.0) (places_wf s a ws we.1)) (places_wf s b ws we.2)) ((ws, we), tt)
-  places_wf s (succ e) ws we = joined (places s e) _ (places_wf s e ws we) ((ws, we), tt)
-  places_wf s (pred e) ws we = joined (places s e) _ (places_wf s e ws we) ((ws, we), tt)
-  places_wf s (is_zero e) ws we = joined (places s e) _ (places_wf s e ws we) ((ws, we), tt)
-  places_wf s (lambda w e) ws we = joined (places (written w ∷ s) e) _ (places_wf (written w ∷ s) e (we.0, ws) we.1) ((ws, we), tt)
-  places_wf s (apply f a) ws we = joined (places s f ++ places s a) _ (joined (places s f) (places s a) (places_wf s f ws we.0) (places_wf s a ws we.1)) ((ws, we), tt)
-  places_wf s (ascribe e w) ws we = joined (places s e) _ (places_wf s e ws we.0) ((ws, we), tt)
-  places_wf s (let_in a b) ws we =
-      joined (places s a ++ places (of_term a ∷ s) b) _
-      (joined (places s a) (places (of_term a ∷ s) b) (places_wf s a ws we.0) (places_wf (of_term a ∷ s) b (we.0, ws) we.1)) ((ws, we), tt)
-  places_wf s (record_term es) ws we = joined (places_in s es) _ (places_in_wf s es ws we) ((ws, we), tt)
-  places_wf s (project e l) ws we = joined (places s e) _ (places_wf s e ws we) ((ws, we), tt)
-  places_wf s (fix e) ws we = joined (places s e) _ (places_wf s e ws we) ((ws, we), tt)
-  places_wf s true_term ws we = ((ws, we), tt)
-  places_wf s false_term ws we = ((ws, we), tt)
-  places_wf s unit_term ws we = ((ws, we), tt)
-  places_wf s (numeral digits) ws we = ((ws, we), tt)
-  places_wf s (variable n) ws we = ((ws, we), tt)
-  places_wf s (free x) ws we = ((ws, we), tt)
-
-  places_in_wf : (s : Scope) (es : TermFields) → IsWellFormedScope s → AreWellFormedTerms es → AreWellFormedPlaces (places_in s es)
-  places_in_wf s no_terms ws we = tt
-  places_in_wf s (term_field l e es) ws we = joined (places s e) (places_in s es) (places_wf s e ws we.0) (places_in_wf s es ws we.1)
-
-pub places_of_wf : (s : Scope) (ss : List Statement) → IsWellFormedScope s → AreWellFormedStatements ss → AreWellFormedPlaces (places_of s ss)
-places_of_wf s [] ws wss = tt
-places_of_wf s (defines e ∷ rest) ws wss = joined (places s e) (places_of (of_term e ∷ s) rest) (places_wf s e ws wss.0) (places_of_wf (of_term e ∷ s) rest (wss.0, ws) wss.1)
-places_of_wf s (declares w ∷ rest) ws wss = places_of_wf (written w ∷ s) rest (wss.0, ws) wss.1
-places_of_wf s (abbreviates w ∷ rest) ws wss = places_of_wf s rest ws wss.1
-places_of_wf s (states e ∷ rest) ws wss = joined (places s e) (places_of s rest) (places_wf s e ws wss.0) (places_of_wf s rest ws wss.1)
 
 -- ---- whether a place is to blame
 
@@ -159,22 +111,22 @@ module _ (d : Dialect) where
 
   -- ---- for what
 
-  function_code : (s : Scope) (f a : Term) → IsTyped s f d → (o : Option Typ) × IsLeastAt s f o d → (code : Text) × IsBlamedFor s (apply f a) code d
+  function_code : (s : Scope) (f a : Term) → IsTyped s f d → (o : Option Typ) × IsLeastAt s f o d → (code : BlameCode) × IsBlamedFor s (apply f a) code d
   function_code s f a typed (Some t, least) = (application_code t, (t, least, refl))
   function_code s f a typed (None, least) = absurd (least typed.0 typed.1)
 
-  some_code : (s : Scope) (e : Term) → IsWellFormedScope s → IsWellFormedTerm e → IsBlamed s e d → (code : Text) × IsBlamedFor s e code d
-  some_code s (free x) ws we blamed = (codes "E1", refl)
-  some_code s (variable n) ws we blamed = (codes "E1", refl)
+  some_code : (s : Scope) (e : Term) → IsWellFormedScope s → IsWellFormedTerm e → IsBlamed s e d → (code : BlameCode) × IsBlamedFor s e code d
+  some_code s (free x) ws we blamed = (BlameCode.UnboundName, refl)
+  some_code s (variable n) ws we blamed = (BlameCode.UnboundName, refl)
   some_code s (apply f a) ws we blamed = function_code s f a blamed.parts.0 (exists_at d s f ws we.0)
-  some_code s (project e l) ws we blamed = (codes "E4", refl)
-  some_code s (if_then_else c a b) ws we blamed = (codes "E5", refl)
-  some_code s (succ e) ws we blamed = (codes "E6", refl)
-  some_code s (pred e) ws we blamed = (codes "E6", refl)
-  some_code s (is_zero e) ws we blamed = (codes "E6", refl)
-  some_code s (ascribe e w) ws we blamed = (codes "E7", refl)
-  some_code s (fix e) ws we blamed = (codes "E8", refl)
-  some_code s (record_term es) ws we blamed = (codes "E9", refl)
+  some_code s (project e l) ws we blamed = (BlameCode.NoSuchField, refl)
+  some_code s (if_then_else c a b) ws we blamed = (BlameCode.ConditionNotBool, refl)
+  some_code s (succ e) ws we blamed = (BlameCode.OperandNotNat, refl)
+  some_code s (pred e) ws we blamed = (BlameCode.OperandNotNat, refl)
+  some_code s (is_zero e) ws we blamed = (BlameCode.OperandNotNat, refl)
+  some_code s (ascribe e w) ws we blamed = (BlameCode.UnmetAscription, refl)
+  some_code s (fix e) ws we blamed = (BlameCode.UnfitFix, refl)
+  some_code s (record_term es) ws we blamed = (BlameCode.RepeatedLabel, refl)
   some_code s true_term ws we blamed = absurd (true_unblamed d s ws blamed)
   some_code s false_term ws we blamed = absurd (false_unblamed d s ws blamed)
   some_code s unit_term ws we blamed = absurd (unit_unblamed d s ws blamed)
@@ -194,7 +146,7 @@ module _ (d : Dialect) where
   one_function_code s f t u a b =
       sym (sorted_code t) ∙ ap application_code (sorted_same t u d (a.1 u b.0) (b.1 t a.0)) ∙ sorted_code u
 
-  one_code : (s : Scope) (e : Term) (x y : Text) → IsBlamedFor s e x d → IsBlamedFor s e y d → x ≡ y
+  one_code : (s : Scope) (e : Term) (x y : BlameCode) → IsBlamedFor s e x d → IsBlamedFor s e y d → x ≡ y
   one_code s (free z) x y a b = a ∙ sym b
   one_code s (variable n) x y a b = a ∙ sym b
   one_code s (apply f e) x y a b = a.2 ∙ one_function_code s f a.0 b.0 a.1 b.1 ∙ sym b.2

@@ -14,14 +14,12 @@ use Rattle.lam_scope.specs.declared.numbers.Origin.TheVariants.{TypeName}
 use Rattle.lam_scope.specs.Sights.{sight_numbered}
 use Rattle.lam_scope.specs.Tables.{Table, TextBinder, table, place_at, place_row_numbered, binder_numbered, shown_name, visible_at}
 use Rattle.lam_scope.specs.TableViews.{binder_number}
-use Rattle.lam_scope.specs.Views.{table_of, statements_of, origins_of}
+use Rattle.lam_scope.specs.Views.{table_of, statements_of}
 use Rattle.lam_scope.proofs.SeenOrigins.{visible_origins}
 use Rattle.lam_scope.proofs.Reading.{map-reverse}
 use Rattle.lam_typing.specs.declared.typing.Typing.{Typing}
 use Rattle.lam_typing.specs.Entries.{AreLeastEntries, entry_from}
-use Rattle.lam_typing.specs.Typings.{found_of, context_at, IsProofAt}
-use Rattle.lam_typing.specs.Grounds.{entries_in, AreGroundsOf}
-use Rattle.lam_typing.specs.declared.grounds.Grounds.{Grounds}
+use Rattle.lam_typing.specs.Typings.{found_of, entries_in, context_at, IsProofAt}
 use Rattle.lam_query.specs.declared.answers.Step.{Step as RustStep}
 use Rattle.lam_query.specs.declared.analyses.Analysis.{Analysis}
 use Rattle.lam_query.specs.declared.analyses.Types.TheVariants.{Found}
@@ -62,50 +60,47 @@ types_told t f types (b ∷ bs) none are =
     λ i. one i ∷ rest i
 
 -- the entries of a place are those of the binders that it sees, the outermost first
-entries_told : (cs : List CommandTree) (resolved : Resolved) (typing : Typing) (grounds : Grounds) (d : Dialect) (n : ℕ) → AreFoundOf cs resolved typing d → AreGroundsOf resolved typing grounds
-    → map (λ e. e.type) (map (entry_shown (table cs) (entries_in grounds)) (visible_at (table cs) n)) ≡ reverse (context_at (statements_in cs) typing n)
-entries_told cs resolved typing grounds d n h of =
+entries_told : (cs : List CommandTree) (resolved : Resolved) (typing : Typing) (d : Dialect) (n : ℕ) → AreFoundOf cs resolved typing d
+    → map (λ e. e.type) (map (entry_shown (table cs) (entries_in typing)) (visible_at (table cs) n)) ≡ reverse (context_at (statements_in cs) typing n)
+entries_told cs resolved typing d n h =
     let f = entry_from (statements_in cs) (found_of typing) in
-    let each : entries_in grounds ≡ map f (map (λ b. b.origin) (table cs).binders) =
-    (λ i. map (entry_from (statements_of (of.resolved i)) (found_of (of.typing i))) (origins_of (of.resolved i)))
-    ∙ (λ i. map (entry_from (h.statements i) (found_of typing)) (h.origins i)) in
-    types_told (table cs) f (entries_in grounds) (visible_at (table cs) n) refl each
+    let each : entries_in typing ≡ map f (map (λ b. b.origin) (table cs).binders) = h.entries.each ∙ (λ i. map (entry_from (h.statements i) (found_of typing)) (h.origins i)) in
+    types_told (table cs) f (entries_in typing) (visible_at (table cs) n) refl each
     ∙ ap (map f) (visible_origins cs n)
     ∙ map-reverse f (sight_numbered (statements_in cs) n)
 
-derivation_around : (cs : List CommandTree) (resolved : Resolved) (typing : Typing) (grounds : Grounds) (d : Dialect) (o n : ℕ) (tree : TypingTree) (derived : Derivation)
-    → AreFoundOf cs resolved typing d → AreGroundsOf resolved typing grounds → place_at (table cs) o ≡ Some n → IsProofAt (statements_of grounds.resolved.now) grounds.typing.now n tree
-    → derived.context ≡ map (entry_shown (table cs) (entries_in grounds)) (visible_at (table cs) n) → derived.steps ≡ steps_of 0 (typing_proof (table cs) n tree)
+derivation_around : (cs : List CommandTree) (resolved : Resolved) (typing : Typing) (d : Dialect) (o n : ℕ) (tree : TypingTree) (derived : Derivation)
+    → AreFoundOf cs resolved typing d → place_at (table cs) o ≡ Some n → IsProofAt (statements_of resolved) typing n tree
+    → derived.context ≡ map (entry_shown (table cs) (entries_in typing)) (visible_at (table cs) n) → derived.steps ≡ steps_of 0 (typing_proof (table cs) n tree)
     → IsDerivationAround cs o derived d
-derivation_around cs resolved typing grounds d o n tree derived h of at proof told steps =
-    let here = subst (λ t. IsProofAt (statements_of grounds.resolved.now) t n tree) of.typing proof in
-    let there = subst (λ ss. IsProofAt ss typing n tree) (ap statements_of of.resolved ∙ h.statements) here in
+derivation_around cs resolved typing d o n tree derived h at proof told steps =
+    let there = subst (λ ss. IsProofAt ss typing n tree) h.statements proof in
     record {
       number = n;
       type = type_in tree;
-      typed = typed_around cs resolved typing d o n (type_in tree) h at there.type;
+      typed = typed_around cs resolved typing d o n (type_in tree) h at proof.type;
       entries = context_at (statements_in cs) typing n;
       least = subst (λ e. AreLeastEntries (place_in cs n).scope (context_at (statements_in cs) typing n) e) h.dialect there.least;
-      names = ap (map (λ e. e.name)) told ∙ names_told (table cs) (entries_in grounds) (visible_at (table cs) n);
-      types = ap (map (λ e. e.type)) told ∙ entries_told cs resolved typing grounds d n h of;
+      names = ap (map (λ e. e.name)) told ∙ names_told (table cs) (entries_in typing) (visible_at (table cs) n);
+      types = ap (map (λ e. e.type)) told ∙ entries_told cs resolved typing d n h;
       tree = tree;
       proof = subst (λ e. IsTyping (context_at (statements_in cs) typing n) (place_in cs n).here tree e) h.dialect there.proof;
       concluded = refl;
       steps = steps;
     }
 
-pub derived_type : (text : List ℕ) (a : Analysis) (resolved : Resolved) (typing : Typing) (grounds : Grounds) (o n : ℕ) (tree : TypingTree) (derived : Derivation)
-    → IsAnalysisOf text a → a.types ≡ Found resolved typing → AreGroundsOf resolved typing grounds → Some n ≡ place_at (table_of a.scopes) o → IsProofAt (statements_of grounds.resolved.now) grounds.typing.now n tree
-    → derived.context ≡ map (entry_shown (table_of a.scopes) (entries_in grounds)) (visible_at (table_of a.scopes) n)
+pub derived_type : (text : List ℕ) (a : Analysis) (resolved : Resolved) (typing : Typing) (o n : ℕ) (tree : TypingTree) (derived : Derivation)
+    → IsAnalysisOf text a → a.types ≡ Found resolved typing → Some n ≡ place_at (table_of a.scopes) o → IsProofAt (statements_of resolved) typing n tree
+    → derived.context ≡ map (entry_shown (table_of a.scopes) (entries_in typing)) (visible_at (table_of a.scopes) n)
     → derived.steps ≡ steps_of 0 (typing_proof (table_of a.scopes) n tree) → IsDerivedIn text o (Some derived) a.dialect
-derived_type text a resolved typing grounds o n tree derived h is of at proof told steps = record {
+derived_type text a resolved typing o n tree derived h is at proof told steps = record {
   commands = commands_in a;
   are_commands = h.are_commands;
   answer =
       let at_place = subst (λ t. Some n ≡ place_at t o) h.scopes.same_table at in
-      let told_there = subst (λ t. derived.context ≡ map (entry_shown t (entries_in grounds)) (visible_at t n)) h.scopes.same_table told in
+      let told_there = subst (λ t. derived.context ≡ map (entry_shown t (entries_in typing)) (visible_at t n)) h.scopes.same_table told in
       let steps_there = subst (λ t. derived.steps ≡ steps_of 0 (typing_proof t n tree)) h.scopes.same_table steps in
-      derivation_around (commands_in a) resolved typing grounds a.dialect o n tree derived (types_held text a (Found resolved typing) h is) of (sym at_place) proof told_there steps_there;
+      derivation_around (commands_in a) resolved typing a.dialect o n tree derived (types_held text a (Found resolved typing) h is) (sym at_place) proof told_there steps_there;
 }
 
 -- where nothing is shown, nothing is derived

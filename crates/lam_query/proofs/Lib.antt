@@ -23,4 +23,3 @@ pub mod SightLengths
 pub mod SomeAnswers
 pub mod Deriving
 pub mod Faultless
-pub mod KnownCodes

@@ -12,7 +12,7 @@ use Rattle.lam_typing.specs.LeastTypes.{IsLeastAt}
 use Rattle.lam_typing.specs.Analysis.{AreLeast, IsSmall as IsSmallType, AreSmall, IsTooLarge, IsFirstTooLarge}
 use Rattle.lam_typing.proofs.Existing.{exists_at}
 use Rattle.lam_query.specs.Sizes.{IsSizeFault, of_written_type, of_place, IsSmall, statements_in, places_in, span_of_place}
-use Rattle.lam_query.proofs.BlameLaws.{AreWellFormedPlaces, places_of_wf}
+use Rattle.lam_typing.proofs.WellFormedPlaces.{AreWellFormedPlaces, places_of_wf}
 use Rattle.lam_query.proofs.Small.{same_nodes, is_small}
 
 pub document_places_wf : (commands : List CommandTree) → AreWellFormedPlaces (places_in commands)

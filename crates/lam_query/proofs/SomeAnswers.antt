@@ -1,11 +1,9 @@
 -- Each text has a list of faults, and one alone. Of each offset a type is shown or none, and a derivation is there exactly where a type is shown.
-use Rattle.std.proofs.Common.{◌≡◌, ◌⊎◌, ℕ, zero, suc, List, [], ◌∷◌, ◌++◌, map, get_or, Option, Some, None, unwrap_or, refl, sym, ap, subst, ◌∙◌, inl, inr, length, reverse, arith}
+use Rattle.std.proofs.Common.{◌≡◌, ◌⊎◌, ℕ, suc, List, [], ◌∷◌, ◌++◌, map, Option, Some, None, unwrap_or, refl, sym, ap, subst, ◌∙◌, inl, inr, length, reverse, arith}
 use Rattle.std.proofs.lemmas.List.{length-map, length-reverse}
-use Rattle.std.specs.Prelude.{codes}
 use Rattle.std.specs.List.{filter_map}
 use Rattle.std.specs.Str.{chars}
 use Rattle.lam_rules.specs.Types.{Typ}
-use Rattle.lam_rules.specs.Terms.{unit_term}
 use Rattle.lam_rules.specs.Texts.{Text, text as text_of_type}
 use Rattle.lam_rules.specs.Typing.{Context}
 use Rattle.lam_rules.specs.declared.rules.Dialect.{Dialect}
@@ -17,7 +15,7 @@ use Rattle.lam_token.proofs.SomeCut.{some_cut}
 use Rattle.lam_syntax.specs.Trees.{CommandTree}
 use Rattle.lam_syntax.specs.Answers.{pieces_of}
 use Rattle.lam_scope.specs.Nameless.{faults}
-use Rattle.lam_scope.specs.Places.{Binding, written, of_term, Scope, Place}
+use Rattle.lam_scope.specs.Places.{Binding, written, of_term, Scope}
 use Rattle.lam_scope.specs.WellFormed.{IsWellFormedScope}
 use Rattle.lam_scope.specs.Sights.{sight_numbered}
 use Rattle.lam_scope.proofs.SeenOrigins.{visible_origins}
@@ -26,7 +24,9 @@ use Rattle.lam_typing.specs.LeastTypes.{IsLeastAt, IsLeastEntry}
 use Rattle.lam_typing.specs.Entries.{AreLeastEntries}
 use Rattle.lam_typing.proofs.Derivations.{has_type}
 use Rattle.lam_typing.proofs.LeastIn.{LeastContext, lowest, least_at, least_in}
+use Rattle.lam_typing.proofs.WellFormedPlaces.{IsWellFormedPlace, wf_at}
 use Rattle.lam_typing.proofs.Existing.{exists_at, context_exists}
+use Rattle.lam_query.specs.declared.codes.FaultCode.{FaultCode}
 use Rattle.lam_query.specs.Faults.{Fault, AreInOrder}
 use Rattle.lam_query.specs.SyntaxFaults.{fault_at, fault_of_token, AreSyntaxFaults}
 use Rattle.lam_query.specs.TextFaults.{written_fault, blame_fault, AreTypeFaults, too_large, small, AreFaults}
@@ -40,7 +40,7 @@ use Rattle.lam_query.specs.Analyses.{IsShownIn, IsDerivedIn}
 use Rattle.lam_query.proofs.OneAnswer.{one_document}
 use Rattle.lam_query.proofs.PieceLaws.{some_commands, some_faults_of_pieces, one_list_of_pieces}
 use Rattle.lam_query.proofs.SortedFaults.{some_order, one_order}
-use Rattle.lam_query.proofs.BlameLaws.{IsWellFormedPlace, AreWellFormedPlaces, some_blames, one_blames}
+use Rattle.lam_query.proofs.BlameLaws.{some_blames, one_blames}
 use Rattle.lam_query.proofs.SizeLaws.{document_places_wf, fault_or_small, one_size_fault}
 
 -- faults
@@ -58,13 +58,13 @@ some_type_faults : (commands : List CommandTree) (d : Dialect) → (found : List
 some_type_faults commands d = by (fault_or_small d commands)
   where
     by : ((s : Span) × IsSizeFault commands s d) ⊎ IsSmall commands d → (found : List Fault) × AreTypeFaults commands found d
-    by (inl fault) = (fault_at (codes "L1") fault.0 ∷ [], too_large fault.1)
+    by (inl fault) = (fault_at FaultCode.TypeTooLarge fault.0 ∷ [], too_large fault.1)
     by (inr is) =
         let blames = some_blames d 0 (places_in commands) (document_places_wf commands) in
         (map written_fault (faults [] commands) ++ map (blame_fault commands) blames.0, small blames.0 is blames.1)
 
 one_type_faults : (commands : List CommandTree) (a b : List Fault) (d : Dialect) → AreTypeFaults commands a d → AreTypeFaults commands b d → a ≡ b
-one_type_faults commands _ _ d (too_large x) (too_large y) = ap (λ s. fault_at (codes "L1") s ∷ []) (one_size_fault d commands _ _ x y)
+one_type_faults commands _ _ d (too_large x) (too_large y) = ap (λ s. fault_at FaultCode.TypeTooLarge s ∷ []) (one_size_fault d commands _ _ x y)
 one_type_faults commands _ _ d (too_large x) (small blames is are) = absurd (is _ x)
 one_type_faults commands _ _ d (small blames is are) (too_large y) = absurd (is _ y)
 one_type_faults commands _ _ d (small blames is are) (small others is' are') =
@@ -110,11 +110,6 @@ one_faults text a b d x y =
     one_order (x.of_syntax ++ x.of_types) a b x.in_order (subst (λ fs. AreInOrder fs b) all y.in_order)
 
 -- what is shown
-
-wf_at : (ps : List Place) (n : ℕ) → AreWellFormedPlaces ps → IsWellFormedPlace (get_or ps n (record { scope = []; here = unit_term }))
-wf_at [] n wf = (tt, tt)
-wf_at (p ∷ ps) zero wf = wf.0
-wf_at (p ∷ ps) (suc n) wf = wf_at ps n wf.1
 
 place_wf : (commands : List CommandTree) (n : ℕ) → IsWellFormedPlace (place_in commands n)
 place_wf commands n = wf_at (places_in commands) n (document_places_wf commands)

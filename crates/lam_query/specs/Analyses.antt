@@ -9,7 +9,7 @@ use Rattle.lam_scope.specs.Nameless.{first_too_large, faults}
 use Rattle.lam_scope.specs.Tables.{table}
 use Rattle.lam_scope.specs.Views.{AreScopesOf, statements_of, origins_of, faults_of}
 use Rattle.lam_typing.specs.declared.typing.Typing.{Typing}
-use Rattle.lam_typing.specs.Typings.{IsAnalysis, IsTypingOf, dialect_of as dialect_of_types}
+use Rattle.lam_typing.specs.Typings.{IsAnalysis, IsTypingOf, AreEntries, dialect_of as dialect_of_types}
 use Rattle.lam_query.specs.declared.analyses.Analysis.{Analysis}
 use Rattle.lam_query.specs.declared.analyses.Types.{Types}
 use Rattle.lam_query.specs.declared.analyses.Types.TheVariants.{TooLarge, Found}
@@ -28,6 +28,7 @@ pub record AreFoundOf (commands : List CommandTree) (resolved : Resolved) (typin
   pub typed : IsAnalysis (places_in commands) typing d
   pub origins : origins_of resolved ≡ map (λ b. b.origin) (table commands).binders
   pub types_of_it : IsTypingOf (statements_of resolved) typing
+  pub entries : AreEntries (statements_of resolved) (origins_of resolved) typing
   pub dialect : dialect_of_types typing ≡ d
 
 -- what is known of types is that of these commands: their size fault, or else their nameless form and their types

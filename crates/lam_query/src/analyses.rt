@@ -9,6 +9,7 @@ ghost use Rattle.lam_query.specs.Views.{fault_of, shown_of, derivation_of, StepS
 ghost use Rattle.lam_query.specs.Analyses.{AreTypesOf, IsAnalysisOf, commands_in, dialect_of, IsShownIn, IsDerivedIn};
 
 use crate::answers::{Derivation, Fault, Hover};
+use crate::codes::FaultCode;
 use crate::contexts::context_at;
 use crate::order::put_in_order;
 use crate::reading::read;
@@ -118,11 +119,10 @@ impl Analysis {
         let Some(place) = self.scopes.place_at(offset) else {
             return Ok(None);
         };
-        let grounds = typing.grounds(alloc, resolved)?;
-        let Some(proof) = grounds.prove_at(alloc, place)? else {
+        let Some(proof) = typing.prove_at(alloc, resolved, place)? else {
             return Ok(None);
         };
-        let context = context_at(alloc, &self.scopes, &grounds, place)?;
+        let context = context_at(alloc, &self.scopes, typing, place)?;
         let steps = steps_of_proof(alloc, &self.scopes, place, &proof)?;
         Ok(Some(Derivation { context, steps }))
     }
@@ -137,7 +137,7 @@ impl Analysis {
             Types::TooLarge(span) => {
                 let mut found = Vec::new(alloc);
                 found.push(Fault {
-                    code: "L1",
+                    code: FaultCode::TypeTooLarge,
                     span: *span,
                 })?;
                 Ok(found)

@@ -1,12 +1,13 @@
 //! What is answered.
 
+use crate::codes::FaultCode;
 use lam_rules::{SubRule, Ty, TypeRule};
 use lam_token::Span;
 
-/// A fault of a text, by its printed code, as `E3`.
+/// A fault of a text: what it is, and where.
 #[derive(Clone, Copy, Debug)]
 pub struct Fault {
-    pub code: &'static str,
+    pub code: FaultCode,
     pub span: Span,
 }
 

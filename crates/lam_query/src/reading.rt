@@ -7,6 +7,7 @@ ghost use Rattle.lam_query.specs.Reading.{IsCommandRead, fault_read, IsNoted, Is
 ghost use Rattle.lam_query.specs.Views.{fault_of};
 
 use crate::answers::Fault;
+use crate::codes::FaultCode;
 use lam_syntax::{Command, ParseFault, is_semicolon, parse};
 use lam_token::{Kind, Span, Token, first_token};
 use std::alloc::{AllocError, Global};
@@ -119,7 +120,7 @@ fn read_piece(alloc: Global, piece: &[Token<'_>]) -> Result<Piece, AllocError>
     match parse(alloc, piece) {
         Ok(command) => Ok(Piece::Command(command)),
         Err(ParseFault::TooManyTokens) => Ok(Piece::Fault(Fault {
-            code: "L2",
+            code: FaultCode::CommandTooLong,
             span: Span {
                 start: first.start,
                 end: last.end,
@@ -127,11 +128,11 @@ fn read_piece(alloc: Global, piece: &[Token<'_>]) -> Result<Piece, AllocError>
         })),
         Err(ParseFault::BadToken) => Ok(Piece::Spoiled),
         Err(ParseFault::WrongToken(k)) => Ok(Piece::Fault(Fault {
-            code: "P1",
+            code: FaultCode::UnexpectedToken,
             span: piece[k].span(),
         })),
         Err(ParseFault::WrongEnd) => Ok(Piece::Fault(Fault {
-            code: "P2",
+            code: FaultCode::EarlyEnd,
             span: last,
         })),
         Err(ParseFault::Memory) => Err(AllocError),
@@ -144,8 +145,14 @@ fn fault_of_token(token: &Token<'_>) -> Option<Fault>
 {
     let span = token.span();
     match token.kind() {
-        Kind::BadCharacter => Some(Fault { code: "B1", span }),
-        Kind::BadComment => Some(Fault { code: "B2", span }),
+        Kind::BadCharacter => Some(Fault {
+            code: FaultCode::BadCharacter,
+            span,
+        }),
+        Kind::BadComment => Some(Fault {
+            code: FaultCode::BadComment,
+            span,
+        }),
         _ => None,
     }
 }

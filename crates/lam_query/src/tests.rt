@@ -30,7 +30,7 @@ fn expect_faults(
     let found = faults(alloc, text, dialect)?;
     assert_eq!(rt; found.len(), wanted.len(), "of {text:?}");
     for (fault, want) in found.iter().zip(wanted) {
-        assert_eq!(rt; fault.code, want.0, "in {text:?}");
+        assert_eq!(rt; fault.code.as_str(), want.0, "in {text:?}");
         let place = Span {
             start: want.1,
             end: want.2,

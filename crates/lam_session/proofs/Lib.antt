@@ -5,5 +5,3 @@ pub mod AloneRuns
 pub mod OneAnswer
 pub mod Values
 pub mod AskSteps
-pub mod Messages
-pub mod FaultMessages

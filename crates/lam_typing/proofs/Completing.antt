@@ -1,5 +1,5 @@
--- A walk that was gone to its end: what is promised of the typing made of it.
-use Rattle.std.proofs.Common.{◌≡◌, ℕ, ◌+◌, ◌<◌, ◌≤◌, List, [], ◌∷◌, length, map, get_or, take, Option, Some, None, Result, Ok, Err, IfOk, IfErr, ap, refl, sym, subst, ◌∙◌, arith, zero, suc}
+-- A walk that was gone to its end, with the entries of the document's binders: what is promised of the typing made of them.
+use Rattle.std.proofs.Common.{◌≡◌, ℕ, ◌+◌, List, [], ◌∷◌, length, map, take, Option, Some, None, Result, Ok, Err, IfOk, IfErr, ap, refl, sym, subst, ◌∙◌, arith, zero, suc}
 use Rattle.lam_rules.specs.Types.{Typ}
 use Rattle.lam_rules.specs.declared.rules.Dialect.{Dialect}
 use Rattle.lam_scope.specs.Places.{Place, Statement, places_of}
@@ -8,17 +8,44 @@ use Rattle.lam_scope.specs.declared.numbers.Place.{Place as PlaceNumber}
 use Rattle.lam_scope.specs.declared.numbers.Origin.{Origin}
 use Rattle.lam_scope.specs.declared.numbers.Origin.TheVariants.{Lambda, Term as TermAt, Declaration, TypeName}
 use Rattle.lam_typing.specs.Analysis.{AreLeast, IsFirstTooLarge}
+use Rattle.lam_typing.specs.Answers.{answers}
 use Rattle.lam_typing.specs.Entries.{IsLeastFrom, HasTermAmong, entry_from}
 use Rattle.lam_typing.specs.Progress.{Went}
 use Rattle.lam_typing.specs.Seeing.{LeastAmong}
-use Rattle.lam_typing.specs.Walk.{Grows, progress_of, entries_of, HasStoppedAmong}
-use Rattle.lam_typing.specs.Typings.{found_of, dialect_of, IsAnalysis, IsTypingOf, AreLeastFrom, Begins, Completes, IsFaultOf, IsEndOf, up_to}
+use Rattle.lam_typing.specs.Walk.{Grows, IsSoundWalk, progress_of, entries_of, HasStoppedAmong}
+use Rattle.lam_typing.specs.Typings.{found_of, dialect_of, IsAnalysis, IsTypingOf, AreEntries, IsFaultOf}
+use Rattle.lam_typing.specs.Ends.{Begins, Completes, IsEndOf, up_to}
 use Rattle.lam_typing.specs.declared.fault.TypingFault.{TypingFault}
 use Rattle.lam_typing.specs.declared.typing.Typing.{Typing}
 use Rattle.lam_typing.specs.declared.walking.Walk.{Walk}
 use Rattle.lam_typing.specs.declared.walking.Stop.{Stop}
+use Rattle.lam_typing.proofs.Growing.{answers_keep}
+use Rattle.lam_typing.proofs.Glue.{progress_same, retabled_grows}
 use Rattle.lam_typing.proofs.Together.{least_length}
-use Rattle.lam_typing.proofs.Finishing.{analysed, stopped_behind_last, stopped_at_large}
+use Rattle.lam_typing.proofs.Finishing.{HasWalked, analysed, stopped_behind_last, stopped_at_large}
+
+-- the analysis, by the later table
+
+has_walked : (w : Walk) (ss : List Statement) (origins : List Origin) (t : Typing) → Completes w ss origins t → HasWalked (record w { table = t.table }) t
+has_walked w ss origins t completes = record { table = refl; found = completes.found; blames = completes.blames }
+
+pub analysis_of_all : (w0 w : Walk) (last : Option PlaceNumber) (ss : List Statement) (origins : List Origin) (t : Typing) (d : Dialect) → Begins w0 last → Grows w0 w
+    → Went (entries_of w0) (λ s. places_of s ss) (progress_of w0) (progress_of w) d → Completes w ss origins t → IsAnalysis (up_to last (places_of [] ss)) t d
+analysis_of_all w0 w last ss origins t d begins grows went completes =
+    let now = t.table in
+    let keeps = completes.keeps in
+    let same = progress_same w (record w { table = now }) grows.sound keeps refl refl in
+    analysed w0 (record w { table = now }) last ss t d begins (retabled_grows w0 w now grows keeps)
+    (subst (λ p. Went (entries_of w0) (λ s. places_of s ss) (progress_of w0) p d) (sym same) went) (has_walked w ss origins t completes)
+
+pub analysis_of_some : (w0 w : Walk) (last : Option PlaceNumber) (ss : List Statement) (origins : List Origin) (t : Typing) (d : Dialect) → Begins w0 last → Grows w0 w
+    → HasStoppedAmong Stop.Enough (entries_of w0) (λ s. places_of s ss) w0 w d → Completes w ss origins t → IsAnalysis (up_to last (places_of [] ss)) t d
+analysis_of_some w0 w last ss origins t d begins grows stopped completes =
+    let now = t.table in
+    let keeps = completes.keeps in
+    let same = progress_same w (record w { table = now }) grows.sound keeps refl refl in
+    stopped_behind_last w0 (record w { table = now }) last ss t d begins (retabled_grows w0 w now grows keeps)
+    (rw same stopped.0, stopped.1) (has_walked w ss origins t completes)
 
 -- a typing of the document
 
@@ -61,49 +88,47 @@ least_told ss t (TermAt p) least among = least p.0 among
 least_told ss t (Declaration i) least among = refl
 least_told ss t TypeName least among = refl
 
-pub all_least : (ss : List Statement) (t : Typing) → IsTypingOf ss t → AreLeastFrom ss t
-all_least ss t typing = λ o among. least_told ss t o (least_among (places_of [] ss) (found_of t) (dialect_of t) typing.least) among
+pub entries_of_typing : (w : Walk) (ss : List Statement) (origins : List Origin) (t : Typing) → IsSoundWalk w → IsTypingOf ss t → Completes w ss origins t → AreEntries ss origins t
+entries_of_typing w ss origins t sound typing completes =
+    let same : found_of t ≡ answers w.table w.found.items = ap (λ os. answers t.table os) completes.found ∙ answers_keep w.table t.table w.found.items completes.keeps sound.found in
+    record {
+      each = completes.entries ∙ ap (λ found. map (entry_from ss found) origins) (sym same);
+      least = λ o among. least_told ss t o (least_among (places_of [] ss) (found_of t) (dialect_of t) typing.least) among;
+    }
 
 -- what is answered at the end of a walk
 
-pub record Answer (ss : List Statement) (last : Option PlaceNumber) (r : Result Typing TypingFault) (d : Dialect) : Type 0 where
+pub record Answer (ss : List Statement) (origins : List Origin) (last : Option PlaceNumber) (r : Result Typing TypingFault) (d : Dialect) : Type 0 where
   pub analysis : IfOk r (λ t. IsAnalysis (up_to last (places_of [] ss)) t d)
   pub of : IfOk r (λ t. IsTypingOf ss t)
+  pub entries : IfOk r (λ t. AreEntries ss origins t)
   pub dialect : IfOk r (λ t. dialect_of t ≡ d)
   pub fault : IfErr r (λ fault. IsFaultOf fault (up_to last (places_of [] ss)) d)
 
-answer_ok : (w : Walk) (last : Option PlaceNumber) (ss : List Statement) (t : Typing) (d : Dialect) → AreWellFormedStatements ss → w.verdicts.dialect ≡ d
-    → IsAnalysis (up_to last (places_of [] ss)) t d → Completes w t → Answer ss last (Ok t) d
-answer_ok w last ss t d wf same analysis completes =
+answer_ok : (w : Walk) (last : Option PlaceNumber) (ss : List Statement) (origins : List Origin) (t : Typing) (d : Dialect) → AreWellFormedStatements ss → IsSoundWalk w → w.verdicts.dialect ≡ d
+    → IsAnalysis (up_to last (places_of [] ss)) t d → Completes w ss origins t → Answer ss origins last (Ok t) d
+answer_ok w last ss origins t d wf sound same analysis completes =
     let is : dialect_of t ≡ d = completes.dialect ∙ same in
-    record { analysis = analysis; of = typing_of last ss t d wf analysis is; dialect = is; fault = tt }
+    let typing = typing_of last ss t d wf analysis is in
+    record { analysis = analysis; of = typing; entries = entries_of_typing w ss origins t sound typing completes; dialect = is; fault = tt }
 
-pub went_through : (w0 w : Walk) (last : Option PlaceNumber) (ss : List Statement) (t : Typing) (d : Dialect) → AreWellFormedStatements ss → Begins w0 last → w0.verdicts.dialect ≡ d → Grows w0 w
-    → Went (entries_of w0) (λ s. places_of s ss) (progress_of w0) (progress_of w) w0.verdicts.dialect → Completes w t → Answer ss last (Ok t) d
-went_through w0 w last ss t d wf begins is grows went completes =
-    rw (sym is) (answer_ok w last ss t w0.verdicts.dialect wf grows.dialect (analysed w0 w last ss t w0.verdicts.dialect begins grows went completes) completes)
+pub went_through : (w0 w : Walk) (last : Option PlaceNumber) (ss : List Statement) (origins : List Origin) (r : Result Typing TypingFault) (d : Dialect) → AreWellFormedStatements ss → Begins w0 last → w0.verdicts.dialect ≡ d → Grows w0 w
+    → Went (entries_of w0) (λ s. places_of s ss) (progress_of w0) (progress_of w) w0.verdicts.dialect
+    → IfOk r (λ t. Completes w ss origins t) → IfErr r (λ fault. fault ≡ TypingFault.Memory) → Answer ss origins last r d
+went_through w0 w last ss origins (Ok t) d wf begins is grows went completes memory =
+    rw (sym is) (answer_ok w last ss origins t w0.verdicts.dialect wf grows.sound grows.dialect (analysis_of_all w0 w last ss origins t w0.verdicts.dialect begins grows went completes) completes)
+went_through w0 w last ss origins (Err fault) d wf begins is grows went completes memory =
+    record { analysis = tt; of = tt; entries = tt; dialect = tt; fault = subst (λ f. IsFaultOf f (up_to last (places_of [] ss)) d) (sym memory) tt }
 
-answer_memory : (last : Option PlaceNumber) (ss : List Statement) (d : Dialect) → Answer ss last (Err TypingFault.Memory) d
-answer_memory last ss d = record { analysis = tt; of = tt; dialect = tt; fault = tt }
+answer_memory : (last : Option PlaceNumber) (ss : List Statement) (origins : List Origin) (d : Dialect) → Answer ss origins last (Err TypingFault.Memory) d
+answer_memory last ss origins d = record { analysis = tt; of = tt; entries = tt; dialect = tt; fault = tt }
 
-pub ended : (stop : Stop) (w0 w : Walk) (last : Option PlaceNumber) (ss : List Statement) (r : Result Typing TypingFault) (d : Dialect) → AreWellFormedStatements ss → Begins w0 last → w0.verdicts.dialect ≡ d → Grows w0 w
-    → HasStoppedAmong stop (entries_of w0) (λ s. places_of s ss) w0 w w0.verdicts.dialect → IsEndOf stop w r → Answer ss last r d
-ended Stop.Enough w0 w last ss (Ok t) d wf begins is grows stopped end =
-    rw (sym is) (answer_ok w last ss t w0.verdicts.dialect wf grows.dialect (stopped_behind_last w0 w last ss t w0.verdicts.dialect begins grows stopped end) end)
-ended Stop.TooLarge w0 w last ss (Err (TypingFault.TooLarge place)) d wf begins is grows stopped end =
+pub ended : (stop : Stop) (w0 w : Walk) (last : Option PlaceNumber) (ss : List Statement) (origins : List Origin) (r : Result Typing TypingFault) (d : Dialect) → AreWellFormedStatements ss → Begins w0 last → w0.verdicts.dialect ≡ d → Grows w0 w
+    → HasStoppedAmong stop (entries_of w0) (λ s. places_of s ss) w0 w w0.verdicts.dialect → IsEndOf stop w ss origins r → Answer ss origins last r d
+ended Stop.Enough w0 w last ss origins (Ok t) d wf begins is grows stopped end =
+    rw (sym is) (answer_ok w last ss origins t w0.verdicts.dialect wf grows.sound grows.dialect (analysis_of_some w0 w last ss origins t w0.verdicts.dialect begins grows stopped end) end)
+ended Stop.TooLarge w0 w last ss origins (Err (TypingFault.TooLarge place)) d wf begins is grows stopped end =
     let first = subst (λ e. IsFirstTooLarge (up_to last (places_of [] ss)) (length w.found.items) e) is (stopped_at_large w0 w last ss w0.verdicts.dialect begins grows stopped) in
-    record { analysis = tt; of = tt; dialect = tt; fault = subst (λ n. IsFirstTooLarge (up_to last (places_of [] ss)) n d) (sym end) first }
-ended stop w0 w last ss (Err TypingFault.Memory) d wf begins is grows stopped end = answer_memory last ss d
-ended _ w0 w last ss r d wf begins is grows stopped end = absurd end
-
--- the entry of a binder, by its number
-
-pub origin_at : (f : Origin → Option Typ) (os : List Origin) (i : ℕ) (default : Origin) → i < length os → f (get_or os i default) ≡ get_or (map f os) i None
-origin_at f [] i default lt = absurd (omega arith)
-origin_at f (o ∷ os) zero default lt = refl
-origin_at f (o ∷ os) (suc i) default lt = origin_at f os i default (omega arith)
-
-pub no_origin : (f : Origin → Option Typ) (os : List Origin) (i : ℕ) → length os ≤ i → None ≡ get_or (map f os) i None
-no_origin f [] i le = refl
-no_origin f (o ∷ os) zero le = absurd (omega arith)
-no_origin f (o ∷ os) (suc i) le = no_origin f os i (omega arith)
+    record { analysis = tt; of = tt; entries = tt; dialect = tt; fault = subst (λ n. IsFirstTooLarge (up_to last (places_of [] ss)) n d) (sym end) first }
+ended stop w0 w last ss origins (Err TypingFault.Memory) d wf begins is grows stopped end = answer_memory last ss origins d
+ended _ w0 w last ss origins r d wf begins is grows stopped end = absurd end

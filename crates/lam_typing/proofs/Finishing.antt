@@ -10,7 +10,8 @@ use Rattle.lam_typing.specs.Analysis.{AreLeast, AreSmall, IsTooLarge, IsFirstToo
 use Rattle.lam_typing.specs.Answers.{answer, answers, StandsIn, AllStandIn}
 use Rattle.lam_typing.specs.Progress.{IsLowest, Shown, Went, next_is_too_large, NextIs}
 use Rattle.lam_typing.specs.Walk.{blames_of, entries_of, progress_of, IsSoundWalk, Grows, IsBehind, IsUpTo, IsWithin, HasStoppedAmong}
-use Rattle.lam_typing.specs.Typings.{found_of, IsAnalysis, up_to, Begins, Completes}
+use Rattle.lam_typing.specs.Typings.{found_of, IsAnalysis}
+use Rattle.lam_typing.specs.Ends.{up_to, Begins}
 use Rattle.lam_typing.specs.declared.typing.Typing.{Typing}
 use Rattle.lam_typing.specs.declared.walking.Walk.{Walk}
 use Rattle.lam_typing.specs.declared.walking.Stop.{Stop}
@@ -67,7 +68,13 @@ shows_all w0 w last ps found blames d begins found_is blames_are shown =
     let n : length (progress_of w0).found ≡ 0 = ap (λ p. length p.found) none in
     rw (f, b) (subst (λ m. Shown ps m found blames d) n shown)
 
-analysis : (ps : List Place) (w : Walk) (t : Typing) (d : Dialect) → Completes w t → IsSoundWalk w → Shows ps w d → IsAnalysis ps t d
+-- the typing has what the walk found
+pub record HasWalked (w : Walk) (t : Typing) : Type 0 where
+  pub table : t.table ≡ w.table
+  pub found : t.found.items ≡ w.found.items
+  pub blames : t.blames.items ≡ w.blames.items
+
+analysis : (ps : List Place) (w : Walk) (t : Typing) (d : Dialect) → HasWalked w t → IsSoundWalk w → Shows ps w d → IsAnalysis ps t d
 unfolding Shows
 analysis ps w t d has sound shows = record {
   stand = rw (has.table, has.found) sound.found;
@@ -99,7 +106,7 @@ next_first front (q ∷ rest) w d shows next =
 
 -- it went through
 pub analysed : (w0 w : Walk) (last : Option PlaceNumber) (statements : List Statement) (t : Typing) (d : Dialect) → Begins w0 last → Grows w0 w
-    → Went (entries_of w0) (λ s. places_of s statements) (progress_of w0) (progress_of w) d → Completes w t
+    → Went (entries_of w0) (λ s. places_of s statements) (progress_of w0) (progress_of w) d → HasWalked w t
     → IsAnalysis (up_to last (places_of [] statements)) t d
 analysed w0 w last statements t d begins grows went has =
     let ps = places_of [] statements in
@@ -111,7 +118,7 @@ analysed w0 w last statements t d begins grows went has =
 
 -- it stopped behind the last place that was asked for
 pub stopped_behind_last : (w0 w : Walk) (last : Option PlaceNumber) (statements : List Statement) (t : Typing) (d : Dialect) → Begins w0 last → Grows w0 w
-    → HasStoppedAmong Stop.Enough (entries_of w0) (λ s. places_of s statements) w0 w d → Completes w t → IsAnalysis (up_to last (places_of [] statements)) t d
+    → HasStoppedAmong Stop.Enough (entries_of w0) (λ s. places_of s statements) w0 w d → HasWalked w t → IsAnalysis (up_to last (places_of [] statements)) t d
 stopped_behind_last w0 w last statements t d begins grows stopped has =
     let h = stopped.0.shown [] (outermost w0 last d begins) in
     let shows : Shows h.front w d = shows_all w0 w last h.front stopped.0.found stopped.0.blames d begins stopped.0.found_is stopped.0.blames_are h.shown in

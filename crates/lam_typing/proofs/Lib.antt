@@ -18,6 +18,8 @@ pub mod Statements
 pub mod Finishing
 pub mod NotedParts
 pub mod Sighted
+pub mod WellFormedPlaces
+pub mod Numbering
 pub mod Completing
 pub mod BuiltProofs
 pub mod BuiltSteps

@@ -1,10 +1,9 @@
--- What `Grounds` hold, and what is promised of them.
-use Rattle.std.specs.Prelude.{◌≡◌, List, [], map, Option}
+-- What `Grounds` hold, for private functions alone.
+use Rattle.std.specs.Prelude.{◌≡◌, List, [], Option}
 use Rattle.lam_rules.specs.Types.{Typ}
 use Rattle.lam_rules.specs.declared.rules.Dialect.{Dialect}
-use Rattle.lam_scope.specs.Views.{statements_of, origins_of}
+use Rattle.lam_scope.specs.Views.{statements_of}
 use Rattle.lam_scope.specs.declared.resolved.Resolved.{Resolved}
-use Rattle.lam_typing.specs.Entries.{entry_from}
 use Rattle.lam_typing.specs.Notes.{Noted, noted_by, notes_of}
 use Rattle.lam_typing.specs.Typings.{found_of, dialect_of, IsTypingOf}
 use Rattle.lam_typing.specs.declared.typing.Typing.{Typing}
@@ -17,10 +16,6 @@ found_in g = found_of g.typing.now
 -- the dialect that they were found in
 abbrev pub dialect_in : Grounds → Dialect
 dialect_in g = dialect_of g.typing.now
-
--- the entry of each binder, by its number: what is written of it, or what was found of its term
-abbrev pub entries_in : Grounds → List (Option Typ)
-entries_in g = map (entry_from (statements_of g.resolved.now) (found_in g)) (origins_of g.resolved.now)
 
 -- what is noted of each place, in the order of places
 abbrev pub noted_in : Grounds → List Noted

@@ -12,5 +12,6 @@ pub mod Entries
 pub mod Notes
 pub mod Seeing
 pub mod Typings
+pub mod Ends
 pub mod Grounds
 pub mod Proving

@@ -1,12 +1,11 @@
 -- What a `Typing` holds, and what an analysis promises of it.
-use Rattle.std.specs.Prelude.{◌≡◌, ℕ, ◌+◌, List, [], length, map, take, get_or, Option, Some, None, Result, Ok, Err}
+use Rattle.std.specs.Prelude.{◌≡◌, ℕ, List, [], length, map, take, get_or, Option, Some, None}
 use Rattle.lam_rules.specs.Types.{Typ}
 use Rattle.lam_rules.specs.Typing.{Context, TypingTree, type_in, IsTyping}
 use Rattle.lam_rules.specs.declared.rules.Dialect.{Dialect}
 use Rattle.lam_scope.specs.Places.{Place, Statement, places_of, place_numbered}
 use Rattle.lam_scope.specs.Sights.{sight_numbered}
 use Rattle.lam_scope.specs.WellFormed.{AreWellFormedStatements}
-use Rattle.lam_scope.specs.declared.numbers.Place.{Place as PlaceNumber}
 use Rattle.lam_scope.specs.declared.numbers.Origin.{Origin}
 use Rattle.lam_typing.specs.Blaming.{Blamed, AreBlamed}
 use Rattle.lam_typing.specs.Analysis.{AreLeast, AreSmall, IsFirstTooLarge}
@@ -15,8 +14,6 @@ use Rattle.lam_typing.specs.Answers.{answers, AllStandIn}
 use Rattle.lam_typing.specs.Walk.{blames_of}
 use Rattle.lam_typing.specs.declared.fault.TypingFault.{TypingFault}
 use Rattle.lam_typing.specs.declared.typing.Typing.{Typing}
-use Rattle.lam_typing.specs.declared.walking.Walk.{Walk}
-use Rattle.lam_typing.specs.declared.walking.Stop.{Stop}
 
 -- the types of its table, by number
 abbrev pub types_of : Typing → List Typ
@@ -25,6 +22,10 @@ types_of t = t.table
 -- the type of each place that was analysed, in the order of places
 abbrev pub found_of : Typing → List (Option Typ)
 found_of t = answers t.table t.found.items
+
+-- the entry of each binder, by its number
+abbrev pub entries_in : Typing → List (Option Typ)
+entries_in t = answers t.table t.entries.items
 
 -- the places that are to blame, each with its code
 abbrev pub blamed_in : Typing → List Blamed
@@ -47,27 +48,16 @@ abbrev pub IsFaultOf : TypingFault → List Place → Dialect → Type 0
 IsFaultOf (TypingFault.TooLarge place) ps d = IsFirstTooLarge ps place.0 d
 IsFaultOf TypingFault.Memory ps d = Unit {0}
 
--- the places up to the last one that is asked for
-abbrev pub up_to : Option PlaceNumber → List Place → List Place
-up_to None ps = ps
-up_to (Some last) ps = take (last.0 + 1) ps
-
--- a walk that has found nothing yet
-pub record Begins (w : Walk) (asked : Option PlaceNumber) : Type 0 where
-  pub entries : w.entries.items ≡ []
-  pub found : w.found.items ≡ []
-  pub blames : w.blames.items ≡ []
-  pub last : w.last ≡ asked
-
 -- A typing is one of this document: its types were found of the first places of it, as many as there are.
 pub record IsTypingOf (ss : List Statement) (t : Typing) : Type 0 where
   pub wf : AreWellFormedStatements ss
   pub stand : AllStandIn t.table t.found.items
   pub least : AreLeast (take (length (found_of t)) (places_of [] ss)) (found_of t) (dialect_of t)
 
--- the entry that a binder takes from its origin is the least one, where the term that it may come from was analysed
-abbrev pub AreLeastFrom : List Statement → Typing → Type 0
-AreLeastFrom ss t = (o : Origin) → HasTermAmong o (length (found_of t)) → IsLeastFrom ss o (entry_from ss (found_of t) o) (dialect_of t)
+-- the entry of each binder is told by its origin, and is the least one, where the term that it may come from was analysed
+pub record AreEntries (ss : List Statement) (origins : List Origin) (t : Typing) : Type 0 where
+  pub each : entries_in t ≡ map (entry_from ss (found_of t)) origins
+  pub least : (o : Origin) → HasTermAmong o (length (found_of t)) → IsLeastFrom ss o (entry_from ss (found_of t) o) (dialect_of t)
 
 -- the entries of the binders that a place sees, the innermost first
 abbrev pub context_at : List Statement → Typing → ℕ → Context
@@ -78,17 +68,3 @@ pub record IsProofAt (ss : List Statement) (t : Typing) (n : ℕ) (p : TypingTre
   pub least : AreLeastEntries (place_numbered ss n).scope (context_at ss t n) (dialect_of t)
   pub proof : IsTyping (context_at ss t n) (place_numbered ss n).here p (dialect_of t)
   pub type : get_or (found_of t) n None ≡ Some (type_in p)
-
--- what a walk found
-pub record Completes (w : Walk) (t : Typing) : Type 0 where
-  pub table : t.table ≡ w.table
-  pub found : t.found.items ≡ w.found.items
-  pub blames : t.blames.items ≡ w.blames.items
-  pub dialect : t.dialect ≡ w.verdicts.dialect
-
--- what is answered where a walk stopped
-abbrev pub IsEndOf : Stop → Walk → Result Typing TypingFault → Type 0
-IsEndOf Stop.Enough w (Ok t) = Completes w t
-IsEndOf Stop.TooLarge w (Err (TypingFault.TooLarge place)) = place.0 ≡ length w.found.items
-IsEndOf stop w (Err TypingFault.Memory) = Unit {0}
-IsEndOf _ w r = ⊥

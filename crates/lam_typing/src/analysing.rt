@@ -1,13 +1,15 @@
-//! The analysis of a document: one walk over its places finds their types.
+//! The analysis of a document: a walk over its places finds their types, and the entries of its binders are told from these.
 
 ghost use Rattle.std.specs.Prelude.{◌≡◌, ◌+◌, [], take, IfOk, IfErr};
 ghost use Rattle.lam_scope.specs.Places.{places_of};
-ghost use Rattle.lam_scope.specs.Views.{statements_of};
+ghost use Rattle.lam_scope.specs.Views.{statements_of, origins_of};
 ghost use Rattle.lam_scope.specs.WellFormed.{AreWellFormedStatements};
 ghost use Rattle.lam_typing.specs.Walk.{IsSoundWalk};
-ghost use Rattle.lam_typing.specs.Typings.{IsAnalysis, IsTypingOf, dialect_of, IsFaultOf, up_to, Begins, Completes, IsEndOf};
+ghost use Rattle.lam_typing.specs.Typings.{IsAnalysis, IsTypingOf, AreEntries, dialect_of, IsFaultOf};
+ghost use Rattle.lam_typing.specs.Ends.{up_to, Begins, Completes, IsEndOf};
 ghost use Rattle.lam_typing.specs.declared.fault.TypingFault.TheVariants.{Memory};
 
+use crate::entries::number_entries;
 use crate::fault::TypingFault;
 use crate::typing::Typing;
 use crate::walking::{Leaves, Stop, Walk, walk_statements};
@@ -21,6 +23,7 @@ pub fn analyse(alloc: Global, resolved: &Resolved, dialect: Dialect) -> Result<T
     requires { AreWellFormedStatements (statements_of resolved.now) }
     ensures analysis { IfOk result (λ typing. IsAnalysis (places_of [] (statements_of resolved.now)) typing dialect) }
     ensures of { IfOk result (λ typing. IsTypingOf (statements_of resolved.now) typing) }
+    ensures entries { IfOk result (λ typing. AreEntries (statements_of resolved.now) (origins_of resolved.now) typing) }
     ensures dialect { IfOk result (λ typing. dialect_of typing ≡ dialect) }
     ensures fault { IfErr result (λ fault. IsFaultOf fault (places_of [] (statements_of resolved.now)) dialect) }
 {
@@ -37,6 +40,7 @@ pub fn analyse_to(
     requires { AreWellFormedStatements (statements_of resolved.now) }
     ensures analysis { IfOk result (λ typing. IsAnalysis (take (place.0 + 1) (places_of [] (statements_of resolved.now))) typing dialect) }
     ensures of { IfOk result (λ typing. IsTypingOf (statements_of resolved.now) typing) }
+    ensures entries { IfOk result (λ typing. AreEntries (statements_of resolved.now) (origins_of resolved.now) typing) }
     ensures dialect { IfOk result (λ typing. dialect_of typing ≡ dialect) }
     ensures fault { IfErr result (λ fault. IsFaultOf fault (take (place.0 + 1) (places_of [] (statements_of resolved.now))) dialect) }
 {
@@ -52,6 +56,7 @@ fn analyse_up_to(
     requires { AreWellFormedStatements (statements_of resolved.now) }
     ensures analysis { IfOk result (λ typing. IsAnalysis (up_to last (places_of [] (statements_of resolved.now))) typing dialect) }
     ensures of { IfOk result (λ typing. IsTypingOf (statements_of resolved.now) typing) }
+    ensures entries { IfOk result (λ typing. AreEntries (statements_of resolved.now) (origins_of resolved.now) typing) }
     ensures dialect { IfOk result (λ typing. dialect_of typing ≡ dialect) }
     ensures fault { IfErr result (λ fault. IsFaultOf fault (up_to last (places_of [] (statements_of resolved.now))) dialect) }
 {
@@ -59,45 +64,56 @@ fn analyse_up_to(
         return Err(TypingFault::Memory);
     };
     match walk_statements(&mut walk, resolved.statements()) {
-        Ok(()) => Ok(complete(walk)),
-        Err(stop) => end(walk, stop),
+        Ok(()) => complete(alloc, walk, resolved),
+        Err(stop) => end(alloc, walk, stop, resolved),
     }
 }
 
 /// What is known where a walk ended early: all that was asked for, or why not.
-fn end(walk: Walk, stop: Stop) -> Result<Typing, TypingFault>
-    requires { IsSoundWalk walk }
-    ensures { IsEndOf stop walk result }
+fn end(alloc: Global, walk: Walk, stop: Stop, resolved: &Resolved) -> Result<Typing, TypingFault>
+    requires sound { IsSoundWalk walk }
+    requires wf { AreWellFormedStatements (statements_of resolved.now) }
+    ensures { IsEndOf stop walk (statements_of resolved.now) (origins_of resolved.now) result }
 {
     match stop {
-        Stop::Enough => Ok(complete(walk)),
+        Stop::Enough => complete(alloc, walk, resolved),
         Stop::TooLarge => Err(TypingFault::TooLarge(Place(walk.found.len()))),
         Stop::Memory => Err(TypingFault::Memory),
     }
 }
 
-/// What a walk found. What it held beside that is given back.
-fn complete(walk: Walk) -> Typing
-    requires { IsSoundWalk walk }
-    ensures { Completes walk result }
+/// What a walk found, with the entries of the document's binders. What the walk held beside that is given back.
+fn complete(alloc: Global, walk: Walk, resolved: &Resolved) -> Result<Typing, TypingFault>
+    requires sound { IsSoundWalk walk }
+    requires wf { AreWellFormedStatements (statements_of resolved.now) }
+    ensures completes { IfOk result (λ typing. Completes walk (statements_of resolved.now) (origins_of resolved.now) typing) }
+    ensures fault { IfErr result (λ fault. fault ≡ Memory) }
 {
     let Walk {
-        table,
+        mut table,
         verdicts,
         leaves: _leaves,
-        entries: _entries,
+        entries,
         mut found,
         blames,
         last: _last,
     } = walk;
-    // Up to half of a list that grew is spare.
+    let dialect = verdicts.dialect;
+    // Memory is at its peak from here on. What was known of pairs of types is of no use any more, and up to half of a
+    // list that grew is spare.
+    drop(verdicts);
+    drop(entries);
     found.shrink_to_fit();
-    Typing {
+    let Ok(entries) = number_entries(alloc, &mut table, &found, resolved) else {
+        return Err(TypingFault::Memory);
+    };
+    Ok(Typing {
         table,
         found,
+        entries,
         blames,
-        dialect: verdicts.dialect,
-    }
+        dialect,
+    })
 }
 
 /// A walk that has found nothing yet.

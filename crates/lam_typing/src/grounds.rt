@@ -1,17 +1,16 @@
 //! What derivations are made from.
 
-use crate::noting::{Entry, Note};
+use crate::noting::{Entry, Note, note_statements};
 use crate::proving::prove_term;
-use crate::reading::{bound_at, copy_of_written, declared_at, written_at};
+use crate::reading::{bound_at, copy_of_written};
 use crate::typing::Typing;
 use lam_rules::{Ty, TypeProof};
-use lam_scope::{Binder, Origin, Place, Resolved};
+use lam_scope::{Place, Resolved};
 use std::alloc::{AllocError, Global};
 
-/// A typing, the document that it is of, and the entries that the document's places speak of: what tells the least
-/// entries of binders, and proves the least types of places.
+/// A typing, the document that it is of, and the entries that the document's places speak of.
 #[derive(Drop)]
-pub struct Grounds<'t> {
+pub(crate) struct Grounds<'t> {
     pub(crate) typing: &'t Typing,
     pub(crate) resolved: &'t Resolved,
     /// The note of each place, in the order of places.
@@ -23,29 +22,34 @@ impl<'t> Grounds<'t> {
     ghost use Rattle.lam_rules.specs.TermViews.{written_of};
     ghost use Rattle.lam_rules.specs.TypingViews.{typing_tree_of};
     ghost use Rattle.lam_scope.specs.Views.{statements_of};
-    ghost use Rattle.lam_typing.specs.Entries.{entry_from};
     ghost use Rattle.lam_typing.specs.Notes.{told_in};
     ghost use Rattle.lam_typing.specs.Seeing.{note_among};
-    ghost use Rattle.lam_typing.specs.Typings.{IsProofAt};
-    ghost use Rattle.lam_typing.specs.Grounds.{found_in, noted_in, entries_in, AreGrounds};
+    ghost use Rattle.lam_typing.specs.Typings.{IsTypingOf, IsProofAt};
+    ghost use Rattle.lam_typing.specs.Grounds.{found_in, noted_in, AreGrounds, AreGroundsOf};
 
-    /// The least entry of a binder: what is written of it, or the least type of its term, if that was analysed. The
-    /// binder of a type name has none.
-    pub fn entry_of(&self, alloc: Global, binder: Binder) -> Result<Option<Ty>, AllocError>
-        requires { AreGrounds self.now }
-        ensures { IfOk result (λ entry. written_of entry ≡ get_or (entries_in self.now) binder.0 None) }
+    /// It goes once over the document, which has to be the one that was analysed.
+    pub(crate) fn new(
+        alloc: Global,
+        typing: &'t Typing,
+        resolved: &'t Resolved,
+    ) -> Result<Grounds<'t>, AllocError>
+        requires { IsTypingOf (statements_of resolved.now) typing.now }
+        ensures { IfOk result (AreGroundsOf resolved.now typing.now) }
     {
-        let origins = self.resolved.origins();
-        if binder.0 >= origins.len() {
-            return Ok(None);
-        }
-        let entry = self.entry_by(origins[binder.0]);
-        self.tree_of(alloc, entry)
+        let noted = note_statements(alloc, resolved.place_count(), resolved.statements())?;
+        Ok(Grounds {
+            typing,
+            resolved,
+            noted,
+        })
     }
 
-    /// A proof by the declarative rules of the least type of a place, in the context of the least entries of the binders
-    /// that it sees; none, where no type was found of it.
-    pub fn prove_at(&self, alloc: Global, place: Place) -> Result<Option<TypeProof>, AllocError>
+    /// A proof of the least type of a place; none, where no type was found of it.
+    pub(crate) fn prove_at(
+        &self,
+        alloc: Global,
+        place: Place,
+    ) -> Result<Option<TypeProof>, AllocError>
         requires { AreGrounds self.now }
         ensures some { IfOk result (λ found. IfSome found (λ proof. IsProofAt (statements_of self.now.resolved.now) self.now.typing.now place.0 (typing_tree_of proof))) }
         ensures none { IfOk result (λ found. IfNone found (get_or (found_in self.now) place.0 None ≡ None)) }
@@ -70,19 +74,6 @@ impl<'t> Grounds<'t> {
     {
         let entry = bound_at(&self.noted, place);
         self.tree_of(alloc, entry)
-    }
-
-    /// The entry of a binder that takes its type from there.
-    fn entry_by(&self, origin: Origin) -> Option<Entry<'t>>
-        requires { AreGrounds self.now }
-        ensures { told_in (found_in self.now) result ≡ entry_from (statements_of self.now.resolved.now) (found_in self.now) origin }
-    {
-        match origin {
-            Origin::Lambda(place) => written_at(&self.noted, place.0),
-            Origin::Term(place) => Some(Entry::Term(place)),
-            Origin::Declaration(statement) => declared_at(self.resolved.statements(), statement),
-            Origin::TypeName => None,
-        }
     }
 
     /// The type that an entry gives, with nothing shared.

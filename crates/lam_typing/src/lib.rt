@@ -1,15 +1,16 @@
 //! The least type of each place of a document, over all contexts that the place may have, and which
 //! places are to blame for having none.
 //!
-//! What is promised stands in `specs/Contexts.antt`, `LeastTypes.antt`, `Blaming.antt` and
-//! `Analysis.antt`, over the declarative rules alone. The walk behind it has no rule of subsumption
-//! (TAPL chapter 16) and keeps one type for each binder.
+//! What is promised stands in `specs/Contexts.antt`, `LeastTypes.antt`, `Entries.antt`, `Blaming.antt`
+//! and `Analysis.antt`, over the declarative rules alone, and of a `Typing` in `Typings.antt`. The walk
+//! behind it has no rule of subsumption (TAPL chapter 16) and keeps one type for each binder.
 //!
 //! Nothing here knows names, spans, texts of a document, how subtyping is decided or a join is built.
 #![tactic(auto)]
 
 mod analysing;
 mod blame;
+mod entries;
 mod fault;
 mod grounds;
 mod laws;
@@ -21,9 +22,8 @@ mod typing;
 mod walking;
 
 pub use analysing::{analyse, analyse_to};
-pub use blame::Blame;
+pub use blame::{Blame, BlameCode};
 pub use fault::TypingFault;
-pub use grounds::Grounds;
 pub use laws::{
     blame_is_just, least_types_exist, least_types_have_one_text, narrowing, never_blamed,
     scopes_have_contexts, typed_where_unblamed,

@@ -2,10 +2,13 @@
 ghost use Rattle.std.specs.Prelude.{IfOk};
 ghost use Rattle.lam_scope.specs.Views.{statements_of};
 ghost use Rattle.lam_scope.specs.WellFormed.{AreWellFormedStatements};
-ghost use Rattle.lam_typing.specs.Grounds.{AreGrounds};
 ghost use Rattle.lam_typing.specs.Typings.{IsTypingOf};
 
-use crate::{Grounds, Typing, TypingFault, analyse, analyse_to};
+use crate::{BlameCode, Typing, TypingFault, analyse, analyse_to};
+use BlameCode::{
+    ConditionNotBool, NoSuchField, NotAFunction, OperandNotNat, RepeatedLabel, UnboundName,
+    UnfitArgument, UnfitFix, UnmetAscription,
+};
 use Dialect::{One, Two};
 use lam_rules::{Dialect, Ty, check_type, text_of};
 use lam_scope::{Binder, Place, Resolved, Scopes, Statement, bind, resolve};
@@ -150,23 +153,24 @@ fn names_have_the_least_type_of_their_term(rt: HostRuntime) -> Result<(), Fail> 
     expect_shown(&rt, rt.alloc(), NAMES.as_slice())
 }
 
-/// A text, and what is blamed in it: its code, and where it stands.
-type Blamed = (&'static str, Dialect, Option<(&'static str, usize, usize)>);
+/// A text, and what is blamed in it: the codes, and where they stand.
+type Blamed = (&'static str, Dialect, &'static [(BlameCode, usize, usize)]);
 
-/// Analyses the text of each row, and compares what is blamed.
-fn expect_blamed(rt: &impl Abort, alloc: Global, rows: &[Blamed]) -> Result<(), Fail> {
-    for row in rows {
-        let (text, dialect, expected) = *row;
-        let found = analysed(rt, alloc, text, dialect)?;
-        let told = match found.typing.blamed() {
-            [] => None,
-            [blame] => {
-                let span = found.scopes.span_of(blame.place);
-                Some((blame.code, span.start, span.end))
-            }
-            _ => Some(("several", 0, 0)),
-        };
-        assert_eq!(rt; told, expected, "{text:?}");
+/// Analyses the text, and compares what is blamed.
+fn expect_blamed(
+    rt: &impl Abort,
+    alloc: Global,
+    text: &str,
+    dialect: Dialect,
+    wanted: &[(BlameCode, usize, usize)],
+) -> Result<(), Fail> {
+    let found = analysed(rt, alloc, text, dialect)?;
+    let blamed = found.typing.blamed();
+    assert_eq!(rt; blamed.len(), wanted.len(), "{text:?}");
+    for (blame, want) in blamed.iter().zip(wanted) {
+        let span = found.scopes.span_of(blame.place);
+        let told = (blame.code, span.start, span.end);
+        assert_eq!(rt; told, *want, "{text:?}");
     }
     Ok(())
 }
@@ -177,29 +181,36 @@ const ASKED_AGAIN: &str = "f : {a:Nat}->Nat; f {a=0, b=true}; f {a=1, b=false}; 
 const REFUSED_BEFORE: &str = "f : {a:Nat}->Nat; f {b=0}; f {b=1}";
 
 static BLAMES: [Blamed; 18] = [
-    ("0 as Nat; succ 0", One, None),
-    ("z", One, Some(("E1", 0, 1))),
-    ("lambda x:Nat. x 0", One, Some(("E2", 14, 17))),
-    (DECLARED, One, Some(("E3", 35, 39))),
-    (ASKED_AGAIN, One, Some(("E3", 53, 57))),
-    (REFUSED_BEFORE, One, Some(("several", 0, 0))),
-    ("{a=0}.b", One, Some(("E4", 0, 7))),
-    ("if 0 then 1 else 2", One, Some(("E5", 0, 18))),
-    ("if 0 then 1 else 2", Two, Some(("E5", 0, 18))),
-    ("y = succ true; z = y", One, Some(("E6", 4, 13))),
-    ("y = succ true; z = y", Two, None),
-    ("0 as Bool", One, Some(("E7", 0, 9))),
-    ("{a=true} as {a:Nat}", One, Some(("E7", 0, 19))),
-    ("{a=true} as {a:Nat}", Two, None),
-    ("fix (lambda x:Nat. true)", One, Some(("E8", 0, 24))),
-    ("letrec x:Nat = true in x", One, Some(("E8", 15, 19))),
-    ("{a=0, a=1}", One, Some(("E9", 0, 10))),
-    ("lambda x:Q. x", One, None),
+    ("0 as Nat; succ 0", One, &[]),
+    ("z", One, &[(UnboundName, 0, 1)]),
+    ("lambda x:Nat. x 0", One, &[(NotAFunction, 14, 17)]),
+    (DECLARED, One, &[(UnfitArgument, 35, 39)]),
+    (ASKED_AGAIN, One, &[(UnfitArgument, 53, 57)]),
+    (
+        REFUSED_BEFORE,
+        One,
+        &[(UnfitArgument, 18, 25), (UnfitArgument, 27, 34)],
+    ),
+    ("{a=0}.b", One, &[(NoSuchField, 0, 7)]),
+    ("if 0 then 1 else 2", One, &[(ConditionNotBool, 0, 18)]),
+    ("if 0 then 1 else 2", Two, &[(ConditionNotBool, 0, 18)]),
+    ("y = succ true; z = y", One, &[(OperandNotNat, 4, 13)]),
+    ("y = succ true; z = y", Two, &[]),
+    ("0 as Bool", One, &[(UnmetAscription, 0, 9)]),
+    ("{a=true} as {a:Nat}", One, &[(UnmetAscription, 0, 19)]),
+    ("{a=true} as {a:Nat}", Two, &[]),
+    ("fix (lambda x:Nat. true)", One, &[(UnfitFix, 0, 24)]),
+    ("letrec x:Nat = true in x", One, &[(UnfitFix, 15, 19)]),
+    ("{a=0, a=1}", One, &[(RepeatedLabel, 0, 10)]),
+    ("lambda x:Q. x", One, &[]),
 ];
 
 #[test]
 fn the_first_wrong_term_is_to_blame_and_no_term_around_it(rt: HostRuntime) -> Result<(), Fail> {
-    expect_blamed(&rt, rt.alloc(), BLAMES.as_slice())
+    for (text, dialect, wanted) in BLAMES {
+        expect_blamed(&rt, rt.alloc(), text, dialect, wanted)?;
+    }
+    Ok(())
 }
 
 /// x0 = {a=0, b=0}; and so on to x10, whose type has 4,095 nodes.
@@ -247,18 +258,15 @@ fn the_first_type_that_is_too_large_is_refused(rt: HostRuntime) -> Result<(), Fa
 }
 
 /// The entries of the binders that a place sees, the outermost first.
-fn context_of(
-    alloc: Global,
-    found: &Analysis,
-    grounds: &Grounds<'_>,
-    place: Place,
-) -> Result<Vec<Option<Ty>>, Fail>
-    requires { AreGrounds grounds.now }
-{
+fn context_of(alloc: Global, found: &Analysis, place: Place) -> Result<Vec<Option<Ty>>, Fail> {
     let binders = found.scopes.visible_at(alloc, place)?;
     let mut context = Vec::new(alloc);
     for binder in &binders {
-        context.push(grounds.entry_of(alloc, *binder)?)?;
+        let entry = match found.typing.type_of_binder(*binder) {
+            Some(number) => Some(found.typing.table().tree(number)?),
+            None => None,
+        };
+        context.push(entry)?;
     }
     Ok(context)
 }
@@ -283,11 +291,10 @@ fn proved_type(
 ) -> Result<Option<String>, Fail> {
     let found = analysed(rt, alloc, text, dialect)?;
     let place = last_place(&found.scopes);
-    let grounds = found.typing.grounds(alloc, &found.resolved)?;
-    let Some(proof) = grounds.prove_at(alloc, place)? else {
+    let Some(proof) = found.typing.prove_at(alloc, &found.resolved, place)? else {
         return Ok(None);
     };
-    let context = context_of(alloc, &found, &grounds, place)?;
+    let context = context_of(alloc, &found, place)?;
     let Some(Statement::Evaluation(term)) = found.resolved.statements().last() else {
         return Ok(None);
     };
@@ -334,27 +341,59 @@ fn each_proof_is_one_of_the_type_that_is_shown(rt: HostRuntime) -> Result<(), Fa
     Ok(())
 }
 
+/// The text of the entry of the binder of a number.
+fn entry_text(found: &Analysis, number: usize) -> Result<Option<String>, Fail> {
+    match found.typing.type_of_binder(Binder(number)) {
+        Some(entry) => Ok(Some(found.typing.table().text(entry)?)),
+        None => Ok(None),
+    }
+}
+
+/// A text, and the entries of its binders, in the order of their numbers.
+type Entries = (&'static str, &'static [Option<&'static str>]);
+
+static ENTRIES: [Entries; 4] = [
+    (
+        "T = Nat; x = {b=0, a=true}; y : T->Q; z : T->T; lambda w:T. let v = w true in v",
+        &[
+            None,
+            Some("{a:Bool, b:Nat}"),
+            None,
+            Some("Nat->Nat"),
+            Some("Nat"),
+            None,
+            None,
+        ],
+    ),
+    (
+        "letrec f:Nat->Top = lambda n:Nat. n in f unit",
+        &[Some("Nat->Top"), Some("Nat->Nat"), Some("Nat")],
+    ),
+    ("u = z; lambda u:Nat. u 0", &[None, Some("Nat")]),
+    (
+        "f = lambda _:Top. 0",
+        &[Some("Top->Nat"), Some("Top"), None],
+    ),
+];
+
+fn expect_entries(
+    rt: &impl Abort,
+    alloc: Global,
+    text: &str,
+    wanted: &[Option<&str>],
+) -> Result<(), Fail> {
+    let found = analysed(rt, alloc, text, One)?;
+    for (number, want) in wanted.iter().enumerate() {
+        let told = entry_text(&found, number)?;
+        assert_eq!(rt; told.as_deref(), *want, "of binder {number} in {text:?}");
+    }
+    Ok(())
+}
+
 #[test]
 fn each_binder_has_its_least_entry(rt: HostRuntime) -> Result<(), Fail> {
-    let text = "T = Nat; x = {b=0, a=true}; y : T->Q; z : T->T; lambda w:T. let v = w true in v";
-    let expected = [
-        None,
-        Some("{a:Bool, b:Nat}"),
-        None,
-        Some("Nat->Nat"),
-        Some("Nat"),
-        None,
-        None,
-    ];
-    let alloc = rt.alloc();
-    let found = analysed(&rt, alloc, text, One)?;
-    let grounds = found.typing.grounds(alloc, &found.resolved)?;
-    for number in 0..expected.len() {
-        let shown = match grounds.entry_of(alloc, Binder(number))? {
-            Some(entry) => Some(text_of(alloc, &entry)?),
-            None => None,
-        };
-        assert_eq!(rt; shown.as_deref(), expected[number], "binder {number}");
+    for (text, wanted) in ENTRIES {
+        expect_entries(&rt, rt.alloc(), text, wanted)?;
     }
     Ok(())
 }
@@ -397,8 +436,7 @@ fn the_deepest_commands_are_analysed_and_proved(rt: HostRuntime) -> Result<(), F
         let found = analysed(&rt, alloc, text, One)?;
         if let Some(place) = last {
             let place = Place(*place);
-            let grounds = found.typing.grounds(alloc, &found.resolved)?;
-            let proof = grounds.prove_at(alloc, place)?;
+            let proof = found.typing.prove_at(alloc, &found.resolved, place)?;
             assert!(rt; proof.is_some(), "{place:?}");
         }
     }

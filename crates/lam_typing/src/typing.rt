@@ -1,34 +1,37 @@
-//! The types of a document's places.
+//! The types of a document's places and the entries of its binders.
 
-ghost use Rattle.std.specs.Prelude.{◌≡◌, ◌<◌, ℕ, get_or, length, Some, None, IfOk};
+ghost use Rattle.std.specs.Prelude.{◌≡◌, ◌<◌, ℕ, get_or, length, Some, None, IfOk, IfSome, IfNone};
 ghost use Rattle.lam_rules.specs.declared.numbers.TyNo.{TyNo as Number};
 
 use crate::blame::Blame;
 use crate::grounds::Grounds;
-use crate::noting::note_statements;
 use crate::reading::found_at;
-use lam_rules::{Dialect, Ty, TyNo, TyTable};
-use lam_scope::{Place, Resolved};
+use lam_rules::{Dialect, Ty, TyNo, TyTable, TypeProof};
+use lam_scope::{Binder, Place, Resolved};
 use std::alloc::{AllocError, Global};
 
-/// The least types of a document's places, in one table, and which places are to blame for having none.
+/// The least types of a document's places and the least entries of its binders, in one table, and which places are to
+/// blame for having no type.
 #[derive(Drop)]
 pub struct Typing {
     pub(crate) table: TyTable,
     /// The type of each place that was analysed, in the order of places.
     pub(crate) found: Vec<Option<TyNo>>,
+    /// The entry of each binder, by its number.
+    pub(crate) entries: Vec<Option<TyNo>>,
     pub(crate) blames: Vec<Blame>,
     pub(crate) dialect: Dialect,
     pub ghost each_found: { (i : ℕ) (number : Number) → get_or found.items i None ≡ Some number → number.index < length table },
+    pub ghost each_entry: { (i : ℕ) (number : Number) → get_or entries.items i None ≡ Some number → number.index < length table },
 }
 
 impl Typing {
     ghost use Rattle.lam_rules.specs.TermViews.{written_of};
+    ghost use Rattle.lam_rules.specs.TypingViews.{typing_tree_of};
     ghost use Rattle.lam_scope.specs.Views.{statements_of};
     ghost use Rattle.lam_typing.specs.Answers.{answer, StandsIn};
     ghost use Rattle.lam_typing.specs.Walk.{blames_of};
-    ghost use Rattle.lam_typing.specs.Typings.{types_of, found_of, blamed_in, IsTypingOf, AreLeastFrom};
-    ghost use Rattle.lam_typing.specs.Grounds.{AreGroundsOf};
+    ghost use Rattle.lam_typing.specs.Typings.{types_of, found_of, entries_in, blamed_in, IsTypingOf, IsProofAt};
 
     /// The least type of a place, if it has one and was analysed.
     pub fn type_at(&self, place: Place) -> Option<TyNo>
@@ -38,22 +41,29 @@ impl Typing {
         found_at(&self.found, place.0)
     }
 
-    /// What derivations are made from: it goes once over the document, which has to be the one that was analysed.
-    pub fn grounds<'t>(
-        &'t self,
-        alloc: Global,
-        resolved: &'t Resolved,
-    ) -> Result<Grounds<'t>, AllocError>
-        requires of { IsTypingOf (statements_of resolved.now) self.now }
-        ensures grounds { IfOk result (λ made. AreGroundsOf resolved.now self.now made) }
-        ensures least { IfOk result (λ _. AreLeastFrom (statements_of resolved.now) self.now) }
+    /// The least entry of a binder: what is written of it, or the least type of its term, if that was analysed. The
+    /// binder of a type name has none.
+    pub fn type_of_binder(&self, binder: Binder) -> Option<TyNo>
+        ensures entry { answer (types_of self.now) result ≡ get_or (entries_in self.now) binder.0 None }
+        ensures stands { StandsIn (types_of self.now) result }
     {
-        let noted = note_statements(alloc, resolved.place_count(), resolved.statements())?;
-        Ok(Grounds {
-            typing: self,
-            resolved,
-            noted,
-        })
+        found_at(&self.entries, binder.0)
+    }
+
+    /// A proof by the declarative rules of the least type of a place, in the context of the least entries of the binders
+    /// that it sees; none, where no type was found of it. `resolved` has to be the document that was analysed, and is
+    /// gone over once.
+    pub fn prove_at(
+        &self,
+        alloc: Global,
+        resolved: &Resolved,
+        place: Place,
+    ) -> Result<Option<TypeProof>, AllocError>
+        requires of { IsTypingOf (statements_of resolved.now) self.now }
+        ensures some { IfOk result (λ found. IfSome found (λ proof. IsProofAt (statements_of resolved.now) self.now place.0 (typing_tree_of proof))) }
+        ensures none { IfOk result (λ found. IfNone found (get_or (found_of self.now) place.0 None ≡ None)) }
+    {
+        Grounds::new(alloc, self, resolved)?.prove_at(alloc, place)
     }
 
     /// The places to blame, in their order.

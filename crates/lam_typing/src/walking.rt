@@ -16,7 +16,7 @@ ghost use Rattle.lam_typing.specs.Progress.{Went, blame_step, IsApplicationCode,
 ghost use Rattle.lam_typing.specs.Walk.{Grows, WalkedOver, FieldsWalked, HasStopped, HasStoppedInFields, Settles, StopsAt, blame_at, blames_of, IsSoundWalk, IsBehind, IsUpTo, GoesOn, HasStoppedAt, HasStoppedAmong, entries_of, progress_of};
 ghost use Rattle.lam_typing.specs.declared.walking.Stop.TheVariants.{Memory};
 
-use crate::blame::Blame;
+use crate::blame::{Blame, BlameCode};
 use crate::steps::{
     number_of_written, type_of_apply, type_of_ascribe, type_of_fix, type_of_if, type_of_lambda,
     type_of_let, type_of_numeric, type_of_project, type_of_record,
@@ -136,7 +136,7 @@ fn walk_term(walk: &mut Walk, term: &Core) -> Result<Option<TyNo>, Stop>
         Core::IsZero(operand) => walk_number(walk, operand, walk.leaves.boolean),
         Core::Var(count) => walk_variable(walk, *count),
         Core::Free(_) => {
-            let blame = blame_if(true, None, "E1");
+            let blame = blame_if(true, None, BlameCode::UnboundName);
             settle(walk, None, blame)
         }
         Core::Abs(parts) => walk_lambda(walk, &parts.0, &parts.1),
@@ -177,7 +177,11 @@ fn walk_if(
         third,
         boolean,
     )?;
-    let blame = blame_if(are_all_found(first, second, third), found, "E5");
+    let blame = blame_if(
+        are_all_found(first, second, third),
+        found,
+        BlameCode::ConditionNotBool,
+    );
     settle(walk, found, blame)
 }
 
@@ -194,7 +198,7 @@ fn walk_number(walk: &mut Walk, operand: &Core, outcome: TyNo) -> Result<Option<
     let part = walk_term(walk, operand)?;
     let natural = walk.leaves.natural;
     let found = type_of_numeric(&walk.table, &mut walk.verdicts, part, natural, outcome)?;
-    let blame = blame_if(part.is_some(), found, "E6");
+    let blame = blame_if(part.is_some(), found, BlameCode::OperandNotNat);
     settle(walk, found, blame)
 }
 
@@ -244,7 +248,11 @@ fn walk_ascribe(walk: &mut Walk, operand: &Core, written: &Option<Ty>) -> Result
     let part = walk_term(walk, operand)?;
     let entry = number_of_written(&mut walk.table, written)?;
     let found = type_of_ascribe(&walk.table, &mut walk.verdicts, entry, part)?;
-    let blame = blame_if(are_both_found(part, entry), found, "E7");
+    let blame = blame_if(
+        are_both_found(part, entry),
+        found,
+        BlameCode::UnmetAscription,
+    );
     settle(walk, found, blame)
 }
 
@@ -275,7 +283,7 @@ fn walk_record(walk: &mut Walk, fields: &[(String, Core)]) -> Result<Option<TyNo
     let mut parts = Vec::with_capacity(walk.verdicts.alloc, fields.len())?;
     let all = walk_fields(walk, fields, &mut parts)?;
     let found = type_of_record(&mut walk.table, all, parts)?;
-    let blame = blame_if(all, found, "E9");
+    let blame = blame_if(all, found, BlameCode::RepeatedLabel);
     settle(walk, found, blame)
 }
 
@@ -289,7 +297,7 @@ fn walk_project(walk: &mut Walk, operand: &Core, label: &str) -> Result<Option<T
 {
     let part = walk_term(walk, operand)?;
     let found = type_of_project(&walk.table, part, label);
-    let blame = blame_if(part.is_some(), found, "E4");
+    let blame = blame_if(part.is_some(), found, BlameCode::NoSuchField);
     settle(walk, found, blame)
 }
 
@@ -303,7 +311,7 @@ fn walk_fix(walk: &mut Walk, operand: &Core) -> Result<Option<TyNo>, Stop>
 {
     let part = walk_term(walk, operand)?;
     let found = type_of_fix(&walk.table, &mut walk.verdicts, part)?;
-    let blame = blame_if(part.is_some(), found, "E8");
+    let blame = blame_if(part.is_some(), found, BlameCode::UnfitFix);
     settle(walk, found, blame)
 }
 
@@ -342,7 +350,7 @@ fn walk_variable(walk: &mut Walk, count: usize) -> Result<Option<TyNo>, Stop>
 {
     let depth = walk.entries.len();
     if count >= depth {
-        let blame = blame_if(true, None, "E1");
+        let blame = blame_if(true, None, BlameCode::UnboundName);
         return settle(walk, None, blame);
     }
     let entry = entry_of(&walk.entries, count);
@@ -359,16 +367,16 @@ pub(crate) fn entry_of(entries: &[Option<TyNo>], count: usize) -> Option<TyNo>
 }
 
 /// What an application is blamed for, by the type of its first term.
-fn application_code(table: &TyTable, function: Option<TyNo>) -> &'static str
+fn application_code(table: &TyTable, function: Option<TyNo>) -> BlameCode
     requires { StandsIn table.now function }
-    ensures { IsApplicationCode result.now (answer table.now function) }
+    ensures { IsApplicationCode result (answer table.now function) }
 {
     let Some(number) = function else {
-        return "E2";
+        return BlameCode::NotAFunction;
     };
     match table.shape(number) {
-        Shape::Arrow(_, _) => "E3",
-        _ => "E2",
+        Shape::Arrow(_, _) => BlameCode::UnfitArgument,
+        _ => BlameCode::NotAFunction,
     }
 }
 
@@ -391,8 +399,8 @@ fn are_all_found(first: Option<TyNo>, second: Option<TyNo>, third: Option<TyNo>)
 }
 
 /// The code, where the parts of a term have types and the term has none.
-fn blame_if(parts: bool, found: Option<TyNo>, code: &'static str) -> Option<&'static str>
-    ensures { (ts : List Typ) (n : ℕ) → blame_at n result ≡ blame_step n parts (answer ts found) code.now }
+fn blame_if(parts: bool, found: Option<TyNo>, code: BlameCode) -> Option<BlameCode>
+    ensures { (ts : List Typ) (n : ℕ) → blame_at n result ≡ blame_step n parts (answer ts found) code }
 {
     if found.is_some() {
         return None;
@@ -404,13 +412,13 @@ fn blame_if(parts: bool, found: Option<TyNo>, code: &'static str) -> Option<&'st
 fn settle(
     walk: &mut Walk,
     found: Option<TyNo>,
-    blame: Option<&'static str>,
+    blame: Option<BlameCode>,
 ) -> Result<Option<TyNo>, Stop>
     requires sound { IsSoundWalk walk.old }
     requires stands { StandsIn walk.old.table found }
     ensures grows { Grows walk.old walk.new }
-    ensures settled { IfOk result (λ number. (number ≡ found) × Settles walk.old walk.new found blame.entry) }
-    ensures stopped { IfErr result (λ stop. StopsAt stop walk.old walk.new found blame.entry) }
+    ensures settled { IfOk result (λ number. (number ≡ found) × Settles walk.old walk.new found blame) }
+    ensures stopped { IfErr result (λ stop. StopsAt stop walk.old walk.new found blame) }
 {
     let place = Place(walk.found.len());
     if is_behind(place, walk.last) {
@@ -439,9 +447,9 @@ fn is_behind(place: Place, last: Option<Place>) -> bool
 fn put_blame(
     blames: &mut Vec<Blame>,
     place: Place,
-    blame: Option<&'static str>,
+    blame: Option<BlameCode>,
 ) -> Result<(), AllocError>
-    ensures { IfOk result (λ _. blames_of blames.new.items ≡ blames_of blames.old.items ++ blame_at place.0 blame.entry) }
+    ensures { IfOk result (λ _. blames_of blames.new.items ≡ blames_of blames.old.items ++ blame_at place.0 blame) }
 {
     let Some(code) = blame else {
         return Ok(());

@@ -1,6 +1,6 @@
 use Rattle.std.proofs.Common.{◌∙◌}
 use Rattle.lam_scope.specs.Views.{table_of}
-use Rattle.lam_typing.specs.Grounds.{entries_in}
+use Rattle.lam_typing.specs.Typings.{entries_in}
 use Rattle.lam_query.specs.Contexts.{entry_shown}
 use Rattle.lam_query.specs.Views.{entry_of}
 use Rattle.lam_query.proofs.Collected.{all_collected}
@@ -9,5 +9,5 @@ use Rattle.lam_query.proofs.contexts.context_of.Goals as goal
 
 pub returns : goal.returns
 returns c =
-    let shown = entry_shown (table_of c.args.scopes.now) (entries_in c.args.grounds.now) in
+    let shown = entry_shown (table_of c.args.scopes.now) (entries_in c.args.typing.now) in
     all_collected entry_of (λ b. shown b.0) c.args.binders.now c.loop-i.i c.loop-i.context.items c.loop-i-test.false c.loop-i.invariant ∙ by_number shown c.args.binders.now

@@ -1,9 +1,27 @@
-use Rattle.std.proofs.Common.{sym, subst}
-use Rattle.lam_typing.specs.Answers.{AllStandIn}
+use Rattle.std.proofs.Common.{map, refl, ap, sym, subst, ◌∙◌}
+use Rattle.lam_scope.specs.Views.{statements_of, origins_of}
+use Rattle.lam_typing.specs.Answers.{answers, AllStandIn}
+use Rattle.lam_typing.specs.Entries.{entry_from}
 use Rattle.lam_typing.proofs.Finishing.{each_stands}
+use Rattle.lam_typing.proofs.Growing.{all_stand_keep}
 use Rattle.lam_typing.proofs.analysing.complete.Goals as goal
 
 pub invariant_of-result : goal.invariant_of-result
-invariant_of-result c = record {
-  each_found = each_stands c.args.walk.table c.shrink_to_fit.new.self.items (subst (λ os. AllStandIn c.args.walk.table os) (sym c.shrink_to_fit.ensures.items) c.requires.found);
+invariant_of-result c =
+    let now = c.number_entries.new.table in
+    record {
+      each_found = each_stands now c.shrink_to_fit.new.self.items
+          (subst (λ os. AllStandIn now os) (sym c.shrink_to_fit.ensures.items) (all_stand_keep c.args.walk.table now c.args.walk.found.items c.number_entries.ensures.keeps c.requires.sound.found));
+      each_entry = each_stands now c.in-Ok.entries.items c.in-Ok.ensures.stand;
+    }
+
+pub returns-clause-completes : goal.returns-clause-completes
+returns-clause-completes c = record {
+  keeps = c.number_entries.ensures.keeps;
+  found = c.shrink_to_fit.ensures.items;
+  entries =
+      c.in-Ok.ensures.entries
+      ∙ ap (λ os. map (entry_from (statements_of c.args.resolved.now) (answers c.args.walk.table os)) (origins_of c.args.resolved.now)) (c.deref.ensures.value ∙ c.shrink_to_fit.ensures.items);
+  blames = refl;
+  dialect = refl;
 }

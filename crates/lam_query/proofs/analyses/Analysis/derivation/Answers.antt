@@ -1,25 +1,20 @@
-use Rattle.std.proofs.Common.{None, ap, sym, ◌∙◌, get_or}
-use Rattle.lam_typing.specs.Typings.{found_of}
 use Rattle.lam_query.proofs.Answering.{types_held, shown_untyped}
 use Rattle.lam_query.proofs.Deriving.{derived_type, derived_nothing, derived_stands}
 use Rattle.lam_query.specs.declared.analyses.Types.TheVariants.{Found}
 use Rattle.lam_query.proofs.analyses.Analysis.derivation.Goals as goal
 
-pub grounds-requires : goal.grounds-requires
-grounds-requires c = record { of = (types_held c.args.text.now c.args.self.now (Found _ _) c.requires c.in-Found.is).types_of_it }
-
 pub prove_at-requires : goal.prove_at-requires
-prove_at-requires c = c.in_ok-grounds.ensures.grounds.are
+prove_at-requires c = record { of = (types_held c.args.text.now c.args.self.now (Found _ _) c.requires c.in-Found.is).types_of_it }
 
 pub returns-in_default-2-clause-derived : goal.returns-in_default-2-clause-derived
 returns-in_default-2-clause-derived c =
-    let none = ap (λ t. get_or (found_of t) c.in-Some.place.0 None) (sym c.in_ok-grounds.ensures.grounds.typing) ∙ (rw c.in_default-2.is at c.in_ok-proof.ensures.none) in
+    let none = rw c.in_default-2.is at c.in_ok-proof.ensures.none in
     derived_nothing _ _ _ (shown_untyped c.args.text.now c.args.self.now _ _ c.args.offset _ c.requires c.in-Found.is c.in-Some.ensures none)
 
 pub returns-clause-derived : goal.returns-clause-derived
 returns-clause-derived c =
     let proves = rw c.in-Some-2.is at c.in_ok-proof.ensures.some in
-    derived_type c.args.text.now c.args.self.now _ _ c.in_ok-grounds.grounds c.args.offset _ _ _ c.requires c.in-Found.is c.in_ok-grounds.ensures.grounds c.in-Some.ensures proves c.in_ok-context.ensures c.in_ok-steps.ensures.steps
+    derived_type c.args.text.now c.args.self.now _ _ c.args.offset _ _ _ c.requires c.in-Found.is c.in-Some.ensures proves c.in_ok-context.ensures c.in_ok-steps.ensures.steps
 
 pub returns-clause-whole_characters : goal.returns-clause-whole_characters
 returns-clause-whole_characters c = derived_stands c.args.text.now c.args.self.now _ c.utf8.text c.requires c.in_ok-steps.ensures.whole_characters

@@ -1,0 +1,40 @@
+-- From a walk to the typing that is made of it, for private functions alone.
+use Rattle.std.specs.Prelude.{◌≡◌, ◌+◌, List, [], length, map, take, Option, Some, None, Result, Ok, Err}
+use Rattle.lam_rules.specs.Numbers.{Keeps}
+use Rattle.lam_scope.specs.Places.{Place, Statement}
+use Rattle.lam_scope.specs.declared.numbers.Place.{Place as PlaceNumber}
+use Rattle.lam_scope.specs.declared.numbers.Origin.{Origin}
+use Rattle.lam_typing.specs.Entries.{entry_from}
+use Rattle.lam_typing.specs.Answers.{answers}
+use Rattle.lam_typing.specs.Typings.{entries_in}
+use Rattle.lam_typing.specs.declared.fault.TypingFault.{TypingFault}
+use Rattle.lam_typing.specs.declared.typing.Typing.{Typing}
+use Rattle.lam_typing.specs.declared.walking.Walk.{Walk}
+use Rattle.lam_typing.specs.declared.walking.Stop.{Stop}
+
+-- the places up to the last one that is asked for
+abbrev pub up_to : Option PlaceNumber → List Place → List Place
+up_to None ps = ps
+up_to (Some last) ps = take (last.0 + 1) ps
+
+-- a walk that has found nothing yet
+pub record Begins (w : Walk) (asked : Option PlaceNumber) : Type 0 where
+  pub entries : w.entries.items ≡ []
+  pub found : w.found.items ≡ []
+  pub blames : w.blames.items ≡ []
+  pub last : w.last ≡ asked
+
+-- what a walk found, with the entries of the binders of the document that it went over
+pub record Completes (w : Walk) (ss : List Statement) (origins : List Origin) (t : Typing) : Type 0 where
+  pub keeps : Keeps w.table t.table
+  pub found : t.found.items ≡ w.found.items
+  pub entries : entries_in t ≡ map (entry_from ss (answers w.table w.found.items)) origins
+  pub blames : t.blames.items ≡ w.blames.items
+  pub dialect : t.dialect ≡ w.verdicts.dialect
+
+-- what is answered where a walk stopped
+abbrev pub IsEndOf : Stop → Walk → List Statement → List Origin → Result Typing TypingFault → Type 0
+IsEndOf Stop.Enough w ss origins (Ok t) = Completes w ss origins t
+IsEndOf Stop.TooLarge w ss origins (Err (TypingFault.TooLarge place)) = place.0 ≡ length w.found.items
+IsEndOf stop w ss origins (Err TypingFault.Memory) = Unit {0}
+IsEndOf _ w ss origins r = ⊥

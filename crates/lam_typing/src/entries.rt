@@ -1,0 +1,78 @@
+//! The entries of binders.
+
+ghost use Rattle.std.specs.Prelude.{◌≡◌, List, Option, [], map, IfOk};
+ghost use Rattle.lam_rules.specs.Types.{Typ};
+ghost use Rattle.lam_rules.specs.Typing.{IsWellFormedEntry};
+ghost use Rattle.lam_rules.specs.Numbers.{Keeps};
+ghost use Rattle.lam_scope.specs.Views.{statement_of, statements_of, origins_of};
+ghost use Rattle.lam_scope.specs.WellFormed.{AreWellFormedStatements};
+ghost use Rattle.lam_typing.specs.Answers.{answer, answers, StandsIn, AllStandIn};
+ghost use Rattle.lam_typing.specs.Entries.{entry_from};
+ghost use Rattle.lam_typing.specs.Notes.{told_in, NotesDocument};
+
+use crate::noting::{Entry, Note, note_statements};
+use crate::reading::{declared_at, found_at, written_at};
+use crate::steps::number_of_written;
+use lam_rules::{TyNo, TyTable};
+use lam_scope::{Origin, Resolved, Statement};
+use std::alloc::{AllocError, Global};
+
+/// The entry of each binder, by its number, where these types were found of the places.
+pub(crate) fn number_entries(
+    alloc: Global,
+    table: &mut TyTable,
+    found: &[Option<TyNo>],
+    resolved: &Resolved,
+) -> Result<Vec<Option<TyNo>>, AllocError>
+    requires found { AllStandIn table.old found.now }
+    requires wf { AreWellFormedStatements (statements_of resolved.now) }
+    ensures keeps { Keeps table.old table.new }
+    ensures stand { IfOk result (λ entries. AllStandIn table.new entries.items) }
+    ensures entries { IfOk result (λ entries. answers table.new entries.items ≡ map (entry_from (statements_of resolved.now) (answers table.old found.now)) (origins_of resolved.now)) }
+{
+    let noted = note_statements(alloc, resolved.place_count(), resolved.statements())?;
+    let origins = resolved.origins();
+    let mut entries = Vec::with_capacity(alloc, origins.len())?;
+    for i in 0..origins.len() {
+        let entry = entry_by(&noted, resolved.statements(), origins[i]);
+        let number = number_of(table, found, entry)?;
+        entries.push(number)?;
+    }
+    Ok(entries)
+}
+
+/// The entry of a binder that takes its type from there.
+fn entry_by<'t>(
+    noted: &[Note<'t>],
+    statements: &'t [Statement],
+    origin: Origin,
+) -> Option<Entry<'t>>
+    requires { NotesDocument noted.now (map statement_of statements.now) }
+    ensures { (found : List (Option Typ)) → told_in found result ≡ entry_from (map statement_of statements.now) found origin }
+{
+    match origin {
+        Origin::Lambda(place) => written_at(noted, place.0),
+        Origin::Term(place) => Some(Entry::Term(place)),
+        Origin::Declaration(statement) => declared_at(statements, statement),
+        Origin::TypeName => None,
+    }
+}
+
+/// The type that an entry gives.
+fn number_of(
+    table: &mut TyTable,
+    found: &[Option<TyNo>],
+    entry: Option<Entry<'_>>,
+) -> Result<Option<TyNo>, AllocError>
+    requires found { AllStandIn table.old found.now }
+    requires wf { IsWellFormedEntry (told_in [] entry) }
+    ensures keeps { Keeps table.old table.new }
+    ensures stands { IfOk result (λ number. StandsIn table.new number) }
+    ensures told { IfOk result (λ number. answer table.new number ≡ told_in (answers table.old found.now) entry.entry) }
+{
+    match entry {
+        Some(Entry::Written(written)) => number_of_written(table, written),
+        Some(Entry::Term(place)) => Ok(found_at(found, place.0)),
+        None => Ok(None),
+    }
+}
