@@ -20,7 +20,6 @@ use Rattle.lam_typing.specs.declared.blame.Blame.{Blame}
 use Rattle.lam_typing.specs.Analysis.{IsFirstTooLarge}
 use Rattle.lam_typing.specs.Typings.{found_of, blamed_in}
 use Rattle.lam_typing.specs.Walk.{blames_of}
-use Rattle.lam_query.specs.Codes.{code_of_blame}
 use Rattle.lam_query.specs.declared.answers.Fault.{Fault as RustFault}
 use Rattle.lam_query.specs.declared.analyses.Analysis.{Analysis}
 use Rattle.lam_query.specs.declared.analyses.Types.{Types}
@@ -51,13 +50,13 @@ large_place cs t ss n s d is_table are none large is =
 -- the faults that types decide
 
 blames_told : (cs : List CommandTree) (bs : List Blame)
-    → map (blame_fault cs) (blames_of bs) ≡ map (λ b. fault_at (code_of_blame b.code) (place_row_numbered (table cs) b.place.0).span) bs
+    → map (blame_fault cs) (blames_of bs) ≡ map (λ b. fault_at b.code.now (place_row_numbered (table cs) b.place.0).span) bs
 blames_told cs [] = refl
-blames_told cs (b ∷ bs) = ap (λ fs. fault_at (code_of_blame b.code) (place_row_numbered (table cs) b.place.0).span ∷ fs) (blames_told cs bs)
+blames_told cs (b ∷ bs) = ap (λ fs. fault_at b.code.now (place_row_numbered (table cs) b.place.0).span ∷ fs) (blames_told cs bs)
 
 pub of_types_found : (cs : List CommandTree) (resolved : Resolved) (typing : Typing) (d : Dialect) (t : Table) (written blamed all : List RustFault) (ws : List TypeFault) (bs : List Blame)
     → t ≡ table cs → AreFoundOf cs resolved typing d → ws ≡ faults_of resolved → map fault_of written ≡ map written_fault ws
-    → blames_of bs ≡ blamed_in typing → map fault_of blamed ≡ map (λ b. fault_at (code_of_blame b.code) (place_row_numbered t b.place.0).span) bs
+    → blames_of bs ≡ blamed_in typing → map fault_of blamed ≡ map (λ b. fault_at b.code.now (place_row_numbered t b.place.0).span) bs
     → all ≡ written ++ blamed → AreTypeFaults cs (map fault_of all) d
 of_types_found cs resolved typing d t written blamed all ws bs is_table h are told are_blamed told_blamed joined =
     let every : AreTypeFaults cs (map written_fault (faults [] cs) ++ map (blame_fault cs) (blamed_in typing)) d =

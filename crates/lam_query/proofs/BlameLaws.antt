@@ -1,8 +1,9 @@
 -- Whether a place is to blame is decided, and for what; so places have one list of blames.
 use Rattle.std.proofs.Common.{◌≡◌, ◌⊎◌, ℕ, zero, suc, ◌+◌, List, [], ◌∷◌, Option, Some, None, refl, sym, ap, ◌∙◌, inl, inr}
+use Rattle.std.specs.Prelude.{codes}
 use Rattle.lam_rules.specs.Types.{Typ, bool, nat, unit, top, arrow, record_of}
 use Rattle.lam_rules.specs.Terms.{Term, true_term, false_term, if_then_else, numeral, succ, pred, is_zero, variable, free, lambda, apply, unit_term, ascribe, let_in, record_term, project, fix, TermFields, no_terms, term_field}
-use Rattle.lam_rules.specs.Texts.{sorted}
+use Rattle.lam_rules.specs.Texts.{Text, sorted}
 use Rattle.lam_rules.specs.Typing.{Context}
 use Rattle.lam_rules.specs.declared.rules.Dialect.{Dialect}
 use Rattle.lam_rules.proofs.SharedTexts.{sorted_same}
@@ -11,7 +12,6 @@ use Rattle.lam_scope.specs.WellFormed.{IsWellFormedTerm, AreWellFormedTerms, IsW
 use Rattle.lam_typing.specs.Contexts.{IsContext}
 use Rattle.lam_typing.specs.LeastTypes.{IsTyped, IsLeastAt}
 use Rattle.lam_typing.specs.Blaming.{ArePartsTyped, AreFieldsTyped, HasNoType, IsExcused, IsBlamed, application_code, IsBlamedFor, Blamed, AreBlamed}
-use Rattle.lam_typing.specs.declared.blame.BlameCode.{BlameCode}
 use Rattle.lam_typing.proofs.Existing.{exists_at, typed_or_not, lowest_exists}
 use Rattle.lam_typing.proofs.WellFormedPlaces.{IsWellFormedPlace, AreWellFormedPlaces}
 use Rattle.lam_typing.proofs.NeverBlamed.{true_unblamed, false_unblamed, unit_unblamed, numeral_unblamed, lambda_unblamed, let_unblamed}
@@ -111,22 +111,22 @@ module _ (d : Dialect) where
 
   -- ---- for what
 
-  function_code : (s : Scope) (f a : Term) → IsTyped s f d → (o : Option Typ) × IsLeastAt s f o d → (code : BlameCode) × IsBlamedFor s (apply f a) code d
+  function_code : (s : Scope) (f a : Term) → IsTyped s f d → (o : Option Typ) × IsLeastAt s f o d → (code : Text) × IsBlamedFor s (apply f a) code d
   function_code s f a typed (Some t, least) = (application_code t, (t, least, refl))
   function_code s f a typed (None, least) = absurd (least typed.0 typed.1)
 
-  some_code : (s : Scope) (e : Term) → IsWellFormedScope s → IsWellFormedTerm e → IsBlamed s e d → (code : BlameCode) × IsBlamedFor s e code d
-  some_code s (free x) ws we blamed = (BlameCode.UnboundName, refl)
-  some_code s (variable n) ws we blamed = (BlameCode.UnboundName, refl)
+  some_code : (s : Scope) (e : Term) → IsWellFormedScope s → IsWellFormedTerm e → IsBlamed s e d → (code : Text) × IsBlamedFor s e code d
+  some_code s (free x) ws we blamed = (codes "E1", refl)
+  some_code s (variable n) ws we blamed = (codes "E1", refl)
   some_code s (apply f a) ws we blamed = function_code s f a blamed.parts.0 (exists_at d s f ws we.0)
-  some_code s (project e l) ws we blamed = (BlameCode.NoSuchField, refl)
-  some_code s (if_then_else c a b) ws we blamed = (BlameCode.ConditionNotBool, refl)
-  some_code s (succ e) ws we blamed = (BlameCode.OperandNotNat, refl)
-  some_code s (pred e) ws we blamed = (BlameCode.OperandNotNat, refl)
-  some_code s (is_zero e) ws we blamed = (BlameCode.OperandNotNat, refl)
-  some_code s (ascribe e w) ws we blamed = (BlameCode.UnmetAscription, refl)
-  some_code s (fix e) ws we blamed = (BlameCode.UnfitFix, refl)
-  some_code s (record_term es) ws we blamed = (BlameCode.RepeatedLabel, refl)
+  some_code s (project e l) ws we blamed = (codes "E4", refl)
+  some_code s (if_then_else c a b) ws we blamed = (codes "E5", refl)
+  some_code s (succ e) ws we blamed = (codes "E6", refl)
+  some_code s (pred e) ws we blamed = (codes "E6", refl)
+  some_code s (is_zero e) ws we blamed = (codes "E6", refl)
+  some_code s (ascribe e w) ws we blamed = (codes "E7", refl)
+  some_code s (fix e) ws we blamed = (codes "E8", refl)
+  some_code s (record_term es) ws we blamed = (codes "E9", refl)
   some_code s true_term ws we blamed = absurd (true_unblamed d s ws blamed)
   some_code s false_term ws we blamed = absurd (false_unblamed d s ws blamed)
   some_code s unit_term ws we blamed = absurd (unit_unblamed d s ws blamed)
@@ -146,7 +146,7 @@ module _ (d : Dialect) where
   one_function_code s f t u a b =
       sym (sorted_code t) ∙ ap application_code (sorted_same t u d (a.1 u b.0) (b.1 t a.0)) ∙ sorted_code u
 
-  one_code : (s : Scope) (e : Term) (x y : BlameCode) → IsBlamedFor s e x d → IsBlamedFor s e y d → x ≡ y
+  one_code : (s : Scope) (e : Term) (x y : Text) → IsBlamedFor s e x d → IsBlamedFor s e y d → x ≡ y
   one_code s (free z) x y a b = a ∙ sym b
   one_code s (variable n) x y a b = a ∙ sym b
   one_code s (apply f e) x y a b = a.2 ∙ one_function_code s f a.0 b.0 a.1 b.1 ∙ sym b.2

@@ -1,5 +1,5 @@
 -- The faults of pieces and of tokens, one after another.
-use Rattle.std.proofs.Common.{◌≡◌, ℕ, zero, suc, ◌-◌, ◌<◌, List, [], ◌∷◌, ◌++◌, Option, Some, None, length, map, get_or, sym, refl, ap, ◌∙◌, append_assoc, arith}
+use Rattle.std.proofs.Common.{◌≡◌, ℕ, zero, suc, ◌-◌, ◌<◌, List, [], ◌∷◌, ◌++◌, Option, Some, None, length, map, get_or, sym, refl, ap, ◌∙◌, append_assoc, arith, codes}
 use Rattle.std.proofs.lemmas.List.{append-nil, map-append}
 use Rattle.std.specs.Prelude.{slice_get}
 use Rattle.std.specs.List.{filter_map, cons_option}
@@ -8,7 +8,6 @@ use Rattle.lam_token.specs.declared.span.Span.{Span}
 use Rattle.lam_token.specs.Lexeme.{Lexeme, span_of}
 use Rattle.lam_syntax.specs.Trees.{from_to}
 use Rattle.lam_syntax.specs.Answers.{token_limit, IsTaken, GoesWrongAt, EndsEarly}
-use Rattle.lam_query.specs.declared.codes.FaultCode.{FaultCode}
 use Rattle.lam_query.specs.declared.answers.Fault.{Fault as RustFault}
 use Rattle.lam_query.specs.Faults.{Fault}
 use Rattle.lam_query.specs.SyntaxFaults.{fault_at, fault_of_token, PieceFault, too_long, goes_wrong, ends_early, PieceFaults}
@@ -23,15 +22,15 @@ token_at (u ∷ ts) zero t inside is = ap Some (sym is)
 token_at (u ∷ ts) (suc k) t inside is = token_at ts k t (omega arith) is
 
 pub long_fault : (ts : List Lexeme) (first last : Lexeme) (s r : Span) → token_limit < length ts → first ≡ get_or ts 0 first → last ≡ get_or ts (length ts - 1) last
-    → s ≡ span_of first → r ≡ span_of last → PieceFault ts (Some (fault_at FaultCode.CommandTooLong (from_to s r)))
+    → s ≡ span_of first → r ≡ span_of last → PieceFault ts (Some (fault_at (codes "L2") (from_to s r)))
 long_fault ts first last s r over at_first at_last is_s is_r =
     rw (is_s, is_r) (too_long over (token_at ts 0 first (omega arith) at_first) (token_at ts (length ts - 1) last (omega arith) at_last))
 
-pub wrong_fault : (ts : List Lexeme) (k : ℕ) (t : Lexeme) (s : Span) → IsTaken ts → GoesWrongAt ts k → t ≡ get_or ts k t → s ≡ span_of t → PieceFault ts (Some (fault_at FaultCode.UnexpectedToken s))
+pub wrong_fault : (ts : List Lexeme) (k : ℕ) (t : Lexeme) (s : Span) → IsTaken ts → GoesWrongAt ts k → t ≡ get_or ts k t → s ≡ span_of t → PieceFault ts (Some (fault_at (codes "P1") s))
 wrong_fault ts k t s taken wrong at is_s = rw is_s (goes_wrong taken wrong (token_at ts k t wrong.inside at))
 
 pub early_fault : (ts : List Lexeme) (last : Lexeme) (s : Span) → 0 < length ts → IsTaken ts → EndsEarly ts → last ≡ get_or ts (length ts - 1) last → s ≡ span_of last
-    → PieceFault ts (Some (fault_at FaultCode.EarlyEnd s))
+    → PieceFault ts (Some (fault_at (codes "P2") s))
 early_fault ts last s some taken early at is_s = rw is_s (ends_early taken early (token_at ts (length ts - 1) last (omega arith) at))
 
 -- piece after piece

@@ -23,3 +23,4 @@ pub mod SightLengths
 pub mod SomeAnswers
 pub mod Deriving
 pub mod Faultless
+pub mod KnownCodes

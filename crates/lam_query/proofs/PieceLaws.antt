@@ -1,7 +1,7 @@
 -- Each piece has one answer: a fault of its own or none; so pieces have one list of faults. And each is a command or none.
 use Rattle.std.proofs.Common.{Bool, true, false, cond, ◌≡◌, ◌⊎◌, ℕ, zero, suc, ◌-◌, ◌≤◌, ◌<◌, List, [], ◌∷◌, ◌++◌, Option, Some, None, length, ⊎_elim, inl, inr, sym, refl, ap, ◌∙◌, arith}
 use Rattle.std.proofs.lemmas.Bool.{cases_order}
-use Rattle.std.specs.Prelude.{slice_get, filter}
+use Rattle.std.specs.Prelude.{slice_get, filter, codes}
 use Rattle.std.specs.List.{AllByRecursion}
 use Rattle.std.specs.Option.{option_to_list}
 use Rattle.lam_token.specs.Lexeme.{Lexeme, span_of}
@@ -9,7 +9,6 @@ use Rattle.lam_syntax.specs.Trees.{CommandTree, from_to}
 use Rattle.lam_syntax.specs.Grammar.{Spells}
 use Rattle.lam_syntax.specs.Answers.{token_limit, has_bad, IsTaken, GoesWrongAt, EndsEarly, runs_of, has_tokens, pieces_of}
 use Rattle.lam_syntax.proofs.AnswerLaws.{some_answer, spelled_begins, not_wrong, one_wrong_place}
-use Rattle.lam_query.specs.declared.codes.FaultCode.{FaultCode}
 use Rattle.lam_query.specs.Faults.{Fault}
 use Rattle.lam_query.specs.Commands.{IsCommandOf, AreCommandsOf}
 use Rattle.lam_query.specs.SyntaxFaults.{fault_at, PieceFault, too_long, spoiled, a_command, goes_wrong, ends_early, PieceFaults}
@@ -31,17 +30,17 @@ long_piece : (ts : List Lexeme) → token_limit < length ts → (one : Option Fa
 long_piece ts many =
     let first = some_at ts 0 (omega arith) in
     let last = some_at ts (length ts - 1) (omega arith) in
-    (Some (fault_at FaultCode.CommandTooLong (from_to (span_of first.0) (span_of last.0))), too_long many first.1 last.1)
+    (Some (fault_at (codes "L2") (from_to (span_of first.0) (span_of last.0))), too_long many first.1 last.1)
 
 wrong_piece : (ts : List Lexeme) (k : ℕ) → IsTaken ts → GoesWrongAt ts k → (one : Option Fault) × PieceFault ts one
 wrong_piece ts k taken wrong =
     let t = some_at ts k wrong.inside in
-    (Some (fault_at FaultCode.UnexpectedToken (span_of t.0)), goes_wrong taken wrong t.1)
+    (Some (fault_at (codes "P1") (span_of t.0)), goes_wrong taken wrong t.1)
 
 early_piece : (ts : List Lexeme) → 0 < length ts → IsTaken ts → EndsEarly ts → (one : Option Fault) × PieceFault ts one
 early_piece ts some taken early =
     let last = some_at ts (length ts - 1) (omega arith) in
-    (Some (fault_at FaultCode.EarlyEnd (span_of last.0)), ends_early taken early last.1)
+    (Some (fault_at (codes "P2") (span_of last.0)), ends_early taken early last.1)
 
 taken_piece : (ts : List Lexeme) → 0 < length ts → IsTaken ts → ((c : CommandTree) × Spells ts c) ⊎ (((k : ℕ) × GoesWrongAt ts k) ⊎ EndsEarly ts) → (one : Option Fault) × PieceFault ts one
 taken_piece ts some taken (inl spelled) = (None, a_command taken spelled.1)
@@ -72,7 +71,7 @@ one_at : (ts : List Lexeme) (j k : ℕ) (t u : Lexeme) → j ≡ k → slice_get
 one_at ts j k t u same at_j at_k = cc
 
 abbrev long_at : Lexeme → Lexeme → Option Fault
-long_at first last = Some (fault_at FaultCode.CommandTooLong (from_to (span_of first) (span_of last)))
+long_at first last = Some (fault_at (codes "L2") (from_to (span_of first) (span_of last)))
 
 one_long : (first first' last last' : Lexeme) → first ≡ first' → last ≡ last' → long_at first last ≡ long_at first' last'
 one_long first first' last last' same_first same_last = ap (λ t. long_at t last) same_first ∙ ap (λ t. long_at first' t) same_last
@@ -98,14 +97,14 @@ one_piece_fault ts _ _ (goes_wrong taken wrong at) (too_long over first last) = 
 one_piece_fault ts _ _ (goes_wrong taken wrong at) (spoiled few bad) = absurd (both_bad (has_bad ts) bad taken.none_bad)
 one_piece_fault ts _ _ (goes_wrong taken wrong at) (a_command taken' spells) = absurd (not_wrong ts _ (spelled_begins ts _ spells) wrong)
 one_piece_fault ts _ _ (goes_wrong taken wrong at) (goes_wrong taken' wrong' at') =
-    ap (λ t. Some (fault_at FaultCode.UnexpectedToken (span_of t))) (one_at ts _ _ _ _ (one_wrong_place ts _ _ wrong wrong') at at')
+    ap (λ t. Some (fault_at (codes "P1") (span_of t))) (one_at ts _ _ _ _ (one_wrong_place ts _ _ wrong wrong') at at')
 one_piece_fault ts _ _ (goes_wrong taken wrong at) (ends_early taken' early at') = absurd (not_wrong ts _ early.begins wrong)
 one_piece_fault ts _ _ (ends_early taken early at) (too_long over first last) = absurd (both_sizes (length ts) over taken.few)
 one_piece_fault ts _ _ (ends_early taken early at) (spoiled few bad) = absurd (both_bad (has_bad ts) bad taken.none_bad)
 one_piece_fault ts _ _ (ends_early taken early at) (a_command taken' spells) = absurd (early.none _ spells)
 one_piece_fault ts _ _ (ends_early taken early at) (goes_wrong taken' wrong at') = absurd (not_wrong ts _ early.begins wrong)
 one_piece_fault ts _ _ (ends_early taken early at) (ends_early taken' early' at') =
-    ap (λ t. Some (fault_at FaultCode.EarlyEnd (span_of t))) (one_at ts (length ts - 1) (length ts - 1) _ _ refl at at')
+    ap (λ t. Some (fault_at (codes "P2") (span_of t))) (one_at ts (length ts - 1) (length ts - 1) _ _ refl at at')
 
 -- ---- piece after piece
 

@@ -1,6 +1,7 @@
 -- Each text has a list of faults, and one alone. Of each offset a type is shown or none, and a derivation is there exactly where a type is shown.
 use Rattle.std.proofs.Common.{◌≡◌, ◌⊎◌, ℕ, suc, List, [], ◌∷◌, ◌++◌, map, Option, Some, None, unwrap_or, refl, sym, ap, subst, ◌∙◌, inl, inr, length, reverse, arith}
 use Rattle.std.proofs.lemmas.List.{length-map, length-reverse}
+use Rattle.std.specs.Prelude.{codes}
 use Rattle.std.specs.List.{filter_map}
 use Rattle.std.specs.Str.{chars}
 use Rattle.lam_rules.specs.Types.{Typ}
@@ -26,7 +27,6 @@ use Rattle.lam_typing.proofs.Derivations.{has_type}
 use Rattle.lam_typing.proofs.LeastIn.{LeastContext, lowest, least_at, least_in}
 use Rattle.lam_typing.proofs.WellFormedPlaces.{IsWellFormedPlace, wf_at}
 use Rattle.lam_typing.proofs.Existing.{exists_at, context_exists}
-use Rattle.lam_query.specs.declared.codes.FaultCode.{FaultCode}
 use Rattle.lam_query.specs.Faults.{Fault, AreInOrder}
 use Rattle.lam_query.specs.SyntaxFaults.{fault_at, fault_of_token, AreSyntaxFaults}
 use Rattle.lam_query.specs.TextFaults.{written_fault, blame_fault, AreTypeFaults, too_large, small, AreFaults}
@@ -58,13 +58,13 @@ some_type_faults : (commands : List CommandTree) (d : Dialect) → (found : List
 some_type_faults commands d = by (fault_or_small d commands)
   where
     by : ((s : Span) × IsSizeFault commands s d) ⊎ IsSmall commands d → (found : List Fault) × AreTypeFaults commands found d
-    by (inl fault) = (fault_at FaultCode.TypeTooLarge fault.0 ∷ [], too_large fault.1)
+    by (inl fault) = (fault_at (codes "L1") fault.0 ∷ [], too_large fault.1)
     by (inr is) =
         let blames = some_blames d 0 (places_in commands) (document_places_wf commands) in
         (map written_fault (faults [] commands) ++ map (blame_fault commands) blames.0, small blames.0 is blames.1)
 
 one_type_faults : (commands : List CommandTree) (a b : List Fault) (d : Dialect) → AreTypeFaults commands a d → AreTypeFaults commands b d → a ≡ b
-one_type_faults commands _ _ d (too_large x) (too_large y) = ap (λ s. fault_at FaultCode.TypeTooLarge s ∷ []) (one_size_fault d commands _ _ x y)
+one_type_faults commands _ _ d (too_large x) (too_large y) = ap (λ s. fault_at (codes "L1") s ∷ []) (one_size_fault d commands _ _ x y)
 one_type_faults commands _ _ d (too_large x) (small blames is are) = absurd (is _ x)
 one_type_faults commands _ _ d (small blames is are) (too_large y) = absurd (is _ y)
 one_type_faults commands _ _ d (small blames is are) (small others is' are') =

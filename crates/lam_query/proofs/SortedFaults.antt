@@ -1,7 +1,6 @@
 -- Faults have one order: each list of them can be put in it, and in one way alone.
-use Rattle.std.proofs.Common.{◌≡◌, ℕ, zero, suc, ◌+◌, ◌<◌, ◌≤◌, Bool, true, false, true≢false, List, [], ◌∷◌, length, get_or, nat_cmp, is_lt, is_gt, sum_by, sym, refl, ap, subst, ◌∙◌, arith, if◌then◌else◌}
+use Rattle.std.proofs.Common.{◌≡◌, ℕ, zero, suc, ◌+◌, ◌<◌, ◌≤◌, Bool, true, false, true≢false, List, [], ◌∷◌, length, get_or, nat_cmp, is_lt, is_gt, sum_by, sym, refl, ap, subst, ◌∙◌, arith}
 use Rattle.std.specs.List.{AllByRecursion}
-use Rattle.std.specs.Str.{bytes_eq}
 use Rattle.std.specs.List.Sorted.{IsPermutation, IsSortedBy}
 use Rattle.std.specs.declared.cmp.Ordering.{Ordering}
 use Rattle.std.specs.declared.cmp.Ordering.TheVariants.{Less, Equal, Greater}
@@ -13,10 +12,7 @@ use Rattle.std.proofs.lemmas.Map.Lookups.{exact_unsigned}
 use Rattle.std.proofs.lemmas.List.Sums.{sum_by-cons}
 use Rattle.std.proofs.lemmas.List.Elements.{All-from_recursion, recursion_from_All}
 use Rattle.std.proofs.lemmas.List.Sorted.{ranks_by, sorted_far, All-permutation, sum_by-IsPermutation, IsPermutation-refl, IsPermutation-trans, IsPermutation-cons, IsPermutation-middle}
-use Rattle.lam_rules.specs.Texts.{Text}
-use Rattle.lam_query.specs.declared.codes.FaultCode.{FaultCode}
-use Rattle.lam_query.specs.Codes.{printed}
-use Rattle.lam_query.specs.Faults.{Fault, by_place, is_before, AreInOrder}
+use Rattle.lam_query.specs.Faults.{Fault, is_before, AreInOrder}
 
 -- ---- lists in order
 
@@ -128,11 +124,14 @@ module _ {X : Type 0} (lt : X → X → Bool) (o : IsStrictWeakOrder lt) where
 
 -- ---- the order of faults
 
-pub by_place_total : IsTotalOrder by_place
+abbrev by_place : Fault → Fault → Ordering
+by_place f g = ordering_then (ordering_then (nat_cmp f.span.start g.span.start) (nat_cmp f.span.end g.span.end)) (slice_cmp nat_cmp f.code g.code)
+
+by_place_total : IsTotalOrder by_place
 by_place_total =
     then_total
     (then_total (on_total (λ (f : Fault). f.span.start) nat_cmp_total) (on_total (λ (f : Fault). f.span.end) nat_cmp_total))
-    (on_total (λ (f : Fault). printed f.code) nat_list_cmp_total)
+    (on_total (λ (f : Fault). f.code) nat_list_cmp_total)
 
 before_order : IsStrictWeakOrder is_before
 before_order = ranks_by by_place_total (λ f. f)
@@ -160,48 +159,13 @@ same_texts (x ∷ xs) (y ∷ ys) e =
     let rest = same_texts xs ys both.1 in
     λ i. first i ∷ rest i
 
--- the code that is printed so
-abbrev code_in : List FaultCode → Text → FaultCode
-code_in [] text = FaultCode.RepeatedLabel
-code_in (c ∷ cs) text = if bytes_eq text (printed c) then c else code_in cs text
-
-abbrev every_code : List FaultCode
-every_code =
-    FaultCode.BadCharacter ∷ FaultCode.BadComment ∷ FaultCode.UnexpectedToken ∷ FaultCode.EarlyEnd
-    ∷ FaultCode.TypeTooLarge ∷ FaultCode.CommandTooLong ∷ FaultCode.UnboundTypeName ∷ FaultCode.RepeatedTypeLabel
-    ∷ FaultCode.UnboundName ∷ FaultCode.NotAFunction ∷ FaultCode.UnfitArgument ∷ FaultCode.NoSuchField
-    ∷ FaultCode.ConditionNotBool ∷ FaultCode.OperandNotNat ∷ FaultCode.UnmetAscription ∷ FaultCode.UnfitFix
-    ∷ FaultCode.RepeatedLabel ∷ []
-
-read_back : (c : FaultCode) → code_in every_code (printed c) ≡ c
-read_back FaultCode.BadCharacter = refl
-read_back FaultCode.BadComment = refl
-read_back FaultCode.UnexpectedToken = refl
-read_back FaultCode.EarlyEnd = refl
-read_back FaultCode.TypeTooLarge = refl
-read_back FaultCode.CommandTooLong = refl
-read_back FaultCode.UnboundTypeName = refl
-read_back FaultCode.RepeatedTypeLabel = refl
-read_back FaultCode.UnboundName = refl
-read_back FaultCode.NotAFunction = refl
-read_back FaultCode.UnfitArgument = refl
-read_back FaultCode.NoSuchField = refl
-read_back FaultCode.ConditionNotBool = refl
-read_back FaultCode.OperandNotNat = refl
-read_back FaultCode.UnmetAscription = refl
-read_back FaultCode.UnfitFix = refl
-read_back FaultCode.RepeatedLabel = refl
-
-same_codes : (c e : FaultCode) → printed c ≡ printed e → c ≡ e
-same_codes c e same = sym (read_back c) ∙ ap (code_in every_code) same ∙ read_back e
-
 faults_same : (f g : Fault) → by_place f g ≡ Equal → f ≡ g
 faults_same f g e =
-    let all = both_equal (ordering_then (nat_cmp f.span.start g.span.start) (nat_cmp f.span.end g.span.end)) (slice_cmp nat_cmp (printed f.code) (printed g.code)) e in
+    let all = both_equal (ordering_then (nat_cmp f.span.start g.span.start) (nat_cmp f.span.end g.span.end)) (slice_cmp nat_cmp f.code g.code) e in
     let places = both_equal (nat_cmp f.span.start g.span.start) (nat_cmp f.span.end g.span.end) all.0 in
     let starts = exact_unsigned f.span.start g.span.start places.0 in
     let ends = exact_unsigned f.span.end g.span.end places.1 in
-    let same_code = same_codes f.code g.code (same_texts (printed f.code) (printed g.code) all.1) in
+    let same_code = same_texts f.code g.code all.1 in
     λ i. record { code = same_code i; span = record { start = starts i; end = ends i } }
 
 before_exact : (f g : Fault) → is_before f g ≡ false → is_before g f ≡ false → f ≡ g

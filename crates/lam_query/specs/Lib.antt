@@ -1,6 +1,5 @@
 pub mod Commands
 pub mod Within
-pub mod Codes
 pub mod Faults
 pub mod Sizes
 pub mod SyntaxFaults

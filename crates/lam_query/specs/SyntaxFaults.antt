@@ -1,39 +1,39 @@
 -- The faults that tokens and the grammar decide.
-use Rattle.std.specs.Prelude.{◌≡◌, ◌<◌, ◌≤◌, ◌-◌, ℕ, List, [], ◌∷◌, ◌++◌, length, true, Option, Some, None, slice_get}
+use Rattle.std.specs.Prelude.{◌≡◌, ◌<◌, ◌≤◌, ◌-◌, ℕ, List, [], ◌∷◌, ◌++◌, length, true, codes, Option, Some, None, slice_get}
 use Rattle.std.specs.List.{filter_map}
 use Rattle.std.specs.Option.{option_to_list}
 use Rattle.lam_token.specs.declared.kind.Kind.TheVariants as kind
 use Rattle.lam_token.specs.declared.span.Span.{Span}
 use Rattle.lam_token.specs.Lexeme.{Lexeme, lexeme, span_of}
+use Rattle.lam_rules.specs.Texts.{Text}
 use Rattle.lam_syntax.specs.Trees.{CommandTree, from_to}
 use Rattle.lam_syntax.specs.Grammar.{Spells}
 use Rattle.lam_syntax.specs.Answers.{token_limit, has_bad, IsTaken, GoesWrongAt, EndsEarly, pieces_of}
-use Rattle.lam_query.specs.declared.codes.FaultCode.{FaultCode}
 use Rattle.lam_query.specs.Faults.{Fault}
 
 -- the fault with this code at this span
-abbrev pub fault_at : FaultCode → Span → Fault
+abbrev pub fault_at : Text → Span → Fault
 fault_at code span = record { code = code; span = span }
 
 -- the fault that a token is by itself
 abbrev pub fault_of_token : Lexeme → Option Fault
-fault_of_token (lexeme kind.BadCharacter text span) = Some (fault_at FaultCode.BadCharacter span)
-fault_of_token (lexeme kind.BadComment text span) = Some (fault_at FaultCode.BadComment span)
+fault_of_token (lexeme kind.BadCharacter text span) = Some (fault_at (codes "B1") span)
+fault_of_token (lexeme kind.BadComment text span) = Some (fault_at (codes "B2") span)
 fault_of_token t = None
 
 -- the fault that a piece has as a whole: none where it is a command, and none of its own where a token of it is one
 pub data PieceFault : List Lexeme → Option Fault → Type 0 where
   too_long : {ts : List Lexeme} {first last : Lexeme}
       → token_limit < length ts → slice_get ts 0 ≡ Some first → slice_get ts (length ts - 1) ≡ Some last
-      → PieceFault ts (Some (fault_at FaultCode.CommandTooLong (from_to (span_of first) (span_of last))))
+      → PieceFault ts (Some (fault_at (codes "L2") (from_to (span_of first) (span_of last))))
   spoiled : {ts : List Lexeme} → length ts ≤ token_limit → has_bad ts ≡ true → PieceFault ts None
   a_command : {ts : List Lexeme} {c : CommandTree} → IsTaken ts → Spells ts c → PieceFault ts None
   goes_wrong : {ts : List Lexeme} {k : ℕ} {t : Lexeme}
       → IsTaken ts → GoesWrongAt ts k → slice_get ts k ≡ Some t
-      → PieceFault ts (Some (fault_at FaultCode.UnexpectedToken (span_of t)))
+      → PieceFault ts (Some (fault_at (codes "P1") (span_of t)))
   ends_early : {ts : List Lexeme} {last : Lexeme}
       → IsTaken ts → EndsEarly ts → slice_get ts (length ts - 1) ≡ Some last
-      → PieceFault ts (Some (fault_at FaultCode.EarlyEnd (span_of last)))
+      → PieceFault ts (Some (fault_at (codes "P2") (span_of last)))
 
 -- the faults of pieces, piece after piece
 abbrev pub PieceFaults : List (List Lexeme) → List Fault → Type 0

@@ -1,5 +1,5 @@
 -- The faults of a text.
-use Rattle.std.specs.Prelude.{ℕ, List, [], ◌∷◌, ◌++◌, map}
+use Rattle.std.specs.Prelude.{ℕ, List, [], ◌∷◌, ◌++◌, map, codes}
 use Rattle.lam_token.specs.declared.span.Span.{Span}
 use Rattle.lam_token.specs.Lexeme.{Lexeme}
 use Rattle.lam_token.specs.Cut.{AreTokensOf}
@@ -7,11 +7,9 @@ use Rattle.lam_rules.specs.declared.rules.Dialect.{Dialect}
 use Rattle.lam_syntax.specs.Trees.{CommandTree}
 use Rattle.lam_syntax.specs.Answers.{pieces_of}
 use Rattle.lam_scope.specs.declared.fault.TypeFault.{TypeFault}
-use Rattle.lam_scope.specs.declared.fault.TypeFault.TheVariants as type
+use Rattle.lam_scope.specs.declared.fault.TypeFault.TheVariants.{UnboundTypeName, RepeatedLabel}
 use Rattle.lam_scope.specs.Nameless.{faults}
 use Rattle.lam_typing.specs.Blaming.{Blamed, AreBlamed}
-use Rattle.lam_query.specs.declared.codes.FaultCode.{FaultCode}
-use Rattle.lam_query.specs.Codes.{code_of_blame}
 use Rattle.lam_query.specs.Commands.{AreCommandsOf}
 use Rattle.lam_query.specs.Faults.{Fault, AreInOrder}
 use Rattle.lam_query.specs.SyntaxFaults.{fault_at, AreSyntaxFaults}
@@ -19,16 +17,16 @@ use Rattle.lam_query.specs.Sizes.{IsSizeFault, IsSmall, places_in, span_of_place
 
 -- the fault of a written type
 abbrev pub written_fault : TypeFault → Fault
-written_fault (type.UnboundTypeName s) = fault_at FaultCode.UnboundTypeName s
-written_fault (type.RepeatedLabel s) = fault_at FaultCode.RepeatedTypeLabel s
+written_fault (UnboundTypeName s) = fault_at (codes "Y1") s
+written_fault (RepeatedLabel s) = fault_at (codes "Y2") s
 
 -- the fault of a place that is to blame
 abbrev pub blame_fault : List CommandTree → Blamed → Fault
-blame_fault commands blamed = fault_at (code_of_blame blamed.code) (span_of_place commands blamed.number)
+blame_fault commands blamed = fault_at blamed.code (span_of_place commands blamed.number)
 
 -- Those that types decide: the size fault alone, where there is one; else all of written types, and all places that are to blame.
 pub data AreTypeFaults : List CommandTree → List Fault → Dialect → Type 0 where
-  too_large : {commands : List CommandTree} {s : Span} {d : Dialect} → IsSizeFault commands s d → AreTypeFaults commands (fault_at FaultCode.TypeTooLarge s ∷ []) d
+  too_large : {commands : List CommandTree} {s : Span} {d : Dialect} → IsSizeFault commands s d → AreTypeFaults commands (fault_at (codes "L1") s ∷ []) d
   small : {commands : List CommandTree} {d : Dialect} (blames : List Blamed)
       → IsSmall commands d → AreBlamed 0 (places_in commands) blames d
       → AreTypeFaults commands (map written_fault (faults [] commands) ++ map (blame_fault commands) blames) d

@@ -17,7 +17,7 @@ use Rattle.lam_query.specs.Derivations.{Entry, Derivation}
 
 -- the code and the span of a `Fault`
 abbrev pub fault_of : RustFault → Fault
-fault_of f = record { code = f.code; span = f.span }
+fault_of f = record { code = f.code.now; span = f.span }
 
 -- the text and the span of a `Hover`
 abbrev pub shown_of : Hover → Shown

@@ -9,7 +9,6 @@ ghost use Rattle.lam_query.specs.Views.{fault_of, shown_of, derivation_of, StepS
 ghost use Rattle.lam_query.specs.Analyses.{AreTypesOf, IsAnalysisOf, commands_in, dialect_of, IsShownIn, IsDerivedIn};
 
 use crate::answers::{Derivation, Fault, Hover};
-use crate::codes::FaultCode;
 use crate::contexts::context_at;
 use crate::order::put_in_order;
 use crate::reading::read;
@@ -22,11 +21,11 @@ use lam_token::Span;
 use lam_typing::{Typing, TypingFault, analyse};
 use std::alloc::{AllocError, Global};
 
-/// The commands of a text, what their names are bound to, and the types of their terms. It holds no part of the text
-/// itself: each method takes the text that the analysis is of.
+/// The commands of a text, what their names are bound to, and the types of their terms. It borrows nothing of the text:
+/// each method takes the text that the analysis is of.
 #[derive(Drop)]
 pub struct Analysis {
-    /// Those that all the rest is of.
+    /// Those of the text, which all the rest is about.
     commands: Vec<Command>,
     /// The faults that tokens and the grammar decide.
     syntax: Vec<Fault>,
@@ -137,7 +136,7 @@ impl Analysis {
             Types::TooLarge(span) => {
                 let mut found = Vec::new(alloc);
                 found.push(Fault {
-                    code: FaultCode::TypeTooLarge,
+                    code: "L1",
                     span: *span,
                 })?;
                 Ok(found)

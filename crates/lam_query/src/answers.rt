@@ -1,13 +1,12 @@
 //! What is answered.
 
-use crate::codes::FaultCode;
 use lam_rules::{SubRule, Ty, TypeRule};
 use lam_token::Span;
 
-/// A fault of a text: what it is, and where.
+/// A fault of a text, by its printed code, as `E3`.
 #[derive(Clone, Copy, Debug)]
 pub struct Fault {
-    pub code: FaultCode,
+    pub code: &'static str,
     pub span: Span,
 }
 

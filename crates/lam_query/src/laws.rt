@@ -1,11 +1,11 @@
 //! What holds of the answers: the contracts of functions that do nothing.
-ghost use Rattle.std.specs.Prelude.{◌≡◌, ◌↔◌, ℕ, List, [], Option, Some};
+ghost use Rattle.std.specs.Prelude.{◌≡◌, ◌↔◌, ℕ, List, [], Option, Some, All};
 ghost use Rattle.lam_rules.specs.declared.rules.Dialect.{Dialect};
 ghost use Rattle.lam_syntax.specs.Trees.{CommandTree};
 ghost use Rattle.lam_scope.specs.Tables.{table, place_at};
 ghost use Rattle.lam_scope.specs.Nesting.{IsInnermost};
 ghost use Rattle.lam_query.specs.Commands.{AreCommandsOfText};
-ghost use Rattle.lam_query.specs.Faults.{Fault};
+ghost use Rattle.lam_query.specs.Faults.{Fault, HasKnownCode};
 ghost use Rattle.lam_query.specs.TextFaults.{AreTypeFaults, AreFaults};
 ghost use Rattle.lam_query.specs.WellTypedDocuments.{IsWellTyped};
 ghost use Rattle.lam_query.specs.Hovers.{Shown};
@@ -37,4 +37,9 @@ pub fn some_answer()
 /// evaluation has a type, and none is over the limit.
 pub fn no_fault_is_well_typed()
     ensures { (commands : List CommandTree) (found : List Fault) (d : Dialect) → AreTypeFaults commands found d → ((found ≡ []) ↔ IsWellTyped commands d) }
+{}
+
+/// Each fault of a text has one of seventeen codes.
+pub fn known_codes()
+    ensures { (text : List ℕ) (found : List Fault) (d : Dialect) → AreFaults text found d → All HasKnownCode found }
 {}

@@ -6,7 +6,6 @@
 
 mod analyses;
 pub mod answers;
-mod codes;
 mod contexts;
 mod laws;
 mod order;
@@ -18,6 +17,5 @@ mod tests;
 mod type_faults;
 
 pub use analyses::Analysis;
-pub use codes::FaultCode;
-pub use laws::{no_fault_is_well_typed, one_answer, shown_is_innermost, some_answer};
+pub use laws::{known_codes, no_fault_is_well_typed, one_answer, shown_is_innermost, some_answer};
 pub use queries::{derivation, faults, hover};

@@ -7,7 +7,6 @@ ghost use Rattle.lam_query.specs.Reading.{IsCommandRead, fault_read, IsNoted, Is
 ghost use Rattle.lam_query.specs.Views.{fault_of};
 
 use crate::answers::Fault;
-use crate::codes::FaultCode;
 use lam_syntax::{Command, ParseFault, is_semicolon, parse};
 use lam_token::{Kind, Span, Token, first_token};
 use std::alloc::{AllocError, Global};
@@ -60,7 +59,7 @@ pub(crate) fn read(alloc: Global, text: &str) -> Result<Parsed, AllocError>
         reader.take(token)?;
     }
     reader.end_piece()?;
-    // They are kept, and what is bound is made beside them.
+    // The commands are kept as long as what is made of them.
     reader.commands.shrink_to_fit();
     let mut faults = reader.token_faults;
     faults.extend_from_slice(&reader.piece_faults)?;
@@ -120,7 +119,7 @@ fn read_piece(alloc: Global, piece: &[Token<'_>]) -> Result<Piece, AllocError>
     match parse(alloc, piece) {
         Ok(command) => Ok(Piece::Command(command)),
         Err(ParseFault::TooManyTokens) => Ok(Piece::Fault(Fault {
-            code: FaultCode::CommandTooLong,
+            code: "L2",
             span: Span {
                 start: first.start,
                 end: last.end,
@@ -128,11 +127,11 @@ fn read_piece(alloc: Global, piece: &[Token<'_>]) -> Result<Piece, AllocError>
         })),
         Err(ParseFault::BadToken) => Ok(Piece::Spoiled),
         Err(ParseFault::WrongToken(k)) => Ok(Piece::Fault(Fault {
-            code: FaultCode::UnexpectedToken,
+            code: "P1",
             span: piece[k].span(),
         })),
         Err(ParseFault::WrongEnd) => Ok(Piece::Fault(Fault {
-            code: FaultCode::EarlyEnd,
+            code: "P2",
             span: last,
         })),
         Err(ParseFault::Memory) => Err(AllocError),
@@ -145,14 +144,8 @@ fn fault_of_token(token: &Token<'_>) -> Option<Fault>
 {
     let span = token.span();
     match token.kind() {
-        Kind::BadCharacter => Some(Fault {
-            code: FaultCode::BadCharacter,
-            span,
-        }),
-        Kind::BadComment => Some(Fault {
-            code: FaultCode::BadComment,
-            span,
-        }),
+        Kind::BadCharacter => Some(Fault { code: "B1", span }),
+        Kind::BadComment => Some(Fault { code: "B2", span }),
         _ => None,
     }
 }

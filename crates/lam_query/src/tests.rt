@@ -30,7 +30,7 @@ fn expect_faults(
     let found = faults(alloc, text, dialect)?;
     assert_eq!(rt; found.len(), wanted.len(), "of {text:?}");
     for (fault, want) in found.iter().zip(wanted) {
-        assert_eq!(rt; fault.code.as_str(), want.0, "in {text:?}");
+        assert_eq!(rt; fault.code, want.0, "in {text:?}");
         let place = Span {
             start: want.1,
             end: want.2,
@@ -40,9 +40,10 @@ fn expect_faults(
     Ok(())
 }
 
-static FAULTS: [Faulty; 30] = [
+static FAULTS: [Faulty; 31] = [
     ("r = {b=true, a=0}; r.", One, &[("P2", 20, 21)]),
     ("lambda x:Q. x;", One, &[("Y1", 9, 10)]),
+    ("x : Q; 0 0", One, &[("Y1", 4, 5), ("E2", 7, 10)]),
     ("y = succ true; z = y;", One, &[("E6", 4, 13)]),
     ("y = succ true; z = y;", Two, &[]),
     ("/*😀*/ x", One, &[("E1", 9, 10)]),

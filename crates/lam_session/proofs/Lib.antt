@@ -5,3 +5,5 @@ pub mod AloneRuns
 pub mod OneAnswer
 pub mod Values
 pub mod AskSteps
+pub mod Messages
+pub mod FaultMessages

@@ -3,14 +3,34 @@ ghost use Rattle.std.specs.Prelude.{◌≡◌, map, All, IfOk};
 ghost use Rattle.serde_json.specs.View.{view};
 ghost use Rattle.lam_query.specs.Views.{fault_of};
 ghost use Rattle.lam_query.specs.Within.{StandsIn};
-ghost use Rattle.lam_session.specs.Diagnostics.{message_of, diagnostic};
+ghost use Rattle.lam_session.specs.Diagnostics.{message_beside, message_of, diagnostic};
 
 use crate::ranges::range_value;
-use lam_query::FaultCode;
 use lam_query::answers::Fault;
 use lam_text::Doc;
 use serde_json::{Value, json};
 use std::alloc::{AllocError, Global};
+
+/// What a person reads of each code.
+static MESSAGES: [(&str, &str); 17] = [
+    ("B1", "character not allowed"),
+    ("B2", "comment not closed"),
+    ("P1", "unexpected token"),
+    ("P2", "command ends too early"),
+    ("L1", "type of more than 4096 nodes"),
+    ("L2", "command of more than 2000 tokens"),
+    ("Y1", "unbound type name"),
+    ("Y2", "label used twice in a record type"),
+    ("E1", "unbound name"),
+    ("E2", "not a function"),
+    ("E3", "argument does not fit the parameter"),
+    ("E4", "no such field"),
+    ("E5", "condition is not Bool"),
+    ("E6", "operand is not Nat"),
+    ("E7", "term does not have the written type"),
+    ("E8", "fix needs a function whose result fits its parameter"),
+    ("E9", "label used twice in a record"),
+];
 
 /// A value for each fault, in their order.
 pub fn diagnostics(alloc: Global, doc: &Doc, faults: &[Fault]) -> Result<Vec<Value>, AllocError>
@@ -30,7 +50,7 @@ fn diagnostic(alloc: Global, doc: &Doc, fault: &Fault) -> Result<Value, AllocErr
 {
     let range = range_value(alloc, doc, fault.span)?;
     json!(in alloc; {
-        "code": fault.code.as_str(),
+        "code": fault.code,
         "message": message_of(fault.code),
         "range": range,
         "severity": 1u64,
@@ -38,27 +58,19 @@ fn diagnostic(alloc: Global, doc: &Doc, fault: &Fault) -> Result<Value, AllocErr
     })
 }
 
-/// What a person reads of a fault.
-fn message_of(code: FaultCode) -> &'static str
-    ensures { result.now ≡ message_of code }
+fn message_of(code: &str) -> &'static str
+    ensures { result.now ≡ message_of code.now }
 {
-    match code {
-        FaultCode::BadCharacter => "character not allowed",
-        FaultCode::BadComment => "comment not closed",
-        FaultCode::UnexpectedToken => "unexpected token",
-        FaultCode::EarlyEnd => "command ends too early",
-        FaultCode::TypeTooLarge => "type of more than 4096 nodes",
-        FaultCode::CommandTooLong => "command of more than 2000 tokens",
-        FaultCode::UnboundTypeName => "unbound type name",
-        FaultCode::RepeatedTypeLabel => "label used twice in a record type",
-        FaultCode::UnboundName => "unbound name",
-        FaultCode::NotAFunction => "not a function",
-        FaultCode::UnfitArgument => "argument does not fit the parameter",
-        FaultCode::NoSuchField => "no such field",
-        FaultCode::ConditionNotBool => "condition is not Bool",
-        FaultCode::OperandNotNat => "operand is not Nat",
-        FaultCode::UnmetAscription => "term does not have the written type",
-        FaultCode::UnfitFix => "fix needs a function whose result fits its parameter",
-        FaultCode::RepeatedLabel => "label used twice in a record",
+    message_beside(code, MESSAGES.as_slice())
+}
+
+fn message_beside<'a>(code: &str, messages: &[(&'a str, &'a str)]) -> &'a str
+    ensures { result.now ≡ message_beside code.now (map (λ m. (m.0.now, m.1.now)) messages.now) }
+{
+    for (known, message) in messages {
+        if code == *known {
+            return message;
+        }
     }
+    ""
 }

@@ -1,9 +1,12 @@
 //! What holds of all runs of a session.
 //! Each law is the contract of a function that does nothing.
-ghost use Rattle.std.specs.Prelude.{◌≡◌, ℕ, List, map, false};
+ghost use Rattle.std.specs.Prelude.{◌≡◌, ◌≢◌, ℕ, List, [], map, false, All};
 ghost use Rattle.serde_json.specs.Data.{Data};
 ghost use Rattle.lam_rpc.specs.Kind.{Message};
 ghost use Rattle.lam_rules.specs.declared.rules.Dialect.{Dialect};
+ghost use Rattle.lam_query.specs.Faults.{Fault};
+ghost use Rattle.lam_query.specs.TextFaults.{AreFaults};
+ghost use Rattle.lam_session.specs.Diagnostics.{message_of};
 ghost use Rattle.lam_session.specs.Runs.{Exchange, Runs, AnswerAlike, concerns, IsAlone, SaysNothing};
 ghost use Rattle.lam_session.specs.State.{State, fresh};
 ghost use Rattle.lam_session.specs.Step.{Steps};
@@ -24,4 +27,9 @@ pub fn one_run()
     ensures { (s end later : State) (exchanges others : List Exchange)
         → map (λ (e : Exchange). e.message) others ≡ map (λ (e : Exchange). e.message) exchanges → Runs s exchanges end → Runs s others later
         → AnswerAlike s exchanges others × (end ≡ later) }
+{}
+
+/// Each fault that a text can have is told with a message.
+pub fn each_fault_has_a_message()
+    ensures { (text : List ℕ) (found : List Fault) (d : Dialect) → AreFaults text found d → All (λ (f : Fault). message_of f.code ≢ []) found }
 {}

@@ -27,6 +27,6 @@ mod sync;
 #[cfg(test)]
 mod tests;
 
-pub use laws::{isolation, one_run};
+pub use laws::{each_fault_has_a_message, isolation, one_run};
 pub use session::Session;
 pub use states::Config;

@@ -1,7 +1,8 @@
 -- Form by form: from what a walk found of the parts of a term and the step of its rule, what it is to take down for the term.
-use Rattle.std.proofs.Common.{◌≡◌, ◌&&◌, ℕ, ◌<◌, ◌≤◌, List, [], ◌∷◌, ◌++◌, length, Option, Some, None, is_some, Bool, true, false, IsTrue, zero, suc, refl, sym, subst, arith}
+use Rattle.std.proofs.Common.{◌≡◌, ◌&&◌, ℕ, ◌<◌, ◌≤◌, List, [], ◌∷◌, ◌++◌, length, Option, Some, None, is_some, Bool, true, false, IsTrue, zero, suc, refl, sym, subst, arith, codes}
 use Rattle.lam_rules.specs.Types.{Label, Typ, bool, nat, unit, Fields, no_fields, field}
 use Rattle.lam_rules.specs.Terms.{Term, true_term, false_term, if_then_else, numeral, succ, pred, is_zero, variable, free, lambda, apply, unit_term, ascribe, let_in, record_term, project, fix, TermFields, no_terms, term_field}
+use Rattle.lam_rules.specs.Texts.{Text}
 use Rattle.lam_rules.specs.Typing.{Context, IsWellFormedEntry, IsWellFormedContext}
 use Rattle.lam_rules.specs.declared.rules.Dialect.{Dialect}
 use Rattle.lam_scope.specs.Places.{written, of_term, Scope, places, places_in}
@@ -10,7 +11,6 @@ use Rattle.lam_typing.specs.LeastTypes.{IsTyped, IsLeastAt}
 use Rattle.lam_typing.specs.Blaming.{ArePartsTyped, AreFieldsTyped, IsExcused, HasNoType, IsBlamedFor, Blamed, AreBlamed}
 use Rattle.lam_typing.specs.Progress.{IsLowest, Progress, Went, WentOver, blame_step, IsApplicationCode, AreFieldsAt, if_all}
 use Rattle.lam_typing.specs.Steps.{entry_at, IsNumeric, NatRule, LambdaRule, ApplyRule, AscribeRule, LetRule, IfRule, FixRule, ProjectRule, RecordRule}
-use Rattle.lam_typing.specs.declared.blame.BlameCode.{BlameCode}
 use Rattle.lam_typing.proofs.LeastIn.{LeastIn, lowest_written, lowest_some, lowest_none, least_at, least_in}
 use Rattle.lam_typing.proofs.LeastSteps.{true_least, false_least, unit_least, num_least, free_least, variable_least, succ_least, pred_least, is_zero_least, lambda_least, apply_least, ascribe_least, let_least, if_least, fix_least, project_least, LeastFields, none_least, more_least, record_least}
 use Rattle.lam_typing.proofs.NeverBlamed.{lambda_unblamed, let_typed}
@@ -65,8 +65,8 @@ pub numeral_ready : (g : Context) (digits : List ℕ) (now : Progress) (d : Dial
 numeral_ready g digits now d = typed_ready g (numeral digits) now nat d (num_least g digits d)
 
 pub free_ready : (g : Context) (x : List ℕ) (now : Progress) (d : Dialect)
-    → IsReady g (free x) (λ s. []) now now None (record { number = length now.found; code = BlameCode.UnboundName } ∷ []) d
-free_ready g x now d = leaf_ready g (free x) now None _ d least (λ s low. here_blamed (length now.found) s (free x) true None BlameCode.UnboundName d (least s low) (λ p. (tt, λ h. h)) (λ p q. refl) (λ e p. refl))
+    → IsReady g (free x) (λ s. []) now now None (record { number = length now.found; code = codes "E1" } ∷ []) d
+free_ready g x now d = leaf_ready g (free x) now None _ d least (λ s low. here_blamed (length now.found) s (free x) true None (codes "E1") d (least s low) (λ p. (tt, λ h. h)) (λ p q. refl) (λ e p. refl))
   where
     least : (s : Scope) → IsLowest s g d → IsLeastAt s (free x) None d
     least s low = least_at s g (free x) None d low (free_least g x d)
@@ -105,8 +105,8 @@ pub variable_ready : (g : Context) (n : ℕ) (o : Option Typ) (now : Progress) (
 variable_ready g n o now d lt e = variable_within g n o now d lt e
 
 pub unbound_ready : (g : Context) (n : ℕ) (now : Progress) (d : Dialect) → length g ≤ n
-    → IsReady g (variable n) (λ s. []) now now None (record { number = length now.found; code = BlameCode.UnboundName } ∷ []) d
-unbound_ready g n now d le = leaf_ready g (variable n) now None _ d least (λ s low. here_blamed (length now.found) s (variable n) true None BlameCode.UnboundName d (least s low) (λ p. (tt, unexcused s low)) (λ p q. refl) (λ e p. refl))
+    → IsReady g (variable n) (λ s. []) now now None (record { number = length now.found; code = codes "E1" } ∷ []) d
+unbound_ready g n now d le = leaf_ready g (variable n) now None _ d least (λ s low. here_blamed (length now.found) s (variable n) true None (codes "E1") d (least s low) (λ p. (tt, unexcused s low)) (λ p q. refl) (λ e p. refl))
   where
     least : (s : Scope) → IsLowest s g d → IsLeastAt s (variable n) None d
     least s low = least_at s g (variable n) None d low (variable_least g n None d low.wf (sym (entry_beyond n g le)))
@@ -120,7 +120,7 @@ unbound_ready g n now d le = leaf_ready g (variable n) now None _ d least (λ s 
 
 -- terms with one part that is to blame where the part has a type
 
-one_ready : (g : Context) (e part : Term) (old mid : Progress) (x o : Option Typ) (code : BlameCode) (d : Dialect)
+one_ready : (g : Context) (e part : Term) (old mid : Progress) (x o : Option Typ) (code : Text) (d : Dialect)
     → WentOver g part old mid x d
     → ((s : Scope) → IsLowest s g d → LeastIn g part x d → LeastIn g e o d)
     → ((s : Scope) → IsTyped s part d → ArePartsTyped s e d × (IsExcused s e d → ⊥))
@@ -142,31 +142,31 @@ one_ready g e part old mid x o code d over step there back why = record {
 
 module _ (g : Context) (e : Term) (old mid : Progress) (x o : Option Typ) (d : Dialect) (over : WentOver g e old mid x d) where
   abbrev Ready : Term → Type 0
-  Ready q = IsReady g q (λ s. places s e) old mid o (blame_step (length mid.found) (is_some x) o BlameCode.OperandNotNat) d
+  Ready q = IsReady g q (λ s. places s e) old mid o (blame_step (length mid.found) (is_some x) o (codes "E6")) d
 
   -- an operation on a number
   pub numeric_ready : (q : Term) (t : Typ) → IsNumeric q e t → NatRule t x o d → Ready q
   numeric_ready (succ p) t is rule =
-      subst (λ r. Ready (succ r)) (sym is.0) (one_ready g (succ e) e old mid x o BlameCode.OperandNotNat d over (λ s low least. succ_least g e x o d least (subst (λ u. NatRule u x o d) is.1 rule)) (λ s typed. (typed, λ h. h)) (λ s typed. typed) (λ s. refl))
+      subst (λ r. Ready (succ r)) (sym is.0) (one_ready g (succ e) e old mid x o (codes "E6") d over (λ s low least. succ_least g e x o d least (subst (λ u. NatRule u x o d) is.1 rule)) (λ s typed. (typed, λ h. h)) (λ s typed. typed) (λ s. refl))
   numeric_ready (pred p) t is rule =
-      subst (λ r. Ready (pred r)) (sym is.0) (one_ready g (pred e) e old mid x o BlameCode.OperandNotNat d over (λ s low least. pred_least g e x o d least (subst (λ u. NatRule u x o d) is.1 rule)) (λ s typed. (typed, λ h. h)) (λ s typed. typed) (λ s. refl))
+      subst (λ r. Ready (pred r)) (sym is.0) (one_ready g (pred e) e old mid x o (codes "E6") d over (λ s low least. pred_least g e x o d least (subst (λ u. NatRule u x o d) is.1 rule)) (λ s typed. (typed, λ h. h)) (λ s typed. typed) (λ s. refl))
   numeric_ready (is_zero p) t is rule =
-      subst (λ r. Ready (is_zero r)) (sym is.0) (one_ready g (is_zero e) e old mid x o BlameCode.OperandNotNat d over (λ s low least. is_zero_least g e x o d least (subst (λ u. NatRule u x o d) is.1 rule)) (λ s typed. (typed, λ h. h)) (λ s typed. typed) (λ s. refl))
+      subst (λ r. Ready (is_zero r)) (sym is.0) (one_ready g (is_zero e) e old mid x o (codes "E6") d over (λ s low least. is_zero_least g e x o d least (subst (λ u. NatRule u x o d) is.1 rule)) (λ s typed. (typed, λ h. h)) (λ s typed. typed) (λ s. refl))
   numeric_ready _ t is rule = absurd is
 
-  pub fix_ready : FixRule x o d → IsReady g (fix e) (λ s. places s e) old mid o (blame_step (length mid.found) (is_some x) o BlameCode.UnfitFix) d
-  fix_ready rule = one_ready g (fix e) e old mid x o BlameCode.UnfitFix d over (λ s low least. fix_least g e x o d least rule) (λ s typed. (typed, λ h. h)) (λ s typed. typed) (λ s. refl)
+  pub fix_ready : FixRule x o d → IsReady g (fix e) (λ s. places s e) old mid o (blame_step (length mid.found) (is_some x) o (codes "E8")) d
+  fix_ready rule = one_ready g (fix e) e old mid x o (codes "E8") d over (λ s low least. fix_least g e x o d least rule) (λ s typed. (typed, λ h. h)) (λ s typed. typed) (λ s. refl)
 
-  pub project_ready : (l : Label) → ProjectRule l x o → IsReady g (project e l) (λ s. places s e) old mid o (blame_step (length mid.found) (is_some x) o BlameCode.NoSuchField) d
-  project_ready l rule = one_ready g (project e l) e old mid x o BlameCode.NoSuchField d over (λ s low least. project_least g e l x o d least rule) (λ s typed. (typed, λ h. h)) (λ s typed. typed) (λ s. refl)
+  pub project_ready : (l : Label) → ProjectRule l x o → IsReady g (project e l) (λ s. places s e) old mid o (blame_step (length mid.found) (is_some x) o (codes "E4")) d
+  project_ready l rule = one_ready g (project e l) e old mid x o (codes "E4") d over (λ s low least. project_least g e l x o d least rule) (λ s typed. (typed, λ h. h)) (λ s typed. typed) (λ s. refl)
 
   -- an ascription is excused where what is written stands for no type
-  pub ascribe_ready : (w : Option Typ) → AscribeRule w x o d → IsReady g (ascribe e w) (λ s. places s e) old mid o (blame_step (length mid.found) (is_some x && is_some w) o BlameCode.UnmetAscription) d
+  pub ascribe_ready : (w : Option Typ) → AscribeRule w x o d → IsReady g (ascribe e w) (λ s. places s e) old mid o (blame_step (length mid.found) (is_some x && is_some w) o (codes "E7")) d
   ascribe_ready w rule = record {
     went = over.went;
     least = least;
     blamed = λ s low.
-        here_blamed (length mid.found) s (ascribe e w) (is_some x && is_some w) o BlameCode.UnmetAscription d (least s low)
+        here_blamed (length mid.found) s (ascribe e w) (is_some x && is_some w) o (codes "E7") d (least s low)
         (λ p. (found_typed s e x d (over.least s low) (first_of_both (is_some x) (is_some w) p), unexcused w (second_of_both (is_some x) (is_some w) p) s))
         (λ typed n. both (is_some x) (is_some w) (typed_found s e x d (over.least s low) typed) (is_written w s n))
         (λ none p. refl);
@@ -219,7 +219,7 @@ let_ready g a b old mid now x y o d over_a over_b rule = record {
 
 -- terms with several parts in one scope
 
-pub apply_ready : (g : Context) (f a : Term) (old mid now : Progress) (x y o : Option Typ) (code : BlameCode) (d : Dialect)
+pub apply_ready : (g : Context) (f a : Term) (old mid now : Progress) (x y o : Option Typ) (code : Text) (d : Dialect)
     → WentOver g f old mid x d → WentOver g a mid now y d → ApplyRule x y o d → IsApplicationCode code x
     → IsReady g (apply f a) (λ s. places s f ++ places s a) old now o (blame_step (length now.found) (is_some x && is_some y) o code) d
 apply_ready g f a old mid now x y o code d over_f over_a rule is_code = record {
@@ -244,12 +244,12 @@ apply_ready g f a old mid now x y o code d over_f over_a rule is_code = record {
 
 pub if_ready : (g : Context) (e1 e2 e3 : Term) (p0 p1 p2 p3 : Progress) (x y z o : Option Typ) (d : Dialect)
     → WentOver g e1 p0 p1 x d → WentOver g e2 p1 p2 y d → WentOver g e3 p2 p3 z d → IfRule x y z o d
-    → IsReady g (if_then_else e1 e2 e3) (λ s. (places s e1 ++ places s e2) ++ places s e3) p0 p3 o (blame_step (length p3.found) (is_some x && (is_some y && is_some z)) o BlameCode.ConditionNotBool) d
+    → IsReady g (if_then_else e1 e2 e3) (λ s. (places s e1 ++ places s e2) ++ places s e3) p0 p3 o (blame_step (length p3.found) (is_some x && (is_some y && is_some z)) o (codes "E5")) d
 if_ready g e1 e2 e3 p0 p1 p2 p3 x y z o d over1 over2 over3 rule = record {
   went = went_both g (λ s. places s e1 ++ places s e2) (λ s. places s e3) p0 p2 p3 d (went_both g (λ s. places s e1) (λ s. places s e2) p0 p1 p2 d over1.went over2.went) over3.went;
   least = least;
   blamed = λ s low.
-      here_blamed (length p3.found) s (if_then_else e1 e2 e3) (is_some x && (is_some y && is_some z)) o BlameCode.ConditionNotBool d (least s low)
+      here_blamed (length p3.found) s (if_then_else e1 e2 e3) (is_some x && (is_some y && is_some z)) o (codes "E5") d (least s low)
       (λ p.
       let q = second_of_both (is_some x) (is_some y && is_some z) p in (
         (
@@ -287,12 +287,12 @@ typed_fields s (term_field l e es) d typed (Some t, Some gs, least, rest, rule) 
 
 pub record_ready : (g : Context) (es : TermFields) (old mid : Progress) (all : Bool) (fs : Fields) (o : Option Typ) (d : Dialect)
     → Went g (λ s. places_in s es) old mid d → ((s : Scope) → IsLowest s g d → AreFieldsAt s es (if_all all fs) d) → RecordRule (if_all all fs) o
-    → IsReady g (record_term es) (λ s. places_in s es) old mid o (blame_step (length mid.found) all o BlameCode.RepeatedLabel) d
+    → IsReady g (record_term es) (λ s. places_in s es) old mid o (blame_step (length mid.found) all o (codes "E9")) d
 record_ready g es old mid all fs o d went fields rule = record {
   went = went;
   least = least;
   blamed = λ s low.
-      here_blamed (length mid.found) s (record_term es) all o BlameCode.RepeatedLabel d (least s low)
+      here_blamed (length mid.found) s (record_term es) all o (codes "E9") d (least s low)
       (λ p. (all_typed all s (fields s low) p, λ h. h))
       (λ typed n. all_found all s (fields s low) typed)
       (λ none p. refl);

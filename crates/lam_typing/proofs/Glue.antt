@@ -1,10 +1,12 @@
 -- From what the steps of a walk say of it to what they say of types, and back.
-use Rattle.std.proofs.Common.{◌≡◌, ◌&&◌, ℕ, ◌<◌, ◌≤◌, List, [], ◌∷◌, ◌++◌, ◌⊎◌, Vec, vec_len, take, length, string_bytes, String, Option, Some, None, is_some, Bool, true, false, Result, Ok, Err, IfOk, IfErr, ap, refl, sym, subst, ◌∙◌, ◌-◌, arith, if◌then◌else◌, inl, inr, suc, zero, append_assoc}
+use Rattle.std.proofs.Common.{◌≡◌, ◌&&◌, ℕ, ◌<◌, ◌≤◌, List, [], ◌∷◌, ◌++◌, ◌⊎◌, Vec, vec_len, take, length, string_bytes, String, Option, Some, None, is_some, Bool, true, false, Result, Ok, Err, IfOk, IfErr, ap, refl, sym, subst, ◌∙◌, codes, ◌-◌, arith, if◌then◌else◌, inl, inr, suc, zero, append_assoc}
 use Rattle.std.specs.Result.{IsErrAnd}
 use Rattle.std.proofs.lemmas.List.{append-nil, length-append}
 use Rattle.std.specs.declared.alloc.Global.{Global}
+use denote.Ref.{Bor}
 use Rattle.lam_rules.specs.Types.{Label, Typ, bool, nat, unit, Fields, field}
 use Rattle.lam_rules.specs.Terms.{Term, variable, free, if_then_else, succ, pred, is_zero, lambda, apply, ascribe, let_in, record_term, project, fix, TermFields, no_terms, term_field}
+use Rattle.lam_rules.specs.Texts.{Text}
 use Rattle.lam_rules.specs.Typing.{Context, IsWellFormedEntry}
 use Rattle.lam_rules.specs.Numbers.{Keeps, IsNumberOf, type_of, fields_over}
 use Rattle.lam_rules.specs.declared.rules.Dialect.{Dialect}
@@ -22,7 +24,6 @@ use Rattle.lam_typing.specs.Answers.{answer, answers, StandsIn, AllStandIn, cont
 use Rattle.lam_typing.specs.Progress.{IsLowest, Progress, Went, WentOver, Cause, next_is_too_large, enough, StoppedIn, AreFieldsAt, blame_step, IsApplicationCode, if_all}
 use Rattle.lam_typing.specs.Walk.{blamed_of, blames_of, progress_of, entries_of, IsSoundWalk, Grows, WalkedOver, HasStoppedAmong, HasStopped, HasStoppedInFields, FieldsWalked, blame_at, Settles, StopsAt, IsUpTo, IsWithin}
 use Rattle.lam_typing.specs.Steps.{entry_at, IsNumeric, NatRule, LambdaRule, ApplyRule, AscribeRule, LetRule, IfRule, FixRule, ProjectRule, MoreRule, RecordRule}
-use Rattle.lam_typing.specs.declared.blame.BlameCode.{BlameCode}
 use Rattle.lam_typing.specs.declared.walking.Walk.{Walk}
 use Rattle.lam_typing.specs.declared.blame.Blame.{Blame}
 use Rattle.lam_typing.specs.declared.walking.Stop.{Stop}
@@ -340,7 +341,7 @@ fields_behind_err (Err stop) w0 w1 w2 l e es found sound grows first stopped = f
 
 -- the term itself is taken down
 
-pub settled_over : (w0 mid now : Walk) (e : Term) (ps : Scope → List Place) (found : Option TyNo) (blame : Option BlameCode)
+pub settled_over : (w0 mid now : Walk) (e : Term) (ps : Scope → List Place) (found : Option TyNo) (blame : Option (Bor Text))
     → ((s : Scope) → ps s ++ record { scope = s; here = e } ∷ [] ≡ places s e)
     → mid.entries.items ≡ w0.entries.items → StandsIn mid.table found
     → IsReady (entries_of w0) e ps (progress_of w0) (progress_of mid) (answer mid.table found) (blame_at (length mid.found.items) blame) w0.verdicts.dialect
@@ -359,7 +360,7 @@ settled_over w0 mid now e ps found blame split same stands ready settles = recor
       };
 }
 
-pub settled_stop : (stop : Stop) (w0 mid now : Walk) (e : Term) (ps : Scope → List Place) (found : Option TyNo) (blame : Option BlameCode)
+pub settled_stop : (stop : Stop) (w0 mid now : Walk) (e : Term) (ps : Scope → List Place) (found : Option TyNo) (blame : Option (Bor Text))
     → ((s : Scope) → ps s ++ record { scope = s; here = e } ∷ [] ≡ places s e)
     → mid.entries.items ≡ w0.entries.items → StandsIn mid.table found
     → IsReady (entries_of w0) e ps (progress_of w0) (progress_of mid) (answer mid.table found) (blame_at (length mid.found.items) blame) w0.verdicts.dialect
@@ -380,10 +381,10 @@ settled_stop Stop.TooLarge w0 mid now e ps (Some number) blame split same stands
     )
 
 -- what a step blames a term for, by the numbers
-abbrev pub Blames : Bool → Option TyNo → BlameCode → Option BlameCode → Type 0
+abbrev pub Blames : Bool → Option TyNo → Text → Option (Bor Text) → Type 0
 Blames parts found code blame = (ts : List Typ) (n : ℕ) → blame_at n blame ≡ blame_step n parts (answer ts found) code
 
-ready_at : (mid : Walk) (g : Context) (e : Term) (ps : Scope → List Place) (old : Progress) (found : Option TyNo) (parts seen : Bool) (code : BlameCode) (blame : Option BlameCode) (d : Dialect)
+ready_at : (mid : Walk) (g : Context) (e : Term) (ps : Scope → List Place) (old : Progress) (found : Option TyNo) (parts seen : Bool) (code : Text) (blame : Option (Bor Text)) (d : Dialect)
     → IsReady g e ps old (progress_of mid) (answer mid.table found) (blame_step (length (answers mid.table mid.found.items)) seen (answer mid.table found) code) d
     → seen ≡ parts → Blames parts found code blame
     → IsReady g e ps old (progress_of mid) (answer mid.table found) (blame_at (length mid.found.items) blame) d
@@ -394,7 +395,7 @@ ready_at mid g e ps old found parts seen code blame d ready same blames =
 
 -- the same of what a step answers
 
-pub settled_ok : (r : Result (Option TyNo) Stop) (w0 mid now : Walk) (e : Term) (ps : Scope → List Place) (found : Option TyNo) (blame : Option BlameCode)
+pub settled_ok : (r : Result (Option TyNo) Stop) (w0 mid now : Walk) (e : Term) (ps : Scope → List Place) (found : Option TyNo) (blame : Option (Bor Text))
     → ((s : Scope) → ps s ++ record { scope = s; here = e } ∷ [] ≡ places s e)
     → mid.entries.items ≡ w0.entries.items → StandsIn mid.table found
     → IsReady (entries_of w0) e ps (progress_of w0) (progress_of mid) (answer mid.table found) (blame_at (length mid.found.items) blame) w0.verdicts.dialect
@@ -403,7 +404,7 @@ settled_ok (Ok number) w0 mid now e ps found blame split same stands ready h =
     subst (λ o. WalkedOver w0 now e o) (sym h.0) (settled_over w0 mid now e ps found blame split same stands ready h.1)
 settled_ok (Err stop) w0 mid now e ps found blame split same stands ready h = tt
 
-pub settled_err : (r : Result (Option TyNo) Stop) (w0 mid now : Walk) (e : Term) (ps : Scope → List Place) (found : Option TyNo) (blame : Option BlameCode)
+pub settled_err : (r : Result (Option TyNo) Stop) (w0 mid now : Walk) (e : Term) (ps : Scope → List Place) (found : Option TyNo) (blame : Option (Bor Text))
     → ((s : Scope) → ps s ++ record { scope = s; here = e } ∷ [] ≡ places s e)
     → mid.entries.items ≡ w0.entries.items → StandsIn mid.table found
     → IsReady (entries_of w0) e ps (progress_of w0) (progress_of mid) (answer mid.table found) (blame_at (length mid.found.items) blame) w0.verdicts.dialect
@@ -418,17 +419,17 @@ pub leaf_parts : (w : Walk) (e : Term) (number : TyNo) (t : Typ) → IsNumberOf 
     → IsReady (entries_of w) e (λ s. []) (progress_of w) (progress_of w) (answer w.table (Some number)) (blame_at (length w.found.items) None) w.verdicts.dialect
 leaf_parts w e number t is ready = subst (λ o. IsReady (entries_of w) e (λ s. []) (progress_of w) (progress_of w) o [] w.verdicts.dialect) (ap Some (sym is.type)) ready
 
-pub free_parts : (w : Walk) (x : List ℕ) (blame : Option BlameCode) → Blames true None BlameCode.UnboundName blame
+pub free_parts : (w : Walk) (x : List ℕ) (blame : Option (Bor Text)) → Blames true None (codes "E1") blame
     → IsReady (entries_of w) (free x) (λ s. []) (progress_of w) (progress_of w) (answer w.table None) (blame_at (length w.found.items) blame) w.verdicts.dialect
 free_parts w x blame blames =
     let d = w.verdicts.dialect in
-    ready_at w (entries_of w) (free x) (λ s. []) (progress_of w) None true true BlameCode.UnboundName blame d (free_ready (entries_of w) x (progress_of w) d) refl blames
+    ready_at w (entries_of w) (free x) (λ s. []) (progress_of w) None true true (codes "E1") blame d (free_ready (entries_of w) x (progress_of w) d) refl blames
 
-pub unbound_parts : (w : Walk) (n : ℕ) (blame : Option BlameCode) → length w.entries.items ≤ n → Blames true None BlameCode.UnboundName blame
+pub unbound_parts : (w : Walk) (n : ℕ) (blame : Option (Bor Text)) → length w.entries.items ≤ n → Blames true None (codes "E1") blame
     → IsReady (entries_of w) (variable n) (λ s. []) (progress_of w) (progress_of w) (answer w.table None) (blame_at (length w.found.items) blame) w.verdicts.dialect
 unbound_parts w n blame le blames =
     let d = w.verdicts.dialect in
-    ready_at w (entries_of w) (variable n) (λ s. []) (progress_of w) None true true BlameCode.UnboundName blame d
+    ready_at w (entries_of w) (variable n) (λ s. []) (progress_of w) None true true (codes "E1") blame d
     (unbound_ready (entries_of w) n (progress_of w) d (let e = length-context w.table w.entries.items in omega arith)) refl blames
 
 pub variable_parts : (w : Walk) (n : ℕ) (found : Option TyNo) → n < length w.entries.items → answer w.table found ≡ entry_at n (entries_of w)
@@ -445,28 +446,28 @@ numeric_places (pred p) e t is s = ap (λ r. places s r ++ record { scope = s; h
 numeric_places (is_zero p) e t is s = ap (λ r. places s r ++ record { scope = s; here = is_zero p } ∷ []) (sym is.0)
 numeric_places _ e t is s = absurd is
 
-module _ (w0 w1 : Walk) (e : Term) (x found : Option TyNo) (blame : Option BlameCode) (grows : Grows w0 w1) (over : WalkedOver w0 w1 e x) where
+module _ (w0 w1 : Walk) (e : Term) (x found : Option TyNo) (blame : Option (Bor Text)) (grows : Grows w0 w1) (over : WalkedOver w0 w1 e x) where
   -- an operation on a number, by the number of the type that the whole has
   pub numeric_parts : (q : Term) (outcome : TyNo) → StandsIn w0.table (Some outcome) → IsNumeric q e (type_of w0.table outcome)
-      → NatRule (type_of w1.table outcome) (answer w1.table x) (answer w1.table found) w1.verdicts.dialect → Blames (is_some x) found BlameCode.OperandNotNat blame
+      → NatRule (type_of w1.table outcome) (answer w1.table x) (answer w1.table found) w1.verdicts.dialect → Blames (is_some x) found (codes "E6") blame
       → IsReady (entries_of w0) q (λ s. places s e) (progress_of w0) (progress_of w1) (answer w1.table found) (blame_at (length w1.found.items) blame) w0.verdicts.dialect
   numeric_parts q outcome stands is rule blames =
       let kept : Some (type_of w1.table outcome) ≡ Some (type_of w0.table outcome) = answer_keep w0.table w1.table (Some outcome) grows.keeps stands in
       let same : type_of w1.table outcome ≡ type_of w0.table outcome = (cc) in
-      ready_at w1 (entries_of w0) q (λ s. places s e) (progress_of w0) found (is_some x) (is_some (answer w1.table x)) BlameCode.OperandNotNat blame w0.verdicts.dialect
+      ready_at w1 (entries_of w0) q (λ s. places s e) (progress_of w0) found (is_some x) (is_some (answer w1.table x)) (codes "E6") blame w0.verdicts.dialect
       (numeric_ready (entries_of w0) e (progress_of w0) (progress_of w1) (answer w1.table x) (answer w1.table found) w0.verdicts.dialect over.over q (type_of w0.table outcome) is
       (subst (λ d. NatRule (type_of w0.table outcome) (answer w1.table x) (answer w1.table found) d) grows.dialect (subst (λ t. NatRule t (answer w1.table x) (answer w1.table found) w1.verdicts.dialect) same rule)))
       (some_answer w1.table x) blames
 
-  pub fix_parts : FixRule (answer w1.table x) (answer w1.table found) w1.verdicts.dialect → Blames (is_some x) found BlameCode.UnfitFix blame
+  pub fix_parts : FixRule (answer w1.table x) (answer w1.table found) w1.verdicts.dialect → Blames (is_some x) found (codes "E8") blame
       → IsReady (entries_of w0) (fix e) (λ s. places s e) (progress_of w0) (progress_of w1) (answer w1.table found) (blame_at (length w1.found.items) blame) w0.verdicts.dialect
-  fix_parts rule blames = ready_at w1 (entries_of w0) (fix e) (λ s. places s e) (progress_of w0) found (is_some x) (is_some (answer w1.table x)) BlameCode.UnfitFix blame w0.verdicts.dialect
+  fix_parts rule blames = ready_at w1 (entries_of w0) (fix e) (λ s. places s e) (progress_of w0) found (is_some x) (is_some (answer w1.table x)) (codes "E8") blame w0.verdicts.dialect
       (fix_ready (entries_of w0) e (progress_of w0) (progress_of w1) (answer w1.table x) (answer w1.table found) w0.verdicts.dialect over.over
       (subst (λ d. FixRule (answer w1.table x) (answer w1.table found) d) grows.dialect rule)) (some_answer w1.table x) blames
 
-  pub project_parts : (l : Label) → ProjectRule l (answer w1.table x) (answer w1.table found) → Blames (is_some x) found BlameCode.NoSuchField blame
+  pub project_parts : (l : Label) → ProjectRule l (answer w1.table x) (answer w1.table found) → Blames (is_some x) found (codes "E4") blame
       → IsReady (entries_of w0) (project e l) (λ s. places s e) (progress_of w0) (progress_of w1) (answer w1.table found) (blame_at (length w1.found.items) blame) w0.verdicts.dialect
-  project_parts l rule blames = ready_at w1 (entries_of w0) (project e l) (λ s. places s e) (progress_of w0) found (is_some x) (is_some (answer w1.table x)) BlameCode.NoSuchField blame w0.verdicts.dialect
+  project_parts l rule blames = ready_at w1 (entries_of w0) (project e l) (λ s. places s e) (progress_of w0) found (is_some x) (is_some (answer w1.table x)) (codes "E4") blame w0.verdicts.dialect
       (project_ready (entries_of w0) e (progress_of w0) (progress_of w1) (answer w1.table x) (answer w1.table found) w0.verdicts.dialect over.over l rule) (some_answer w1.table x) blames
 
 -- what was found, with its parts told otherwise
@@ -475,15 +476,15 @@ over_as : (g h : Context) (e : Term) (p p' q q' : Progress) (o o' : Option Typ) 
 over_as g h e p p' q q' o o' d d' a b c f i over = rw (sym a, sym b, sym c, sym f, sym i) over
 
 -- an ascription: the walk over its term, then what is written is put into the table
-pub ascribe_parts : (w0 w1 w2 : Walk) (e : Term) (w : Option Typ) (entry x found : Option TyNo) (blame : Option BlameCode)
+pub ascribe_parts : (w0 w1 w2 : Walk) (e : Term) (w : Option Typ) (entry x found : Option TyNo) (blame : Option (Bor Text))
     → Grows w0 w1 → WalkedOver w0 w1 e x → Keeps w1.table w2.table → progress_of w2 ≡ progress_of w1
-    → answer w2.table entry ≡ w → AscribeRule (answer w2.table entry) (answer w2.table x) (answer w2.table found) w1.verdicts.dialect → Blames (is_some x && is_some entry) found BlameCode.UnmetAscription blame
+    → answer w2.table entry ≡ w → AscribeRule (answer w2.table entry) (answer w2.table x) (answer w2.table found) w1.verdicts.dialect → Blames (is_some x && is_some entry) found (codes "E7") blame
     → IsReady (entries_of w0) (ascribe e w) (λ s. places s e) (progress_of w0) (progress_of w2) (answer w2.table found) (blame_at (length w2.found.items) blame) w0.verdicts.dialect
 ascribe_parts w0 w1 w2 e w entry x found blame grows over keeps same is rule blames =
     let d = w0.verdicts.dialect in
     let here = subst (λ p. WentOver (entries_of w0) e (progress_of w0) p (answer w2.table x) d) (sym same) (over_at w0 w1 w2.table (entries_of w0) e x d over refl refl keeps) in
     let seen : (is_some (answer w2.table x) && is_some w) ≡ (is_some x && is_some entry) = rw (sym is, some_answer w2.table x, some_answer w2.table entry) in
-    ready_at w2 (entries_of w0) (ascribe e w) (λ s. places s e) (progress_of w0) found (is_some x && is_some entry) (is_some (answer w2.table x) && is_some w) BlameCode.UnmetAscription blame d
+    ready_at w2 (entries_of w0) (ascribe e w) (λ s. places s e) (progress_of w0) found (is_some x && is_some entry) (is_some (answer w2.table x) && is_some w) (codes "E7") blame d
     (ascribe_ready (entries_of w0) e (progress_of w0) (progress_of w2) (answer w2.table x) (answer w2.table found) d here w
     (subst (λ v. AscribeRule v (answer w2.table x) (answer w2.table found) d) is
     (subst (λ b. AscribeRule (answer w2.table entry) (answer w2.table x) (answer w2.table found) b) grows.dialect rule)))
@@ -516,7 +517,7 @@ let_parts w0 w1 w2 w3 w4 a b bound outcome found sound keeps over_a under from i
 
 -- terms with several parts in one scope
 
-pub apply_parts : (w0 w1 w2 : Walk) (f a : Term) (x y found : Option TyNo) (code : BlameCode) (blame : Option BlameCode)
+pub apply_parts : (w0 w1 w2 : Walk) (f a : Term) (x y found : Option TyNo) (code : Text) (blame : Option (Bor Text))
     → IsSoundWalk w0 → Grows w0 w1 → WalkedOver w0 w1 f x → Grows w1 w2 → WalkedOver w1 w2 a y
     → ApplyRule (answer w2.table x) (answer w2.table y) (answer w2.table found) w2.verdicts.dialect → IsApplicationCode code (answer w2.table x) → Blames (is_some x && is_some y) found code blame
     → IsReady (entries_of w0) (apply f a) (λ s. places s f ++ places s a) (progress_of w0) (progress_of w2) (answer w2.table found) (blame_at (length w2.found.items) blame) w0.verdicts.dialect
@@ -533,9 +534,9 @@ apply_parts w0 w1 w2 f a x y found code blame sound grows_f over_f grows_a over_
     seen blames
 
 -- the table grows once more, by the join
-pub if_parts : (w0 w1 w2 w3 w4 : Walk) (e1 e2 e3 : Term) (x y z found : Option TyNo) (blame : Option BlameCode)
+pub if_parts : (w0 w1 w2 w3 w4 : Walk) (e1 e2 e3 : Term) (x y z found : Option TyNo) (blame : Option (Bor Text))
     → IsSoundWalk w0 → Grows w0 w1 → WalkedOver w0 w1 e1 x → Grows w1 w2 → WalkedOver w1 w2 e2 y → Grows w2 w3 → WalkedOver w2 w3 e3 z → progress_of w4 ≡ progress_of w3
-    → IfRule (answer w3.table x) (answer w3.table y) (answer w3.table z) (answer w4.table found) w3.verdicts.dialect → Blames (is_some x && (is_some y && is_some z)) found BlameCode.ConditionNotBool blame
+    → IfRule (answer w3.table x) (answer w3.table y) (answer w3.table z) (answer w4.table found) w3.verdicts.dialect → Blames (is_some x && (is_some y && is_some z)) found (codes "E5") blame
     → IsReady (entries_of w0) (if_then_else e1 e2 e3) (λ s. (places s e1 ++ places s e2) ++ places s e3) (progress_of w0) (progress_of w4) (answer w4.table found) (blame_at (length w4.found.items) blame) w0.verdicts.dialect
 if_parts w0 w1 w2 w3 w4 e1 e2 e3 x y z found blame sound r1 o1 r2 o2 r3 o3 to rule blames =
     let t = w3.table in
@@ -545,7 +546,7 @@ if_parts w0 w1 w2 w3 w4 e1 e2 e3 x y z found blame sound r1 o1 r2 o2 r3 o3 to ru
     let is2 = r2.dialect ∙ r1.dialect in
     let seen : (is_some (answer t x) && (is_some (answer t y) && is_some (answer t z))) ≡ (is_some x && (is_some y && is_some z)) = rw (some_answer t x, some_answer t y, some_answer t z) in
     ready_at w4 (entries_of w0) (if_then_else e1 e2 e3) (λ s. (places s e1 ++ places s e2) ++ places s e3) (progress_of w0) found (is_some x && (is_some y && is_some z))
-    (is_some (answer t x) && (is_some (answer t y) && is_some (answer t z))) BlameCode.ConditionNotBool blame d
+    (is_some (answer t x) && (is_some (answer t y) && is_some (answer t z))) (codes "E5") blame d
     (if_ready (entries_of w0) e1 e2 e3 (progress_of w0) (progress_of w1) (progress_of w2) (progress_of w4) (answer t x) (answer t y) (answer t z) (answer w4.table found) d
     (over_at w0 w1 t (entries_of w0) e1 x d o1 refl refl (keeps_trans w1.table w2.table w3.table r2.keeps r3.keeps))
     (over_at w1 w2 t (entries_of w0) e2 y d o2 same1 r1.dialect r3.keeps)
@@ -554,13 +555,13 @@ if_parts w0 w1 w2 w3 w4 e1 e2 e3 x y z found blame sound r1 o1 r2 o2 r3 o3 to ru
     seen blames
 
 -- a record
-pub record_parts : (w0 w1 w2 : Walk) (es : TermFields) (before after : List (String Global × TyNo)) (all : Bool) (found : Option TyNo) (blame : Option BlameCode)
+pub record_parts : (w0 w1 w2 : Walk) (es : TermFields) (before after : List (String Global × TyNo)) (all : Bool) (found : Option TyNo) (blame : Option (Bor Text))
     → (over : FieldsWalked w0 w1 es before after all) → progress_of w2 ≡ progress_of w1
-    → RecordRule (if_all all (fields_over w1.table over.parts)) (answer w2.table found) → Blames all found BlameCode.RepeatedLabel blame
+    → RecordRule (if_all all (fields_over w1.table over.parts)) (answer w2.table found) → Blames all found (codes "E9") blame
     → IsReady (entries_of w0) (record_term es) (λ s. places_in s es) (progress_of w0) (progress_of w2) (answer w2.table found) (blame_at (length w2.found.items) blame) w0.verdicts.dialect
 record_parts w0 w1 w2 es before after all found blame over to rule blames =
     let d = w0.verdicts.dialect in
-    ready_at w2 (entries_of w0) (record_term es) (λ s. places_in s es) (progress_of w0) found all all BlameCode.RepeatedLabel blame d
+    ready_at w2 (entries_of w0) (record_term es) (λ s. places_in s es) (progress_of w0) found all all (codes "E9") blame d
     (record_ready (entries_of w0) es (progress_of w0) (progress_of w2) all (fields_over w1.table over.parts) (answer w2.table found) d
     (subst (λ p. Went (entries_of w0) (λ s. places_in s es) (progress_of w0) p d) (sym to) over.went) over.fields rule)
     refl blames

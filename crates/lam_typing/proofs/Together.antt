@@ -3,6 +3,7 @@ use Rattle.std.proofs.Common.{◌≡◌, ℕ, ◌+◌, ◌<◌, List, [], ◌∷
 use Rattle.std.proofs.lemmas.List.{length-append, append-nil}
 use Rattle.lam_rules.specs.Types.{Typ, nodes}
 use Rattle.lam_rules.specs.Terms.{Term}
+use Rattle.lam_rules.specs.Texts.{Text}
 use Rattle.lam_rules.specs.Typing.{Context}
 use Rattle.lam_rules.specs.declared.rules.Dialect.{Dialect}
 use Rattle.lam_scope.specs.Expansions.{node_limit}
@@ -11,7 +12,6 @@ use Rattle.lam_typing.specs.LeastTypes.{IsLeastAt}
 use Rattle.lam_typing.specs.Blaming.{ArePartsTyped, IsExcused, IsBlamed, IsBlamedFor, Blamed, AreBlamed}
 use Rattle.lam_typing.specs.Analysis.{AreLeast, IsSmall, AreSmall}
 use Rattle.lam_typing.specs.Progress.{IsLowest, Progress, Shown, Went, Cause, next_is_too_large, enough, NextIs, StoppedIn, blame_step}
-use Rattle.lam_typing.specs.declared.blame.BlameCode.{BlameCode}
 
 -- lists side by side
 
@@ -148,7 +148,7 @@ stopped_under b entry g ps old now cause d lower a = record {
 
 -- the term itself
 
-pub here_blamed : (n : ℕ) (s : Scope) (e : Term) (parts : Bool) (o : Option Typ) (code : BlameCode) (d : Dialect)
+pub here_blamed : (n : ℕ) (s : Scope) (e : Term) (parts : Bool) (o : Option Typ) (code : Text) (d : Dialect)
     → IsLeastAt s e o d
     → (IsTrue parts → ArePartsTyped s e d × (IsExcused s e d → ⊥))
     → (ArePartsTyped s e d → (IsExcused s e d → ⊥) → IsTrue parts)

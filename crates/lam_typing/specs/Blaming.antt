@@ -1,13 +1,13 @@
 -- Where a document is to blame for a term without a type, and for what.
-use Rattle.std.specs.Prelude.{◌≡◌, ◌≢◌, ◌⊎◌, ℕ, zero, suc, ◌+◌, List, [], ◌∷◌, Some, None}
+use Rattle.std.specs.Prelude.{◌≡◌, ◌≢◌, ◌⊎◌, ℕ, zero, suc, ◌+◌, List, [], ◌∷◌, Some, None, codes}
 use Rattle.lam_rules.specs.Types.{Label, Typ, arrow}
 use Rattle.lam_rules.specs.Terms.{Term, if_then_else, succ, pred, is_zero, variable, free, lambda, apply, ascribe, let_in, record_term, project, fix, TermFields, no_terms, term_field}
+use Rattle.lam_rules.specs.Texts.{Text}
 use Rattle.lam_rules.specs.Typing.{Context}
 use Rattle.lam_rules.specs.declared.rules.Dialect.{Dialect}
 use Rattle.lam_scope.specs.Places.{written, of_term, Scope, Place}
 use Rattle.lam_typing.specs.Contexts.{IsContext}
 use Rattle.lam_typing.specs.LeastTypes.{IsTyped, IsLeastAt}
-use Rattle.lam_typing.specs.declared.blame.BlameCode.{BlameCode}
 
 -- each immediate term has a type
 abbrev mutual
@@ -50,37 +50,37 @@ pub record IsBlamed (s : Scope) (e : Term) (d : Dialect) : Type 0 where
   pub unexcused : IsExcused s e d → ⊥
 
 -- what an application is blamed for, from the least type of its first term
-abbrev pub application_code : Typ → BlameCode
-application_code (arrow p r) = BlameCode.UnfitArgument
-application_code _ = BlameCode.NotAFunction
+abbrev pub application_code : Typ → Text
+application_code (arrow p r) = codes "E3"
+application_code _ = codes "E2"
 
 -- What a term is blamed for: an unbound name (or a count past all binders), a first term that is no function or an argument that does not fit, a field that
 -- is not there, a condition, an operand of arithmetic, an ascription, a fix, a label that is repeated.
-abbrev pub IsBlamedFor : Scope → Term → BlameCode → Dialect → Type 0
-IsBlamedFor s (free x) code d = code ≡ BlameCode.UnboundName
-IsBlamedFor s (variable n) code d = code ≡ BlameCode.UnboundName
+abbrev pub IsBlamedFor : Scope → Term → Text → Dialect → Type 0
+IsBlamedFor s (free x) code d = code ≡ codes "E1"
+IsBlamedFor s (variable n) code d = code ≡ codes "E1"
 IsBlamedFor s (apply f a) code d = (t : Typ) × IsLeastAt s f (Some t) d × (code ≡ application_code t)
-IsBlamedFor s (project e l) code d = code ≡ BlameCode.NoSuchField
-IsBlamedFor s (if_then_else c a b) code d = code ≡ BlameCode.ConditionNotBool
-IsBlamedFor s (succ e) code d = code ≡ BlameCode.OperandNotNat
-IsBlamedFor s (pred e) code d = code ≡ BlameCode.OperandNotNat
-IsBlamedFor s (is_zero e) code d = code ≡ BlameCode.OperandNotNat
-IsBlamedFor s (ascribe e w) code d = code ≡ BlameCode.UnmetAscription
-IsBlamedFor s (fix e) code d = code ≡ BlameCode.UnfitFix
-IsBlamedFor s (record_term es) code d = code ≡ BlameCode.RepeatedLabel
+IsBlamedFor s (project e l) code d = code ≡ codes "E4"
+IsBlamedFor s (if_then_else c a b) code d = code ≡ codes "E5"
+IsBlamedFor s (succ e) code d = code ≡ codes "E6"
+IsBlamedFor s (pred e) code d = code ≡ codes "E6"
+IsBlamedFor s (is_zero e) code d = code ≡ codes "E6"
+IsBlamedFor s (ascribe e w) code d = code ≡ codes "E7"
+IsBlamedFor s (fix e) code d = code ≡ codes "E8"
+IsBlamedFor s (record_term es) code d = code ≡ codes "E9"
 IsBlamedFor s _ code d = ⊥
 
 -- a place by its number, and what it is blamed for
 pub record Blamed : Type 0 where
   pub number : ℕ
-  pub code : BlameCode
+  pub code : Text
 
 -- the blamed among these places and no others, in their order, where the first has this number
 abbrev pub AreBlamed : ℕ → List Place → List Blamed → Dialect → Type 0
 AreBlamed n [] blames d = blames ≡ []
 AreBlamed n (p ∷ ps) blames d =
     ((IsBlamed p.scope p.here d → ⊥) × AreBlamed (n + 1) ps blames d)
-    ⊎ ((code : BlameCode) × (rest : List Blamed) × (blames ≡ record { number = n; code = code } ∷ rest)
+    ⊎ ((code : Text) × (rest : List Blamed) × (blames ≡ record { number = n; code = code } ∷ rest)
     × IsBlamed p.scope p.here d × IsBlamedFor p.scope p.here code d × AreBlamed (n + 1) ps rest d)
 
 -- the label is none of these terms'

@@ -2,6 +2,7 @@
 use Rattle.std.specs.Prelude.{◌≡◌, ◌<◌, ℕ, List, [], ◌∷◌, ◌++◌, length, Bool, true, false, Option, Some, None}
 use Rattle.lam_rules.specs.Types.{Typ, nodes, Fields, no_fields}
 use Rattle.lam_rules.specs.Terms.{Term, TermFields, no_terms, term_field}
+use Rattle.lam_rules.specs.Texts.{Text}
 use Rattle.lam_rules.specs.Typing.{Context, IsWellFormedContext}
 use Rattle.lam_rules.specs.declared.rules.Dialect.{Dialect}
 use Rattle.lam_scope.specs.Expansions.{node_limit}
@@ -12,7 +13,6 @@ use Rattle.lam_typing.specs.Narrowing.{IsNarrower}
 use Rattle.lam_typing.specs.Blaming.{Blamed, AreBlamed, application_code}
 use Rattle.lam_typing.specs.Analysis.{AreLeast, AreSmall, IsTooLarge}
 use Rattle.lam_typing.specs.Steps.{MoreRule}
-use Rattle.lam_typing.specs.declared.blame.BlameCode.{BlameCode}
 
 -- a context of a scope that is narrower than each other one
 pub record IsLowest (s : Scope) (g : Context) (d : Dialect) : Type 0 where
@@ -82,13 +82,13 @@ if_all true fs = Some fs
 if_all false fs = None
 
 -- the blame that a step gives: where nothing was found though the parts have types and nothing excuses it
-abbrev pub blame_step : ℕ → Bool → Option Typ → BlameCode → List Blamed
+abbrev pub blame_step : ℕ → Bool → Option Typ → Text → List Blamed
 blame_step n parts (Some t) code = []
 blame_step n true None code = record { number = n; code = code } ∷ []
 blame_step n false None code = []
 
 -- what an application is blamed for, where its first term has a type
-abbrev pub IsApplicationCode : BlameCode → Option Typ → Type 0
+abbrev pub IsApplicationCode : Text → Option Typ → Type 0
 IsApplicationCode code None = Unit {0}
 IsApplicationCode code (Some t) = code ≡ application_code t
 

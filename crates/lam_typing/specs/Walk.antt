@@ -1,8 +1,10 @@
 -- What a `Walk` holds, and what the contracts of its steps say of it.
 use Rattle.std.specs.Prelude.{◌≡◌, ◌<◌, ◌≤◌, ℕ, ◌+◌, List, [], ◌∷◌, ◌++◌, length, Bool, Option, Some, None, String}
 use Rattle.std.specs.declared.alloc.Global.{Global}
+use denote.Ref.{Bor}
 use Rattle.lam_rules.specs.Types.{bool, nat, unit}
 use Rattle.lam_rules.specs.Terms.{Term, TermFields}
+use Rattle.lam_rules.specs.Texts.{Text}
 use Rattle.lam_rules.specs.Typing.{Context}
 use Rattle.lam_rules.specs.Numbers.{IsNumberOf, Keeps, AreEarlier, fields_over}
 use Rattle.lam_rules.specs.declared.rules.Dialect.{Dialect}
@@ -13,7 +15,6 @@ use Rattle.lam_typing.specs.Blaming.{Blamed}
 use Rattle.lam_typing.specs.Analysis.{IsSmall}
 use Rattle.lam_typing.specs.Answers.{answer, answers, StandsIn, AllStandIn, context_under}
 use Rattle.lam_typing.specs.Progress.{IsLowest, Progress, Went, WentOver, next_is_too_large, enough, StoppedIn, AreFieldsAt, if_all, IsLarge}
-use Rattle.lam_typing.specs.declared.blame.BlameCode.{BlameCode}
 use Rattle.lam_scope.specs.declared.numbers.Place.{Place as PlaceNumber}
 use Rattle.lam_typing.specs.declared.blame.Blame.{Blame}
 use Rattle.lam_typing.specs.declared.walking.Walk.{Walk}
@@ -21,7 +22,7 @@ use Rattle.lam_typing.specs.declared.walking.Stop.{Stop}
 
 -- what a `Blame` stands for
 abbrev pub blamed_of : Blame → Blamed
-blamed_of b = record { number = b.place.0; code = b.code }
+blamed_of b = record { number = b.place.0; code = b.code.now }
 
 -- what several stand for, in their order
 abbrev pub blames_of : List Blame → List Blamed
@@ -98,12 +99,12 @@ pub record FieldsWalked (old now : Walk) (es : TermFields) (before after : List 
   pub fields : (s : Scope) → IsLowest s (entries_of old) old.verdicts.dialect → AreFieldsAt s es (if_all all (fields_over now.table parts)) old.verdicts.dialect
 
 -- the blame of the place of a number, if there is a code
-abbrev pub blame_at : ℕ → Option BlameCode → List Blamed
+abbrev pub blame_at : ℕ → Option (Bor Text) → List Blamed
 blame_at n None = []
-blame_at n (Some code) = record { number = n; code = code } ∷ []
+blame_at n (Some code) = record { number = n; code = code.now } ∷ []
 
 -- it took down the next place, with what it is blamed for
-pub record Settles (old now : Walk) (found : Option TyNo) (blame : Option BlameCode) : Type 0 where
+pub record Settles (old now : Walk) (found : Option TyNo) (blame : Option (Bor Text)) : Type 0 where
   pub table : now.table ≡ old.table
   pub entries : now.entries.items ≡ old.entries.items
   pub found_is : now.found.items ≡ old.found.items ++ found ∷ []
@@ -111,7 +112,7 @@ pub record Settles (old now : Walk) (found : Option TyNo) (blame : Option BlameC
   pub small : IsSmall (answer old.table found)
 
 -- it stopped at the next place
-abbrev pub StopsAt : Stop → Walk → Walk → Option TyNo → Option BlameCode → Type 0
+abbrev pub StopsAt : Stop → Walk → Walk → Option TyNo → Option (Bor Text) → Type 0
 StopsAt Stop.TooLarge old now found blame = (now ≡ old) × IsLarge (answer old.table found) × IsUpTo old.last (length old.found.items)
 StopsAt Stop.Enough old now found blame = (now ≡ old) × IsBehind old.last (length old.found.items)
 StopsAt Stop.Memory old now found blame = Unit {0}

@@ -22,7 +22,7 @@ mod typing;
 mod walking;
 
 pub use analysing::{analyse, analyse_to};
-pub use blame::{Blame, BlameCode};
+pub use blame::Blame;
 pub use fault::TypingFault;
 pub use laws::{
     blame_is_just, least_types_exist, least_types_have_one_text, narrowing, never_blamed,

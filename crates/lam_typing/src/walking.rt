@@ -16,7 +16,7 @@ ghost use Rattle.lam_typing.specs.Progress.{Went, blame_step, IsApplicationCode,
 ghost use Rattle.lam_typing.specs.Walk.{Grows, WalkedOver, FieldsWalked, HasStopped, HasStoppedInFields, Settles, StopsAt, blame_at, blames_of, IsSoundWalk, IsBehind, IsUpTo, GoesOn, HasStoppedAt, HasStoppedAmong, entries_of, progress_of};
 ghost use Rattle.lam_typing.specs.declared.walking.Stop.TheVariants.{Memory};
 
-use crate::blame::{Blame, BlameCode};
+use crate::blame::Blame;
 use crate::steps::{
     number_of_written, type_of_apply, type_of_ascribe, type_of_fix, type_of_if, type_of_lambda,
     type_of_let, type_of_numeric, type_of_project, type_of_record,
@@ -136,7 +136,7 @@ fn walk_term(walk: &mut Walk, term: &Core) -> Result<Option<TyNo>, Stop>
         Core::IsZero(operand) => walk_number(walk, operand, walk.leaves.boolean),
         Core::Var(count) => walk_variable(walk, *count),
         Core::Free(_) => {
-            let blame = blame_if(true, None, BlameCode::UnboundName);
+            let blame = blame_if(true, None, "E1");
             settle(walk, None, blame)
         }
         Core::Abs(parts) => walk_lambda(walk, &parts.0, &parts.1),
@@ -177,11 +177,7 @@ fn walk_if(
         third,
         boolean,
     )?;
-    let blame = blame_if(
-        are_all_found(first, second, third),
-        found,
-        BlameCode::ConditionNotBool,
-    );
+    let blame = blame_if(are_all_found(first, second, third), found, "E5");
     settle(walk, found, blame)
 }
 
@@ -198,7 +194,7 @@ fn walk_number(walk: &mut Walk, operand: &Core, outcome: TyNo) -> Result<Option<
     let part = walk_term(walk, operand)?;
     let natural = walk.leaves.natural;
     let found = type_of_numeric(&walk.table, &mut walk.verdicts, part, natural, outcome)?;
-    let blame = blame_if(part.is_some(), found, BlameCode::OperandNotNat);
+    let blame = blame_if(part.is_some(), found, "E6");
     settle(walk, found, blame)
 }
 
@@ -248,11 +244,7 @@ fn walk_ascribe(walk: &mut Walk, operand: &Core, written: &Option<Ty>) -> Result
     let part = walk_term(walk, operand)?;
     let entry = number_of_written(&mut walk.table, written)?;
     let found = type_of_ascribe(&walk.table, &mut walk.verdicts, entry, part)?;
-    let blame = blame_if(
-        are_both_found(part, entry),
-        found,
-        BlameCode::UnmetAscription,
-    );
+    let blame = blame_if(are_both_found(part, entry), found, "E7");
     settle(walk, found, blame)
 }
 
@@ -283,7 +275,7 @@ fn walk_record(walk: &mut Walk, fields: &[(String, Core)]) -> Result<Option<TyNo
     let mut parts = Vec::with_capacity(walk.verdicts.alloc, fields.len())?;
     let all = walk_fields(walk, fields, &mut parts)?;
     let found = type_of_record(&mut walk.table, all, parts)?;
-    let blame = blame_if(all, found, BlameCode::RepeatedLabel);
+    let blame = blame_if(all, found, "E9");
     settle(walk, found, blame)
 }
 
@@ -297,7 +289,7 @@ fn walk_project(walk: &mut Walk, operand: &Core, label: &str) -> Result<Option<T
 {
     let part = walk_term(walk, operand)?;
     let found = type_of_project(&walk.table, part, label);
-    let blame = blame_if(part.is_some(), found, BlameCode::NoSuchField);
+    let blame = blame_if(part.is_some(), found, "E4");
     settle(walk, found, blame)
 }
 
@@ -311,7 +303,7 @@ fn walk_fix(walk: &mut Walk, operand: &Core) -> Result<Option<TyNo>, Stop>
 {
     let part = walk_term(walk, operand)?;
     let found = type_of_fix(&walk.table, &mut walk.verdicts, part)?;
-    let blame = blame_if(part.is_some(), found, BlameCode::UnfitFix);
+    let blame = blame_if(part.is_some(), found, "E8");
     settle(walk, found, blame)
 }
 
@@ -341,7 +333,8 @@ fn walk_fields(
     walk_fields(walk, others, parts)
 }
 
-/// A variable has the entry of its binder, which is none to blame for; a count past all binders is an unbound name.
+/// A variable has the entry of its binder; where that is none, the fault is not the variable's. A count past all
+/// binders is an unbound name.
 fn walk_variable(walk: &mut Walk, count: usize) -> Result<Option<TyNo>, Stop>
     requires sound { IsSoundWalk walk.old }
     ensures grows { Grows walk.old walk.new }
@@ -350,7 +343,7 @@ fn walk_variable(walk: &mut Walk, count: usize) -> Result<Option<TyNo>, Stop>
 {
     let depth = walk.entries.len();
     if count >= depth {
-        let blame = blame_if(true, None, BlameCode::UnboundName);
+        let blame = blame_if(true, None, "E1");
         return settle(walk, None, blame);
     }
     let entry = entry_of(&walk.entries, count);
@@ -367,16 +360,16 @@ pub(crate) fn entry_of(entries: &[Option<TyNo>], count: usize) -> Option<TyNo>
 }
 
 /// What an application is blamed for, by the type of its first term.
-fn application_code(table: &TyTable, function: Option<TyNo>) -> BlameCode
+fn application_code(table: &TyTable, function: Option<TyNo>) -> &'static str
     requires { StandsIn table.now function }
-    ensures { IsApplicationCode result (answer table.now function) }
+    ensures { IsApplicationCode result.now (answer table.now function) }
 {
     let Some(number) = function else {
-        return BlameCode::NotAFunction;
+        return "E2";
     };
     match table.shape(number) {
-        Shape::Arrow(_, _) => BlameCode::UnfitArgument,
-        _ => BlameCode::NotAFunction,
+        Shape::Arrow(_, _) => "E3",
+        _ => "E2",
     }
 }
 
@@ -399,8 +392,8 @@ fn are_all_found(first: Option<TyNo>, second: Option<TyNo>, third: Option<TyNo>)
 }
 
 /// The code, where the parts of a term have types and the term has none.
-fn blame_if(parts: bool, found: Option<TyNo>, code: BlameCode) -> Option<BlameCode>
-    ensures { (ts : List Typ) (n : ℕ) → blame_at n result ≡ blame_step n parts (answer ts found) code }
+fn blame_if(parts: bool, found: Option<TyNo>, code: &'static str) -> Option<&'static str>
+    ensures { (ts : List Typ) (n : ℕ) → blame_at n result ≡ blame_step n parts (answer ts found) code.now }
 {
     if found.is_some() {
         return None;
@@ -412,13 +405,13 @@ fn blame_if(parts: bool, found: Option<TyNo>, code: BlameCode) -> Option<BlameCo
 fn settle(
     walk: &mut Walk,
     found: Option<TyNo>,
-    blame: Option<BlameCode>,
+    blame: Option<&'static str>,
 ) -> Result<Option<TyNo>, Stop>
     requires sound { IsSoundWalk walk.old }
     requires stands { StandsIn walk.old.table found }
     ensures grows { Grows walk.old walk.new }
-    ensures settled { IfOk result (λ number. (number ≡ found) × Settles walk.old walk.new found blame) }
-    ensures stopped { IfErr result (λ stop. StopsAt stop walk.old walk.new found blame) }
+    ensures settled { IfOk result (λ number. (number ≡ found) × Settles walk.old walk.new found blame.entry) }
+    ensures stopped { IfErr result (λ stop. StopsAt stop walk.old walk.new found blame.entry) }
 {
     let place = Place(walk.found.len());
     if is_behind(place, walk.last) {
@@ -447,9 +440,9 @@ fn is_behind(place: Place, last: Option<Place>) -> bool
 fn put_blame(
     blames: &mut Vec<Blame>,
     place: Place,
-    blame: Option<BlameCode>,
+    blame: Option<&'static str>,
 ) -> Result<(), AllocError>
-    ensures { IfOk result (λ _. blames_of blames.new.items ≡ blames_of blames.old.items ++ blame_at place.0 blame) }
+    ensures { IfOk result (λ _. blames_of blames.new.items ≡ blames_of blames.old.items ++ blame_at place.0 blame.entry) }
 {
     let Some(code) = blame else {
         return Ok(());

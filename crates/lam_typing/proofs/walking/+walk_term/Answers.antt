@@ -1,4 +1,4 @@
-use Rattle.std.proofs.Common.{[], ◌∷◌, ◌++◌, length, Some, None, string_bytes, ap, refl, sym, subst, ◌∙◌, inl, arith}
+use Rattle.std.proofs.Common.{[], ◌∷◌, ◌++◌, length, Some, None, string_bytes, ap, refl, sym, subst, ◌∙◌, inl, arith, codes}
 use Rattle.lam_rules.specs.Types.{bool, nat, unit}
 use Rattle.lam_rules.specs.Terms.{if_then_else, lambda, apply, ascribe, let_in, record_term, project, fix, numeral, free, true_term, false_term, unit_term, term_field}
 use Rattle.lam_rules.specs.TermViews.{term_of, terms_of, written_of}
@@ -6,7 +6,6 @@ use Rattle.lam_rules.specs.Numbers.{type_of, fields_over, AreEarlier}
 use Rattle.lam_rules.proofs.TermShapes.{term_of-True, term_of-False, term_of-Succ, term_of-Pred, term_of-IsZero, term_of-Num, term_of-Free, term_of-Unit}
 use Rattle.lam_rules.proofs.Tables.{keeps_same}
 use Rattle.lam_scope.specs.Places.{written, of_term, places, places_in}
-use Rattle.lam_typing.specs.declared.blame.BlameCode.{BlameCode}
 use Rattle.lam_typing.specs.Answers.{answer}
 use Rattle.lam_typing.specs.Steps.{IsNumeric, LambdaRule, LetRule, RecordRule}
 use Rattle.lam_typing.specs.Progress.{if_all}
@@ -31,7 +30,7 @@ walk_number-returns-clause-walked t c =
     settled_ok _ c.args.walk.now (record c.walk_term.new.walk { verdicts = c.type_of_numeric.new.verdicts }) c.settle.new.walk e (λ s. places s (term_of c.args.operand.now)) c.in_ok-found.found c.blame_if-blame.result
     (numeric_places e (term_of c.args.operand.now) _ is) c.in_ok-part.ensures.walked.entries c.in_ok-found.ensures.stands
     (numeric_parts c.args.walk.now c.walk_term.new.walk (term_of c.args.operand.now) c.in_ok-part.part c.in_ok-found.found c.blame_if-blame.result c.in_ok-part.ensures.grows c.in_ok-part.ensures.walked e c.args.outcome c.requires.outcome is c.in_ok-found.ensures.rule
-    (subst (λ b. Blames b c.in_ok-found.found BlameCode.OperandNotNat c.blame_if-blame.result) c.is_some.ensures c.blame_if-blame.ensures))
+    (subst (λ b. Blames b c.in_ok-found.found (codes "E6") c.blame_if-blame.result) c.is_some.ensures c.blame_if-blame.ensures))
     c.settle.ensures.settled)
 
 pub walk_number-returns-clause-stopped : goal.walk_number-returns-clause-stopped
@@ -40,7 +39,7 @@ walk_number-returns-clause-stopped t c =
     settled_err _ c.args.walk.now (record c.walk_term.new.walk { verdicts = c.type_of_numeric.new.verdicts }) c.settle.new.walk e (λ s. places s (term_of c.args.operand.now)) c.in_ok-found.found c.blame_if-blame.result
     (numeric_places e (term_of c.args.operand.now) _ is) c.in_ok-part.ensures.walked.entries c.in_ok-found.ensures.stands
     (numeric_parts c.args.walk.now c.walk_term.new.walk (term_of c.args.operand.now) c.in_ok-part.part c.in_ok-found.found c.blame_if-blame.result c.in_ok-part.ensures.grows c.in_ok-part.ensures.walked e c.args.outcome c.requires.outcome is c.in_ok-found.ensures.rule
-    (subst (λ b. Blames b c.in_ok-found.found BlameCode.OperandNotNat c.blame_if-blame.result) c.is_some.ensures c.blame_if-blame.ensures))
+    (subst (λ b. Blames b c.in_ok-found.found (codes "E6") c.blame_if-blame.result) c.is_some.ensures c.blame_if-blame.ensures))
     c.settle.ensures.stopped)
 
 pub walk_fix-returns-in_err-part-clause-stopped : goal.walk_fix-returns-in_err-part-clause-stopped
@@ -52,14 +51,14 @@ pub walk_fix-returns-clause-walked : goal.walk_fix-returns-clause-walked
 walk_fix-returns-clause-walked t c =
     settled_ok _ c.args.walk.now (record c.walk_term.new.walk { verdicts = c.type_of_fix.new.verdicts }) c.settle.new.walk (fix (term_of c.args.operand.now)) (λ s. places s (term_of c.args.operand.now)) c.in_ok-found.found c.blame_if-blame.result (λ s. refl) c.in_ok-part.ensures.walked.entries c.in_ok-found.ensures.stands
     (fix_parts c.args.walk.now c.walk_term.new.walk (term_of c.args.operand.now) c.in_ok-part.part c.in_ok-found.found c.blame_if-blame.result c.in_ok-part.ensures.grows c.in_ok-part.ensures.walked c.in_ok-found.ensures.rule
-    (subst (λ b. Blames b c.in_ok-found.found BlameCode.UnfitFix c.blame_if-blame.result) c.is_some.ensures c.blame_if-blame.ensures))
+    (subst (λ b. Blames b c.in_ok-found.found (codes "E8") c.blame_if-blame.result) c.is_some.ensures c.blame_if-blame.ensures))
     c.settle.ensures.settled
 
 pub walk_fix-returns-clause-stopped : goal.walk_fix-returns-clause-stopped
 walk_fix-returns-clause-stopped t c =
     settled_err _ c.args.walk.now (record c.walk_term.new.walk { verdicts = c.type_of_fix.new.verdicts }) c.settle.new.walk (fix (term_of c.args.operand.now)) (λ s. places s (term_of c.args.operand.now)) c.in_ok-found.found c.blame_if-blame.result (λ s. refl) c.in_ok-part.ensures.walked.entries c.in_ok-found.ensures.stands
     (fix_parts c.args.walk.now c.walk_term.new.walk (term_of c.args.operand.now) c.in_ok-part.part c.in_ok-found.found c.blame_if-blame.result c.in_ok-part.ensures.grows c.in_ok-part.ensures.walked c.in_ok-found.ensures.rule
-    (subst (λ b. Blames b c.in_ok-found.found BlameCode.UnfitFix c.blame_if-blame.result) c.is_some.ensures c.blame_if-blame.ensures))
+    (subst (λ b. Blames b c.in_ok-found.found (codes "E8") c.blame_if-blame.result) c.is_some.ensures c.blame_if-blame.ensures))
     c.settle.ensures.stopped
 
 pub walk_project-returns-in_err-part-clause-stopped : goal.walk_project-returns-in_err-part-clause-stopped
@@ -71,14 +70,14 @@ pub walk_project-returns-clause-walked : goal.walk_project-returns-clause-walked
 walk_project-returns-clause-walked t c =
     settled_ok _ c.args.walk.now c.walk_term.new.walk c.settle.new.walk (project (term_of c.args.operand.now) c.args.label.now) (λ s. places s (term_of c.args.operand.now)) c.type_of_project-found.result c.blame_if-blame.result (λ s. refl) c.in_ok-part.ensures.walked.entries c.type_of_project-found.ensures.stands
     (project_parts c.args.walk.now c.walk_term.new.walk (term_of c.args.operand.now) c.in_ok-part.part c.type_of_project-found.result c.blame_if-blame.result c.in_ok-part.ensures.grows c.in_ok-part.ensures.walked c.args.label.now c.type_of_project-found.ensures.rule
-    (subst (λ b. Blames b c.type_of_project-found.result BlameCode.NoSuchField c.blame_if-blame.result) c.is_some.ensures c.blame_if-blame.ensures))
+    (subst (λ b. Blames b c.type_of_project-found.result (codes "E4") c.blame_if-blame.result) c.is_some.ensures c.blame_if-blame.ensures))
     c.settle.ensures.settled
 
 pub walk_project-returns-clause-stopped : goal.walk_project-returns-clause-stopped
 walk_project-returns-clause-stopped t c =
     settled_err _ c.args.walk.now c.walk_term.new.walk c.settle.new.walk (project (term_of c.args.operand.now) c.args.label.now) (λ s. places s (term_of c.args.operand.now)) c.type_of_project-found.result c.blame_if-blame.result (λ s. refl) c.in_ok-part.ensures.walked.entries c.type_of_project-found.ensures.stands
     (project_parts c.args.walk.now c.walk_term.new.walk (term_of c.args.operand.now) c.in_ok-part.part c.type_of_project-found.result c.blame_if-blame.result c.in_ok-part.ensures.grows c.in_ok-part.ensures.walked c.args.label.now c.type_of_project-found.ensures.rule
-    (subst (λ b. Blames b c.type_of_project-found.result BlameCode.NoSuchField c.blame_if-blame.result) c.is_some.ensures c.blame_if-blame.ensures))
+    (subst (λ b. Blames b c.type_of_project-found.result (codes "E4") c.blame_if-blame.result) c.is_some.ensures c.blame_if-blame.ensures))
     c.settle.ensures.stopped
 
 pub walk_apply-returns-in_err-first-clause-stopped : goal.walk_apply-returns-in_err-first-clause-stopped
@@ -99,18 +98,18 @@ pub walk_apply-returns-clause-walked : goal.walk_apply-returns-clause-walked
 walk_apply-returns-clause-walked t c =
     settled_ok _ c.args.walk.now (record c.walk_term-2.new.walk { verdicts = c.type_of_apply.new.verdicts }) c.settle.new.walk (apply (term_of c.args.function.now) (term_of c.args.argument.now)) (λ s. places s (term_of c.args.function.now) ++ places s (term_of c.args.argument.now)) c.in_ok-found.found c.blame_if-blame.result (λ s. refl)
     (c.in_ok-second.ensures.walked.entries ∙ c.in_ok-first.ensures.walked.entries) c.in_ok-found.ensures.stands
-    (apply_parts c.args.walk.now c.walk_term.new.walk c.walk_term-2.new.walk (term_of c.args.function.now) (term_of c.args.argument.now) c.in_ok-first.first c.in_ok-second.second c.in_ok-found.found c.application_code-code.result c.blame_if-blame.result
+    (apply_parts c.args.walk.now c.walk_term.new.walk c.walk_term-2.new.walk (term_of c.args.function.now) (term_of c.args.argument.now) c.in_ok-first.first c.in_ok-second.second c.in_ok-found.found c.application_code-code.result.now c.blame_if-blame.result
     c.requires.sound c.in_ok-first.ensures.grows c.in_ok-first.ensures.walked c.in_ok-second.ensures.grows c.in_ok-second.ensures.walked c.in_ok-found.ensures.rule c.application_code-code.ensures
-    (subst (λ b. Blames b c.in_ok-found.found c.application_code-code.result c.blame_if-blame.result) c.are_both_found.ensures c.blame_if-blame.ensures))
+    (subst (λ b. Blames b c.in_ok-found.found c.application_code-code.result.now c.blame_if-blame.result) c.are_both_found.ensures c.blame_if-blame.ensures))
     c.settle.ensures.settled
 
 pub walk_apply-returns-clause-stopped : goal.walk_apply-returns-clause-stopped
 walk_apply-returns-clause-stopped t c =
     settled_err _ c.args.walk.now (record c.walk_term-2.new.walk { verdicts = c.type_of_apply.new.verdicts }) c.settle.new.walk (apply (term_of c.args.function.now) (term_of c.args.argument.now)) (λ s. places s (term_of c.args.function.now) ++ places s (term_of c.args.argument.now)) c.in_ok-found.found c.blame_if-blame.result (λ s. refl)
     (c.in_ok-second.ensures.walked.entries ∙ c.in_ok-first.ensures.walked.entries) c.in_ok-found.ensures.stands
-    (apply_parts c.args.walk.now c.walk_term.new.walk c.walk_term-2.new.walk (term_of c.args.function.now) (term_of c.args.argument.now) c.in_ok-first.first c.in_ok-second.second c.in_ok-found.found c.application_code-code.result c.blame_if-blame.result
+    (apply_parts c.args.walk.now c.walk_term.new.walk c.walk_term-2.new.walk (term_of c.args.function.now) (term_of c.args.argument.now) c.in_ok-first.first c.in_ok-second.second c.in_ok-found.found c.application_code-code.result.now c.blame_if-blame.result
     c.requires.sound c.in_ok-first.ensures.grows c.in_ok-first.ensures.walked c.in_ok-second.ensures.grows c.in_ok-second.ensures.walked c.in_ok-found.ensures.rule c.application_code-code.ensures
-    (subst (λ b. Blames b c.in_ok-found.found c.application_code-code.result c.blame_if-blame.result) c.are_both_found.ensures c.blame_if-blame.ensures))
+    (subst (λ b. Blames b c.in_ok-found.found c.application_code-code.result.now c.blame_if-blame.result) c.are_both_found.ensures c.blame_if-blame.ensures))
     c.settle.ensures.stopped
 
 pub walk_if-returns-in_err-first-clause-stopped : goal.walk_if-returns-in_err-first-clause-stopped
@@ -157,7 +156,7 @@ walk_if-returns-clause-walked t c =
     c.requires.sound c.in_ok-first.ensures.grows c.in_ok-first.ensures.walked c.in_ok-second.ensures.grows c.in_ok-second.ensures.walked c.in_ok-third.ensures.grows c.in_ok-third.ensures.walked
     (progress_same c.walk_term-3.new.walk (stepped c.walk_term-3.new.walk c.type_of_if.new.table c.type_of_if.new.verdicts) c.in_ok-third.ensures.grows.sound c.type_of_if.ensures.keeps refl refl)
     c.in_ok-found.ensures.rule
-    (subst (λ b. Blames b c.in_ok-found.found BlameCode.ConditionNotBool c.blame_if-blame.result) c.are_all_found.ensures c.blame_if-blame.ensures))
+    (subst (λ b. Blames b c.in_ok-found.found (codes "E5") c.blame_if-blame.result) c.are_all_found.ensures c.blame_if-blame.ensures))
     c.settle.ensures.settled
 
 pub walk_if-returns-clause-stopped : goal.walk_if-returns-clause-stopped
@@ -168,7 +167,7 @@ walk_if-returns-clause-stopped t c =
     c.requires.sound c.in_ok-first.ensures.grows c.in_ok-first.ensures.walked c.in_ok-second.ensures.grows c.in_ok-second.ensures.walked c.in_ok-third.ensures.grows c.in_ok-third.ensures.walked
     (progress_same c.walk_term-3.new.walk (stepped c.walk_term-3.new.walk c.type_of_if.new.table c.type_of_if.new.verdicts) c.in_ok-third.ensures.grows.sound c.type_of_if.ensures.keeps refl refl)
     c.in_ok-found.ensures.rule
-    (subst (λ b. Blames b c.in_ok-found.found BlameCode.ConditionNotBool c.blame_if-blame.result) c.are_all_found.ensures c.blame_if-blame.ensures))
+    (subst (λ b. Blames b c.in_ok-found.found (codes "E5") c.blame_if-blame.result) c.are_all_found.ensures c.blame_if-blame.ensures))
     c.settle.ensures.stopped
 
 pub walk_ascribe-returns-in_err-part-clause-stopped : goal.walk_ascribe-returns-in_err-part-clause-stopped
@@ -197,7 +196,7 @@ walk_ascribe-returns-clause-walked t c =
     (ascribe_parts c.args.walk.now c.walk_term.new.walk (record c.walk_term.new.walk { table = c.number_of_written.new.table }) (term_of c.args.operand.now) (written_of c.args.written.now) c.in_ok-entry.entry c.in_ok-part.part c.in_ok-found.found c.blame_if-blame.result c.in_ok-part.ensures.grows c.in_ok-part.ensures.walked c.number_of_written.ensures.keeps
     (progress_same c.walk_term.new.walk (record c.walk_term.new.walk { table = c.number_of_written.new.table }) c.in_ok-part.ensures.grows.sound c.number_of_written.ensures.keeps refl refl)
     c.in_ok-entry.ensures.entry c.in_ok-found.ensures.rule
-    (subst (λ b. Blames b c.in_ok-found.found BlameCode.UnmetAscription c.blame_if-blame.result) c.are_both_found.ensures c.blame_if-blame.ensures))
+    (subst (λ b. Blames b c.in_ok-found.found (codes "E7") c.blame_if-blame.result) c.are_both_found.ensures c.blame_if-blame.ensures))
     c.settle.ensures.settled
 
 pub walk_ascribe-returns-clause-stopped : goal.walk_ascribe-returns-clause-stopped
@@ -206,7 +205,7 @@ walk_ascribe-returns-clause-stopped t c =
     (ascribe_parts c.args.walk.now c.walk_term.new.walk (record c.walk_term.new.walk { table = c.number_of_written.new.table }) (term_of c.args.operand.now) (written_of c.args.written.now) c.in_ok-entry.entry c.in_ok-part.part c.in_ok-found.found c.blame_if-blame.result c.in_ok-part.ensures.grows c.in_ok-part.ensures.walked c.number_of_written.ensures.keeps
     (progress_same c.walk_term.new.walk (record c.walk_term.new.walk { table = c.number_of_written.new.table }) c.in_ok-part.ensures.grows.sound c.number_of_written.ensures.keeps refl refl)
     c.in_ok-entry.ensures.entry c.in_ok-found.ensures.rule
-    (subst (λ b. Blames b c.in_ok-found.found BlameCode.UnmetAscription c.blame_if-blame.result) c.are_both_found.ensures c.blame_if-blame.ensures))
+    (subst (λ b. Blames b c.in_ok-found.found (codes "E7") c.blame_if-blame.result) c.are_both_found.ensures c.blame_if-blame.ensures))
     c.settle.ensures.stopped
 
 pub walk_lambda-returns-in_err-parameter-clause-grows : goal.walk_lambda-returns-in_err-parameter-clause-grows
