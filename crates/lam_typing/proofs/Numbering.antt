@@ -1,20 +1,30 @@
 -- The entries of binders, one after the other, as numbers of a table that grows.
-use Rattle.std.proofs.Common.{◌≡◌, ℕ, ◌+◌, ◌<◌, List, [], ◌∷◌, ◌++◌, length, map, drop, get_or, drop-cons, add-one, Option, None, zero, suc, ap, sym, subst, ◌∙◌, append_assoc}
+use Rattle.std.proofs.Common.{◌≡◌, ℕ, ◌+◌, ◌<◌, List, [], ◌∷◌, ◌++◌, length, map, drop, get_or, drop-cons, add-one, Option, None, zero, suc, ap, sym, subst, ◌∙◌, append_assoc, refl, ◌≤◌, arith}
+use Rattle.std.proofs.Math.ListN.{drop_of_length-le}
 use Rattle.lam_rules.specs.Types.{Typ}
 use Rattle.lam_rules.specs.Numbers.{Keeps}
 use Rattle.lam_rules.specs.declared.numbers.TyNo.{TyNo}
 use Rattle.lam_rules.proofs.Tables.{keeps_trans}
 use Rattle.lam_scope.specs.declared.numbers.Origin.{Origin}
+use Rattle.lam_rules.specs.Typing.{IsWellFormedEntry}
+use Rattle.lam_scope.specs.Places.{Statement}
+use Rattle.lam_scope.specs.WellFormed.{AreWellFormedStatements}
+use Rattle.std.proofs.lemmas.List.{append-nil, map-append}
+use Rattle.lam_typing.specs.Entries.{entry_from}
+use Rattle.lam_typing.specs.Notes.{told_in}
+use Rattle.lam_typing.specs.Ends.{AreSourcesOf, AreWellFormedSources}
+use Rattle.lam_typing.specs.declared.noting.Entry.{Entry}
+use Rattle.lam_typing.proofs.WellFormedPlaces.{entry_wf}
 use Rattle.lam_typing.specs.Answers.{answer, answers, StandsIn, AllStandIn}
 use Rattle.lam_typing.proofs.Growing.{answers_keep, answers-push, all_stand_keep, all_stand_push}
 
--- The entries of the first binders are numbered, and those of the others are to come.
-pub record AreNumbered (first now : List Typ) (entry : Origin → Option Typ) (done : List (Option TyNo)) (left all : List Origin) : Type 0 where
+-- The first entries are numbered, and the others are to come.
+pub record AreNumbered {X : Type 0} (first now : List Typ) (entry : X → Option Typ) (done : List (Option TyNo)) (left all : List X) : Type 0 where
   pub keeps : Keeps first now
   pub stand : AllStandIn now done
   pub told : answers now done ++ map entry left ≡ map entry all
 
-pub numbered_more : (first old now : List Typ) (entry : Origin → Option Typ) (done more : List (Option TyNo)) (number : Option TyNo) (i : ℕ) (o : Origin) (all : List Origin)
+pub numbered_more : {X : Type 0} (first old now : List Typ) (entry : X → Option Typ) (done more : List (Option TyNo)) (number : Option TyNo) (i : ℕ) (o : X) (all : List X)
     → i < length all → Keeps old now → StandsIn now number → answer now number ≡ entry (get_or all i o) → more ≡ done ++ number ∷ []
     → AreNumbered first old entry done (drop i all) all → AreNumbered first now entry more (drop (i + 1) all) all
 numbered_more first old now entry done more number i o all inside keeps stands is put numbered =
@@ -38,3 +48,45 @@ pub stands_or_none : (ts : List Typ) (os : List (Option TyNo)) (k : ℕ) → All
 stands_or_none ts [] k stand = tt
 stands_or_none ts (o ∷ os) zero stand = stand.0
 stands_or_none ts (o ∷ os) (suc k) stand = stands_or_none ts os k stand.1
+
+-- the source of one more binder is put behind the others
+pub sourced_more : (ss : List Statement) (done more : List (Option Entry)) (source : Option Entry) (i : ℕ) (o : Origin) (all : List Origin)
+    → i < length all → ((found : List (Option Typ)) → told_in found source ≡ entry_from ss found (get_or all i o)) → more ≡ done ++ source ∷ []
+    → ((found : List (Option Typ)) → map (told_in found) done ++ map (entry_from ss found) (drop i all) ≡ map (entry_from ss found) all)
+    → (found : List (Option Typ)) → map (told_in found) more ++ map (entry_from ss found) (drop (i + 1) all) ≡ map (entry_from ss found) all
+sourced_more ss done more source i o all inside is put told found =
+    let f = told_in found in
+    let g = entry_from ss found in
+    let one : map f more ≡ map f done ++ g (get_or all i o) ∷ [] = ap (map f) put ∙ map-append f done (source ∷ []) ∙ ap (λ e. map f done ++ e ∷ []) (is found) in
+    let rest : map g (drop i all) ≡ g (get_or all i o) ∷ map g (drop (i + 1) all) =
+    ap (map g) (drop-cons all i o inside) ∙ ap (λ n. g (get_or all i o) ∷ map g (drop n all)) (sym (add-one i)) in
+    ap (λ os. os ++ map g (drop (i + 1) all)) one
+    ∙ append_assoc (map f done) (g (get_or all i o) ∷ []) (map g (drop (i + 1) all))
+    ∙ ap (λ os. map f done ++ os) (sym rest)
+    ∙ told found
+
+told_at : (sources : List (Option Entry)) (i : ℕ) → told_in [] (get_or sources i None) ≡ get_or (map (told_in []) sources) i None
+told_at [] i = refl
+told_at (s ∷ sources) zero = refl
+told_at (s ∷ sources) (suc i) = told_at sources i
+
+entries_wf : (ss : List Statement) (origins : List Origin) (i : ℕ) → AreWellFormedStatements ss → IsWellFormedEntry (get_or (map (entry_from ss []) origins) i None)
+entries_wf ss [] i wf = tt
+entries_wf ss (o ∷ origins) zero wf = entry_wf ss o wf
+entries_wf ss (o ∷ origins) (suc i) wf = entries_wf ss origins i wf
+
+pub sources_wf : (ss : List Statement) (origins : List Origin) (sources : List (Option Entry)) → AreWellFormedStatements ss → AreSourcesOf ss origins sources → AreWellFormedSources sources
+sources_wf ss origins sources wf told = λ i. subst IsWellFormedEntry (sym (told_at sources i ∙ ap (λ os. get_or os i None) (told []))) (entries_wf ss origins i wf)
+
+-- the source of each binder is there
+pub sourced_all : (ss : List Statement) (done : List (Option Entry)) (i : ℕ) (all : List Origin) → length all ≤ i
+    → ((found : List (Option Typ)) → map (told_in found) done ++ map (entry_from ss found) (drop i all) ≡ map (entry_from ss found) all)
+    → (found : List (Option Typ)) → map (told_in found) done ≡ map (entry_from ss found) all
+sourced_all ss done i all past told found =
+    sym (append-nil (map (told_in found) done)) ∙ ap (λ os. map (told_in found) done ++ map (entry_from ss found) os) (sym (drop_of_length-le all past)) ∙ told found
+
+-- what stands at a number does not hang on what would stand behind the last
+pub same_at : (sources : List (Option Entry)) (i : ℕ) (a b : Option Entry) → i < length sources → get_or sources i a ≡ get_or sources i b
+same_at [] i a b inside = absurd (omega arith)
+same_at (s ∷ sources) zero a b inside = refl
+same_at (s ∷ sources) (suc i) a b inside = same_at sources i a b (omega arith)

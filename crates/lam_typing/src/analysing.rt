@@ -1,16 +1,18 @@
 //! The analysis of a document: a walk over its places finds their types, and the entries of its binders are told from these.
 
-ghost use Rattle.std.specs.Prelude.{◌≡◌, ◌+◌, [], take, IfOk, IfErr};
-ghost use Rattle.lam_scope.specs.Places.{places_of};
+ghost use Rattle.std.specs.Prelude.{◌≡◌, ◌+◌, List, [], take, IfOk, IfErr};
+ghost use Rattle.lam_scope.specs.Places.{Statement, places_of};
 ghost use Rattle.lam_scope.specs.Views.{statements_of, origins_of};
 ghost use Rattle.lam_scope.specs.WellFormed.{AreWellFormedStatements};
 ghost use Rattle.lam_typing.specs.Walk.{IsSoundWalk};
 ghost use Rattle.lam_typing.specs.Typings.{IsAnalysis, IsTypingOf, AreEntries, dialect_of, IsFaultOf};
-ghost use Rattle.lam_typing.specs.Ends.{up_to, Begins, Completes, IsEndOf};
+ghost use Rattle.lam_scope.specs.declared.numbers.Origin.{Origin};
+ghost use Rattle.lam_typing.specs.Ends.{up_to, Begins, AreSourcesOf, AreWellFormedSources, Completes, IsEndOf};
 ghost use Rattle.lam_typing.specs.declared.fault.TypingFault.TheVariants.{Memory};
 
-use crate::entries::number_entries;
+use crate::entries::{number_entries, sources_of};
 use crate::fault::TypingFault;
+use crate::noting::Entry;
 use crate::typing::Typing;
 use crate::walking::{Leaves, Stop, Walk, walk_statements};
 use lam_rules::{Dialect, Shape, TyTable};
@@ -60,33 +62,43 @@ fn analyse_up_to(
     ensures dialect { IfOk result (λ typing. dialect_of typing ≡ dialect) }
     ensures fault { IfErr result (λ fault. IsFaultOf fault (up_to last (places_of [] (statements_of resolved.now))) dialect) }
 {
+    // Before the walk, so that what is noted for it is given back before memory is at its peak.
+    let Ok(sources) = sources_of(alloc, resolved) else {
+        return Err(TypingFault::Memory);
+    };
     let Ok(mut walk) = start(alloc, last, dialect) else {
         return Err(TypingFault::Memory);
     };
     match walk_statements(&mut walk, resolved.statements()) {
-        Ok(()) => complete(alloc, walk, resolved),
-        Err(stop) => end(alloc, walk, stop, resolved),
+        Ok(()) => complete(alloc, walk, &sources),
+        Err(stop) => end(alloc, walk, stop, &sources),
     }
 }
 
 /// What is known where a walk ended early: all that was asked for, or why not.
-fn end(alloc: Global, walk: Walk, stop: Stop, resolved: &Resolved) -> Result<Typing, TypingFault>
+fn end(
+    alloc: Global,
+    walk: Walk,
+    stop: Stop,
+    sources: &[Option<Entry<'_>>],
+) -> Result<Typing, TypingFault>
     requires sound { IsSoundWalk walk }
-    requires wf { AreWellFormedStatements (statements_of resolved.now) }
-    ensures { IsEndOf stop walk (statements_of resolved.now) (origins_of resolved.now) result }
+    requires wf { AreWellFormedSources sources.now }
+    ensures { (ss : List Statement) (origins : List Origin) → AreSourcesOf ss origins sources.now → IsEndOf stop walk ss origins result }
 {
     match stop {
-        Stop::Enough => complete(alloc, walk, resolved),
+        Stop::Enough => complete(alloc, walk, sources),
         Stop::TooLarge => Err(TypingFault::TooLarge(Place(walk.found.len()))),
         Stop::Memory => Err(TypingFault::Memory),
     }
 }
 
-/// What a walk found, with the entries of the document's binders. What the walk held beside that is given back.
-fn complete(alloc: Global, walk: Walk, resolved: &Resolved) -> Result<Typing, TypingFault>
+/// What a walk found, with the entries of the document's binders, which are from there. What the walk held beside that is
+/// given back.
+fn complete(alloc: Global, walk: Walk, sources: &[Option<Entry<'_>>]) -> Result<Typing, TypingFault>
     requires sound { IsSoundWalk walk }
-    requires wf { AreWellFormedStatements (statements_of resolved.now) }
-    ensures completes { IfOk result (λ typing. Completes walk (statements_of resolved.now) (origins_of resolved.now) typing) }
+    requires wf { AreWellFormedSources sources.now }
+    ensures completes { IfOk result (λ typing. (ss : List Statement) (origins : List Origin) → AreSourcesOf ss origins sources.now → Completes walk ss origins typing) }
     ensures fault { IfErr result (λ fault. fault ≡ Memory) }
 {
     let Walk {
@@ -99,12 +111,11 @@ fn complete(alloc: Global, walk: Walk, resolved: &Resolved) -> Result<Typing, Ty
         last: _last,
     } = walk;
     let dialect = verdicts.dialect;
-    // Memory is at its peak from here on. What was known of pairs of types is of no use any more, and up to half of a
-    // list that grew is spare.
+    // What was known of pairs of types is of no use any more, and up to half of a list that grew is spare.
     drop(verdicts);
     drop(entries);
     found.shrink_to_fit();
-    let Ok(entries) = number_entries(alloc, &mut table, &found, resolved) else {
+    let Ok(entries) = number_entries(alloc, &mut table, &found, sources) else {
         return Err(TypingFault::Memory);
     };
     Ok(Typing {

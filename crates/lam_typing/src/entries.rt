@@ -5,10 +5,10 @@ ghost use Rattle.lam_rules.specs.Types.{Typ};
 ghost use Rattle.lam_rules.specs.Typing.{IsWellFormedEntry};
 ghost use Rattle.lam_rules.specs.Numbers.{Keeps};
 ghost use Rattle.lam_scope.specs.Views.{statement_of, statements_of, origins_of};
-ghost use Rattle.lam_scope.specs.WellFormed.{AreWellFormedStatements};
 ghost use Rattle.lam_typing.specs.Answers.{answer, answers, StandsIn, AllStandIn};
 ghost use Rattle.lam_typing.specs.Entries.{entry_from};
 ghost use Rattle.lam_typing.specs.Notes.{told_in, NotesDocument};
+ghost use Rattle.lam_typing.specs.Ends.{AreSourcesOf, AreWellFormedSources};
 
 use crate::noting::{Entry, Note, note_statements};
 use crate::reading::{declared_at, found_at, written_at};
@@ -17,25 +17,39 @@ use lam_rules::{TyNo, TyTable};
 use lam_scope::{Origin, Resolved, Statement};
 use std::alloc::{AllocError, Global};
 
-/// The entry of each binder, by its number, where these types were found of the places.
+/// Where the entry of each binder is from, by the number of the binder.
+pub(crate) fn sources_of(
+    alloc: Global,
+    resolved: &Resolved,
+) -> Result<Vec<Option<Entry<'_>>>, AllocError>
+    ensures { IfOk result (λ sources. AreSourcesOf (statements_of resolved.now) (origins_of resolved.now) sources.items) }
+{
+    let noted = note_statements(alloc, resolved.place_count(), resolved.statements())?;
+    let origins = resolved.origins();
+    let mut sources = Vec::with_capacity(alloc, origins.len())?;
+    for i in 0..origins.len() {
+        let source = entry_by(&noted, resolved.statements(), origins[i]);
+        sources.push(source)?;
+    }
+    Ok(sources)
+}
+
+/// The entries that are from there, where these types were found of the places.
 pub(crate) fn number_entries(
     alloc: Global,
     table: &mut TyTable,
     found: &[Option<TyNo>],
-    resolved: &Resolved,
+    sources: &[Option<Entry<'_>>],
 ) -> Result<Vec<Option<TyNo>>, AllocError>
     requires found { AllStandIn table.old found.now }
-    requires wf { AreWellFormedStatements (statements_of resolved.now) }
+    requires wf { AreWellFormedSources sources.now }
     ensures keeps { Keeps table.old table.new }
     ensures stand { IfOk result (λ entries. AllStandIn table.new entries.items) }
-    ensures entries { IfOk result (λ entries. answers table.new entries.items ≡ map (entry_from (statements_of resolved.now) (answers table.old found.now)) (origins_of resolved.now)) }
+    ensures entries { IfOk result (λ entries. answers table.new entries.items ≡ map (told_in (answers table.old found.now)) sources.now) }
 {
-    let noted = note_statements(alloc, resolved.place_count(), resolved.statements())?;
-    let origins = resolved.origins();
-    let mut entries = Vec::with_capacity(alloc, origins.len())?;
-    for i in 0..origins.len() {
-        let entry = entry_by(&noted, resolved.statements(), origins[i]);
-        let number = number_of(table, found, entry)?;
+    let mut entries = Vec::with_capacity(alloc, sources.len())?;
+    for i in 0..sources.len() {
+        let number = number_of(table, found, sources[i])?;
         entries.push(number)?;
     }
     Ok(entries)

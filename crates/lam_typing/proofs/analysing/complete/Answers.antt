@@ -1,7 +1,6 @@
 use Rattle.std.proofs.Common.{map, refl, ap, sym, subst, ◌∙◌}
-use Rattle.lam_scope.specs.Views.{statements_of, origins_of}
 use Rattle.lam_typing.specs.Answers.{answers, AllStandIn}
-use Rattle.lam_typing.specs.Entries.{entry_from}
+use Rattle.lam_typing.specs.Notes.{told_in}
 use Rattle.lam_typing.proofs.Finishing.{each_stands}
 use Rattle.lam_typing.proofs.Growing.{all_stand_keep}
 use Rattle.lam_typing.proofs.analysing.complete.Goals as goal
@@ -16,12 +15,13 @@ invariant_of-result c =
     }
 
 pub returns-clause-completes : goal.returns-clause-completes
-returns-clause-completes c = record {
+returns-clause-completes c = λ ss origins told. record {
   keeps = c.number_entries.ensures.keeps;
   found = c.shrink_to_fit.ensures.items;
   entries =
       c.in-Ok.ensures.entries
-      ∙ ap (λ os. map (entry_from (statements_of c.args.resolved.now) (answers c.args.walk.table os)) (origins_of c.args.resolved.now)) (c.deref.ensures.value ∙ c.shrink_to_fit.ensures.items);
+      ∙ ap (λ os. map (told_in (answers c.args.walk.table os)) c.args.sources.now) (c.deref.ensures.value ∙ c.shrink_to_fit.ensures.items)
+      ∙ told (answers c.args.walk.table c.args.walk.found.items);
   blames = refl;
   dialect = refl;
 }

@@ -1,10 +1,8 @@
 use Rattle.std.proofs.Common.{drop}
-use Rattle.lam_scope.specs.Views.{statements_of}
 use Rattle.lam_typing.specs.Answers.{answers}
-use Rattle.lam_typing.specs.Entries.{entry_from}
+use Rattle.lam_typing.specs.Notes.{told_in}
 use Rattle.lam_typing.proofs.Numbering.{AreNumbered}
 use Rattle.lam_typing.proofs.entries.number_entries.Given as goal
 
 abbrev pub invariant-loop-i : goal.invariant-loop-i
-invariant-loop-i l =
-    AreNumbered l.fn.table (l.table) (entry_from (statements_of l.resolved) (answers l.fn.table l.found)) l.entries.items (drop l.i l.origins) l.origins
+invariant-loop-i l = AreNumbered l.fn.table l.table (told_in (answers l.fn.table l.found)) l.entries.items (drop l.i l.sources) l.sources
