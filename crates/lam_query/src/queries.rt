@@ -19,8 +19,8 @@ pub fn faults(alloc: Global, text: &str, dialect: Dialect) -> Result<Vec<Fault>,
     Analysis::new(alloc, text, dialect)?.faults(alloc, text)
 }
 
-/// The least type of the innermost term round an offset (counted in bytes); none where there is no such term, or it has no
-/// type, or some type of the text is too large.
+/// The least type of the innermost term round an offset (counted in bytes); none where there is no such term, or it has
+/// no type, or some type of the text is too large.
 pub fn hover(
     alloc: Global,
     text: &str,

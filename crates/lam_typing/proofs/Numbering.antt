@@ -1,5 +1,5 @@
 -- The entries of binders, one after the other, as numbers of a table that grows.
-use Rattle.std.proofs.Common.{◌≡◌, ℕ, ◌+◌, ◌<◌, List, [], ◌∷◌, ◌++◌, length, map, drop, get_or, drop-cons, add-one, Option, None, zero, suc, ap, sym, subst, ◌∙◌, append_assoc, refl, ◌≤◌, arith}
+use Rattle.std.proofs.Common.{◌≡◌, ℕ, ◌+◌, ◌<◌, List, [], ◌∷◌, ◌++◌, length, map, drop, get_or, drop-cons, add-one, Option, None, zero, suc, ap, sym, subst, ◌∙◌, append_assoc, refl, ◌≤◌}
 use Rattle.std.proofs.Math.ListN.{drop_of_length-le}
 use Rattle.lam_rules.specs.Types.{Typ}
 use Rattle.lam_rules.specs.Numbers.{Keeps}
@@ -84,9 +84,3 @@ pub sourced_all : (ss : List Statement) (done : List (Option Entry)) (i : ℕ) (
     → (found : List (Option Typ)) → map (told_in found) done ≡ map (entry_from ss found) all
 sourced_all ss done i all past told found =
     sym (append-nil (map (told_in found) done)) ∙ ap (λ os. map (told_in found) done ++ map (entry_from ss found) os) (sym (drop_of_length-le all past)) ∙ told found
-
--- what stands at a number does not hang on what would stand behind the last
-pub same_at : (sources : List (Option Entry)) (i : ℕ) (a b : Option Entry) → i < length sources → get_or sources i a ≡ get_or sources i b
-same_at [] i a b inside = absurd (omega arith)
-same_at (s ∷ sources) zero a b inside = refl
-same_at (s ∷ sources) (suc i) a b inside = same_at sources i a b (omega arith)

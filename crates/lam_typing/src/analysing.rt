@@ -1,12 +1,13 @@
-//! The analysis of a document: a walk over its places finds their types, and the entries of its binders are told from these.
+//! The analysis of a document: a walk over its places finds their types, and the entries of its binders are told from
+//! these.
 
 ghost use Rattle.std.specs.Prelude.{◌≡◌, ◌+◌, List, [], take, IfOk, IfErr};
 ghost use Rattle.lam_scope.specs.Places.{Statement, places_of};
 ghost use Rattle.lam_scope.specs.Views.{statements_of, origins_of};
 ghost use Rattle.lam_scope.specs.WellFormed.{AreWellFormedStatements};
+ghost use Rattle.lam_scope.specs.declared.numbers.Origin.{Origin};
 ghost use Rattle.lam_typing.specs.Walk.{IsSoundWalk};
 ghost use Rattle.lam_typing.specs.Typings.{IsAnalysis, IsTypingOf, AreEntries, dialect_of, IsFaultOf};
-ghost use Rattle.lam_scope.specs.declared.numbers.Origin.{Origin};
 ghost use Rattle.lam_typing.specs.Ends.{up_to, Begins, AreSourcesOf, AreWellFormedSources, Completes, IsEndOf};
 ghost use Rattle.lam_typing.specs.declared.fault.TypingFault.TheVariants.{Memory};
 
@@ -93,8 +94,8 @@ fn end(
     }
 }
 
-/// What a walk found, with the entries of the document's binders, which are from there. What the walk held beside that is
-/// given back.
+/// What a walk found, with the entries of the document's binders, which these sources tell. What the walk held beside
+/// that is given back.
 fn complete(alloc: Global, walk: Walk, sources: &[Option<Entry<'_>>]) -> Result<Typing, TypingFault>
     requires sound { IsSoundWalk walk }
     requires wf { AreWellFormedSources sources.now }

@@ -34,7 +34,7 @@ pub(crate) fn sources_of(
     Ok(sources)
 }
 
-/// The entries that are from there, where these types were found of the places.
+/// The entries that these sources tell, where these types were found of the places.
 pub(crate) fn number_entries(
     alloc: Global,
     table: &mut TyTable,

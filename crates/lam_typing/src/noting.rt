@@ -1,4 +1,5 @@
-//! A pass over the places of a document: which entries they speak of. Derivations alone need it.
+//! A pass over the places of a document: which entries they speak of. An analysis takes from it what is written at
+//! lambdas, a derivation also which entry each variable counts to.
 
 ghost use Rattle.std.specs.Prelude.{map, IfOk, OnOk};
 ghost use Rattle.lam_rules.specs.Terms.{Term, if_then_else, variable, lambda, apply, let_in, record_term};

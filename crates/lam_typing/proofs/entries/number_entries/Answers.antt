@@ -3,8 +3,8 @@ use Rattle.lam_rules.specs.Typing.{IsWellFormedEntry}
 use Rattle.lam_rules.proofs.Tables.{keeps_same}
 use Rattle.lam_typing.specs.Answers.{answers}
 use Rattle.lam_typing.specs.Notes.{told_in}
-use Rattle.lam_typing.proofs.Growing.{answers_keep, all_stand_keep}
-use Rattle.lam_typing.proofs.Numbering.{numbered_more, same_at}
+use Rattle.lam_typing.proofs.Growing.{answers_keep, all_stand_keep, any_default}
+use Rattle.lam_typing.proofs.Numbering.{numbered_more}
 use Rattle.lam_typing.proofs.entries.number_entries.Goals as goal
 
 pub loop-i-init : goal.loop-i-init
@@ -20,7 +20,7 @@ number_of-requires-clause-found c = all_stand_keep c.args.table.now c.loop-i.tab
 pub number_of-requires-clause-wf : goal.number_of-requires-clause-wf
 number_of-requires-clause-wf c =
     let source = c.index-sources-i.result in
-    let at = c.index-sources-i.is ∙ same_at c.args.sources.now c.loop-i.i source None c.loop-i-test.true in
+    let at = c.index-sources-i.is ∙ any_default c.args.sources.now c.loop-i.i source None c.loop-i-test.true in
     subst (λ e. IsWellFormedEntry (told_in [] e)) (sym at) (c.requires.wf c.loop-i.i)
 
 pub loop-i-preserved : goal.loop-i-preserved
