@@ -1,8 +1,5 @@
 //! Documents of many commands, to bind, to resolve, to analyse and to find places in.
 
-ghost use Rattle.lam_scope.specs.Views.{statements_of};
-ghost use Rattle.lam_scope.specs.WellFormed.{AreWellFormedStatements};
-
 use crate::fault::BenchFault;
 use lam_rules::Dialect;
 use lam_scope::{Place, Resolved, Scopes, bind, resolve};
@@ -118,9 +115,7 @@ pub fn staging(
     Ok(taken.as_micros())
 }
 
-fn analysing(alloc: Global, rt: &impl Clock, resolved: &Resolved) -> Result<Duration, BenchFault>
-    requires { AreWellFormedStatements (statements_of resolved.now) }
-{
+fn analysing(alloc: Global, rt: &impl Clock, resolved: &Resolved) -> Result<Duration, BenchFault> {
     let start = Instant::now(rt)?;
     let analysed = analyse(alloc, resolved, Dialect::One);
     let taken = start.elapsed(rt)?;

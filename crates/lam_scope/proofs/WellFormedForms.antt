@@ -147,5 +147,3 @@ statements-wf bs w xs (c ∷ cs) = (statement-wf bs w xs c, statements-wf (abbre
 
 pub document-wf : (cs : List CommandTree) → AreWellFormedStatements (statements [] [] cs)
 document-wf cs = statements-wf [] tt [] cs
-
-pub ruleset well_formed = (document-wf)

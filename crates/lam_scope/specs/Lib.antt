@@ -12,6 +12,7 @@ pub mod UseChains
 pub mod Counted
 pub mod EachWritten
 pub mod WellFormed
+pub mod ProofIrrelevance
 pub mod Found
 pub mod Abbreviations
 pub mod Nesting

@@ -4,7 +4,6 @@ ghost use Rattle.lam_syntax.specs.Views.{command_of};
 ghost use Rattle.lam_scope.specs.Nameless.{statements, faults, first_too_large};
 ghost use Rattle.lam_scope.specs.Places.{places_of};
 ghost use Rattle.lam_scope.specs.Tables.{table};
-ghost use Rattle.lam_scope.specs.WellFormed.{AreWellFormedStatements};
 ghost use Rattle.lam_scope.specs.TableViews.{text_use};
 ghost use Rattle.lam_scope.specs.Views.{statement_of, statements_of, origins_of, faults_of, AreScopesOf, IsLimit};
 
@@ -19,14 +18,12 @@ use std::alloc::{AllocError, Global};
 
 /// The nameless form of a document's commands, of which the scopes are. Written types stand for their expansions,
 /// which are copied at each use; the first that is too large is refused before any of it is built.
-#[tactic(auto, using(crate::proofs::WellFormedForms::well_formed))]
 pub fn resolve(alloc: Global, commands: &[Command], scopes: &Scopes) -> Result<Resolved, ScopeFault>
     requires { AreScopesOf scopes.now (map command_of commands.now) }
     ensures statements { IfOk result (λ r. statements_of r ≡ statements [] [] (map command_of commands.now)) }
     ensures origins { IfOk result (λ r. origins_of r ≡ map (λ b. b.origin) (table (map command_of commands.now)).binders) }
     ensures faults { IfOk result (λ r. faults_of r ≡ faults [] (map command_of commands.now)) }
     ensures places { IfOk result (λ r. length (places_of [] (statements_of r)) ≡ length (table (map command_of commands.now)).places) }
-    ensures well_formed { IfOk result (λ r. AreWellFormedStatements (statements_of r)) }
     ensures limit { IsLimit (first_too_large [] (map command_of commands.now)) result }
 {
     let Resolver {

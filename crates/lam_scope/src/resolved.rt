@@ -4,6 +4,8 @@ ghost use Rattle.lam_rules.specs.TermViews.{term_of};
 ghost use Rattle.lam_scope.specs.Places.{places_of, place_numbered};
 ghost use Rattle.lam_scope.specs.Found.{terms_stated, seek, sought_of};
 ghost use Rattle.lam_scope.specs.StatementViews.{statement_of};
+ghost use Rattle.lam_scope.specs.WellFormed.{AreWellFormedStatements};
+ghost use Rattle.lam_scope.specs.ProofIrrelevance.{AreWellFormedStatements-prop};
 
 use crate::fault::TypeFault;
 use crate::numbers::{Origin, Place};
@@ -12,7 +14,7 @@ use crate::statement::Statement;
 use lam_rules::Core;
 
 /// The commands of a document without their names, where each binder takes its type from, the faults of written types,
-/// and how many places there are.
+/// and how many places there are. In all its types the labels are distinct, at every depth.
 #[derive(Drop)]
 pub struct Resolved {
     pub(crate) statements: Vec<Statement>,
@@ -21,6 +23,7 @@ pub struct Resolved {
     /// How many places the statements have.
     pub(crate) places: usize,
     ghost places_counted: { places ≡ length (places_of [] (map statement_of statements.items)) },
+    pub ghost well_formed: { AreWellFormedStatements (map statement_of statements.items) } by { AreWellFormedStatements-prop (map statement_of statements.items) },
 }
 
 impl Resolved {

@@ -3,7 +3,6 @@ use Rattle.std.proofs.Common.{◌≡◌, ℕ, ◌+◌, List, [], ◌∷◌, leng
 use Rattle.lam_rules.specs.Types.{Typ}
 use Rattle.lam_rules.specs.declared.rules.Dialect.{Dialect}
 use Rattle.lam_scope.specs.Places.{Place, Statement, places_of}
-use Rattle.lam_scope.specs.WellFormed.{AreWellFormedStatements}
 use Rattle.lam_scope.specs.declared.numbers.Place.{Place as PlaceNumber}
 use Rattle.lam_scope.specs.declared.numbers.Origin.{Origin}
 use Rattle.lam_scope.specs.declared.numbers.Origin.TheVariants.{Lambda, Term as TermAt, Declaration, TypeName}
@@ -65,12 +64,10 @@ taken_up_to : (last : Option PlaceNumber) (ps : List Place) (n : ℕ) → n ≡ 
 taken_up_to None ps n e = all_taken ps n e
 taken_up_to (Some last) ps n e = taken_again ps (last.0 + 1) n e
 
-pub typing_of : (last : Option PlaceNumber) (ss : List Statement) (t : Typing) (d : Dialect) → AreWellFormedStatements ss
-    → IsAnalysis (up_to last (places_of [] ss)) t d → dialect_of t ≡ d → IsTypingOf ss t
-typing_of last ss t d wf analysis is =
+pub typing_of : (last : Option PlaceNumber) (ss : List Statement) (t : Typing) (d : Dialect) → IsAnalysis (up_to last (places_of [] ss)) t d → dialect_of t ≡ d → IsTypingOf ss t
+typing_of last ss t d analysis is =
     let taken = taken_up_to last (places_of [] ss) (length (found_of t)) (sym (least_length (up_to last (places_of [] ss)) (found_of t) d analysis.least)) in
     record {
-      wf = wf;
       stand = analysis.stand;
       least = subst (λ ps. AreLeast ps (found_of t) (dialect_of t)) (sym taken) (subst (λ e. AreLeast (up_to last (places_of [] ss)) (found_of t) e) (sym is) analysis.least);
     }
@@ -106,11 +103,11 @@ pub record Answer (ss : List Statement) (origins : List Origin) (last : Option P
   pub dialect : IfOk r (λ t. dialect_of t ≡ d)
   pub fault : IfErr r (λ fault. IsFaultOf fault (up_to last (places_of [] ss)) d)
 
-answer_ok : (w : Walk) (last : Option PlaceNumber) (ss : List Statement) (origins : List Origin) (t : Typing) (d : Dialect) → AreWellFormedStatements ss → IsSoundWalk w → w.verdicts.dialect ≡ d
+answer_ok : (w : Walk) (last : Option PlaceNumber) (ss : List Statement) (origins : List Origin) (t : Typing) (d : Dialect) → IsSoundWalk w → w.verdicts.dialect ≡ d
     → IsAnalysis (up_to last (places_of [] ss)) t d → Completes w ss origins t → Answer ss origins last (Ok t) d
-answer_ok w last ss origins t d wf sound same analysis completes =
+answer_ok w last ss origins t d sound same analysis completes =
     let is : dialect_of t ≡ d = completes.dialect ∙ same in
-    let typing = typing_of last ss t d wf analysis is in
+    let typing = typing_of last ss t d analysis is in
     record { analysis = analysis; of = typing; entries = entries_of_typing w ss origins t sound typing completes; dialect = is; fault = tt }
 
 -- what is answered of these sources, whatever document they are of
@@ -126,23 +123,23 @@ pub end_enough : (stop : Stop) (r : Result Typing TypingFault) (w : Walk) (sourc
 end_enough stop (Ok t) w sources is completes memory ss origins are = subst (λ s. IsEndOf s w ss origins (Ok t)) (sym is) (completes ss origins are)
 end_enough stop (Err fault) w sources is completes memory ss origins are = rw (is, memory) tt
 
-pub went_through : (w0 w : Walk) (last : Option PlaceNumber) (ss : List Statement) (origins : List Origin) (r : Result Typing TypingFault) (d : Dialect) → AreWellFormedStatements ss → Begins w0 last → w0.verdicts.dialect ≡ d → Grows w0 w
+pub went_through : (w0 w : Walk) (last : Option PlaceNumber) (ss : List Statement) (origins : List Origin) (r : Result Typing TypingFault) (d : Dialect) → Begins w0 last → w0.verdicts.dialect ≡ d → Grows w0 w
     → Went (entries_of w0) (λ s. places_of s ss) (progress_of w0) (progress_of w) w0.verdicts.dialect
     → IfOk r (λ t. Completes w ss origins t) → IfErr r (λ fault. fault ≡ TypingFault.Memory) → Answer ss origins last r d
-went_through w0 w last ss origins (Ok t) d wf begins is grows went completes memory =
-    rw (sym is) (answer_ok w last ss origins t w0.verdicts.dialect wf grows.sound grows.dialect (analysis_of_all w0 w last ss origins t w0.verdicts.dialect begins grows went completes) completes)
-went_through w0 w last ss origins (Err fault) d wf begins is grows went completes memory =
+went_through w0 w last ss origins (Ok t) d begins is grows went completes memory =
+    rw (sym is) (answer_ok w last ss origins t w0.verdicts.dialect grows.sound grows.dialect (analysis_of_all w0 w last ss origins t w0.verdicts.dialect begins grows went completes) completes)
+went_through w0 w last ss origins (Err fault) d begins is grows went completes memory =
     record { analysis = tt; of = tt; entries = tt; dialect = tt; fault = subst (λ f. IsFaultOf f (up_to last (places_of [] ss)) d) (sym memory) tt }
 
 answer_memory : (last : Option PlaceNumber) (ss : List Statement) (origins : List Origin) (d : Dialect) → Answer ss origins last (Err TypingFault.Memory) d
 answer_memory last ss origins d = record { analysis = tt; of = tt; entries = tt; dialect = tt; fault = tt }
 
-pub ended : (stop : Stop) (w0 w : Walk) (last : Option PlaceNumber) (ss : List Statement) (origins : List Origin) (r : Result Typing TypingFault) (d : Dialect) → AreWellFormedStatements ss → Begins w0 last → w0.verdicts.dialect ≡ d → Grows w0 w
+pub ended : (stop : Stop) (w0 w : Walk) (last : Option PlaceNumber) (ss : List Statement) (origins : List Origin) (r : Result Typing TypingFault) (d : Dialect) → Begins w0 last → w0.verdicts.dialect ≡ d → Grows w0 w
     → HasStoppedAmong stop (entries_of w0) (λ s. places_of s ss) w0 w w0.verdicts.dialect → IsEndOf stop w ss origins r → Answer ss origins last r d
-ended Stop.Enough w0 w last ss origins (Ok t) d wf begins is grows stopped end =
-    rw (sym is) (answer_ok w last ss origins t w0.verdicts.dialect wf grows.sound grows.dialect (analysis_of_some w0 w last ss origins t w0.verdicts.dialect begins grows stopped end) end)
-ended Stop.TooLarge w0 w last ss origins (Err (TypingFault.TooLarge place)) d wf begins is grows stopped end =
+ended Stop.Enough w0 w last ss origins (Ok t) d begins is grows stopped end =
+    rw (sym is) (answer_ok w last ss origins t w0.verdicts.dialect grows.sound grows.dialect (analysis_of_some w0 w last ss origins t w0.verdicts.dialect begins grows stopped end) end)
+ended Stop.TooLarge w0 w last ss origins (Err (TypingFault.TooLarge place)) d begins is grows stopped end =
     let first = subst (λ e. IsFirstTooLarge (up_to last (places_of [] ss)) (length w.found.items) e) is (stopped_at_large w0 w last ss w0.verdicts.dialect begins grows stopped) in
     record { analysis = tt; of = tt; entries = tt; dialect = tt; fault = subst (λ n. IsFirstTooLarge (up_to last (places_of [] ss)) n d) (sym end) first }
-ended stop w0 w last ss origins (Err TypingFault.Memory) d wf begins is grows stopped end = answer_memory last ss origins d
-ended _ w0 w last ss origins r d wf begins is grows stopped end = absurd end
+ended stop w0 w last ss origins (Err TypingFault.Memory) d begins is grows stopped end = answer_memory last ss origins d
+ended _ w0 w last ss origins r d begins is grows stopped end = absurd end

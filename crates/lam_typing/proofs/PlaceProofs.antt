@@ -6,7 +6,7 @@ use Rattle.lam_rules.specs.Typing.{Context, TypingTree, IsTyping}
 use Rattle.lam_rules.specs.declared.rules.Dialect.{Dialect}
 use Rattle.lam_scope.specs.Places.{written, of_term, Scope, Place, Statement, places_of, place_numbered}
 use Rattle.lam_scope.specs.Sights.{inside, place_of_term, sight_numbered}
-use Rattle.lam_scope.specs.WellFormed.{IsWellFormedScope}
+use Rattle.lam_scope.specs.WellFormed.{IsWellFormedScope, AreWellFormedStatements}
 use Rattle.lam_typing.specs.Entries.{AreLeastEntries}
 use Rattle.lam_typing.specs.Progress.{IsLowest}
 use Rattle.lam_typing.specs.Seeing.{Sees}
@@ -57,10 +57,10 @@ found_proof None None ss t n e is found least proves = (tt, found)
 found_proof (Some p) None ss t n e is found least proves = absurd proves
 found_proof None (Some u) ss t n e is found least proves = absurd proves
 
-module _ (ss : List Statement) (t : Grounds) (typing : IsTypingOf ss t.typing.now) (noted : noted_in t ≡ notes_of 0 (found_in t) [] ss) where
+module _ (ss : List Statement) (wf : AreWellFormedStatements ss) (t : Grounds) (typing : IsTypingOf ss t.typing.now) (noted : noted_in t ≡ notes_of 0 (found_in t) [] ss) where
   seen_at : (n : ℕ) → n < length t.typing.now.found.items → Seen ss (found_in t) (noted_in t) (dialect_in t) n (place_numbered ss n) (sight_numbered ss n)
   seen_at n lt =
-      place_seen ss (found_in t) (noted_in t) (dialect_in t) n (least_among (places_of [] ss) (found_in t) (dialect_in t) typing.least) typing.wf noted (place_within ss t.typing.now n typing lt)
+      place_seen ss (found_in t) (noted_in t) (dialect_in t) n (least_among (places_of [] ss) (found_in t) (dialect_in t) typing.least) wf noted (place_within ss t.typing.now n typing lt)
 
   -- the places of a term end with its own
   pub inside_within : (n : ℕ) (e : Term) → n < length t.typing.now.found.items → e ≡ (place_numbered ss n).here → inside e < n + 1

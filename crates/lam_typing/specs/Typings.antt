@@ -5,7 +5,6 @@ use Rattle.lam_rules.specs.Typing.{Context, TypingTree, type_in, IsTyping}
 use Rattle.lam_rules.specs.declared.rules.Dialect.{Dialect}
 use Rattle.lam_scope.specs.Places.{Place, Statement, places_of, place_numbered}
 use Rattle.lam_scope.specs.Sights.{sight_numbered}
-use Rattle.lam_scope.specs.WellFormed.{AreWellFormedStatements}
 use Rattle.lam_scope.specs.declared.numbers.Origin.{Origin}
 use Rattle.lam_typing.specs.Blaming.{Blamed, AreBlamed}
 use Rattle.lam_typing.specs.Analysis.{AreLeast, AreSmall, IsFirstTooLarge}
@@ -50,7 +49,6 @@ IsFaultOf TypingFault.Memory ps d = Unit {0}
 
 -- A typing is one of this document: its types were found of the first places of it, as many as there are.
 pub record IsTypingOf (ss : List Statement) (t : Typing) : Type 0 where
-  pub wf : AreWellFormedStatements ss
   pub stand : AllStandIn t.table t.found.items
   pub least : AreLeast (take (length (found_of t)) (places_of [] ss)) (found_of t) (dialect_of t)
 

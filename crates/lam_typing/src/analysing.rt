@@ -4,7 +4,6 @@
 ghost use Rattle.std.specs.Prelude.{◌≡◌, ◌+◌, List, [], take, IfOk, IfErr};
 ghost use Rattle.lam_scope.specs.Places.{Statement, places_of};
 ghost use Rattle.lam_scope.specs.Views.{statements_of, origins_of};
-ghost use Rattle.lam_scope.specs.WellFormed.{AreWellFormedStatements};
 ghost use Rattle.lam_scope.specs.declared.numbers.Origin.{Origin};
 ghost use Rattle.lam_typing.specs.Walk.{IsSoundWalk};
 ghost use Rattle.lam_typing.specs.Typings.{IsAnalysis, IsTypingOf, AreEntries, dialect_of, IsFaultOf};
@@ -23,7 +22,6 @@ use std::alloc::{AllocError, Global};
 
 /// Analyses all places of a document.
 pub fn analyse(alloc: Global, resolved: &Resolved, dialect: Dialect) -> Result<Typing, TypingFault>
-    requires { AreWellFormedStatements (statements_of resolved.now) }
     ensures analysis { IfOk result (λ typing. IsAnalysis (places_of [] (statements_of resolved.now)) typing dialect) }
     ensures of { IfOk result (λ typing. IsTypingOf (statements_of resolved.now) typing) }
     ensures entries { IfOk result (λ typing. AreEntries (statements_of resolved.now) (origins_of resolved.now) typing) }
@@ -40,7 +38,6 @@ pub fn analyse_to(
     place: Place,
     dialect: Dialect,
 ) -> Result<Typing, TypingFault>
-    requires { AreWellFormedStatements (statements_of resolved.now) }
     ensures analysis { IfOk result (λ typing. IsAnalysis (take (place.0 + 1) (places_of [] (statements_of resolved.now))) typing dialect) }
     ensures of { IfOk result (λ typing. IsTypingOf (statements_of resolved.now) typing) }
     ensures entries { IfOk result (λ typing. AreEntries (statements_of resolved.now) (origins_of resolved.now) typing) }
@@ -56,7 +53,6 @@ fn analyse_up_to(
     last: Option<Place>,
     dialect: Dialect,
 ) -> Result<Typing, TypingFault>
-    requires { AreWellFormedStatements (statements_of resolved.now) }
     ensures analysis { IfOk result (λ typing. IsAnalysis (up_to last (places_of [] (statements_of resolved.now))) typing dialect) }
     ensures of { IfOk result (λ typing. IsTypingOf (statements_of resolved.now) typing) }
     ensures entries { IfOk result (λ typing. AreEntries (statements_of resolved.now) (origins_of resolved.now) typing) }

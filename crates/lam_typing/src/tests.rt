@@ -1,7 +1,6 @@
 //! Rows: documents, the types of their places, and what is to blame.
 ghost use Rattle.std.specs.Prelude.{IfOk};
 ghost use Rattle.lam_scope.specs.Views.{statements_of};
-ghost use Rattle.lam_scope.specs.WellFormed.{AreWellFormedStatements};
 ghost use Rattle.lam_typing.specs.Typings.{IsTypingOf};
 
 use crate::{Typing, TypingFault, analyse, analyse_to};
@@ -27,9 +26,7 @@ fn commands_of(rt: &impl Abort, alloc: Global, text: &str) -> Result<Vec<Command
 }
 
 /// What the names of a text are bound to, and its commands without names.
-fn forms_of(rt: &impl Abort, alloc: Global, text: &str) -> Result<(Scopes, Resolved), Fail>
-    ensures { IfOk result (λ forms. AreWellFormedStatements (statements_of forms.1)) }
-{
+fn forms_of(rt: &impl Abort, alloc: Global, text: &str) -> Result<(Scopes, Resolved), Fail> {
     let commands = commands_of(rt, alloc, text)?;
     let scopes = bind(alloc, &commands)?;
     let resolved = resolve(alloc, &commands, &scopes)

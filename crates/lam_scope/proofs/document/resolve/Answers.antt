@@ -1,8 +1,10 @@
-use Rattle.std.proofs.Common.{sym, ◌∙◌, ap, map, length, []}
+use Rattle.std.proofs.Common.{sym, subst, ◌∙◌, ap, map, length, []}
 use Rattle.lam_syntax.specs.Views.{command_of}
 use Rattle.lam_scope.specs.Places.{places_of}
+use Rattle.lam_scope.specs.WellFormed.{AreWellFormedStatements}
 use Rattle.lam_scope.proofs.PlaceCounts.{as_many_places, rows_counted}
 use Rattle.lam_scope.proofs.Resolving.{origins-rows}
+use Rattle.lam_scope.proofs.WellFormedForms.{document-wf}
 use Rattle.lam_scope.proofs.document.resolve.Goals as goal
 
 pub returns-clause-origins : goal.returns-clause-origins
@@ -22,4 +24,6 @@ invariant_of-result c = record {
       c.place_count.ensures
       ∙ rows_counted c.args.scopes.now.rows (map command_of c.args.commands.now) c.requires.same_table
       ∙ ap (λ ss. length (places_of [] ss)) (sym c.in_ok-abbreviations.ensures.statements);
+  well_formed =
+      subst AreWellFormedStatements (sym c.in_ok-abbreviations.ensures.statements) (document-wf (map command_of c.args.commands.now));
 }

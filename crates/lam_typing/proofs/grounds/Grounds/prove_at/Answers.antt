@@ -14,14 +14,14 @@ core_at-term-requires c = place_within (statements_of c.args.self.now.resolved.n
 
 pub prove_term-requires : goal.prove_term-requires
 prove_term-requires c =
-    inside_within (statements_of c.args.self.now.resolved.now) c.args.self.now c.requires.typing c.requires.noted c.args.place.0 (term_of c.core_at-term.result.now) (omega (arith, c.len.ensures, c.if-place-len.false)) c.core_at-term.ensures
+    inside_within (statements_of c.args.self.now.resolved.now) c.args.self.now.resolved.now.well_formed c.args.self.now c.requires.typing c.requires.noted c.args.place.0 (term_of c.core_at-term.result.now) (omega (arith, c.len.ensures, c.if-place-len.false)) c.core_at-term.ensures
 
 pub returns-in_default-clause-none : goal.returns-in_default-clause-none
 returns-in_default-clause-none c =
-    (proof_at (statements_of c.args.self.now.resolved.now) c.args.self.now c.requires.typing c.requires.noted c.args.place.0 (term_of c.core_at-term.result.now) None (omega (arith, c.len.ensures, c.if-place-len.false)) c.core_at-term.ensures
+    (proof_at (statements_of c.args.self.now.resolved.now) c.args.self.now.resolved.now.well_formed c.args.self.now c.requires.typing c.requires.noted c.args.place.0 (term_of c.core_at-term.result.now) None (omega (arith, c.len.ensures, c.if-place-len.false)) c.core_at-term.ensures
     (none_term c.args.self.now (term_of c.core_at-term.result.now) (c.args.place.0 + 1) c.in_ok-made.field-0 c.in_default.is c.in_ok-made.ensures.proves)).1
 
 pub returns-clause-some : goal.returns-clause-some
 returns-clause-some c =
-    (proof_at (statements_of c.args.self.now.resolved.now) c.args.self.now c.requires.typing c.requires.noted c.args.place.0 (term_of c.core_at-term.result.now) (Some (tree_in c.in-Some.made)) (omega (arith, c.len.ensures, c.if-place-len.false)) c.core_at-term.ensures
+    (proof_at (statements_of c.args.self.now.resolved.now) c.args.self.now.resolved.now.well_formed c.args.self.now c.requires.typing c.requires.noted c.args.place.0 (term_of c.core_at-term.result.now) (Some (tree_in c.in-Some.made)) (omega (arith, c.len.ensures, c.if-place-len.false)) c.core_at-term.ensures
     (some_term c.args.self.now (term_of c.core_at-term.result.now) (c.args.place.0 + 1) c.in_ok-made.field-0 c.in-Some.made c.in-Some.is c.in_ok-made.ensures.proves)).0
