@@ -1,6 +1,6 @@
--- That labels are distinct is proved in one way at most, so a document can hold the proof: two of the same terms are the same.
+-- That labels are distinct has one proof at most, as an invariant must: so documents with the same terms are equal.
 use Rattle.std.specs.Prelude.{List, [], ◌∷◌, Option, Some, None}
-use Rattle.std.specs.Coded.{×_prop, →_prop, Unit-prop}
+use Rattle.std.specs.Coded.{×_prop, Unit-prop}
 use Rattle.lam_rules.specs.Types.{Label, Typ, bool, nat, unit, top, arrow, record_of, Fields, no_fields, field, IsAbsent, IsWellFormed, AreWellFormed}
 use Rattle.lam_rules.specs.Terms.{Term, true_term, false_term, if_then_else, numeral, succ, pred, is_zero, variable, free, lambda, apply, unit_term, ascribe, let_in, record_term, project, fix, TermFields, no_terms, term_field}
 use Rattle.lam_rules.specs.Typing.{IsWellFormedEntry}
