@@ -14,7 +14,7 @@ use Rattle.lam_typing.specs.Seeing.{LeastAmong}
 use Rattle.lam_typing.specs.Walk.{Grows, IsSoundWalk, progress_of, entries_of, HasStoppedAmong}
 use Rattle.lam_typing.specs.Typings.{found_of, dialect_of, IsAnalysis, IsTypingOf, AreEntries, IsFaultOf}
 use Rattle.lam_typing.specs.Ends.{Begins, AreSourcesOf, Completes, IsEndOf, up_to}
-use Rattle.lam_typing.specs.declared.noting.Entry.{Entry}
+use Rattle.lam_typing.specs.declared.noting.Source.{Source}
 use Rattle.lam_typing.specs.declared.fault.TypingFault.{TypingFault}
 use Rattle.lam_typing.specs.declared.typing.Typing.{Typing}
 use Rattle.lam_typing.specs.declared.walking.Walk.{Walk}
@@ -111,13 +111,13 @@ answer_ok w last ss origins t d sound same analysis completes =
     record { analysis = analysis; of = typing; entries = entries_of_typing w ss origins t sound typing completes; dialect = is; fault = tt }
 
 -- what is answered of these sources, whatever document they are of
-pub told_ok : (r : Result Typing TypingFault) (w : Walk) (ss : List Statement) (origins : List Origin) (sources : List (Option Entry)) → AreSourcesOf ss origins sources
+pub told_ok : (r : Result Typing TypingFault) (w : Walk) (ss : List Statement) (origins : List Origin) (sources : List (Option Source)) → AreSourcesOf ss origins sources
     → IfOk r (λ t. (all : List Statement) (every : List Origin) → AreSourcesOf all every sources → Completes w all every t) → IfOk r (λ t. Completes w ss origins t)
 told_ok (Ok t) w ss origins sources are completes = completes ss origins are
 told_ok (Err fault) w ss origins sources are completes = tt
 
 -- what is answered where all that was asked for was found
-pub end_enough : (stop : Stop) (r : Result Typing TypingFault) (w : Walk) (sources : List (Option Entry)) → stop ≡ Stop.Enough
+pub end_enough : (stop : Stop) (r : Result Typing TypingFault) (w : Walk) (sources : List (Option Source)) → stop ≡ Stop.Enough
     → IfOk r (λ t. (all : List Statement) (every : List Origin) → AreSourcesOf all every sources → Completes w all every t) → IfErr r (λ fault. fault ≡ TypingFault.Memory)
     → (ss : List Statement) (origins : List Origin) → AreSourcesOf ss origins sources → IsEndOf stop w ss origins r
 end_enough stop (Ok t) w sources is completes memory ss origins are = subst (λ s. IsEndOf s w ss origins (Ok t)) (sym is) (completes ss origins are)

@@ -11,9 +11,9 @@ use Rattle.lam_scope.specs.Places.{Statement}
 use Rattle.lam_scope.specs.WellFormed.{AreWellFormedStatements}
 use Rattle.std.proofs.lemmas.List.{append-nil, map-append}
 use Rattle.lam_typing.specs.Entries.{entry_from}
-use Rattle.lam_typing.specs.Notes.{told_in}
+use Rattle.lam_typing.specs.Notes.{entry_told}
 use Rattle.lam_typing.specs.Ends.{AreSourcesOf, AreWellFormedSources}
-use Rattle.lam_typing.specs.declared.noting.Entry.{Entry}
+use Rattle.lam_typing.specs.declared.noting.Source.{Source}
 use Rattle.lam_typing.proofs.WellFormedPlaces.{entry_wf}
 use Rattle.lam_typing.specs.Answers.{answer, answers, StandsIn, AllStandIn}
 use Rattle.lam_typing.proofs.Growing.{answers_keep, answers-push, all_stand_keep, all_stand_push}
@@ -50,12 +50,12 @@ stands_or_none ts (o ∷ os) zero stand = stand.0
 stands_or_none ts (o ∷ os) (suc k) stand = stands_or_none ts os k stand.1
 
 -- the source of one more binder is put behind the others
-pub sourced_more : (ss : List Statement) (done more : List (Option Entry)) (source : Option Entry) (i : ℕ) (o : Origin) (all : List Origin)
-    → i < length all → ((found : List (Option Typ)) → told_in found source ≡ entry_from ss found (get_or all i o)) → more ≡ done ++ source ∷ []
-    → ((found : List (Option Typ)) → map (told_in found) done ++ map (entry_from ss found) (drop i all) ≡ map (entry_from ss found) all)
-    → (found : List (Option Typ)) → map (told_in found) more ++ map (entry_from ss found) (drop (i + 1) all) ≡ map (entry_from ss found) all
+pub sourced_more : (ss : List Statement) (done more : List (Option Source)) (source : Option Source) (i : ℕ) (o : Origin) (all : List Origin)
+    → i < length all → ((found : List (Option Typ)) → entry_told found source ≡ entry_from ss found (get_or all i o)) → more ≡ done ++ source ∷ []
+    → ((found : List (Option Typ)) → map (entry_told found) done ++ map (entry_from ss found) (drop i all) ≡ map (entry_from ss found) all)
+    → (found : List (Option Typ)) → map (entry_told found) more ++ map (entry_from ss found) (drop (i + 1) all) ≡ map (entry_from ss found) all
 sourced_more ss done more source i o all inside is put told found =
-    let f = told_in found in
+    let f = entry_told found in
     let g = entry_from ss found in
     let one : map f more ≡ map f done ++ g (get_or all i o) ∷ [] = ap (map f) put ∙ map-append f done (source ∷ []) ∙ ap (λ e. map f done ++ e ∷ []) (is found) in
     let rest : map g (drop i all) ≡ g (get_or all i o) ∷ map g (drop (i + 1) all) =
@@ -65,7 +65,7 @@ sourced_more ss done more source i o all inside is put told found =
     ∙ ap (λ os. map f done ++ os) (sym rest)
     ∙ told found
 
-told_at : (sources : List (Option Entry)) (i : ℕ) → told_in [] (get_or sources i None) ≡ get_or (map (told_in []) sources) i None
+told_at : (sources : List (Option Source)) (i : ℕ) → entry_told [] (get_or sources i None) ≡ get_or (map (entry_told []) sources) i None
 told_at [] i = refl
 told_at (s ∷ sources) zero = refl
 told_at (s ∷ sources) (suc i) = told_at sources i
@@ -75,12 +75,12 @@ entries_wf ss [] i wf = tt
 entries_wf ss (o ∷ origins) zero wf = entry_wf ss o wf
 entries_wf ss (o ∷ origins) (suc i) wf = entries_wf ss origins i wf
 
-pub sources_wf : (ss : List Statement) (origins : List Origin) (sources : List (Option Entry)) → AreWellFormedStatements ss → AreSourcesOf ss origins sources → AreWellFormedSources sources
+pub sources_wf : (ss : List Statement) (origins : List Origin) (sources : List (Option Source)) → AreWellFormedStatements ss → AreSourcesOf ss origins sources → AreWellFormedSources sources
 sources_wf ss origins sources wf told = λ i. subst IsWellFormedEntry (sym (told_at sources i ∙ ap (λ os. get_or os i None) (told []))) (entries_wf ss origins i wf)
 
 -- the source of each binder is there
-pub sourced_all : (ss : List Statement) (done : List (Option Entry)) (i : ℕ) (all : List Origin) → length all ≤ i
-    → ((found : List (Option Typ)) → map (told_in found) done ++ map (entry_from ss found) (drop i all) ≡ map (entry_from ss found) all)
-    → (found : List (Option Typ)) → map (told_in found) done ≡ map (entry_from ss found) all
+pub sourced_all : (ss : List Statement) (done : List (Option Source)) (i : ℕ) (all : List Origin) → length all ≤ i
+    → ((found : List (Option Typ)) → map (entry_told found) done ++ map (entry_from ss found) (drop i all) ≡ map (entry_from ss found) all)
+    → (found : List (Option Typ)) → map (entry_told found) done ≡ map (entry_from ss found) all
 sourced_all ss done i all past told found =
-    sym (append-nil (map (told_in found) done)) ∙ ap (λ os. map (told_in found) done ++ map (entry_from ss found) os) (sym (drop_of_length-le all past)) ∙ told found
+    sym (append-nil (map (entry_told found) done)) ∙ ap (λ os. map (entry_told found) done ++ map (entry_from ss found) os) (sym (drop_of_length-le all past)) ∙ told found

@@ -8,9 +8,9 @@ use Rattle.lam_scope.specs.declared.numbers.Place.{Place as PlaceNumber}
 use Rattle.lam_scope.specs.declared.numbers.Origin.{Origin}
 use Rattle.lam_typing.specs.Entries.{entry_from}
 use Rattle.lam_typing.specs.Answers.{answers}
-use Rattle.lam_typing.specs.Notes.{told_in}
+use Rattle.lam_typing.specs.Notes.{entry_told}
 use Rattle.lam_typing.specs.Typings.{entries_in}
-use Rattle.lam_typing.specs.declared.noting.Entry.{Entry}
+use Rattle.lam_typing.specs.declared.noting.Source.{Source}
 use Rattle.lam_typing.specs.declared.fault.TypingFault.{TypingFault}
 use Rattle.lam_typing.specs.declared.typing.Typing.{Typing}
 use Rattle.lam_typing.specs.declared.walking.Walk.{Walk}
@@ -29,12 +29,12 @@ pub record Begins (w : Walk) (asked : Option PlaceNumber) : Type 0 where
   pub last : w.last ≡ asked
 
 -- these tell, whatever is found of the places, the entries of the binders that take their types from there
-abbrev pub AreSourcesOf : List Statement → List Origin → List (Option Entry) → Type 0
-AreSourcesOf ss origins sources = (found : List (Option Typ)) → map (told_in found) sources ≡ map (entry_from ss found) origins
+abbrev pub AreSourcesOf : List Statement → List Origin → List (Option Source) → Type 0
+AreSourcesOf ss origins sources = (found : List (Option Typ)) → map (entry_told found) sources ≡ map (entry_from ss found) origins
 
 -- what is written of a binder has distinct labels
-abbrev pub AreWellFormedSources : List (Option Entry) → Type 0
-AreWellFormedSources sources = (i : ℕ) → IsWellFormedEntry (told_in [] (get_or sources i None))
+abbrev pub AreWellFormedSources : List (Option Source) → Type 0
+AreWellFormedSources sources = (i : ℕ) → IsWellFormedEntry (entry_told [] (get_or sources i None))
 
 -- what a walk found, with the entries of the binders of the document that it went over
 pub record Completes (w : Walk) (ss : List Statement) (origins : List Origin) (t : Typing) : Type 0 where

@@ -10,8 +10,8 @@ use Rattle.lam_typing.specs.Entries.{written_in}
 use Rattle.lam_typing.specs.Steps.{entry_at}
 use Rattle.lam_typing.specs.declared.noting.Note.{Note}
 use Rattle.lam_typing.specs.declared.noting.Note.TheVariants.{Lambda, Variable, Nothing}
-use Rattle.lam_typing.specs.declared.noting.Entry.{Entry}
-use Rattle.lam_typing.specs.declared.noting.Entry.TheVariants.{Written, Term as TermAt}
+use Rattle.lam_typing.specs.declared.noting.Source.{Source}
+use Rattle.lam_typing.specs.declared.noting.Source.TheVariants.{Written, Term as TermAt}
 use Rattle.lam_typing.specs.declared.noting.Notes.{Notes}
 
 -- what is noted of a place: of a lambda the type that is written, of a variable the entry of the binder that it counts to
@@ -58,29 +58,29 @@ notes_of k found g (declares w ∷ rest) = notes_of k found (w ∷ g) rest
 notes_of k found g (abbreviates w ∷ rest) = notes_of k found g rest
 notes_of k found g (states e ∷ rest) = notes k found g e ++ notes_of (behind_term k e) found g rest
 
--- the type that an entry gives, where these were found of the places
-abbrev pub entry_in : List (Option Typ) → Entry → Option Typ
-entry_in found (Written w) = written_of w.now
-entry_in found (TermAt p) = get_or found p.0 None
+-- the entry that is from there, where these types were found of the places
+abbrev pub entry_of_source : List (Option Typ) → Source → Option Typ
+entry_of_source found (Written w) = written_of w.now
+entry_of_source found (TermAt p) = get_or found p.0 None
 
--- the type that an entry gives, if there is one
-abbrev pub told_in : List (Option Typ) → Option Entry → Option Typ
-told_in found None = None
-told_in found (Some entry) = entry_in found entry
+-- the entry that a source tells; none where there is no source
+abbrev pub entry_told : List (Option Typ) → Option Source → Option Typ
+entry_told found None = None
+entry_told found (Some source) = entry_of_source found source
 
--- a context with entries put onto it one by one, so that the last of them is the innermost
-abbrev pub entries_onto : List (Option Typ) → Context → List Entry → Context
+-- a context with the entries from these sources put onto it one by one, so that the last of them is the innermost
+abbrev pub entries_onto : List (Option Typ) → Context → List Source → Context
 entries_onto found g [] = g
-entries_onto found g (entry ∷ entries) = entries_onto found (entry_in found entry ∷ g) entries
+entries_onto found g (source ∷ sources) = entries_onto found (entry_of_source found source ∷ g) sources
 
--- the context of these entries alone, which begin with the outermost
-abbrev pub context_in : List (Option Typ) → List Entry → Context
-context_in found entries = entries_onto found [] entries
+-- the context of the entries from these sources alone, which begin with the outermost
+abbrev pub context_in : List (Option Typ) → List Source → Context
+context_in found sources = entries_onto found [] sources
 
 -- what a note says, where these types were found of the places
 abbrev pub noted_as : List (Option Typ) → Note → Noted
 noted_as found (Lambda w) = record { written = written_of w.now; bound = None }
-noted_as found (Variable entry) = record { written = None; bound = entry_in found entry }
+noted_as found (Variable source) = record { written = None; bound = entry_of_source found source }
 noted_as found Nothing = record { written = None; bound = None }
 
 -- what notes say, one by one
@@ -89,27 +89,27 @@ noted_by found [] = []
 noted_by found (n ∷ ns) = noted_as found n ∷ noted_by found ns
 
 -- a note speaks of the entry of the binder that a variable counts to
-abbrev pub IsEntryCounted : Note → ℕ → List Entry → Type 0
-IsEntryCounted n count entries = (found : List (Option Typ)) → noted_as found n ≡ record { written = None; bound = entry_at count (context_in found entries) }
+abbrev pub IsEntryCounted : Note → ℕ → List Source → Type 0
+IsEntryCounted n count sources = (found : List (Option Typ)) → noted_as found n ≡ record { written = None; bound = entry_at count (context_in found sources) }
 
 -- these are the notes that were put behind the others, as many as this, under the same binders as before
 pub record NotesMore (before after : Notes) (more : List (Option Typ) → List Noted) (count : ℕ) : Type 0 where
-  pub entries : after.entries.items ≡ before.entries.items
+  pub sources : after.sources.items ≡ before.sources.items
   pub noted : (found : List (Option Typ)) → noted_by found after.noted.items ≡ noted_by found before.noted.items ++ more found
   pub behind : length after.noted.items ≡ length before.noted.items + count
 
 -- the notes of a term were put there, the last of them at this place
 pub record NotesTerm (before after : Notes) (e : Term) (place : ℕ) : Type 0 where
-  pub more : NotesMore before after (λ found. notes (length before.noted.items) found (context_in found before.entries.items) e) (inside e + 1)
+  pub more : NotesMore before after (λ found. notes (length before.noted.items) found (context_in found before.sources.items) e) (inside e + 1)
   pub place_is : place ≡ place_of_term (length before.noted.items) e
 
 -- the notes of the terms of a record were put there
 abbrev pub NotesFields : Notes → Notes → TermFields → Type 0
-NotesFields before after es = NotesMore before after (λ found. notes_in (length before.noted.items) found (context_in found before.entries.items) es) (inside_fields es)
+NotesFields before after es = NotesMore before after (λ found. notes_in (length before.noted.items) found (context_in found before.sources.items) es) (inside_fields es)
 
 -- this note was put behind the others
 pub record NotesOne (before after : Notes) (own : Note) (place : ℕ) : Type 0 where
-  pub entries : after.entries.items ≡ before.entries.items
+  pub sources : after.sources.items ≡ before.sources.items
   pub noted : after.noted.items ≡ before.noted.items ++ own ∷ []
   pub place_is : place ≡ length before.noted.items
 
@@ -136,8 +136,8 @@ IsOver _ operand = ⊥
 abbrev pub NotesStatement : Notes → Notes → Statement → Type 0
 NotesStatement before after statement =
     (found : List (Option Typ)) (rest : List Statement)
-    → noted_by found after.noted.items ++ notes_of (length after.noted.items) found (context_in found after.entries.items) rest
-    ≡ noted_by found before.noted.items ++ notes_of (length before.noted.items) found (context_in found before.entries.items) (statement ∷ rest)
+    → noted_by found after.noted.items ++ notes_of (length after.noted.items) found (context_in found after.sources.items) rest
+    ≡ noted_by found before.noted.items ++ notes_of (length before.noted.items) found (context_in found before.sources.items) (statement ∷ rest)
 
 -- these are the notes of a document
 abbrev pub NotesDocument : List Note → List Statement → Type 0

@@ -12,7 +12,7 @@ ghost use Rattle.lam_typing.specs.declared.fault.TypingFault.TheVariants.{Memory
 
 use crate::entries::{number_entries, sources_of};
 use crate::fault::TypingFault;
-use crate::noting::Entry;
+use crate::noting::Source;
 use crate::typing::Typing;
 use crate::walking::{Leaves, Stop, Walk, walk_statements};
 use lam_rules::{Dialect, Shape, TyTable};
@@ -77,7 +77,7 @@ fn end(
     alloc: Global,
     walk: Walk,
     stop: Stop,
-    sources: &[Option<Entry<'_>>],
+    sources: &[Option<Source<'_>>],
 ) -> Result<Typing, TypingFault>
     requires sound { IsSoundWalk walk }
     requires wf { AreWellFormedSources sources.now }
@@ -92,7 +92,11 @@ fn end(
 
 /// What a walk found, with the entries of the document's binders, which these sources tell. What the walk held beside
 /// that is given back.
-fn complete(alloc: Global, walk: Walk, sources: &[Option<Entry<'_>>]) -> Result<Typing, TypingFault>
+fn complete(
+    alloc: Global,
+    walk: Walk,
+    sources: &[Option<Source<'_>>],
+) -> Result<Typing, TypingFault>
     requires sound { IsSoundWalk walk }
     requires wf { AreWellFormedSources sources.now }
     ensures completes { IfOk result (λ typing. (ss : List Statement) (origins : List Origin) → AreSourcesOf ss origins sources.now → Completes walk ss origins typing) }

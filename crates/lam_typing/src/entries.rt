@@ -7,10 +7,10 @@ ghost use Rattle.lam_rules.specs.Numbers.{Keeps};
 ghost use Rattle.lam_scope.specs.Views.{statement_of, statements_of, origins_of};
 ghost use Rattle.lam_typing.specs.Answers.{answer, answers, StandsIn, AllStandIn};
 ghost use Rattle.lam_typing.specs.Entries.{entry_from};
-ghost use Rattle.lam_typing.specs.Notes.{told_in, NotesDocument};
+ghost use Rattle.lam_typing.specs.Notes.{entry_told, NotesDocument};
 ghost use Rattle.lam_typing.specs.Ends.{AreSourcesOf, AreWellFormedSources};
 
-use crate::noting::{Entry, Note, note_statements};
+use crate::noting::{Note, Source, note_statements};
 use crate::reading::{declared_at, found_at, written_at};
 use crate::steps::number_of_written;
 use lam_rules::{TyNo, TyTable};
@@ -21,14 +21,14 @@ use std::alloc::{AllocError, Global};
 pub(crate) fn sources_of(
     alloc: Global,
     resolved: &Resolved,
-) -> Result<Vec<Option<Entry<'_>>>, AllocError>
+) -> Result<Vec<Option<Source<'_>>>, AllocError>
     ensures { IfOk result (λ sources. AreSourcesOf (statements_of resolved.now) (origins_of resolved.now) sources.items) }
 {
     let noted = note_statements(alloc, resolved.place_count(), resolved.statements())?;
     let origins = resolved.origins();
     let mut sources = Vec::with_capacity(alloc, origins.len())?;
     for i in 0..origins.len() {
-        let source = entry_by(&noted, resolved.statements(), origins[i]);
+        let source = source_of(&noted, resolved.statements(), origins[i]);
         sources.push(source)?;
     }
     Ok(sources)
@@ -39,13 +39,13 @@ pub(crate) fn number_entries(
     alloc: Global,
     table: &mut TyTable,
     found: &[Option<TyNo>],
-    sources: &[Option<Entry<'_>>],
+    sources: &[Option<Source<'_>>],
 ) -> Result<Vec<Option<TyNo>>, AllocError>
     requires found { AllStandIn table.old found.now }
     requires wf { AreWellFormedSources sources.now }
     ensures keeps { Keeps table.old table.new }
     ensures stand { IfOk result (λ entries. AllStandIn table.new entries.items) }
-    ensures entries { IfOk result (λ entries. answers table.new entries.items ≡ map (told_in (answers table.old found.now)) sources.now) }
+    ensures entries { IfOk result (λ entries. answers table.new entries.items ≡ map (entry_told (answers table.old found.now)) sources.now) }
 {
     let mut entries = Vec::with_capacity(alloc, sources.len())?;
     for i in 0..sources.len() {
@@ -55,38 +55,38 @@ pub(crate) fn number_entries(
     Ok(entries)
 }
 
-/// The entry of a binder that takes its type from there.
-fn entry_by<'t>(
+/// Where the entry of a binder with this origin is from.
+fn source_of<'t>(
     noted: &[Note<'t>],
     statements: &'t [Statement],
     origin: Origin,
-) -> Option<Entry<'t>>
+) -> Option<Source<'t>>
     requires { NotesDocument noted.now (map statement_of statements.now) }
-    ensures { (found : List (Option Typ)) → told_in found result ≡ entry_from (map statement_of statements.now) found origin }
+    ensures { (found : List (Option Typ)) → entry_told found result ≡ entry_from (map statement_of statements.now) found origin }
 {
     match origin {
         Origin::Lambda(place) => written_at(noted, place.0),
-        Origin::Term(place) => Some(Entry::Term(place)),
+        Origin::Term(place) => Some(Source::Term(place)),
         Origin::Declaration(statement) => declared_at(statements, statement),
         Origin::TypeName => None,
     }
 }
 
-/// The type that an entry gives.
+/// The number of the entry that a source tells.
 fn number_of(
     table: &mut TyTable,
     found: &[Option<TyNo>],
-    entry: Option<Entry<'_>>,
+    source: Option<Source<'_>>,
 ) -> Result<Option<TyNo>, AllocError>
     requires found { AllStandIn table.old found.now }
-    requires wf { IsWellFormedEntry (told_in [] entry) }
+    requires wf { IsWellFormedEntry (entry_told [] source) }
     ensures keeps { Keeps table.old table.new }
     ensures stands { IfOk result (λ number. StandsIn table.new number) }
-    ensures told { IfOk result (λ number. answer table.new number ≡ told_in (answers table.old found.now) entry.entry) }
+    ensures told { IfOk result (λ number. answer table.new number ≡ entry_told (answers table.old found.now) source.entry) }
 {
-    match entry {
-        Some(Entry::Written(written)) => number_of_written(table, written),
-        Some(Entry::Term(place)) => Ok(found_at(found, place.0)),
+    match source {
+        Some(Source::Written(written)) => number_of_written(table, written),
+        Some(Source::Term(place)) => Ok(found_at(found, place.0)),
         None => Ok(None),
     }
 }

@@ -1,6 +1,6 @@
 //! What derivations are made from.
 
-use crate::noting::{Entry, Note, note_statements};
+use crate::noting::{Note, Source, note_statements};
 use crate::proving::prove_term;
 use crate::reading::{bound_at, copy_of_written};
 use crate::typing::Typing;
@@ -22,7 +22,7 @@ impl<'t> Grounds<'t> {
     ghost use Rattle.lam_rules.specs.TermViews.{written_of};
     ghost use Rattle.lam_rules.specs.TypingViews.{typing_tree_of};
     ghost use Rattle.lam_scope.specs.Views.{statements_of};
-    ghost use Rattle.lam_typing.specs.Notes.{told_in};
+    ghost use Rattle.lam_typing.specs.Notes.{entry_told};
     ghost use Rattle.lam_typing.specs.Seeing.{note_among};
     ghost use Rattle.lam_typing.specs.Typings.{IsTypingOf, IsProofAt};
     ghost use Rattle.lam_typing.specs.Grounds.{found_in, noted_in, AreGrounds, AreGroundsOf};
@@ -72,17 +72,17 @@ impl<'t> Grounds<'t> {
     ) -> Result<Option<Ty>, AllocError>
         ensures { IfOk result (λ entry. written_of entry ≡ (note_among (noted_in self.now) place).bound) }
     {
-        let entry = bound_at(&self.noted, place);
-        self.tree_of(alloc, entry)
+        let source = bound_at(&self.noted, place);
+        self.tree_of(alloc, source)
     }
 
-    /// The type that an entry gives, with nothing shared.
-    fn tree_of(&self, alloc: Global, from: Option<Entry<'t>>) -> Result<Option<Ty>, AllocError>
-        ensures { IfOk result (λ tree. written_of tree ≡ told_in (found_in self.now) from.entry) }
+    /// The entry that a source tells, with nothing shared.
+    fn tree_of(&self, alloc: Global, source: Option<Source<'t>>) -> Result<Option<Ty>, AllocError>
+        ensures { IfOk result (λ tree. written_of tree ≡ entry_told (found_in self.now) source.entry) }
     {
-        match from {
-            Some(Entry::Written(written)) => copy_of_written(alloc, written),
-            Some(Entry::Term(place)) => self.typing.tree_at(place),
+        match source {
+            Some(Source::Written(written)) => copy_of_written(alloc, written),
+            Some(Source::Term(place)) => self.typing.tree_at(place),
             None => Ok(None),
         }
     }

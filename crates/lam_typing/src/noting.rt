@@ -1,5 +1,5 @@
-//! A pass over the places of a document: which entries they speak of. An analysis takes from it what is written at
-//! lambdas, a derivation also which entry each variable counts to.
+//! A pass over the places of a document: which entries of binders they speak of, told by where these are from. An
+//! analysis takes from it what is written at lambdas, a derivation also which entry each variable counts to.
 
 ghost use Rattle.std.specs.Prelude.{map, IfOk, OnOk};
 ghost use Rattle.lam_rules.specs.Terms.{Term, if_then_else, variable, lambda, apply, let_in, record_term};
@@ -13,7 +13,7 @@ use std::alloc::{AllocError, Global};
 
 /// Where the entry of a binder is from.
 #[derive(Clone, Copy)]
-pub(crate) enum Entry<'t> {
+pub(crate) enum Source<'t> {
     /// It is what is written of the binder.
     Written(&'t Option<Ty>),
     /// It is the type of the term of this place.
@@ -26,7 +26,7 @@ pub(crate) enum Note<'t> {
     /// A lambda speaks of that of its own binder, which is what is written there.
     Lambda(&'t Option<Ty>),
     /// A variable speaks of that of the binder that it counts to.
-    Variable(Entry<'t>),
+    Variable(Source<'t>),
     /// The other places speak of none, and so does a variable that counts past all binders.
     Nothing,
 }
@@ -34,8 +34,8 @@ pub(crate) enum Note<'t> {
 /// What was noted so far.
 #[derive(Drop)]
 pub(crate) struct Notes<'t> {
-    /// The entries of the binders that it is under, the outermost first.
-    pub entries: Vec<Entry<'t>>,
+    /// Where the entries of the binders that it is under are from, the outermost first.
+    pub sources: Vec<Source<'t>>,
     /// The note of each place, in the order of places.
     pub noted: Vec<Note<'t>>,
 }
@@ -49,7 +49,7 @@ pub(crate) fn note_statements<'t>(
     ensures { IfOk result (λ noted. NotesDocument noted.items (map statement_of statements.now)) }
 {
     let mut notes = Notes {
-        entries: Vec::with_capacity(alloc, statements.len())?,
+        sources: Vec::with_capacity(alloc, statements.len())?,
         noted: Vec::with_capacity(alloc, places)?,
     };
     for i in 0..statements.len() {
@@ -64,11 +64,11 @@ fn note_statement<'t>(notes: &mut Notes<'t>, statement: &'t Statement) -> Result
     match statement {
         Statement::Definition(core) => {
             let place = note_term(notes, core)?;
-            notes.entries.push(Entry::Term(place))?;
+            notes.sources.push(Source::Term(place))?;
             Ok(())
         }
         Statement::Declaration(written) => {
-            notes.entries.push(Entry::Written(written))?;
+            notes.sources.push(Source::Written(written))?;
             Ok(())
         }
         Statement::Abbreviation(_) => Ok(()),
@@ -141,7 +141,7 @@ fn note_if<'t>(
 fn note_variable<'t>(notes: &mut Notes<'t>, count: usize) -> Result<Place, AllocError>
     ensures { IfOk result (λ place. NotesTerm notes.old notes.new (variable count) place.0) }
 {
-    let note = note_of_count(&notes.entries, count);
+    let note = note_of_count(&notes.sources, count);
     note_here(notes, note)
 }
 
@@ -153,9 +153,9 @@ fn note_lambda<'t>(
 ) -> Result<Place, AllocError>
     ensures { IfOk result (λ place. NotesTerm notes.old notes.new (lambda (written_of written.now) (term_of body.now)) place.0) }
 {
-    notes.entries.push(Entry::Written(written))?;
+    notes.sources.push(Source::Written(written))?;
     note_term(notes, body)?;
-    notes.entries.pop();
+    notes.sources.pop();
     note_here(notes, Note::Lambda(written))
 }
 
@@ -178,9 +178,9 @@ fn note_let<'t>(notes: &mut Notes<'t>, bound: &'t Core, body: &'t Core) -> Resul
     ensures { IfOk result (λ place. NotesTerm notes.old notes.new (let_in (term_of bound.now) (term_of body.now)) place.0) }
 {
     let place = note_term(notes, bound)?;
-    notes.entries.push(Entry::Term(place))?;
+    notes.sources.push(Source::Term(place))?;
     note_term(notes, body)?;
-    notes.entries.pop();
+    notes.sources.pop();
     note_here(notes, Note::Nothing)
 }
 
@@ -214,11 +214,11 @@ fn note_here<'t>(notes: &mut Notes<'t>, note: Note<'t>) -> Result<Place, AllocEr
 }
 
 /// The note of a variable: the entry of the binder that its count finds, if it does not count past all of them.
-fn note_of_count<'t>(entries: &[Entry<'t>], count: usize) -> Note<'t>
-    ensures { IsEntryCounted result count entries.now }
+fn note_of_count<'t>(sources: &[Source<'t>], count: usize) -> Note<'t>
+    ensures { IsEntryCounted result count sources.now }
 {
-    if count >= entries.len() {
+    if count >= sources.len() {
         return Note::Nothing;
     }
-    Note::Variable(entries[entries.len() - 1 - count])
+    Note::Variable(sources[sources.len() - 1 - count])
 }

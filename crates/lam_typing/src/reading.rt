@@ -6,10 +6,10 @@ ghost use Rattle.lam_rules.specs.TermViews.{written_of};
 ghost use Rattle.lam_scope.specs.Places.{statement_numbered};
 ghost use Rattle.lam_scope.specs.Views.{statement_of};
 ghost use Rattle.lam_typing.specs.Entries.{declared_in};
-ghost use Rattle.lam_typing.specs.Notes.{told_in, noted_by};
+ghost use Rattle.lam_typing.specs.Notes.{entry_told, noted_by};
 ghost use Rattle.lam_typing.specs.Seeing.{note_among};
 
-use crate::noting::{Entry, Note};
+use crate::noting::{Note, Source};
 use lam_rules::{Ty, TyNo, copy_of};
 use lam_scope::Statement;
 use std::alloc::{AllocError, Global};
@@ -24,44 +24,44 @@ pub(crate) fn found_at(found: &[Option<TyNo>], number: usize) -> Option<TyNo>
     found[number]
 }
 
-/// The entry of the lambda at the place of that number.
-pub(crate) fn written_at<'t>(notes: &[Note<'t>], number: usize) -> Option<Entry<'t>>
-    ensures { (found : List (Option Typ)) → told_in found result ≡ (note_among (noted_by found notes.now) number).written }
+/// Where the entry of the lambda's binder is from, at the place of that number.
+pub(crate) fn written_at<'t>(notes: &[Note<'t>], number: usize) -> Option<Source<'t>>
+    ensures { (found : List (Option Typ)) → entry_told found result ≡ (note_among (noted_by found notes.now) number).written }
 {
     if number >= notes.len() {
         return None;
     }
     match notes[number] {
-        Note::Lambda(written) => Some(Entry::Written(written)),
+        Note::Lambda(written) => Some(Source::Written(written)),
         Note::Variable(_) => None,
         Note::Nothing => None,
     }
 }
 
-/// The entry of the binder that the variable at the place of that number counts to.
-pub(crate) fn bound_at<'t>(notes: &[Note<'t>], number: usize) -> Option<Entry<'t>>
-    ensures { (found : List (Option Typ)) → told_in found result ≡ (note_among (noted_by found notes.now) number).bound }
+/// Where the entry is from that the variable at the place of that number counts to.
+pub(crate) fn bound_at<'t>(notes: &[Note<'t>], number: usize) -> Option<Source<'t>>
+    ensures { (found : List (Option Typ)) → entry_told found result ≡ (note_among (noted_by found notes.now) number).bound }
 {
     if number >= notes.len() {
         return None;
     }
     match notes[number] {
         Note::Lambda(_) => None,
-        Note::Variable(entry) => Some(entry),
+        Note::Variable(source) => Some(source),
         Note::Nothing => None,
     }
 }
 
-/// The entry that the statement of that number declares.
-pub(crate) fn declared_at<'t>(statements: &'t [Statement], number: usize) -> Option<Entry<'t>>
-    ensures { (found : List (Option Typ)) → told_in found result ≡ declared_in (statement_numbered (map statement_of statements.now) number) }
+/// Where the entry is from that the statement of that number declares.
+pub(crate) fn declared_at<'t>(statements: &'t [Statement], number: usize) -> Option<Source<'t>>
+    ensures { (found : List (Option Typ)) → entry_told found result ≡ declared_in (statement_numbered (map statement_of statements.now) number) }
 {
     if number >= statements.len() {
         return None;
     }
     match &statements[number] {
         Statement::Definition(_) => None,
-        Statement::Declaration(written) => Some(Entry::Written(written)),
+        Statement::Declaration(written) => Some(Source::Written(written)),
         Statement::Abbreviation(_) => None,
         Statement::Evaluation(_) => None,
     }

@@ -1,6 +1,6 @@
 use Rattle.std.proofs.Common.{map, refl, ap, sym, subst, ◌∙◌}
 use Rattle.lam_typing.specs.Answers.{answers, AllStandIn}
-use Rattle.lam_typing.specs.Notes.{told_in}
+use Rattle.lam_typing.specs.Notes.{entry_told}
 use Rattle.lam_typing.proofs.Finishing.{each_stands}
 use Rattle.lam_typing.proofs.Growing.{all_stand_keep}
 use Rattle.lam_typing.proofs.analysing.complete.Goals as goal
@@ -20,7 +20,7 @@ returns-clause-completes c = λ ss origins told. record {
   found = c.shrink_to_fit.ensures.items;
   entries =
       c.in-Ok.ensures.entries
-      ∙ ap (λ os. map (told_in (answers c.args.walk.table os)) c.args.sources.now) (c.deref.ensures.value ∙ c.shrink_to_fit.ensures.items)
+      ∙ ap (λ os. map (entry_told (answers c.args.walk.table os)) c.args.sources.now) (c.deref.ensures.value ∙ c.shrink_to_fit.ensures.items)
       ∙ told (answers c.args.walk.table c.args.walk.found.items);
   blames = refl;
   dialect = refl;

@@ -2,7 +2,7 @@ use Rattle.std.proofs.Common.{[], None, ap, refl, sym, subst, ◌∙◌}
 use Rattle.lam_rules.specs.Typing.{IsWellFormedEntry}
 use Rattle.lam_rules.proofs.Tables.{keeps_same}
 use Rattle.lam_typing.specs.Answers.{answers}
-use Rattle.lam_typing.specs.Notes.{told_in}
+use Rattle.lam_typing.specs.Notes.{entry_told}
 use Rattle.lam_typing.proofs.Growing.{answers_keep, all_stand_keep, any_default}
 use Rattle.lam_typing.proofs.Numbering.{numbered_more}
 use Rattle.lam_typing.proofs.entries.number_entries.Goals as goal
@@ -21,13 +21,13 @@ pub number_of-requires-clause-wf : goal.number_of-requires-clause-wf
 number_of-requires-clause-wf c =
     let source = c.index-sources-i.result in
     let at = c.index-sources-i.is ∙ any_default c.args.sources.now c.loop-i.i source None c.loop-i-test.true in
-    subst (λ e. IsWellFormedEntry (told_in [] e)) (sym at) (c.requires.wf c.loop-i.i)
+    subst (λ e. IsWellFormedEntry (entry_told [] e)) (sym at) (c.requires.wf c.loop-i.i)
 
 pub loop-i-preserved : goal.loop-i-preserved
 loop-i-preserved c =
     let same = answers_keep c.args.table.now c.loop-i.table c.args.found.now c.loop-i.invariant.keeps c.requires.found in
     let source = c.index-sources-i.result in
-    let told = c.in_ok-number.ensures.told ∙ ap (λ os. told_in os source) same ∙ ap (told_in (answers c.args.table.now c.args.found.now)) c.index-sources-i.is in
-    numbered_more c.args.table.now c.loop-i.table c.number_of.new.table (told_in (answers c.args.table.now c.args.found.now))
+    let told = c.in_ok-number.ensures.told ∙ ap (λ os. entry_told os source) same ∙ ap (entry_told (answers c.args.table.now c.args.found.now)) c.index-sources-i.is in
+    numbered_more c.args.table.now c.loop-i.table c.number_of.new.table (entry_told (answers c.args.table.now c.args.found.now))
     c.loop-i.entries.items c.push.new.self.items c.in_ok-number.number c.loop-i.i source c.args.sources.now
     c.loop-i-test.true c.number_of.ensures.keeps c.in_ok-number.ensures.stands told c.in_ok-push.ensures.items c.loop-i.invariant

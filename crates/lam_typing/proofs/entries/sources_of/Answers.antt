@@ -13,7 +13,7 @@ loop-i-preserved c =
     let default = Lambda (record { 0 = 0 }) in
     let origin = get_or c.origins-origins.result.now c.loop-i.i default in
     sourced_more (statements_of c.args.resolved.now) c.loop-i.sources.items c.push.new.self.items _ c.loop-i.i default c.origins-origins.result.now c.loop-i-test.true
-    (λ found. c.entry_by-source.ensures found ∙ ap (λ ss. entry_from ss found origin) c.statements-in-loop-i.ensures) c.in_ok-push.ensures.items c.loop-i.invariant
+    (λ found. c.source_of-source.ensures found ∙ ap (λ ss. entry_from ss found origin) c.statements-in-loop-i.ensures) c.in_ok-push.ensures.items c.loop-i.invariant
 
 pub returns : goal.returns
 returns c = λ found.

@@ -2,9 +2,9 @@ use Rattle.std.proofs.Common.{◌≡◌, ◌++◌, List, Option, drop, map}
 use Rattle.lam_rules.specs.Types.{Typ}
 use Rattle.lam_scope.specs.Views.{statements_of}
 use Rattle.lam_typing.specs.Entries.{entry_from}
-use Rattle.lam_typing.specs.Notes.{told_in}
+use Rattle.lam_typing.specs.Notes.{entry_told}
 use Rattle.lam_typing.proofs.entries.sources_of.Given as goal
 
 -- the entries so far, and those of the binders to come, are all
 abbrev pub invariant-loop-i : goal.invariant-loop-i
-invariant-loop-i l = (found : List (Option Typ)) → map (told_in found) l.sources.items ++ map (entry_from (statements_of l.resolved) found) (drop l.i l.origins) ≡ map (entry_from (statements_of l.resolved) found) l.origins
+invariant-loop-i l = (found : List (Option Typ)) → map (entry_told found) l.sources.items ++ map (entry_from (statements_of l.resolved) found) (drop l.i l.origins) ≡ map (entry_from (statements_of l.resolved) found) l.origins

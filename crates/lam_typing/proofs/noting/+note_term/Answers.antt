@@ -3,7 +3,7 @@ use Rattle.lam_rules.specs.Terms.{if_then_else, lambda, apply, let_in, record_te
 use Rattle.lam_rules.specs.TermViews.{term_of, terms_of, written_of}
 use Rattle.lam_scope.specs.Sights.{inside, inside_fields, behind_term}
 use Rattle.lam_typing.specs.declared.noting.Note.TheVariants.{Lambda, Nothing}
-use Rattle.lam_typing.specs.declared.noting.Entry.TheVariants.{Written, Term as TermAt}
+use Rattle.lam_typing.specs.declared.noting.Source.TheVariants.{Written, Term as TermAt}
 use Rattle.lam_typing.proofs.NotedParts.{then_term, term_done, over_done, under_done, let_under, fields_then, popped_items, ok_map, on_ok_map}
 use Rattle.lam_typing.proofs.noting.+note_term.Goals as goal
 
@@ -35,9 +35,9 @@ note_lambda-returns t c =
     let w = written_of c.args.written.now in
     let e = term_of c.args.body.now in
     let over = c.in_ok-note_term.ensures in
-    let popped = popped_items c.push.new.self c.pop.new.self c.note_term.new.notes.entries.items c.args.notes.now.entries.items (Written c.args.written) (vec_len c.note_term.new.notes.entries) c.in_ok-push.ensures.items over.more.entries c.note_term.new.notes.entries.ok.0 c.pop.ensures.rest in
+    let popped = popped_items c.push.new.self c.pop.new.self c.note_term.new.notes.sources.items c.args.notes.now.sources.items (Written c.args.written) (vec_len c.note_term.new.notes.sources) c.in_ok-push.ensures.items over.more.sources c.note_term.new.notes.sources.ok.0 c.pop.ensures.rest in
     let body = under_done c.args.notes.now c.note_term.new.notes c.push.new.self c.pop.new.self (Written c.args.written) e _ c.in_ok-push.ensures.items over popped in
-    ok_map c.note_here.result _ _ (λ place one. term_done c.args.notes.now (record c.note_term.new.notes { entries = c.pop.new.self }) c.note_here.new.notes (lambda w e) _ (inside e + 1) (Lambda c.args.written) place.0 (λ found. refl) refl body one (λ found. refl)) c.note_here.ensures
+    ok_map c.note_here.result _ _ (λ place one. term_done c.args.notes.now (record c.note_term.new.notes { sources = c.pop.new.self }) c.note_here.new.notes (lambda w e) _ (inside e + 1) (Lambda c.args.written) place.0 (λ found. refl) refl body one (λ found. refl)) c.note_here.ensures
 
 pub note_let-returns : goal.note_let-returns
 note_let-returns t c =
@@ -45,9 +45,9 @@ note_let-returns t c =
     let b = term_of c.args.body.now in
     let over = c.in_ok-place.ensures in
     let under = c.in_ok-note_term.ensures in
-    let popped = popped_items c.push.new.self c.pop.new.self c.note_term-2.new.notes.entries.items c.note_term.new.notes.entries.items (TermAt c.in_ok-place.place) (vec_len c.note_term-2.new.notes.entries) c.in_ok-push.ensures.items under.more.entries c.note_term-2.new.notes.entries.ok.0 c.pop.ensures.rest in
+    let popped = popped_items c.push.new.self c.pop.new.self c.note_term-2.new.notes.sources.items c.note_term.new.notes.sources.items (TermAt c.in_ok-place.place) (vec_len c.note_term-2.new.notes.sources) c.in_ok-push.ensures.items under.more.sources c.note_term-2.new.notes.sources.ok.0 c.pop.ensures.rest in
     let both = let_under c.args.notes.now c.note_term.new.notes c.note_term-2.new.notes c.push.new.self c.pop.new.self a b c.in_ok-place.place _ over c.in_ok-push.ensures.items under popped in
-    ok_map c.note_here.result _ _ (λ place one. term_done c.args.notes.now (record c.note_term-2.new.notes { entries = c.pop.new.self }) c.note_here.new.notes (let_in a b) _ (inside a + 1 + (inside b + 1)) Nothing place.0 (λ found. refl) (omega arith) both one (λ found. refl)) c.note_here.ensures
+    ok_map c.note_here.result _ _ (λ place one. term_done c.args.notes.now (record c.note_term-2.new.notes { sources = c.pop.new.self }) c.note_here.new.notes (let_in a b) _ (inside a + 1 + (inside b + 1)) Nothing place.0 (λ found. refl) (omega arith) both one (λ found. refl)) c.note_here.ensures
 
 pub note_over-returns : goal.note_over-returns
 note_over-returns t c =

@@ -1,7 +1,7 @@
 use Rattle.std.proofs.Common.{ap, refl}
 use Rattle.lam_rules.specs.TermViews.{term_of, written_of}
 use Rattle.lam_scope.specs.Views.{statement_of}
-use Rattle.lam_typing.specs.declared.noting.Entry.TheVariants.{Written}
+use Rattle.lam_typing.specs.declared.noting.Source.TheVariants.{Written}
 use Rattle.lam_typing.proofs.NotedParts.{stated_done, defined_done, declared_done}
 use Rattle.lam_typing.proofs.noting.note_statement.Goals as goal
 

@@ -9,5 +9,5 @@ pub returns : goal.returns
 returns c =
     let found = found_in c.args.self.now in
     ok_map c.tree_of.result _ _
-    (λ tree is. is ∙ c.bound_at-entry.ensures found ∙ ap (λ ns. (note_among (noted_by found ns) c.args.place).bound) c.deref.ensures.value)
+    (λ tree is. is ∙ c.bound_at-source.ensures found ∙ ap (λ ns. (note_among (noted_by found ns) c.args.place).bound) c.deref.ensures.value)
     c.tree_of.ensures

@@ -3,7 +3,7 @@ use Rattle.lam_scope.specs.Views.{statement_of}
 use Rattle.lam_typing.specs.Entries.{entry_from}
 use Rattle.lam_typing.specs.Seeing.{note_among}
 use Rattle.lam_typing.proofs.Sighted.{written_noted}
-use Rattle.lam_typing.proofs.entries.entry_by.Goals as goal
+use Rattle.lam_typing.proofs.entries.source_of.Goals as goal
 
 pub returns-in-Lambda : goal.returns-in-Lambda
 returns-in-Lambda c = λ found.
