@@ -1,4 +1,4 @@
--- That labels are distinct has one proof at most, as an invariant must: so documents with the same terms are equal.
+-- That labels are distinct has one proof at most, as what an invariant says must have: two documents that agree in all else are one.
 use Rattle.std.specs.Prelude.{List, [], ◌∷◌, Option, Some, None}
 use Rattle.std.specs.Coded.{×_prop, Unit-prop}
 use Rattle.lam_rules.specs.Types.{Label, Typ, bool, nat, unit, top, arrow, record_of, Fields, no_fields, field, IsAbsent, IsWellFormed, AreWellFormed}

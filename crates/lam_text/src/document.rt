@@ -92,7 +92,7 @@ impl Doc {
         }
     }
 
-    /// Applies the changes in order, each to the text that the one before it left. On an error nothing is changed.
+    /// Makes one change after the other: each is about the text as it is by then. On an error nothing is changed.
     pub fn apply(&mut self, changes: &[Change]) -> Result<(), AllocError>
         ensures text { OnOk result (self.new.text ≡ text_after self.old.encoding self.old.text changes.now) }
         ensures encoding { self.new.encoding ≡ self.old.encoding }

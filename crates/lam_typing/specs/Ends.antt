@@ -28,7 +28,7 @@ pub record Begins (w : Walk) (asked : Option PlaceNumber) : Type 0 where
   pub blames : w.blames.items ≡ []
   pub last : w.last ≡ asked
 
--- these tell, whatever is found of the places, the entries of the binders that take their types from there
+-- these sources tell, whatever is found of the places, the entries of the binders with these origins
 abbrev pub AreSourcesOf : List Statement → List Origin → List (Option Source) → Type 0
 AreSourcesOf ss origins sources = (found : List (Option Typ)) → map (entry_told found) sources ≡ map (entry_from ss found) origins
 

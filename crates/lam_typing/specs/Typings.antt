@@ -47,7 +47,7 @@ abbrev pub IsFaultOf : TypingFault → List Place → Dialect → Type 0
 IsFaultOf (TypingFault.TooLarge place) ps d = IsFirstTooLarge ps place.0 d
 IsFaultOf TypingFault.Memory ps d = Unit {0}
 
--- A typing is one of this document: its types were found of the first places of it, as many as there are.
+-- A typing is one of this document: what was found are the least types of its first places, or none where a place has none.
 pub record IsTypingOf (ss : List Statement) (t : Typing) : Type 0 where
   pub stand : AllStandIn t.table t.found.items
   pub least : AreLeast (take (length (found_of t)) (places_of [] ss)) (found_of t) (dialect_of t)

@@ -1,5 +1,5 @@
-//! The analysis of a document: a walk over its places finds their types, and the entries of its binders are told from
-//! these.
+//! The analysis of a document: a walk over its places finds their types, and these, with what is written, give the
+//! entries of its binders.
 
 ghost use Rattle.std.specs.Prelude.{◌≡◌, ◌+◌, List, [], take, IfOk, IfErr};
 ghost use Rattle.lam_scope.specs.Places.{Statement, places_of};
@@ -59,7 +59,7 @@ fn analyse_up_to(
     ensures dialect { IfOk result (λ typing. dialect_of typing ≡ dialect) }
     ensures fault { IfErr result (λ fault. IsFaultOf fault (up_to last (places_of [] (statements_of resolved.now))) dialect) }
 {
-    // Before the walk, so that what is noted for it is given back before memory is at its peak.
+    // Before the walk, so that the notes that this takes are given back before memory is at its peak.
     let Ok(sources) = sources_of(alloc, resolved) else {
         return Err(TypingFault::Memory);
     };

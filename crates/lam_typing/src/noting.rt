@@ -1,5 +1,5 @@
 //! A pass over the places of a document: which entries of binders they speak of, told by where these are from. An
-//! analysis takes from it what is written at lambdas, a derivation also which entry each variable counts to.
+//! analysis takes from it what is written at lambdas, a derivation which entry each variable counts to.
 
 ghost use Rattle.std.specs.Prelude.{map, IfOk, OnOk};
 ghost use Rattle.lam_rules.specs.Terms.{Term, if_then_else, variable, lambda, apply, let_in, record_term};
@@ -34,7 +34,7 @@ pub(crate) enum Note<'t> {
 /// What was noted so far.
 #[derive(Drop)]
 pub(crate) struct Notes<'t> {
-    /// Where the entries of the binders that it is under are from, the outermost first.
+    /// Where the entries of the binders are from that the next place is under, the outermost first.
     pub sources: Vec<Source<'t>>,
     /// The note of each place, in the order of places.
     pub noted: Vec<Note<'t>>,

@@ -1,4 +1,4 @@
-//! Answers by their number.
+//! What is read by number: a type that was found, and where the entry is from that a note or a declaration tells.
 
 ghost use Rattle.std.specs.Prelude.{◌≡◌, List, Option, get_or, map, None, IfOk};
 ghost use Rattle.lam_rules.specs.Types.{Typ};
@@ -38,7 +38,7 @@ pub(crate) fn written_at<'t>(notes: &[Note<'t>], number: usize) -> Option<Source
     }
 }
 
-/// Where the entry is from that the variable at the place of that number counts to.
+/// Where the entry of the binder is from that the variable at the place of that number counts to.
 pub(crate) fn bound_at<'t>(notes: &[Note<'t>], number: usize) -> Option<Source<'t>>
     ensures { (found : List (Option Typ)) → entry_told found result ≡ (note_among (noted_by found notes.now) number).bound }
 {
@@ -52,7 +52,7 @@ pub(crate) fn bound_at<'t>(notes: &[Note<'t>], number: usize) -> Option<Source<'
     }
 }
 
-/// Where the entry is from that the statement of that number declares.
+/// Where the entry of the binder is from that the statement of that number declares.
 pub(crate) fn declared_at<'t>(statements: &'t [Statement], number: usize) -> Option<Source<'t>>
     ensures { (found : List (Option Typ)) → entry_told found result ≡ declared_in (statement_numbered (map statement_of statements.now) number) }
 {

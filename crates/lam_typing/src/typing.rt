@@ -51,8 +51,8 @@ impl Typing {
     }
 
     /// A proof by the declarative rules of the least type of a place, in the context of the least entries of the binders
-    /// that it sees; none, where no type was found of it. `resolved` has to be the document that was analysed, and is
-    /// gone over once.
+    /// that it sees; none, where no type was found of it. `resolved` has to be the document that was analysed; it is
+    /// gone over once for what its places speak of, and once more up to the place.
     pub fn prove_at(
         &self,
         alloc: Global,
