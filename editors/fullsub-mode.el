@@ -16,7 +16,7 @@
     ;; Comments /* */ nest.
     (modify-syntax-entry ?/ ". 14n" table)
     (modify-syntax-entry ?* ". 23n" table)
-    ;; A name may hold a quote: without this a completion at x' would leave x'x'.
+    ;; A name may hold a quote, so x' is one word.
     (modify-syntax-entry ?' "w" table)
     (modify-syntax-entry ?_ "_" table)
     (modify-syntax-entry ?\" "." table)

@@ -50,7 +50,7 @@ vim.api.nvim_create_autocmd("FileType", {
   callback = function(event)
     vim.opt_local.commentstring = "/* %s */"
     vim.opt_local.comments = "s1:/*,mb:*,ex:*/"
-    -- A name may hold a quote: without this a completion at x' would leave x'x'.
+    -- A name may hold a quote, so x' is one word.
     vim.opt_local.iskeyword:append("'")
     vim.opt_local.omnifunc = "v:lua.vim.lsp.omnifunc"
     vim.keymap.set("n", "K", vim.lsp.buf.hover, { buffer = event.buf })
