@@ -58,6 +58,7 @@ IsWellFormedStatement-prop (declares w) = IsWellFormedEntry-prop w
 IsWellFormedStatement-prop (abbreviates w) = IsWellFormedEntry-prop w
 IsWellFormedStatement-prop (states e) = IsWellFormedTerm-prop e
 
+-- of all statements of a document, as `Resolved` holds it
 pub AreWellFormedStatements-prop : (statements : List Statement) → IsProp (AreWellFormedStatements statements)
 AreWellFormedStatements-prop [] = Unit-prop
 AreWellFormedStatements-prop (statement ∷ rest) = ×_prop (IsWellFormedStatement-prop statement) (AreWellFormedStatements-prop rest)
