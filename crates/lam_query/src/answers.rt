@@ -20,8 +20,8 @@ pub struct Hover {
 /// A proof that a term has a type.
 #[derive(Drop)]
 pub struct Derivation {
-    /// The binders of names that the term sees, from the outermost to the innermost, shadowed ones and `_` too, each
-    /// with its least type, or none where it has no type.
+    /// What the names in sight of the term stand for, from the outside in: the name of each binder, hidden ones and `_`
+    /// among them, and its least type, or none where it has no type.
     pub context: Vec<(String, Option<Ty>)>,
     /// The steps of the proof, each behind those of its premises; the last one concludes the term's type.
     pub steps: Vec<Step>,

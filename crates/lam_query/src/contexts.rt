@@ -13,7 +13,7 @@ use lam_scope::{Binder, Place, Scopes};
 use lam_typing::Typing;
 use std::alloc::{AllocError, Global};
 
-/// The binders that a place sees, from the outermost to the innermost, with their least entries.
+/// The binders that a place sees, from the outside in, with their least entries.
 pub(crate) fn context_at(
     alloc: Global,
     scopes: &Scopes,

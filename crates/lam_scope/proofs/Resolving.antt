@@ -1,5 +1,5 @@
 -- How commands are resolved one after the other.
-use Rattle.std.proofs.Common.{◌≡◌, ℕ, ◌+◌, ◌<◌, min, ltb, List, [], ◌∷◌, ◌++◌, length, drop, get_or, suc, refl, ap, sym, ◌∙◌, drop-cons, add-one, append_assoc, map, Bor, Bool, true, false, Option, Some, None, arith}
+use Rattle.std.proofs.Common.{◌≡◌, ℕ, ◌+◌, ◌<◌, List, [], ◌∷◌, ◌++◌, length, drop, get_or, suc, refl, ap, sym, drop-cons, add-one, append_assoc, map, Some, None}
 use Rattle.std.proofs.lemmas.List.{append-nil, drop_all}
 use Rattle.lam_token.specs.declared.span.Span.{Span}
 use Rattle.lam_syntax.specs.declared.terms.Command.{Command}

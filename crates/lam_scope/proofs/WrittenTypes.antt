@@ -1,5 +1,5 @@
 -- How stacks of abbreviations and lists of fields of written types are seen, and what is counted of them.
-use Rattle.std.proofs.Common.{◌≡◌, ℕ, ◌+◌, ◌<◌, ◌≤◌, min, List, [], ◌∷◌, ◌++◌, length, take, drop, get_or, suc, refl, ap, sym, ◌∙◌, drop-cons, add-one, arith, append_assoc, Option, Some, None, String, string_bytes, Bool, false}
+use Rattle.std.proofs.Common.{◌≡◌, ℕ, ◌+◌, ◌<◌, ◌≤◌, min, List, [], ◌∷◌, ◌++◌, length, take, drop, get_or, suc, refl, ap, sym, ◌∙◌, drop-cons, add-one, arith, append_assoc, Option, Some, None, String, string_bytes, false}
 use Rattle.lam_syntax.specs.Letters.{letters}
 use Rattle.std.specs.declared.alloc.Global.{Global}
 use Rattle.lam_token.specs.declared.span.Span.{Span}
@@ -10,7 +10,7 @@ use Rattle.lam_rules.proofs.TypeShapes.{typ_of-Bool, typ_of-Nat, typ_of-Unit, ty
 use Rattle.std.proofs.Math.Seq.{take-suc}
 use Rattle.std.specs.Option.{option_map}
 use Rattle.lam_rules.specs.Types as rules
-use Rattle.lam_rules.specs.Types.{Typ, Fields, Label, nodes, nodes_in, joined}
+use Rattle.lam_rules.specs.Types.{Typ, Fields, Label, nodes, joined}
 use Rattle.lam_syntax.specs.declared.types.TyField.{TyField}
 use Rattle.lam_syntax.specs.Trees.{word, TypeTree, TypeFields, type_field, no_type_fields, joined_types}
 use Rattle.lam_syntax.specs.Views.{word_of, type_of, type_fields_of}

@@ -71,7 +71,7 @@ impl Scopes {
         self.tokens.get(answer.0)
     }
 
-    /// The binders of names that a place sees, shadowed ones and underscores too, the outermost first.
+    /// What binds a name in sight of a place, from the outside in: hidden binders and underscores count as any other.
     #[tactic(auto, using(crate::proofs::Reading::reading))]
     pub fn visible_at(&self, alloc: Global, place: Place) -> Result<Vec<Binder>, AllocError>
         ensures { IfOk result (λ bs. map binder_number bs.items ≡ visible_at (table_of self.now) place.0) }

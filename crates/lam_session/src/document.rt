@@ -14,7 +14,7 @@ use lam_text::{Change, Doc, Encoding, Position};
 use std::alloc::{AllocError, Global};
 use std::marker::Model;
 
-/// A text with the client's number of it, where it gave one. An analysis that is there is one of that very text.
+/// A text with the client's number of it, where it gave one. The analysis beside it, if there is one, is of that very text.
 #[derive(Drop)]
 pub struct Document {
     doc: Doc,

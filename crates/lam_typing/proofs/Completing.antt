@@ -68,7 +68,6 @@ pub typing_of : (last : Option PlaceNumber) (ss : List Statement) (t : Typing) (
 typing_of last ss t d analysis is =
     let taken = taken_up_to last (places_of [] ss) (length (found_of t)) (sym (least_length (up_to last (places_of [] ss)) (found_of t) d analysis.least)) in
     record {
-      stand = analysis.stand;
       least = subst (λ ps. AreLeast ps (found_of t) (dialect_of t)) (sym taken) (subst (λ e. AreLeast (up_to last (places_of [] ss)) (found_of t) e) (sym is) analysis.least);
     }
 

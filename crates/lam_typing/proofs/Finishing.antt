@@ -9,7 +9,7 @@ use Rattle.lam_typing.specs.Blaming.{Blamed, AreBlamed}
 use Rattle.lam_typing.specs.Analysis.{AreLeast, AreSmall, IsTooLarge, IsFirstTooLarge}
 use Rattle.lam_typing.specs.Answers.{answer, answers, StandsIn, AllStandIn}
 use Rattle.lam_typing.specs.Progress.{IsLowest, Shown, Went, next_is_too_large, NextIs}
-use Rattle.lam_typing.specs.Walk.{blames_of, entries_of, progress_of, IsSoundWalk, Grows, IsBehind, IsUpTo, IsWithin, HasStoppedAmong}
+use Rattle.lam_typing.specs.Walk.{blames_of, entries_of, progress_of, Grows, IsBehind, IsUpTo, IsWithin, HasStoppedAmong}
 use Rattle.lam_typing.specs.Typings.{found_of, IsAnalysis}
 use Rattle.lam_typing.specs.Ends.{up_to, Begins}
 use Rattle.lam_typing.specs.declared.typing.Typing.{Typing}
@@ -74,10 +74,9 @@ pub record HasWalked (w : Walk) (t : Typing) : Type 0 where
   pub found : t.found.items ≡ w.found.items
   pub blames : t.blames.items ≡ w.blames.items
 
-analysis : (ps : List Place) (w : Walk) (t : Typing) (d : Dialect) → HasWalked w t → IsSoundWalk w → Shows ps w d → IsAnalysis ps t d
+analysis : (ps : List Place) (w : Walk) (t : Typing) (d : Dialect) → HasWalked w t → Shows ps w d → IsAnalysis ps t d
 unfolding Shows
-analysis ps w t d has sound shows = record {
-  stand = rw (has.table, has.found) sound.found;
+analysis ps w t d has shows = record {
   least = subst (λ os. AreLeast ps os d) (sym found_is) shows.least;
   small = subst (λ os. AreSmall os) (sym found_is) shows.small;
   blames = subst (λ bs. AreBlamed 0 ps bs d) (sym (ap (λ bs. blames_of bs) has.blames)) shows.blamed;
@@ -114,7 +113,7 @@ analysed w0 w last statements t d begins grows went has =
     let same : w.last ≡ last = grows.last ∙ begins.last in
     let within : IsWithin last (length w.found.items) = subst (λ l. IsWithin l (length w.found.items)) same grows.sound.room in
     subst (λ qs. IsAnalysis qs t d) (sym (whole last ps (length w.found.items) (found_length ps w d shows) within))
-    (analysis ps w t d has grows.sound shows)
+    (analysis ps w t d has shows)
 
 -- it stopped behind the last place that was asked for
 pub stopped_behind_last : (w0 w : Walk) (last : Option PlaceNumber) (statements : List Statement) (t : Typing) (d : Dialect) → Begins w0 last → Grows w0 w
@@ -126,7 +125,7 @@ stopped_behind_last w0 w last statements t d begins grows stopped has =
     let within : IsWithin last (length w.found.items) = subst (λ l. IsWithin l (length w.found.items)) same grows.sound.room in
     let behind : IsBehind last (length w.found.items) = subst (λ l. IsBehind l (length w.found.items)) same stopped.1 in
     let asked : up_to last (places_of [] statements) ≡ h.front = ap (λ ps. up_to last ps) h.are ∙ front_of last h.front h.rest (length w.found.items) (found_length h.front w d shows) within behind in
-    subst (λ qs. IsAnalysis qs t d) (sym asked) (analysis h.front w t d has grows.sound shows)
+    subst (λ qs. IsAnalysis qs t d) (sym asked) (analysis h.front w t d has shows)
 
 -- it stopped at a place that is too large
 pub stopped_at_large : (w0 w : Walk) (last : Option PlaceNumber) (statements : List Statement) (d : Dialect) → Begins w0 last → Grows w0 w

@@ -36,7 +36,7 @@ HasNoType n [] = ⊥
 HasNoType zero (entry ∷ g) = entry ≡ None
 HasNoType (suc n) (entry ∷ g) = HasNoType n g
 
--- the fault lies elsewhere: a variable whose entry is none, a lambda and an ascription whose written type is faulty
+-- the fault lies elsewhere: the use of a binder without a type, and a lambda or an ascription whose type has no expansion
 abbrev pub IsExcused : Scope → Term → Dialect → Type 0
 IsExcused s (variable n) d = (g : Context) × IsContext s g d × HasNoType n g
 IsExcused s (lambda None e) d = Unit {0}

@@ -9,7 +9,7 @@ use Rattle.lam_scope.specs.declared.numbers.Origin.{Origin}
 use Rattle.lam_typing.specs.Blaming.{Blamed, AreBlamed}
 use Rattle.lam_typing.specs.Analysis.{AreLeast, AreSmall, IsFirstTooLarge}
 use Rattle.lam_typing.specs.Entries.{AreLeastEntries, IsLeastFrom, HasTermAmong, entry_from}
-use Rattle.lam_typing.specs.Answers.{answers, AllStandIn}
+use Rattle.lam_typing.specs.Answers.{answers}
 use Rattle.lam_typing.specs.Walk.{blames_of}
 use Rattle.lam_typing.specs.declared.fault.TypingFault.{TypingFault}
 use Rattle.lam_typing.specs.declared.typing.Typing.{Typing}
@@ -37,7 +37,6 @@ dialect_of t = t.dialect
 -- these places and no others were analysed: each has its least type or none, of no more nodes than a place may show, and
 -- those to blame are told in their order
 pub record IsAnalysis (ps : List Place) (t : Typing) (d : Dialect) : Type 0 where
-  pub stand : AllStandIn t.table t.found.items
   pub least : AreLeast ps (found_of t) d
   pub small : AreSmall (found_of t)
   pub blames : AreBlamed 0 ps (blamed_in t) d
@@ -49,7 +48,6 @@ IsFaultOf TypingFault.Memory ps d = Unit {0}
 
 -- A typing is one of this document: what was found are the least types of its first places, or none where a place has none.
 pub record IsTypingOf (ss : List Statement) (t : Typing) : Type 0 where
-  pub stand : AllStandIn t.table t.found.items
   pub least : AreLeast (take (length (found_of t)) (places_of [] ss)) (found_of t) (dialect_of t)
 
 -- the entry of each binder is told by its origin, and is the least one, where the term that it may come from was analysed

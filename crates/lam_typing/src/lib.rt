@@ -3,7 +3,7 @@
 //!
 //! What is promised stands in `specs/Contexts.antt`, `LeastTypes.antt`, `Entries.antt`, `Blaming.antt`
 //! and `Analysis.antt`, over the declarative rules alone, and of a `Typing` in `Typings.antt`. The walk
-//! behind it has no rule of subsumption (TAPL chapter 16) and keeps one type for each binder.
+//! behind it has no rule of subsumption (TAPL chapter 16): a place and a binder have one type each.
 //!
 //! Nothing here knows names, spans, texts of a document, how subtyping is decided or a join is built.
 #![tactic(auto)]
