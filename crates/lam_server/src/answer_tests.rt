@@ -130,7 +130,7 @@ fn check_rows(
 }
 
 /// In the first dialect.
-static ROWS: [Row; 26] = [
+static ROWS: [Row; 29] = [
     (
         "if true then {a=0} else {b=0}",
         &[],
@@ -268,6 +268,13 @@ static ROWS: [Row; 26] = [
         &[],
     ),
     ("z", &[("E1", "unbound name", 0, 1)], &[(0, None)]),
+    (
+        "x = # 0; y = 1",
+        &[("B1", "character not allowed", 4, 5)],
+        &[],
+    ),
+    ("/* a", &[("B2", "comment not closed", 0, 4)], &[]),
+    ("succ 0 )", &[("P1", "unexpected token", 7, 8)], &[]),
 ];
 
 #[test]
@@ -339,13 +346,17 @@ fn one_size_fault(rt: HostRuntime) -> Result<(), Fail> {
     let faults: [Told; 0] = [];
     check_row(&rt, alloc, Dialect::One, fits.as_str(), &faults, &[])?;
     // The records before it begin in the first 210 columns.
-    let over = doubled(alloc, 11, "y = {a=x10, b=0}; 0 0;")?;
     let fault = [("L1", "type of more than 4096 nodes", 212, 224)];
     let seen = [(5, None), (212, None)];
-    check_row(&rt, alloc, Dialect::One, over.as_str(), &fault, &seen)?;
-    let twice = doubled(alloc, 12, "")?;
+    for last in ["y = {a=x10, b=0};", "y = {a=x10, b=0}; 0 0;"] {
+        let over = doubled(alloc, 11, last)?;
+        check_row(&rt, alloc, Dialect::One, over.as_str(), &fault, &seen)?;
+    }
     let fault = [("L1", "type of more than 4096 nodes", 214, 228)];
-    check_row(&rt, alloc, Dialect::One, twice.as_str(), &fault, &seen)?;
+    for count in [12, 41] {
+        let twice = doubled(alloc, count, "")?;
+        check_row(&rt, alloc, Dialect::One, twice.as_str(), &fault, &seen)?;
+    }
     Ok(())
 }
 
@@ -358,6 +369,34 @@ fn numerals_applied(rt: HostRuntime) -> Result<(), Fail> {
     }
     let fault = [("E2", "not a function", 0, 3)];
     check_row(&rt, alloc, Dialect::One, text.as_str(), &fault, &[])?;
+    Ok(())
+}
+
+/// A numeral in this many pairs of parentheses.
+fn in_parentheses(alloc: Global, pairs: usize) -> Result<String, AllocError> {
+    let mut text = "(".repeat(alloc, pairs)?;
+    text.push('0')?;
+    text.push_str(")".repeat(alloc, pairs)?.as_str())?;
+    Ok(text)
+}
+
+#[test]
+fn parentheses_at_the_limit(rt: HostRuntime) -> Result<(), Fail> {
+    let alloc = rt.alloc();
+    let fits = in_parentheses(alloc, 999)?;
+    let whole = Some(("Nat", 0, 1_999));
+    let seen = [(0, whole), (999, whole), (1_998, whole)];
+    check_row(&rt, alloc, Dialect::One, fits.as_str(), &[], &seen)?;
+    let over = in_parentheses(alloc, 1_000)?;
+    let fault = [("L2", "command of more than 2000 tokens", 0, 2_001)];
+    check_row(
+        &rt,
+        alloc,
+        Dialect::One,
+        over.as_str(),
+        &fault,
+        &[(1_000, None)],
+    )?;
     Ok(())
 }
 

@@ -6,7 +6,7 @@ use std::process::Abort;
 use std::test::Fail;
 
 const EMOJI: &str =
-    r#"{"method":"textDocument/didOpen","params":{"textDocument":{"uri":"file:///a","text":"/*😀*/ #"}}}"#;
+    r#"{"method":"textDocument/didOpen","params":{"textDocument":{"uri":"file:///a","text":"/*😀*/ x"}}}"#;
 
 const TWO_LINES: &str =
     r#"{"method":"textDocument/didOpen","params":{"textDocument":{"uri":"file:///a","text":"x = 0;\r\ny = x;"}}}"#;
@@ -37,11 +37,11 @@ fn change(alloc: Global, line: u64, character: u64, text: &str) -> Result<String
     )
 }
 
-/// The notice of one fault, a character that the language does not have.
+/// The notice of one fault, a name of one letter that no binder has.
 fn notice(alloc: Global, line: u64, start: u64) -> Result<String, AllocError> {
     let end = start.wrapping_add(1);
     format!(in alloc;
-        r#"{{"jsonrpc":"2.0","method":"textDocument/publishDiagnostics","params":{{"diagnostics":[{{"code":"B1","message":"character not allowed","range":{{"end":{{"character":{end},"line":{line}}},"start":{{"character":{start},"line":{line}}}}},"severity":1,"source":"fullsub"}}],"uri":"file:///a"}}}}"#
+        r#"{{"jsonrpc":"2.0","method":"textDocument/publishDiagnostics","params":{{"diagnostics":[{{"code":"E1","message":"unbound name","range":{{"end":{{"character":{end},"line":{line}}},"start":{{"character":{start},"line":{line}}}}},"severity":1,"source":"fullsub"}}],"uri":"file:///a"}}}}"#
     )
 }
 
@@ -75,8 +75,8 @@ fn check_end(
 #[test]
 fn behind_an_emoji(rt: HostRuntime) -> Result<(), Fail> {
     let alloc = rt.alloc();
-    let change = change(alloc, 0, 3, "*/#")?;
-    // Where the stray character stands, and where it comes to stand behind the first three units,
+    let change = change(alloc, 0, 3, "*/z")?;
+    // Where the unbound name stands, and where one comes to stand behind the first three units,
     // which end inside the emoji's bytes, inside its pair, and behind it.
     for (encoding, opened, changed) in [("utf-8", 9, 4), ("utf-16", 7, 4), ("utf-32", 6, 5)] {
         check_end(&rt, alloc, encoding, &[EMOJI], (0, opened))?;
@@ -94,8 +94,8 @@ fn behind_an_emoji(rt: HostRuntime) -> Result<(), Fail> {
 #[test]
 fn behind_changes_of_two_lines(rt: HostRuntime) -> Result<(), Fail> {
     let alloc = rt.alloc();
-    let past_the_line = change(alloc, 0, 99, "#")?;
-    let past_the_text = change(alloc, 7, 0, "#")?;
+    let past_the_line = change(alloc, 0, 99, "z")?;
+    let past_the_text = change(alloc, 7, 0, "z")?;
     let typed = [TWO_LINES, past_the_line.as_str()];
     let changed = [TWO_LINES, TWO_CHANGES, past_the_text.as_str()];
     let swapped = [TWO_LINES, TWO_CHANGES, SWAPPED, past_the_text.as_str()];

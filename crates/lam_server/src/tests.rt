@@ -85,9 +85,15 @@ const HEADERS: &[(&str, Result<u8, RunFault>, &str)] = &[
         Err(RunFault::Header(FrameFault::TooLong)),
         "",
     ),
-    ("content-length:\t2 \r\n\r\n{}", Ok(1), INVALID),
+    (
+        "Content-Length: 67108864\r\n\r\n{}{",
+        Err(RunFault::Header(FrameFault::Truncated)),
+        "",
+    ),
+    ("content-length: \t2 \r\n\r\n{}", Ok(1), INVALID),
     ("Content-Length: 2\r\n\r\n[]", Ok(1), INVALID),
     ("Content-Length: 1\r\n\r\n{", Ok(1), UNREADABLE),
+    ("Content-Length: 0\r\n\r\n", Ok(1), UNREADABLE),
     // The reply stands, and then comes the fault.
     (
         "Content-Length: 1\r\n\r\n{Content-Length 1\r\n\r\n{",
@@ -236,6 +242,7 @@ fn position_encodings(rt: HostRuntime) -> Result<(), Fail> {
     let alloc = rt.alloc();
     for (offered, length, chosen) in [
         (r#"["utf-8","utf-16"]"#, 149, "utf-8"),
+        (r#"["utf-32","utf-8"]"#, 150, "utf-32"),
         (r#"["utf-32","utf-8","utf-16"]"#, 150, "utf-32"),
     ] {
         let body = format!(in alloc;
