@@ -138,6 +138,64 @@ fn header_limit(rt: HostRuntime) -> Result<(), Fail> {
     Ok(())
 }
 
+#[test]
+fn bodies_of_one_byte(rt: HostRuntime) -> Result<(), Fail> {
+    let alloc = rt.alloc();
+    for byte in 0..256u32 {
+        let mut input = Vec::new(alloc);
+        input.extend_from_slice(b"Content-Length: 1\r\n\r\n")?;
+        let last = byte as u8;
+        input.push(last)?;
+        // A digit is a value, and no message.
+        let output = if last.is_ascii_digit() {
+            INVALID
+        } else {
+            UNREADABLE
+        };
+        check_bytes(&rt, alloc, &input, Ok(1), output);
+    }
+    Ok(())
+}
+
+#[test]
+fn a_hundred_lists_in_each_other(rt: HostRuntime) -> Result<(), Fail> {
+    let alloc = rt.alloc();
+    let mut body = "[".repeat(alloc, 100)?;
+    body.push_str("]".repeat(alloc, 100)?.as_str())?;
+    let input = frames(alloc, &[body.as_str()])?;
+    check_bytes(&rt, alloc, input.as_bytes(), Ok(1), INVALID);
+    Ok(())
+}
+
+/// Where the input ends between two frames the run ends without an exit, and elsewhere it is cut short; what came whole
+/// is answered.
+#[test]
+fn input_cut_at_each_byte(rt: HostRuntime) -> Result<(), Fail> {
+    let alloc = rt.alloc();
+    let first = frames(alloc, &[INITIALIZE])?.len();
+    let second = frames(alloc, &[INITIALIZE, SHUTDOWN])?.len();
+    let whole = frames(alloc, &[INITIALIZE, SHUTDOWN, EXIT])?;
+    let mut both = String::from_str(alloc, INITIALIZED)?;
+    both.push_str(SHUT_DOWN)?;
+    for end in 0..whole.len() {
+        let outcome = if end == 0 || end == first || end == second {
+            Ok(1)
+        } else {
+            Err(RunFault::Header(FrameFault::Truncated))
+        };
+        let output = if end < first {
+            ""
+        } else if end < second {
+            INITIALIZED
+        } else {
+            both.as_str()
+        };
+        let front = &whole.as_bytes()[..end];
+        check_bytes(&rt, alloc, front, outcome, output);
+    }
+    Ok(())
+}
+
 /// Bodies, the status of a run on their frames, and the frames that are written.
 type Row<'a> = (&'a [&'a str], u8, &'a [&'a str]);
 
