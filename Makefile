@@ -1,17 +1,28 @@
-# `make` proves and builds the program, `make test` is the merge gate, `make bench` prints figures.
+# `make` proves and builds the program, `make test` is the merge gate with the rows of rows/ behind it, `make rows` plays these alone,
+# `make dear` tells what the proofs cost, `make attack` tries further wrong bodies, `make bench` prints figures.
 PREFIX ?= $(HOME)/.local
+NAME ?=
 
-.PHONY: all test install bench
+.PHONY: all test rows install dear attack bench
 
-# The program is proved, built and run once, for its help.
 all:
-	cd crates/lam_server && rt run -- --help
+	python3 bench/build.py
 
 test:
-	rt ci
+	python3 bench/gate.py
+
+rows:
+	python3 rows/play.py
 
 install: all
 	install -D crates/lam_server/out/lam_server $(PREFIX)/bin/lam_server
+	python3 rows/play.py --show --program $(PREFIX)/bin/lam_server rows/example.rows
+
+dear:
+	python3 bench/dear.py $(NAME)
+
+attack:
+	python3 bench/attack.py $(NAME)
 
 bench: all
 	cd crates/lam_bench && rt run

@@ -1,9 +1,10 @@
-"""record.py SERVER: types into real editors, and prints what they sent as a table of Rust.
+"""record.py SERVER: types into real editors, and writes what they sent to rows/recordings/.
 
 It needs Neovim, Emacs with eglot, and the built server. Each editor runs in a terminal of its
 own with the configuration that lies beside this folder, opens a file, edits it as a person
-would, saves it, closes it and ends. The table has the bodies that came to the server, byte for
-byte, and the file as it was saved.
+would, saves it, closes it and ends. Of each session there are two files: the bodies that came to
+the server, byte for byte, one a line, and the text that was saved, with the line ends that the
+editor sent. rows/recordings.rows plays them.
 """
 
 import os
@@ -12,6 +13,8 @@ import shutil
 import sys
 
 from terminal import FILE, ROOM, SENT, Terminal, prepare
+
+RECORDINGS = os.path.join(os.path.dirname(os.path.realpath(__file__)), "..", "..", "rows", "recordings")
 
 START = """/* Grüße an 😀 */
 T = {a:Nat, b:Bool};
@@ -54,10 +57,10 @@ EMACS_KEYS = [
 EMACS_END = ["\x18\x13", "\x18k\r", "\x1bxeglot-shutdown-all\r", "\x18\x03"]
 
 SESSIONS = [
-    ("neovim_lf", "\n", ["nvim", "-i", "NONE", FILE], NEOVIM_KEYS, NEOVIM_END),
-    ("neovim_cr_lf", "\r\n", ["nvim", "-i", "NONE", FILE], NEOVIM_KEYS, NEOVIM_END),
-    ("emacs_lf", "\n", ["emacs", "-nw", FILE], EMACS_KEYS, EMACS_END),
-    ("emacs_cr_lf", "\r\n", ["emacs", "-nw", FILE], EMACS_KEYS, EMACS_END),
+    ("neovim-lf", "\n", ["nvim", "-i", "NONE", FILE], NEOVIM_KEYS, NEOVIM_END),
+    ("neovim-cr-lf", "\r\n", ["nvim", "-i", "NONE", FILE], NEOVIM_KEYS, NEOVIM_END),
+    ("emacs-lf", "\n", ["emacs", "-nw", FILE], EMACS_KEYS, EMACS_END),
+    ("emacs-cr-lf", "\r\n", ["emacs", "-nw", FILE], EMACS_KEYS, EMACS_END),
 ]
 
 
@@ -80,38 +83,13 @@ def bodies(sent):
     return found
 
 
-def raw(text):
-    """A literal of Rust that says this text as it stands."""
-    marks = "#"
-    while f'"{marks}' in text:
-        marks += "#"
-    return f'r{marks}"{text}"{marks}'
-
-
-def escaped(text):
-    return '"' + text.replace("\\", "\\\\").replace('"', '\\"').replace("\r", "\\r").replace("\n", "\\n").replace("\t", "\\t") + '"'
-
-
-HEAD = f"""//! What editors sent, and the files that they saved. Made by `editors/record/record.py`.
-
-/// One editor's session with one file.
-#[derive(Clone, Copy)]
-pub struct Recording {{
-    /// One a line.
-    pub bodies: &'static str,
-    /// The line end in the texts that were sent.
-    pub line_end: &'static str,
-    pub saved: &'static str,
-}}
-
-/// The file that each edits.
-pub const URI: &str = "file://{FILE}";
-"""
+def write(name, ending, text):
+    with open(os.path.join(RECORDINGS, name + ending), "w", encoding="utf-8", newline="") as file:
+        file.write(text)
 
 
 def main():
     server = os.path.abspath(sys.argv[1])
-    print(HEAD, end="")
     for name, ends, command, keys, end in SESSIONS:
         prepare(server, START.replace("\n", ends))
         status = drive(command, keys + end)
@@ -119,15 +97,10 @@ def main():
             messages = bodies(file.read())
         with open(FILE, newline="") as file:
             saved = file.read()
-        print(f"{name}: status {status}, {len(messages)} messages", file=sys.stderr)
+        print(f"{name}: status {status}, {len(messages)} messages")
         line_end = "\r\n" if "\\r\\n" in "".join(messages) else "\n"
-        editor = "Neovim 0.7.2" if "neovim" in name else "Emacs 28.2 with eglot"
-        ending = "a line feed" if ends == "\n" else "a carriage return and a line feed"
-        print(f"\n/// {editor}, with a file whose lines end with {ending}.")
-        print(f"pub const {name.upper()}: Recording = Recording {{")
-        print(f"    bodies: {raw(chr(10).join(messages))},")
-        print(f"    line_end: {escaped(line_end)},")
-        print(f"    saved: {escaped(saved)},\n}};")
+        write(name, ".jsonl", "".join(it + "\n" for it in messages))
+        write(name, ".fsub", saved.replace("\r\n", line_end))
     shutil.rmtree(ROOM)
 
 

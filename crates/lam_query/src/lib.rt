@@ -12,8 +12,6 @@ mod order;
 mod queries;
 mod reading;
 mod steps;
-#[cfg(test)]
-mod tests;
 mod type_faults;
 
 pub use analyses::Analysis;

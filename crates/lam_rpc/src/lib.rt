@@ -11,8 +11,6 @@ mod body;
 mod fields;
 mod laws;
 mod replies;
-#[cfg(test)]
-mod tests;
 
 pub use body::{Incoming, classify};
 pub use fields::{BadParams, ChangesFault, read_changes, read_position, read_range, read_uri};

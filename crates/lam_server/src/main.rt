@@ -10,11 +10,7 @@ ghost use Rattle.lam_server.specs.Program.{status_of};
 ghost use Rattle.lam_server.specs.Words.{ReadsWords};
 
 mod answer;
-#[cfg(test)]
-mod answer_tests;
 mod args;
-#[cfg(test)]
-mod column_tests;
 mod faults;
 mod run;
 mod server;

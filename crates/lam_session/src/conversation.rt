@@ -71,15 +71,6 @@ impl Conversation {
         }
     }
 
-    /// The text of an open document.
-    #[cfg(test)]
-    pub fn text(&self, uri: &str) -> Option<&str> {
-        match self.documents.document(uri) {
-            Some(document) => Some(document.doc().text()),
-            None => None,
-        }
-    }
-
     /// Does what a message asks. After an error it is not to be asked anything more.
     pub fn receive(&mut self, incoming: Incoming) -> Result<Vec<Value>, AllocError>
         requires { self.old.analysed ≡ true }

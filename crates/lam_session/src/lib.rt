@@ -4,8 +4,6 @@
 //! it in which state, and which state follows. Nothing here knows frames, bytes or devices.
 #![tactic(auto)]
 
-#[cfg(test)]
-mod column_tests;
 mod conversation;
 mod diagnostics;
 mod document;
@@ -15,17 +13,11 @@ mod laws;
 mod methods;
 mod questions;
 mod ranges;
-#[cfg(test)]
-mod recordings;
 mod refusals;
-#[cfg(test)]
-mod replay;
 mod session;
 mod shown;
 mod states;
 mod sync;
-#[cfg(test)]
-mod tests;
 
 pub use laws::{each_fault_has_a_message, isolation, one_run};
 pub use session::Session;

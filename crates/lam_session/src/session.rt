@@ -74,10 +74,4 @@ impl Session {
         }
         answer
     }
-
-    /// The text of an open document.
-    #[cfg(test)]
-    pub fn text(&self, uri: &str) -> Option<&str> {
-        self.conversation.text(uri)
-    }
 }

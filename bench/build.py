@@ -1,0 +1,95 @@
+#!/usr/bin/env python3
+"""build.py: proves the crates that the program stands on, side by side, and builds it; says how far it is and how long is left.
+
+As many crates are proved at a time as there are processors, each once those below it are. Where fewer are ready, a crate gets
+the idle processors too. What was built before and has not changed is not built again.
+"""
+
+import concurrent.futures
+import glob
+import os
+import subprocess
+import sys
+import time
+
+PROGRAM = "lam_server"
+ROOT = os.path.join(os.path.dirname(os.path.realpath(__file__)), "..")
+# Seconds of one processor for a line, while nothing was measured yet.
+SECONDS_A_LINE = 0.06
+
+
+def crates():
+    """Each crate of crates.txt with the crates of this repository that it stands on."""
+    below = {}
+    with open(f"{ROOT}/crates.txt", encoding="utf-8") as it:
+        for line in it:
+            name, colon, words = line.partition("#")[0].partition(":")
+            if colon:
+                below[name.split()[0]] = words.split()
+    return {name: [it for it in words if it in below] for name, words in below.items()}
+
+
+def needed(below):
+    """The program and all that it stands on, the lowest first."""
+    found = []
+
+    def add(name):
+        for it in below[name]:
+            add(it)
+        if name not in found:
+            found.append(name)
+
+    add(PROGRAM)
+    return found
+
+
+def lines(name):
+    """How long the crate's sources, definitions and proofs are, by which its time is guessed."""
+    count = 0
+    for part in ("src", "specs", "proofs"):
+        for file in glob.glob(f"{ROOT}/crates/{name}/{part}/**/*.*t*", recursive=True):
+            with open(file, encoding="utf-8") as it:
+                count += sum(1 for _ in it)
+    return count
+
+
+def prove(name, jobs):
+    """Proves a crate by that many processes, and keeps what it printed for where it fails."""
+    words = ["rt", "run", "--jobs", str(jobs), "--", "--help"] if name == PROGRAM else ["rt", "lib", "--jobs", str(jobs)]
+    done = subprocess.run(words, cwd=f"{ROOT}/crates/{name}", stdout=subprocess.PIPE, stderr=subprocess.STDOUT, text=True, errors="replace", check=False)
+    if done.returncode:
+        print(done.stdout[-6000:], file=sys.stderr)
+    return done.returncode == 0
+
+
+def clock(seconds):
+    return f"{seconds / 60:.0f} min" if seconds >= 90 else f"{seconds:.0f} s"
+
+
+def main():
+    below, start = crates(), time.monotonic()
+    left, cores = needed(below), len(os.sched_getaffinity(0))
+    work = {it: lines(it) for it in left}
+    whole, proved, running = sum(work.values()), set(), {}
+    print(f"{len(left)} crates to prove on {cores} processors, about {clock(whole * SECONDS_A_LINE / min(cores, 2))} from nothing", flush=True)
+    with concurrent.futures.ThreadPoolExecutor(cores) as pool:
+        while left or running:
+            ready = [it for it in left if all(lower in proved for lower in below[it])]
+            for at, name in enumerate(ready):
+                idle = cores - sum(jobs for _, jobs in running.values())
+                if idle > 0:
+                    jobs = max(1, min(4, idle // (len(ready) - at)))
+                    left.remove(name)
+                    running[pool.submit(prove, name, jobs)] = name, jobs
+            for it in concurrent.futures.wait(running, return_when=concurrent.futures.FIRST_COMPLETED).done:
+                name, _ = running.pop(it)
+                if not it.result():
+                    sys.exit(f"{name} is not proved")
+                proved.add(name)
+                done, passed = sum(work[it] for it in proved), time.monotonic() - start
+                rest = f", about {clock(passed * (whole - done) / done)} left" if left or running else ""
+                print(f"{name} is proved: {len(proved)} of {len(work)} crates, {clock(passed)}{rest}", flush=True)
+
+
+if __name__ == "__main__":
+    main()

@@ -1,0 +1,48 @@
+#!/usr/bin/env python3
+"""gate.py: the merge gate. It runs `rt ci`, that is every proof from nothing, the tests and the edits that must fail, then plays the rows
+against the program as both compilers build it, and prints what all of it took. The last line counts both: 'N passed, M failed'."""
+
+import os
+import re
+import resource
+import subprocess
+import sys
+import time
+
+ROOT = os.path.join(os.path.dirname(os.path.realpath(__file__)), "..")
+COUNT = re.compile(r"(\d+) passed, (\d+) failed$")
+
+
+def counted(words):
+    """Runs the words and passes on what they print, but for the last line, which counts; returns the counts."""
+    passed, failed, last = 0, 1, None
+    with subprocess.Popen(words, cwd=ROOT, stdout=subprocess.PIPE, text=True, errors="replace") as run:
+        for line in run.stdout:
+            if last is not None:
+                print(last, end="", flush=True)
+            last = line
+    found = COUNT.match((last or "").strip())
+    if found:
+        passed, failed = int(found[1]), int(found[2])
+    elif last:
+        print(last, end="", flush=True)
+    if run.returncode and not failed:
+        failed = 1
+    return passed, failed
+
+
+def main():
+    start = time.monotonic()
+    proofs = counted(["rt", "ci"])
+    print(f"proofs, tests and edits: {proofs[0]} right, {proofs[1]} wrong", flush=True)
+    middle = time.monotonic()
+    rows = counted([sys.executable, f"{ROOT}/rows/play.py"])
+    print(f"rows: {rows[0]} right, {rows[1]} wrong, in {time.monotonic() - middle:.0f} s")
+    used = resource.getrusage(resource.RUSAGE_CHILDREN)
+    print(f"{(time.monotonic() - start) / 60:.0f} minutes, {(used.ru_utime + used.ru_stime) / 60:.0f} of processor time")
+    print(f"{proofs[0] + rows[0]} passed, {proofs[1] + rows[1]} failed")
+    return 1 if proofs[1] or rows[1] else 0
+
+
+if __name__ == "__main__":
+    sys.exit(main())

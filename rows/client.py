@@ -1,0 +1,375 @@
+"""A client that plays rows: what it sends, what must come, and what came."""
+
+import collections
+import json
+import os
+import re
+import subprocess
+
+from read import Block, counted, quoted
+from texts import Mistake, edited, expanded
+
+SECONDS = 60
+
+FAULT = re.compile(r"[BPLYE]\d$")
+STEP = re.compile(r"(\d+) +([ST]-\w+) +(.*?)(?: from ([\d ]+))?$")
+MESSAGES = {
+    "B1": "character not allowed",
+    "B2": "comment not closed",
+    "P1": "unexpected token",
+    "P2": "command ends too early",
+    "L1": "type of more than 4096 nodes",
+    "L2": "command of more than 2000 tokens",
+    "Y1": "unbound type name",
+    "Y2": "label used twice in a record type",
+    "E1": "unbound name",
+    "E2": "not a function",
+    "E3": "argument does not fit the parameter",
+    "E4": "no such field",
+    "E5": "condition is not Bool",
+    "E6": "operand is not Nat",
+    "E7": "term does not have the written type",
+    "E8": "fix needs a function whose result fits its parameter",
+    "E9": "label used twice in a record",
+}
+CUT_SHORT = "lam_server: F5 Truncated"
+
+# What was asked in which line of the row file, and the body that must come.
+Wanted = collections.namedtuple("Wanted", "line asked body")
+
+
+class Failed(Exception):
+    """What the program did, and what it should have done."""
+
+
+def compact(value):
+    """The value as the server writes it: members in the order of their names, no blanks."""
+    return json.dumps(value, sort_keys=True, separators=(",", ":"), ensure_ascii=False)
+
+
+def framed(body):
+    """The frame of a body, a text or bytes."""
+    body = body.encode() if isinstance(body, str) else body
+    return b"Content-Length: %d\r\n\r\n%b" % (len(body), body)
+
+
+def position(place):
+    return {"line": place[0], "character": place[1]}
+
+
+def span(start, end):
+    return {"start": position(start), "end": position(end)}
+
+
+def reply(number, result):
+    return compact({"id": number, "jsonrpc": "2.0", "result": result})
+
+
+def refusal(number, code, message):
+    return compact({"error": {"code": code, "message": message}, "id": number, "jsonrpc": "2.0"})
+
+
+def published(uri, version, faults):
+    """The notice of these faults, each with start, end and code."""
+    items = [
+        {"code": code, "message": MESSAGES[code], "range": span(start, end), "severity": 1, "source": "fullsub"}
+        for start, end, code in sorted(faults)
+    ]
+    params = {"diagnostics": items, "uri": uri}
+    if version is not None:
+        params["version"] = version
+    return compact({"jsonrpc": "2.0", "method": "textDocument/publishDiagnostics", "params": params})
+
+
+def told(mark, start, end):
+    """The faults that a mark stands for: one, or by `E2 repeated 10 every 4` so many of one line."""
+    times = re.match(r"repeated (\d+) every (\d+)$", mark.rest)
+    count, step = map(int, times.groups()) if times else (1, 0)
+    if mark.rest and not times:
+        raise Mistake(f"line {mark.line}: behind a fault's code stands nothing, or 'repeated COUNT every COLUMNS'")
+    return [((start[0], start[1] + at * step), (end[0], end[1] + at * step), mark.verb) for at in range(count)]
+
+
+def parted(text):
+    """The text cut at each ', ' outside braces."""
+    parts, depth = [""], 0
+    for piece in re.split(r"([{}]|, )", text):
+        depth += {"{": 1, "}": -1}.get(piece, 0)
+        if piece == ", " and not depth:
+            parts.append("")
+        else:
+            parts[-1] += piece
+    return parts
+
+
+def entry(text):
+    """An entry of a context, written NAME:TYPE, or NAME:none."""
+    name, _, ty = text.partition(":")
+    return {"name": name, "type": None if ty == "none" else ty}
+
+
+class Script:
+    """What a row sends in one dialect and one encoding, and what must come for it."""
+
+    def __init__(self, row, dialect, encoding):
+        self.row, self.dialect, self.encoding = row, dialect, encoding
+        self.sent, self.wanted, self.changes = [], [], []
+        self.texts, self.versions, self.requests = {}, {}, 0
+        self.says, self.parts, self.repeats = "", {"prints": [], "complains": []}, 1
+        self.recording, self.saved = None, None
+        verbs = {getattr(it, "verb", "") for it in row.steps}
+        self.is_whole = not verbs & {"send", "plays", "prints", "complains"}
+        if self.is_whole:
+            self.do_initialize(row.line, "")
+        for step in row.steps:
+            if isinstance(step, Block):
+                self.take_block(step)
+            else:
+                getattr(self, f"do_{step.verb}")(step.line, step.rest)
+        if self.changes:
+            raise Mistake("changes without a line 'now' and the text that they leave")
+        if self.is_whole:
+            self.tell(row.line, {"id": "end", "method": "shutdown"}, reply("end", None))
+            self.tell(row.line, {"method": "exit"})
+        self.status = row.status if row.status is not None else 0 if self.is_whole else None
+        if self.status is None:
+            raise Mistake("a row that sends bodies itself says by 'status N' how the program ends")
+
+    # What is sent, and what must come.
+
+    def send(self, frame):
+        self.sent.append((frame, len(self.wanted)))
+
+    def want(self, line, asked, body):
+        self.wanted.append(Wanted(line, asked, body))
+        if self.sent:
+            self.sent[-1] = (self.sent[-1][0], len(self.wanted))
+
+    def tell(self, line, message, body=None):
+        """Sends a message, for which this body must come, if one is given."""
+        asked = compact({"jsonrpc": "2.0", **message})
+        self.send(framed(asked))
+        if body is not None:
+            self.want(line, asked, body)
+
+    def notice(self, line, method, params, body):
+        self.tell(line, {"method": f"textDocument/{method}", "params": params}, body)
+
+    def ask(self, line, method, place, uri, result):
+        self.requests += 1
+        params = {"textDocument": {"uri": uri}, "position": position(place)}
+        self.tell(line, {"id": self.requests, "method": method, "params": params}, reply(self.requests, result))
+
+    # Documents.
+
+    def take_block(self, block):
+        """Opens or changes a document, and asks what its marks ask."""
+        uri, text = block.uri, block.text(self.row.line_end)
+        places = [(mark, *counted(block, mark, self.encoding)) for mark in block.marks if mark.start is not None]
+        faults = [it for mark, start, end, _ in places if FAULT.match(mark.verb) for it in told(mark, start, end)]
+        if block.kind == "open":
+            self.versions[uri] = 1
+            document = {"uri": uri, "languageId": "fullsub", "version": 1, "text": text}
+            self.notice(block.line, "didOpen", {"textDocument": document}, published(uri, 1, faults))
+        else:
+            self.take_changed(block, text, faults)
+        self.texts[uri] = text
+        self.take_marks(block, places)
+
+    def take_changed(self, block, text, faults):
+        uri = block.uri
+        if uri not in self.texts:
+            raise Mistake("a document that is not open cannot be changed")
+        if block.kind == "whole":
+            self.changes.append({"text": text})
+        elif not self.changes:
+            raise Mistake(f"'{block.kind}' without a change before it")
+        elif self.texts[uri] != text:
+            raise Mistake(f"the changes leave {self.texts[uri]!r}, and the row says {text!r}")
+        if block.kind == "and":
+            return
+        self.versions[uri] += 1
+        document = {"uri": uri, "version": self.versions[uri]}
+        params = {"textDocument": document, "contentChanges": self.changes}
+        self.notice(block.line, "didChange", params, published(uri, self.versions[uri], faults))
+        self.changes = []
+
+    def take_marks(self, block, places):
+        """Asks and changes as the marks say, one after the other."""
+        steps = {}
+        for mark, start, end, cursor in places:
+            if STEP.match(mark.says):
+                steps[mark.line] = (start, end)
+        for at, mark in enumerate(block.marks):
+            if FAULT.match(mark.verb) or STEP.match(mark.says):
+                continue
+            if mark.verb not in ("hover", "why", "becomes", "inserts"):
+                raise Mistake(f"line {mark.line}: nothing is asked by {mark.verb!r}")
+            start, end, cursor = next(it[1:] for it in places if it[0] is mark)
+            if mark.verb == "hover":
+                self.hover(mark, block.uri, (start, end), cursor)
+            elif mark.verb == "why":
+                listed = []
+                for step in block.marks[at + 1 :]:
+                    if not STEP.match(step.says):
+                        break
+                    listed.append((step, steps[step.line]))
+                self.why(mark, block.uri, cursor, listed)
+            else:
+                self.change(mark, block.uri, start, start if mark.verb == "inserts" else end)
+
+    def hover(self, mark, uri, place, cursor):
+        shown = {"contents": {"kind": "plaintext", "value": expanded(mark.rest)}, "range": span(*place)}
+        self.ask(mark.line, "textDocument/hover", cursor, uri, None if mark.rest == "nothing" else shown)
+
+    def why(self, mark, uri, cursor, listed):
+        """Asks for a derivation, whose context stands behind `in`, and whose steps under the mark."""
+        result = None
+        if mark.rest != "nothing":
+            context = parted(expanded(mark.rest.removeprefix("in "))) if mark.rest else []
+            steps = [self.step(at, *it) for at, it in enumerate(listed)]
+            result = {"context": [entry(it) for it in context], "steps": steps}
+        self.ask(mark.line, "fullsub/derivation", cursor, uri, result)
+
+    def step(self, at, mark, place):
+        number, rule, concluded, premises = STEP.match(mark.says).groups()
+        if int(number) != at:
+            raise Mistake(f"line {mark.line}: step {number} stands where step {at} is due")
+        made = {"from": [int(it) for it in (premises or "").split()], "rule": rule}
+        if rule.startswith("S-"):
+            lower, _, upper = concluded.partition(" <: ")
+            return {**made, "lower": lower, "upper": upper}
+        return {**made, "range": span(*place), "type": expanded(concluded)}
+
+    def change(self, mark, uri, start, end):
+        new = quoted(mark.rest)
+        self.texts[uri] = edited(self.texts[uri], ((start, end), new), self.encoding)
+        self.changes.append({"range": span(start, end), "text": new})
+
+    # Lines of words.
+
+    def do_initialize(self, line, rest):
+        params = {"capabilities": {"general": {"positionEncodings": [self.encoding]}}}
+        told = {"hoverProvider": True, "positionEncoding": self.encoding, "textDocumentSync": {"change": 2, "openClose": True}}
+        self.tell(line, {"id": 0, "method": "initialize", "params": params}, reply(0, {"capabilities": told}))
+
+    def do_close(self, line, uri):
+        uri = uri or "file:///a"
+        self.notice(line, "didClose", {"textDocument": {"uri": uri}}, published(uri, None, []))
+        self.texts.pop(uri, None)
+
+    def do_send(self, line, rest):
+        self.repeats = 1
+        if rest.startswith("bytes "):
+            self.send(quoted(rest[6:]).encode("latin-1"))
+        elif rest.startswith("each byte "):
+            first, _, last = rest[10:].partition("..")
+            for byte in range(int(first), int(last) + 1):
+                self.send(framed(bytes([byte])))
+            self.repeats = int(last) + 1 - int(first)
+        else:
+            self.send(framed(expanded(rest)))
+
+    def do_get(self, line, rest):
+        if rest == "nothing":
+            return
+        length, _, body = rest.partition(" ") if rest[:1].isdigit() else ("", "", rest)
+        if body.startswith("error "):
+            number, code, message = body[6:].split(" ", 2)
+            body = refusal(json.loads(number), int(code), message)
+        body = expanded(body)
+        if length and len(body.encode()) != int(length):
+            raise Mistake(f"line {line}: the body has {len(body.encode())} bytes, and the row says {length}")
+        for _ in range(self.repeats):
+            self.want(line, self.sent[-1][0].decode(errors="replace") if self.sent else "nothing", body)
+
+    def do_says(self, line, rest):
+        self.says = rest + "\n"
+
+    def do_prints(self, line, rest):
+        self.parts["prints"].append(rest)
+
+    def do_complains(self, line, rest):
+        self.parts["complains"].append(rest)
+
+    def do_plays(self, line, rest):
+        """The file of the bodies that an editor sent, one a line."""
+        self.recording = os.path.join(os.path.dirname(self.row.file), rest)
+
+    def do_leaves(self, line, rest):
+        """The file of the text that the editor left before it closed the document."""
+        self.saved = os.path.join(os.path.dirname(self.row.file), rest)
+
+
+def ran(program, script, given):
+    words = [os.path.abspath(program), *script.row.arguments]
+    if script.dialect == "2":
+        words += ["--dialect", "2"]
+    return subprocess.run(words, input=given, capture_output=True, timeout=SECONDS, check=False)
+
+
+def bodies_of(output):
+    """The bodies of an output that is frames, and what stands behind the last whole one."""
+    bodies = []
+    while found := re.match(rb"Content-Length: (\d+)\r\n\r\n", output):
+        end = found.end() + int(found[1])
+        if end > len(output):
+            break
+        bodies.append(output[found.end() : end].decode(errors="replace"))
+        output = output[end:]
+    return bodies, output
+
+
+def compare(script, wanted, output):
+    """Holds an output to the bodies that must come."""
+    if output == b"".join(framed(it.body) for it in wanted):
+        return
+    bodies, rest = bodies_of(output)
+    for want, came in zip(wanted, [*bodies, *[None] * len(wanted)]):
+        if want.body != came:
+            raise Failed(f"  line {want.line}: asked {want.asked}\n    wanted {want.body}\n    came   {came or 'nothing'}")
+    raise Failed(f"  more came than was wanted: {(bodies[len(wanted):] or [rest])[0]!r}")
+
+
+def compare_end(script, done, status, says):
+    """Holds the status and what stands on standard error to what the row says."""
+    if done.returncode != status:
+        raise Failed(f"  the program ended with status {done.returncode}, wanted {status}; it said {done.stderr.decode(errors='replace')!r}")
+    told = done.stderr.decode(errors="replace")
+    if script.parts["complains"]:
+        for part in script.parts["complains"]:
+            if part not in told:
+                raise Failed(f"  standard error has no {part!r}: {told!r}")
+    elif told != says:
+        raise Failed(f"  standard error has {told!r}, wanted {says!r}")
+
+
+def checked(program, script):
+    """Plays the script, and fails where anything else comes than must."""
+    given = b"".join(frame for frame, _ in script.sent)
+    done = ran(program, script, given)
+    if script.parts["prints"]:
+        for part in script.parts["prints"]:
+            if part not in done.stdout.decode(errors="replace"):
+                raise Failed(f"  standard output has no {part!r}")
+    else:
+        compare(script, script.wanted, done.stdout)
+    compare_end(script, done, script.status, script.says)
+    if script.row.is_cut:
+        for end in range(len(given)):
+            check_cut(program, script, given[:end])
+
+
+def check_cut(program, script, given):
+    """Plays the first bytes alone: what came whole is answered, and a run that ends between two frames has no fault."""
+    done, length, wanted = ran(program, script, given), 0, 0
+    for frame, answered in script.sent:
+        if length + len(frame) > len(given):
+            break
+        length, wanted = length + len(frame), answered
+    try:
+        compare(script, script.wanted[:wanted], done.stdout)
+        at_border = length == len(given)
+        compare_end(script, done, 1 if at_border else 3, "" if at_border else CUT_SHORT + "\n")
+    except Failed as failed:
+        raise Failed(f"  cut behind {len(given)} bytes:\n{failed}") from failed

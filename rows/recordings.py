@@ -1,0 +1,58 @@
+"""Recorded sessions of editors, played again: the text that the changes leave must be answered as the text that was saved."""
+
+import json
+import re
+
+from client import Failed, bodies_of, compact, compare_end, framed, ran
+
+SAVED = "file:///saved"
+
+
+def read(file):
+    with open(file, encoding="utf-8", newline="") as it:
+        return it.read()
+
+
+def hovers(uri, text, name):
+    """Requests for the type at each column of each line of the text, as a client counts in UTF-16."""
+    frames = []
+    for line, content in enumerate(re.split("\r\n|\n|\r", text)):
+        for column in range(len(content.encode("utf-16-le")) // 2 + 1):
+            position = {"line": line, "character": column}
+            params = {"textDocument": {"uri": uri}, "position": position}
+            frames.append(framed(compact({"id": f"{name} {line}:{column}", "method": "textDocument/hover", "params": params})))
+    return frames
+
+
+def answers_of(output):
+    """What each request was answered, by its id, and the faults that each document had before it was closed."""
+    results, faults = {}, {}
+    for body in bodies_of(output)[0]:
+        answer = json.loads(body)
+        if "id" in answer:
+            results[answer["id"]] = answer.get("result")
+        elif answer["params"]["uri"] not in faults or not any(it.startswith("saved ") for it in map(str, results)):
+            faults[answer["params"]["uri"]] = answer["params"]["diagnostics"]
+    return results, faults
+
+
+def check_recording(program, script):
+    """Plays the bodies; in front of the one that closes the document, a document with the saved text is opened, and both are asked about each place."""
+    bodies, saved = read(script.recording).splitlines(), read(script.saved)
+    close = next(at for at, body in enumerate(bodies) if json.loads(body).get("method") == "textDocument/didClose")
+    uri = json.loads(bodies[close])["params"]["textDocument"]["uri"]
+    document = {"textDocument": {"uri": SAVED, "text": saved}}
+    opened = framed(compact({"method": "textDocument/didOpen", "params": document}))
+    asked = [*hovers(uri, saved, "edited"), opened, *hovers(SAVED, saved, "saved")]
+    given = [*map(framed, bodies[:close]), *asked, *map(framed, bodies[close:])]
+    done = ran(program, script, b"".join(given))
+    compare_end(script, done, script.status, "")
+    results, faults = answers_of(done.stdout)
+    if faults[uri] != faults[SAVED]:
+        raise Failed(f"  the faults of the edited text are {faults[uri]}, those of the saved one {faults[SAVED]}")
+    places = [it.removeprefix("saved ") for it in map(str, results) if it.startswith("saved ")]
+    if len(places) != len(asked) // 2:
+        raise Failed(f"  {len(places)} of {len(asked) // 2} places of the saved text were answered")
+    for place in places:
+        if results.get(f"edited {place}") != results[f"saved {place}"]:
+            raise Failed(f"  at {place} the edited text shows {results.get(f'edited {place}')}, the saved one {results[f'saved {place}']}")
