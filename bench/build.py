@@ -62,6 +62,12 @@ def prove(name, jobs):
     return done.returncode == 0
 
 
+def seconds_a_line(taken, work):
+    """What a line took, of the crates that were not built before."""
+    measured = [it for it in taken if taken[it] > 5]
+    return sum(taken[it] for it in measured) / sum(work[it] for it in measured) if measured else SECONDS_A_LINE
+
+
 def clock(seconds):
     return f"{seconds / 60:.0f} min" if seconds >= 90 else f"{seconds:.0f} s"
 
@@ -69,26 +75,25 @@ def clock(seconds):
 def main():
     below, start = crates(), time.monotonic()
     left, cores = needed(below), len(os.sched_getaffinity(0))
-    work = {it: lines(it) for it in left}
-    whole, proved, running = sum(work.values()), set(), {}
-    print(f"{len(left)} crates to prove on {cores} processors, about {clock(whole * SECONDS_A_LINE / min(cores, 2))} from nothing", flush=True)
+    work, taken, running = {it: lines(it) for it in left}, {}, {}
+    print(f"{len(left)} crates to prove on {cores} processors, about {clock(sum(work.values()) * SECONDS_A_LINE / 2)} from nothing", flush=True)
     with concurrent.futures.ThreadPoolExecutor(cores) as pool:
         while left or running:
-            ready = [it for it in left if all(lower in proved for lower in below[it])]
+            ready = [it for it in left if all(lower in taken for lower in below[it])]
             for at, name in enumerate(ready):
-                idle = cores - sum(jobs for _, jobs in running.values())
+                idle = cores - sum(jobs for _, jobs, _ in running.values())
                 if idle > 0:
                     jobs = max(1, min(4, idle // (len(ready) - at)))
                     left.remove(name)
-                    running[pool.submit(prove, name, jobs)] = name, jobs
+                    running[pool.submit(prove, name, jobs)] = name, jobs, time.monotonic()
             for it in concurrent.futures.wait(running, return_when=concurrent.futures.FIRST_COMPLETED).done:
-                name, _ = running.pop(it)
+                name, _, began = running.pop(it)
                 if not it.result():
                     sys.exit(f"{name} is not proved")
-                proved.add(name)
-                done, passed = sum(work[it] for it in proved), time.monotonic() - start
-                rest = f", about {clock(passed * (whole - done) / done)} left" if left or running else ""
-                print(f"{name} is proved: {len(proved)} of {len(work)} crates, {clock(passed)}{rest}", flush=True)
+                taken[name] = time.monotonic() - began
+                rest = sum(work[it] for it in work if it not in taken) * seconds_a_line(taken, work) / 2
+                ahead = f", about {clock(rest)} left" if rest else ""
+                print(f"{name} is proved: {len(taken)} of {len(work)} crates, {clock(time.monotonic() - start)}{ahead}", flush=True)
 
 
 if __name__ == "__main__":
