@@ -32,6 +32,8 @@ MESSAGES = {
     "E8": "fix needs a function whose result fits its parameter",
     "E9": "label used twice in a record",
 }
+# How the marks are written of which something is asked or that change something.
+SIGNS = {"hover": r"~*\^~*", "why": r"~*\^~*", "becomes": r"\^+", "inserts": r"\^"}
 CUT_SHORT = "lam_server: F5 Truncated"
 
 # What was asked in which line of the row file, and the body that must come.
@@ -81,10 +83,16 @@ def published(uri, version, faults):
     return compact({"jsonrpc": "2.0", "method": "textDocument/publishDiagnostics", "params": params})
 
 
+def check_signs(mark, wanted):
+    if not mark.is_counted and not re.fullmatch(wanted, mark.signs):
+        raise Mistake(f"line {mark.line}: {mark.signs!r} is no mark for {mark.verb!r}")
+
+
 def told(mark, start, end):
     """The faults that a mark stands for: one, or by `E2 repeated 10 every 4` so many of one line."""
     times = re.match(r"repeated (\d+) every (\d+)$", mark.rest)
     count, step = map(int, times.groups()) if times else (1, 0)
+    check_signs(mark, r"\^+")
     if mark.rest and not times:
         raise Mistake(f"line {mark.line}: behind a fault's code stands nothing, or 'repeated COUNT every COLUMNS'")
     return [((start[0], start[1] + at * step), (end[0], end[1] + at * step), mark.verb) for at in range(count)]
@@ -128,6 +136,8 @@ class Script:
                 getattr(self, f"do_{step.verb}")(step.line, step.rest)
         if self.changes:
             raise Mistake("changes without a line 'now' and the text that they leave")
+        if bool(self.recording) != bool(self.saved):
+            raise Mistake("'plays' and 'leaves' stand together")
         if self.is_whole:
             self.tell(row.line, {"id": "end", "method": "shutdown"}, reply("end", None))
             self.tell(row.line, {"method": "exit"})
@@ -165,7 +175,7 @@ class Script:
     def take_block(self, block):
         """Opens or changes a document, and asks what its marks ask."""
         uri, text = block.uri, block.text(self.row.line_end)
-        places = [(mark, *counted(block, mark, self.encoding)) for mark in block.marks if mark.start is not None]
+        places = [(mark, *counted(block, mark, self.encoding)) for mark in block.marks]
         faults = [it for mark, start, end, _ in places if FAULT.match(mark.verb) for it in told(mark, start, end)]
         if block.kind == "open":
             self.versions[uri] = 1
@@ -195,25 +205,22 @@ class Script:
         self.changes = []
 
     def take_marks(self, block, places):
-        """Asks and changes as the marks say, one after the other."""
-        steps = {}
-        for mark, start, end, cursor in places:
-            if STEP.match(mark.says):
-                steps[mark.line] = (start, end)
-        for at, mark in enumerate(block.marks):
-            if FAULT.match(mark.verb) or STEP.match(mark.says):
-                continue
-            if mark.verb not in ("hover", "why", "becomes", "inserts"):
+        """Asks and changes as the marks say, one after the other; the steps of a derivation stand behind the mark that asks for it."""
+        spans = {id(mark): it for mark, *it in places}
+        left = collections.deque(it for it in block.marks if not FAULT.match(it.verb))
+        while left:
+            mark = left.popleft()
+            if mark.verb not in SIGNS:
                 raise Mistake(f"line {mark.line}: nothing is asked by {mark.verb!r}")
-            start, end, cursor = next(it[1:] for it in places if it[0] is mark)
+            check_signs(mark, SIGNS[mark.verb])
+            start, end, cursor = spans[id(mark)]
             if mark.verb == "hover":
                 self.hover(mark, block.uri, (start, end), cursor)
             elif mark.verb == "why":
                 listed = []
-                for step in block.marks[at + 1 :]:
-                    if not STEP.match(step.says):
-                        break
-                    listed.append((step, steps[step.line]))
+                while left and STEP.match(left[0].says):
+                    check_signs(left[0], "~*")
+                    listed.append((left[0], spans[id(left.popleft())][:2]))
                 self.why(mark, block.uri, cursor, listed)
             else:
                 self.change(mark, block.uri, start, start if mark.verb == "inserts" else end)
@@ -236,8 +243,10 @@ class Script:
         if int(number) != at:
             raise Mistake(f"line {mark.line}: step {number} stands where step {at} is due")
         made = {"from": [int(it) for it in (premises or "").split()], "rule": rule}
+        if rule.startswith("S-") == bool(mark.signs or mark.is_counted):
+            raise Mistake(f"line {mark.line}: a step of typing has its term under ~, one of subtyping has none")
         if rule.startswith("S-"):
-            lower, _, upper = concluded.partition(" <: ")
+            lower, _, upper = expanded(concluded).partition(" <: ")
             return {**made, "lower": lower, "upper": upper}
         return {**made, "range": span(*place), "type": expanded(concluded)}
 
