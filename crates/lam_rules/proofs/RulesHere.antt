@@ -1,10 +1,10 @@
 -- Each rule of typing at a term and premises that were told apart.
-use Rattle.std.proofs.Common.{◌≡◌, ◌<◌, ◌≤◌, ◌↔◌, List, ◌∷◌, Option, Some, None, String, string_bytes, Box, length, get_or, ap, sym, ◌∙◌}
+use Rattle.std.proofs.Common.{◌≡◌, ◌<◌, ◌≤◌, ◌↔◌, List, ◌∷◌, Option, Some, None, String, string_bytes, Box, length, get_or, ap, sym, ◌∙◌, ℕ, ◌+◌, drop}
 use Rattle.std.specs.declared.alloc.Global.{Global}
 use Rattle.lam_rules.specs.Types.{Label, Typ, bool, nat, arrow, record_of, Fields, Has}
-use Rattle.lam_rules.specs.TypeViews.{typ_of}
-use Rattle.lam_rules.specs.TermViews.{term_of}
-use Rattle.lam_rules.specs.Terms.{Term}
+use Rattle.lam_rules.specs.TypeViews.{typ_of, fields_of}
+use Rattle.lam_rules.specs.TermViews.{term_of, terms_of}
+use Rattle.lam_rules.specs.Terms.{Term, record_term}
 use Rattle.lam_rules.specs.Subtyping.{conclusion, IsSubProof}
 use Rattle.lam_rules.specs.SubViews.{sub_tree_of}
 use Rattle.lam_rules.specs.Typing.{Context, type_in, IsTyping, ByTypeRule, HasField}
@@ -16,9 +16,10 @@ use Rattle.lam_rules.specs.declared.terms.Core.{Core}
 use Rattle.lam_rules.specs.declared.terms.Core.TheVariants.{If, Succ, Pred, IsZero, Abs, App, Ascribe, Let, Proj, Fix}
 use Rattle.lam_rules.specs.declared.subtyping.SubProof.{SubProof, out-SubProof}
 use Rattle.lam_rules.specs.declared.typing.TypeProof.{TypeProof, out-TypeProof}
-use Rattle.lam_rules.proofs.TermShapes.{term_of-If, term_of-Succ, term_of-Pred, term_of-IsZero, term_of-Abs, term_of-App, term_of-Ascribe, term_of-Let, term_of-Proj, term_of-Fix}
+use Rattle.lam_rules.proofs.TermShapes.{term_of-If, term_of-Succ, term_of-Pred, term_of-IsZero, term_of-Abs, term_of-App, term_of-Ascribe, term_of-Let, term_of-Proj, term_of-Fix, terms_of-drop}
 use Rattle.lam_rules.proofs.SubShapes.{conclusion-sub_tree_of}
-use Rattle.lam_rules.proofs.TypingShapes.{type_in-typing_tree_of, one_premise, two_premises, three_premises}
+use Rattle.lam_rules.proofs.TypingShapes.{type_in-typing_tree_of, one_premise, two_premises, three_premises, typings_of-drop}
+use Rattle.lam_rules.proofs.TypeShapes.{fields_of-drop}
 
 both_ways : {A : Type 0} → A ↔ A
 both_ways = (λ a. a, λ a. a)
@@ -86,6 +87,19 @@ here_fix term e a is is_a ps p low high is_p g t d = rw (is, term_of-Fix e, sym 
 -- T-Proj: the fields of a record type
 pub fields_here : (u t : Typ) (gs hs : Fields) (k l : Label) → u ≡ record_of gs → l ≡ k → hs ≡ gs → HasField u k t ↔ Has l t hs
 fields_here u t gs hs k l is is_l is_hs = rw (is, is_l, is_hs) both_ways
+
+-- T-Rcd: the field at an index
+pub here_rcd : (es : List (String Global × Core)) (fs : List (String Global × Ty)) (ps : List TypeProof) (i : ℕ)
+    (e : String Global × Core) (f : String Global × Ty) (p : TypeProof)
+    → i < length es → i < length fs → i < length ps → e ≡ get_or es i e → f ≡ get_or fs i f → p ≡ get_or ps i p
+    → (g : Context) (d : Dialect)
+    → ByTypeRule TypeRule.Rcd None g (record_term (terms_of (drop i es))) (record_of (fields_of (drop i fs))) (typings_of (drop i ps)) d
+    ↔ ((string_bytes e.0 ≡ string_bytes f.0)
+    × IsTyping g (term_of e.1) (typing_tree_of p) d
+    × (type_in (typing_tree_of p) ≡ typ_of f.1)
+    × ByTypeRule TypeRule.Rcd None g (record_term (terms_of (drop (i + 1) es))) (record_of (fields_of (drop (i + 1) fs))) (typings_of (drop (i + 1) ps)) d)
+here_rcd es fs ps i e f p in_es in_fs in_ps is_e is_f is_p g d =
+    rw (terms_of-drop es i e in_es is_e, fields_of-drop fs i f in_fs is_f, typings_of-drop ps i p in_ps is_p) both_ways
 
 -- T-Sub: the claim of a tree, part by part
 concludes : (q : SubProof) (s t : Typ)

@@ -1,0 +1,16 @@
+use Rattle.std.proofs.Common.{arith}
+use Rattle.lam_rules.proofs.TypeShapes.{shapes}
+use Rattle.lam_rules.proofs.SubShapes.{sub_shapes}
+use Rattle.lam_rules.proofs.subtyping.by_permutation.Goals as goal
+
+pub returns-then-not-is_empty : goal.returns-then-not-is_empty
+returns-then-not-is_empty c = grind (arith, shapes, sub_shapes)
+
+pub returns-in_default : goal.returns-in_default
+returns-in_default c = grind (arith, shapes, sub_shapes)
+
+pub returns-in_default-upper : goal.returns-in_default-upper
+returns-in_default-upper c = grind (arith, shapes, sub_shapes)
+
+pub returns : goal.returns
+returns c = grind (arith, shapes, sub_shapes)
