@@ -1,6 +1,7 @@
-use Rattle.std.proofs.Common.{◌∙◌, sym}
+use Rattle.std.proofs.Common.{◌∙◌, sym, arith}
 use Rattle.std.proofs.lemmas.Slice.Eq.{bytes_eq-Decides}
 use Rattle.lam_rules.proofs.TableFields.{among_drop}
+use Rattle.std.proofs.lemmas.Grind.{common_steps}
 use Rattle.lam_rules.proofs.numbers.is_not_among.Goals as goal
 
 pub returns-then-eq : goal.returns-then-eq
@@ -16,3 +17,6 @@ loop-field-preserved c =
       λ rest. c.loop-field.invariant.1
           (step.1 ((λ e. let yes = (bytes_eq-Decides _ _).1 (e ∙ sym c.as_str.ensures.value) in cc (yes, c.eq.ensures, c.if-eq.false)), rest)),
     )
+
+pub returns : goal.returns
+returns c = grind (arith, common_steps)

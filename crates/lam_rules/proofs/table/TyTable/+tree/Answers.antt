@@ -3,6 +3,7 @@ use Rattle.lam_rules.specs.Numbers.{AreEarlier, IsOver}
 use Rattle.lam_rules.proofs.Tables.{below_more}
 use Rattle.lam_rules.proofs.TableEntries.{below_read}
 use Rattle.lam_rules.proofs.TableFields.{bound_below, bound_read, made_more, made_all}
+use Rattle.lam_rules.proofs.TypeShapes.{typ_of-Bool, typ_of-Nat, typ_of-Unit, typ_of-Top, typ_of-Arrow, typ_of-Record}
 use Rattle.lam_rules.proofs.table.TyTable.+tree.Goals as goal
 
 pub tree-tree_fields-requires : goal.tree-tree_fields-requires
@@ -23,3 +24,21 @@ tree_fields-loop-i-preserved t c =
 
 pub tree_fields-returns : goal.tree_fields-returns
 tree_fields-returns t c = made_all _ _ _ _ c.loop-i-test.false c.loop-i.invariant
+
+pub tree-returns-in-Bool : goal.tree-returns-in-Bool
+tree-returns-in-Bool t c = grind (arith, typ_of-Bool)
+
+pub tree-returns-in-Nat : goal.tree-returns-in-Nat
+tree-returns-in-Nat t c = grind (arith, typ_of-Nat)
+
+pub tree-returns-in-Unit : goal.tree-returns-in-Unit
+tree-returns-in-Unit t c = grind (arith, typ_of-Unit)
+
+pub tree-returns-in-Top : goal.tree-returns-in-Top
+tree-returns-in-Top t c = grind (arith, typ_of-Top)
+
+pub tree-returns-in_ok-outcome_tree-in-Arrow : goal.tree-returns-in_ok-outcome_tree-in-Arrow
+tree-returns-in_ok-outcome_tree-in-Arrow t c = grind (arith, typ_of-Arrow)
+
+pub tree-returns-in_ok-items-in-Record : goal.tree-returns-in_ok-items-in-Record
+tree-returns-in_ok-items-in-Record t c = grind (arith, typ_of-Record)
