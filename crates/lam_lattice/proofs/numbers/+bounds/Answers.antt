@@ -6,12 +6,13 @@ use Rattle.lam_rules.specs.declared.numbers.TyNo.{TyNo}
 use Rattle.lam_rules.specs.Numbers.{type_at, type_of, Stands, fields_over, IsOver, AreEarlier}
 use Rattle.lam_rules.specs.Subtyping.{IsBelow}
 use Rattle.lam_rules.proofs.Composing.{below_refl}
-use Rattle.lam_rules.proofs.Tables.{keeps_trans, keeps_length, below_more}
+use Rattle.lam_rules.proofs.Tables.{keeps_same, keeps_trans, keeps_length, below_more}
 use Rattle.lam_rules.proofs.TableFields.{below-push}
 use Rattle.lam_sub.specs.OtherFields.{other_fields}
 use Rattle.lam_sub.specs.BoundOrder.{join_without_parts}
 use Rattle.lam_sub.proofs.Keeping.{right_kept}
 use Rattle.lam_sub.proofs.TableVerdicts.{record_of_numbers, stand_in}
+use Rattle.lam_sub.specs.Remembered.{IsJoinOf, IsMeetOf}
 use Rattle.lam_lattice.specs.Bounds.{IsJoin, IsMeet, HaveNoMeet, JoinsInOrder, MeetsInOrder}
 use Rattle.lam_lattice.specs.Matches.{AreMatches}
 use Rattle.lam_lattice.specs.Records.{OrderlyJoins, OrderlyMeets, AreMet}
@@ -19,7 +20,7 @@ use Rattle.lam_lattice.proofs.Unlike.{join_below, meet_above, no_meet_seen}
 use Rattle.lam_lattice.proofs.Orders.{join_of_same, meet_of_same}
 use Rattle.lam_lattice.proofs.SideBySide.{matches_below, matches_bound, match_below, match_bound, right_below, joins_more, joins_without, joins_all, meets_more, meets_alone, meets_all, meet_missing}
 use Rattle.lam_lattice.proofs.OnNumbers.{arrow_join_order, arrow_meet_order, record_join_order, record_meet_order, arrow_told, arrow_join, arrow_top, arrow_meet, arrow_no_meet, record_join, join_labels, record_meet, meet_labels, below_append}
-use Rattle.lam_lattice.proofs.Answering.{meet_found}
+use Rattle.lam_lattice.proofs.Answering.{join_found, meet_found}
 use Rattle.lam_lattice.proofs.numbers.+bounds.Goals as goal
 
 -- one number twice
@@ -374,3 +375,267 @@ meet_fields-loop-i-preserved t c =
 
 pub meet_fields-returns-clause-some : goal.meet_fields-returns-clause-some
 meet_fields-returns-clause-some t c = meets_all (OrderlyMeets c.args.verdicts.now.dialect) c.args.table.now c.loop-i.table c.args.matches.now c.loop-i.i c.loop-i.made.items c.loop-i-test.false c.loop-i.invariant.meets
+
+pub join_by_shape-meet_no-requires : goal.join_by_shape-meet_no-requires
+join_by_shape-meet_no-requires t c =
+    let earlier = subst (λ s. IsOver c.args.left.index s) c.in-Arrow.is c.shape.ensures.earlier in
+    let other = subst (λ s. IsOver c.args.right.index s) c.in-Arrow-shape.is c.shape-in-Arrow.ensures.earlier in
+    let one = c.requires.left in
+    let two = c.requires.right in
+    (omega (arith, c.decreases, earlier.0), (omega (arith, earlier.0, one), (omega (arith, other.0, two), c.requires.verdicts_right)))
+
+pub meet_by_shape-meet_no-requires : goal.meet_by_shape-meet_no-requires
+meet_by_shape-meet_no-requires t c =
+    let earlier = subst (λ s. IsOver c.args.left.index s) c.in-Arrow.is c.shape.ensures.earlier in
+    let other = subst (λ s. IsOver c.args.right.index s) c.in-Arrow-shape.is c.shape-in-Arrow.ensures.earlier in
+    let one = c.requires.left in
+    let two = c.requires.right in
+    (omega (arith, c.decreases, earlier.1), (omega (arith, earlier.1, one), (omega (arith, other.1, two), c.requires.verdicts_right)))
+
+pub join_by_shape-join_no-requires : goal.join_by_shape-join_no-requires
+join_by_shape-join_no-requires t c =
+    let earlier = subst (λ s. IsOver c.args.left.index s) c.in-Arrow.is c.shape.ensures.earlier in
+    let other = subst (λ s. IsOver c.args.right.index s) c.in-Arrow-shape.is c.shape-in-Arrow.ensures.earlier in
+    let one = c.requires.left in
+    let two = c.requires.right in
+    let longer = keeps_length _ _ c.in_ok-parameter-in-Arrow.ensures.keeps in
+    (omega (arith, c.decreases, earlier.1), (omega (arith, earlier.1, one, longer), (omega (arith, other.1, two, longer), c.in_ok-parameter-in-Arrow.ensures.verdicts_right)))
+
+pub meet_by_shape-join_no-requires : goal.meet_by_shape-join_no-requires
+meet_by_shape-join_no-requires t c =
+    let earlier = subst (λ s. IsOver c.args.left.index s) c.in-Arrow.is c.shape.ensures.earlier in
+    let other = subst (λ s. IsOver c.args.right.index s) c.in-Arrow-shape.is c.shape-in-Arrow.ensures.earlier in
+    let one = c.requires.left in
+    let two = c.requires.right in
+    let longer = keeps_length _ _ c.in_ok-outcome-in-Arrow.ensures.keeps in
+    (omega (arith, c.decreases, earlier.0), (omega (arith, earlier.0, one, longer), (omega (arith, other.0, two, longer), c.in_ok-outcome-in-Arrow.ensures.verdicts_right)))
+
+pub join_by_shape-arrow-requires-clause-parameter : goal.join_by_shape-arrow-requires-clause-parameter
+join_by_shape-arrow-requires-clause-parameter t c =
+    let longer = keeps_length _ _ c.in_ok-outcome-in-Arrow.ensures.keeps in
+    let stands = subst (λ o. IfSome o (λ number. Stands c.meet_no.new.table number)) c.in-Some.is c.in_ok-parameter-in-Arrow.ensures.stands in
+    omega arith
+
+pub join_by_shape-arrow-requires-clause-outcome : goal.join_by_shape-arrow-requires-clause-outcome
+join_by_shape-arrow-requires-clause-outcome t c = c.in_ok-outcome-in-Arrow.ensures.stands
+
+pub meet_by_shape-arrow-requires-clause-parameter : goal.meet_by_shape-arrow-requires-clause-parameter
+meet_by_shape-arrow-requires-clause-parameter t c = c.in_ok-parameter-in-Arrow.ensures.stands
+
+pub meet_by_shape-arrow-requires-clause-outcome : goal.meet_by_shape-arrow-requires-clause-outcome
+meet_by_shape-arrow-requires-clause-outcome t c =
+    let longer = keeps_length _ _ c.in_ok-parameter-in-Arrow.ensures.keeps in
+    let stands = subst (λ o. IfSome o (λ number. Stands c.meet_no.new.table number)) c.in-Some.is c.in_ok-outcome-in-Arrow.ensures.stands in
+    omega arith
+
+pub join_by_shape-returns-in_err-outcome-in-Arrow-clause-keeps : goal.join_by_shape-returns-in_err-outcome-in-Arrow-clause-keeps
+join_by_shape-returns-in_err-outcome-in-Arrow-clause-keeps t c = keeps_trans _ _ _ c.meet_no.ensures.keeps c.join_no.ensures.keeps
+
+pub join_by_shape-returns-in_err-outcome-in-Arrow-clause-dialect : goal.join_by_shape-returns-in_err-outcome-in-Arrow-clause-dialect
+join_by_shape-returns-in_err-outcome-in-Arrow-clause-dialect t c = c.join_no.ensures.dialect ∙ c.meet_no.ensures.dialect
+
+pub join_by_shape-returns-in_default-2-clause-keeps : goal.join_by_shape-returns-in_default-2-clause-keeps
+join_by_shape-returns-in_default-2-clause-keeps t c = keeps_trans _ _ _ c.meet_no.ensures.keeps c.intern.ensures.keeps
+
+pub join_by_shape-returns-in_default-2-clause-stands : goal.join_by_shape-returns-in_default-2-clause-stands
+join_by_shape-returns-in_default-2-clause-stands t c = IfOk-weaker c.intern.result _ (Stands c.intern.new.self) (λ number is. is.stands) c.intern.ensures.number
+
+pub join_by_shape-returns-in_ok-outcome-in-Arrow-clause-keeps : goal.join_by_shape-returns-in_ok-outcome-in-Arrow-clause-keeps
+join_by_shape-returns-in_ok-outcome-in-Arrow-clause-keeps t c = keeps_trans _ _ _ (keeps_trans _ _ _ c.meet_no.ensures.keeps c.join_no.ensures.keeps) c.arrow.ensures.keeps
+
+pub join_by_shape-returns-in_ok-outcome-in-Arrow-clause-dialect : goal.join_by_shape-returns-in_ok-outcome-in-Arrow-clause-dialect
+join_by_shape-returns-in_ok-outcome-in-Arrow-clause-dialect t c = c.join_no.ensures.dialect ∙ c.meet_no.ensures.dialect
+
+pub join_by_shape-returns-in_ok-outcome-in-Arrow-clause-stands : goal.join_by_shape-returns-in_ok-outcome-in-Arrow-clause-stands
+join_by_shape-returns-in_ok-outcome-in-Arrow-clause-stands t c = IfOk-weaker c.arrow.result _ (Stands c.arrow.new.self) (λ number is. is.stands) c.arrow.ensures.number
+
+pub join_by_shape-returns-in_ok-items-in-Record-clause-keeps : goal.join_by_shape-returns-in_ok-items-in-Record-clause-keeps
+join_by_shape-returns-in_ok-items-in-Record-clause-keeps t c = keeps_trans _ _ _ c.join_fields.ensures.keeps c.intern-in-Record.ensures.keeps
+
+pub join_by_shape-returns-in_ok-items-in-Record-clause-stands : goal.join_by_shape-returns-in_ok-items-in-Record-clause-stands
+join_by_shape-returns-in_ok-items-in-Record-clause-stands t c = IfOk-weaker c.intern-in-Record.result _ (Stands c.intern-in-Record.new.self) (λ number is. is.stands) c.intern-in-Record.ensures.number
+
+pub meet_by_shape-returns-in_err-parameter-in-Arrow-clause-keeps : goal.meet_by_shape-returns-in_err-parameter-in-Arrow-clause-keeps
+meet_by_shape-returns-in_err-parameter-in-Arrow-clause-keeps t c = keeps_trans _ _ _ c.meet_no.ensures.keeps c.join_no.ensures.keeps
+
+pub meet_by_shape-returns-in_err-parameter-in-Arrow-clause-dialect : goal.meet_by_shape-returns-in_err-parameter-in-Arrow-clause-dialect
+meet_by_shape-returns-in_err-parameter-in-Arrow-clause-dialect t c = c.join_no.ensures.dialect ∙ c.meet_no.ensures.dialect
+
+pub meet_by_shape-returns-in_err-number-in-Arrow-clause-keeps : goal.meet_by_shape-returns-in_err-number-in-Arrow-clause-keeps
+meet_by_shape-returns-in_err-number-in-Arrow-clause-keeps t c = keeps_trans _ _ _ (keeps_trans _ _ _ c.meet_no.ensures.keeps c.join_no.ensures.keeps) c.arrow.ensures.keeps
+
+pub meet_by_shape-returns-in_err-number-in-Arrow-clause-dialect : goal.meet_by_shape-returns-in_err-number-in-Arrow-clause-dialect
+meet_by_shape-returns-in_err-number-in-Arrow-clause-dialect t c = c.join_no.ensures.dialect ∙ c.meet_no.ensures.dialect
+
+pub meet_by_shape-returns-in_ok-number-in-Arrow-clause-keeps : goal.meet_by_shape-returns-in_ok-number-in-Arrow-clause-keeps
+meet_by_shape-returns-in_ok-number-in-Arrow-clause-keeps t c = keeps_trans _ _ _ (keeps_trans _ _ _ c.meet_no.ensures.keeps c.join_no.ensures.keeps) c.arrow.ensures.keeps
+
+pub meet_by_shape-returns-in_ok-number-in-Arrow-clause-dialect : goal.meet_by_shape-returns-in_ok-number-in-Arrow-clause-dialect
+meet_by_shape-returns-in_ok-number-in-Arrow-clause-dialect t c = c.join_no.ensures.dialect ∙ c.meet_no.ensures.dialect
+
+pub meet_by_shape-returns-in_ok-number-in-Arrow-clause-stands : goal.meet_by_shape-returns-in_ok-number-in-Arrow-clause-stands
+meet_by_shape-returns-in_ok-number-in-Arrow-clause-stands t c = c.in_ok-number-in-Arrow.ensures.number.stands
+
+pub meet_by_shape-returns-in_err-number-in-Record-clause-keeps : goal.meet_by_shape-returns-in_err-number-in-Record-clause-keeps
+meet_by_shape-returns-in_err-number-in-Record-clause-keeps t c = keeps_trans _ _ _ c.meet_fields.ensures.keeps c.intern.ensures.keeps
+
+pub meet_by_shape-returns-in_ok-number-in-Record-clause-keeps : goal.meet_by_shape-returns-in_ok-number-in-Record-clause-keeps
+meet_by_shape-returns-in_ok-number-in-Record-clause-keeps t c = keeps_trans _ _ _ c.meet_fields.ensures.keeps c.intern.ensures.keeps
+
+pub meet_by_shape-returns-in_ok-number-in-Record-clause-stands : goal.meet_by_shape-returns-in_ok-number-in-Record-clause-stands
+meet_by_shape-returns-in_ok-number-in-Record-clause-stands t c = c.in_ok-number-in-Record.ensures.number.stands
+
+pub join_by_shape-returns-in_err-matches-in-Record-clause-keeps : goal.join_by_shape-returns-in_err-matches-in-Record-clause-keeps
+join_by_shape-returns-in_err-matches-in-Record-clause-keeps t c = keeps_same _
+
+pub meet_by_shape-returns-in_err-matches-in-Record-clause-keeps : goal.meet_by_shape-returns-in_err-matches-in-Record-clause-keeps
+meet_by_shape-returns-in_err-matches-in-Record-clause-keeps t c = keeps_same _
+
+pub meet_by_shape-returns-in_err-more-in-Record-clause-keeps : goal.meet_by_shape-returns-in_err-more-in-Record-clause-keeps
+meet_by_shape-returns-in_err-more-in-Record-clause-keeps t c = keeps_same _
+
+pub join_fields-returns-in_err-number-clause-keeps : goal.join_fields-returns-in_err-number-clause-keeps
+join_fields-returns-in_err-number-clause-keeps t c = keeps_trans _ _ _ c.loop-i.invariant.keeps c.join_no.ensures.keeps
+
+pub join_fields-returns-in_err-number-clause-dialect : goal.join_fields-returns-in_err-number-clause-dialect
+join_fields-returns-in_err-number-clause-dialect t c = c.join_no.ensures.dialect ∙ c.loop-i.invariant.dialect
+
+pub join_fields-returns-in_err-label-clause-keeps : goal.join_fields-returns-in_err-label-clause-keeps
+join_fields-returns-in_err-label-clause-keeps t c = keeps_trans _ _ _ c.loop-i.invariant.keeps c.join_no.ensures.keeps
+
+pub join_fields-returns-in_err-label-clause-dialect : goal.join_fields-returns-in_err-label-clause-dialect
+join_fields-returns-in_err-label-clause-dialect t c = c.join_no.ensures.dialect ∙ c.loop-i.invariant.dialect
+
+pub join_fields-returns-in_err-push-clause-keeps : goal.join_fields-returns-in_err-push-clause-keeps
+join_fields-returns-in_err-push-clause-keeps t c = keeps_trans _ _ _ c.loop-i.invariant.keeps c.join_no.ensures.keeps
+
+pub join_fields-returns-in_err-push-clause-dialect : goal.join_fields-returns-in_err-push-clause-dialect
+join_fields-returns-in_err-push-clause-dialect t c = c.join_no.ensures.dialect ∙ c.loop-i.invariant.dialect
+
+pub meet_fields-returns-in_err-number-clause-keeps : goal.meet_fields-returns-in_err-number-clause-keeps
+meet_fields-returns-in_err-number-clause-keeps t c = keeps_trans _ _ _ c.loop-i.invariant.keeps c.meet_no.ensures.keeps
+
+pub meet_fields-returns-in_err-number-clause-dialect : goal.meet_fields-returns-in_err-number-clause-dialect
+meet_fields-returns-in_err-number-clause-dialect t c = c.meet_no.ensures.dialect ∙ c.loop-i.invariant.dialect
+
+pub meet_fields-returns-in_default-2-clause-keeps : goal.meet_fields-returns-in_default-2-clause-keeps
+meet_fields-returns-in_default-2-clause-keeps t c = keeps_trans _ _ _ c.loop-i.invariant.keeps c.meet_no.ensures.keeps
+
+pub meet_fields-returns-in_default-2-clause-dialect : goal.meet_fields-returns-in_default-2-clause-dialect
+meet_fields-returns-in_default-2-clause-dialect t c = c.meet_no.ensures.dialect ∙ c.loop-i.invariant.dialect
+
+pub meet_fields-returns-in_err-push-2-clause-keeps : goal.meet_fields-returns-in_err-push-2-clause-keeps
+meet_fields-returns-in_err-push-2-clause-keeps t c = keeps_trans _ _ _ c.loop-i.invariant.keeps c.meet_no.ensures.keeps
+
+pub meet_fields-returns-in_err-push-2-clause-dialect : goal.meet_fields-returns-in_err-push-2-clause-dialect
+meet_fields-returns-in_err-push-2-clause-dialect t c = c.meet_no.ensures.dialect ∙ c.loop-i.invariant.dialect
+
+pub join_fields-loop-i-init : goal.join_fields-loop-i-init
+join_fields-loop-i-init t c = grind (arith, keeps_same)
+
+pub meet_fields-loop-i-init : goal.meet_fields-loop-i-init
+meet_fields-loop-i-init t c = grind (arith, keeps_same)
+
+pub join_no-returns-then-left-right-clause-keeps : goal.join_no-returns-then-left-right-clause-keeps
+join_no-returns-then-left-right-clause-keeps t c = keeps_same _
+
+pub join_no-returns-in-Some-clause-keeps : goal.join_no-returns-in-Some-clause-keeps
+join_no-returns-in-Some-clause-keeps t c = keeps_same _
+
+pub join_no-returns-in-Some-clause-stands : goal.join_no-returns-in-Some-clause-stands
+join_no-returns-in-Some-clause-stands t c =
+    let known = subst (λ o. IfSome o (IsJoinOf c.args.table.now c.args.verdicts.now.dialect (c.args.left, c.args.right))) c.in-Some.is (c.known_join.ensures.right c.args.table.now c.requires.verdicts_right) in
+    known.stands
+
+pub join_no-returns-in-Some-clause-join : goal.join_no-returns-in-Some-clause-join
+join_no-returns-in-Some-clause-join t c =
+    let known = subst (λ o. IfSome o (IsJoinOf c.args.table.now c.args.verdicts.now.dialect (c.args.left, c.args.right))) c.in-Some.is (c.known_join.ensures.right c.args.table.now c.requires.verdicts_right) in
+    known.join
+
+pub join_no-returns-in-Some-clause-order : goal.join_no-returns-in-Some-clause-order
+join_no-returns-in-Some-clause-order t c =
+    let known = subst (λ o. IfSome o (IsJoinOf c.args.table.now c.args.verdicts.now.dialect (c.args.left, c.args.right))) c.in-Some.is (c.known_join.ensures.right c.args.table.now c.requires.verdicts_right) in
+    known.order
+
+pub join_no-returns-clause-stands : goal.join_no-returns-clause-stands
+join_no-returns-clause-stands t c = c.in_ok-number.ensures.stands
+
+pub join_no-returns-clause-join : goal.join_no-returns-clause-join
+join_no-returns-clause-join t c = c.in_ok-number.ensures.join
+
+pub join_no-returns-clause-order : goal.join_no-returns-clause-order
+join_no-returns-clause-order t c = c.in_ok-number.ensures.order
+
+pub join_no-returns-clause-dialect : goal.join_no-returns-clause-dialect
+join_no-returns-clause-dialect t c = c.keep_join.ensures.dialect ∙ c.join_by_shape.ensures.dialect
+
+pub join_no-returns-clause-keeps : goal.join_no-returns-clause-keeps
+join_no-returns-clause-keeps t c = c.join_by_shape.ensures.keeps
+
+pub join_no-returns-in_err-keep_join-clause-dialect : goal.join_no-returns-in_err-keep_join-clause-dialect
+join_no-returns-in_err-keep_join-clause-dialect t c = c.keep_join.ensures.dialect ∙ c.join_by_shape.ensures.dialect
+
+pub join_no-returns-in_err-keep_join-clause-keeps : goal.join_no-returns-in_err-keep_join-clause-keeps
+join_no-returns-in_err-keep_join-clause-keeps t c = c.join_by_shape.ensures.keeps
+
+pub meet_no-returns-then-left-right-clause-keeps : goal.meet_no-returns-then-left-right-clause-keeps
+meet_no-returns-then-left-right-clause-keeps t c = keeps_same _
+
+pub meet_no-returns-in-Some-clause-keeps : goal.meet_no-returns-in-Some-clause-keeps
+meet_no-returns-in-Some-clause-keeps t c = keeps_same _
+
+pub meet_no-returns-in-Some-clause-stands : goal.meet_no-returns-in-Some-clause-stands
+meet_no-returns-in-Some-clause-stands t c =
+    let known = subst (λ o. IfSome o (IsMeetOf c.args.table.now c.args.verdicts.now.dialect (c.args.left, c.args.right))) c.in-Some.is (c.known_meet.ensures.right c.args.table.now c.requires.verdicts_right) in
+    known.stands
+
+pub meet_no-returns-in-Some-clause-some : goal.meet_no-returns-in-Some-clause-some
+meet_no-returns-in-Some-clause-some t c =
+    let known = subst (λ o. IfSome o (IsMeetOf c.args.table.now c.args.verdicts.now.dialect (c.args.left, c.args.right))) c.in-Some.is (c.known_meet.ensures.right c.args.table.now c.requires.verdicts_right) in
+    known.some
+
+pub meet_no-returns-in-Some-clause-order : goal.meet_no-returns-in-Some-clause-order
+meet_no-returns-in-Some-clause-order t c =
+    let known = subst (λ o. IfSome o (IsMeetOf c.args.table.now c.args.verdicts.now.dialect (c.args.left, c.args.right))) c.in-Some.is (c.known_meet.ensures.right c.args.table.now c.requires.verdicts_right) in
+    known.order
+
+pub meet_no-returns-in-Some-clause-none : goal.meet_no-returns-in-Some-clause-none
+meet_no-returns-in-Some-clause-none t c =
+    let known = subst (λ o. IfSome o (IsMeetOf c.args.table.now c.args.verdicts.now.dialect (c.args.left, c.args.right))) c.in-Some.is (c.known_meet.ensures.right c.args.table.now c.requires.verdicts_right) in
+    known.none
+
+pub meet_no-returns-clause-stands : goal.meet_no-returns-clause-stands
+meet_no-returns-clause-stands t c = c.in_ok-found.ensures.stands
+
+pub meet_no-returns-clause-some : goal.meet_no-returns-clause-some
+meet_no-returns-clause-some t c = c.in_ok-found.ensures.some
+
+pub meet_no-returns-clause-order : goal.meet_no-returns-clause-order
+meet_no-returns-clause-order t c = c.in_ok-found.ensures.order
+
+pub meet_no-returns-clause-none : goal.meet_no-returns-clause-none
+meet_no-returns-clause-none t c = c.in_ok-found.ensures.none
+
+pub meet_no-returns-clause-dialect : goal.meet_no-returns-clause-dialect
+meet_no-returns-clause-dialect t c = c.keep_meet.ensures.dialect ∙ c.meet_by_shape.ensures.dialect
+
+pub meet_no-returns-clause-keeps : goal.meet_no-returns-clause-keeps
+meet_no-returns-clause-keeps t c = c.meet_by_shape.ensures.keeps
+
+pub meet_no-returns-in_err-keep_meet-clause-dialect : goal.meet_no-returns-in_err-keep_meet-clause-dialect
+meet_no-returns-in_err-keep_meet-clause-dialect t c = c.keep_meet.ensures.dialect ∙ c.meet_by_shape.ensures.dialect
+
+pub meet_no-returns-in_err-keep_meet-clause-keeps : goal.meet_no-returns-in_err-keep_meet-clause-keeps
+meet_no-returns-in_err-keep_meet-clause-keeps t c = c.meet_by_shape.ensures.keeps
+
+pub join_no-returns-clause-verdicts_right : goal.join_no-returns-clause-verdicts_right
+join_no-returns-clause-verdicts_right t c =
+    c.keep_join.ensures.right c.join_by_shape.new.table c.in_ok-number.ensures.verdicts_right
+    (join_found c.args.table.now c.join_by_shape.new.table c.args.left c.args.right c.in_ok-number.number c.args.verdicts.now.dialect c.join_by_shape.new.verdicts.dialect
+    c.in_ok-number.ensures.keeps c.requires.left c.requires.right c.in_ok-number.ensures.dialect c.in_ok-number.ensures.stands c.in_ok-number.ensures.join c.in_ok-number.ensures.order)
+
+pub join_no-returns-in_err-keep_join-clause-verdicts_right : goal.join_no-returns-in_err-keep_join-clause-verdicts_right
+join_no-returns-in_err-keep_join-clause-verdicts_right t c =
+    c.keep_join.ensures.right c.join_by_shape.new.table c.in_ok-number.ensures.verdicts_right
+    (join_found c.args.table.now c.join_by_shape.new.table c.args.left c.args.right c.in_ok-number.number c.args.verdicts.now.dialect c.join_by_shape.new.verdicts.dialect
+    c.in_ok-number.ensures.keeps c.requires.left c.requires.right c.in_ok-number.ensures.dialect c.in_ok-number.ensures.stands c.in_ok-number.ensures.join c.in_ok-number.ensures.order)
