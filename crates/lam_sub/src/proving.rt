@@ -92,20 +92,31 @@ fn prove_record(
     ensures { IfOk result (λ proof. LeadsTo proof (record_of (fields_of lower.now)) (record_of (fields_of upper.now)) dialect) }
 {
     let picked = picked_fields(alloc, lower, upper)?;
-    let mut arranged = copy_of_fields(alloc, &picked)?;
-    append_others(alloc, &mut arranged, lower, upper)?;
-    let permuted = record_step(alloc, SubRule::RcdPerm, Vec::new(alloc), lower, &arranged)?;
-    let cut = record_step(
-        alloc,
-        SubRule::RcdWidth,
-        Vec::new(alloc),
-        &arranged,
-        &picked,
-    )?;
+    let cut = prove_picked(alloc, lower, upper, &picked)?;
     let premises = prove_fields(alloc, lower, upper, dialect)?;
     let widened = record_step(alloc, SubRule::RcdDepth, premises, &picked, upper)?;
-    let permuted_and_cut = chain(alloc, permuted, cut)?;
-    chain(alloc, permuted_and_cut, widened)
+    chain(alloc, cut, widened)
+}
+
+/// The steps to the fields that are picked of a record type: they are put in front, and the others
+/// cut off.
+fn prove_picked(
+    alloc: Global,
+    lower: &[(String, Ty)],
+    upper: &[(String, Ty)],
+    front: &[(String, Ty)],
+) -> Result<Option<SubProof>, AllocError>
+    requires lower { AreWellFormed (fields_of lower.now) }
+    requires upper { AreWellFormed (fields_of upper.now) }
+    requires labels { HasLabelsOf (fields_of lower.now) (fields_of upper.now) }
+    requires front { fields_of front.now ≡ picked (fields_of lower.now) (fields_of upper.now) }
+    ensures { IfOk result (λ proof. (d : Dialect) → LeadsTo proof (record_of (fields_of lower.now)) (record_of (fields_of front.now)) d) }
+{
+    let mut arranged = copy_of_fields(alloc, front)?;
+    append_others(alloc, &mut arranged, lower, upper)?;
+    let permuted = record_step(alloc, SubRule::RcdPerm, Vec::new(alloc), lower, &arranged)?;
+    let cut = record_step(alloc, SubRule::RcdWidth, Vec::new(alloc), &arranged, front)?;
+    chain(alloc, permuted, cut)
 }
 
 /// For each field above, the proof that its type is above that of the field below.
@@ -216,13 +227,21 @@ fn chain(
     let Some(second_proof) = second else {
         return Ok(Some(first_proof));
     };
-    let lower = copy_of(alloc, &first_proof.lower)?;
-    let upper = copy_of(alloc, &second_proof.upper)?;
-    let premises = vec![in alloc; first_proof, second_proof]?;
-    Ok(Some(SubProof {
+    let joined = by_transitivity(alloc, first_proof, second_proof)?;
+    Ok(Some(joined))
+}
+
+/// A proof whose last step is that of transitivity.
+fn by_transitivity(alloc: Global, first: SubProof, second: SubProof) -> Result<SubProof, AllocError>
+    ensures { IfOk result (λ made. (s u t : Typ) (d : Dialect) → ProvesBelow (sub_tree_of first) s u d → ProvesBelow (sub_tree_of second) u t d → ProvesBelow (sub_tree_of made) s t d) }
+{
+    let lower = copy_of(alloc, &first.lower)?;
+    let upper = copy_of(alloc, &second.upper)?;
+    let premises = vec![in alloc; first, second]?;
+    Ok(SubProof {
         rule: SubRule::Trans,
         lower,
         upper,
         premises,
-    }))
+    })
 }

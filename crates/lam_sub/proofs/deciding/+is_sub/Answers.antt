@@ -1,10 +1,12 @@
 use Rattle.std.proofs.Common.{rules, sym, string_bytes, subst, arith}
 use Rattle.lam_rules.specs.Types.{IsAbsent, Has}
 use Rattle.lam_rules.specs.TypeViews.{typ_of, fields_of}
-use Rattle.lam_sub.proofs.Below.{no_field, nodes_of_field}
+use Rattle.lam_sub.proofs.Below.{no_field, nodes_of_field, record_iff}
 use Rattle.lam_rules.proofs.SharedTexts.{has_wf}
 use Rattle.lam_sub.proofs.LookUps.{item_has}
 use Rattle.lam_sub.proofs.ByVariant.{at_top, at_same, not_bool, not_nat, not_unit, bool_and_nat, not_arrow, not_record, two_arrows, arrows_fail, arrows_rest, field_first, field_fails, field_holds, found_field, not_true}
+use Rattle.lam_rules.proofs.TypeShapes.{typ_of-Arrow, typ_of-Record}
+use Rattle.std.proofs.lemmas.Grind.{common_steps}
 use Rattle.lam_sub.proofs.deciding.+is_sub.Goals as goal
 
 pub is_sub-returns-in-Top : goal.is_sub-returns-in-Top
@@ -84,3 +86,18 @@ are_fields_sub-is_sub-requires t c =
       omega (arith, c.decreases, nodes_of_field _ _ _ below, nodes_of_field _ _ _ above),
       (has_wf _ c.requires.lower _ _ below, has_wf _ c.requires.upper _ _ above),
     )
+
+pub are_fields_sub-returns : goal.are_fields_sub-returns
+are_fields_sub-returns t c = grind (arith, common_steps)
+
+pub is_sub-is_sub-requires : goal.is_sub-is_sub-requires
+is_sub-is_sub-requires t c = grind (arith, typ_of-Arrow)
+
+pub is_sub-is_sub-requires-in-Arrow : goal.is_sub-is_sub-requires-in-Arrow
+is_sub-is_sub-requires-in-Arrow t c = grind (arith, typ_of-Arrow)
+
+pub is_sub-are_fields_sub-requires : goal.is_sub-are_fields_sub-requires
+is_sub-are_fields_sub-requires t c = grind (arith, typ_of-Record)
+
+pub is_sub-returns-in-Record-lower : goal.is_sub-returns-in-Record-lower
+is_sub-returns-in-Record-lower t c = grind (arith, typ_of-Record, record_iff)

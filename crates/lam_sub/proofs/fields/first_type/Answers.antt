@@ -1,6 +1,7 @@
-use Rattle.std.proofs.Common.{◌∙◌, ap}
+use Rattle.std.proofs.Common.{◌∙◌, ap, arith}
 use Rattle.std.specs.Str.{bytes_eq}
 use Rattle.lam_sub.proofs.LookUps.{is_label, is_not_label, has_here, has_later, absent_later}
+use Rattle.std.proofs.lemmas.Grind.{common_steps}
 use Rattle.lam_sub.proofs.fields.first_type.Goals as goal
 
 pub loop-field-preserved : goal.loop-field-preserved
@@ -16,3 +17,6 @@ returns-then-eq-clause-found c =
     c.loop-field.invariant.has _
     (has_here c.args.fields.now c.loop-field.field-index c.field-item.result c.args.label.now c.loop-field-test.true c.field-item.is
     (is_label c.eq.result _ c.args.label.now (c.eq.ensures ∙ ap (λ k. bytes_eq k c.args.label.now) c.as_str.ensures.value) c.if-eq.true))
+
+pub returns-clause-absent : goal.returns-clause-absent
+returns-clause-absent c = grind (arith, common_steps)

@@ -147,3 +147,18 @@ are_fields_sub_no-loop-i-preserved t c = record {
       c.requires.lower c.deref.ensures (c.in-Some.ensures.found c.args.table.now)
       (subst (λ d. IsTrue c.in_ok-is_sub_no.field-0 ↔ IsBelow (type_of c.args.table.now c.in-Some.number) (type_of c.args.table.now c.index-upper-i.result.1) d) c.loop-i.invariant.dialect c.in_ok-is_sub_no.ensures.verdict)).0 c.if-not-branch.false);
 }
+
+pub are_fields_sub_no-returns-in_err-is_sub_no-clause-dialect : goal.are_fields_sub_no-returns-in_err-is_sub_no-clause-dialect
+are_fields_sub_no-returns-in_err-is_sub_no-clause-dialect t c = grind arith
+
+pub compare-is_sub_no-requires : goal.compare-is_sub_no-requires
+compare-is_sub_no-requires t c = grind arith
+
+pub compare-is_sub_no-requires-in-Arrow : goal.compare-is_sub_no-requires-in-Arrow
+compare-is_sub_no-requires-in-Arrow t c = grind arith
+
+pub is_sub_no-returns-in_err-keep_verdict-clause-dialect : goal.is_sub_no-returns-in_err-keep_verdict-clause-dialect
+is_sub_no-returns-in_err-keep_verdict-clause-dialect t c = grind arith
+
+pub is_sub_no-returns-clause-dialect : goal.is_sub_no-returns-clause-dialect
+is_sub_no-returns-clause-dialect t c = grind arith

@@ -3,7 +3,8 @@ use Rattle.std.proofs.lemmas.List.{drop_all}
 use Rattle.std.proofs.lemmas.Result.{IfOk-weaker}
 use Rattle.lam_rules.specs.Types.{Has, IsAbsent, record_of, IsWellFormed, AreWellFormed}
 use Rattle.lam_rules.specs.TypeViews.{typ_of, fields_of}
-use Rattle.lam_rules.specs.Subtyping.{IsBelow, IsRuleOf}
+use Rattle.lam_rules.specs.Subtyping.{IsBelow, IsRuleOf, GoesFieldByField}
+use Rattle.lam_rules.specs.SubViews.{claims_of}
 use Rattle.lam_rules.specs.declared.rules.SubRule.{SubRule}
 use Rattle.lam_rules.proofs.TypeShapes.{typ_of-Top, typ_of-Arrow}
 use Rattle.lam_rules.proofs.ByShape.{below_wf}
@@ -11,9 +12,9 @@ use Rattle.lam_sub.specs.Arranging.{picked}
 use Rattle.lam_sub.specs.Steps.{LeadsTo}
 use Rattle.lam_sub.proofs.LookUps.{item_has}
 use Rattle.lam_sub.proofs.Below.{no_field, field_iff, nodes_of_field, record_inside}
-use Rattle.lam_sub.proofs.Arranging.{arranged, type_under_is, below_labels, picked_wf, arranged_wf}
+use Rattle.lam_sub.proofs.Arranging.{type_under_is, below_labels, picked_wf}
 use Rattle.lam_sub.proofs.ByVariant.{not_arrow, not_record, two_arrows, record_seen, nodes_of_record, nodes_of_arrow, only_bool_and_nat, field_first}
-use Rattle.lam_sub.proofs.Steps.{concluded, concluded_arrow, claim_is, arranged_is, picked_is, permutation_by, width_by, no_premises, proofs_more, claims_more}
+use Rattle.lam_sub.proofs.Steps.{concluded, concluded_arrow, claim_is, picked_is, proofs_more, claims_more}
 use Rattle.lam_sub.proofs.proving.+prove.Goals as goal
 
 -- the fields that are asked for, one after the other
@@ -58,61 +59,36 @@ prove_fields-returns-clause-claims t c =
 pub prove_record-picked_fields-requires-clause-labels : goal.prove_record-picked_fields-requires-clause-labels
 prove_record-picked_fields-requires-clause-labels t c = below_labels (fields_of c.args.lower.now) (fields_of c.args.upper.now) c.args.dialect c.requires.below
 
-pub prove_record-record_step-requires-clause-upper : goal.prove_record-record_step-requires-clause-upper
-prove_record-record_step-requires-clause-upper t c =
+pub prove_record-prove_picked-requires-clause-labels : goal.prove_record-prove_picked-requires-clause-labels
+prove_record-prove_picked-requires-clause-labels t c = below_labels (fields_of c.args.lower.now) (fields_of c.args.upper.now) c.args.dialect c.requires.below
+
+pub prove_record-prove_picked-requires-clause-front : goal.prove_record-prove_picked-requires-clause-front
+prove_record-prove_picked-requires-clause-front t c = picked_is _ _ (fields_of c.args.lower.now) (fields_of c.args.upper.now) c.in_ok-picked.ensures c.deref.ensures.value
+
+pub prove_record-record_step-requires-clause-lower : goal.prove_record-record_step-requires-clause-lower
+prove_record-record_step-requires-clause-lower t c =
     subst (λ hs. AreWellFormed hs)
-    (sym (arranged_is _ _ _ _ _ (fields_of c.args.lower.now) (fields_of c.args.upper.now) c.in_ok-picked.ensures c.deref.ensures.value c.in_ok-arranged.ensures c.in_ok-append_others.ensures c.deref-2.ensures.value))
-    (arranged_wf (fields_of c.args.lower.now) (fields_of c.args.upper.now) c.requires.lower c.requires.upper (below_labels _ _ _ c.requires.below))
+    (sym (picked_is _ _ (fields_of c.args.lower.now) (fields_of c.args.upper.now) c.in_ok-picked.ensures c.deref-2.ensures.value))
+    (picked_wf (fields_of c.args.lower.now) (fields_of c.args.upper.now) c.requires.lower c.requires.upper (below_labels _ _ _ c.requires.below))
 
 pub prove_record-record_step-requires-clause-by_rule : goal.prove_record-record_step-requires-clause-by_rule
 prove_record-record_step-requires-clause-by_rule t c =
-    permutation_by (fields_of c.args.lower.now) (fields_of c.args.upper.now) _ _ c.new.ensures.items
-    (arranged_is _ _ _ _ _ (fields_of c.args.lower.now) (fields_of c.args.upper.now) c.in_ok-picked.ensures c.deref.ensures.value c.in_ok-arranged.ensures c.in_ok-append_others.ensures c.deref-2.ensures.value)
-    c.requires.lower c.requires.upper (below_labels _ _ _ c.requires.below)
-
-pub prove_record-record_step-requires-2-clause-lower : goal.prove_record-record_step-requires-2-clause-lower
-prove_record-record_step-requires-2-clause-lower t c =
-    subst (λ hs. AreWellFormed hs)
-    (sym (arranged_is _ _ _ _ _ (fields_of c.args.lower.now) (fields_of c.args.upper.now) c.in_ok-picked.ensures c.deref.ensures.value c.in_ok-arranged.ensures c.in_ok-append_others.ensures c.deref-3.ensures.value))
-    (arranged_wf (fields_of c.args.lower.now) (fields_of c.args.upper.now) c.requires.lower c.requires.upper (below_labels _ _ _ c.requires.below))
-
-pub prove_record-record_step-requires-2-clause-upper : goal.prove_record-record_step-requires-2-clause-upper
-prove_record-record_step-requires-2-clause-upper t c =
-    subst (λ hs. AreWellFormed hs)
-    (sym (picked_is _ _ (fields_of c.args.lower.now) (fields_of c.args.upper.now) c.in_ok-picked.ensures c.deref-4.ensures.value))
-    (picked_wf (fields_of c.args.lower.now) (fields_of c.args.upper.now) c.requires.lower c.requires.upper (below_labels _ _ _ c.requires.below))
-
-pub prove_record-record_step-requires-2-clause-by_rule : goal.prove_record-record_step-requires-2-clause-by_rule
-prove_record-record_step-requires-2-clause-by_rule t c =
-    width_by (fields_of c.args.lower.now) (fields_of c.args.upper.now) _ _ _ c.new-2.ensures.items
-    (arranged_is _ _ _ _ _ (fields_of c.args.lower.now) (fields_of c.args.upper.now) c.in_ok-picked.ensures c.deref.ensures.value c.in_ok-arranged.ensures c.in_ok-append_others.ensures c.deref-3.ensures.value)
-    (picked_is _ _ (fields_of c.args.lower.now) (fields_of c.args.upper.now) c.in_ok-picked.ensures c.deref-4.ensures.value)
-
-pub prove_record-record_step-requires-3-clause-lower : goal.prove_record-record_step-requires-3-clause-lower
-prove_record-record_step-requires-3-clause-lower t c =
-    subst (λ hs. AreWellFormed hs)
-    (sym (picked_is _ _ (fields_of c.args.lower.now) (fields_of c.args.upper.now) c.in_ok-picked.ensures c.deref-5.ensures.value))
-    (picked_wf (fields_of c.args.lower.now) (fields_of c.args.upper.now) c.requires.lower c.requires.upper (below_labels _ _ _ c.requires.below))
+    subst (λ hs. GoesFieldByField hs (fields_of c.args.upper.now) (claims_of c.in_ok-premises.premises.items))
+    (sym (picked_is _ _ (fields_of c.args.lower.now) (fields_of c.args.upper.now) c.in_ok-picked.ensures c.deref-2.ensures.value))
+    c.in_ok-premises.ensures.claims
 
 pub prove_record-returns : goal.prove_record-returns
 prove_record-returns t c =
     let fs = fields_of c.args.lower.now in
     let gs = fields_of c.args.upper.now in
     let d = c.args.dialect in
-    let permuted = subst (λ hs. LeadsTo c.in_ok-permuted.permuted (record_of fs) (record_of hs) d)
-    (arranged_is _ _ _ _ _ fs gs c.in_ok-picked.ensures c.deref.ensures.value c.in_ok-arranged.ensures c.in_ok-append_others.ensures c.deref-2.ensures.value)
-    (c.in_ok-permuted.ensures d tt (no_premises _ d c.new.ensures.items)) in
-    let cut_from = subst (λ hs. LeadsTo c.in_ok-cut.cut (record_of hs) (record_of (fields_of c.deref-4.result.now)) d)
-    (arranged_is _ _ _ _ _ fs gs c.in_ok-picked.ensures c.deref.ensures.value c.in_ok-arranged.ensures c.in_ok-append_others.ensures c.deref-3.ensures.value)
-    (c.in_ok-cut.ensures d tt (no_premises _ d c.new-2.ensures.items)) in
-    let cut = subst (λ hs. LeadsTo c.in_ok-cut.cut (record_of (arranged fs gs)) (record_of hs) d)
-    (picked_is _ _ fs gs c.in_ok-picked.ensures c.deref-4.ensures.value) cut_from in
+    let cut = subst (λ hs. LeadsTo c.in_ok-cut.cut (record_of fs) (record_of hs) d)
+    (picked_is _ _ fs gs c.in_ok-picked.ensures c.deref.ensures.value) (c.in_ok-cut.ensures d) in
     let widened = subst (λ hs. LeadsTo c.in_ok-widened.widened (record_of hs) (record_of gs) d)
-    (picked_is _ _ fs gs c.in_ok-picked.ensures c.deref-5.ensures.value)
+    (picked_is _ _ fs gs c.in_ok-picked.ensures c.deref-2.ensures.value)
     (c.in_ok-widened.ensures d tt c.in_ok-premises.ensures.proofs) in
-    let first = c.in_ok-permuted_and_cut.ensures (record_of fs) (record_of (arranged fs gs)) (record_of (picked fs gs)) d permuted cut in
-    IfOk-weaker c.chain-2.result _ (λ made. LeadsTo made (record_of fs) (record_of gs) d)
-    (λ made leads. leads (record_of fs) (record_of (picked fs gs)) (record_of gs) d first widened) c.chain-2.ensures
+    IfOk-weaker c.chain.result _ (λ made. LeadsTo made (record_of fs) (record_of gs) d)
+    (λ made leads. leads (record_of fs) (record_of (picked fs gs)) (record_of gs) d cut widened) c.chain.ensures
 
 -- the last step, by the shape of the two types
 
