@@ -26,7 +26,6 @@ pub enum Shape {
 }
 
 /// The number under a label.
-#[tactic(auto, using(crate::proofs::TableFields::found_fields))]
 pub fn number_under(label: &str, fields: &[(String, TyNo)]) -> Option<TyNo>
     ensures below { IfSome result (λ number. (n : ℕ) → AreEarlier n fields.now → number.index < n) }
     ensures some { IfSome result (λ number. (ts : List Typ) → Has label.now (type_of ts number) (fields_over ts fields.now)) }
@@ -41,7 +40,6 @@ pub fn number_under(label: &str, fields: &[(String, TyNo)]) -> Option<TyNo>
 }
 
 /// Whether no two of the labels are equal.
-#[tactic(auto, using(crate::proofs::TableFields::label_lists))]
 pub fn labels_differ(fields: &[(String, TyNo)]) -> bool
     ensures { IsTrue result ↔ HaveDistinctLabels fields.now }
 {
@@ -54,7 +52,6 @@ pub fn labels_differ(fields: &[(String, TyNo)]) -> bool
     true
 }
 
-#[tactic(auto, using(crate::proofs::TableFields::label_lists))]
 fn is_not_among(label: &str, fields: &[(String, TyNo)]) -> bool
     ensures { IsTrue result ↔ IsNotAmong label.now fields.now }
 {

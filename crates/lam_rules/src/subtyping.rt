@@ -21,7 +21,6 @@ pub struct SubProof {
 
 /// Whether a tree is a proof in this dialect.
 #[cycle(check_sub)]
-#[tactic(auto, using(crate::proofs::SubShapes::sub_nodes))]
 pub fn check_sub(proof: &SubProof, dialect: Dialect) -> bool
     ensures { IsTrue result ↔ IsSubProof (sub_tree_of proof.now) dialect }
 {
@@ -41,7 +40,6 @@ pub fn check_sub(proof: &SubProof, dialect: Dialect) -> bool
 }
 
 #[cycle(check_sub)]
-#[tactic(auto, using(crate::proofs::SubShapes::sub_nodes))]
 fn check_subs(proofs: &[SubProof], dialect: Dialect) -> bool
     ensures { IsTrue result ↔ AreSubProofs (sub_trees_of proofs.now) dialect }
 {
@@ -84,7 +82,6 @@ fn follows(rule: SubRule, premises: &[SubProof], lower: &Ty, upper: &Ty) -> bool
 }
 
 /// S-Refl.
-#[tactic(auto, using(crate::proofs::TypeShapes::shapes, crate::proofs::SubShapes::sub_shapes))]
 fn by_refl(premises: &[SubProof], lower: &Ty, upper: &Ty) -> bool
     ensures { IsTrue result ↔ BySubRule SubRule.Refl (claims_of premises.now) (typ_of lower.now) (typ_of upper.now) }
 {
@@ -95,7 +92,6 @@ fn by_refl(premises: &[SubProof], lower: &Ty, upper: &Ty) -> bool
 }
 
 /// S-Trans.
-#[tactic(auto, using(crate::proofs::TypeShapes::shapes, crate::proofs::SubShapes::sub_shapes))]
 fn by_trans(premises: &[SubProof], lower: &Ty, upper: &Ty) -> bool
     ensures { IsTrue result ↔ BySubRule SubRule.Trans (claims_of premises.now) (typ_of lower.now) (typ_of upper.now) }
 {
@@ -112,7 +108,6 @@ fn by_trans(premises: &[SubProof], lower: &Ty, upper: &Ty) -> bool
 }
 
 /// S-Top.
-#[tactic(auto, using(crate::proofs::TypeShapes::shapes, crate::proofs::SubShapes::sub_shapes))]
 fn by_top(premises: &[SubProof], _lower: &Ty, upper: &Ty) -> bool
     ensures { IsTrue result ↔ BySubRule SubRule.Top (claims_of premises.now) (typ_of _lower.now) (typ_of upper.now) }
 {
@@ -123,7 +118,6 @@ fn by_top(premises: &[SubProof], _lower: &Ty, upper: &Ty) -> bool
 }
 
 /// S-Arrow. The parameters go the other way round.
-#[tactic(auto, using(crate::proofs::TypeShapes::shapes, crate::proofs::SubShapes::sub_shapes))]
 fn by_arrow(premises: &[SubProof], lower: &Ty, upper: &Ty) -> bool
     ensures { IsTrue result ↔ BySubRule SubRule.Arrow (claims_of premises.now) (typ_of lower.now) (typ_of upper.now) }
 {
@@ -149,7 +143,6 @@ fn by_arrow(premises: &[SubProof], lower: &Ty, upper: &Ty) -> bool
 }
 
 /// S-RcdWidth.
-#[tactic(auto, using(crate::proofs::TypeShapes::shapes, crate::proofs::SubShapes::sub_shapes))]
 fn by_width(premises: &[SubProof], lower: &Ty, upper: &Ty) -> bool
     ensures { IsTrue result ↔ BySubRule SubRule.RcdWidth (claims_of premises.now) (typ_of lower.now) (typ_of upper.now) }
 {
@@ -166,7 +159,6 @@ fn by_width(premises: &[SubProof], lower: &Ty, upper: &Ty) -> bool
 }
 
 /// S-RcdDepth.
-#[tactic(auto, using(crate::proofs::TypeShapes::shapes, crate::proofs::SubShapes::sub_shapes))]
 fn by_depth(premises: &[SubProof], lower: &Ty, upper: &Ty) -> bool
     ensures { IsTrue result ↔ BySubRule SubRule.RcdDepth (claims_of premises.now) (typ_of lower.now) (typ_of upper.now) }
 {
@@ -180,7 +172,6 @@ fn by_depth(premises: &[SubProof], lower: &Ty, upper: &Ty) -> bool
 }
 
 /// S-RcdPerm.
-#[tactic(auto, using(crate::proofs::TypeShapes::shapes, crate::proofs::SubShapes::sub_shapes))]
 fn by_permutation(premises: &[SubProof], lower: &Ty, upper: &Ty) -> bool
     requires lower { IsWellFormed (typ_of lower.now) }
     requires upper { IsWellFormed (typ_of upper.now) }
@@ -199,7 +190,6 @@ fn by_permutation(premises: &[SubProof], lower: &Ty, upper: &Ty) -> bool
 }
 
 /// S-BoolNat.
-#[tactic(auto, using(crate::proofs::TypeShapes::shapes, crate::proofs::SubShapes::sub_shapes))]
 fn by_bool_nat(premises: &[SubProof], lower: &Ty, upper: &Ty) -> bool
     ensures { IsTrue result ↔ BySubRule SubRule.BoolNat (claims_of premises.now) (typ_of lower.now) (typ_of upper.now) }
 {
@@ -212,7 +202,6 @@ fn by_bool_nat(premises: &[SubProof], lower: &Ty, upper: &Ty) -> bool
     same(upper, &Ty::Nat)
 }
 
-#[tactic(auto, using(crate::proofs::TypeShapes::shapes, crate::proofs::SubShapes::sub_shapes))]
 fn begins_with(fields: &[(String, Ty)], first_fields: &[(String, Ty)]) -> bool
     ensures { IsTrue result ↔ BeginsWith (fields_of fields.now) (fields_of first_fields.now) }
 {
@@ -232,7 +221,6 @@ fn begins_with(fields: &[(String, Ty)], first_fields: &[(String, Ty)]) -> bool
     true
 }
 
-#[tactic(auto, using(crate::proofs::TypeShapes::shapes, crate::proofs::SubShapes::sub_shapes))]
 fn goes_field_by_field(
     lower: &[(String, Ty)],
     upper: &[(String, Ty)],
@@ -265,7 +253,6 @@ fn goes_field_by_field(
 
 /// Since the labels on each side are distinct, it is enough that each side's fields are among the
 /// other's.
-#[tactic(auto, using(crate::proofs::Permutations::permutations))]
 fn is_permutation(fields: &[(String, Ty)], others: &[(String, Ty)]) -> bool
     requires fields { AreWellFormed (fields_of fields.now) }
     requires others { AreWellFormed (fields_of others.now) }
@@ -277,7 +264,6 @@ fn is_permutation(fields: &[(String, Ty)], others: &[(String, Ty)]) -> bool
     includes(others, fields)
 }
 
-#[tactic(auto, using(crate::proofs::TypeShapes::shapes))]
 fn includes(fields: &[(String, Ty)], others: &[(String, Ty)]) -> bool
     ensures { IsTrue result ↔ Includes (fields_of fields.now) (fields_of others.now) }
 {

@@ -56,7 +56,6 @@ impl Model for TyTable {
 
 impl TyTable {
     /// A table without types. It keeps the allocator for those to come.
-    #[tactic(auto, using(crate::proofs::TableEntries::entry_lists))]
     pub fn new(alloc: Global) -> TyTable
         ensures { result ≡ [] }
     {
@@ -107,7 +106,6 @@ impl TyTable {
     }
 
     /// The number of the field with this label, where the type is a record type that has one.
-    #[tactic(auto, using(crate::proofs::TableFields::found_fields))]
     pub fn field(&self, number: TyNo, label: &str) -> Option<TyNo>
         requires { Stands self.now number }
         ensures earlier { IfSome result (λ found. found.index < number.index) }
@@ -121,7 +119,6 @@ impl TyTable {
     }
 
     /// The number of the type that has this shape.
-    #[tactic(auto, using(crate::proofs::Tables::numbers, crate::proofs::SortedBelow::sorting_again))]
     pub fn intern(&mut self, shape: Shape) -> Result<TyNo, AllocError>
         requires over { IsOver (length self.old) shape }
         requires labels { HasDistinctLabels shape }
@@ -149,7 +146,6 @@ impl TyTable {
     }
 
     /// The number of the record type of these fields, in their order.
-    #[tactic(auto, using(crate::proofs::TableFields::copied))]
     pub fn record(&mut self, fields: &[(&str, TyNo)]) -> Result<TyNo, AllocError>
         requires numbers { AllStand self.old fields.now }
         requires labels { AreGivenApart fields.now }
@@ -162,7 +158,6 @@ impl TyTable {
 
     /// The number of a type.
     #[cycle(add)]
-    #[tactic(auto, using(crate::proofs::TypeShapes::shapes, crate::proofs::Tables::numbers))]
     pub fn add(&mut self, ty: &Ty) -> Result<TyNo, AllocError>
         requires { IsWellFormed (typ_of ty.now) }
         ensures keeps { Keeps self.old self.new }
@@ -186,7 +181,6 @@ impl TyTable {
     }
 
     #[cycle(add)]
-    #[tactic(auto, using(crate::proofs::TypeShapes::shapes, crate::proofs::Tables::numbers))]
     fn add_fields(&mut self, fields: &[(String, Ty)]) -> Result<Vec<(String, TyNo)>, AllocError>
         requires { AreWellFormed (fields_of fields.now) }
         ensures keeps { Keeps self.old self.new }
@@ -204,7 +198,6 @@ impl TyTable {
 
     /// The type of a number, with nothing shared.
     #[cycle(tree)]
-    #[tactic(auto, using(crate::proofs::TypeShapes::shapes))]
     pub fn tree(&self, number: TyNo) -> Result<Ty, AllocError>
         requires { Stands self.now number }
         ensures { IfOk result (λ ty. typ_of ty ≡ type_of self.now number) }
@@ -227,7 +220,6 @@ impl TyTable {
     }
 
     #[cycle(tree)]
-    #[tactic(auto, using(crate::proofs::TypeShapes::shapes, crate::proofs::TableEntries::field_lists))]
     fn tree_fields(&self, fields: &[(String, TyNo)]) -> Result<Vec<(String, Ty)>, AllocError>
         requires { AreEarlier (length self.now) fields.now }
         ensures { IfOk result (λ items. fields_of items.items ≡ fields_over self.now fields.now) }
@@ -319,7 +311,6 @@ impl TyTable {
         }
     }
 
-    #[tactic(auto, using(crate::proofs::TableEntries::field_lists))]
     fn size_of_fields(&self, fields: &[(String, TyNo)]) -> u64
         requires { AreEarlier (length self.now) fields.now }
         ensures { result ≡ min (nodes_in (fields_over self.now fields.now)) 4097 }
@@ -394,7 +385,6 @@ impl TyTable {
         }
     }
 
-    #[tactic(auto, using(crate::proofs::TableEntries::field_lists))]
     fn sorted_fields(&self, fields: &[(String, TyNo)]) -> Result<Vec<(String, TyNo)>, AllocError>
         requires { AreEarlier (length self.now) fields.now }
         ensures over { IfOk result (λ made. AreEarlier (length self.now) made.items) }

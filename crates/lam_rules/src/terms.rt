@@ -1,7 +1,7 @@
 //! Nameless terms.
 
 ghost use Rattle.std.specs.Prelude.{◌≡◌, IfOk};
-ghost use Rattle.lam_rules.specs.Terms.{letrec_in};
+ghost use Rattle.lam_rules.specs.Terms.{letrec_in, fix, lambda};
 ghost use Rattle.lam_rules.specs.TermViews.{term_of, written_of};
 
 use crate::types::Ty;
@@ -40,7 +40,6 @@ pub enum Core {
 
 /// What `letrec x:T = bound in body` stands for: `let x = fix (lambda x:T. bound) in body`
 /// (TAPL 11.11).
-#[tactic(auto, using(crate::proofs::TermShapes::term_shapes))]
 pub fn make_letrec(
     alloc: Global,
     written: Option<Ty>,
@@ -49,7 +48,14 @@ pub fn make_letrec(
 ) -> Result<Core, AllocError>
     ensures { IfOk result (λ made. term_of made ≡ letrec_in (written_of written) (term_of bound) (term_of body)) }
 {
-    let lambda = Core::Abs(Box::new(alloc, (written, bound))?);
-    let fixed = Core::Fix(Box::new(alloc, lambda)?);
+    let fixed = make_fixed(alloc, written, bound)?;
     Ok(Core::Let(Box::new(alloc, (fixed, body))?))
+}
+
+/// The fix of a lambda.
+fn make_fixed(alloc: Global, written: Option<Ty>, bound: Core) -> Result<Core, AllocError>
+    ensures { IfOk result (λ made. term_of made ≡ fix (lambda (written_of written) (term_of bound))) }
+{
+    let lambda = Core::Abs(Box::new(alloc, (written, bound))?);
+    Ok(Core::Fix(Box::new(alloc, lambda)?))
 }

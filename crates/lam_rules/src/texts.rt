@@ -21,7 +21,6 @@ pub fn plain_text_of(alloc: Global, ty: &Ty) -> Result<String, AllocError>
 }
 
 #[cycle(write)]
-#[tactic(auto, using(crate::proofs::TypeShapes::shapes))]
 fn write_type(out: &mut String, ty: &Ty) -> Result<(), AllocError>
     ensures { OnOk result (string_bytes out.new ≡ string_bytes out.old ++ plain_text (typ_of ty.now)) }
 {
@@ -44,7 +43,6 @@ fn write_type(out: &mut String, ty: &Ty) -> Result<(), AllocError>
 }
 
 #[cycle(write)]
-#[tactic(auto, using(crate::proofs::TypeShapes::shapes))]
 fn write_parameter(out: &mut String, ty: &Ty) -> Result<(), AllocError>
     ensures { OnOk result (string_bytes out.new ≡ string_bytes out.old ++ left_of_arrow (typ_of ty.now) (plain_text (typ_of ty.now))) }
 {
@@ -59,7 +57,6 @@ fn write_parameter(out: &mut String, ty: &Ty) -> Result<(), AllocError>
 }
 
 #[cycle(write)]
-#[tactic(auto, using(crate::proofs::TypeShapes::shapes))]
 fn write_fields(out: &mut String, fields: &[(String, Ty)]) -> Result<(), AllocError>
     ensures { OnOk result (string_bytes out.new ≡ string_bytes out.old ++ plain_fields (fields_of fields.now)) }
 {
@@ -73,7 +70,6 @@ fn write_fields(out: &mut String, fields: &[(String, Ty)]) -> Result<(), AllocEr
     Ok(())
 }
 
-#[tactic(auto, using(crate::proofs::TypeShapes::shapes))]
 fn write_separator(out: &mut String, rest: &[(String, Ty)]) -> Result<(), AllocError>
     ensures { OnOk result (string_bytes out.new ≡ string_bytes out.old ++ separator_before (fields_of rest.now)) }
 {
@@ -85,7 +81,6 @@ fn write_separator(out: &mut String, rest: &[(String, Ty)]) -> Result<(), AllocE
 
 /// The text of a type with the fields of each record sorted by the bytes of their labels, as
 /// `{a:Nat, b:Bool}`. Fields of one label keep their places.
-#[tactic(auto, using(crate::proofs::SharedTexts::text_same))]
 pub fn text_of(alloc: Global, ty: &Ty) -> Result<String, AllocError>
     ensures text { IfOk result (λ written. string_bytes written ≡ text (typ_of ty.now)) }
     ensures shared { IfOk result (λ written. IsSharedText (string_bytes written) (typ_of ty.now)) }
@@ -97,7 +92,6 @@ pub fn text_of(alloc: Global, ty: &Ty) -> Result<String, AllocError>
 /// The same type with the fields of each record sorted by the bytes of their labels. Fields of one
 /// label keep their places.
 #[cycle(sorted)]
-#[tactic(auto, using(crate::proofs::TypeShapes::shapes))]
 fn sorted_of(alloc: Global, ty: &Ty) -> Result<Ty, AllocError>
     ensures { IfOk result (λ made. typ_of made ≡ sorted (typ_of ty.now)) }
 {
@@ -119,7 +113,6 @@ fn sorted_of(alloc: Global, ty: &Ty) -> Result<Ty, AllocError>
 }
 
 #[cycle(sorted)]
-#[tactic(auto, using(crate::proofs::TypeShapes::shapes))]
 fn sorted_fields_of(alloc: Global, fields: &[(String, Ty)]) -> Result<Vec<(String, Ty)>, AllocError>
     ensures { IfOk result (λ made. fields_of made.items ≡ sorted_fields (fields_of fields.now)) }
 {
@@ -135,7 +128,6 @@ fn sorted_fields_of(alloc: Global, fields: &[(String, Ty)]) -> Result<Vec<(Strin
 }
 
 /// A law: what sorting gives is a sorted form, and a type has no other.
-#[tactic(auto, using(crate::proofs::SortedForms::sorted_forms))]
 pub fn one_sorted_form()
     ensures some { (t : Typ) → IsSortedForm t (sorted t) }
     ensures one { (t u : Typ) → IsSortedForm t u → u ≡ sorted t }

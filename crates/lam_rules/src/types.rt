@@ -26,7 +26,6 @@ pub enum Ty {
 }
 
 /// The arrow from one type to another.
-#[tactic(auto, using(crate::proofs::TypeShapes::shapes))]
 pub fn make_arrow(alloc: Global, parameter: Ty, outcome: Ty) -> Result<Ty, AllocError>
     ensures { IfOk result (λ made. typ_of made ≡ arrow (typ_of parameter) (typ_of outcome)) }
 {
@@ -34,7 +33,6 @@ pub fn make_arrow(alloc: Global, parameter: Ty, outcome: Ty) -> Result<Ty, Alloc
 }
 
 /// The record type of these fields, in their order.
-#[tactic(auto, using(crate::proofs::TypeShapes::shapes))]
 pub fn make_record(items: Vec<(String, Ty)>) -> Ty
     ensures { typ_of result ≡ record_of (fields_of items.items) }
 {
@@ -43,7 +41,6 @@ pub fn make_record(items: Vec<(String, Ty)>) -> Ty
 
 /// Whether the labels of each record type in it are distinct, at every depth.
 #[cycle(wf)]
-#[tactic(auto, using(crate::proofs::TypeShapes::shapes))]
 pub fn wf(ty: &Ty) -> bool
     ensures { IsTrue result ↔ IsWellFormed (typ_of ty.now) }
 {
@@ -63,7 +60,6 @@ pub fn wf(ty: &Ty) -> bool
 }
 
 #[cycle(wf)]
-#[tactic(auto, using(crate::proofs::TypeShapes::shapes))]
 fn wf_fields(fields: &[(String, Ty)]) -> bool
     ensures { IsTrue result ↔ AreWellFormed (fields_of fields.now) }
 {
@@ -80,7 +76,6 @@ fn wf_fields(fields: &[(String, Ty)]) -> bool
 }
 
 /// Whether no field has this label.
-#[tactic(auto, using(crate::proofs::TypeShapes::shapes))]
 fn is_absent(label: &str, fields: &[(String, Ty)]) -> bool
     ensures { IsTrue result ↔ IsAbsent label.now (fields_of fields.now) }
 {
@@ -93,7 +88,6 @@ fn is_absent(label: &str, fields: &[(String, Ty)]) -> bool
 }
 
 /// Whether a field with this label and this type is among the fields.
-#[tactic(auto, using(crate::proofs::TypeShapes::shapes))]
 pub(crate) fn has_field(label: &str, ty: &Ty, fields: &[(String, Ty)]) -> bool
     ensures { IsTrue result ↔ Has label.now (typ_of ty.now) (fields_of fields.now) }
 {
@@ -113,7 +107,6 @@ pub(crate) const SIZE_CAP: u64 = 4_097;
 /// How many nodes a type has, or 4,097 where it has more: Bool, Nat, Unit, Top, arrows and records
 /// are a node each, labels are none.
 #[cycle(size)]
-#[tactic(auto, using(crate::proofs::TypeShapes::shapes))]
 pub fn size(ty: &Ty) -> u64
     ensures { result ≡ min (nodes (typ_of ty.now)) 4097 }
 {
@@ -128,7 +121,6 @@ pub fn size(ty: &Ty) -> u64
 }
 
 #[cycle(size)]
-#[tactic(auto, using(crate::proofs::TypeShapes::shapes))]
 fn size_of_fields(fields: &[(String, Ty)]) -> u64
     ensures { result ≡ min (nodes_in (fields_of fields.now)) 4097 }
 {
@@ -142,7 +134,6 @@ fn size_of_fields(fields: &[(String, Ty)]) -> u64
 
 /// Whether two types are one type, with the fields of each record in one order.
 #[cycle(same)]
-#[tactic(auto, using(crate::proofs::TypeShapes::shapes))]
 pub fn same(left: &Ty, right: &Ty) -> bool
     ensures { IsTrue result ↔ (typ_of left.now ≡ typ_of right.now) }
 {
@@ -171,7 +162,6 @@ pub fn same(left: &Ty, right: &Ty) -> bool
 
 /// Whether two lists of fields have the same labels and types in the same order.
 #[cycle(same)]
-#[tactic(auto, using(crate::proofs::TypeShapes::shapes))]
 pub fn same_fields(left: &[(String, Ty)], right: &[(String, Ty)]) -> bool
     ensures { IsTrue result ↔ (fields_of left.now ≡ fields_of right.now) }
 {
@@ -193,7 +183,6 @@ pub fn same_fields(left: &[(String, Ty)], right: &[(String, Ty)]) -> bool
 
 /// The same type in memory of its own.
 #[cycle(copy_of)]
-#[tactic(auto, using(crate::proofs::TypeShapes::shapes))]
 pub fn copy_of(alloc: Global, ty: &Ty) -> Result<Ty, AllocError>
     ensures { IfOk result (λ copy. typ_of copy ≡ typ_of ty.now) }
 {
@@ -216,7 +205,6 @@ pub fn copy_of(alloc: Global, ty: &Ty) -> Result<Ty, AllocError>
 
 /// The same fields in memory of their own.
 #[cycle(copy_of)]
-#[tactic(auto, using(crate::proofs::TypeShapes::shapes))]
 pub fn copy_of_fields(
     alloc: Global,
     fields: &[(String, Ty)],

@@ -35,7 +35,6 @@ enum Entries<'a> {
 
 /// Whether a tree is a proof for this term in this context and dialect. The outermost binder's entry
 /// comes first, so the last one is that of the variable with count 0.
-#[tactic(auto, using(crate::proofs::TypingShapes::typing_shapes))]
 pub fn check_type(context: &[Option<Ty>], term: &Core, proof: &TypeProof, dialect: Dialect) -> bool
     ensures { IsTrue result ↔ IsTyping (context_of context.now) (term_of term.now) (typing_tree_of proof.now) dialect }
 {
@@ -45,7 +44,6 @@ pub fn check_type(context: &[Option<Ty>], term: &Core, proof: &TypeProof, dialec
     check_in(proof, &Entries::Given(context), term, dialect)
 }
 
-#[tactic(auto, using(crate::proofs::Contexts::contexts))]
 fn wf_context(context: &[Option<Ty>]) -> bool
     ensures { IsTrue result ↔ IsWellFormedContext (context_of context.now) }
 {
@@ -67,7 +65,6 @@ fn wf_entry(entry: &Option<Ty>) -> bool
 }
 
 #[cycle(check_type)]
-#[tactic(auto, using(crate::proofs::TypingShapes::typing_nodes, crate::proofs::RuleForms::sub_rule))]
 fn check_in(proof: &TypeProof, entries: &Entries, term: &Core, dialect: Dialect) -> bool
     requires { IsWellFormedContext (entries_of entries.now) }
     ensures { IsTrue result ↔ IsTyping (entries_of entries.now) (term_of term.now) (typing_tree_of proof.now) dialect }
@@ -86,7 +83,6 @@ fn check_in(proof: &TypeProof, entries: &Entries, term: &Core, dialect: Dialect)
 
 /// T-Sub.
 #[cycle(check_type)]
-#[tactic(auto, using(crate::proofs::TypingShapes::typing_shapes))]
 fn by_sub(
     premises: &[TypeProof],
     sub: &SubProof,
@@ -116,7 +112,6 @@ fn by_sub(
 
 /// Each rule but T-Sub.
 #[cycle(check_type)]
-#[tactic(auto, using(crate::proofs::TypingShapes::typing_shapes))]
 fn by_rule(
     premises: &[TypeProof],
     rule: TypeRule,
@@ -152,7 +147,6 @@ fn by_rule(
 
 /// Whether a tree is a proof that the term has this very type.
 #[cycle(check_type)]
-#[tactic(auto, using(crate::proofs::TypingShapes::typing_shapes))]
 fn proves(proof: &TypeProof, entries: &Entries, term: &Core, ty: &Ty, dialect: Dialect) -> bool
     requires { IsWellFormedContext (entries_of entries.now) }
     ensures { IsTrue result ↔ ProvesTyping (typing_tree_of proof.now) (entries_of entries.now) (term_of term.now) (typ_of ty.now) dialect }
@@ -165,7 +159,6 @@ fn proves(proof: &TypeProof, entries: &Entries, term: &Core, ty: &Ty, dialect: D
 
 /// Whether a tree is a proof that the term has this very type under one more binder, of type `inner`.
 #[cycle(check_type)]
-#[tactic(auto, using(crate::proofs::TypingShapes::typing_shapes))]
 fn proves_under(
     proof: &TypeProof,
     inner: &Ty,
@@ -190,7 +183,6 @@ fn proves_under(
 }
 
 /// T-True.
-#[tactic(auto, using(crate::proofs::RuleForms::true_rule))]
 fn by_true(premises: &[TypeProof], term: &Core, ty: &Ty) -> bool
     ensures { (g : Context) (d : Dialect) → (IsTrue result ↔ ByTypeRule TypeRule.True None g (term_of term.now) (typ_of ty.now) (typings_of premises.now) d) }
 {
@@ -204,7 +196,6 @@ fn by_true(premises: &[TypeProof], term: &Core, ty: &Ty) -> bool
 }
 
 /// T-False.
-#[tactic(auto, using(crate::proofs::RuleForms::false_rule))]
 fn by_false(premises: &[TypeProof], term: &Core, ty: &Ty) -> bool
     ensures { (g : Context) (d : Dialect) → (IsTrue result ↔ ByTypeRule TypeRule.False None g (term_of term.now) (typ_of ty.now) (typings_of premises.now) d) }
 {
@@ -218,7 +209,6 @@ fn by_false(premises: &[TypeProof], term: &Core, ty: &Ty) -> bool
 }
 
 /// T-Num.
-#[tactic(auto, using(crate::proofs::RuleForms::num_rule))]
 fn by_num(premises: &[TypeProof], term: &Core, ty: &Ty) -> bool
     ensures { (g : Context) (d : Dialect) → (IsTrue result ↔ ByTypeRule TypeRule.Num None g (term_of term.now) (typ_of ty.now) (typings_of premises.now) d) }
 {
@@ -232,7 +222,6 @@ fn by_num(premises: &[TypeProof], term: &Core, ty: &Ty) -> bool
 }
 
 /// T-Unit.
-#[tactic(auto, using(crate::proofs::RuleForms::unit_rule))]
 fn by_unit(premises: &[TypeProof], term: &Core, ty: &Ty) -> bool
     ensures { (g : Context) (d : Dialect) → (IsTrue result ↔ ByTypeRule TypeRule.Unit None g (term_of term.now) (typ_of ty.now) (typings_of premises.now) d) }
 {
@@ -246,7 +235,6 @@ fn by_unit(premises: &[TypeProof], term: &Core, ty: &Ty) -> bool
 }
 
 /// T-Var.
-#[tactic(auto, using(crate::proofs::RuleForms::var_rule))]
 fn by_var(premises: &[TypeProof], entries: &Entries, term: &Core, ty: &Ty) -> bool
     ensures { (d : Dialect) → (IsTrue result ↔ ByTypeRule TypeRule.Var None (entries_of entries.now) (term_of term.now) (typ_of ty.now) (typings_of premises.now) d) }
 {
@@ -260,7 +248,6 @@ fn by_var(premises: &[TypeProof], entries: &Entries, term: &Core, ty: &Ty) -> bo
 }
 
 /// Whether the entry of the binder that a variable counts to is this type.
-#[tactic(auto, using(crate::proofs::TypingShapes::typing_shapes))]
 fn is_entry(count: usize, entries: &Entries, ty: &Ty) -> bool
     ensures { IsTrue result ↔ IsEntry count (entries_of entries.now) (typ_of ty.now) }
 {
@@ -276,7 +263,6 @@ fn is_entry(count: usize, entries: &Entries, ty: &Ty) -> bool
 }
 
 /// Whether the entry that a variable counts to is this type, where entries begin with the outermost binder.
-#[tactic(auto, using(crate::proofs::Contexts::contexts))]
 fn is_given_entry(count: usize, context: &[Option<Ty>], ty: &Ty) -> bool
     ensures { IsTrue result ↔ IsEntry count (context_of context.now) (typ_of ty.now) }
 {
@@ -292,7 +278,6 @@ fn is_given_entry(count: usize, context: &[Option<Ty>], ty: &Ty) -> bool
 
 /// T-If.
 #[cycle(check_type)]
-#[tactic(auto, using(crate::proofs::RuleForms::if_rule))]
 fn by_if(premises: &[TypeProof], entries: &Entries, term: &Core, ty: &Ty, dialect: Dialect) -> bool
     requires context { IsWellFormedContext (entries_of entries.now) }
     requires ty { IsWellFormed (typ_of ty.now) }
@@ -316,7 +301,6 @@ fn by_if(premises: &[TypeProof], entries: &Entries, term: &Core, ty: &Ty, dialec
 
 /// T-Succ.
 #[cycle(check_type)]
-#[tactic(auto, using(crate::proofs::RuleForms::succ_rule))]
 fn by_succ(
     premises: &[TypeProof],
     entries: &Entries,
@@ -342,7 +326,6 @@ fn by_succ(
 
 /// T-Pred.
 #[cycle(check_type)]
-#[tactic(auto, using(crate::proofs::RuleForms::pred_rule))]
 fn by_pred(
     premises: &[TypeProof],
     entries: &Entries,
@@ -368,7 +351,6 @@ fn by_pred(
 
 /// T-IsZero.
 #[cycle(check_type)]
-#[tactic(auto, using(crate::proofs::RuleForms::is_zero_rule))]
 fn by_is_zero(
     premises: &[TypeProof],
     entries: &Entries,
@@ -394,7 +376,6 @@ fn by_is_zero(
 
 /// T-Abs. The body is gone down to under the binder.
 #[cycle(check_type)]
-#[tactic(auto, using(crate::proofs::RuleForms::abs_rule))]
 fn by_abs(premises: &[TypeProof], entries: &Entries, term: &Core, ty: &Ty, dialect: Dialect) -> bool
     requires context { IsWellFormedContext (entries_of entries.now) }
     requires ty { IsWellFormed (typ_of ty.now) }
@@ -421,7 +402,6 @@ fn by_abs(premises: &[TypeProof], entries: &Entries, term: &Core, ty: &Ty, diale
 
 /// T-App.
 #[cycle(check_type)]
-#[tactic(auto, using(crate::proofs::RuleForms::app_rule))]
 fn by_app(premises: &[TypeProof], entries: &Entries, term: &Core, ty: &Ty, dialect: Dialect) -> bool
     requires context { IsWellFormedContext (entries_of entries.now) }
     requires ty { IsWellFormed (typ_of ty.now) }
@@ -451,7 +431,6 @@ fn by_app(premises: &[TypeProof], entries: &Entries, term: &Core, ty: &Ty, diale
 
 /// T-Ascribe.
 #[cycle(check_type)]
-#[tactic(auto, using(crate::proofs::RuleForms::ascribe_rule))]
 fn by_ascribe(
     premises: &[TypeProof],
     entries: &Entries,
@@ -481,7 +460,6 @@ fn by_ascribe(
 
 /// T-Let. The body is gone down to under the binder.
 #[cycle(check_type)]
-#[tactic(auto, using(crate::proofs::RuleForms::let_rule))]
 fn by_let(premises: &[TypeProof], entries: &Entries, term: &Core, ty: &Ty, dialect: Dialect) -> bool
     requires context { IsWellFormedContext (entries_of entries.now) }
     requires ty { IsWellFormed (typ_of ty.now) }
@@ -502,7 +480,6 @@ fn by_let(premises: &[TypeProof], entries: &Entries, term: &Core, ty: &Ty, diale
 
 /// T-Rcd.
 #[cycle(check_type)]
-#[tactic(auto, using(crate::proofs::RuleForms::rcd_rule))]
 fn by_rcd(premises: &[TypeProof], entries: &Entries, term: &Core, ty: &Ty, dialect: Dialect) -> bool
     requires context { IsWellFormedContext (entries_of entries.now) }
     requires ty { IsWellFormed (typ_of ty.now) }
@@ -519,7 +496,6 @@ fn by_rcd(premises: &[TypeProof], entries: &Entries, term: &Core, ty: &Ty, diale
 
 /// T-Rcd, field by field.
 #[cycle(check_type)]
-#[tactic(auto, using(crate::proofs::RuleForms::rcd_rule))]
 fn by_fields(
     premises: &[TypeProof],
     entries: &Entries,
@@ -552,7 +528,6 @@ fn by_fields(
 
 /// T-Proj.
 #[cycle(check_type)]
-#[tactic(auto, using(crate::proofs::RuleForms::proj_rule))]
 fn by_proj(
     premises: &[TypeProof],
     entries: &Entries,
@@ -582,7 +557,6 @@ fn by_proj(
 
 /// T-Fix.
 #[cycle(check_type)]
-#[tactic(auto, using(crate::proofs::RuleForms::fix_rule))]
 fn by_fix(premises: &[TypeProof], entries: &Entries, term: &Core, ty: &Ty, dialect: Dialect) -> bool
     requires context { IsWellFormedContext (entries_of entries.now) }
     requires ty { IsWellFormed (typ_of ty.now) }

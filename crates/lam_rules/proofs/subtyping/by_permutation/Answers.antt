@@ -1,5 +1,5 @@
 use Rattle.std.proofs.Common.{arith}
-use Rattle.lam_rules.proofs.TypeShapes.{shapes}
+use Rattle.lam_rules.proofs.TypeShapes.{shapes, typ_of-Record}
 use Rattle.lam_rules.proofs.SubShapes.{sub_shapes}
 use Rattle.lam_rules.proofs.subtyping.by_permutation.Goals as goal
 
@@ -14,3 +14,9 @@ returns-in_default-upper c = grind (arith, shapes, sub_shapes)
 
 pub returns : goal.returns
 returns c = grind (arith, shapes, sub_shapes)
+
+pub is_permutation-requires-clause-fields : goal.is_permutation-requires-clause-fields
+is_permutation-requires-clause-fields c = grind (arith, typ_of-Record)
+
+pub is_permutation-requires-clause-others : goal.is_permutation-requires-clause-others
+is_permutation-requires-clause-others c = grind (arith, typ_of-Record)

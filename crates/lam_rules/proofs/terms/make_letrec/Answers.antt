@@ -1,6 +1,6 @@
 use Rattle.std.proofs.Common.{arith}
-use Rattle.lam_rules.proofs.TermShapes.{term_of-Let, term_of-Fix, term_of-Abs}
+use Rattle.lam_rules.proofs.TermShapes.{term_of-Let}
 use Rattle.lam_rules.proofs.terms.make_letrec.Goals as goal
 
 pub returns : goal.returns
-returns c = grind (arith, term_of-Let, term_of-Fix, term_of-Abs)
+returns c = grind (arith, term_of-Let)

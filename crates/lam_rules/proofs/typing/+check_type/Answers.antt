@@ -1,7 +1,7 @@
 use Rattle.std.proofs.Common.{◌∙◌, ap, sym, refl, arith}
 use Rattle.lam_rules.specs.TypeViews.{typ_of, fields_of}
 use Rattle.lam_rules.proofs.TypeShapes.{typ_of-Bool, typ_of-Nat, typ_of-Arrow, typ_of-Record, fields_of-drop}
-use Rattle.lam_rules.proofs.TypingShapes.{typing_inner_wf, typing_shapes, typing_nodes, typings_of-drop}
+use Rattle.lam_rules.proofs.TypingShapes.{typing_inner_wf, typing_shapes, typing_nodes, typings_of-drop, entries_of-Under}
 use Rattle.lam_rules.proofs.RuleForms.{counts_sub, no_if, counts_if, succ_rule, no_succ, counts_succ, pred_rule, no_pred, counts_pred, is_zero_rule, no_iszero, counts_iszero, abs_rule, no_abs, counts_abs, app_rule, no_app, counts_app, ascribe_rule, no_ascribe, counts_ascribe, no_let, counts_let, proj_rule, no_proj, counts_proj, fix_rule, no_fix, counts_fix, no_rcd, no_rcd_type, rcd_rule, sub_rule, rcd_not_fields, rcd_not_premises}
 use Rattle.lam_rules.proofs.RulesHere.{here_succ, here_pred, here_is_zero, here_if, here_abs, here_app, here_ascribe, here_let, here_proj, here_fix, here_sub, fields_here, here_rcd}
 use Rattle.std.proofs.lemmas.Grind.{common_steps}
@@ -396,3 +396,6 @@ by_rule-returns-in-Proj t c = rw c.in-Proj.is c.by_proj.ensures
 
 pub by_rule-returns-in-Fix : goal.by_rule-returns-in-Fix
 by_rule-returns-in-Fix t c = rw c.in-Fix.is c.by_fix.ensures
+
+pub proves_under-proves-requires : goal.proves_under-proves-requires
+proves_under-proves-requires t c = grind (arith, entries_of-Under)

@@ -1,4 +1,5 @@
 use Rattle.lam_rules.proofs.TableFields.{inside_more, inside_all, sorted_numbers, below_permutation}
+use Rattle.lam_rules.proofs.TableEntries.{below_read}
 use Rattle.lam_rules.proofs.table.TyTable.sorted_fields.Goals as goal
 
 pub loop-i-preserved : goal.loop-i-preserved
@@ -12,3 +13,6 @@ returns-clause-over c = below_permutation _ _ _ c.sort_by_label.ensures.permutat
 pub returns-clause-sorted : goal.returns-clause-sorted
 returns-clause-sorted c =
     sorted_numbers _ _ _ _ c.in_ok-sort_by_label.ensures.sorting (inside_all _ _ _ _ c.loop-i-test.false c.loop-i.invariant.1)
+
+pub sorted-requires : goal.sorted-requires
+sorted-requires c = below_read _ _ _ _ c.requires c.loop-i-test.true c.index-fields-i.is
