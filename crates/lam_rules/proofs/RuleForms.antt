@@ -341,8 +341,6 @@ pub ruleset unit_rule = (shapes, typing_shapes, term_of-Unit, no_unit, counts_un
 
 pub ruleset var_rule = (shapes, typing_shapes, term_of-Var, no_var, counts_var)
 
-pub ruleset if_rule = (shapes, typing_shapes, term_of-If, no_if, counts_if)
-
 pub ruleset succ_rule = (shapes, typing_shapes, term_of-Succ, no_succ, counts_succ)
 
 pub ruleset pred_rule = (shapes, typing_shapes, term_of-Pred, no_pred, counts_pred)

@@ -166,5 +166,3 @@ alike_below s t ws wt d = (
   ),
   λ both. sorted_same s t d both.0 both.1,
 )
-
-pub ruleset sorting_again = (sorted_again, sorted_wf)

@@ -183,5 +183,3 @@ mutual
   inside_one (field l t fs) (field k u gs) h = rw (h.0, one_sorted_form t u h.1, inside_one fs gs h.2)
   inside_one no_fields (field k u gs) h = absurd h
   inside_one (field l t fs) no_fields h = absurd h
-
-pub ruleset sorted_forms = (sorted_is_form, one_sorted_form)

@@ -303,5 +303,3 @@ pub below_read : (n : ℕ) (fs : List (String Global × TyNo)) (i : ℕ) (f : St
 below_read n [] i f below lt is = omega arith
 below_read n (g ∷ fs) zero f below lt is = rw is below.0
 below_read n (g ∷ fs) (suc i) f below lt is = below_read n fs i f below.1 (omega arith) is
-
-pub ruleset field_lists = (fields_over-drop, below_read)

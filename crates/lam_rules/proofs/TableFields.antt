@@ -107,8 +107,6 @@ among_end l fs i le = rw (drop_all i fs le) tt
 pub distinct_end : (fs : List (String Global × TyNo)) (i : ℕ) → length fs ≤ i → HaveDistinctLabels (drop i fs)
 distinct_end fs i le = rw (drop_all i fs le) tt
 
-pub ruleset label_lists = (among_drop, distinct_drop, among_end, distinct_end)
-
 -- numbers below a bound
 
 -- the least number that is above each of the numbers

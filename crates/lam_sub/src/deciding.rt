@@ -11,7 +11,6 @@ use lam_rules::{Dialect, Ty};
 
 /// Whether the first type is below the second.
 #[cycle(is_sub)]
-#[tactic(auto, using(lam_rules::proofs::TypeShapes::shapes, crate::proofs::Below::shapes_below))]
 pub fn is_sub(lower: &Ty, upper: &Ty, dialect: Dialect) -> bool
     requires lower { IsWellFormed (typ_of lower.now) }
     requires upper { IsWellFormed (typ_of upper.now) }
@@ -52,7 +51,6 @@ pub fn is_sub(lower: &Ty, upper: &Ty, dialect: Dialect) -> bool
 
 /// Whether each field above has a field below with its label.
 #[cycle(is_sub)]
-#[tactic(auto, using(lam_rules::proofs::TypeShapes::shapes, crate::proofs::Below::fields_one_by_one))]
 fn are_fields_sub(lower: &[(String, Ty)], upper: &[(String, Ty)], dialect: Dialect) -> bool
     requires lower { AreWellFormed (fields_of lower.now) }
     requires upper { AreWellFormed (fields_of upper.now) }

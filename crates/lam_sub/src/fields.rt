@@ -10,7 +10,6 @@ use std::alloc::{AllocError, Global};
 
 /// The type at a label. The look-up begins at the place `near`, so it is quick where the label is
 /// thought to stand there, and goes on from the front.
-#[tactic(auto, using(crate::proofs::LookUps::look_ups))]
 pub fn field_type<'a>(label: &str, fields: &'a [(String, Ty)], near: usize) -> Option<&'a Ty>
     ensures found { IfSome result (λ ty. Has label.now (typ_of ty.now) (fields_of fields.now)) }
     ensures absent { IfNone result (IsAbsent label.now (fields_of fields.now)) }
@@ -22,7 +21,6 @@ pub fn field_type<'a>(label: &str, fields: &'a [(String, Ty)], near: usize) -> O
     first_type(label, front)
 }
 
-#[tactic(auto, using(lam_rules::proofs::TypeShapes::shapes))]
 fn first_type<'a>(label: &str, fields: &'a [(String, Ty)]) -> Option<&'a Ty>
     ensures found { IfSome result (λ ty. Has label.now (typ_of ty.now) (fields_of fields.now)) }
     ensures absent { IfNone result (IsAbsent label.now (fields_of fields.now)) }
@@ -37,7 +35,6 @@ fn first_type<'a>(label: &str, fields: &'a [(String, Ty)]) -> Option<&'a Ty>
 
 /// Appends copies of those of `more` whose labels `known` has not. Where memory is wanting, some of
 /// them may have been appended.
-#[tactic(auto, using(crate::proofs::LookUps::look_ups))]
 pub fn append_others(
     alloc: Global,
     fields: &mut Vec<(String, Ty)>,
