@@ -18,7 +18,6 @@ use std::alloc::AllocError;
 
 /// The number of the least type above both.
 #[cycle(bounds)]
-#[tactic(auto, using(lam_rules::proofs::Tables::numbers))]
 pub fn join_no(
     table: &mut TyTable,
     verdicts: &mut Verdicts,
@@ -49,7 +48,6 @@ pub fn join_no(
 }
 
 #[cycle(bounds)]
-#[tactic(auto, using(lam_rules::proofs::Tables::numbers, lam_sub::proofs::Keeping::kept_verdicts))]
 fn join_by_shape(
     table: &mut TyTable,
     verdicts: &mut Verdicts,
@@ -91,7 +89,6 @@ fn join_by_shape(
 
 /// The fields whose labels both have, with the joins of their types.
 #[cycle(bounds)]
-#[tactic(auto, using(lam_rules::proofs::Tables::numbers))]
 fn join_fields(
     table: &mut TyTable,
     verdicts: &mut Verdicts,
@@ -119,7 +116,6 @@ fn join_fields(
 }
 
 /// The join of two types that are not of one shape: the one that is above the other, or else Top.
-#[tactic(auto, using(lam_rules::proofs::Tables::numbers, lam_sub::proofs::Keeping::kept_verdicts))]
 fn join_unlike(
     table: &mut TyTable,
     verdicts: &mut Verdicts,
@@ -149,7 +145,6 @@ fn join_unlike(
 
 /// The number of the greatest type below both, or none where no type is below both.
 #[cycle(bounds)]
-#[tactic(auto, using(lam_rules::proofs::Tables::numbers))]
 pub fn meet_no(
     table: &mut TyTable,
     verdicts: &mut Verdicts,
@@ -180,7 +175,6 @@ pub fn meet_no(
 }
 
 #[cycle(bounds)]
-#[tactic(auto, using(lam_rules::proofs::Tables::numbers, lam_sub::proofs::Keeping::kept_verdicts))]
 fn meet_by_shape(
     table: &mut TyTable,
     verdicts: &mut Verdicts,
@@ -231,7 +225,6 @@ fn meet_by_shape(
 /// The fields of the first, those whose labels the second has too with the meets of their types, or
 /// none where such a meet is missing.
 #[cycle(bounds)]
-#[tactic(auto, using(lam_rules::proofs::Tables::numbers))]
 fn meet_fields(
     table: &mut TyTable,
     verdicts: &mut Verdicts,
@@ -263,7 +256,6 @@ fn meet_fields(
 }
 
 /// The meet of two types that are not of one shape: the one that is below the other.
-#[tactic(auto, using(lam_rules::proofs::Tables::numbers, lam_sub::proofs::Keeping::kept_verdicts))]
 fn meet_unlike(
     table: &TyTable,
     verdicts: &mut Verdicts,

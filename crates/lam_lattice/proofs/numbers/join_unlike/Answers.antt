@@ -1,7 +1,8 @@
 use Rattle.std.proofs.Common.{◌≡◌, true, refl, sym, subst}
 use Rattle.std.proofs.lemmas.Result.{IfOk-weaker}
-use Rattle.lam_rules.specs.Numbers.{type_of}
+use Rattle.lam_rules.specs.Numbers.{type_of, Stands}
 use Rattle.lam_rules.specs.Subtyping.{IsBelow}
+use Rattle.lam_rules.proofs.Tables.{keeps_same}
 use Rattle.lam_sub.specs.BoundOrder.{join_without_parts}
 use Rattle.lam_sub.proofs.Keeping.{right_kept}
 use Rattle.lam_lattice.specs.Bounds.{IsJoin, JoinsInOrder}
@@ -43,3 +44,18 @@ returns-clause-order c =
     IfOk-weaker c.intern.result _ (λ number. JoinsInOrder (type_of c.args.table.now c.args.left) (type_of c.args.table.now c.args.right) (type_of c.intern.new.self number))
     (λ number is. subst (λ j. JoinsInOrder (type_of c.args.table.now c.args.left) (type_of c.args.table.now c.args.right) j) (sym is.type) (join_without_parts tt))
     c.intern.ensures.number
+
+pub returns-in_err-is_sub_no-clause-keeps : goal.returns-in_err-is_sub_no-clause-keeps
+returns-in_err-is_sub_no-clause-keeps c = keeps_same _
+
+pub returns-then-branch-clause-keeps : goal.returns-then-branch-clause-keeps
+returns-then-branch-clause-keeps c = keeps_same _
+
+pub returns-in_err-is_sub_no-2-clause-keeps : goal.returns-in_err-is_sub_no-2-clause-keeps
+returns-in_err-is_sub_no-2-clause-keeps c = keeps_same _
+
+pub returns-then-branch-2-clause-keeps : goal.returns-then-branch-2-clause-keeps
+returns-then-branch-2-clause-keeps c = keeps_same _
+
+pub returns-clause-stands : goal.returns-clause-stands
+returns-clause-stands c = IfOk-weaker c.intern.result _ (Stands c.intern.new.self) (λ number is. is.stands) c.intern.ensures.number
