@@ -14,7 +14,7 @@ use crate::parse_types::parse_type;
 use crate::stop::Stop;
 use crate::terms::{
     Prefix, Tm, TmField, TmNode, make_apply, make_ascribe, make_if, make_lambda, make_let,
-    make_letrec, make_project, make_record, spanning, with_prefix,
+    make_letrec, make_project, make_record, with_prefix,
 };
 use crate::text::Text;
 use crate::tokens::{expect, expect_name, identifier_of, take};
@@ -197,7 +197,7 @@ fn parse_parens<'a, 'b>(
 {
     let (term, rest) = parse_term(alloc, tokens)?;
     let (last, rest) = expect(rest, Kind::CloseParen)?;
-    Ok((spanning(term, first, last), rest))
+    Ok((term.spanning(first, last), rest))
 }
 
 /// A record, behind its opening brace.

@@ -10,7 +10,7 @@ ghost use Rattle.lam_syntax.specs.Reads.{Reads, behind_type, behind_atype, behin
 
 use crate::stop::Stop;
 use crate::tokens::{expect, expect_name, identifier_of, take};
-use crate::types::{TyField, TyNode, WrittenTy, make_arrow, make_record_type, spanning};
+use crate::types::{TyField, TyNode, WrittenTy, make_arrow, make_record_type};
 use lam_token::{Kind, Span, Token};
 use std::alloc::Global;
 
@@ -71,7 +71,7 @@ fn parse_type_parens<'a, 'b>(
 {
     let (ty, rest) = parse_type(alloc, tokens)?;
     let (last, rest) = expect(rest, Kind::CloseParen)?;
-    Ok((spanning(ty, first, last), rest))
+    Ok((ty.spanning(first, last), rest))
 }
 
 /// A record type, behind its opening brace.

@@ -12,10 +12,17 @@ use std::alloc::{AllocError, Global};
 
 /// A term, its own parentheses included in its span.
 #[cycle(terms)]
-#[derive(Drop)]
 pub struct Tm {
     pub span: Span,
     pub node: TmNode,
+}
+
+/// A function of its own, so that what drops a term calls it in place of going through all forms of terms itself.
+impl Drop for Tm {
+    #[cycle(terms)]
+    fn drop(self) {
+        let Tm { span: _, node: _ } = self;
+    }
 }
 
 /// The words that stand before a path.
@@ -129,13 +136,16 @@ pub enum Command {
     Evaluation(Tm),
 }
 
-/// The term with the span of the parentheses round it.
-pub(crate) fn spanning(term: Tm, first: Span, last: Span) -> Tm
-    ensures { term_of result ≡ spanning_term (from_to first last) (term_of term) }
-{
-    Tm {
-        span: from_to(first, last),
-        node: term.node,
+impl Tm {
+    /// The term with the span of the parentheses round it.
+    pub(crate) fn spanning(self, first: Span, last: Span) -> Tm
+        ensures { term_of result ≡ spanning_term (from_to first last) (term_of self) }
+    {
+        let Tm { span: _, node } = self;
+        Tm {
+            span: from_to(first, last),
+            node,
+        }
     }
 }
 

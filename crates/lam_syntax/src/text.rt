@@ -9,9 +9,15 @@ use std::str;
 
 /// The text of a name, a type name, a label or a numeral. Nearly all have a few letters, and such a text stands in the
 /// value itself: it takes no memory of its own, and is read where the name is. The copies of a longer one share it.
-#[derive(Drop)]
 pub struct Text {
     kept: Kept,
+}
+
+/// A function of its own, so that what drops a text calls it in place of going through both forms of texts itself.
+impl Drop for Text {
+    fn drop(self) {
+        let Text { kept: _ } = self;
+    }
 }
 
 #[derive(Drop)]

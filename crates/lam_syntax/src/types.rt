@@ -10,10 +10,17 @@ use std::alloc::{AllocError, Global};
 
 /// A type as it is written, its own parentheses included in its span.
 #[cycle(types)]
-#[derive(Drop)]
 pub struct WrittenTy {
     pub span: Span,
     pub node: TyNode,
+}
+
+/// A function of its own, so that what drops a type calls it in place of going through all forms of types itself.
+impl Drop for WrittenTy {
+    #[cycle(types)]
+    fn drop(self) {
+        let WrittenTy { span: _, node: _ } = self;
+    }
 }
 
 /// What a written type is.
@@ -45,13 +52,16 @@ pub struct TyField {
     pub ty: WrittenTy,
 }
 
-/// The type with the span of the parentheses round it.
-pub(crate) fn spanning(ty: WrittenTy, first: Span, last: Span) -> WrittenTy
-    ensures { type_of result ≡ spanning_type (from_to first last) (type_of ty) }
-{
-    WrittenTy {
-        span: from_to(first, last),
-        node: ty.node,
+impl WrittenTy {
+    /// The type with the span of the parentheses round it.
+    pub(crate) fn spanning(self, first: Span, last: Span) -> WrittenTy
+        ensures { type_of result ≡ spanning_type (from_to first last) (type_of self) }
+    {
+        let WrittenTy { span: _, node } = self;
+        WrittenTy {
+            span: from_to(first, last),
+            node,
+        }
     }
 }
 
