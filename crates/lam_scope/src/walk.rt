@@ -1,12 +1,12 @@
 //! The walk over terms that binding makes: the binders and the uses in the order of the text, the places each behind
 //! its immediate terms.
-ghost use Rattle.std.specs.Prelude.{◌≡◌, ◌∷◌, [], ◌+◌, ◌<◌, length, map, true, Some, IfOk, OnOk};
+ghost use Rattle.std.specs.Prelude.{◌≡◌, ◌∷◌, [], ◌+◌, ◌<◌, length, map, true, false, Some, IfOk, OnOk};
 ghost use Rattle.lam_syntax.specs.Letters.{letters};
 ghost use Rattle.std.specs.Option.{option_map};
-ghost use Rattle.lam_syntax.specs.Trees.{term_tree, lambda, if_term, let_term, letrec_term, apply};
+ghost use Rattle.lam_syntax.specs.Trees.{term_tree, lambda, if_term, let_term, letrec_term, apply, ascribe, record_term};
 ghost use Rattle.lam_syntax.specs.Views.{bound_of, type_of, type_fields_of, term_of, fields_of, command_of};
 ghost use Rattle.lam_scope.specs.Sights.{lambda_at, term_at};
-ghost use Rattle.lam_scope.specs.Tables.{◌⊕◌, entry, binder_row, place_row, root, behind, roots_of_fields, binders_in, binders_in_fields, below_fields, type_uses, field_uses, term_table, node_table, letrec_rows, fields_table};
+ghost use Rattle.lam_scope.specs.Tables.{◌⊕◌, entry, binder_row, use_row, place_row, root, behind, roots_of_fields, binders_in, binders_in_fields, below_fields, type_uses, field_uses, term_table, letrec_rows, fields_table};
 ghost use Rattle.lam_scope.specs.TableViews.{place_number, rows_of, entry_of, with_origin};
 ghost use Rattle.lam_scope.specs.Walked.{IsWalked, IsCommandWalked};
 
@@ -15,8 +15,8 @@ use crate::numbers::{Binder, Origin, Place};
 use crate::rows::Rows;
 use crate::seen::{Seen, SeenBinder};
 use lam_syntax::{
-    Application, Binder as WrittenBinder, Command, Conditional, Identifier, Lambda, Let, Letrec,
-    Text, Tm, TmField, TmNode, TyField, TyNode, WrittenTy,
+    Application, Ascription, Binder as WrittenBinder, Command, Conditional, Identifier, Lambda,
+    Let, Letrec, Text, Tm, TmField, TmNode, TyField, TyNode, WrittenTy,
 };
 use lam_token::Span;
 use std::alloc::AllocError;
@@ -130,40 +130,99 @@ fn walk_term<'a>(
 {
     let span = term.span;
     match &term.node {
-        TmNode::True => rows.add_place(span, false, &[], names),
-        TmNode::False => rows.add_place(span, false, &[], names),
-        TmNode::Unit => rows.add_place(span, false, &[], names),
-        TmNode::Numeral(_) => rows.add_place(span, false, &[], names),
-        TmNode::Variable(name) => {
-            rows.add_use(name, names)?;
-            rows.add_place(span, false, &[], names)
-        }
-        TmNode::Lambda(lambda) => {
-            let place = walk_lambda(rows, types, names, lambda)?;
-            rows.add_place(span, false, &[place], names)
-        }
+        TmNode::True => add_leaf(rows, names, span),
+        TmNode::False => add_leaf(rows, names, span),
+        TmNode::Unit => add_leaf(rows, names, span),
+        TmNode::Numeral(_) => add_leaf(rows, names, span),
+        TmNode::Variable(name) => add_variable(rows, names, span, name),
+        TmNode::Lambda(lambda) => walk_lambda(rows, types, names, span, lambda),
         TmNode::If(conditional) => walk_if(rows, types, names, span, conditional),
         TmNode::Let(parts) => walk_let(rows, types, names, span, parts),
         TmNode::Letrec(parts) => walk_letrec(rows, types, names, span, parts),
-        TmNode::Prefixed(_, operand) => {
-            let place = walk_term(rows, types, names, operand)?;
-            rows.add_place(span, false, &[place], names)
-        }
+        TmNode::Prefixed(_, operand) => walk_operand(rows, types, names, span, operand),
         TmNode::Apply(application) => walk_apply(rows, types, names, span, application),
-        TmNode::Project(projection) => {
-            let place = walk_term(rows, types, names, &projection.record)?;
-            rows.add_place(span, false, &[place], names)
-        }
-        TmNode::Ascribe(ascription) => {
-            let place = walk_term(rows, types, names, &ascription.operand)?;
-            walk_type(rows, types, &ascription.ty)?;
-            rows.add_place(span, false, &[place], names)
-        }
-        TmNode::Record(fields) => {
-            let terms = walk_fields(rows, types, names, fields)?;
-            rows.add_place(span, false, &terms, names)
-        }
+        TmNode::Project(projection) => walk_operand(rows, types, names, span, &projection.record),
+        TmNode::Ascribe(ascription) => walk_ascribe(rows, types, names, span, ascription),
+        TmNode::Record(fields) => walk_record(rows, types, names, span, fields),
     }
+}
+
+/// The place of a term that has no terms.
+fn add_leaf(rows: &mut Rows, names: &Seen<'_>, span: Span) -> Result<Place, AllocError>
+    ensures table { OnOk result (rows_of rows.new ≡ rows_of rows.old ⊕ place_row span false [] names.now) }
+    ensures place { IfOk result (λ p. p.0 ≡ length rows.old.places.items) }
+    ensures binders { rows.new.binders ≡ rows.old.binders }
+    ensures places { OnOk result (length rows.new.places.items ≡ length rows.old.places.items + 1) }
+{
+    rows.add_place(span, false, &[], names)
+}
+
+fn add_variable(
+    rows: &mut Rows,
+    names: &Seen<'_>,
+    span: Span,
+    name: &Identifier,
+) -> Result<Place, AllocError>
+    ensures table { OnOk result (rows_of rows.new ≡ rows_of rows.old ⊕ use_row (letters name.now.text) name.now.span names.now ⊕ place_row span false [] names.now) }
+    ensures place { IfOk result (λ p. p.0 ≡ length rows.old.places.items) }
+    ensures binders { rows.new.binders ≡ rows.old.binders }
+    ensures places { OnOk result (length rows.new.places.items ≡ length rows.old.places.items + 1) }
+{
+    rows.add_use(name, names)?;
+    rows.add_place(span, false, &[], names)
+}
+
+/// A term that has one term, and no binder or type.
+#[cycle(terms)]
+#[tactic(auto, using(crate::proofs::TableRows::walks))]
+fn walk_operand<'a>(
+    rows: &mut Rows,
+    types: &Seen<'_>,
+    names: &mut Seen<'a>,
+    span: Span,
+    operand: &'a Tm,
+) -> Result<Place, AllocError>
+    ensures table { OnOk result (rows_of rows.new ≡ rows_of rows.old ⊕ term_table types.now names.old (length rows.old.binders.items) (length rows.old.places.items) (term_of operand.now) ⊕ place_row span false (root (length rows.old.places.items) (term_of operand.now) ∷ []) names.old) }
+    ensures place { IfOk result (λ p. p.0 ≡ behind (length rows.old.places.items) (term_of operand.now)) }
+    ensures binders { OnOk result (length rows.new.binders.items ≡ length rows.old.binders.items + binders_in (term_of operand.now)) }
+    ensures places { OnOk result (length rows.new.places.items ≡ behind (length rows.old.places.items) (term_of operand.now) + 1) }
+    ensures names { OnOk result (names.new ≡ names.old) }
+{
+    let place = walk_term(rows, types, names, operand)?;
+    rows.add_place(span, false, &[place], names)
+}
+
+#[cycle(terms)]
+#[tactic(auto, using(crate::proofs::TableRows::walks))]
+fn walk_ascribe<'a>(
+    rows: &mut Rows,
+    types: &Seen<'_>,
+    names: &mut Seen<'a>,
+    span: Span,
+    term: &'a Ascription,
+) -> Result<Place, AllocError>
+    ensures walked { IsWalked types.now names.old (term_tree span (ascribe (term_of term.now.operand) (type_of term.now.ty))) rows.old rows.new result }
+    ensures names { OnOk result (names.new ≡ names.old) }
+{
+    let place = walk_term(rows, types, names, &term.operand)?;
+    walk_type(rows, types, &term.ty)?;
+    rows.add_place(span, false, &[place], names)
+}
+
+#[cycle(terms)]
+#[tactic(auto, using(crate::proofs::TableRows::walks))]
+fn walk_record<'a>(
+    rows: &mut Rows,
+    types: &Seen<'_>,
+    names: &mut Seen<'a>,
+    span: Span,
+    fields: &'a [TmField],
+) -> Result<Place, AllocError>
+    ensures walked { IsWalked types.now names.old (term_tree span (record_term (fields_of fields.now))) rows.old rows.new result }
+    ensures names { OnOk result (names.new ≡ names.old) }
+{
+    let terms = walk_fields(rows, types, names, fields)?;
+    rows.add_place(span, false, &terms, names)
 }
 
 #[cycle(terms)]
@@ -304,19 +363,16 @@ fn walk_bound<'a>(
     Ok(place)
 }
 
-/// A lambda's binder, its type and its body.
 #[cycle(terms)]
 #[tactic(auto, using(crate::proofs::TableRows::walks))]
 fn walk_lambda<'a>(
     rows: &mut Rows,
     types: &Seen<'_>,
     names: &mut Seen<'a>,
+    span: Span,
     term: &'a Lambda,
 ) -> Result<Place, AllocError>
-    ensures table { OnOk result (rows_of rows.new ≡ rows_of rows.old ⊕ node_table types.now names.old (length rows.old.binders.items) (length rows.old.places.items) (lambda (bound_of term.now.binder) (type_of term.now.ty) (term_of term.now.body))) }
-    ensures place { IfOk result (λ p. p.0 ≡ root (length rows.old.places.items) (term_of term.now.body)) }
-    ensures binders { OnOk result (length rows.new.binders.items ≡ length rows.old.binders.items + (1 + binders_in (term_of term.now.body))) }
-    ensures places { OnOk result (length rows.new.places.items ≡ behind (length rows.old.places.items) (term_of term.now.body)) }
+    ensures walked { IsWalked types.now names.old (term_tree span (lambda (bound_of term.now.binder) (type_of term.now.ty) (term_of term.now.body))) rows.old rows.new result }
     ensures names { OnOk result (names.new ≡ names.old) }
 {
     let number = Binder(rows.binder_count());
@@ -324,9 +380,9 @@ fn walk_lambda<'a>(
     let token = term.binder.span;
     rows.add_binder(seen.name, token, names, number, NOT_YET_KNOWN)?;
     walk_type(rows, types, &term.ty)?;
-    let place = walk_under(rows, types, names, &term.body, seen)?;
+    let body = walk_under(rows, types, names, &term.body, seen)?;
     rows.set_origin(number, Origin::Lambda(Place(rows.place_count())));
-    Ok(place)
+    rows.add_place(span, false, &[body], names)
 }
 
 /// The token of a letrec is the binder of the derived lambda, and then of the let. The lambda and its fix are places of

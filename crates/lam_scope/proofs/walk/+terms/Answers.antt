@@ -1,13 +1,14 @@
 use Rattle.std.proofs.Common.{sym, ◌∙◌, ap, map, length, ◌≡◌, ◌+◌, ◌∷◌, arith}
 use Rattle.lam_syntax.specs.Letters.{letters}
 use Rattle.std.specs.Option.{option_map}
-use Rattle.lam_syntax.specs.Views.{term_of}
+use Rattle.lam_syntax.specs.Trees.{lambda}
+use Rattle.lam_syntax.specs.Views.{term_of, bound_of, type_of}
 use Rattle.lam_scope.specs.declared.numbers.Origin.TheVariants.{TypeName}
 use Rattle.lam_scope.specs.Sights.{lambda_at, term_at}
-use Rattle.lam_scope.specs.Tables.{◌⊕◌, entry, root, behind, binder_row, term_table}
+use Rattle.lam_scope.specs.Tables.{◌⊕◌, entry, root, behind, binder_row, term_table, node_table}
 use Rattle.std.proofs.lemmas.List.{append-nil, drop_all, length-map}
 use Rattle.lam_scope.specs.TableViews.{rows_of, place_number, text_binder}
-use Rattle.lam_scope.proofs.TableRows.{fields_more, roots_more, binders_more, places_more, fields_walked, bound_rows, lambda_rows, letrec_walked}
+use Rattle.lam_scope.proofs.TableRows.{walks, plus_assoc, fields_more, roots_more, binders_more, places_more, fields_walked, bound_rows, lambda_rows, letrec_walked}
 use Rattle.lam_scope.proofs.TreeSizes.{field_size}
 use Rattle.lam_scope.proofs.walk.+terms.Goals as goal
 
@@ -51,23 +52,25 @@ walk_bound-returns-clause-table t c =
     (λ i. term_table c.args.types.now c.args.names.now (added.binders i) (length (added.places i).items) tree)
     (ap (λ m. term_at m) (walked.place ∙ ap (λ v. root (length v.items) tree) added.places))
 
-pub walk_lambda-returns-clause-table : goal.walk_lambda-returns-clause-table
-walk_lambda-returns-clause-table t c =
+pub walk_lambda-returns-clause-walked : goal.walk_lambda-returns-clause-walked
+walk_lambda-returns-clause-walked t c =
     let old = c.args.rows.now in
     let nm = c.args.names.now in
     let added = c.in_ok-add_binder.ensures in
     let typed = c.in_ok-walk_type.ensures in
-    let walked = c.in_ok-place.ensures.walked in
+    let walked = c.in_ok-body.ensures.walked in
     let named = c.seen_as-seen.ensures in
     let tree = term_of c.args.term.now.body in
     let same_places = typed.places ∙ added.places in
+    let before_its_place : rows_of c.set_origin.new.self ≡ rows_of old ⊕ node_table c.args.types.now nm (length old.binders.items) (length old.places.items) (lambda (bound_of c.args.term.now.binder) (type_of c.args.term.now.ty) tree) =
     lambda_rows (rows_of old) _ _ _ _ _ _ _ _ _ _ _ _ _ _ _
     (added.table ∙ (λ i. rows_of old ⊕ binder_row (named.name i) c.args.term.now.binder.span nm (c.binder_count.ensures i) TypeName))
     typed.table walked.table c.set_origin.ensures.table (c.binder_count.ensures ∙ sym (length-map old.binders.items text_binder))
     (λ i. term_table c.args.types.now
     ((named.entry ∙ ap (λ m. entry (option_map (λ s. letters s) c.args.term.now.binder.name) m m) c.binder_count.ensures) i ∷ nm)
     ((ap (λ v. length v.items) typed.binders ∙ added.binders) i) (length (same_places i).items) tree)
-    (ap (λ m. lambda_at m) (c.place_count.ensures ∙ walked.places ∙ ap (λ v. behind (length v.items) tree) same_places))
+    (ap (λ m. lambda_at m) (c.place_count.ensures ∙ walked.places ∙ ap (λ v. behind (length v.items) tree) same_places)) in
+    grind (arith, plus_assoc)
 
 pub walk_fix-returns-clause-table : goal.walk_fix-returns-clause-table
 walk_fix-returns-clause-table t c =
@@ -92,3 +95,70 @@ walk_fix-returns-clause-table t c =
 
 pub walk_fields-walk_term-requires : goal.walk_fields-walk_term-requires
 walk_fields-walk_term-requires t c = omega (arith, c.decreases, field_size c.args.fields.now c.loop-i.i c.index-fields-i.result c.loop-i-test.true c.index-fields-i.is)
+
+-- each form of a term
+
+pub walk_term-returns-in-True-clause-walked : goal.walk_term-returns-in-True-clause-walked
+walk_term-returns-in-True-clause-walked t c = grind (arith, walks)
+
+pub walk_term-returns-in-False-clause-walked : goal.walk_term-returns-in-False-clause-walked
+walk_term-returns-in-False-clause-walked t c = grind (arith, walks)
+
+pub walk_term-returns-in-Unit-clause-walked : goal.walk_term-returns-in-Unit-clause-walked
+walk_term-returns-in-Unit-clause-walked t c = grind (arith, walks)
+
+pub walk_term-returns-in-Numeral-clause-walked : goal.walk_term-returns-in-Numeral-clause-walked
+walk_term-returns-in-Numeral-clause-walked t c = grind (arith, walks)
+
+pub walk_term-returns-in-Variable-clause-walked : goal.walk_term-returns-in-Variable-clause-walked
+walk_term-returns-in-Variable-clause-walked t c = grind (arith, walks)
+
+pub walk_term-returns-in-Lambda-clause-walked : goal.walk_term-returns-in-Lambda-clause-walked
+walk_term-returns-in-Lambda-clause-walked t c = grind (arith, walks)
+
+pub walk_term-returns-in-If-clause-walked : goal.walk_term-returns-in-If-clause-walked
+walk_term-returns-in-If-clause-walked t c = grind (arith, walks)
+
+pub walk_term-returns-in-Let-clause-walked : goal.walk_term-returns-in-Let-clause-walked
+walk_term-returns-in-Let-clause-walked t c = grind (arith, walks)
+
+pub walk_term-returns-in-Letrec-clause-walked : goal.walk_term-returns-in-Letrec-clause-walked
+walk_term-returns-in-Letrec-clause-walked t c = grind (arith, walks)
+
+pub walk_term-returns-in-Prefixed-clause-walked : goal.walk_term-returns-in-Prefixed-clause-walked
+walk_term-returns-in-Prefixed-clause-walked t c = grind (arith, walks)
+
+pub walk_term-returns-in-Apply-clause-walked : goal.walk_term-returns-in-Apply-clause-walked
+walk_term-returns-in-Apply-clause-walked t c = grind (arith, walks)
+
+pub walk_term-returns-in-Project-clause-walked : goal.walk_term-returns-in-Project-clause-walked
+walk_term-returns-in-Project-clause-walked t c = grind (arith, walks)
+
+pub walk_term-returns-in-Ascribe-clause-walked : goal.walk_term-returns-in-Ascribe-clause-walked
+walk_term-returns-in-Ascribe-clause-walked t c = grind (arith, walks)
+
+pub walk_term-returns-in-Record-clause-walked : goal.walk_term-returns-in-Record-clause-walked
+walk_term-returns-in-Record-clause-walked t c = grind (arith, walks)
+
+-- its rows
+
+pub walk_if-returns-clause-walked : goal.walk_if-returns-clause-walked
+walk_if-returns-clause-walked t c = grind (arith, walks)
+
+pub walk_let-returns-clause-walked : goal.walk_let-returns-clause-walked
+walk_let-returns-clause-walked t c = grind (arith, walks)
+
+pub walk_letrec-returns-clause-walked : goal.walk_letrec-returns-clause-walked
+walk_letrec-returns-clause-walked t c = grind (arith, walks)
+
+pub walk_apply-returns-clause-walked : goal.walk_apply-returns-clause-walked
+walk_apply-returns-clause-walked t c = grind (arith, walks)
+
+pub walk_operand-returns-clause-table : goal.walk_operand-returns-clause-table
+walk_operand-returns-clause-table t c = grind (arith, walks)
+
+pub walk_ascribe-returns-clause-walked : goal.walk_ascribe-returns-clause-walked
+walk_ascribe-returns-clause-walked t c = grind (arith, walks)
+
+pub walk_record-returns-clause-walked : goal.walk_record-returns-clause-walked
+walk_record-returns-clause-walked t c = grind (arith, walks)

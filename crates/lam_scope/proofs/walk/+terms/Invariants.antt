@@ -46,3 +46,12 @@ decreases-walk_lambda l = 6 * tree_size (term_of l.term.now.body) + 4
 
 abbrev pub decreases-walk_fix : goal.decreases-walk_fix
 decreases-walk_fix l = 6 * tree_size (term_of l.term.now.bound) + 4
+
+abbrev pub decreases-walk_operand : goal.decreases-walk_operand
+decreases-walk_operand l = 6 * tree_size (term_of l.operand.now) + 2
+
+abbrev pub decreases-walk_ascribe : goal.decreases-walk_ascribe
+decreases-walk_ascribe l = 6 * tree_size (term_of l.term.now.operand) + 2
+
+abbrev pub decreases-walk_record : goal.decreases-walk_record
+decreases-walk_record l = 6 * tree_sizes (fields_of l.fields.now) + 4
