@@ -1,5 +1,5 @@
 -- The steps of proofs as values, and the one of subsumption.
-use Rattle.std.proofs.Common.{◌≡◌, ℕ, ◌-◌, arith, List, [], ◌∷◌, ◌++◌, length, get_or, reverse, Vec, Box, String, string_bytes, Option, Some, None, IfSome, ap, refl, sym, subst, ◌∙◌}
+use Rattle.std.proofs.Common.{◌≡◌, ℕ, ◌+◌, ◌-◌, arith, List, [], ◌∷◌, ◌++◌, length, get_or, reverse, Vec, Box, String, string_bytes, Option, Some, None, IfSome, ap, refl, sym, subst, ◌∙◌}
 use Rattle.std.specs.Option.{option_map}
 use Rattle.std.specs.declared.alloc.Global.{Global}
 use Rattle.std.proofs.lemmas.List.{reverse-append}
@@ -7,7 +7,7 @@ use Rattle.lam_rules.specs.Types.{Typ, Fields, field, arrow, record_of, IsWellFo
 use Rattle.lam_rules.specs.TypeViews.{typ_of, fields_of}
 use Rattle.lam_rules.specs.SubViews.{sub_tree_of}
 use Rattle.lam_rules.specs.Subtyping.{ProvesBelow, IsBelow}
-use Rattle.lam_rules.specs.Terms.{Term, TermFields, no_terms}
+use Rattle.lam_rules.specs.Terms.{Term, true_term, false_term, numeral, unit_term, succ, pred, is_zero, TermFields, no_terms}
 use Rattle.lam_rules.specs.TermViews.{terms_of}
 use Rattle.lam_rules.specs.declared.terms.Core.{Core}
 use Rattle.lam_rules.specs.declared.types.Fields.{Fields as RustFields, out-Fields}
@@ -22,9 +22,9 @@ use Rattle.lam_rules.specs.declared.rules.TypeRule.{TypeRule}
 use Rattle.lam_rules.specs.declared.typing.TypeProof.{TypeProof, roll-TypeProof, out-TypeProof, out-roll-TypeProof}
 use Rattle.lam_rules.proofs.ByShape.{below_wf}
 use Rattle.lam_rules.proofs.TypingShapes.{typing_tree_of-node, type_in-typing_tree_of, typing_wf_of}
-use Rattle.lam_scope.specs.Sights.{place_of_term}
+use Rattle.lam_scope.specs.Sights.{inside, place_of_term}
 use Rattle.lam_typing.specs.Grounds.{found_in, dialect_in}
-use Rattle.lam_typing.specs.Proving.{tree_in, trees_in, ProvesFound, ProvesThis, IsProvenTerm, IsProvenForm, IsProvenAs, AreProvenFields, IsWidened}
+use Rattle.lam_typing.specs.Proving.{tree_in, trees_in, ProvesFound, ProvesThis, IsProvenTerm, IsProvenForm, IsProvenAs, AreProvenFields, IsWidened, IsLeafBy, IsNatBy}
 use Rattle.lam_typing.specs.declared.proving.Proven.{Proven}
 use Rattle.lam_typing.specs.declared.proving.ProvenFields.{ProvenFields}
 use Rattle.lam_typing.specs.declared.grounds.Grounds.{Grounds}
@@ -139,3 +139,28 @@ no_record_in m other gs is = no_record (out-TypeProof m.proof).ty gs other (sym 
 pub no_terms_of : (fs : List (String Global × Core)) → length fs ≡ 0 → terms_of fs ≡ no_terms
 no_terms_of [] e = refl
 no_terms_of (f ∷ fs) e = absurd (omega arith)
+
+-- the number of the first place, before what was counted
+
+pub first_before : (made : Option Proven) (n k place : ℕ) → IfSome made (λ m. m.first ≡ n) → n + k ≡ place → IfSome made (λ m. m.first + k ≡ place)
+first_before None n k place same sum = tt
+first_before (Some m) n k place same sum = omega arith
+
+pub first_behind : (made : Option Proven) (k place behind : ℕ) → IfSome made (λ m. m.first + k ≡ place) → place + 1 ≡ behind → IfSome made (λ m. m.first + k + 1 ≡ behind)
+first_behind None k place behind sum is = tt
+first_behind (Some m) k place behind sum is = omega arith
+
+-- a term of which a rule without premises concludes has no other places
+pub inside_leaf : (rule : TypeRule) (e : Term) (t : Typ) → IsLeafBy rule e t → inside e ≡ 0
+inside_leaf TypeRule.True true_term t is = refl
+inside_leaf TypeRule.False false_term t is = refl
+inside_leaf TypeRule.Num (numeral digits) t is = refl
+inside_leaf TypeRule.Unit unit_term t is = refl
+inside_leaf _ _ t is = absurd is
+
+-- an operation on a number has one place more than its operand
+pub inside_number : (rule : TypeRule) (e operand : Term) (t : Typ) → IsNatBy rule e operand t → inside e ≡ inside operand + 1
+inside_number TypeRule.Succ (succ e) operand t is = ap (λ x. inside x + 1) is.0
+inside_number TypeRule.Pred (pred e) operand t is = ap (λ x. inside x + 1) is.0
+inside_number TypeRule.IsZero (is_zero e) operand t is = ap (λ x. inside x + 1) is.0
+inside_number _ _ operand t is = absurd is

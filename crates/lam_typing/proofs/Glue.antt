@@ -1,5 +1,5 @@
 -- From what the steps of a walk say of it to what they say of types, and back.
-use Rattle.std.proofs.Common.{◌≡◌, ◌&&◌, ℕ, ◌<◌, ◌≤◌, List, [], ◌∷◌, ◌++◌, ◌⊎◌, Vec, vec_len, take, length, string_bytes, String, Option, Some, None, is_some, Bool, true, false, Result, Ok, Err, IfOk, IfErr, ap, refl, sym, subst, ◌∙◌, codes, ◌-◌, arith, if◌then◌else◌, inl, inr, suc, zero, append_assoc}
+use Rattle.std.proofs.Common.{◌≡◌, ◌&&◌, ℕ, ◌<◌, ◌≤◌, List, [], ◌∷◌, ◌++◌, ◌⊎◌, Vec, vec_len, take, length, string_bytes, String, Option, Some, None, is_some, Bool, true, false, Result, Ok, Err, ap, refl, sym, subst, ◌∙◌, codes, ◌-◌, arith, if◌then◌else◌, inl, inr, suc, zero, append_assoc}
 use Rattle.std.specs.Result.{IsErrAnd}
 use Rattle.std.proofs.lemmas.List.{append-nil, length-append}
 use Rattle.std.specs.declared.alloc.Global.{Global}
@@ -22,7 +22,7 @@ use Rattle.lam_scope.specs.declared.numbers.Place.{Place as PlaceNumber}
 use Rattle.lam_typing.specs.LeastTypes.{IsLeastAt}
 use Rattle.lam_typing.specs.Answers.{answer, answers, StandsIn, AllStandIn, context_under}
 use Rattle.lam_typing.specs.Progress.{IsLowest, Progress, Went, WentOver, Cause, next_is_too_large, enough, StoppedIn, AreFieldsAt, blame_step, IsApplicationCode, if_all}
-use Rattle.lam_typing.specs.Walk.{blamed_of, blames_of, progress_of, entries_of, IsSoundWalk, Grows, WalkedOver, HasStoppedAmong, HasStopped, HasStoppedInFields, FieldsWalked, blame_at, Settles, StopsAt, IsUpTo, IsWithin}
+use Rattle.lam_typing.specs.Walk.{blamed_of, blames_of, progress_of, entries_of, IsSoundWalk, Grows, WalkedOver, HasStoppedAmong, HasStopped, HasStoppedInFields, FieldsWalked, HasWalked, HasWalkedFields, blame_at, Settles, StopsAt, HasSettled, IsUpTo, IsWithin}
 use Rattle.lam_typing.specs.Steps.{entry_at, IsNumeric, NatRule, LambdaRule, ApplyRule, AscribeRule, LetRule, IfRule, FixRule, ProjectRule, MoreRule, RecordRule}
 use Rattle.lam_typing.specs.declared.walking.Walk.{Walk}
 use Rattle.lam_typing.specs.declared.blame.Blame.{Blame}
@@ -217,33 +217,23 @@ popped_is pushed w popped os o put same rest =
 pub parts_empty : (after before parts : List (String Global × TyNo)) → after ≡ before ++ parts → before ≡ [] → after ≡ parts
 parts_empty after before parts are none = are ∙ ap (λ xs. xs ++ parts) none
 
-pub err_stopped : (r : Result (Option TyNo) Stop) (stop : Stop) (w0 now : Walk) (e : Term)
-    → IsErrAnd r (λ y. y ≡ stop) → HasStopped stop w0 now e → IfErr r (λ s. HasStopped s w0 now e)
-err_stopped (Ok x) stop w0 now e is stopped = absurd is
-err_stopped (Err s) stop w0 now e is stopped = subst (λ x. HasStopped x w0 now e) (sym is) stopped
+-- an error that is passed on
 
-pub err_stopped_in_fields : (r : Result Bool Stop) (stop : Stop) (w0 now : Walk) (es : TermFields)
-    → IsErrAnd r (λ y. y ≡ stop) → HasStoppedInFields stop w0 now es → IfErr r (λ s. HasStoppedInFields s w0 now es)
-err_stopped_in_fields (Ok x) stop w0 now es is stopped = absurd is
-err_stopped_in_fields (Err s) stop w0 now es is stopped = subst (λ x. HasStoppedInFields x w0 now es) (sym is) stopped
+pub err_walked : (r : Result (Option TyNo) Stop) (stop : Stop) (w0 now : Walk) (e : Term)
+    → IsErrAnd r (λ y. y ≡ stop) → HasStopped stop w0 now e → HasWalked r w0 now e
+err_walked (Ok x) stop w0 now e is stopped = absurd is
+err_walked (Err s) stop w0 now e is stopped = subst (λ x. HasStopped x w0 now e) (sym is) stopped
 
--- what is answered of each term of some kind
+pub memory_walked : (r : Result (Option TyNo) Stop) (w0 now : Walk) (e : Term) → IsErrAnd r (λ y. y ≡ Stop.Memory) → HasWalked r w0 now e
+memory_walked r w0 now e is = err_walked r Stop.Memory w0 now e is tt
 
-pub ok_of_each : {A : Type 0} (r : Result A Stop) (N : Term → Type 0) (P : A → Term → Type 0) → ((e : Term) → N e → IfOk r (λ x. P x e)) → IfOk r (λ x. (e : Term) → N e → P x e)
-ok_of_each (Ok x) N P h = h
-ok_of_each (Err stop) N P h = tt
+pub err_fields_walked : (r : Result Bool Stop) (stop : Stop) (w0 now : Walk) (es : TermFields) (before after : List (String Global × TyNo))
+    → IsErrAnd r (λ y. y ≡ stop) → HasStoppedInFields stop w0 now es → HasWalkedFields r w0 now es before after
+err_fields_walked (Ok x) stop w0 now es before after is stopped = absurd is
+err_fields_walked (Err s) stop w0 now es before after is stopped = subst (λ x. HasStoppedInFields x w0 now es) (sym is) stopped
 
-pub err_of_each : {A : Type 0} (r : Result A Stop) (N : Term → Type 0) (P : Stop → Term → Type 0) → ((e : Term) → N e → IfErr r (λ stop. P stop e)) → IfErr r (λ stop. (e : Term) → N e → P stop e)
-err_of_each (Ok x) N P h = tt
-err_of_each (Err stop) N P h = h
-
-pub ok_of_one : {A : Type 0} (r : Result A Stop) (N : Term → Type 0) (P : A → Term → Type 0) (e : Term) → N e → IfOk r (λ x. (e : Term) → N e → P x e) → IfOk r (λ x. P x e)
-ok_of_one (Ok x) N P e n h = h e n
-ok_of_one (Err stop) N P e n h = tt
-
-pub err_of_one : {A : Type 0} (r : Result A Stop) (N : Term → Type 0) (P : Stop → Term → Type 0) (e : Term) → N e → IfErr r (λ stop. (e : Term) → N e → P stop e) → IfErr r (λ stop. P stop e)
-err_of_one (Ok x) N P e n h = tt
-err_of_one (Err stop) N P e n h = h e n
+pub memory_fields_walked : (r : Result Bool Stop) (w0 now : Walk) (es : TermFields) (before after : List (String Global × TyNo)) → IsErrAnd r (λ y. y ≡ Stop.Memory) → HasWalkedFields r w0 now es before after
+memory_fields_walked r w0 now es before after is = err_fields_walked r Stop.Memory w0 now es before after is tt
 
 -- the terms of a record, one after the other
 
@@ -317,13 +307,6 @@ fields_found w0 w1 w2 l e es found label number before pushed after all sound gr
       );
     }
 
-pub fields_found_ok : (r : Result Bool Stop) (w0 w1 w2 : Walk) (l : Label) (e : Term) (es : TermFields) (found : Option TyNo) (label : String Global) (number : TyNo) (before pushed after : List (String Global × TyNo))
-    → IsSoundWalk w0 → Grows w0 w1 → WalkedOver w0 w1 e found → found ≡ Some number → Grows w1 w2 → pushed ≡ before ++ (label, number) ∷ [] → string_bytes label ≡ l
-    → IfOk r (λ all. FieldsWalked w1 w2 es pushed after all) → IfOk r (λ all. FieldsWalked w0 w2 (term_field l e es) before after all)
-fields_found_ok (Ok all) w0 w1 w2 l e es found label number before pushed after sound grows first is more put same_label rest =
-    fields_found w0 w1 w2 l e es found label number before pushed after all sound grows first is more put same_label rest
-fields_found_ok (Err stop) w0 w1 w2 l e es found label number before pushed after sound grows first is more put same_label rest = tt
-
 pub fields_front : (stop : Stop) (w0 w1 : Walk) (l : Label) (e : Term) (es : TermFields) → HasStopped stop w0 w1 e → HasStoppedInFields stop w0 w1 (term_field l e es)
 fields_front stop w0 w1 l e es stopped = among_front stop (entries_of w0) (λ s. places s e) (λ s. places_in s es) w0 w1 w0.verdicts.dialect stopped
 
@@ -334,10 +317,13 @@ fields_behind stop w0 w1 w2 l e es found sound grows first stopped =
     among_behind stop (entries_of w0) (λ s. places s e) (λ s. places_in s es) w0 w1 w2 d first.over.went
     (among_from stop (entries_of w1) (entries_of w0) (λ s. places_in s es) w1 w1 w2 w1.verdicts.dialect d (entries_same w0 w1 sound grows.keeps first.entries) refl grows.dialect stopped)
 
-pub fields_behind_err : (r : Result Bool Stop) (w0 w1 w2 : Walk) (l : Label) (e : Term) (es : TermFields) (found : Option TyNo)
-    → IsSoundWalk w0 → Grows w0 w1 → WalkedOver w0 w1 e found → IfErr r (λ stop. HasStoppedInFields stop w1 w2 es) → IfErr r (λ stop. HasStoppedInFields stop w0 w2 (term_field l e es))
-fields_behind_err (Ok all) w0 w1 w2 l e es found sound grows first stopped = tt
-fields_behind_err (Err stop) w0 w1 w2 l e es found sound grows first stopped = fields_behind stop w0 w1 w2 l e es found sound grows first stopped
+pub fields_then : (r : Result Bool Stop) (w0 w1 w2 : Walk) (l : Label) (e : Term) (es : TermFields) (found : Option TyNo) (label : String Global) (number : TyNo) (before pushed after : List (String Global × TyNo))
+    → IsSoundWalk w0 → Grows w0 w1 → WalkedOver w0 w1 e found → found ≡ Some number → Grows w1 w2 → pushed ≡ before ++ (label, number) ∷ [] → string_bytes label ≡ l
+    → HasWalkedFields r w1 w2 es pushed after → HasWalkedFields r w0 w2 (term_field l e es) before after
+fields_then (Ok all) w0 w1 w2 l e es found label number before pushed after sound grows first is more put same_label rest =
+    fields_found w0 w1 w2 l e es found label number before pushed after all sound grows first is more put same_label rest
+fields_then (Err stop) w0 w1 w2 l e es found label number before pushed after sound grows first is more put same_label rest =
+    fields_behind stop w0 w1 w2 l e es found sound grows first rest
 
 -- the term itself is taken down
 
@@ -394,23 +380,14 @@ ready_at mid g e ps old found parts seen code blame d ready same blames =
     subst (λ bs. IsReady g e ps old (progress_of mid) (answer mid.table found) bs d) is ready
 
 -- the same of what a step answers
-
-pub settled_ok : (r : Result (Option TyNo) Stop) (w0 mid now : Walk) (e : Term) (ps : Scope → List Place) (found : Option TyNo) (blame : Option (Bor Text))
+pub settled_walked : (r : Result (Option TyNo) Stop) (w0 mid now : Walk) (e : Term) (ps : Scope → List Place) (found : Option TyNo) (blame : Option (Bor Text))
     → ((s : Scope) → ps s ++ record { scope = s; here = e } ∷ [] ≡ places s e)
     → mid.entries.items ≡ w0.entries.items → StandsIn mid.table found
     → IsReady (entries_of w0) e ps (progress_of w0) (progress_of mid) (answer mid.table found) (blame_at (length mid.found.items) blame) w0.verdicts.dialect
-    → IfOk r (λ number. (number ≡ found) × Settles mid now found blame) → IfOk r (λ number. WalkedOver w0 now e number)
-settled_ok (Ok number) w0 mid now e ps found blame split same stands ready h =
+    → HasSettled r mid now found blame → HasWalked r w0 now e
+settled_walked (Ok number) w0 mid now e ps found blame split same stands ready h =
     subst (λ o. WalkedOver w0 now e o) (sym h.0) (settled_over w0 mid now e ps found blame split same stands ready h.1)
-settled_ok (Err stop) w0 mid now e ps found blame split same stands ready h = tt
-
-pub settled_err : (r : Result (Option TyNo) Stop) (w0 mid now : Walk) (e : Term) (ps : Scope → List Place) (found : Option TyNo) (blame : Option (Bor Text))
-    → ((s : Scope) → ps s ++ record { scope = s; here = e } ∷ [] ≡ places s e)
-    → mid.entries.items ≡ w0.entries.items → StandsIn mid.table found
-    → IsReady (entries_of w0) e ps (progress_of w0) (progress_of mid) (answer mid.table found) (blame_at (length mid.found.items) blame) w0.verdicts.dialect
-    → IfErr r (λ stop. StopsAt stop mid now found blame) → IfErr r (λ stop. HasStopped stop w0 now e)
-settled_err (Ok number) w0 mid now e ps found blame split same stands ready h = tt
-settled_err (Err stop) w0 mid now e ps found blame split same stands ready h = settled_stop stop w0 mid now e ps found blame split same stands ready h
+settled_walked (Err stop) w0 mid now e ps found blame split same stands ready h = settled_stop stop w0 mid now e ps found blame split same stands ready h
 
 -- terms without parts
 

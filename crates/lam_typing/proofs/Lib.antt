@@ -14,6 +14,7 @@ pub mod Growing
 pub mod Glue
 pub mod StepRules
 pub mod Sizes
+pub mod Arms
 pub mod Statements
 pub mod Finishing
 pub mod NotedParts

@@ -1,5 +1,6 @@
 -- What the proofs that are built for the terms of a document promise, in every context of least entries in which the terms stand at their places.
-use Rattle.std.specs.Prelude.{◌≡◌, ◌<◌, ◌≤◌, ℕ, ◌+◌, List, reverse, length, Option, Some, None, get_or}
+use Rattle.std.specs.Prelude.{◌≡◌, ◌<◌, ◌≤◌, ℕ, ◌+◌, List, reverse, length, Option, Some, None, get_or, IfSome}
+use Rattle.std.specs.Option.{option_map}
 use Rattle.lam_rules.specs.Types.{Typ, bool, nat, unit, record_of, Fields}
 use Rattle.lam_rules.specs.TypeViews.{fields_of}
 use Rattle.lam_rules.specs.Terms.{Term, true_term, false_term, numeral, unit_term, succ, pred, is_zero, record_term, TermFields}
@@ -9,7 +10,7 @@ use Rattle.lam_rules.specs.TypingViews.{typing_tree_of, typings_of}
 use Rattle.lam_rules.specs.declared.rules.Dialect.{Dialect}
 use Rattle.lam_rules.specs.declared.rules.TypeRule.{TypeRule}
 use Rattle.lam_scope.specs.Places.{Scope, Place}
-use Rattle.lam_scope.specs.Sights.{inside_fields, place_of_term, behind_term}
+use Rattle.lam_scope.specs.Sights.{inside, inside_fields, place_of_term, behind_term}
 use Rattle.lam_typing.specs.Progress.{IsLowest, AreFieldsAt}
 use Rattle.lam_typing.specs.Seeing.{LeastAmong, Sees, SeesFields}
 use Rattle.lam_typing.specs.Grounds.{found_in, noted_in, dialect_in}
@@ -99,3 +100,28 @@ abbrev pub AreProvenFields : Grounds → TermFields → ℕ → Option FieldTree
 AreProvenFields t es behind o =
     (all : List Place) (k : ℕ) (s : Scope) (g : Context) → IsSetting t all s g → SeesFields all (found_in t) (noted_in t) k s g es → behind ≡ k + inside_fields es → behind ≤ length (found_in t)
     → ProveFields o s g es (dialect_in t)
+
+-- what is built for a term whose places end before this number, and the number of its first place
+pub record BuildsTerm (t : Grounds) (e : Term) (behind : ℕ) (made : Option Proven) : Type 0 where
+  pub first : IfSome made (λ m. m.first + inside e + 1 ≡ behind)
+  pub proves : IsProvenTerm t e behind (option_map tree_in made)
+
+-- what is built for a term at this place, of which this type was found, and the number of its first place
+pub record BuildsForm (t : Grounds) (e : Term) (place : ℕ) (type : Typ) (made : Option Proven) : Type 0 where
+  pub first : IfSome made (λ m. m.first + inside e ≡ place)
+  pub proves : IsProvenForm t e place type (option_map tree_in made)
+
+-- what is built for a term whose places end before this number, of this type, and the number of its first place
+pub record BuildsAs (t : Grounds) (e : Term) (behind : ℕ) (type : Typ) (made : Option Proven) : Type 0 where
+  pub first : IfSome made (λ m. m.first + inside e + 1 ≡ behind)
+  pub proves : IsProvenAs t e behind type (option_map tree_in made)
+
+-- what is built for the terms of a record whose places end before this number, and the number of the first place
+pub record BuildsFields (t : Grounds) (es : TermFields) (behind : ℕ) (made : Option ProvenFields) : Type 0 where
+  pub first : IfSome made (λ m. m.first + inside_fields es ≡ behind)
+  pub proves : AreProvenFields t es behind (option_map trees_in made)
+
+-- the step is widened to this type, and the first place is this one
+pub record Finishes (step : TypingTree) (type : Typ) (place : ℕ) (d : Dialect) (made : Option Proven) : Type 0 where
+  pub first : IfSome made (λ m. m.first ≡ place)
+  pub wide : IsWidened step type (option_map tree_in made) d

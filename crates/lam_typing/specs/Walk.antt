@@ -1,5 +1,5 @@
 -- What a `Walk` holds, and what the contracts of its steps say of it.
-use Rattle.std.specs.Prelude.{◌≡◌, ◌<◌, ◌≤◌, ℕ, ◌+◌, List, [], ◌∷◌, ◌++◌, length, Bool, Option, Some, None, String}
+use Rattle.std.specs.Prelude.{◌≡◌, ◌<◌, ◌≤◌, ℕ, ◌+◌, List, [], ◌∷◌, ◌++◌, length, Bool, Option, Some, None, Result, Ok, Err, String}
 use Rattle.std.specs.declared.alloc.Global.{Global}
 use denote.Ref.{Bor}
 use Rattle.lam_rules.specs.Types.{bool, nat, unit}
@@ -89,6 +89,11 @@ HasStopped stop old now e = HasStoppedAmong stop (entries_of old) (λ s. places 
 abbrev pub HasStoppedInFields : Stop → Walk → Walk → TermFields → Type 0
 HasStoppedInFields stop old now es = HasStoppedAmong stop (entries_of old) (λ s. places_in s es) old now old.verdicts.dialect
 
+-- it went over a term, or stopped among its places
+abbrev pub HasWalked : Result (Option TyNo) Stop → Walk → Walk → Term → Type 0
+HasWalked (Ok found) old now e = WalkedOver old now e found
+HasWalked (Err stop) old now e = HasStopped stop old now e
+
 -- it went over the terms of a record, and put what has a type behind the parts that were there
 pub record FieldsWalked (old now : Walk) (es : TermFields) (before after : List (String Global × TyNo)) (all : Bool) : Type 0 where
   pub entries : now.entries.items ≡ old.entries.items
@@ -97,6 +102,11 @@ pub record FieldsWalked (old now : Walk) (es : TermFields) (before after : List 
   pub stand : AreEarlier (length now.table) parts
   pub went : Went (entries_of old) (λ s. places_in s es) (progress_of old) (progress_of now) old.verdicts.dialect
   pub fields : (s : Scope) → IsLowest s (entries_of old) old.verdicts.dialect → AreFieldsAt s es (if_all all (fields_over now.table parts)) old.verdicts.dialect
+
+-- it went over the terms of a record, or stopped among their places
+abbrev pub HasWalkedFields : Result Bool Stop → Walk → Walk → TermFields → List (String Global × TyNo) → List (String Global × TyNo) → Type 0
+HasWalkedFields (Ok all) old now es before after = FieldsWalked old now es before after all
+HasWalkedFields (Err stop) old now es before after = HasStoppedInFields stop old now es
 
 -- the blame of the place of a number, if there is a code
 abbrev pub blame_at : ℕ → Option (Bor Text) → List Blamed
@@ -116,6 +126,11 @@ abbrev pub StopsAt : Stop → Walk → Walk → Option TyNo → Option (Bor Text
 StopsAt Stop.TooLarge old now found blame = (now ≡ old) × IsLarge (answer old.table found) × IsUpTo old.last (length old.found.items)
 StopsAt Stop.Enough old now found blame = (now ≡ old) × IsBehind old.last (length old.found.items)
 StopsAt Stop.Memory old now found blame = Unit {0}
+
+-- it took down the next place, or stopped at it
+abbrev pub HasSettled : Result (Option TyNo) Stop → Walk → Walk → Option TyNo → Option (Bor Text) → Type 0
+HasSettled (Ok number) old now found blame = (number ≡ found) × Settles old now found blame
+HasSettled (Err stop) old now found blame = StopsAt stop old now found blame
 
 -- a statement is done: what is found of those that follow, or where the walk stops among them, is so of all
 pub record GoesOn (old now : Walk) (statement : Statement) : Type 0 where

@@ -108,7 +108,7 @@ fn note_term<'t>(notes: &mut Notes<'t>, term: &'t Core) -> Result<Place, AllocEr
 
 /// A term without parts that is no variable.
 fn note_leaf<'t>(notes: &mut Notes<'t>) -> Result<Place, AllocError>
-    ensures { IfOk result (λ place. (e : Term) → IsLeaf e → NotesTerm notes.old notes.new e place.0) }
+    ensures { (e : Term) → IsLeaf e → IfOk result (λ place. NotesTerm notes.old notes.new e place.0) }
 {
     note_here(notes, Note::Nothing)
 }
@@ -116,7 +116,7 @@ fn note_leaf<'t>(notes: &mut Notes<'t>) -> Result<Place, AllocError>
 /// A term of one part that binds nothing.
 #[cycle(note_term)]
 fn note_over<'t>(notes: &mut Notes<'t>, operand: &'t Core) -> Result<Place, AllocError>
-    ensures { IfOk result (λ place. (e : Term) → IsOver e (term_of operand.now) → NotesTerm notes.old notes.new e place.0) }
+    ensures { (e : Term) → IsOver e (term_of operand.now) → IfOk result (λ place. NotesTerm notes.old notes.new e place.0) }
 {
     note_term(notes, operand)?;
     note_here(notes, Note::Nothing)

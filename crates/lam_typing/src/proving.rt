@@ -11,7 +11,7 @@ ghost use Rattle.lam_rules.specs.TypeViews.{typ_of};
 ghost use Rattle.lam_rules.specs.Typing.{typing_step};
 ghost use Rattle.lam_rules.specs.TypingViews.{typing_tree_of, typings_of};
 ghost use Rattle.lam_scope.specs.Sights.{inside, inside_fields};
-ghost use Rattle.lam_typing.specs.Proving.{tree_in, trees_in, IsProvenTerm, IsProvenForm, IsProvenAs, IsWidened, IsLeafBy, IsNatBy, AreProvenFields};
+ghost use Rattle.lam_typing.specs.Proving.{BuildsTerm, BuildsForm, BuildsAs, BuildsFields, Finishes, IsWidened, IsLeafBy, IsNatBy};
 
 use crate::grounds::Grounds;
 use lam_rules::{
@@ -45,8 +45,7 @@ pub(crate) fn prove_term(
     behind: usize,
 ) -> Result<Option<Proven>, AllocError>
     requires { inside (term_of term.now) < behind }
-    ensures first { IfOk result (λ made. IfSome made (λ m. m.first + inside (term_of term.now) + 1 ≡ behind)) }
-    ensures proves { IfOk result (λ made. IsProvenTerm grounds.now (term_of term.now) behind (option_map tree_in made)) }
+    ensures { IfOk result (BuildsTerm grounds.now (term_of term.now) behind) }
 {
     let place = behind - 1;
     let Some(ty) = grounds.typing.tree_at(Place(place))? else {
@@ -66,8 +65,7 @@ fn prove_form(
     ty: &Ty,
 ) -> Result<Option<Proven>, AllocError>
     requires { inside (term_of term.now) ≤ place }
-    ensures first { IfOk result (λ made. IfSome made (λ m. m.first + inside (term_of term.now) ≡ place)) }
-    ensures proves { IfOk result (λ made. IsProvenForm grounds.now (term_of term.now) place (typ_of ty.now) (option_map tree_in made)) }
+    ensures { IfOk result (BuildsForm grounds.now (term_of term.now) place (typ_of ty.now)) }
 {
     match term {
         Core::True => prove_leaf(alloc, grounds, TypeRule::True, Ty::Bool, place, ty),
@@ -113,8 +111,7 @@ fn prove_leaf(
     place: usize,
     ty: &Ty,
 ) -> Result<Option<Proven>, AllocError>
-    ensures first { IfOk result (λ made. IfSome made (λ m. m.first ≡ place)) }
-    ensures proves { IfOk result (λ made. (e : Term) → IsLeafBy rule e (typ_of conclusion) → IsProvenForm grounds.now e place (typ_of ty.now) (option_map tree_in made)) }
+    ensures { (e : Term) → IsLeafBy rule e (typ_of conclusion) → IfOk result (BuildsForm grounds.now e place (typ_of ty.now)) }
 {
     let premises = Vec::new(alloc);
     finish(
@@ -135,8 +132,7 @@ fn prove_variable(
     place: usize,
     ty: &Ty,
 ) -> Result<Option<Proven>, AllocError>
-    ensures first { IfOk result (λ made. IfSome made (λ m. m.first ≡ place)) }
-    ensures proves { IfOk result (λ made. (count : ℕ) → IsProvenForm grounds.now (variable count) place (typ_of ty.now) (option_map tree_in made)) }
+    ensures { (count : ℕ) → IfOk result (BuildsForm grounds.now (variable count) place (typ_of ty.now)) }
 {
     let Some(entry) = grounds.entry_counted(alloc, place)? else {
         return Ok(None);
@@ -165,8 +161,7 @@ fn prove_number(
     ty: &Ty,
 ) -> Result<Option<Proven>, AllocError>
     requires { inside (term_of operand.now) < place }
-    ensures first { IfOk result (λ made. IfSome made (λ m. m.first + (inside (term_of operand.now) + 1) ≡ place)) }
-    ensures proves { IfOk result (λ made. (e : Term) → IsNatBy rule e (term_of operand.now) (typ_of conclusion) → IsProvenForm grounds.now e place (typ_of ty.now) (option_map tree_in made)) }
+    ensures { (e : Term) → IsNatBy rule e (term_of operand.now) (typ_of conclusion) → IfOk result (BuildsForm grounds.now e place (typ_of ty.now)) }
 {
     let Some(made) = prove_as(alloc, grounds, operand, place, &Ty::Nat)? else {
         return Ok(None);
@@ -196,8 +191,7 @@ fn prove_if(
     ty: &Ty,
 ) -> Result<Option<Proven>, AllocError>
     requires { inside (if_then_else (term_of condition.now) (term_of then_term.now) (term_of else_term.now)) ≤ place }
-    ensures first { IfOk result (λ made. IfSome made (λ m. m.first + inside (if_then_else (term_of condition.now) (term_of then_term.now) (term_of else_term.now)) ≡ place)) }
-    ensures proves { IfOk result (λ made. IsProvenForm grounds.now (if_then_else (term_of condition.now) (term_of then_term.now) (term_of else_term.now)) place (typ_of ty.now) (option_map tree_in made)) }
+    ensures { IfOk result (BuildsForm grounds.now (if_then_else (term_of condition.now) (term_of then_term.now) (term_of else_term.now)) place (typ_of ty.now)) }
 {
     let Some(third) = prove_as(alloc, grounds, else_term, place, ty)? else {
         return Ok(None);
@@ -233,8 +227,7 @@ fn prove_lambda(
     ty: &Ty,
 ) -> Result<Option<Proven>, AllocError>
     requires { inside (term_of body.now) < place }
-    ensures first { IfOk result (λ made. IfSome made (λ m. m.first + (inside (term_of body.now) + 1) ≡ place)) }
-    ensures proves { IfOk result (λ made. IsProvenForm grounds.now (lambda (written_of written.now) (term_of body.now)) place (typ_of ty.now) (option_map tree_in made)) }
+    ensures { IfOk result (BuildsForm grounds.now (lambda (written_of written.now) (term_of body.now)) place (typ_of ty.now)) }
 {
     let Some(parameter) = written else {
         return Ok(None);
@@ -269,8 +262,7 @@ fn prove_apply(
     ty: &Ty,
 ) -> Result<Option<Proven>, AllocError>
     requires { inside (apply (term_of function.now) (term_of argument.now)) ≤ place }
-    ensures first { IfOk result (λ made. IfSome made (λ m. m.first + inside (apply (term_of function.now) (term_of argument.now)) ≡ place)) }
-    ensures proves { IfOk result (λ made. IsProvenForm grounds.now (apply (term_of function.now) (term_of argument.now)) place (typ_of ty.now) (option_map tree_in made)) }
+    ensures { IfOk result (BuildsForm grounds.now (apply (term_of function.now) (term_of argument.now)) place (typ_of ty.now)) }
 {
     let Some(second) = prove_term(alloc, grounds, argument, place)? else {
         return Ok(None);
@@ -309,8 +301,7 @@ fn prove_ascribe(
     ty: &Ty,
 ) -> Result<Option<Proven>, AllocError>
     requires { inside (term_of operand.now) < place }
-    ensures first { IfOk result (λ made. IfSome made (λ m. m.first + (inside (term_of operand.now) + 1) ≡ place)) }
-    ensures proves { IfOk result (λ made. IsProvenForm grounds.now (ascribe (term_of operand.now) (written_of written.now)) place (typ_of ty.now) (option_map tree_in made)) }
+    ensures { IfOk result (BuildsForm grounds.now (ascribe (term_of operand.now) (written_of written.now)) place (typ_of ty.now)) }
 {
     let Some(wanted) = written else {
         return Ok(None);
@@ -343,8 +334,7 @@ fn prove_let(
     ty: &Ty,
 ) -> Result<Option<Proven>, AllocError>
     requires { inside (let_in (term_of bound.now) (term_of body.now)) ≤ place }
-    ensures first { IfOk result (λ made. IfSome made (λ m. m.first + inside (let_in (term_of bound.now) (term_of body.now)) ≡ place)) }
-    ensures proves { IfOk result (λ made. IsProvenForm grounds.now (let_in (term_of bound.now) (term_of body.now)) place (typ_of ty.now) (option_map tree_in made)) }
+    ensures { IfOk result (BuildsForm grounds.now (let_in (term_of bound.now) (term_of body.now)) place (typ_of ty.now)) }
 {
     let Some(second) = prove_term(alloc, grounds, body, place)? else {
         return Ok(None);
@@ -376,8 +366,7 @@ fn prove_record(
     ty: &Ty,
 ) -> Result<Option<Proven>, AllocError>
     requires { inside_fields (terms_of fields.now) ≤ place }
-    ensures first { IfOk result (λ made. IfSome made (λ m. m.first + inside_fields (terms_of fields.now) ≡ place)) }
-    ensures proves { IfOk result (λ made. IsProvenForm grounds.now (record_term (terms_of fields.now)) place (typ_of ty.now) (option_map tree_in made)) }
+    ensures { IfOk result (BuildsForm grounds.now (record_term (terms_of fields.now)) place (typ_of ty.now)) }
 {
     let Some(made) = prove_fields(alloc, grounds, fields, place)? else {
         return Ok(None);
@@ -409,8 +398,7 @@ fn prove_fields(
     behind: usize,
 ) -> Result<Option<ProvenFields>, AllocError>
     requires { inside_fields (terms_of fields.now) ≤ behind }
-    ensures first { IfOk result (λ made. IfSome made (λ m. m.first + inside_fields (terms_of fields.now) ≡ behind)) }
-    ensures proves { IfOk result (λ made. AreProvenFields grounds.now (terms_of fields.now) behind (option_map trees_in made)) }
+    ensures { IfOk result (BuildsFields grounds.now (terms_of fields.now) behind) }
 {
     let Some((field, others)) = fields.split_first() else {
         return Ok(Some(ProvenFields {
@@ -453,8 +441,7 @@ fn prove_project(
     ty: &Ty,
 ) -> Result<Option<Proven>, AllocError>
     requires { inside (term_of operand.now) < place }
-    ensures first { IfOk result (λ made. IfSome made (λ m. m.first + (inside (term_of operand.now) + 1) ≡ place)) }
-    ensures proves { IfOk result (λ made. IsProvenForm grounds.now (project (term_of operand.now) label.now) place (typ_of ty.now) (option_map tree_in made)) }
+    ensures { IfOk result (BuildsForm grounds.now (project (term_of operand.now) label.now) place (typ_of ty.now)) }
 {
     let Some(made) = prove_term(alloc, grounds, operand, place)? else {
         return Ok(None);
@@ -489,8 +476,7 @@ fn prove_fix(
     ty: &Ty,
 ) -> Result<Option<Proven>, AllocError>
     requires { inside (term_of operand.now) < place }
-    ensures first { IfOk result (λ made. IfSome made (λ m. m.first + (inside (term_of operand.now) + 1) ≡ place)) }
-    ensures proves { IfOk result (λ made. IsProvenForm grounds.now (fix (term_of operand.now)) place (typ_of ty.now) (option_map tree_in made)) }
+    ensures { IfOk result (BuildsForm grounds.now (fix (term_of operand.now)) place (typ_of ty.now)) }
 {
     let parameter = copy_of(alloc, ty)?;
     let outcome = copy_of(alloc, ty)?;
@@ -522,8 +508,7 @@ fn prove_as(
     wanted: &Ty,
 ) -> Result<Option<Proven>, AllocError>
     requires { inside (term_of term.now) < behind }
-    ensures first { IfOk result (λ made. IfSome made (λ m. m.first + inside (term_of term.now) + 1 ≡ behind)) }
-    ensures proves { IfOk result (λ made. IsProvenAs grounds.now (term_of term.now) behind (typ_of wanted.now) (option_map tree_in made)) }
+    ensures { IfOk result (BuildsAs grounds.now (term_of term.now) behind (typ_of wanted.now)) }
 {
     let Some(made) = prove_term(alloc, grounds, term, behind)? else {
         return Ok(None);
@@ -545,8 +530,7 @@ fn finish(
     first: usize,
     dialect: Dialect,
 ) -> Result<Option<Proven>, AllocError>
-    ensures first { IfOk result (λ made. IfSome made (λ m. m.first ≡ first)) }
-    ensures wide { IfOk result (λ made. IsWidened (typing_step rule (typ_of conclusion) (typings_of premises.items) None) (typ_of ty.now) (option_map tree_in made) dialect) }
+    ensures { IfOk result (Finishes (typing_step rule (typ_of conclusion) (typings_of premises.items) None) (typ_of ty.now) first dialect) }
 {
     let step = TypeProof {
         rule,

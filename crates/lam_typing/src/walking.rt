@@ -13,7 +13,7 @@ ghost use Rattle.lam_rules.specs.Numbers.{type_of, Stands};
 ghost use Rattle.lam_typing.specs.Steps.{entry_at, IsNumeric};
 ghost use Rattle.lam_typing.specs.Analysis.{IsSmall};
 ghost use Rattle.lam_typing.specs.Progress.{Went, blame_step, IsApplicationCode, IsLarge};
-ghost use Rattle.lam_typing.specs.Walk.{Grows, WalkedOver, FieldsWalked, HasStopped, HasStoppedInFields, Settles, StopsAt, blame_at, blames_of, IsSoundWalk, IsBehind, IsUpTo, GoesOn, HasStoppedAt, HasStoppedAmong, entries_of, progress_of};
+ghost use Rattle.lam_typing.specs.Walk.{Grows, HasWalked, HasWalkedFields, HasSettled, blame_at, blames_of, IsSoundWalk, IsBehind, IsUpTo, GoesOn, HasStoppedAt, HasStoppedAmong, entries_of, progress_of};
 ghost use Rattle.lam_typing.specs.declared.walking.Stop.TheVariants.{Memory};
 
 use crate::blame::Blame;
@@ -123,8 +123,7 @@ fn walk_term(walk: &mut Walk, term: &Core) -> Result<Option<TyNo>, Stop>
     requires sound { IsSoundWalk walk.old }
     requires wf { IsWellFormedTerm (term_of term.now) }
     ensures grows { Grows walk.old walk.new }
-    ensures walked { IfOk result (λ found. WalkedOver walk.old walk.new (term_of term.now) found) }
-    ensures stopped { IfErr result (λ stop. HasStopped stop walk.old walk.new (term_of term.now)) }
+    ensures walked { HasWalked result walk.old walk.new (term_of term.now) }
 {
     match term {
         Core::True => settle(walk, Some(walk.leaves.boolean), None),
@@ -162,8 +161,7 @@ fn walk_if(
     requires then_term { IsWellFormedTerm (term_of then_term.now) }
     requires else_term { IsWellFormedTerm (term_of else_term.now) }
     ensures grows { Grows walk.old walk.new }
-    ensures walked { IfOk result (λ found. WalkedOver walk.old walk.new (if_then_else (term_of condition.now) (term_of then_term.now) (term_of else_term.now)) found) }
-    ensures stopped { IfErr result (λ stop. HasStopped stop walk.old walk.new (if_then_else (term_of condition.now) (term_of then_term.now) (term_of else_term.now))) }
+    ensures walked { HasWalked result walk.old walk.new (if_then_else (term_of condition.now) (term_of then_term.now) (term_of else_term.now)) }
 {
     let first = walk_term(walk, condition)?;
     let second = walk_term(walk, then_term)?;
@@ -188,8 +186,7 @@ fn walk_number(walk: &mut Walk, operand: &Core, outcome: TyNo) -> Result<Option<
     requires operand { IsWellFormedTerm (term_of operand.now) }
     requires outcome { Stands walk.old.table outcome }
     ensures grows { Grows walk.old walk.new }
-    ensures walked { IfOk result (λ found. (e : Term) → IsNumeric e (term_of operand.now) (type_of walk.old.table outcome) → WalkedOver walk.old walk.new e found) }
-    ensures stopped { IfErr result (λ stop. (e : Term) → IsNumeric e (term_of operand.now) (type_of walk.old.table outcome) → HasStopped stop walk.old walk.new e) }
+    ensures walked { (e : Term) → IsNumeric e (term_of operand.now) (type_of walk.old.table outcome) → HasWalked result walk.old walk.new e }
 {
     let part = walk_term(walk, operand)?;
     let natural = walk.leaves.natural;
@@ -204,8 +201,7 @@ fn walk_lambda(walk: &mut Walk, written: &Option<Ty>, body: &Core) -> Result<Opt
     requires written { IsWellFormedEntry (written_of written.now) }
     requires body { IsWellFormedTerm (term_of body.now) }
     ensures grows { Grows walk.old walk.new }
-    ensures walked { IfOk result (λ found. WalkedOver walk.old walk.new (lambda (written_of written.now) (term_of body.now)) found) }
-    ensures stopped { IfErr result (λ stop. HasStopped stop walk.old walk.new (lambda (written_of written.now) (term_of body.now))) }
+    ensures walked { HasWalked result walk.old walk.new (lambda (written_of written.now) (term_of body.now)) }
 {
     let parameter = number_of_written(&mut walk.table, written)?;
     walk.entries.push(parameter)?;
@@ -221,8 +217,7 @@ fn walk_apply(walk: &mut Walk, function: &Core, argument: &Core) -> Result<Optio
     requires function { IsWellFormedTerm (term_of function.now) }
     requires argument { IsWellFormedTerm (term_of argument.now) }
     ensures grows { Grows walk.old walk.new }
-    ensures walked { IfOk result (λ found. WalkedOver walk.old walk.new (apply (term_of function.now) (term_of argument.now)) found) }
-    ensures stopped { IfErr result (λ stop. HasStopped stop walk.old walk.new (apply (term_of function.now) (term_of argument.now))) }
+    ensures walked { HasWalked result walk.old walk.new (apply (term_of function.now) (term_of argument.now)) }
 {
     let first = walk_term(walk, function)?;
     let second = walk_term(walk, argument)?;
@@ -238,8 +233,7 @@ fn walk_ascribe(walk: &mut Walk, operand: &Core, written: &Option<Ty>) -> Result
     requires operand { IsWellFormedTerm (term_of operand.now) }
     requires written { IsWellFormedEntry (written_of written.now) }
     ensures grows { Grows walk.old walk.new }
-    ensures walked { IfOk result (λ found. WalkedOver walk.old walk.new (ascribe (term_of operand.now) (written_of written.now)) found) }
-    ensures stopped { IfErr result (λ stop. HasStopped stop walk.old walk.new (ascribe (term_of operand.now) (written_of written.now))) }
+    ensures walked { HasWalked result walk.old walk.new (ascribe (term_of operand.now) (written_of written.now)) }
 {
     let part = walk_term(walk, operand)?;
     let entry = number_of_written(&mut walk.table, written)?;
@@ -254,8 +248,7 @@ fn walk_let(walk: &mut Walk, bound: &Core, body: &Core) -> Result<Option<TyNo>, 
     requires bound { IsWellFormedTerm (term_of bound.now) }
     requires body { IsWellFormedTerm (term_of body.now) }
     ensures grows { Grows walk.old walk.new }
-    ensures walked { IfOk result (λ found. WalkedOver walk.old walk.new (let_in (term_of bound.now) (term_of body.now)) found) }
-    ensures stopped { IfErr result (λ stop. HasStopped stop walk.old walk.new (let_in (term_of bound.now) (term_of body.now))) }
+    ensures walked { HasWalked result walk.old walk.new (let_in (term_of bound.now) (term_of body.now)) }
 {
     let entry = walk_term(walk, bound)?;
     walk.entries.push(entry)?;
@@ -269,8 +262,7 @@ fn walk_record(walk: &mut Walk, fields: &[(String, Core)]) -> Result<Option<TyNo
     requires sound { IsSoundWalk walk.old }
     requires fields { AreWellFormedTerms (terms_of fields.now) }
     ensures grows { Grows walk.old walk.new }
-    ensures walked { IfOk result (λ found. WalkedOver walk.old walk.new (record_term (terms_of fields.now)) found) }
-    ensures stopped { IfErr result (λ stop. HasStopped stop walk.old walk.new (record_term (terms_of fields.now))) }
+    ensures walked { HasWalked result walk.old walk.new (record_term (terms_of fields.now)) }
 {
     let mut parts = Vec::with_capacity(walk.verdicts.alloc, fields.len())?;
     let all = walk_fields(walk, fields, &mut parts)?;
@@ -284,8 +276,7 @@ fn walk_project(walk: &mut Walk, operand: &Core, label: &str) -> Result<Option<T
     requires sound { IsSoundWalk walk.old }
     requires operand { IsWellFormedTerm (term_of operand.now) }
     ensures grows { Grows walk.old walk.new }
-    ensures walked { IfOk result (λ found. WalkedOver walk.old walk.new (project (term_of operand.now) label.now) found) }
-    ensures stopped { IfErr result (λ stop. HasStopped stop walk.old walk.new (project (term_of operand.now) label.now)) }
+    ensures walked { HasWalked result walk.old walk.new (project (term_of operand.now) label.now) }
 {
     let part = walk_term(walk, operand)?;
     let found = type_of_project(&walk.table, part, label);
@@ -298,8 +289,7 @@ fn walk_fix(walk: &mut Walk, operand: &Core) -> Result<Option<TyNo>, Stop>
     requires sound { IsSoundWalk walk.old }
     requires operand { IsWellFormedTerm (term_of operand.now) }
     ensures grows { Grows walk.old walk.new }
-    ensures walked { IfOk result (λ found. WalkedOver walk.old walk.new (fix (term_of operand.now)) found) }
-    ensures stopped { IfErr result (λ stop. HasStopped stop walk.old walk.new (fix (term_of operand.now))) }
+    ensures walked { HasWalked result walk.old walk.new (fix (term_of operand.now)) }
 {
     let part = walk_term(walk, operand)?;
     let found = type_of_fix(&walk.table, &mut walk.verdicts, part)?;
@@ -318,8 +308,7 @@ fn walk_fields(
     requires sound { IsSoundWalk walk.old }
     requires wf { AreWellFormedTerms (terms_of fields.now) }
     ensures grows { Grows walk.old walk.new }
-    ensures walked { IfOk result (λ all. FieldsWalked walk.old walk.new (terms_of fields.now) parts.old.items parts.new.items all) }
-    ensures stopped { IfErr result (λ stop. HasStoppedInFields stop walk.old walk.new (terms_of fields.now)) }
+    ensures walked { HasWalkedFields result walk.old walk.new (terms_of fields.now) parts.old.items parts.new.items }
 {
     let Some((field, others)) = fields.split_first() else {
         return Ok(true);
@@ -338,8 +327,7 @@ fn walk_fields(
 fn walk_variable(walk: &mut Walk, count: usize) -> Result<Option<TyNo>, Stop>
     requires sound { IsSoundWalk walk.old }
     ensures grows { Grows walk.old walk.new }
-    ensures walked { IfOk result (λ found. WalkedOver walk.old walk.new (variable count) found) }
-    ensures stopped { IfErr result (λ stop. HasStopped stop walk.old walk.new (variable count)) }
+    ensures walked { HasWalked result walk.old walk.new (variable count) }
 {
     let depth = walk.entries.len();
     if count >= depth {
@@ -410,8 +398,7 @@ fn settle(
     requires sound { IsSoundWalk walk.old }
     requires stands { StandsIn walk.old.table found }
     ensures grows { Grows walk.old walk.new }
-    ensures settled { IfOk result (λ number. (number ≡ found) × Settles walk.old walk.new found blame.entry) }
-    ensures stopped { IfErr result (λ stop. StopsAt stop walk.old walk.new found blame.entry) }
+    ensures settled { HasSettled result walk.old walk.new found blame.entry }
 {
     let place = Place(walk.found.len());
     if is_behind(place, walk.last) {

@@ -1,9 +1,12 @@
-use Rattle.std.proofs.Common.{◌+◌, length, vec_len, ap, refl, arith, string_bytes}
-use Rattle.lam_rules.specs.Terms.{if_then_else, lambda, apply, let_in, record_term}
+use Rattle.std.proofs.Common.{◌+◌, length, vec_len, ap, refl, ◌∙◌, arith, string_bytes}
+use Rattle.lam_rules.specs.Terms.{true_term, false_term, unit_term, if_then_else, lambda, apply, let_in, record_term}
 use Rattle.lam_rules.specs.TermViews.{term_of, terms_of, written_of}
+use Rattle.lam_rules.proofs.TermShapes.{term_of-True, term_of-False, term_of-Num, term_of-Var, term_of-Free, term_of-Unit}
 use Rattle.lam_scope.specs.Sights.{inside, inside_fields, behind_term}
 use Rattle.lam_typing.specs.declared.noting.Note.TheVariants.{Lambda, Nothing}
 use Rattle.lam_typing.specs.declared.noting.Source.TheVariants.{Written, Term as TermAt}
+use Rattle.lam_typing.proofs.Sizes.{size_of}
+use Rattle.lam_typing.proofs.Arms.{if_arm, succ_arm, pred_arm, is_zero_arm, lambda_arm, apply_arm, ascribe_arm, let_arm, record_arm, project_arm, fix_arm}
 use Rattle.lam_typing.proofs.NotedParts.{then_term, term_done, over_done, under_done, let_under, fields_then, popped_items, ok_map, on_ok_map}
 use Rattle.lam_typing.proofs.noting.+note_term.Goals as goal
 
@@ -51,9 +54,93 @@ note_let-returns t c =
 
 pub note_over-returns : goal.note_over-returns
 note_over-returns t c =
-    ok_map c.note_here.result _ _ (λ place one e is. over_done c.args.notes.now c.note_term.new.notes c.note_here.new.notes (term_of c.args.operand.now) _ place.0 e is c.in_ok-note_term.ensures one) c.note_here.ensures
+    λ e is. ok_map c.note_here.result _ _ (λ place one. over_done c.args.notes.now c.note_term.new.notes c.note_here.new.notes (term_of c.args.operand.now) _ place.0 e is c.in_ok-note_term.ensures one) c.note_here.ensures
 
 pub note_record-returns : goal.note_record-returns
 note_record-returns t c =
     let es = terms_of c.args.fields.now in
     ok_map c.note_here.result _ _ (λ place one. term_done c.args.notes.now c.note_fields.new.notes c.note_here.new.notes (record_term es) _ (inside_fields es) Nothing place.0 (λ found. refl) refl c.in_ok-note_fields.ensures one (λ found. refl)) c.note_here.ensures
+
+pub note_term-returns-in-True : goal.note_term-returns-in-True
+note_term-returns-in-True t c = rw (ap term_of c.in-True.is ∙ term_of-True) (c.note_leaf.ensures true_term tt)
+
+pub note_term-returns-in-False : goal.note_term-returns-in-False
+note_term-returns-in-False t c = rw (ap term_of c.in-False.is ∙ term_of-False) (c.note_leaf-in-False.ensures false_term tt)
+
+pub note_term-returns-in-Num : goal.note_term-returns-in-Num
+note_term-returns-in-Num t c = rw (ap term_of c.in-Num.is ∙ term_of-Num _) (c.note_leaf-in-Num.ensures _ tt)
+
+pub note_term-returns-in-Var : goal.note_term-returns-in-Var
+note_term-returns-in-Var t c = rw (ap term_of c.in-Var.is ∙ term_of-Var c.in-Var.count) c.note_variable.ensures
+
+pub note_term-returns-in-Free : goal.note_term-returns-in-Free
+note_term-returns-in-Free t c = rw (ap term_of c.in-Free.is ∙ term_of-Free _) (c.note_leaf-in-Free.ensures _ tt)
+
+pub note_term-returns-in-Unit : goal.note_term-returns-in-Unit
+note_term-returns-in-Unit t c = rw (ap term_of c.in-Unit.is ∙ term_of-Unit) (c.note_leaf-in-Unit.ensures unit_term tt)
+
+pub note_term-note_if-requires : goal.note_term-note_if-requires
+note_term-note_if-requires t c = omega (arith, c.decreases, ap size_of (if_arm _ _ _ _ _ c.in-If.is c.deref.ensures c.deref-in-If.ensures c.deref-in-If-2.ensures))
+
+pub note_term-returns-in-If : goal.note_term-returns-in-If
+note_term-returns-in-If t c = rw (if_arm _ _ _ _ _ c.in-If.is c.deref.ensures c.deref-in-If.ensures c.deref-in-If-2.ensures) c.note_if.ensures
+
+pub note_term-note_over-requires : goal.note_term-note_over-requires
+note_term-note_over-requires t c = omega (arith, c.decreases, ap size_of (succ_arm _ _ _ c.in-Succ.is c.deref-in-Succ.ensures))
+
+pub note_term-returns-in-Succ : goal.note_term-returns-in-Succ
+note_term-returns-in-Succ t c = rw (succ_arm _ _ _ c.in-Succ.is c.deref-in-Succ.ensures) (c.note_over.ensures _ refl)
+
+pub note_term-note_over-requires-in-Pred : goal.note_term-note_over-requires-in-Pred
+note_term-note_over-requires-in-Pred t c = omega (arith, c.decreases, ap size_of (pred_arm _ _ _ c.in-Pred.is c.deref-in-Pred.ensures))
+
+pub note_term-returns-in-Pred : goal.note_term-returns-in-Pred
+note_term-returns-in-Pred t c = rw (pred_arm _ _ _ c.in-Pred.is c.deref-in-Pred.ensures) (c.note_over-in-Pred.ensures _ refl)
+
+pub note_term-note_over-requires-in-IsZero : goal.note_term-note_over-requires-in-IsZero
+note_term-note_over-requires-in-IsZero t c = omega (arith, c.decreases, ap size_of (is_zero_arm _ _ _ c.in-IsZero.is c.deref-in-IsZero.ensures))
+
+pub note_term-returns-in-IsZero : goal.note_term-returns-in-IsZero
+note_term-returns-in-IsZero t c = rw (is_zero_arm _ _ _ c.in-IsZero.is c.deref-in-IsZero.ensures) (c.note_over-in-IsZero.ensures _ refl)
+
+pub note_term-note_lambda-requires : goal.note_term-note_lambda-requires
+note_term-note_lambda-requires t c = omega (arith, c.decreases, ap size_of (lambda_arm _ _ _ _ c.in-Abs.is c.deref-in-Abs.ensures c.deref-in-Abs-2.ensures))
+
+pub note_term-returns-in-Abs : goal.note_term-returns-in-Abs
+note_term-returns-in-Abs t c = rw (lambda_arm _ _ _ _ c.in-Abs.is c.deref-in-Abs.ensures c.deref-in-Abs-2.ensures) c.note_lambda.ensures
+
+pub note_term-note_apply-requires : goal.note_term-note_apply-requires
+note_term-note_apply-requires t c = omega (arith, c.decreases, ap size_of (apply_arm _ _ _ _ c.in-App.is c.deref-in-App.ensures c.deref-in-App-2.ensures))
+
+pub note_term-returns-in-App : goal.note_term-returns-in-App
+note_term-returns-in-App t c = rw (apply_arm _ _ _ _ c.in-App.is c.deref-in-App.ensures c.deref-in-App-2.ensures) c.note_apply.ensures
+
+pub note_term-note_over-requires-in-Ascribe : goal.note_term-note_over-requires-in-Ascribe
+note_term-note_over-requires-in-Ascribe t c = omega (arith, c.decreases, ap size_of (ascribe_arm _ _ _ _ c.in-Ascribe.is c.deref-in-Ascribe.ensures refl))
+
+pub note_term-returns-in-Ascribe : goal.note_term-returns-in-Ascribe
+note_term-returns-in-Ascribe t c = rw (ascribe_arm _ _ _ _ c.in-Ascribe.is c.deref-in-Ascribe.ensures refl) (c.note_over-in-Ascribe.ensures _ refl)
+
+pub note_term-note_let-requires : goal.note_term-note_let-requires
+note_term-note_let-requires t c = omega (arith, c.decreases, ap size_of (let_arm _ _ _ _ c.in-Let.is c.deref-in-Let.ensures c.deref-in-Let-2.ensures))
+
+pub note_term-returns-in-Let : goal.note_term-returns-in-Let
+note_term-returns-in-Let t c = rw (let_arm _ _ _ _ c.in-Let.is c.deref-in-Let.ensures c.deref-in-Let-2.ensures) c.note_let.ensures
+
+pub note_term-note_record-requires : goal.note_term-note_record-requires
+note_term-note_record-requires t c = omega (arith, c.decreases, ap size_of (record_arm _ _ _ c.in-Record.is c.deref-in-Record.ensures.value))
+
+pub note_term-returns-in-Record : goal.note_term-returns-in-Record
+note_term-returns-in-Record t c = rw (record_arm _ _ _ c.in-Record.is c.deref-in-Record.ensures.value) c.note_record.ensures
+
+pub note_term-note_over-requires-in-Proj : goal.note_term-note_over-requires-in-Proj
+note_term-note_over-requires-in-Proj t c = omega (arith, c.decreases, ap size_of (project_arm _ _ _ _ _ c.in-Proj.is c.deref-in-Proj.ensures refl refl))
+
+pub note_term-returns-in-Proj : goal.note_term-returns-in-Proj
+note_term-returns-in-Proj t c = rw (project_arm _ _ _ _ _ c.in-Proj.is c.deref-in-Proj.ensures refl refl) (c.note_over-in-Proj.ensures _ refl)
+
+pub note_term-note_over-requires-in-Fix : goal.note_term-note_over-requires-in-Fix
+note_term-note_over-requires-in-Fix t c = omega (arith, c.decreases, ap size_of (fix_arm _ _ _ c.in-Fix.is c.deref-in-Fix.ensures))
+
+pub note_term-returns-in-Fix : goal.note_term-returns-in-Fix
+note_term-returns-in-Fix t c = rw (fix_arm _ _ _ c.in-Fix.is c.deref-in-Fix.ensures) (c.note_over-in-Fix.ensures _ refl)

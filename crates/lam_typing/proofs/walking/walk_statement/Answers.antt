@@ -11,7 +11,7 @@ use Rattle.lam_typing.proofs.walking.walk_statement.Goals as goal
 pub returns-in_err-found-in-Definition-clause-stopped : goal.returns-in_err-found-in-Definition-clause-stopped
 returns-in_err-found-in-Definition-clause-stopped c = rw (ap statement_of c.in-Definition.is)
     (err_stopped_at c.from_residual.result _ c.args.walk.now c.walk_term.new.walk (defines (term_of c.in-Definition.core)) c.from_residual.ensures.1
-    (λ rest. defined_stopped c.args.walk.now c.walk_term.new.walk (term_of c.in-Definition.core) rest _ c.in_err-found-in-Definition.ensures.stopped))
+    (λ rest. defined_stopped c.args.walk.now c.walk_term.new.walk (term_of c.in-Definition.core) rest _ c.in_err-found-in-Definition.ensures.walked))
 
 pub returns-in_ok-push-in-Definition-clause-grows : goal.returns-in_ok-push-in-Definition-clause-grows
 returns-in_ok-push-in-Definition-clause-grows c =
@@ -41,7 +41,7 @@ returns-in_ok-push-in-Declaration-clause-goes_on c = rw (ap statement_of c.in-De
 pub returns-in_err-walk_term-in-Evaluation-clause-stopped : goal.returns-in_err-walk_term-in-Evaluation-clause-stopped
 returns-in_err-walk_term-in-Evaluation-clause-stopped c = rw (ap statement_of c.in-Evaluation.is)
     (err_stopped_at c.from_residual-in_err-walk_term-in-Evaluation.result _ c.args.walk.now c.walk_term-in-Evaluation.new.walk (states (term_of c.in-Evaluation.core)) c.from_residual-in_err-walk_term-in-Evaluation.ensures.1
-    (λ rest. stated_stopped c.args.walk.now c.walk_term-in-Evaluation.new.walk (term_of c.in-Evaluation.core) rest _ c.in_err-walk_term-in-Evaluation.ensures.stopped))
+    (λ rest. stated_stopped c.args.walk.now c.walk_term-in-Evaluation.new.walk (term_of c.in-Evaluation.core) rest _ c.in_err-walk_term-in-Evaluation.ensures.walked))
 
 pub returns-in_ok-walk_term-in-Evaluation-clause-goes_on : goal.returns-in_ok-walk_term-in-Evaluation-clause-goes_on
 returns-in_ok-walk_term-in-Evaluation-clause-goes_on c = rw (ap statement_of c.in-Evaluation.is)
