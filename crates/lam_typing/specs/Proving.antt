@@ -1,11 +1,12 @@
 -- What the proofs that are built for the terms of a document promise, in every context of least entries in which the terms stand at their places.
 use Rattle.std.specs.Prelude.{◌≡◌, ◌<◌, ◌≤◌, ℕ, ◌+◌, List, reverse, length, Option, Some, None, get_or, IfSome}
 use Rattle.std.specs.Option.{option_map}
-use Rattle.lam_rules.specs.Types.{Typ, bool, nat, unit, record_of, Fields}
+use Rattle.lam_rules.specs.Types.{Typ, bool, nat, unit, record_of, Fields, field}
 use Rattle.lam_rules.specs.TypeViews.{fields_of}
 use Rattle.lam_rules.specs.Terms.{Term, true_term, false_term, numeral, unit_term, succ, pred, is_zero, record_term, TermFields}
 use Rattle.lam_rules.specs.Subtyping.{IsBelow}
-use Rattle.lam_rules.specs.Typing.{Context, TypingTree, TypingTrees, type_in, IsTyping, ByTypeRule, ProvesTyping, HasType}
+use Rattle.lam_rules.specs.Texts.{Text}
+use Rattle.lam_rules.specs.Typing.{Context, TypingTree, TypingTrees, typing_first, type_in, IsTyping, ByTypeRule, ProvesTyping, HasType}
 use Rattle.lam_rules.specs.TypingViews.{typing_tree_of, typings_of}
 use Rattle.lam_rules.specs.declared.rules.Dialect.{Dialect}
 use Rattle.lam_rules.specs.declared.rules.TypeRule.{TypeRule}
@@ -120,6 +121,12 @@ pub record BuildsAs (t : Grounds) (e : Term) (behind : ℕ) (type : Typ) (made :
 pub record BuildsFields (t : Grounds) (es : TermFields) (behind : ℕ) (made : Option ProvenFields) : Type 0 where
   pub first : IfSome made (λ m. m.first + inside_fields es ≡ behind)
   pub proves : AreProvenFields t es behind (option_map trees_in made)
+
+-- the proof of a term with this label was put before those of the others
+pub record IsFieldPut (before after : ProvenFields) (label : Text) (own : Proven) : Type 0 where
+  pub trees : typings_of (reverse after.proofs.items) ≡ typing_first (tree_in own) (typings_of (reverse before.proofs.items))
+  pub types : fields_of (reverse after.types.items) ≡ field label (type_in (tree_in own)) (fields_of (reverse before.types.items))
+  pub first : after.first ≡ own.first
 
 -- the step is widened to this type, and the first place is this one
 pub record Finishes (step : TypingTree) (type : Typ) (place : ℕ) (d : Dialect) (made : Option Proven) : Type 0 where

@@ -81,7 +81,6 @@ fn note_statement<'t>(notes: &mut Notes<'t>, statement: &'t Statement) -> Result
 
 /// The notes of a term, whose places all come behind those that were noted; its own place.
 #[cycle(note_term)]
-#[tactic(auto, using(lam_rules::proofs::TermShapes::term_shapes))]
 fn note_term<'t>(notes: &mut Notes<'t>, term: &'t Core) -> Result<Place, AllocError>
     ensures { IfOk result (λ place. NotesTerm notes.old notes.new (term_of term.now) place.0) }
 {

@@ -3,19 +3,24 @@
 //! What is known of a type that was found is that it is least, and two least types may differ in the order of fields.
 //! So each step is followed by one of subsumption where it does not conclude in the very type that was found.
 
-ghost use Rattle.std.specs.Prelude.{◌≡◌, ◌+◌, ◌<◌, ◌≤◌, ℕ, IfOk, IfSome, None};
+ghost use Rattle.std.specs.Prelude.{◌≡◌, ◌<◌, ◌≤◌, ℕ, IfOk, OnOk, Some, None};
 ghost use Rattle.std.specs.Option.{option_map};
 ghost use Rattle.lam_rules.specs.Terms.{Term, if_then_else, variable, lambda, apply, ascribe, let_in, record_term, project, fix};
 ghost use Rattle.lam_rules.specs.TermViews.{term_of, terms_of, written_of};
 ghost use Rattle.lam_rules.specs.TypeViews.{typ_of};
-ghost use Rattle.lam_rules.specs.Typing.{typing_step};
+ghost use Rattle.lam_rules.specs.Types.{arrow};
+ghost use Rattle.lam_rules.specs.SubViews.{sub_tree_of};
+ghost use Rattle.lam_rules.specs.Subtyping.{ProvesBelow};
+ghost use Rattle.lam_rules.specs.Typing.{typing_step, typing_first, no_typings, type_in};
 ghost use Rattle.lam_rules.specs.TypingViews.{typing_tree_of, typings_of};
+ghost use Rattle.lam_rules.specs.declared.rules.Dialect.{Dialect};
 ghost use Rattle.lam_scope.specs.Sights.{inside, inside_fields};
-ghost use Rattle.lam_typing.specs.Proving.{BuildsTerm, BuildsForm, BuildsAs, BuildsFields, Finishes, IsWidened, IsLeafBy, IsNatBy};
+ghost use Rattle.lam_typing.specs.Grounds.{dialect_in};
+ghost use Rattle.lam_typing.specs.Proving.{tree_in, BuildsTerm, BuildsForm, BuildsAs, BuildsFields, IsFieldPut, Finishes, IsWidened, IsLeafBy, IsNatBy};
 
 use crate::grounds::Grounds;
 use lam_rules::{
-    Core, Dialect, Ty, TypeProof, TypeRule, copy_of, make_arrow, make_record, same, wf,
+    Core, Dialect, SubProof, Ty, TypeProof, TypeRule, copy_of, make_arrow, make_record, same, wf,
 };
 use lam_scope::Place;
 use lam_sub::{field_type, prove_sub};
@@ -56,7 +61,6 @@ pub(crate) fn prove_term(
 
 /// A proof of the type that was found of the term of a place, by the rule of its form.
 #[cycle(prove_term)]
-#[tactic(auto, using(lam_rules::proofs::TermShapes::term_shapes))]
 fn prove_form(
     alloc: Global,
     grounds: &Grounds<'_>,
@@ -114,15 +118,7 @@ fn prove_leaf(
     ensures { (e : Term) → IsLeafBy rule e (typ_of conclusion) → IfOk result (BuildsForm grounds.now e place (typ_of ty.now)) }
 {
     let premises = Vec::new(alloc);
-    finish(
-        alloc,
-        rule,
-        conclusion,
-        premises,
-        ty,
-        place,
-        grounds.typing.dialect,
-    )
+    finish(alloc, grounds, rule, conclusion, premises, ty, place)
 }
 
 /// A variable has the entry of its binder.
@@ -138,15 +134,7 @@ fn prove_variable(
         return Ok(None);
     };
     let premises = Vec::new(alloc);
-    finish(
-        alloc,
-        TypeRule::Var,
-        entry,
-        premises,
-        ty,
-        place,
-        grounds.typing.dialect,
-    )
+    finish(alloc, grounds, TypeRule::Var, entry, premises, ty, place)
 }
 
 /// T-Succ, T-Pred and T-IsZero.
@@ -166,17 +154,7 @@ fn prove_number(
     let Some(made) = prove_as(alloc, grounds, operand, place, &Ty::Nat)? else {
         return Ok(None);
     };
-    let Proven { proof, first } = made;
-    let premises = vec![in alloc; proof]?;
-    finish(
-        alloc,
-        rule,
-        conclusion,
-        premises,
-        ty,
-        first,
-        grounds.typing.dialect,
-    )
+    finish_over(alloc, grounds, rule, conclusion, made, ty)
 }
 
 /// T-If: both branches are made as wide as the whole.
@@ -202,17 +180,17 @@ fn prove_if(
     let Some(first) = prove_as(alloc, grounds, condition, second.first, &Ty::Bool)? else {
         return Ok(None);
     };
-    let conclusion = copy_of(alloc, ty)?;
     let Proven { proof, first } = first;
     let premises = vec![in alloc; proof, second.proof, third.proof]?;
+    let conclusion = copy_of(alloc, ty)?;
     finish(
         alloc,
+        grounds,
         TypeRule::If,
         conclusion,
         premises,
         ty,
         first,
-        grounds.typing.dialect,
     )
 }
 
@@ -235,20 +213,8 @@ fn prove_lambda(
     let Some(made) = prove_term(alloc, grounds, body, place)? else {
         return Ok(None);
     };
-    let Proven { proof, first } = made;
-    let parameter = copy_of(alloc, parameter)?;
-    let outcome = copy_of(alloc, &proof.ty)?;
-    let conclusion = make_arrow(alloc, parameter, outcome)?;
-    let premises = vec![in alloc; proof]?;
-    finish(
-        alloc,
-        TypeRule::Abs,
-        conclusion,
-        premises,
-        ty,
-        first,
-        grounds.typing.dialect,
-    )
+    let conclusion = arrow_between(alloc, parameter, &made.proof.ty)?;
+    finish_over(alloc, grounds, TypeRule::Abs, conclusion, made, ty)
 }
 
 /// T-App: the argument is made as wide as the parameter.
@@ -270,24 +236,14 @@ fn prove_apply(
     let Some(made) = prove_term(alloc, grounds, function, second.first)? else {
         return Ok(None);
     };
-    let Proven { proof, first } = made;
-    let Ty::Arrow(parameter, outcome) = &proof.ty else {
+    let Ty::Arrow(parameter, outcome) = &made.proof.ty else {
         return Ok(None);
     };
     let Some(operand) = widened(alloc, second.proof, parameter, grounds.typing.dialect)? else {
         return Ok(None);
     };
     let conclusion = copy_of(alloc, outcome)?;
-    let premises = vec![in alloc; proof, operand]?;
-    finish(
-        alloc,
-        TypeRule::App,
-        conclusion,
-        premises,
-        ty,
-        first,
-        grounds.typing.dialect,
-    )
+    finish_over_two(alloc, grounds, TypeRule::App, conclusion, made, operand, ty)
 }
 
 /// T-Ascribe: the term is made as wide as what is written.
@@ -309,18 +265,8 @@ fn prove_ascribe(
     let Some(made) = prove_as(alloc, grounds, operand, place, wanted)? else {
         return Ok(None);
     };
-    let Proven { proof, first } = made;
     let conclusion = copy_of(alloc, wanted)?;
-    let premises = vec![in alloc; proof]?;
-    finish(
-        alloc,
-        TypeRule::Ascribe,
-        conclusion,
-        premises,
-        ty,
-        first,
-        grounds.typing.dialect,
-    )
+    finish_over(alloc, grounds, TypeRule::Ascribe, conclusion, made, ty)
 }
 
 /// T-Let.
@@ -342,17 +288,15 @@ fn prove_let(
     let Some(made) = prove_term(alloc, grounds, bound, second.first)? else {
         return Ok(None);
     };
-    let Proven { proof, first } = made;
     let conclusion = copy_of(alloc, &second.proof.ty)?;
-    let premises = vec![in alloc; proof, second.proof]?;
-    finish(
+    finish_over_two(
         alloc,
+        grounds,
         TypeRule::Let,
         conclusion,
-        premises,
+        made,
+        second.proof,
         ty,
-        first,
-        grounds.typing.dialect,
     )
 }
 
@@ -380,12 +324,12 @@ fn prove_record(
     types.reverse();
     finish(
         alloc,
+        grounds,
         TypeRule::Rcd,
         make_record(types),
         proofs,
         ty,
         first,
-        grounds.typing.dialect,
     )
 }
 
@@ -407,27 +351,32 @@ fn prove_fields(
             first: behind,
         }));
     };
-    let Some(made) = prove_fields(alloc, grounds, others, behind)? else {
+    let Some(mut made) = prove_fields(alloc, grounds, others, behind)? else {
         return Ok(None);
     };
-    let ProvenFields {
-        mut proofs,
-        mut types,
-        first,
-    } = made;
-    let Some(own) = prove_term(alloc, grounds, &field.1, first)? else {
+    let Some(own) = prove_term(alloc, grounds, &field.1, made.first)? else {
         return Ok(None);
     };
+    put_field(alloc, &mut made, &field.0, own)?;
+    Ok(Some(made))
+}
+
+/// Puts the term of a field before those that stand, which are kept from the last to the first.
+fn put_field(
+    alloc: Global,
+    made: &mut ProvenFields,
+    label: &str,
+    own: Proven,
+) -> Result<(), AllocError>
+    ensures { OnOk result (IsFieldPut made.old made.new label.now own) }
+{
     let Proven { proof, first } = own;
-    let label = field.0.clone()?;
+    let name = String::from_str(alloc, label)?;
     let ty = copy_of(alloc, &proof.ty)?;
-    types.push((label, ty))?;
-    proofs.push(proof)?;
-    Ok(Some(ProvenFields {
-        proofs,
-        types,
-        first,
-    }))
+    made.types.push((name, ty))?;
+    made.proofs.push(proof)?;
+    made.first = first;
+    Ok(())
 }
 
 /// T-Proj.
@@ -446,24 +395,14 @@ fn prove_project(
     let Some(made) = prove_term(alloc, grounds, operand, place)? else {
         return Ok(None);
     };
-    let Proven { proof, first } = made;
-    let Ty::Record(fields) = &proof.ty else {
+    let Ty::Record(fields) = &made.proof.ty else {
         return Ok(None);
     };
     let Some(field) = field_type(label, &fields.items, 0) else {
         return Ok(None);
     };
     let conclusion = copy_of(alloc, field)?;
-    let premises = vec![in alloc; proof]?;
-    finish(
-        alloc,
-        TypeRule::Proj,
-        conclusion,
-        premises,
-        ty,
-        first,
-        grounds.typing.dialect,
-    )
+    finish_over(alloc, grounds, TypeRule::Proj, conclusion, made, ty)
 }
 
 /// T-Fix: the function is made one from its outcome to its outcome.
@@ -478,24 +417,12 @@ fn prove_fix(
     requires { inside (term_of operand.now) < place }
     ensures { IfOk result (BuildsForm grounds.now (fix (term_of operand.now)) place (typ_of ty.now)) }
 {
-    let parameter = copy_of(alloc, ty)?;
-    let outcome = copy_of(alloc, ty)?;
-    let wanted = make_arrow(alloc, parameter, outcome)?;
+    let wanted = arrow_between(alloc, ty, ty)?;
     let Some(made) = prove_as(alloc, grounds, operand, place, &wanted)? else {
         return Ok(None);
     };
-    let Proven { proof, first } = made;
     let conclusion = copy_of(alloc, ty)?;
-    let premises = vec![in alloc; proof]?;
-    finish(
-        alloc,
-        TypeRule::Fix,
-        conclusion,
-        premises,
-        ty,
-        first,
-        grounds.typing.dialect,
-    )
+    finish_over(alloc, grounds, TypeRule::Fix, conclusion, made, ty)
 }
 
 /// A proof that a term has this type, which may be wider than the one that was found; none, where it has not.
@@ -520,17 +447,59 @@ fn prove_as(
     Ok(Some(Proven { proof, first }))
 }
 
+/// The arrow from a type to another, in memory of its own.
+fn arrow_between(alloc: Global, parameter: &Ty, outcome: &Ty) -> Result<Ty, AllocError>
+    ensures { IfOk result (λ made. typ_of made ≡ arrow (typ_of parameter.now) (typ_of outcome.now)) }
+{
+    let parameter = copy_of(alloc, parameter)?;
+    let outcome = copy_of(alloc, outcome)?;
+    make_arrow(alloc, parameter, outcome)
+}
+
+/// The step of a rule of one premise, which begins at the same place.
+fn finish_over(
+    alloc: Global,
+    grounds: &Grounds<'_>,
+    rule: TypeRule,
+    conclusion: Ty,
+    made: Proven,
+    ty: &Ty,
+) -> Result<Option<Proven>, AllocError>
+    ensures { IfOk result (Finishes (typing_step rule (typ_of conclusion) (typing_first (tree_in made) no_typings) None) (typ_of ty.now) made.first (dialect_in grounds.now)) }
+{
+    let Proven { proof, first } = made;
+    let premises = vec![in alloc; proof]?;
+    finish(alloc, grounds, rule, conclusion, premises, ty, first)
+}
+
+/// The step of a rule of two premises, of which the first begins at the same place.
+fn finish_over_two(
+    alloc: Global,
+    grounds: &Grounds<'_>,
+    rule: TypeRule,
+    conclusion: Ty,
+    made: Proven,
+    second: TypeProof,
+    ty: &Ty,
+) -> Result<Option<Proven>, AllocError>
+    ensures { IfOk result (Finishes (typing_step rule (typ_of conclusion) (typing_first (tree_in made) (typing_first (typing_tree_of second) no_typings)) None) (typ_of ty.now) made.first (dialect_in grounds.now)) }
+{
+    let Proven { proof, first } = made;
+    let premises = vec![in alloc; proof, second]?;
+    finish(alloc, grounds, rule, conclusion, premises, ty, first)
+}
+
 /// The step of a rule, and one to the type that was found where it concludes in another.
 fn finish(
     alloc: Global,
+    grounds: &Grounds<'_>,
     rule: TypeRule,
     conclusion: Ty,
     premises: Vec<TypeProof>,
     ty: &Ty,
     first: usize,
-    dialect: Dialect,
 ) -> Result<Option<Proven>, AllocError>
-    ensures { IfOk result (Finishes (typing_step rule (typ_of conclusion) (typings_of premises.items) None) (typ_of ty.now) first dialect) }
+    ensures { IfOk result (Finishes (typing_step rule (typ_of conclusion) (typings_of premises.items) None) (typ_of ty.now) first (dialect_in grounds.now)) }
 {
     let step = TypeProof {
         rule,
@@ -538,7 +507,7 @@ fn finish(
         typing: premises,
         sub: None,
     };
-    let Some(proof) = widened(alloc, step, ty, dialect)? else {
+    let Some(proof) = widened(alloc, step, ty, grounds.typing.dialect)? else {
         return Ok(None);
     };
     Ok(Some(Proven { proof, first }))
@@ -567,14 +536,26 @@ fn widened(
     let Some(sub) = prove_sub(alloc, &proof.ty, upper, dialect)? else {
         return Ok(None);
     };
+    let step = subsumed(alloc, proof, sub, upper)?;
+    Ok(Some(step))
+}
+
+/// The step of subsumption from a proof, by a proof that its type is below this one.
+fn subsumed(
+    alloc: Global,
+    proof: TypeProof,
+    sub: SubProof,
+    upper: &Ty,
+) -> Result<TypeProof, AllocError>
+    ensures { IfOk result (λ made. (d : Dialect) → ProvesBelow (sub_tree_of sub) (type_in (typing_tree_of proof)) (typ_of upper.now) d → IsWidened (typing_tree_of proof) (typ_of upper.now) (Some (typing_tree_of made)) d) }
+{
     let ty = copy_of(alloc, upper)?;
     let sub = Box::new(alloc, sub)?;
-    let mut typing = Vec::new(alloc);
-    typing.push(proof)?;
-    Ok(Some(TypeProof {
+    let typing = vec![in alloc; proof]?;
+    Ok(TypeProof {
         rule: TypeRule::Sub,
         ty,
         typing,
         sub: Some(sub),
-    }))
+    })
 }

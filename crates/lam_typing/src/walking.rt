@@ -118,7 +118,6 @@ fn walk_statement(walk: &mut Walk, statement: &Statement) -> Result<(), Stop>
 
 /// The type of a term, whose places all come behind those that were found.
 #[cycle(walk_term)]
-#[tactic(auto, using(lam_rules::proofs::TermShapes::term_shapes))]
 fn walk_term(walk: &mut Walk, term: &Core) -> Result<Option<TyNo>, Stop>
     requires sound { IsSoundWalk walk.old }
     requires wf { IsWellFormedTerm (term_of term.now) }

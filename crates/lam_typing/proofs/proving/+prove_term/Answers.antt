@@ -1,6 +1,6 @@
 use Rattle.std.proofs.Common.{◌≡◌, ◌+◌, ◌-◌, Some, None, ap, refl, sym, subst, ◌∙◌, string_bytes, arith, reverse}
 use Rattle.std.specs.Option.{option_map}
-use Rattle.lam_rules.specs.Types.{bool, nat, arrow, record_of, field}
+use Rattle.lam_rules.specs.Types.{bool, nat, arrow, record_of}
 use Rattle.lam_rules.specs.Terms.{true_term, false_term, unit_term, numeral, if_then_else, succ, pred, is_zero, apply, let_in}
 use Rattle.lam_rules.specs.TermViews.{term_of, terms_of, written_of}
 use Rattle.lam_rules.specs.TypeViews.{typ_of, fields_of}
@@ -15,7 +15,7 @@ use Rattle.lam_typing.proofs.Sizes.{size_of, size_of_fields}
 use Rattle.lam_typing.proofs.Arms.{if_arm, succ_arm, pred_arm, is_zero_arm, lambda_arm, apply_arm, ascribe_arm, let_arm, record_arm, project_arm, fix_arm}
 use Rattle.lam_typing.proofs.NotedParts.{ok_map}
 use Rattle.lam_typing.proofs.BuiltProofs.{free_none, as_wide, as_none, number_form, number_none, if_form, if_none_else, if_none_then, if_none_condition, lambda_form, lambda_none, faulty_lambda_none, apply_form, apply_none_argument, apply_none_function, apply_no_arrow, apply_not_below, ascribe_form, ascribe_none, faulty_ascribe_none, let_form, let_none_body, let_none_bound, record_form, record_none, no_fields_form, more_fields_form, more_fields_none, first_field_none, project_form, project_none, project_no_record, project_no_field, fix_form, fix_none}
-use Rattle.lam_typing.proofs.BuiltSteps.{no_terms_of, trees_pushed, types_pushed, step_as, some_holds, some_term, none_term, some_as, none_as, some_fields, none_fields, some_wide, none_wide, term_of_form, term_none, arrow_in, no_arrow_in, record_in, no_record_in, first_before, first_behind, inside_number}
+use Rattle.lam_typing.proofs.BuiltSteps.{no_terms_of, step_as, some_holds, some_term, none_term, some_as, none_as, some_fields, none_fields, some_wide, none_wide, term_of_form, term_none, arrow_in, no_arrow_in, record_in, no_record_in, first_before, first_behind, inside_number}
 use Rattle.lam_typing.proofs.proving.+prove_term.Goals as goal
 
 pub prove_apply-returns-in_default : goal.prove_apply-returns-in_default
@@ -38,12 +38,12 @@ pub prove_apply-returns : goal.prove_apply-returns
 prove_apply-returns t c =
     let second = rw c.in-Some.is at c.in_ok-second.ensures in
     let first = rw c.in-Some-2.is at c.in_ok-made.ensures in
-    ok_map c.finish.result _ _ (λ made done. record {
+    ok_map c.finish_over_two.result _ _ (λ made done. record {
       first = first_before made c.in-Some-2.made.first (inside (apply (term_of c.args.function.now) (term_of c.args.argument.now))) c.args.place done.first (omega (arith, second.first, first.first));
       proves = apply_form c.args.grounds.now (term_of c.args.function.now) (term_of c.args.argument.now) c.args.place c.in-Some.second.first (typ_of c.in-Arrow.outcome.value) (typ_of c.in-Arrow.parameter.value) (typ_of c.args.ty.now) (tree_in c.in-Some-2.made) (tree_in c.in-Some.second) (typing_tree_of c.in-Some-3.operand) (option_map tree_in made) (some_holds c.in_ok-second.field-0 c.in-Some.second _ c.in-Some.is c.in_ok-second.ensures.first) (some_term c.args.grounds.now (term_of c.args.argument.now) c.args.place c.in_ok-second.field-0 c.in-Some.second c.in-Some.is c.in_ok-second.ensures.proves) (some_term c.args.grounds.now (term_of c.args.function.now) c.in-Some.second.first c.in_ok-made.field-0 c.in-Some-2.made c.in-Some-2.is c.in_ok-made.ensures.proves) (arrow_in c.in-Some-2.made c.in-Arrow.parameter c.in-Arrow.outcome c.in-Arrow.is)
           (some_wide (typing_tree_of c.in-Some.second.proof) (typ_of c.in-Arrow.parameter.value) c.in_ok-operand.field-0 c.in-Some-3.operand c.args.grounds.now.typing.now.dialect c.in-Some-3.is (rw c.deref.ensures at c.in_ok-operand.ensures))
-          (step_as TypeRule.App _ (typ_of c.in-Arrow.outcome.value) _ _ (typ_of c.args.ty.now) (option_map tree_in made) c.args.grounds.now.typing.now.dialect (rw c.deref-2.ensures at c.in_ok-conclusion.ensures) (ap typings_of c.in_ok-premises.ensures.items) done.wide);
-    }) c.finish.ensures
+          (rw (rw c.deref-2.ensures at c.in_ok-conclusion.ensures) at done.wide);
+    }) c.finish_over_two.ensures
 
 pub prove_as-returns-in_default : goal.prove_as-returns-in_default
 prove_as-returns-in_default t c =
@@ -68,11 +68,11 @@ prove_ascribe-returns-in_default-2 t c =
 pub prove_ascribe-returns : goal.prove_ascribe-returns
 prove_ascribe-returns t c =
     let built = rw c.in-Some-2.is at c.in_ok-made.ensures in
-    rw (ap written_of c.in-Some.is) (ok_map c.finish.result _ _ (λ made done. record {
+    rw (ap written_of c.in-Some.is) (ok_map c.finish_over.result _ _ (λ made done. record {
       first = first_before made c.in-Some-2.made.first (inside (term_of c.args.operand.now) + 1) c.args.place done.first (omega (arith, built.first));
       proves = ascribe_form c.args.grounds.now (term_of c.args.operand.now) (typ_of c.in-Some.wanted) c.args.place _ (typ_of c.args.ty.now) (tree_in c.in-Some-2.made) (option_map tree_in made) refl (some_as c.args.grounds.now (term_of c.args.operand.now) c.args.place (typ_of c.in-Some.wanted) c.in_ok-made.field-0 c.in-Some-2.made c.in-Some-2.is c.in_ok-made.ensures.proves)
-          (step_as TypeRule.Ascribe _ (typ_of c.in-Some.wanted) _ _ (typ_of c.args.ty.now) (option_map tree_in made) c.args.grounds.now.typing.now.dialect c.in_ok-conclusion.ensures (ap typings_of c.in_ok-premises.ensures.items) done.wide);
-    }) c.finish.ensures)
+          (rw c.in_ok-conclusion.ensures at done.wide);
+    }) c.finish_over.ensures)
 
 pub prove_fields-returns-in_default : goal.prove_fields-returns-in_default
 prove_fields-returns-in_default t c =
@@ -103,26 +103,25 @@ pub prove_fields-returns : goal.prove_fields-returns
 prove_fields-returns t c =
     let others = rw c.in-Some-2.is at c.in_ok-made.ensures in
     let own = rw c.in-Some-3.is at c.in_ok-own.ensures in
+    let put = rw c.deref.ensures at c.in_ok-put_field.ensures in
     rw (ap terms_of c.in-Some.ensures.cases.0) (record {
-      first = omega (arith, others.first, own.first);
+      first = omega (arith, others.first, own.first, put.first);
       proves = more_fields_form c.args.grounds.now (string_bytes c.in-Some.field.now.0) (term_of c.in-Some.field.now.1) (terms_of c.in-Some.others.now) c.args.behind c.in-Some-2.made.first (tree_in c.in-Some-3.own) (trees_in c.in-Some-2.made) _ (some_holds c.in_ok-made.field-0 c.in-Some-2.made _ c.in-Some-2.is c.in_ok-made.ensures.first) (some_fields c.args.grounds.now (terms_of c.in-Some.others.now) c.args.behind c.in_ok-made.field-0 c.in-Some-2.made c.in-Some-2.is c.in_ok-made.ensures.proves) (some_term c.args.grounds.now (term_of c.in-Some.field.now.1) c.in-Some-2.made.first c.in_ok-own.field-0 c.in-Some-3.own c.in-Some-3.is c.in_ok-own.ensures.proves)
-          (ap (λ ps. typings_of (reverse ps)) c.in_ok-push-2.ensures.items ∙ trees_pushed c.in-Some-2.made.proofs.items c.in-Some-3.own.proof)
-          (ap (λ fs. fields_of (reverse fs)) c.in_ok-push.ensures.items ∙ types_pushed c.in-Some-2.made.types.items (c.in_ok-label.label, c.in_ok-ty.ty)
-          ∙ (λ i. field (c.in_ok-label.ensures.cases i) ((c.in_ok-ty.ensures ∙ sym (type_in-typing_tree_of c.in-Some-3.own.proof)) i) (fields_of (reverse c.in-Some-2.made.types.items))));
+          put.trees put.types;
     })
 
 pub prove_fix-returns-in_default : goal.prove_fix-returns-in_default
 prove_fix-returns-in_default t c =
-    record { first = tt; proves = fix_none c.args.grounds.now (term_of c.args.operand.now) c.args.place _ (typ_of c.args.ty.now) (c.in_ok-wanted.ensures ∙ (λ i. arrow (c.in_ok-parameter.ensures i) (c.in_ok-outcome.ensures i))) (none_as c.args.grounds.now (term_of c.args.operand.now) c.args.place _ c.in_ok-made.field-0 c.in_default.is c.in_ok-made.ensures.proves) }
+    record { first = tt; proves = fix_none c.args.grounds.now (term_of c.args.operand.now) c.args.place _ (typ_of c.args.ty.now) c.in_ok-wanted.ensures (none_as c.args.grounds.now (term_of c.args.operand.now) c.args.place _ c.in_ok-made.field-0 c.in_default.is c.in_ok-made.ensures.proves) }
 
 pub prove_fix-returns : goal.prove_fix-returns
 prove_fix-returns t c =
     let built = rw c.in-Some.is at c.in_ok-made.ensures in
-    ok_map c.finish.result _ _ (λ made done. record {
+    ok_map c.finish_over.result _ _ (λ made done. record {
       first = first_before made c.in-Some.made.first (inside (term_of c.args.operand.now) + 1) c.args.place done.first (omega (arith, built.first));
-      proves = fix_form c.args.grounds.now (term_of c.args.operand.now) c.args.place _ _ (typ_of c.args.ty.now) (tree_in c.in-Some.made) (option_map tree_in made) (c.in_ok-wanted.ensures ∙ (λ i. arrow (c.in_ok-parameter.ensures i) (c.in_ok-outcome.ensures i))) refl (some_as c.args.grounds.now (term_of c.args.operand.now) c.args.place _ c.in_ok-made.field-0 c.in-Some.made c.in-Some.is c.in_ok-made.ensures.proves)
-          (step_as TypeRule.Fix _ (typ_of c.args.ty.now) _ _ (typ_of c.args.ty.now) (option_map tree_in made) c.args.grounds.now.typing.now.dialect c.in_ok-conclusion.ensures (ap typings_of c.in_ok-premises.ensures.items) done.wide);
-    }) c.finish.ensures
+      proves = fix_form c.args.grounds.now (term_of c.args.operand.now) c.args.place _ _ (typ_of c.args.ty.now) (tree_in c.in-Some.made) (option_map tree_in made) c.in_ok-wanted.ensures refl (some_as c.args.grounds.now (term_of c.args.operand.now) c.args.place _ c.in_ok-made.field-0 c.in-Some.made c.in-Some.is c.in_ok-made.ensures.proves)
+          (rw c.in_ok-conclusion.ensures at done.wide);
+    }) c.finish_over.ensures
 
 pub prove_if-returns-in_default : goal.prove_if-returns-in_default
 prove_if-returns-in_default t c =
@@ -160,12 +159,12 @@ prove_lambda-returns-in_default-2 t c =
 pub prove_lambda-returns : goal.prove_lambda-returns
 prove_lambda-returns t c =
     let built = rw c.in-Some-2.is at c.in_ok-made.ensures in
-    rw (ap written_of c.in-Some.is) (ok_map c.finish.result _ _ (λ made done. record {
+    rw (ap written_of c.in-Some.is) (ok_map c.finish_over.result _ _ (λ made done. record {
       first = first_before made c.in-Some-2.made.first (inside (term_of c.args.body.now) + 1) c.args.place done.first (omega (arith, built.first));
       proves = lambda_form c.args.grounds.now (typ_of c.in-Some.parameter) (term_of c.args.body.now) c.args.place _ (typ_of c.args.ty.now) (tree_in c.in-Some-2.made) (option_map tree_in made)
-          (c.in_ok-conclusion.ensures ∙ (λ i. arrow (c.in_ok-parameter.ensures i) ((c.in_ok-outcome.ensures ∙ sym (type_in-typing_tree_of c.in-Some-2.made.proof)) i))) (some_term c.args.grounds.now (term_of c.args.body.now) c.args.place c.in_ok-made.field-0 c.in-Some-2.made c.in-Some-2.is c.in_ok-made.ensures.proves)
-          (step_as TypeRule.Abs _ _ _ _ (typ_of c.args.ty.now) (option_map tree_in made) c.args.grounds.now.typing.now.dialect refl (ap typings_of c.in_ok-premises.ensures.items) done.wide);
-    }) c.finish.ensures)
+          (c.in_ok-conclusion.ensures ∙ (λ i. arrow (typ_of c.in-Some.parameter) (sym (type_in-typing_tree_of c.in-Some-2.made.proof) i))) (some_term c.args.grounds.now (term_of c.args.body.now) c.args.place c.in_ok-made.field-0 c.in-Some-2.made c.in-Some-2.is c.in_ok-made.ensures.proves)
+          done.wide;
+    }) c.finish_over.ensures)
 
 pub prove_let-returns-in_default : goal.prove_let-returns-in_default
 prove_let-returns-in_default t c =
@@ -179,12 +178,12 @@ pub prove_let-returns : goal.prove_let-returns
 prove_let-returns t c =
     let second = rw c.in-Some.is at c.in_ok-second.ensures in
     let first = rw c.in-Some-2.is at c.in_ok-made.ensures in
-    ok_map c.finish.result _ _ (λ made done. record {
+    ok_map c.finish_over_two.result _ _ (λ made done. record {
       first = first_before made c.in-Some-2.made.first (inside (let_in (term_of c.args.bound.now) (term_of c.args.body.now))) c.args.place done.first (omega (arith, second.first, first.first));
       proves = let_form c.args.grounds.now (term_of c.args.bound.now) (term_of c.args.body.now) c.args.place c.in-Some.second.first _ (typ_of c.args.ty.now) (tree_in c.in-Some-2.made) (tree_in c.in-Some.second) (option_map tree_in made) (some_holds c.in_ok-second.field-0 c.in-Some.second _ c.in-Some.is c.in_ok-second.ensures.first)
           (c.in_ok-conclusion.ensures ∙ sym (type_in-typing_tree_of c.in-Some.second.proof)) (some_term c.args.grounds.now (term_of c.args.body.now) c.args.place c.in_ok-second.field-0 c.in-Some.second c.in-Some.is c.in_ok-second.ensures.proves) (some_term c.args.grounds.now (term_of c.args.bound.now) c.in-Some.second.first c.in_ok-made.field-0 c.in-Some-2.made c.in-Some-2.is c.in_ok-made.ensures.proves)
-          (step_as TypeRule.Let _ _ _ _ (typ_of c.args.ty.now) (option_map tree_in made) c.args.grounds.now.typing.now.dialect refl (ap typings_of c.in_ok-premises.ensures.items) done.wide);
-    }) c.finish.ensures
+          done.wide;
+    }) c.finish_over_two.ensures
 
 pub prove_number-returns-in_default : goal.prove_number-returns-in_default
 prove_number-returns-in_default t c =
@@ -194,12 +193,12 @@ pub prove_number-returns : goal.prove_number-returns
 prove_number-returns t c =
     λ e is.
     let built = rw c.in-Some.is at c.in_ok-made.ensures in
-    ok_map c.finish.result _ _ (λ made done. record {
+    ok_map c.finish_over.result _ _ (λ made done. record {
       first = first_before made c.in-Some.made.first (inside e) c.args.place done.first (omega (arith, built.first, inside_number c.args.rule e (term_of c.args.operand.now) _ is));
       proves = number_form c.args.grounds.now c.args.rule e (term_of c.args.operand.now) (typ_of c.args.conclusion) (typ_of c.args.ty.now) c.args.place (tree_in c.in-Some.made) (option_map tree_in made) is
           (some_as c.args.grounds.now (term_of c.args.operand.now) c.args.place nat c.in_ok-made.field-0 c.in-Some.made c.in-Some.is (subst (λ u. IsProvenAs c.args.grounds.now (term_of c.args.operand.now) c.args.place u (option_map tree_in c.in_ok-made.field-0)) typ_of-Nat c.in_ok-made.ensures.proves))
-          (step_as c.args.rule _ _ _ _ (typ_of c.args.ty.now) (option_map tree_in made) c.args.grounds.now.typing.now.dialect refl (ap typings_of c.in_ok-premises.ensures.items) done.wide);
-    }) c.finish.ensures
+          done.wide;
+    }) c.finish_over.ensures
 
 pub prove_project-returns-in_default : goal.prove_project-returns-in_default
 prove_project-returns-in_default t c =
@@ -216,11 +215,11 @@ prove_project-returns-in_default-field_type t c =
 pub prove_project-returns : goal.prove_project-returns
 prove_project-returns t c =
     let built = rw c.in-Some.is at c.in_ok-made.ensures in
-    ok_map c.finish.result _ _ (λ made done. record {
+    ok_map c.finish_over.result _ _ (λ made done. record {
       first = first_before made c.in-Some.made.first (inside (term_of c.args.operand.now) + 1) c.args.place done.first (omega (arith, built.first));
       proves = project_form c.args.grounds.now (term_of c.args.operand.now) c.args.label.now c.args.place (fields_of c.deref.result.now) (typ_of c.in-Some-field_type.field.now) _ (typ_of c.args.ty.now) (tree_in c.in-Some.made) (option_map tree_in made) (some_term c.args.grounds.now (term_of c.args.operand.now) c.args.place c.in_ok-made.field-0 c.in-Some.made c.in-Some.is c.in_ok-made.ensures.proves) (record_in c.in-Some.made c.in-Record.fields c.in-Record.is ∙ ap (λ fs. record_of (fields_of fs)) (sym c.deref.ensures.value)) c.in-Some-field_type.ensures.found c.in_ok-conclusion.ensures
-          (step_as TypeRule.Proj _ _ _ _ (typ_of c.args.ty.now) (option_map tree_in made) c.args.grounds.now.typing.now.dialect refl (ap typings_of c.in_ok-premises.ensures.items) done.wide);
-    }) c.finish.ensures
+          done.wide;
+    }) c.finish_over.ensures
 
 pub prove_record-returns-in_default : goal.prove_record-returns-in_default
 prove_record-returns-in_default t c =
