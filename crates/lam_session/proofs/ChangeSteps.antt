@@ -1,11 +1,11 @@
 -- The steps of an open and of a change, from what their parts found.
 use Rattle.std.proofs.Common.{◌≡◌, ℕ, ℤ, List, true, Option, None, Some, is_some, option_map, refl, sym, ◌∙◌, ap, subst}
 use Rattle.serde_json.specs.Data.{Data}
-use Rattle.lam_rpc.specs.Fields.{named_uri, listed_changes}
+use Rattle.lam_rpc.specs.Fields.{named_uri}
 use Rattle.lam_text.specs.Edits.{Edit, text_after}
 use Rattle.lam_session.specs.Documents.{OpenDocument, open_text, with_document}
 use Rattle.lam_session.specs.State.{State}
-use Rattle.lam_session.specs.Sync.{Tells, Holds, given_version, opened_text, Opens, ChangesText, Changes}
+use Rattle.lam_session.specs.Sync.{Tells, Holds, given_version, opened_text, Opens, ChangesText}
 use Rattle.lam_session.proofs.EntryLemmas.{found_set}
 
 -- what is told of the document that was set is told of the one that is held
@@ -29,7 +29,7 @@ pub shown : {X : Type 0} (f : X → List ℕ) (o : Option X) (found : Option (Li
 shown f None found are there = absurd cc
 shown f (Some x) found are there = ap is_some (sym are)
 
-changed : (s : State) (uri : List ℕ) (found : Option (List ℕ)) (edits : List Edit) (version : Option ℤ) (sent : List Data) (next : State)
+pub changed : (s : State) (uri : List ℕ) (found : Option (List ℕ)) (edits : List Edit) (version : Option ℤ) (sent : List Data) (next : State)
     → is_some found ≡ true
     → ((text : List ℕ) → found ≡ Some text → next ≡ record s { documents = with_document (record { uri = uri; text = text_after s.encoding text edits; version = version }) s.documents })
     → ((text : List ℕ) → open_text uri next.documents ≡ Some text → Tells next.encoding next.dialect (record { uri = uri; text = text; version = version }) sent)
@@ -37,15 +37,6 @@ changed : (s : State) (uri : List ℕ) (found : Option (List ℕ)) (edits : List
 changed s uri None edits version sent next there becomes tells = absurd cc
 changed s uri (Some text) edits version sent next there becomes tells =
     told_of_set s next (record { uri = uri; text = text_after s.encoding text edits; version = version }) sent (becomes text refl) tells
-
-pub changes_found : (s : State) (params : Data) (uri : List ℕ) (edits : List Edit) (version : Option ℤ) (sent : List Data) (next : State)
-    → Some uri ≡ named_uri params → listed_changes params ≡ Some edits → version ≡ given_version params
-    → is_some (open_text uri s.documents) ≡ true
-    → ((text : List ℕ) → open_text uri s.documents ≡ Some text → next ≡ record s { documents = with_document (record { uri = uri; text = text_after s.encoding text edits; version = version }) s.documents })
-    → ((text : List ℕ) → open_text uri next.documents ≡ Some text → Tells next.encoding next.dialect (record { uri = uri; text = text; version = version }) sent)
-    → Changes s params sent next
-changes_found s params uri edits version sent next named listed given there becomes tells =
-    rw (← named, listed, ← given) (changed s uri (open_text uri s.documents) edits version sent next there becomes tells)
 
 pub some_text : (found : Option (List ℕ)) → is_some found ≡ true → (text : List ℕ) × found ≡ Some text
 some_text None there = absurd cc

@@ -32,9 +32,8 @@ number_more shown values more v xs i x inside shows pushed so_far =
     ∙ so_far
 
 -- where none is to come, the values so far are all
-pub all_shown : {A : Type 0} (shown : A → Data) (values : List Value) (xs : List A) (i : ℕ) → length xs ≤ i
-    → map view values ++ map shown (drop i xs) ≡ map shown xs → map view values ≡ map shown xs
-all_shown shown values xs i past so_far =
-    sym (append-nil (map view values))
-    ∙ ap (λ l. map view values ++ map shown l) (sym (drop_of_length-le xs past))
+pub all_shown : {A : Type 0} (shown : List A → List Data) (values : List Value) (xs : List A) (i : ℕ) → shown [] ≡ [] → length xs ≤ i
+    → map view values ++ shown (drop i xs) ≡ shown xs → map view values ≡ shown xs
+all_shown shown values xs i none past so_far =
+    sym (ap (λ l. map view values ++ l) (ap shown (drop_of_length-le xs past) ∙ none) ∙ append-nil (map view values))
     ∙ so_far

@@ -1,3 +1,4 @@
+pub mod Objects
 pub mod Methods
 pub mod Refusals
 pub mod Ranges
@@ -9,6 +10,7 @@ pub mod State
 pub mod Does
 pub mod Initialize
 pub mod Sync
+pub mod Told
 pub mod Questions
 pub mod Step
 pub mod OneAnswer

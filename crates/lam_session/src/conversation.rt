@@ -6,7 +6,8 @@ ghost use Rattle.lam_rpc.specs.Reply.{result_reply};
 ghost use Rattle.lam_session.specs.Documents.{open_text};
 ghost use Rattle.lam_session.specs.Refusals.{refused};
 ghost use Rattle.lam_session.specs.State.{fresh, ended_status};
-ghost use Rattle.lam_session.specs.Sync.{Tells, Opens, Changes, Closes};
+ghost use Rattle.lam_session.specs.Sync.{Tells, Opens, Changes, ChangesText, Closes};
+ghost use Rattle.lam_session.specs.Told.{IsTold};
 ghost use Rattle.lam_session.specs.Questions.{IsAnswerTo, Asks};
 ghost use Rattle.lam_session.specs.Step.{Steps, Requested, Awaits, Noticed, Heeds, Passes, Serves, Ends, Initializes, ShutsDown, exit_status};
 
@@ -20,7 +21,7 @@ use crate::states::Life;
 use crate::sync::{given_version, opened_text, published};
 use lam_rpc::{ChangesFault, Incoming, ok_reply, read_changes, read_position, read_uri};
 use lam_rules::Dialect;
-use lam_text::Encoding;
+use lam_text::{Change, Encoding};
 use serde_json::Value;
 use std::alloc::{AllocError, Global};
 use std::marker::Model;
@@ -31,6 +32,14 @@ pub struct Conversation {
     alloc: Global,
     life: Life,
     documents: Documents,
+}
+
+/// What a notice tells of a change of an open document.
+#[derive(Drop)]
+struct ToldChange {
+    uri: String,
+    changes: Vec<Change>,
+    version: Option<i64>,
 }
 
 impl Model for Conversation {
@@ -266,23 +275,52 @@ impl Conversation {
         ensures analysed { IfOk result (λ _. self.new.analysed ≡ true) }
         ensures life { OnErr result (self.new.state.life ≡ self.old.state.life) }
     {
-        let Ok(uri) = read_uri(&params) else {
-            return Ok(Vec::new(self.alloc));
-        };
-        if self.documents.document(uri).is_none() {
-            return Ok(Vec::new(self.alloc));
-        }
-        let changes = match read_changes(self.alloc, &params) {
-            Ok(changes) => changes,
-            Err(ChangesFault::BadParams) => return Ok(Vec::new(self.alloc)),
-            Err(ChangesFault::Memory) => return Err(AllocError),
-        };
-        let version = given_version(&params);
-        let uri = String::from_str(self.alloc, uri)?;
+        let told = self.told_change(&params)?;
         // Blocks of the message would else lie in the room that the old analysis leaves to the new one.
         drop(params);
-        self.documents.change(&uri, &changes, version)?;
-        self.tell(&uri, version)
+        match told {
+            Some(change) => self.apply(&change.uri, &change.changes, change.version),
+            None => Ok(Vec::new(self.alloc)),
+        }
+    }
+
+    /// The change that a notice tells; none where it is to be ignored.
+    fn told_change(&self, params: &Value) -> Result<Option<ToldChange>, AllocError>
+        ensures { IfOk result (IsTold self.now.state (view params.now)) }
+    {
+        let Ok(uri) = read_uri(params) else {
+            return Ok(None);
+        };
+        if self.documents.document(uri).is_none() {
+            return Ok(None);
+        }
+        let changes = match read_changes(self.alloc, params) {
+            Ok(changes) => changes,
+            Err(ChangesFault::BadParams) => return Ok(None),
+            Err(ChangesFault::Memory) => return Err(AllocError),
+        };
+        Ok(Some(ToldChange {
+            uri: String::from_str(self.alloc, uri)?,
+            changes,
+            version: given_version(params),
+        }))
+    }
+
+    /// Changes an open document, and tells its faults.
+    fn apply(
+        &mut self,
+        uri: &str,
+        changes: &[Change],
+        version: Option<i64>,
+    ) -> Result<Vec<Value>, AllocError>
+        requires open { IsSome (open_text uri.now self.old.state.documents) }
+        requires analysed { self.old.analysed ≡ true }
+        ensures steps { IfOk result (λ values. ChangesText self.old.state uri.now (open_text uri.now self.old.state.documents) changes.now version (map view values.items) self.new.state) }
+        ensures analysed { IfOk result (λ _. self.new.analysed ≡ true) }
+        ensures life { OnErr result (self.new.state.life ≡ self.old.state.life) }
+    {
+        self.documents.change(uri, changes, version)?;
+        self.tell(uri, version)
     }
 
     fn close_document(&mut self, params: &Value) -> Result<Vec<Value>, AllocError>

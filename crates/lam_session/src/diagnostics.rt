@@ -5,10 +5,11 @@ ghost use Rattle.lam_query.specs.Views.{fault_of};
 ghost use Rattle.lam_query.specs.Within.{StandsIn};
 ghost use Rattle.lam_session.specs.Diagnostics.{message_beside, message_of, diagnostic};
 
+use crate::objects::Object;
 use crate::ranges::range_value;
 use lam_query::answers::Fault;
 use lam_text::Doc;
-use serde_json::{Value, json};
+use serde_json::Value;
 use std::alloc::{AllocError, Global};
 
 /// What a person reads of each code.
@@ -48,14 +49,13 @@ fn diagnostic(alloc: Global, doc: &Doc, fault: &Fault) -> Result<Value, AllocErr
     requires { StandsIn doc.now.text fault.now.span }
     ensures { IfOk result (λ value. view value ≡ diagnostic doc.now.encoding doc.now.text (fault_of fault.now)) }
 {
-    let range = range_value(alloc, doc, fault.span)?;
-    json!(in alloc; {
-        "code": fault.code,
-        "message": message_of(fault.code),
-        "range": range,
-        "severity": 1u64,
-        "source": "fullsub",
-    })
+    Object::new(alloc)
+        .text("code", fault.code)
+        .text("message", message_of(fault.code))
+        .value("range", range_value(alloc, doc, fault.span))
+        .value("severity", Ok(Value::from(1u64)))
+        .text("source", "fullsub")
+        .finish()
 }
 
 fn message_of(code: &str) -> &'static str

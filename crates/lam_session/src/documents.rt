@@ -75,8 +75,8 @@ impl Documents {
         }) }
         ensures err { OnErr result (self.new ≡ self.old) }
     {
-        let document = Document::new(self.alloc, text, version, self.encoding, self.dialect)?;
         let uri = String::from_str(self.alloc, uri)?;
+        let document = Document::new(self.alloc, text, version, self.encoding, self.dialect)?;
         drop(self.by_uri.insert(uri, document)?);
         Ok(())
     }

@@ -1,10 +1,11 @@
 //! What `initialize` settles.
 ghost use Rattle.std.specs.Prelude.{◌≡◌, IfOk, option_map};
 ghost use Rattle.serde_json.specs.View.{view, items_view};
-ghost use Rattle.lam_session.specs.Initialize.{encoding_name, encoding_named, encoding_of, offered, first_known, chosen, initialize_answer};
+ghost use Rattle.lam_session.specs.Initialize.{encoding_name, encoding_named, encoding_of, offered, first_known, chosen, document_sync, capabilities, initialize_answer};
 
+use crate::objects::Object;
 use lam_text::Encoding;
-use serde_json::{Value, json};
+use serde_json::Value;
 use std::alloc::{AllocError, Global};
 
 /// The first encoding that the client offers and the server has, else UTF-16
@@ -72,9 +73,26 @@ fn encoding_name(encoding: Encoding) -> &'static str
 pub fn initialize_answer(alloc: Global, encoding: Encoding) -> Result<Value, AllocError>
     ensures { IfOk result (λ value. view value ≡ initialize_answer encoding) }
 {
-    json!(in alloc; {"capabilities": {
-        "hoverProvider": true,
-        "positionEncoding": encoding_name(encoding),
-        "textDocumentSync": {"change": 2u64, "openClose": true},
-    }})
+    Object::new(alloc)
+        .value("capabilities", capabilities(alloc, encoding))
+        .finish()
+}
+
+fn capabilities(alloc: Global, encoding: Encoding) -> Result<Value, AllocError>
+    ensures { IfOk result (λ value. view value ≡ capabilities encoding) }
+{
+    Object::new(alloc)
+        .value("hoverProvider", Ok(Value::from(true)))
+        .text("positionEncoding", encoding_name(encoding))
+        .value("textDocumentSync", document_sync(alloc))
+        .finish()
+}
+
+fn document_sync(alloc: Global) -> Result<Value, AllocError>
+    ensures { IfOk result (λ value. view value ≡ document_sync) }
+{
+    Object::new(alloc)
+        .value("change", Ok(Value::from(2u64)))
+        .value("openClose", Ok(Value::from(true)))
+        .finish()
 }

@@ -11,6 +11,7 @@ mod documents;
 mod initialize;
 mod laws;
 mod methods;
+mod objects;
 mod questions;
 mod ranges;
 mod refusals;

@@ -58,7 +58,6 @@ impl Session {
     ///
     /// What the answer is does not depend on memory: each message has one, and one alone, but for
     /// which derivation of a shown type is given.
-    #[tactic(auto, using(crate::proofs::OneAnswer::has_one_answer))]
     pub fn step(&mut self, incoming: Incoming) -> Result<Vec<Value>, AllocError>
         ensures answers { IfOk result (λ values. Answers self.old (message_of incoming) (map view values.items) self.new) }
         ensures gives_up { OnErr result (GivesUp self.old self.new) }

@@ -1,16 +1,23 @@
 //! Types and derivations as a client is told them (LSP 3.17, `Hover`).
-ghost use Rattle.std.specs.Prelude.{◌≡◌, Some, map, option_map, All, IfOk, IfSome};
-ghost use Rattle.serde_json.specs.View.{view};
+ghost use Rattle.std.specs.Prelude.{◌≡◌, ℕ, List, map, option_map, string_bytes, All, IfOk, IfSome};
+ghost use Rattle.serde_json.specs.Data.{string, array};
+ghost use Rattle.serde_json.specs.View.{view, items_of};
+ghost use Rattle.lam_rules.specs.TypeViews.{typ_of};
 ghost use Rattle.lam_rules.specs.TermViews.{written_of};
+ghost use Rattle.lam_rules.specs.Texts.{plain_text};
+ghost use Rattle.lam_text.specs.declared.units.Encoding.{Encoding};
 ghost use Rattle.lam_query.specs.Views.{shown_of, entry_of, step_of, derivation_of, StepStandsIn};
+ghost use Rattle.lam_query.specs.Steps.{typing, subtyping};
 ghost use Rattle.lam_query.specs.Within.{StandsIn};
-ghost use Rattle.lam_session.specs.Shown.{hover_value, type_value, entry_value, premises_value, step_value, derivation_value};
+ghost use Rattle.lam_session.specs.Shown.{plain_contents, hover_value, type_value, entry_value, premises_value, conclusion_value, step_value, derivation_value};
 
+use crate::objects::Object;
 use crate::ranges::range_value;
 use lam_query::answers::{Derivation, Hover, Step};
-use lam_rules::{Ty, plain_text_of};
+use lam_rules::{SubRule, Ty, TypeRule, plain_text_of};
 use lam_text::Doc;
-use serde_json::{Value, json};
+use lam_token::Span;
+use serde_json::Value;
 use std::alloc::{AllocError, Global};
 
 /// A type and its place; null where there is none.
@@ -21,11 +28,20 @@ pub fn hover_value(alloc: Global, doc: &Doc, shown: Option<Hover>) -> Result<Val
     let Some(hover) = shown else {
         return Ok(Value::Null);
     };
-    let range = range_value(alloc, doc, hover.span)?;
-    json!(in alloc; {
-        "contents": {"kind": "plaintext", "value": hover.text},
-        "range": range,
-    })
+    Object::new(alloc)
+        .value("contents", plain_contents(alloc, hover.text))
+        .value("range", range_value(alloc, doc, hover.span))
+        .finish()
+}
+
+/// A text that a client shows as it is (LSP 3.17, `MarkupKind`).
+fn plain_contents(alloc: Global, text: String) -> Result<Value, AllocError>
+    ensures { IfOk result (λ value. view value ≡ plain_contents (string_bytes text)) }
+{
+    Object::new(alloc)
+        .text("kind", "plaintext")
+        .value("value", Ok(Value::from(text)))
+        .finish()
 }
 
 /// A derivation; null where there is none.
@@ -40,46 +56,56 @@ pub fn derivation_value(
     let Some(derivation) = derived else {
         return Ok(Value::Null);
     };
-    let context = entry_values(alloc, &derivation.context)?;
-    let steps = step_values(alloc, doc, &derivation.steps)?;
-    json!(in alloc; {"context": context, "steps": steps})
+    Object::new(alloc)
+        .value("context", context_value(alloc, &derivation.context))
+        .value("steps", steps_value(alloc, doc, &derivation.steps))
+        .finish()
 }
 
-fn entry_values(alloc: Global, entries: &[(String, Option<Ty>)]) -> Result<Vec<Value>, AllocError>
-    ensures { IfOk result (λ values. map view values.items ≡ map entry_value (map entry_of entries.now)) }
+fn context_value(alloc: Global, entries: &[(String, Option<Ty>)]) -> Result<Value, AllocError>
+    ensures { IfOk result (λ value. view value ≡ array (items_of (map entry_value (map entry_of entries.now)))) }
 {
     let mut values = Vec::new(alloc);
     for entry in entries {
         values.push(entry_value(alloc, entry)?)?;
     }
-    Ok(values)
+    Ok(Value::Array(values))
 }
 
 fn entry_value(alloc: Global, entry: &(String, Option<Ty>)) -> Result<Value, AllocError>
     ensures { IfOk result (λ value. view value ≡ entry_value (entry_of entry.now)) }
 {
-    let ty = type_value(alloc, &entry.1)?;
-    json!(in alloc; {"name": entry.0.as_str(), "type": ty})
+    Object::new(alloc)
+        .text("name", entry.0.as_str())
+        .value("type", type_value(alloc, &entry.1))
+        .finish()
 }
 
 fn type_value(alloc: Global, ty: &Option<Ty>) -> Result<Value, AllocError>
     ensures { IfOk result (λ value. view value ≡ type_value (written_of ty.now)) }
 {
     match ty {
-        Some(ty) => Ok(Value::String(plain_text_of(alloc, ty)?)),
+        Some(ty) => text_value(alloc, ty),
         None => Ok(Value::Null),
     }
 }
 
-fn step_values(alloc: Global, doc: &Doc, steps: &[Step]) -> Result<Vec<Value>, AllocError>
+/// The text of a type, with the fields in their own order.
+fn text_value(alloc: Global, ty: &Ty) -> Result<Value, AllocError>
+    ensures { IfOk result (λ value. view value ≡ string (plain_text (typ_of ty.now))) }
+{
+    Ok(Value::String(plain_text_of(alloc, ty)?))
+}
+
+fn steps_value(alloc: Global, doc: &Doc, steps: &[Step]) -> Result<Value, AllocError>
     requires { All (StepStandsIn doc.now.text) steps.now }
-    ensures { IfOk result (λ values. map view values.items ≡ map (step_value doc.now.encoding doc.now.text) (map step_of steps.now)) }
+    ensures { IfOk result (λ value. view value ≡ array (items_of (map (step_value doc.now.encoding doc.now.text) (map step_of steps.now)))) }
 {
     let mut values = Vec::new(alloc);
     for step in steps {
         values.push(step_value(alloc, doc, step)?)?;
     }
-    Ok(values)
+    Ok(Value::Array(values))
 }
 
 fn step_value(alloc: Global, doc: &Doc, step: &Step) -> Result<Value, AllocError>
@@ -92,24 +118,51 @@ fn step_value(alloc: Global, doc: &Doc, step: &Step) -> Result<Value, AllocError
             span,
             ty,
             premises,
-        } => {
-            let from = premises_value(alloc, premises)?;
-            let range = range_value(alloc, doc, *span)?;
-            let ty = plain_text_of(alloc, ty)?;
-            json!(in alloc; {"from": from, "range": range, "rule": rule.name(), "type": ty})
-        }
+        } => typing_value(alloc, doc, *rule, *span, ty, premises),
         Step::Sub {
             rule,
             lower,
             upper,
             premises,
-        } => {
-            let from = premises_value(alloc, premises)?;
-            let lower = plain_text_of(alloc, lower)?;
-            let upper = plain_text_of(alloc, upper)?;
-            json!(in alloc; {"from": from, "lower": lower, "rule": rule.name(), "upper": upper})
-        }
+        } => subtyping_value(alloc, *rule, lower, upper, premises),
     }
+}
+
+fn typing_value(
+    alloc: Global,
+    doc: &Doc,
+    rule: TypeRule,
+    span: Span,
+    ty: &Ty,
+    premises: &[usize],
+) -> Result<Value, AllocError>
+    requires { StandsIn doc.now.text span }
+    ensures { IfOk result (λ value. view value ≡ conclusion_value doc.now.encoding doc.now.text premises.now (typing rule span (typ_of ty.now))) }
+{
+    Object::new(alloc)
+        .value("from", premises_value(alloc, premises))
+        .value("range", range_value(alloc, doc, span))
+        .text("rule", rule.name())
+        .value("type", text_value(alloc, ty))
+        .finish()
+}
+
+fn subtyping_value(
+    alloc: Global,
+    rule: SubRule,
+    lower: &Ty,
+    upper: &Ty,
+    premises: &[usize],
+) -> Result<Value, AllocError>
+    ensures { (encoding : Encoding) (text : List ℕ)
+        → IfOk result (λ value. view value ≡ conclusion_value encoding text premises.now (subtyping rule (typ_of lower.now) (typ_of upper.now))) }
+{
+    Object::new(alloc)
+        .value("from", premises_value(alloc, premises))
+        .value("lower", text_value(alloc, lower))
+        .text("rule", rule.name())
+        .value("upper", text_value(alloc, upper))
+        .finish()
 }
 
 fn premises_value(alloc: Global, premises: &[usize]) -> Result<Value, AllocError>

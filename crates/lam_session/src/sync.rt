@@ -1,10 +1,12 @@
 //! What the notices about documents hold and what follows them.
-ghost use Rattle.std.specs.Prelude.{◌≡◌, ◌∷◌, [], map, IfOk, option_map};
+ghost use Rattle.std.specs.Prelude.{◌≡◌, ◌∷◌, [], map, codes, IfOk, option_map};
+ghost use Rattle.serde_json.specs.Data.{string, array, object, member};
 ghost use Rattle.serde_json.specs.View.{view, items_view};
-ghost use Rattle.lam_session.specs.Sync.{opened_text, given_version, published};
+ghost use Rattle.lam_session.specs.Sync.{opened_text, given_version, version_member, published};
 
+use crate::objects::Object;
 use lam_rpc::notice;
-use serde_json::{Value, json};
+use serde_json::Value;
 use std::alloc::{AllocError, Global};
 
 /// The text that a client opens a document with (LSP 3.17, `TextDocumentItem`).
@@ -30,12 +32,25 @@ pub fn published(
 ) -> Result<Vec<Value>, AllocError>
     ensures { IfOk result (λ values. map view values.items ≡ published uri.now version (items_view diagnostics.items) ∷ []) }
 {
-    let params = match version {
-        Some(version) => {
-            json!(in alloc; {"diagnostics": diagnostics, "uri": uri, "version": version})?
-        }
-        None => json!(in alloc; {"diagnostics": diagnostics, "uri": uri})?,
-    };
+    let params = published_params(alloc, uri, version, diagnostics)?;
     let value = notice(alloc, "textDocument/publishDiagnostics", params)?;
     Ok(vec![in alloc; value]?)
+}
+
+fn published_params(
+    alloc: Global,
+    uri: &str,
+    version: Option<i64>,
+    diagnostics: Vec<Value>,
+) -> Result<Value, AllocError>
+    ensures { IfOk result (λ value. view value
+        ≡ object (member (codes "diagnostics") (array (items_view diagnostics.items)) (member (codes "uri") (string uri.now) (version_member version)))) }
+{
+    let params = Object::new(alloc)
+        .value("diagnostics", Ok(Value::from(diagnostics)))
+        .text("uri", uri);
+    match version {
+        Some(version) => params.value("version", Ok(Value::from(version))).finish(),
+        None => params.finish(),
+    }
 }

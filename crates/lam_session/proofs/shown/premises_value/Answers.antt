@@ -1,4 +1,4 @@
-use Rattle.std.proofs.Common.{ap, ◌∙◌}
+use Rattle.std.proofs.Common.{map, refl, ap, ◌∙◌}
 use Rattle.serde_json.specs.Data.{array, number, unsigned}
 use Rattle.serde_json.specs.View.{items_of}
 use Rattle.serde_json.proofs.Views.{view-Array}
@@ -12,4 +12,4 @@ loop-number-preserved c =
 pub returns : goal.returns
 returns c =
     view-Array c.loop-number.values
-    ∙ ap (λ l. array (items_of l)) (all_shown (λ n. number (unsigned n)) c.loop-number.values.items c.args.premises.now c.loop-number.number-index c.loop-number-test.false c.loop-number.invariant)
+    ∙ ap (λ l. array (items_of l)) (all_shown (map (λ n. number (unsigned n))) c.loop-number.values.items c.args.premises.now c.loop-number.number-index refl c.loop-number-test.false c.loop-number.invariant)

@@ -2,7 +2,7 @@ use Rattle.std.proofs.Common.{◌≡◌, ◌++◌, drop, map}
 use Rattle.serde_json.specs.View.{view}
 use Rattle.lam_query.specs.Views.{step_of}
 use Rattle.lam_session.specs.Shown.{step_value}
-use Rattle.lam_session.proofs.shown.step_values.Given as goal
+use Rattle.lam_session.proofs.shown.steps_value.Given as goal
 
 -- the values so far, and those of the steps to come, are all
 abbrev pub invariant-loop-step : goal.invariant-loop-step

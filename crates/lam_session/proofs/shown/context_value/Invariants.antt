@@ -2,7 +2,7 @@ use Rattle.std.proofs.Common.{◌≡◌, ◌++◌, drop, map}
 use Rattle.serde_json.specs.View.{view}
 use Rattle.lam_query.specs.Views.{entry_of}
 use Rattle.lam_session.specs.Shown.{entry_value}
-use Rattle.lam_session.proofs.shown.entry_values.Given as goal
+use Rattle.lam_session.proofs.shown.context_value.Given as goal
 
 -- the values so far, and those of the entries to come, are all
 abbrev pub invariant-loop-entry : goal.invariant-loop-entry

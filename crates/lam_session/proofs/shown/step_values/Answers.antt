@@ -1,9 +1,0 @@
-use Rattle.std.proofs.Common.{ap, ◌∙◌}
-use Rattle.lam_query.specs.Views.{step_of}
-use Rattle.lam_session.specs.Shown.{step_value}
-use Rattle.lam_session.proofs.Values.{value_more}
-use Rattle.lam_session.proofs.shown.step_values.Goals as goal
-
-pub loop-step-preserved : goal.loop-step-preserved
-loop-step-preserved c =
-    value_more step_of (step_value c.args.doc.now.encoding c.args.doc.now.text) c.loop-step.values.items _ c.in_ok-step_value.field-0 c.args.steps.now c.loop-step.step-index c.step-item.result c.loop-step-test.true (c.in_ok-step_value.ensures ∙ ap (λ x. step_value c.args.doc.now.encoding c.args.doc.now.text (step_of x)) c.step-item.is) c.in_ok-push.ensures.items c.loop-step.invariant
