@@ -1,14 +1,15 @@
 //! Documents of many commands, to bind, to resolve, to analyse and to find places in.
 
 use crate::fault::BenchFault;
+use crate::watch::Watch;
 use lam_rules::Dialect;
 use lam_scope::{Place, Resolved, Scopes, bind, resolve};
 use lam_syntax::{Command, parse, pieces};
 use lam_token::lex;
-use lam_typing::{TypingFault, analyse};
+use lam_typing::{Typing, TypingFault, analyse};
 use std::alloc::{AllocError, Global};
 use std::rt::Clock;
-use std::time::{Duration, Instant};
+use std::time::Duration;
 
 /// What the commands of a document use.
 #[derive(Clone, Copy)]
@@ -73,7 +74,9 @@ fn commands_of(alloc: Global, text: &str) -> Result<Vec<Command>, BenchFault> {
         let Ok(command) = parse(alloc, piece) else {
             return Err(BenchFault::Answer);
         };
-        commands.push(command)?;
+        let Ok(()) = commands.push(command) else {
+            return Err(BenchFault::Memory);
+        };
     }
     Ok(commands)
 }
@@ -92,52 +95,80 @@ pub enum Stage {
 /// How long a stage takes of a document of so many commands.
 pub fn staging(
     alloc: Global,
-    rt: &impl Clock,
+    clock: &impl Clock,
     stage: Stage,
     uses: Uses,
     size: usize,
-) -> Result<u128, BenchFault> {
+) -> Result<Duration, BenchFault> {
     let text = document(alloc, uses, size)?;
     let commands = commands_of(alloc, text.as_str())?;
-    let start = Instant::now(rt)?;
-    let scopes = bind(alloc, &commands)?;
-    let bound = Instant::now(rt)?;
-    let Ok(resolved) = resolve(alloc, &commands, &scopes) else {
-        return Err(BenchFault::Answer);
-    };
-    let formed = Instant::now(rt)?;
-    let taken = match stage {
-        Stage::Bind => bound.duration_since(start),
-        Stage::Resolve => formed.duration_since(bound),
-        Stage::Analyse => analysing(alloc, rt, &resolved)?,
-        Stage::Places => finding(rt, &scopes, text.len())?,
-    };
-    Ok(taken.as_micros())
+    match stage {
+        Stage::Bind => binding(alloc, clock, &commands),
+        Stage::Resolve => resolving(alloc, clock, &commands),
+        Stage::Analyse => analysing(alloc, clock, &commands),
+        Stage::Places => finding(alloc, clock, &commands, text.len()),
+    }
 }
 
-fn analysing(alloc: Global, rt: &impl Clock, resolved: &Resolved) -> Result<Duration, BenchFault> {
-    let start = Instant::now(rt)?;
-    let analysed = analyse(alloc, resolved, Dialect::One);
-    let taken = start.elapsed(rt)?;
-    let expected = match &analysed {
+fn binding(
+    alloc: Global,
+    clock: &impl Clock,
+    commands: &[Command],
+) -> Result<Duration, BenchFault> {
+    let watch = Watch::start(clock);
+    let bound = bind(alloc, commands);
+    watch.stop(clock, bound.is_ok())
+}
+
+fn resolving(
+    alloc: Global,
+    clock: &impl Clock,
+    commands: &[Command],
+) -> Result<Duration, BenchFault> {
+    let scopes = bind(alloc, commands)?;
+    let watch = Watch::start(clock);
+    let resolved = resolve(alloc, commands, &scopes);
+    watch.stop(clock, resolved.is_ok())
+}
+
+fn resolved(alloc: Global, commands: &[Command]) -> Result<Resolved, BenchFault> {
+    let scopes = bind(alloc, commands)?;
+    let Ok(resolved) = resolve(alloc, commands, &scopes) else {
+        return Err(BenchFault::Answer);
+    };
+    Ok(resolved)
+}
+
+fn analysing(
+    alloc: Global,
+    clock: &impl Clock,
+    commands: &[Command],
+) -> Result<Duration, BenchFault> {
+    let resolved = resolved(alloc, commands)?;
+    let watch = Watch::start(clock);
+    let analysed = analyse(alloc, &resolved, Dialect::One);
+    watch.stop(clock, is_analysed(&analysed))
+}
+
+/// Whether all places have types, or just that one has too large a type which must.
+fn is_analysed(analysed: &Result<Typing, TypingFault>) -> bool {
+    match analysed {
         Ok(typing) => typing.blamed().is_empty(),
         Err(TypingFault::TooLarge(place)) => *place == FIRST_LARGE,
         Err(TypingFault::Memory) => false,
-    };
-    if !expected {
-        return Err(BenchFault::Answer);
     }
-    Ok(taken)
 }
 
-fn finding(rt: &impl Clock, scopes: &Scopes, length: usize) -> Result<Duration, BenchFault> {
-    let start = Instant::now(rt)?;
-    let found = places_found(scopes, length);
-    let taken = start.elapsed(rt)?;
-    if found == 0 {
-        return Err(BenchFault::Answer);
-    }
-    Ok(taken)
+fn finding(
+    alloc: Global,
+    clock: &impl Clock,
+    commands: &[Command],
+    length: usize,
+) -> Result<Duration, BenchFault> {
+    let scopes = bind(alloc, commands)?;
+    let watch = Watch::start(clock);
+    let found = places_found(&scopes, length);
+    watch.stop(clock, found > 0)
 }
 
 /// At how many of the bytes there is a place.

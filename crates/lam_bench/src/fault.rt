@@ -3,18 +3,33 @@
 use lam_frame::FrameFault;
 use std::alloc::AllocError;
 use std::io;
-use thiserror::Error;
 
-#[derive(Debug, Drop, Error)]
+#[derive(Clone, Copy, Debug)]
 pub enum BenchFault {
-    #[error("lam_bench MEASURE SIZE")]
+    /// The words name no measure, or no size.
     Words,
-    #[error("the measure gave another answer than it must")]
+    /// The measure gave another answer than it must.
     Answer,
-    #[error(transparent)]
-    Memory(#[from(alloc)] AllocError),
-    #[error(transparent)]
-    Frame(#[from] FrameFault),
-    #[error(transparent)]
-    Io(#[from] io::Error),
+    Memory,
+    Frame,
+    /// The words, the clock or standard error failed.
+    Io,
+}
+
+impl From<AllocError> for BenchFault {
+    fn from(_fault: AllocError) -> BenchFault {
+        BenchFault::Memory
+    }
+}
+
+impl From<FrameFault> for BenchFault {
+    fn from(_fault: FrameFault) -> BenchFault {
+        BenchFault::Frame
+    }
+}
+
+impl From<io::Error> for BenchFault {
+    fn from(_fault: io::Error) -> BenchFault {
+        BenchFault::Io
+    }
 }

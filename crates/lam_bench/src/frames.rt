@@ -1,10 +1,11 @@
 //! Frames to read, and a source of pieces.
 
 use crate::fault::BenchFault;
+use crate::watch::Watch;
 use lam_frame::{BytesOut, DeviceFault, FrameReader, Source, write_frame};
 use std::alloc::Global;
 use std::rt::Clock;
-use std::time::Instant;
+use std::time::Duration;
 
 /// Gives at most `step` bytes a pull.
 #[derive(Drop)]
@@ -31,11 +32,17 @@ impl Source for Pieces<'_> {
     }
 }
 
-/// So many frames with bodies of `size` bytes.
-fn frames(alloc: Global, size: usize, count: usize) -> Result<Vec<u8>, BenchFault> {
+/// A frame with a body of `size` bytes.
+fn frame(alloc: Global, size: usize) -> Result<BytesOut, BenchFault> {
     let body = vec![in alloc; b'.'; size]?;
     let mut frame = BytesOut::new(alloc);
     write_frame(&mut frame, &body)?;
+    Ok(frame)
+}
+
+/// So many frames with bodies of `size` bytes.
+fn frames(alloc: Global, size: usize, count: usize) -> Result<Vec<u8>, BenchFault> {
+    let frame = frame(alloc, size)?;
     let mut input = Vec::new(alloc);
     for _ in 0..count {
         input.extend_from_slice(frame.bytes())?;
@@ -46,15 +53,15 @@ fn frames(alloc: Global, size: usize, count: usize) -> Result<Vec<u8>, BenchFaul
 /// How long it takes to read so many bodies of `size` bytes, pulled in pieces of `step` bytes.
 pub fn reading(
     alloc: Global,
-    rt: &impl Clock,
+    clock: &impl Clock,
     size: usize,
     count: usize,
     step: usize,
-) -> Result<u128, BenchFault> {
+) -> Result<Duration, BenchFault> {
     let input = frames(alloc, size, count)?;
-    let start = Instant::now(rt)?;
+    let watch = Watch::start(clock);
     read_all(alloc, &input, step, count)?;
-    Ok(start.elapsed(rt)?.as_micros())
+    watch.stop(clock, true)
 }
 
 /// Reads this many bodies and then the clean end.
@@ -62,12 +69,20 @@ fn read_all(alloc: Global, input: &[u8], step: usize, count: usize) -> Result<()
     let mut source = Pieces { rest: input, step };
     let mut reader = FrameReader::new(alloc)?;
     for _ in 0..count {
-        if reader.next(&mut source)?.is_none() {
-            return Err(BenchFault::Answer);
-        }
+        read_one(&mut reader, &mut source, true)?;
     }
-    if reader.next(&mut source)?.is_some() {
-        return Err(BenchFault::Answer);
+    read_one(&mut reader, &mut source, false)
+}
+
+/// Reads a body where one is due, and else the clean end.
+fn read_one(
+    reader: &mut FrameReader,
+    source: &mut Pieces<'_>,
+    is_due: bool,
+) -> Result<(), BenchFault> {
+    if reader.next(source)?.is_some() == is_due {
+        Ok(())
+    } else {
+        Err(BenchFault::Answer)
     }
-    Ok(())
 }

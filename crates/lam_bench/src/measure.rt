@@ -7,6 +7,7 @@ use crate::texts::{ASCII, UMLAUTS, Work, working};
 use crate::types::{adding, bounding};
 use std::alloc::Global;
 use std::rt::Clock;
+use std::time::Duration;
 
 /// At this length a source gives all that there is in one pull.
 const WHOLE: usize = usize::MAX;
@@ -85,15 +86,20 @@ pub fn measure_named(name: &str) -> Option<Measure> {
 }
 
 impl Measure {
-    /// How many microseconds it takes at this size.
-    pub fn take(self, alloc: Global, rt: &impl Clock, size: usize) -> Result<u128, BenchFault> {
+    /// How long it takes at this size.
+    pub fn take(
+        self,
+        alloc: Global,
+        clock: &impl Clock,
+        size: usize,
+    ) -> Result<Duration, BenchFault> {
         match self {
-            Measure::OneFrame(step) => reading(alloc, rt, size, 1, step),
-            Measure::SmallFrames => reading(alloc, rt, SMALL_BODY, size, WHOLE),
-            Measure::Text(work, line) => working(alloc, rt, work, line, size),
-            Measure::AddType => adding(alloc, rt, size),
-            Measure::Bounds => bounding(alloc, rt, size),
-            Measure::Document(stage, uses) => staging(alloc, rt, stage, uses, size),
+            Measure::OneFrame(step) => reading(alloc, clock, size, 1, step),
+            Measure::SmallFrames => reading(alloc, clock, SMALL_BODY, size, WHOLE),
+            Measure::Text(work, line) => working(alloc, clock, work, line, size),
+            Measure::AddType => adding(alloc, clock, size),
+            Measure::Bounds => bounding(alloc, clock, size),
+            Measure::Document(stage, uses) => staging(alloc, clock, stage, uses, size),
         }
     }
 }

@@ -1,10 +1,11 @@
 //! Texts to open, to edit and to count in, in UTF-16.
 
 use crate::fault::BenchFault;
+use crate::watch::Watch;
 use lam_text::{Change, Doc, Encoding, Position, Range};
 use std::alloc::{AllocError, Global};
 use std::rt::Clock;
-use std::time::Instant;
+use std::time::Duration;
 
 const LINE_BYTES: usize = 64;
 
@@ -35,28 +36,47 @@ pub enum Work {
 /// How long a work takes in a text of such lines, of so many bytes at the most.
 pub fn working(
     alloc: Global,
-    rt: &impl Clock,
+    clock: &impl Clock,
     work: Work,
     line: &str,
     size: usize,
-) -> Result<u128, BenchFault> {
+) -> Result<Duration, BenchFault> {
     let count = size / LINE_BYTES;
     let text = repeated(alloc, line, count)?;
-    let start = Instant::now(rt)?;
-    let mut doc = Doc::new(alloc, text.as_str(), Encoding::Utf16)?;
-    let opened = Instant::now(rt)?;
-    let lines = count as u64;
-    let expected = match work {
-        Work::Open => return Ok(opened.duration_since(start).as_micros()),
-        Work::Edit => type_a_letter(alloc, &mut doc, lines / 2)?,
-        Work::Offsets => offsets_fit(&doc, lines),
-        Work::Positions => positions_return(&doc, lines),
-    };
-    let taken = opened.elapsed(rt)?.as_micros();
-    if !expected {
-        return Err(BenchFault::Answer);
+    match work {
+        Work::Open => opening(alloc, clock, text.as_str()),
+        _ => using(alloc, clock, work, text.as_str(), count as u64),
     }
-    Ok(taken)
+}
+
+fn opening(alloc: Global, clock: &impl Clock, text: &str) -> Result<Duration, BenchFault> {
+    let watch = Watch::start(clock);
+    let doc = Doc::new(alloc, text, Encoding::Utf16)?;
+    watch.stop(clock, doc.text().len() == text.len())
+}
+
+/// How long a work takes in an open text of so many lines.
+fn using(
+    alloc: Global,
+    clock: &impl Clock,
+    work: Work,
+    text: &str,
+    lines: u64,
+) -> Result<Duration, BenchFault> {
+    let mut doc = Doc::new(alloc, text, Encoding::Utf16)?;
+    let watch = Watch::start(clock);
+    let answered = works(alloc, &mut doc, work, lines)?;
+    watch.stop(clock, answered)
+}
+
+/// Works in a text of so many lines. Whether the answers are what they must be.
+fn works(alloc: Global, doc: &mut Doc, work: Work, lines: u64) -> Result<bool, AllocError> {
+    match work {
+        Work::Open => Ok(true),
+        Work::Edit => type_a_letter(alloc, doc, lines / 2),
+        Work::Offsets => Ok(offsets_fit(doc, lines)),
+        Work::Positions => Ok(positions_return(doc, lines)),
+    }
 }
 
 fn repeated(alloc: Global, line: &str, count: usize) -> Result<String, AllocError> {

@@ -1,45 +1,36 @@
 //! Types in a table: adding one, and the bounds of two that are doubled.
 
 ghost use Rattle.std.specs.Prelude.{IfOk};
-ghost use Rattle.lam_rules.specs.Types.{IsWellFormed};
-ghost use Rattle.lam_rules.specs.TypeViews.{typ_of};
 ghost use Rattle.lam_rules.specs.Numbers.{Stands, Keeps, AllStand, AreGivenApart};
 
 use crate::fault::BenchFault;
+use crate::watch::Watch;
 use lam_lattice::{join_no, meet_no};
 use lam_rules::{Dialect, Shape, Ty, TyNo, TyTable, make_record, wf};
-use lam_sub::{Verdicts, is_sub_no};
+use lam_sub::Verdicts;
 use std::alloc::{AllocError, Global};
 use std::rt::Clock;
-use std::time::Instant;
+use std::time::Duration;
 
 /// The record type of Nat at `l0`, `l1` and so on.
-fn wide_record(alloc: Global, size: usize) -> Result<Ty, BenchFault>
-    ensures { IfOk result (λ ty. IsWellFormed (typ_of ty)) }
-{
+fn wide_record(alloc: Global, size: usize) -> Result<Ty, AllocError> {
     let mut fields = Vec::new(alloc);
     for number in 0..size {
         fields.push((format!(in alloc; "l{number}")?, Ty::Nat))?;
     }
-    let record = make_record(fields);
-    if wf(&record) {
-        Ok(record)
-    } else {
-        Err(BenchFault::Answer)
-    }
+    Ok(make_record(fields))
 }
 
 /// How long it takes to add a record type of `size` fields to an empty table.
-pub fn adding(alloc: Global, rt: &impl Clock, size: usize) -> Result<u128, BenchFault> {
+pub fn adding(alloc: Global, clock: &impl Clock, size: usize) -> Result<Duration, BenchFault> {
     let record = wide_record(alloc, size)?;
-    let mut table = TyTable::new(alloc);
-    let start = Instant::now(rt)?;
-    let number = table.add(&record)?;
-    let taken = start.elapsed(rt)?.as_micros();
-    if table.size(number) > 4_097 {
+    if !wf(&record) {
         return Err(BenchFault::Answer);
     }
-    Ok(taken)
+    let mut table = TyTable::new(alloc);
+    let watch = Watch::start(clock);
+    table.add(&record)?;
+    watch.stop(clock, true)
 }
 
 /// The record of these labels, and then `steps` times `{a:t, b:t}` of what it was.
@@ -57,25 +48,40 @@ fn doubled(table: &mut TyTable, labels: &[(&str, TyNo)], steps: usize) -> Result
     Ok(number)
 }
 
-/// How long it takes to join and to meet two types that were doubled `size` times, neither of which
-/// is below the other.
+/// Two types that were doubled `size` times, neither of which is below the other.
 #[tactic(auto, using(lam_rules::proofs::Tables::numbers))]
-pub fn bounding(alloc: Global, rt: &impl Clock, size: usize) -> Result<u128, BenchFault> {
-    let mut table = TyTable::new(alloc);
+fn doubled_pair(table: &mut TyTable, size: usize) -> Result<(TyNo, TyNo), AllocError>
+    ensures keeps { Keeps table.old table.new }
+    ensures stand { IfOk result (λ pair. Stands table.new pair.0 × Stands table.new pair.1) }
+{
     let nat = table.intern(Shape::Nat)?;
-    let left = doubled(&mut table, &[("a", nat)], size)?;
-    let right = doubled(&mut table, &[("b", nat)], size)?;
+    let left = doubled(table, &[("a", nat)], size)?;
+    let right = doubled(table, &[("b", nat)], size)?;
+    Ok((left, right))
+}
+
+/// Joins and meets two types of a table. Whether there is a type below both.
+#[tactic(auto, using(lam_rules::proofs::Tables::numbers))]
+fn join_and_meet(
+    alloc: Global,
+    table: &mut TyTable,
+    left: TyNo,
+    right: TyNo,
+) -> Result<bool, AllocError>
+    requires left { Stands table.old left }
+    requires right { Stands table.old right }
+{
     let mut verdicts = Verdicts::new(alloc, Dialect::One);
-    let start = Instant::now(rt)?;
-    let joined = join_no(&mut table, &mut verdicts, left, right)?;
-    let met = meet_no(&mut table, &mut verdicts, left, right)?;
-    let taken = start.elapsed(rt)?.as_micros();
-    let Some(lower) = met else {
-        return Err(BenchFault::Answer);
-    };
-    if is_sub_no(&table, &mut verdicts, lower, joined)? {
-        Ok(taken)
-    } else {
-        Err(BenchFault::Answer)
-    }
+    join_no(table, &mut verdicts, left, right)?;
+    let lower = meet_no(table, &mut verdicts, left, right)?;
+    Ok(lower.is_some())
+}
+
+/// How long it takes to join and to meet two types that were doubled `size` times.
+pub fn bounding(alloc: Global, clock: &impl Clock, size: usize) -> Result<Duration, BenchFault> {
+    let mut table = TyTable::new(alloc);
+    let (left, right) = doubled_pair(&mut table, size)?;
+    let watch = Watch::start(clock);
+    let has_lower = join_and_meet(alloc, &mut table, left, right)?;
+    watch.stop(clock, has_lower)
 }
