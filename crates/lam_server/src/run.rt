@@ -15,7 +15,6 @@ use std::alloc::Global;
 ///
 /// What is answered depends on the bytes alone: every input has one output that is allowed for it,
 /// and what begins the output for some bytes begins it for any more of them.
-#[tactic(auto, using(crate::proofs::OneOutput::has_one_output, crate::proofs::Growing::output_grows))]
 pub fn run<R: Source, W: Sink>(
     alloc: Global,
     reader: &mut R,

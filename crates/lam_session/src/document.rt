@@ -79,9 +79,17 @@ impl Document {
     {
         self.analysis = None;
         self.doc.apply(changes)?;
+        self.version = version;
+        self.analyse(alloc)
+    }
+
+    fn analyse(&mut self, alloc: Global) -> Result<(), AllocError>
+        ensures analysed { OnOk result (self.new ≡ record self.old { analysed = true }) }
+        ensures encoding { self.new.encoding ≡ self.old.encoding }
+        ensures dialect { self.new.dialect ≡ self.old.dialect }
+    {
         let analysis = Analysis::new(alloc, self.doc.text(), self.dialect)?;
         self.analysis = Some(analysis);
-        self.version = version;
         Ok(())
     }
 

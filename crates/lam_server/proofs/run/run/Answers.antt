@@ -1,5 +1,7 @@
 use Rattle.std.proofs.Common.{refl}
 use Rattle.lam_session.specs.State.{fresh, dialect_of}
+use Rattle.lam_server.proofs.Growing.{output_grows}
+use Rattle.lam_server.proofs.OneOutput.{has_one_output}
 use Rattle.lam_server.proofs.Telling.{run_told}
 use Rattle.lam_server.proofs.Walking.{no_run, no_walk, walk_on, walk_to_end, walk_to_fault}
 use Rattle.lam_server.proofs.run.run.Goals as goal
@@ -40,3 +42,21 @@ pub returns-in-Err-clause-told : goal.returns-in-Err-clause-told
 returns-in-Err-clause-told g c =
     run_told g.R.Source.coming g.R.Source.failed g.R.Source.gave g.W.Sink.taken g.W.Sink.flushed g.W.Sink.failed (fresh (dialect_of c.args.config)) _ _ _ _ _
     (walk_to_fault g.R.Source.coming g.R.Source.failed g.R.Source.gave g.W.Sink.taken g.W.Sink.flushed g.W.Sink.failed (fresh (dialect_of c.args.config)) _ _ _ _ _ c.loop-turn.invariant c.in-Err.fault _ _ c.in-Err.ensures.takes)
+
+pub returns-in_default-clause-one_output : goal.returns-in_default-clause-one_output
+returns-in_default-clause-one_output g c = has_one_output (fresh (dialect_of c.args.config))
+
+pub returns-in_default-clause-grows : goal.returns-in_default-clause-grows
+returns-in_default-clause-grows g c = output_grows (fresh (dialect_of c.args.config))
+
+pub returns-in-End-clause-one_output : goal.returns-in-End-clause-one_output
+returns-in-End-clause-one_output g c = has_one_output (fresh (dialect_of c.args.config))
+
+pub returns-in-End-clause-grows : goal.returns-in-End-clause-grows
+returns-in-End-clause-grows g c = output_grows (fresh (dialect_of c.args.config))
+
+pub returns-in-Err-clause-one_output : goal.returns-in-Err-clause-one_output
+returns-in-Err-clause-one_output g c = has_one_output (fresh (dialect_of c.args.config))
+
+pub returns-in-Err-clause-grows : goal.returns-in-Err-clause-grows
+returns-in-Err-clause-grows g c = output_grows (fresh (dialect_of c.args.config))
