@@ -55,11 +55,3 @@ arrows_no_meet s1 s2 t1 t2 d none = λ u a b.
     none is.1 is.4 (arrow_inside is.0 is.1 t1 t2 d (subst (λ v. IsBelow v (arrow t1 t2) d) is.2 b)).1
 
 -- the parts of a type that is told to be an arrow
-
-pub arrow_wf : (t a b : Ty) (x y : Box Ty Global) → t ≡ Arrow x y → a ≡ x.value → b ≡ y.value → IsWellFormed (typ_of t) → IsWellFormed (typ_of a) × IsWellFormed (typ_of b)
-arrow_wf t a b x y is is_a is_b wf =
-    let parts = subst (λ u. IsWellFormed u) (ap typ_of is ∙ typ_of-Arrow x y) wf in
-    (subst (λ u. IsWellFormed (typ_of u)) (sym is_a) parts.0, subst (λ u. IsWellFormed (typ_of u)) (sym is_b) parts.1)
-
-pub arrow_seen : (t a b : Ty) (x y : Box Ty Global) → t ≡ Arrow x y → a ≡ x.value → b ≡ y.value → arrow (typ_of a) (typ_of b) ≡ typ_of t
-arrow_seen t a b x y is is_a is_b = rw (is_a, is_b) (sym (ap typ_of is ∙ typ_of-Arrow x y))

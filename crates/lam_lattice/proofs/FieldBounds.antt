@@ -170,35 +170,6 @@ records_no_meet d fs gs l s t has there none = λ u a b.
 
 -- fields made one after the other: what is made, with what will be made of the rest, is made of the whole
 
-pub join_more : (IsMade : Typ → Typ → Typ → Type 0) (gs whole : Fields) (left : List (String Global × Ty)) (i : ℕ) (f : String Global × Ty) (made more : List (String Global × Ty)) (c : String Global × Ty) (t : Typ)
-    → i < length left → f ≡ get_or left i f → more ≡ made ++ c ∷ [] → string_bytes c.0 ≡ string_bytes f.0
-    → Has (string_bytes f.0) t gs → IsMade (typ_of f.1) t (typ_of c.1)
-    → ((rest : Fields) → AreJoined IsMade gs (fields_of (drop i left)) rest → AreJoined IsMade gs whole (joined (fields_of made) rest))
-    → (rest : Fields) → AreJoined IsMade gs (fields_of (drop (i + 1) left)) rest → AreJoined IsMade gs whole (joined (fields_of more) rest)
-join_more IsMade gs whole left i f made more c t lt is pushed same_label there join so_far rest are =
-    rw (pushed, joined-push made c rest, same_label)
-    (so_far (field (string_bytes f.0) (typ_of c.1) rest) (rw (fields_of-drop left i f lt is) (joined_both (string_bytes f.0) (typ_of f.1) t (typ_of c.1) there join are)))
-
-pub join_fewer : (IsMade : Typ → Typ → Typ → Type 0) (gs whole : Fields) (left : List (String Global × Ty)) (i : ℕ) (f : String Global × Ty) (made : Fields)
-    → i < length left → f ≡ get_or left i f → IsAbsent (string_bytes f.0) gs
-    → ((rest : Fields) → AreJoined IsMade gs (fields_of (drop i left)) rest → AreJoined IsMade gs whole (joined made rest))
-    → (rest : Fields) → AreJoined IsMade gs (fields_of (drop (i + 1) left)) rest → AreJoined IsMade gs whole (joined made rest)
-join_fewer IsMade gs whole left i f made lt is absent so_far rest are =
-    so_far rest (rw (fields_of-drop left i f lt is) (joined_left_out (string_bytes f.0) (typ_of f.1) absent are))
-
-pub join_all : (IsMade : Typ → Typ → Typ → Type 0) (gs whole : Fields) (left : List (String Global × Ty)) (i : ℕ) (made : Fields) → length left ≤ i
-    → ((rest : Fields) → AreJoined IsMade gs (fields_of (drop i left)) rest → AreJoined IsMade gs whole (joined made rest)) → AreJoined IsMade gs whole made
-join_all IsMade gs whole left i made le so_far = rw joined-none at (so_far no_fields (rw (drop_all i left le) joined_none))
-
-pub meet_more : (IsMade : Typ → Typ → Typ → Type 0) (gs whole : Fields) (left : List (String Global × Ty)) (i : ℕ) (f : String Global × Ty) (made more : List (String Global × Ty)) (c : String Global × Ty) (t : Typ)
-    → i < length left → f ≡ get_or left i f → more ≡ made ++ c ∷ [] → string_bytes c.0 ≡ string_bytes f.0
-    → Has (string_bytes f.0) t gs → IsMade (typ_of f.1) t (typ_of c.1)
-    → ((rest : Fields) → AreMet IsMade gs (fields_of (drop i left)) rest → AreMet IsMade gs whole (joined (fields_of made) rest))
-    → (rest : Fields) → AreMet IsMade gs (fields_of (drop (i + 1) left)) rest → AreMet IsMade gs whole (joined (fields_of more) rest)
-meet_more IsMade gs whole left i f made more c t lt is pushed same_label there meet so_far rest are =
-    rw (pushed, joined-push made c rest, same_label)
-    (so_far (field (string_bytes f.0) (typ_of c.1) rest) (rw (fields_of-drop left i f lt is) (met_both (string_bytes f.0) (typ_of f.1) t (typ_of c.1) there meet are)))
-
 pub meet_alone : (IsMade : Typ → Typ → Typ → Type 0) (gs whole : Fields) (left : List (String Global × Ty)) (i : ℕ) (f : String Global × Ty) (made more : List (String Global × Ty)) (c : String Global × Ty)
     → i < length left → f ≡ get_or left i f → more ≡ made ++ c ∷ [] → string_bytes c.0 ≡ string_bytes f.0 → typ_of c.1 ≡ typ_of f.1
     → IsAbsent (string_bytes f.0) gs
@@ -207,7 +178,3 @@ pub meet_alone : (IsMade : Typ → Typ → Typ → Type 0) (gs whole : Fields) (
 meet_alone IsMade gs whole left i f made more c lt is pushed same_label same_type absent so_far rest are =
     rw (pushed, joined-push made c rest, same_label, same_type)
     (so_far (field (string_bytes f.0) (typ_of f.1) rest) (rw (fields_of-drop left i f lt is) (met_alone (string_bytes f.0) (typ_of f.1) absent are)))
-
-pub meet_all : (IsMade : Typ → Typ → Typ → Type 0) (gs whole : Fields) (left : List (String Global × Ty)) (i : ℕ) (made : Fields) → length left ≤ i
-    → ((rest : Fields) → AreMet IsMade gs (fields_of (drop i left)) rest → AreMet IsMade gs whole (joined made rest)) → AreMet IsMade gs whole made
-meet_all IsMade gs whole left i made le so_far = rw joined-none at (so_far no_fields (rw (drop_all i left le) met_none))

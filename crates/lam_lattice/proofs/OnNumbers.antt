@@ -21,46 +21,6 @@ use Rattle.lam_lattice.proofs.Orders.{are_joins, joins_are_ordered, are_meets, m
 
 -- types that are not of one shape
 
-beside_arrow : (ts : List Typ) (a b : Typ) (y : Shape) → ((q r : TyNo) → y ≡ Shape.Arrow q r → ⊥) → AreUnlike (arrow a b) (shaped ts y)
-beside_arrow ts a b Shape.Bool n = tt
-beside_arrow ts a b Shape.Nat n = tt
-beside_arrow ts a b Shape.Unit n = tt
-beside_arrow ts a b Shape.Top n = tt
-beside_arrow ts a b (Shape.Arrow q r) n = absurd (n q r refl)
-beside_arrow ts a b (Shape.Record gs) n = tt
-
-beside_record : (ts : List Typ) (fs : Fields) (y : Shape) → ((gs : Vec (String Global × TyNo) Global) → y ≡ Shape.Record gs → ⊥) → AreUnlike (record_of fs) (shaped ts y)
-beside_record ts fs Shape.Bool n = tt
-beside_record ts fs Shape.Nat n = tt
-beside_record ts fs Shape.Unit n = tt
-beside_record ts fs Shape.Top n = tt
-beside_record ts fs (Shape.Arrow q r) n = tt
-beside_record ts fs (Shape.Record gs) n = absurd (n gs refl)
-
-constant_beside : (ts : List Typ) (x : Shape) (t : Typ) → ((p o : TyNo) → x ≡ Shape.Arrow p o → ⊥) → ((fs : Vec (String Global × TyNo) Global) → x ≡ Shape.Record fs → ⊥) → AreUnlike (shaped ts x) t
-constant_beside ts Shape.Bool t n m = tt
-constant_beside ts Shape.Nat t n m = tt
-constant_beside ts Shape.Unit t n m = tt
-constant_beside ts Shape.Top t n m = tt
-constant_beside ts (Shape.Arrow p o) t n m = absurd (n p o refl)
-constant_beside ts (Shape.Record fs) t n m = absurd (m fs refl)
-
-pub arrow_and_other : (ts : List Typ) (s t : Typ) (x y : Shape) (p o : TyNo) → s ≡ shaped ts x → t ≡ shaped ts y → x ≡ Shape.Arrow p o
-    → ((q r : TyNo) → y ≡ Shape.Arrow q r → ⊥) → AreUnlike s t
-arrow_and_other ts s t x y p o is_s is_t is_x n =
-    subst (λ u. AreUnlike u t) (sym (is_s ∙ ap (shaped ts) is_x))
-    (subst (λ u. AreUnlike (arrow (type_of ts p) (type_of ts o)) u) (sym is_t) (beside_arrow ts (type_of ts p) (type_of ts o) y n))
-
-pub record_and_other : (ts : List Typ) (s t : Typ) (x y : Shape) (fs : Vec (String Global × TyNo) Global) → s ≡ shaped ts x → t ≡ shaped ts y → x ≡ Shape.Record fs
-    → ((gs : Vec (String Global × TyNo) Global) → y ≡ Shape.Record gs → ⊥) → AreUnlike s t
-record_and_other ts s t x y fs is_s is_t is_x n =
-    subst (λ u. AreUnlike u t) (sym (is_s ∙ ap (shaped ts) is_x))
-    (subst (λ u. AreUnlike (record_of (fields_over ts fs.items)) u) (sym is_t) (beside_record ts (fields_over ts fs.items) y n))
-
-pub constant_and_other : (ts : List Typ) (s t : Typ) (x : Shape) → s ≡ shaped ts x → ((p o : TyNo) → x ≡ Shape.Arrow p o → ⊥) → ((fs : Vec (String Global × TyNo) Global) → x ≡ Shape.Record fs → ⊥)
-    → AreUnlike s t
-constant_and_other ts s t x is_s n m = subst (λ u. AreUnlike u t) (sym is_s) (constant_beside ts x t n m)
-
 -- two arrows
 
 pub arrow_parts : (n : ℕ) (x : Shape) (p o : TyNo) → IsOver n x → x ≡ Shape.Arrow p o → (p.index < n) × (o.index < n)

@@ -53,44 +53,11 @@ join_unlike_top s t d ws wt unlike n m = record {
 
 -- .. and nothing below them
 
-nothing_below : (d : Dialect) (s t u : Typ) → AreUnlike s t → Under d u s → Under d u t → (Under d s t → ⊥) → (Under d t s → ⊥) → ⊥
-nothing_below d _ t u unlike (under_top _) b n m = m (under_top t)
-nothing_below d s _ u unlike a (under_top _) n m = n (under_top s)
-nothing_below d _ t _ unlike under_bool b n m = n b
-nothing_below d _ t _ unlike under_nat b n m = n b
-nothing_below d _ t _ unlike under_unit b n m = n b
-nothing_below d _ _ _ unlike (under_arrow a1 a2) (under_arrow b1 b2) n m = unlike
-nothing_below d _ _ _ unlike (under_record a) (under_record b) n m = unlike
-nothing_below _ _ _ _ unlike under_bool_nat under_bool n m = m under_bool_nat
-nothing_below _ _ _ _ unlike under_bool_nat under_bool_nat n m = n under_nat
-
 pub no_meet_unlike : (s t : Typ) (d : Dialect) → IsWellFormed s → IsWellFormed t → AreUnlike s t → (IsBelow s t d → ⊥) → (IsBelow t s d → ⊥) → HaveNoMeet s t d
 no_meet_unlike s t d ws wt unlike n m = λ u a b.
     nothing_below d s t u unlike (below_under u s d a) (below_under u t d b) (λ under. n (under_below d s t under ws wt)) (λ under. m (under_below d t s under wt ws))
 
 -- variants that are not of one shape
-
-pub unlike_arrow : (a b : Typ) (t : Ty) → ((x y : Box Ty Global) → t ≡ Arrow x y → ⊥) → AreUnlike (arrow a b) (typ_of t)
-unlike_arrow a b = ty_cases (λ t. ((x y : Box Ty Global) → t ≡ Arrow x y → ⊥) → AreUnlike (arrow a b) (typ_of t))
-    (λ n. rw typ_of-Bool tt) (λ n. rw typ_of-Nat tt) (λ n. rw typ_of-Unit tt) (λ n. rw typ_of-Top tt)
-    (λ x y n. absurd (n x y refl)) (λ fs n. rw (typ_of-Record fs) tt)
-
-pub unlike_record : (fs : Fields) (t : Ty) → ((gs : RustFields) → t ≡ Record gs → ⊥) → AreUnlike (record_of fs) (typ_of t)
-unlike_record fs = ty_cases (λ t. ((gs : RustFields) → t ≡ Record gs → ⊥) → AreUnlike (record_of fs) (typ_of t))
-    (λ n. rw typ_of-Bool tt) (λ n. rw typ_of-Nat tt) (λ n. rw typ_of-Unit tt) (λ n. rw typ_of-Top tt)
-    (λ x y n. rw (typ_of-Arrow x y) tt) (λ gs n. absurd (n gs refl))
-
-pub unlike_other : (s : Ty) (t : Typ) → ((x y : Box Ty Global) → s ≡ Arrow x y → ⊥) → ((fs : RustFields) → s ≡ Record fs → ⊥) → AreUnlike (typ_of s) t
-unlike_other s t = ty_cases (λ u. ((x y : Box Ty Global) → u ≡ Arrow x y → ⊥) → ((fs : RustFields) → u ≡ Record fs → ⊥) → AreUnlike (typ_of u) t)
-    (λ n m. rw typ_of-Bool tt) (λ n m. rw typ_of-Nat tt) (λ n m. rw typ_of-Unit tt) (λ n m. rw typ_of-Top tt)
-    (λ x y n m. absurd (n x y refl)) (λ fs n m. absurd (m fs refl)) s
-
-pub arrow_unlike : (s t : Ty) (a b : Box Ty Global) → s ≡ Arrow a b → ((x y : Box Ty Global) → t ≡ Arrow x y → ⊥) → AreUnlike (typ_of s) (typ_of t)
-arrow_unlike s t a b is n = subst (λ u. AreUnlike u (typ_of t)) (sym (ap typ_of is ∙ typ_of-Arrow a b)) (unlike_arrow (typ_of a.value) (typ_of b.value) t n)
-
-pub record_unlike : (s t : Ty) (fs : RustFields) → s ≡ Record fs → ((gs : RustFields) → t ≡ Record gs → ⊥) → AreUnlike (typ_of s) (typ_of t)
-record_unlike s t fs is n =
-    subst (λ u. AreUnlike u (typ_of t)) (sym (ap typ_of is ∙ typ_of-Record fs)) (unlike_record (fields_of (out-Fields fs).items.items) t n)
 
 -- the same bounds of types that are told otherwise
 
