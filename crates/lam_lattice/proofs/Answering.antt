@@ -8,6 +8,14 @@ use Rattle.lam_sub.specs.Remembered.{IsJoinOf, IsMeetOf}
 use Rattle.lam_sub.proofs.Keeping.{both_kept, pair_kept}
 use Rattle.lam_lattice.specs.Bounds.{IsJoin, IsMeet, HaveNoMeet, JoinsInOrder, MeetsInOrder}
 
+pub join_found : (old now : List Typ) (left right number : TyNo) (d e : Dialect) → Keeps old now → left.index < length old → right.index < length old → e ≡ d → Stands now number
+    → IsJoin (type_of old left) (type_of old right) (type_of now number) d → JoinsInOrder (type_of old left) (type_of old right) (type_of now number) → IsJoinOf now e (left, right) number
+join_found old now left right number d e keeps one other same stands join order = record {
+  stand = both_kept old now (left, right) keeps (one, other);
+  stands = stands;
+  join = subst (λ x. IsJoin (type_of now left) (type_of now right) (type_of now number) x) (sym same)
+      (pair_kept old now (left, right) (λ s t. IsJoin s t (type_of now number) d) keeps (one, other) join);
+  order = pair_kept old now (left, right) (λ s t. JoinsInOrder s t (type_of now number)) keeps (one, other) order;
 }
 
 pub meet_found : (old now : List Typ) (left right : TyNo) (found : Option TyNo) (d e : Dialect) → Keeps old now → left.index < length old → right.index < length old → e ≡ d

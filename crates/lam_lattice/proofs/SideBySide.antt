@@ -52,6 +52,10 @@ matches_length right (f ∷ fs) [] are = absurd are
 
 -- numbers below a bound
 
+some_then : {X : Type 0} (A B : X → Type 0) (o : Option X) → ((x : X) → A x → B x) → IfSome o A → IfSome o B
+some_then A B (Some x) f a = f x a
+some_then A B None f a = tt
+
 pub matches_below : (n : ℕ) (right left : List (String Global × TyNo)) (ms : List Match) → AreMatches right left ms → AreEarlier n left → AreEarlier n right → AreMatchesBelow n ms
 matches_below n right [] [] are one other = tt
 matches_below n right (f ∷ fs) (m ∷ ms) are one other = (

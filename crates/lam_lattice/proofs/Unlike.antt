@@ -53,6 +53,17 @@ join_unlike_top s t d ws wt unlike n m = record {
 
 -- .. and nothing below them
 
+nothing_below : (d : Dialect) (s t u : Typ) → AreUnlike s t → Under d u s → Under d u t → (Under d s t → ⊥) → (Under d t s → ⊥) → ⊥
+nothing_below d _ t u unlike (under_top _) b n m = m (under_top t)
+nothing_below d s _ u unlike a (under_top _) n m = n (under_top s)
+nothing_below d _ t _ unlike under_bool b n m = n b
+nothing_below d _ t _ unlike under_nat b n m = n b
+nothing_below d _ t _ unlike under_unit b n m = n b
+nothing_below d _ _ _ unlike (under_arrow a1 a2) (under_arrow b1 b2) n m = unlike
+nothing_below d _ _ _ unlike (under_record a) (under_record b) n m = unlike
+nothing_below _ _ _ _ unlike under_bool_nat under_bool n m = m under_bool_nat
+nothing_below _ _ _ _ unlike under_bool_nat under_bool_nat n m = n under_nat
+
 pub no_meet_unlike : (s t : Typ) (d : Dialect) → IsWellFormed s → IsWellFormed t → AreUnlike s t → (IsBelow s t d → ⊥) → (IsBelow t s d → ⊥) → HaveNoMeet s t d
 no_meet_unlike s t d ws wt unlike n m = λ u a b.
     nothing_below d s t u unlike (below_under u s d a) (below_under u t d b) (λ under. n (under_below d s t under ws wt)) (λ under. m (under_below d t s under wt ws))
