@@ -35,7 +35,7 @@ fn first_type<'a>(label: &str, fields: &'a [(String, Ty)]) -> Option<&'a Ty>
 
 /// Appends copies of those of `more` whose labels `known` has not. Where memory is wanting, some of
 /// them may have been appended.
-pub fn append_others(
+pub(crate) fn append_others(
     alloc: Global,
     fields: &mut Vec<(String, Ty)>,
     more: &[(String, Ty)],

@@ -10,7 +10,7 @@ mod proving;
 mod verdicts;
 
 pub use deciding::is_sub;
-pub use fields::{append_others, field_type};
+pub use fields::field_type;
 pub use numbers::{field_number, is_sub_no};
 pub use proving::prove_sub;
 pub use verdicts::{Verdicts, verdicts_stay_right};
