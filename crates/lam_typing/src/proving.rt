@@ -217,7 +217,7 @@ fn prove_lambda(
     finish_over(alloc, grounds, TypeRule::Abs, conclusion, made, ty)
 }
 
-/// T-App: the argument is made as wide as the parameter.
+/// T-App.
 #[cycle(prove_term)]
 fn prove_apply(
     alloc: Global,
@@ -236,14 +236,35 @@ fn prove_apply(
     let Some(made) = prove_term(alloc, grounds, function, second.first)? else {
         return Ok(None);
     };
-    let Ty::Arrow(parameter, outcome) = &made.proof.ty else {
+    finish_apply(alloc, grounds, made, second, ty)
+}
+
+/// The step of T-App from a function and its argument, which is made as wide as the parameter.
+fn finish_apply(
+    alloc: Global,
+    grounds: &Grounds<'_>,
+    function: Proven,
+    argument: Proven,
+    ty: &Ty,
+) -> Result<Option<Proven>, AllocError>
+    ensures { (f a : Term) (place : ℕ) → BuildsTerm grounds.now f argument.first (Some function) → BuildsTerm grounds.now a place (Some argument) → IfOk result (BuildsForm grounds.now (apply f a) place (typ_of ty.now)) }
+{
+    let Ty::Arrow(parameter, outcome) = &function.proof.ty else {
         return Ok(None);
     };
-    let Some(operand) = widened(alloc, second.proof, parameter, grounds.typing.dialect)? else {
+    let Some(operand) = widened(alloc, argument.proof, parameter, grounds.typing.dialect)? else {
         return Ok(None);
     };
     let conclusion = copy_of(alloc, outcome)?;
-    finish_over_two(alloc, grounds, TypeRule::App, conclusion, made, operand, ty)
+    finish_over_two(
+        alloc,
+        grounds,
+        TypeRule::App,
+        conclusion,
+        function,
+        operand,
+        ty,
+    )
 }
 
 /// T-Ascribe: the term is made as wide as what is written.

@@ -1,7 +1,7 @@
 use Rattle.std.proofs.Common.{◌≡◌, ◌+◌, ◌-◌, Some, None, ap, refl, sym, subst, ◌∙◌, string_bytes, arith, reverse}
 use Rattle.std.specs.Option.{option_map}
 use Rattle.lam_rules.specs.Types.{bool, nat, arrow, record_of}
-use Rattle.lam_rules.specs.Terms.{true_term, false_term, unit_term, numeral, if_then_else, succ, pred, is_zero, apply, let_in}
+use Rattle.lam_rules.specs.Terms.{true_term, false_term, unit_term, numeral, if_then_else, succ, pred, is_zero, let_in}
 use Rattle.lam_rules.specs.TermViews.{term_of, terms_of, written_of}
 use Rattle.lam_rules.specs.TypeViews.{typ_of, fields_of}
 use Rattle.lam_rules.specs.TypingViews.{typing_tree_of, typings_of}
@@ -14,8 +14,8 @@ use Rattle.lam_typing.specs.Proving.{tree_in, trees_in, IsProvenAs}
 use Rattle.lam_typing.proofs.Sizes.{size_of, size_of_fields}
 use Rattle.lam_typing.proofs.Arms.{if_arm, succ_arm, pred_arm, is_zero_arm, lambda_arm, apply_arm, ascribe_arm, let_arm, record_arm, project_arm, fix_arm}
 use Rattle.lam_typing.proofs.NotedParts.{ok_map}
-use Rattle.lam_typing.proofs.BuiltProofs.{free_none, as_wide, as_none, number_form, number_none, if_form, if_none_else, if_none_then, if_none_condition, lambda_form, lambda_none, faulty_lambda_none, apply_form, apply_none_argument, apply_none_function, apply_no_arrow, apply_not_below, ascribe_form, ascribe_none, faulty_ascribe_none, let_form, let_none_body, let_none_bound, record_form, record_none, no_fields_form, more_fields_form, more_fields_none, first_field_none, project_form, project_none, project_no_record, project_no_field, fix_form, fix_none}
-use Rattle.lam_typing.proofs.BuiltSteps.{no_terms_of, step_as, some_holds, some_term, none_term, some_as, none_as, some_fields, none_fields, some_wide, none_wide, term_of_form, term_none, arrow_in, no_arrow_in, record_in, no_record_in, first_before, first_behind, inside_number}
+use Rattle.lam_typing.proofs.BuiltProofs.{free_none, as_wide, as_none, number_form, number_none, if_form, if_none_else, if_none_then, if_none_condition, lambda_form, lambda_none, faulty_lambda_none, apply_none_argument, apply_none_function, ascribe_form, ascribe_none, faulty_ascribe_none, let_form, let_none_body, let_none_bound, record_form, record_none, no_fields_form, more_fields_form, more_fields_none, first_field_none, project_form, project_none, project_no_record, project_no_field, fix_form, fix_none}
+use Rattle.lam_typing.proofs.BuiltSteps.{no_terms_of, step_as, some_holds, some_term, none_term, some_as, none_as, some_fields, none_fields, some_wide, none_wide, term_of_form, term_none, record_in, no_record_in, first_before, first_behind, inside_number}
 use Rattle.lam_typing.proofs.proving.+prove_term.Goals as goal
 
 pub prove_apply-returns-in_default : goal.prove_apply-returns-in_default
@@ -26,24 +26,8 @@ pub prove_apply-returns-in_default-2 : goal.prove_apply-returns-in_default-2
 prove_apply-returns-in_default-2 t c =
     record { first = tt; proves = apply_none_function c.args.grounds.now (term_of c.args.function.now) (term_of c.args.argument.now) c.args.place c.in-Some.second.first (typ_of c.args.ty.now) (some_holds c.in_ok-second.field-0 c.in-Some.second _ c.in-Some.is c.in_ok-second.ensures.first) (none_term c.args.grounds.now (term_of c.args.function.now) c.in-Some.second.first c.in_ok-made.field-0 c.in_default-2.is c.in_ok-made.ensures.proves) }
 
-pub prove_apply-returns-in_default-ty : goal.prove_apply-returns-in_default-ty
-prove_apply-returns-in_default-ty t c =
-    record { first = tt; proves = apply_no_arrow c.args.grounds.now (term_of c.args.function.now) (term_of c.args.argument.now) c.args.place c.in-Some.second.first (typ_of c.args.ty.now) (tree_in c.in-Some-2.made) (some_holds c.in_ok-second.field-0 c.in-Some.second _ c.in-Some.is c.in_ok-second.ensures.first) (some_term c.args.grounds.now (term_of c.args.function.now) c.in-Some.second.first c.in_ok-made.field-0 c.in-Some-2.made c.in-Some-2.is c.in_ok-made.ensures.proves) (no_arrow_in c.in-Some-2.made c.in_default-ty.not-Arrow) }
-
-pub prove_apply-returns-in_default-3 : goal.prove_apply-returns-in_default-3
-prove_apply-returns-in_default-3 t c =
-    record { first = tt; proves = apply_not_below c.args.grounds.now (term_of c.args.function.now) (term_of c.args.argument.now) c.args.place c.in-Some.second.first (typ_of c.in-Arrow.parameter.value) (typ_of c.in-Arrow.outcome.value) (typ_of c.args.ty.now) (tree_in c.in-Some-2.made) (tree_in c.in-Some.second) (some_holds c.in_ok-second.field-0 c.in-Some.second _ c.in-Some.is c.in_ok-second.ensures.first) (some_term c.args.grounds.now (term_of c.args.argument.now) c.args.place c.in_ok-second.field-0 c.in-Some.second c.in-Some.is c.in_ok-second.ensures.proves) (some_term c.args.grounds.now (term_of c.args.function.now) c.in-Some.second.first c.in_ok-made.field-0 c.in-Some-2.made c.in-Some-2.is c.in_ok-made.ensures.proves) (arrow_in c.in-Some-2.made c.in-Arrow.parameter c.in-Arrow.outcome c.in-Arrow.is) (none_wide (typing_tree_of c.in-Some.second.proof) (typ_of c.in-Arrow.parameter.value) c.in_ok-operand.field-0 c.args.grounds.now.typing.now.dialect c.in_default-3.is (rw c.deref.ensures at c.in_ok-operand.ensures)) }
-
 pub prove_apply-returns : goal.prove_apply-returns
-prove_apply-returns t c =
-    let second = rw c.in-Some.is at c.in_ok-second.ensures in
-    let first = rw c.in-Some-2.is at c.in_ok-made.ensures in
-    ok_map c.finish_over_two.result _ _ (λ made done. record {
-      first = first_before made c.in-Some-2.made.first (inside (apply (term_of c.args.function.now) (term_of c.args.argument.now))) c.args.place done.first (omega (arith, second.first, first.first));
-      proves = apply_form c.args.grounds.now (term_of c.args.function.now) (term_of c.args.argument.now) c.args.place c.in-Some.second.first (typ_of c.in-Arrow.outcome.value) (typ_of c.in-Arrow.parameter.value) (typ_of c.args.ty.now) (tree_in c.in-Some-2.made) (tree_in c.in-Some.second) (typing_tree_of c.in-Some-3.operand) (option_map tree_in made) (some_holds c.in_ok-second.field-0 c.in-Some.second _ c.in-Some.is c.in_ok-second.ensures.first) (some_term c.args.grounds.now (term_of c.args.argument.now) c.args.place c.in_ok-second.field-0 c.in-Some.second c.in-Some.is c.in_ok-second.ensures.proves) (some_term c.args.grounds.now (term_of c.args.function.now) c.in-Some.second.first c.in_ok-made.field-0 c.in-Some-2.made c.in-Some-2.is c.in_ok-made.ensures.proves) (arrow_in c.in-Some-2.made c.in-Arrow.parameter c.in-Arrow.outcome c.in-Arrow.is)
-          (some_wide (typing_tree_of c.in-Some.second.proof) (typ_of c.in-Arrow.parameter.value) c.in_ok-operand.field-0 c.in-Some-3.operand c.args.grounds.now.typing.now.dialect c.in-Some-3.is (rw c.deref.ensures at c.in_ok-operand.ensures))
-          (rw (rw c.deref-2.ensures at c.in_ok-conclusion.ensures) at done.wide);
-    }) c.finish_over_two.ensures
+prove_apply-returns t c = c.finish_apply.ensures (term_of c.args.function.now) (term_of c.args.argument.now) c.args.place (rw c.in-Some-2.is at c.in_ok-made.ensures) (rw c.in-Some.is at c.in_ok-second.ensures)
 
 pub prove_as-returns-in_default : goal.prove_as-returns-in_default
 prove_as-returns-in_default t c =

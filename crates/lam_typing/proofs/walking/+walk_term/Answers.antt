@@ -1,16 +1,16 @@
-use Rattle.std.proofs.Common.{[], ◌∷◌, ◌++◌, length, Some, None, string_bytes, ap, refl, sym, subst, ◌∙◌, inl, arith, codes}
+use Rattle.std.proofs.Common.{◌≡◌, ◌+◌, [], ◌∷◌, ◌++◌, length, Some, None, string_bytes, ap, refl, sym, subst, ◌∙◌, inl, arith, codes}
 use Rattle.lam_rules.specs.Types.{bool, nat, unit}
 use Rattle.lam_rules.specs.Terms.{if_then_else, lambda, apply, ascribe, let_in, record_term, project, fix, numeral, free, true_term, false_term, unit_term, term_field}
 use Rattle.lam_rules.specs.TermViews.{term_of, terms_of, written_of}
 use Rattle.lam_rules.specs.Numbers.{fields_over, AreEarlier}
 use Rattle.lam_rules.proofs.TermShapes.{term_of-True, term_of-False, term_of-Num, term_of-Var, term_of-Free, term_of-Unit}
-use Rattle.lam_rules.proofs.Tables.{keeps_same}
+use Rattle.lam_rules.proofs.Tables.{keeps_same, keeps_trans}
 use Rattle.lam_scope.specs.Places.{written, of_term, places, places_in}
 use Rattle.lam_typing.specs.Answers.{answer}
 use Rattle.lam_typing.specs.Steps.{LambdaRule, LetRule, RecordRule}
 use Rattle.lam_typing.specs.Progress.{if_all}
 use Rattle.lam_typing.specs.Walk.{entries_of, progress_of}
-use Rattle.lam_typing.proofs.Sizes.{size_of}
+use Rattle.lam_typing.proofs.Sizes.{size_of, size_of_fields}
 use Rattle.lam_typing.proofs.Arms.{if_arm, succ_arm, pred_arm, is_zero_arm, lambda_arm, apply_arm, ascribe_arm, let_arm, record_arm, project_arm, fix_arm}
 use Rattle.lam_typing.proofs.LeastIn.{lowest_written}
 use Rattle.lam_typing.proofs.Growing.{answer_keep, stands_keep}
@@ -358,3 +358,138 @@ walk_term-walk_fix-requires t c = (omega (arith, c.decreases, ap size_of (fix_ar
 
 pub walk_term-returns-in-Fix-clause-walked : goal.walk_term-returns-in-Fix-clause-walked
 walk_term-returns-in-Fix-clause-walked t c = rw (fix_arm _ _ _ c.in-Fix.is c.deref-in-Fix.ensures) c.walk_fix.ensures.walked
+
+pub walk_if-walk_term-requires : goal.walk_if-walk_term-requires
+walk_if-walk_term-requires t c = (omega (arith, c.decreases), (c.requires.sound, c.requires.condition))
+
+pub walk_if-returns-in_err-second-clause-grows : goal.walk_if-returns-in_err-second-clause-grows
+walk_if-returns-in_err-second-clause-grows t c = grows_trans c.args.walk.now c.walk_term.new.walk c.walk_term-2.new.walk c.in_ok-first.ensures.grows c.in_err-second.ensures.grows
+
+pub walk_if-walk_term-requires-2 : goal.walk_if-walk_term-requires-2
+walk_if-walk_term-requires-2 t c = (omega (arith, c.decreases), (c.in_ok-first.ensures.grows.sound, c.requires.then_term))
+
+pub walk_if-returns-in_err-third-clause-grows : goal.walk_if-returns-in_err-third-clause-grows
+walk_if-returns-in_err-third-clause-grows t c = grows_trans c.args.walk.now c.walk_term-2.new.walk c.walk_term-3.new.walk (grows_trans c.args.walk.now c.walk_term.new.walk c.walk_term-2.new.walk c.in_ok-first.ensures.grows c.in_ok-second.ensures.grows) c.in_err-third.ensures.grows
+
+pub walk_if-walk_term-requires-3 : goal.walk_if-walk_term-requires-3
+walk_if-walk_term-requires-3 t c = (omega (arith, c.decreases), (c.in_ok-second.ensures.grows.sound, c.requires.else_term))
+
+pub walk_if-type_of_if-requires-clause-condition : goal.walk_if-type_of_if-requires-clause-condition
+walk_if-type_of_if-requires-clause-condition t c = stands_keep c.walk_term.new.walk.table c.walk_term-3.new.walk.table c.in_ok-first.first (keeps_trans c.walk_term.new.walk.table c.walk_term-2.new.walk.table c.walk_term-3.new.walk.table c.in_ok-second.ensures.grows.keeps c.in_ok-third.ensures.grows.keeps) c.in_ok-first.ensures.walked.stands
+
+pub walk_if-type_of_if-requires-clause-then_term : goal.walk_if-type_of_if-requires-clause-then_term
+walk_if-type_of_if-requires-clause-then_term t c = stands_keep c.walk_term-2.new.walk.table c.walk_term-3.new.walk.table c.in_ok-second.second c.in_ok-third.ensures.grows.keeps c.in_ok-second.ensures.walked.stands
+
+pub walk_number-walk_term-requires : goal.walk_number-walk_term-requires
+walk_number-walk_term-requires t c = (omega (arith, c.decreases), (c.requires.sound, c.requires.operand))
+
+pub walk_number-type_of_numeric-requires-clause-outcome : goal.walk_number-type_of_numeric-requires-clause-outcome
+walk_number-type_of_numeric-requires-clause-outcome t c = stands_keep c.args.walk.now.table c.walk_term.new.walk.table (Some c.args.outcome) c.in_ok-part.ensures.grows.keeps c.requires.outcome
+
+pub walk_number-returns-in_err-found-clause-grows : goal.walk_number-returns-in_err-found-clause-grows
+walk_number-returns-in_err-found-clause-grows t c = stepped_grows c.args.walk.now c.walk_term.new.walk c.walk_term.new.walk.table c.type_of_numeric.new.verdicts c.in_ok-part.ensures.grows (keeps_same c.walk_term.new.walk.table) c.type_of_numeric.ensures.right c.type_of_numeric.ensures.dialect
+
+pub walk_number-settle-requires-clause-sound : goal.walk_number-settle-requires-clause-sound
+walk_number-settle-requires-clause-sound t c = (stepped_grows c.args.walk.now c.walk_term.new.walk c.walk_term.new.walk.table c.type_of_numeric.new.verdicts c.in_ok-part.ensures.grows (keeps_same c.walk_term.new.walk.table) c.type_of_numeric.ensures.right c.type_of_numeric.ensures.dialect).sound
+
+pub walk_number-returns-clause-grows : goal.walk_number-returns-clause-grows
+walk_number-returns-clause-grows t c = grows_trans c.args.walk.now (record c.walk_term.new.walk { verdicts = c.type_of_numeric.new.verdicts }) c.settle.new.walk (stepped_grows c.args.walk.now c.walk_term.new.walk c.walk_term.new.walk.table c.type_of_numeric.new.verdicts c.in_ok-part.ensures.grows (keeps_same c.walk_term.new.walk.table) c.type_of_numeric.ensures.right c.type_of_numeric.ensures.dialect) c.settle.ensures.grows
+
+pub walk_fix-returns-in_err-found-clause-grows : goal.walk_fix-returns-in_err-found-clause-grows
+walk_fix-returns-in_err-found-clause-grows t c = stepped_grows c.args.walk.now c.walk_term.new.walk c.walk_term.new.walk.table c.type_of_fix.new.verdicts c.in_ok-part.ensures.grows (keeps_same c.walk_term.new.walk.table) c.type_of_fix.ensures.right c.type_of_fix.ensures.dialect
+
+pub walk_fix-settle-requires-clause-sound : goal.walk_fix-settle-requires-clause-sound
+walk_fix-settle-requires-clause-sound t c = (stepped_grows c.args.walk.now c.walk_term.new.walk c.walk_term.new.walk.table c.type_of_fix.new.verdicts c.in_ok-part.ensures.grows (keeps_same c.walk_term.new.walk.table) c.type_of_fix.ensures.right c.type_of_fix.ensures.dialect).sound
+
+pub walk_fix-returns-clause-grows : goal.walk_fix-returns-clause-grows
+walk_fix-returns-clause-grows t c = grows_trans c.args.walk.now (record c.walk_term.new.walk { verdicts = c.type_of_fix.new.verdicts }) c.settle.new.walk (stepped_grows c.args.walk.now c.walk_term.new.walk c.walk_term.new.walk.table c.type_of_fix.new.verdicts c.in_ok-part.ensures.grows (keeps_same c.walk_term.new.walk.table) c.type_of_fix.ensures.right c.type_of_fix.ensures.dialect) c.settle.ensures.grows
+
+pub walk_fix-walk_term-requires : goal.walk_fix-walk_term-requires
+walk_fix-walk_term-requires t c = (omega (arith, c.decreases), (c.requires.sound, c.requires.operand))
+
+pub walk_apply-walk_term-requires : goal.walk_apply-walk_term-requires
+walk_apply-walk_term-requires t c = (omega (arith, c.decreases), (c.requires.sound, c.requires.function))
+
+pub walk_apply-returns-in_err-second-clause-grows : goal.walk_apply-returns-in_err-second-clause-grows
+walk_apply-returns-in_err-second-clause-grows t c = grows_trans c.args.walk.now c.walk_term.new.walk c.walk_term-2.new.walk c.in_ok-first.ensures.grows c.in_err-second.ensures.grows
+
+pub walk_apply-walk_term-requires-2 : goal.walk_apply-walk_term-requires-2
+walk_apply-walk_term-requires-2 t c = (omega (arith, c.decreases), (c.in_ok-first.ensures.grows.sound, c.requires.argument))
+
+pub walk_apply-type_of_apply-requires-clause-function : goal.walk_apply-type_of_apply-requires-clause-function
+walk_apply-type_of_apply-requires-clause-function t c = stands_keep c.walk_term.new.walk.table c.walk_term-2.new.walk.table c.in_ok-first.first c.in_ok-second.ensures.grows.keeps c.in_ok-first.ensures.walked.stands
+
+pub walk_apply-returns-in_err-found-clause-grows : goal.walk_apply-returns-in_err-found-clause-grows
+walk_apply-returns-in_err-found-clause-grows t c = stepped_grows c.args.walk.now c.walk_term-2.new.walk c.walk_term-2.new.walk.table c.type_of_apply.new.verdicts (grows_trans c.args.walk.now c.walk_term.new.walk c.walk_term-2.new.walk c.in_ok-first.ensures.grows c.in_ok-second.ensures.grows) (keeps_same c.walk_term-2.new.walk.table) c.type_of_apply.ensures.right c.type_of_apply.ensures.dialect
+
+pub walk_apply-settle-requires-clause-sound : goal.walk_apply-settle-requires-clause-sound
+walk_apply-settle-requires-clause-sound t c = (stepped_grows c.args.walk.now c.walk_term-2.new.walk c.walk_term-2.new.walk.table c.type_of_apply.new.verdicts (grows_trans c.args.walk.now c.walk_term.new.walk c.walk_term-2.new.walk c.in_ok-first.ensures.grows c.in_ok-second.ensures.grows) (keeps_same c.walk_term-2.new.walk.table) c.type_of_apply.ensures.right c.type_of_apply.ensures.dialect).sound
+
+pub walk_apply-returns-clause-grows : goal.walk_apply-returns-clause-grows
+walk_apply-returns-clause-grows t c = grows_trans c.args.walk.now (record c.walk_term-2.new.walk { verdicts = c.type_of_apply.new.verdicts }) c.settle.new.walk (stepped_grows c.args.walk.now c.walk_term-2.new.walk c.walk_term-2.new.walk.table c.type_of_apply.new.verdicts (grows_trans c.args.walk.now c.walk_term.new.walk c.walk_term-2.new.walk c.in_ok-first.ensures.grows c.in_ok-second.ensures.grows) (keeps_same c.walk_term-2.new.walk.table) c.type_of_apply.ensures.right c.type_of_apply.ensures.dialect) c.settle.ensures.grows
+
+pub walk_ascribe-walk_term-requires : goal.walk_ascribe-walk_term-requires
+walk_ascribe-walk_term-requires t c = (omega (arith, c.decreases), (c.requires.sound, c.requires.operand))
+
+pub walk_ascribe-returns-clause-grows : goal.walk_ascribe-returns-clause-grows
+walk_ascribe-returns-clause-grows t c = grows_trans c.args.walk.now (stepped c.walk_term.new.walk c.number_of_written.new.table c.type_of_ascribe.new.verdicts) c.settle.new.walk (stepped_grows c.args.walk.now c.walk_term.new.walk c.number_of_written.new.table c.type_of_ascribe.new.verdicts c.in_ok-part.ensures.grows c.number_of_written.ensures.keeps c.type_of_ascribe.ensures.right c.type_of_ascribe.ensures.dialect) c.settle.ensures.grows
+
+pub walk_lambda-returns-in_err-outcome-clause-grows : goal.walk_lambda-returns-in_err-outcome-clause-grows
+walk_lambda-returns-in_err-outcome-clause-grows t c = grows_trans c.args.walk.now (record c.args.walk.now { table = c.number_of_written.new.table; entries = c.push.new.self }) c.walk_term.new.walk (pushed_grows c.args.walk.now c.number_of_written.new.table c.push.new.self c.in_ok-parameter.parameter c.requires.sound c.number_of_written.ensures.keeps (inl c.in_ok-push.ensures.items) c.in_ok-parameter.ensures.stands) c.in_err-outcome.ensures.grows
+
+pub walk_lambda-type_of_lambda-requires-clause-written : goal.walk_lambda-type_of_lambda-requires-clause-written
+walk_lambda-type_of_lambda-requires-clause-written t c = stands_keep c.number_of_written.new.table c.walk_term.new.walk.table c.in_ok-parameter.parameter c.in_ok-outcome.ensures.grows.keeps c.in_ok-parameter.ensures.stands
+
+pub walk_lambda-returns-clause-grows : goal.walk_lambda-returns-clause-grows
+walk_lambda-returns-clause-grows t c = grows_trans c.args.walk.now (record c.walk_term.new.walk { table = c.type_of_lambda.new.table; entries = c.pop.new.self }) c.settle.new.walk (popped_grows c.args.walk.now (record c.args.walk.now { table = c.number_of_written.new.table; entries = c.push.new.self }) c.walk_term.new.walk c.type_of_lambda.new.table c.pop.new.self (pushed_grows c.args.walk.now c.number_of_written.new.table c.push.new.self c.in_ok-parameter.parameter c.requires.sound c.number_of_written.ensures.keeps (inl c.in_ok-push.ensures.items) c.in_ok-parameter.ensures.stands) c.in_ok-outcome.ensures.grows c.type_of_lambda.ensures.keeps (popped_is c.push.new.self c.walk_term.new.walk c.pop.new.self c.args.walk.now.entries.items c.in_ok-parameter.parameter c.in_ok-push.ensures.items c.in_ok-outcome.ensures.walked.entries c.pop.ensures.rest) c.requires.sound) c.settle.ensures.grows
+
+pub walk_let-walk_term-requires : goal.walk_let-walk_term-requires
+walk_let-walk_term-requires t c = (omega (arith, c.decreases), (c.requires.sound, c.requires.bound))
+
+pub walk_let-returns-in_err-push-clause-grows : goal.walk_let-returns-in_err-push-clause-grows
+walk_let-returns-in_err-push-clause-grows t c = grows_trans c.args.walk.now c.walk_term.new.walk (record c.walk_term.new.walk { entries = c.push.new.self }) c.in_ok-entry.ensures.grows (pushed_grows c.walk_term.new.walk c.walk_term.new.walk.table c.push.new.self c.in_ok-entry.entry c.in_ok-entry.ensures.grows.sound (keeps_same c.walk_term.new.walk.table) (put_or_not _ _ _ _ c.push.ensures.items) c.in_ok-entry.ensures.walked.stands)
+
+pub walk_let-returns-in_err-outcome-clause-grows : goal.walk_let-returns-in_err-outcome-clause-grows
+walk_let-returns-in_err-outcome-clause-grows t c = grows_trans c.args.walk.now c.walk_term.new.walk c.walk_term-2.new.walk c.in_ok-entry.ensures.grows (grows_trans c.walk_term.new.walk (record c.walk_term.new.walk { entries = c.push.new.self }) c.walk_term-2.new.walk (pushed_grows c.walk_term.new.walk c.walk_term.new.walk.table c.push.new.self c.in_ok-entry.entry c.in_ok-entry.ensures.grows.sound (keeps_same c.walk_term.new.walk.table) (inl c.in_ok-push.ensures.items) c.in_ok-entry.ensures.walked.stands) c.in_err-outcome.ensures.grows)
+
+pub walk_let-settle-requires-clause-stands : goal.walk_let-settle-requires-clause-stands
+walk_let-settle-requires-clause-stands t c = (c.type_of_let.ensures c.walk_term-2.new.walk.table).0 c.in_ok-outcome.ensures.walked.stands
+
+pub walk_let-returns-clause-grows : goal.walk_let-returns-clause-grows
+walk_let-returns-clause-grows t c = grows_trans c.args.walk.now c.walk_term.new.walk c.settle.new.walk c.in_ok-entry.ensures.grows (grows_trans c.walk_term.new.walk (record c.walk_term-2.new.walk { entries = c.pop.new.self }) c.settle.new.walk (popped_grows c.walk_term.new.walk (record c.walk_term.new.walk { entries = c.push.new.self }) c.walk_term-2.new.walk c.walk_term-2.new.walk.table c.pop.new.self (pushed_grows c.walk_term.new.walk c.walk_term.new.walk.table c.push.new.self c.in_ok-entry.entry c.in_ok-entry.ensures.grows.sound (keeps_same c.walk_term.new.walk.table) (inl c.in_ok-push.ensures.items) c.in_ok-entry.ensures.walked.stands) c.in_ok-outcome.ensures.grows (keeps_same c.walk_term-2.new.walk.table) (popped_is c.push.new.self c.walk_term-2.new.walk c.pop.new.self c.walk_term.new.walk.entries.items c.in_ok-entry.entry c.in_ok-push.ensures.items c.in_ok-outcome.ensures.walked.entries c.pop.ensures.rest) c.in_ok-entry.ensures.grows.sound) c.settle.ensures.grows)
+
+pub walk_record-returns-in_err-parts-clause-grows : goal.walk_record-returns-in_err-parts-clause-grows
+walk_record-returns-in_err-parts-clause-grows t c = grows_same c.args.walk.now c.requires.sound
+
+pub walk_record-walk_fields-requires : goal.walk_record-walk_fields-requires
+walk_record-walk_fields-requires t c = (omega (arith, c.decreases), (c.requires.sound, c.requires.fields))
+
+pub walk_record-returns-clause-grows : goal.walk_record-returns-clause-grows
+walk_record-returns-clause-grows t c = grows_trans c.args.walk.now (record c.walk_fields.new.walk { table = c.type_of_record.new.table }) c.settle.new.walk (retabled_grows c.args.walk.now c.walk_fields.new.walk c.type_of_record.new.table c.in_ok-all.ensures.grows c.type_of_record.ensures.keeps) c.settle.ensures.grows
+
+pub walk_project-returns-clause-grows : goal.walk_project-returns-clause-grows
+walk_project-returns-clause-grows t c = grows_trans c.args.walk.now c.walk_term.new.walk c.settle.new.walk c.in_ok-part.ensures.grows c.settle.ensures.grows
+
+pub walk_fields-walk_term-requires : goal.walk_fields-walk_term-requires
+walk_fields-walk_term-requires t c =
+    let whole : size_of_fields (terms_of c.args.fields.now) ≡ 1 + size_of (term_of c.in-Some.field.now.1) + size_of_fields (terms_of c.in-Some.others.now) = ap (λ fs. size_of_fields (terms_of fs)) c.in-Some.ensures.cases.0 in
+    (omega (arith, c.decreases, whole), (c.requires.sound, (rw (ap terms_of c.in-Some.ensures.cases.0) at c.requires.wf).0))
+
+pub walk_fields-walk_fields-requires : goal.walk_fields-walk_fields-requires
+walk_fields-walk_fields-requires t c =
+    let whole : size_of_fields (terms_of c.args.fields.now) ≡ 1 + size_of (term_of c.in-Some.field.now.1) + size_of_fields (terms_of c.in-Some.others.now) = ap (λ fs. size_of_fields (terms_of fs)) c.in-Some.ensures.cases.0 in
+    (omega (arith, c.decreases, whole), (c.in_ok-found.ensures.grows.sound, (rw (ap terms_of c.in-Some.ensures.cases.0) at c.requires.wf).1))
+
+pub walk_fields-returns-in_err-walk_fields-clause-grows : goal.walk_fields-returns-in_err-walk_fields-clause-grows
+walk_fields-returns-in_err-walk_fields-clause-grows t c = grows_trans c.args.walk.now c.walk_term.new.walk c.walk_fields.new.walk c.in_ok-found.ensures.grows c.in_err-walk_fields.ensures.grows
+
+pub walk_fields-returns-in_default-found-clause-grows : goal.walk_fields-returns-in_default-found-clause-grows
+walk_fields-returns-in_default-found-clause-grows t c = grows_trans c.args.walk.now c.walk_term.new.walk c.walk_fields.new.walk c.in_ok-found.ensures.grows c.in_ok-walk_fields.ensures.grows
+
+pub walk_fields-walk_fields-requires-2 : goal.walk_fields-walk_fields-requires-2
+walk_fields-walk_fields-requires-2 t c =
+    let whole : size_of_fields (terms_of c.args.fields.now) ≡ 1 + size_of (term_of c.in-Some.field.now.1) + size_of_fields (terms_of c.in-Some.others.now) = ap (λ fs. size_of_fields (terms_of fs)) c.in-Some.ensures.cases.0 in
+    (omega (arith, c.decreases, whole), (c.in_ok-found.ensures.grows.sound, (rw (ap terms_of c.in-Some.ensures.cases.0) at c.requires.wf).1))
+
+pub walk_fields-returns-clause-grows : goal.walk_fields-returns-clause-grows
+walk_fields-returns-clause-grows t c = grows_trans c.args.walk.now c.walk_term.new.walk c.walk_fields-2.new.walk c.in_ok-found.ensures.grows c.walk_fields-2.ensures.grows
