@@ -5,7 +5,7 @@ use crate::watch::Watch;
 use lam_rules::Dialect;
 use lam_scope::{Place, Resolved, Scopes, bind, resolve};
 use lam_syntax::{Command, parse, pieces};
-use lam_token::lex;
+use lam_token::{Token, lex};
 use lam_typing::{Typing, TypingFault, analyse};
 use std::alloc::{AllocError, Global};
 use std::rt::Clock;
@@ -69,16 +69,29 @@ fn document(alloc: Global, uses: Uses, size: usize) -> Result<String, AllocError
 fn commands_of(alloc: Global, text: &str) -> Result<Vec<Command>, BenchFault> {
     let tokens = lex(alloc, text)?;
     let parts = pieces(alloc, tokens.as_slice())?;
+    all_parsed(alloc, &parts)
+}
+
+fn all_parsed(alloc: Global, parts: &[&[Token<'_>]]) -> Result<Vec<Command>, BenchFault> {
     let mut commands = Vec::new(alloc);
-    for piece in &parts {
-        let Ok(command) = parse(alloc, piece) else {
-            return Err(BenchFault::Answer);
-        };
-        let Ok(()) = commands.push(command) else {
-            return Err(BenchFault::Memory);
-        };
+    for part in parts {
+        push_parsed(alloc, &mut commands, part)?;
     }
     Ok(commands)
+}
+
+fn push_parsed(
+    alloc: Global,
+    commands: &mut Vec<Command>,
+    part: &[Token<'_>],
+) -> Result<(), BenchFault> {
+    let Ok(command) = parse(alloc, part) else {
+        return Err(BenchFault::Answer);
+    };
+    let Ok(()) = commands.push(command) else {
+        return Err(BenchFault::Memory);
+    };
+    Ok(())
 }
 
 /// What is timed of a document.
