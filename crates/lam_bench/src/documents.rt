@@ -75,23 +75,20 @@ fn commands_of(alloc: Global, text: &str) -> Result<Vec<Command>, BenchFault> {
 fn all_parsed(alloc: Global, parts: &[&[Token<'_>]]) -> Result<Vec<Command>, BenchFault> {
     let mut commands = Vec::new(alloc);
     for part in parts {
-        push_parsed(alloc, &mut commands, part)?;
+        add(&mut commands, parsed(alloc, part)?)?;
     }
     Ok(commands)
 }
 
-fn push_parsed(
-    alloc: Global,
-    commands: &mut Vec<Command>,
-    part: &[Token<'_>],
-) -> Result<(), BenchFault> {
-    let Ok(command) = parse(alloc, part) else {
-        return Err(BenchFault::Answer);
-    };
-    let Ok(()) = commands.push(command) else {
-        return Err(BenchFault::Memory);
-    };
-    Ok(())
+fn parsed(alloc: Global, part: &[Token<'_>]) -> Result<Command, BenchFault> {
+    match parse(alloc, part) {
+        Ok(command) => Ok(command),
+        Err(_) => Err(BenchFault::Answer),
+    }
+}
+
+fn add(commands: &mut Vec<Command>, command: Command) -> Result<(), AllocError> {
+    Ok(commands.push(command)?)
 }
 
 /// What is timed of a document.
