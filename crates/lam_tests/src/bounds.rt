@@ -1,0 +1,206 @@
+//! Joins and meets on trees and on numbers. Both bounds of two types are one type: an arrow from the join to the meet, or
+//! the join alone where there is no meet.
+
+ghost use Rattle.std.specs.Prelude.{IfOk};
+ghost use Rattle.lam_rules.specs.Numbers.{Stands};
+ghost use Rattle.lam_rules.specs.Types.{IsWellFormed};
+ghost use Rattle.lam_rules.specs.TypeViews.{typ_of};
+
+use crate::subtyping::add_both;
+use crate::table::doubled;
+use crate::written::{check_rows, equal, fields, labelled, type_of, well_formed};
+use Dialect::{One, Two};
+use lam_lattice::{join, join_no, meet, meet_no};
+use lam_rules::{Dialect, Shape, Ty, TyNo, TyTable, make_arrow, make_record, plain_text_of};
+use lam_sub::Verdicts;
+use std::alloc::{AllocError, Global};
+use std::test::Fail;
+
+fn bounds_type(alloc: Global, joined: Ty, met: Option<Ty>) -> Result<Ty, AllocError> {
+    match met {
+        Some(met) => make_arrow(alloc, joined, met),
+        None => Ok(joined),
+    }
+}
+
+/// By the trees.
+fn bounds(alloc: Global, left: &Ty, right: &Ty, dialect: Dialect) -> Result<String, AllocError>
+    requires left { IsWellFormed (typ_of left.now) }
+    requires right { IsWellFormed (typ_of right.now) }
+{
+    let joined = join(alloc, left, right, dialect)?;
+    let met = meet(alloc, left, right, dialect)?;
+    plain_text_of(alloc, &bounds_type(alloc, joined, met)?)
+}
+
+/// By the numbers in a table.
+fn numbered_join(alloc: Global, left: &Ty, right: &Ty, dialect: Dialect) -> Result<Ty, AllocError>
+    requires left { IsWellFormed (typ_of left.now) }
+    requires right { IsWellFormed (typ_of right.now) }
+{
+    let mut table = TyTable::new(alloc);
+    let mut verdicts = Verdicts::new(alloc, dialect);
+    let (left_number, right_number) = add_both(&mut table, left, right)?;
+    let number = join_no(&mut table, &mut verdicts, left_number, right_number)?;
+    table.tree(number)
+}
+
+fn numbered_meet(
+    alloc: Global,
+    left: &Ty,
+    right: &Ty,
+    dialect: Dialect,
+) -> Result<Option<Ty>, AllocError>
+    requires left { IsWellFormed (typ_of left.now) }
+    requires right { IsWellFormed (typ_of right.now) }
+{
+    let mut table = TyTable::new(alloc);
+    let mut verdicts = Verdicts::new(alloc, dialect);
+    let (left_number, right_number) = add_both(&mut table, left, right)?;
+    match meet_no(&mut table, &mut verdicts, left_number, right_number)? {
+        Some(number) => Ok(Some(table.tree(number)?)),
+        None => Ok(None),
+    }
+}
+
+fn numbered_bounds(
+    alloc: Global,
+    left: &Ty,
+    right: &Ty,
+    dialect: Dialect,
+) -> Result<String, AllocError>
+    requires left { IsWellFormed (typ_of left.now) }
+    requires right { IsWellFormed (typ_of right.now) }
+{
+    let joined = numbered_join(alloc, left, right, dialect)?;
+    let met = numbered_meet(alloc, left, right, dialect)?;
+    plain_text_of(alloc, &bounds_type(alloc, joined, met)?)
+}
+
+/// By the trees, where the numbers give the same.
+fn both_bounds(alloc: Global, left: &Ty, right: &Ty, dialect: Dialect) -> Result<String, AllocError>
+    requires left { IsWellFormed (typ_of left.now) }
+    requires right { IsWellFormed (typ_of right.now) }
+{
+    let mut trees = bounds(alloc, left, right, dialect)?;
+    let numbers = numbered_bounds(alloc, left, right, dialect)?;
+    if trees.as_str() != numbers.as_str() {
+        trees.push_str(&numbers)?;
+    }
+    Ok(trees)
+}
+
+const AB: &str = "{a:Nat, b:Bool}";
+
+const BC: &str = "{b:Bool, c:Unit}";
+
+/// The dialect, two types, and their bounds, with the fields in the order of the first type's.
+static ROWS: [((Dialect, &str, &str), &str); 22] = [
+    ((One, AB, BC), "{b:Bool}->{a:Nat, b:Bool, c:Unit}"),
+    ((One, BC, AB), "{b:Bool}->{b:Bool, c:Unit, a:Nat}"),
+    ((One, "{a:Nat}", "{a:Bool}"), "{a:Top}"),
+    ((Two, "{a:Nat}", "{a:Bool}"), "{a:Nat}->{a:Bool}"),
+    ((One, "Nat->Nat", "Bool->Nat"), "Top->Top->Nat"),
+    ((Two, "Nat->Nat", "Bool->Nat"), "(Bool->Nat)->Nat->Nat"),
+    ((One, "Nat->Nat", "Nat->Bool"), "Nat->Top"),
+    ((Two, "Nat->Nat", "Nat->Bool"), "(Nat->Nat)->Nat->Bool"),
+    (
+        (One, "{a:Nat}->Bool", "{b:Nat}->Nat"),
+        "{a:Nat, b:Nat}->Top",
+    ),
+    ((One, "{}", "Nat"), "Top"),
+    ((One, "Top", "{}"), "Top->{}"),
+    ((One, "{}", "Top"), "Top->{}"),
+    ((One, "Bool", "Nat"), "Top"),
+    ((One, "Nat", "Bool"), "Top"),
+    ((Two, "Bool", "Nat"), "Nat->Bool"),
+    ((Two, "Nat", "Bool"), "Nat->Bool"),
+    ((Two, "Nat", "Unit"), "Top"),
+    ((One, "Unit", "Unit"), "Unit->Unit"),
+    ((One, "Nat->Nat", AB), "Top"),
+    ((One, AB, "Nat->Nat"), "Top"),
+    (
+        (One, AB, "{b:Bool, a:Nat}"),
+        "{a:Nat, b:Bool}->{a:Nat, b:Bool}",
+    ),
+    ((One, "{}", AB), "{}->{a:Nat, b:Bool}"),
+];
+
+fn bounds_of_texts(
+    alloc: Global,
+    (dialect, left, right): (Dialect, &str, &str),
+) -> Result<String, Fail> {
+    let left_type = type_of(alloc, left)?;
+    let right_type = type_of(alloc, right)?;
+    Ok(both_bounds(alloc, &left_type, &right_type, dialect)?)
+}
+
+#[test]
+fn types_that_texts_write(rt: HostRuntime) -> Result<(), Fail> {
+    check_rows(&rt, rt.alloc(), bounds_of_texts, &ROWS)
+}
+
+/// `{l500:Nat, ..}->{l0:Nat, .., l500:Bool, ..}`
+fn wanted_of_wide(alloc: Global) -> Result<String, AllocError> {
+    let shared = labelled(alloc, 500, 1_000, ":Nat")?;
+    let front = labelled(alloc, 0, 500, ":Nat")?;
+    let lesser = labelled(alloc, 500, 1_500, ":Bool")?;
+    format!(in alloc; "{{{shared}}}->{{{front}, {lesser}}}")
+}
+
+/// Two records of a thousand fields that have five hundred labels in common, where Bool is below Nat.
+fn bounds_of_wide(alloc: Global) -> Result<String, Fail> {
+    let left = well_formed(make_record(fields(alloc, 0, 1_000, &Ty::Nat)?))?;
+    let right = well_formed(make_record(fields(alloc, 500, 1_500, &Ty::Bool)?))?;
+    Ok(both_bounds(alloc, &left, &right, Two)?)
+}
+
+#[test]
+fn records_of_a_thousand_fields(rt: HostRuntime) -> Result<(), Fail> {
+    equal(
+        &rt,
+        &bounds_of_wide(rt.alloc())?,
+        &wanted_of_wide(rt.alloc())?,
+    );
+    Ok(())
+}
+
+/// Two types of a trillion nodes each, neither of which is below the other.
+#[tactic(auto, using(lam_rules::proofs::Tables::numbers))]
+fn sides(table: &mut TyTable) -> Result<(TyNo, TyNo), AllocError>
+    ensures { IfOk result (λ both. Stands table.new both.0 × Stands table.new both.1) }
+{
+    let nat = table.intern(Shape::Nat)?;
+    let a = table.record(&[("a", nat)])?;
+    let b = table.record(&[("b", nat)])?;
+    let left = doubled(table, a, "a", "b", 40)?;
+    let right = doubled(table, b, "a", "b", 40)?;
+    Ok((left, right))
+}
+
+/// Their bounds: the same doublings of the empty record and of `{a:Nat, b:Nat}`.
+#[tactic(auto, using(lam_rules::proofs::Tables::numbers))]
+fn expected(table: &mut TyTable) -> Result<(TyNo, TyNo), AllocError> {
+    let nat = table.intern(Shape::Nat)?;
+    let none = table.record(&[])?;
+    let upper = doubled(table, none, "a", "b", 40)?;
+    let lower = doubled(table, nat, "a", "b", 41)?;
+    Ok((upper, lower))
+}
+
+#[tactic(auto, using(lam_rules::proofs::Tables::numbers))]
+fn doubled_bounds(alloc: Global) -> Result<(bool, bool), AllocError> {
+    let mut table = TyTable::new(alloc);
+    let mut verdicts = Verdicts::new(alloc, One);
+    let (left, right) = sides(&mut table)?;
+    let joined = join_no(&mut table, &mut verdicts, left, right)?;
+    let met = meet_no(&mut table, &mut verdicts, left, right)?;
+    let (upper, lower) = expected(&mut table)?;
+    Ok((joined == upper, met == Some(lower)))
+}
+
+#[test]
+fn types_doubled_forty_times(rt: HostRuntime) -> Result<(), AllocError> {
+    assert_eq!(rt; doubled_bounds(rt.alloc())?, (true, true));
+    Ok(())
+}

@@ -1,0 +1,298 @@
+//! Derivations, built again from their steps: the checker takes each for the term that it is of.
+
+use crate::written::{check_rows, commands_of, equal, labelled};
+use Dialect::{One, Two};
+use lam_query::answers::{Derivation, Step};
+use lam_query::derivation;
+use lam_rules::{
+    Dialect, SubProof, SubRule, Ty, TypeProof, TypeRule, check_type, plain_text_of, text_of,
+};
+use lam_scope::{bind, resolve};
+use std::alloc::{AllocError, Global};
+use std::test::Fail;
+
+/// The proofs of one kind that stand at these numbers. They are taken away, since a proof is a premise of one step.
+fn taken<T: Drop>(
+    alloc: Global,
+    made: &mut [Option<T>],
+    numbers: &[usize],
+) -> Result<Vec<T>, AllocError> {
+    let mut premises = Vec::new(alloc);
+    for number in numbers {
+        if let Some(proof) = made.get_mut(*number).and_then(Option::take) {
+            premises.push(proof)?;
+        }
+    }
+    Ok(premises)
+}
+
+fn type_proof(
+    alloc: Global,
+    typings: &mut [Option<TypeProof>],
+    subs: &mut [Option<SubProof>],
+    (rule, ty): (TypeRule, Ty),
+    premises: &[usize],
+) -> Result<TypeProof, AllocError> {
+    let typing = taken(alloc, typings, premises)?;
+    let sub = match taken(alloc, subs, premises)?.pop() {
+        Some(proof) => Some(Box::new(alloc, proof)?),
+        None => None,
+    };
+    Ok(TypeProof {
+        rule,
+        ty,
+        typing,
+        sub,
+    })
+}
+
+/// Puts the proof that a step stands for into the one list, and none into the other.
+fn add_step(
+    alloc: Global,
+    typings: &mut Vec<Option<TypeProof>>,
+    subs: &mut Vec<Option<SubProof>>,
+    step: Step,
+) -> Result<(), AllocError> {
+    match step {
+        Step::Typing {
+            rule,
+            ty,
+            premises,
+            ..
+        } => {
+            let proof = type_proof(alloc, typings, subs, (rule, ty), &premises)?;
+            typings.push(Some(proof))?;
+            subs.push(None)?;
+        }
+        Step::Sub {
+            rule,
+            lower,
+            upper,
+            premises,
+        } => {
+            let premises = taken(alloc, subs, &premises)?;
+            typings.push(None)?;
+            subs.push(Some(SubProof {
+                rule,
+                lower,
+                upper,
+                premises,
+            }))?;
+        }
+    }
+    Ok(())
+}
+
+/// The proof that the steps are.
+fn proof_of(alloc: Global, steps: Vec<Step>) -> Result<TypeProof, Fail> {
+    let mut typings = Vec::new(alloc);
+    let mut subs = Vec::new(alloc);
+    for step in steps {
+        add_step(alloc, &mut typings, &mut subs, step)?;
+    }
+    match typings.pop() {
+        Some(Some(proof)) => Ok(proof),
+        _ => Err(Fail::new("no typing is the last step")),
+    }
+}
+
+/// Whether the checker accepts the proof for the term at the offset.
+fn is_accepted(
+    alloc: Global,
+    text: &str,
+    offset: usize,
+    context: &[Option<Ty>],
+    proof: &TypeProof,
+    dialect: Dialect,
+) -> Result<bool, Fail> {
+    let commands = commands_of(alloc, text)?;
+    let scopes = bind(alloc, &commands)?;
+    let resolved = resolve(alloc, &commands, &scopes)?;
+    let Some(place) = scopes.place_at(offset) else {
+        return Ok(false);
+    };
+    if place.0 >= resolved.place_count() {
+        return Ok(false);
+    }
+    Ok(check_type(context, resolved.core_at(place), proof, dialect))
+}
+
+/// Names with their types, as `x:Nat; y; `.
+fn context_shown(alloc: Global, context: &[(String, Option<Ty>)]) -> Result<String, AllocError> {
+    let mut shown = String::new(alloc);
+    for (name, entry) in context {
+        shown.push_str(name)?;
+        if let Some(ty) = entry {
+            write!(shown, ":{}", plain_text_of(alloc, ty)?)?;
+        }
+        shown.push_str("; ")?;
+    }
+    Ok(shown)
+}
+
+fn entries_of(
+    alloc: Global,
+    context: Vec<(String, Option<Ty>)>,
+) -> Result<Vec<Option<Ty>>, AllocError> {
+    let mut entries = Vec::new(alloc);
+    for (_, entry) in context {
+        entries.push(entry)?;
+    }
+    Ok(entries)
+}
+
+/// The context, the type and the number of steps of the derivation at an offset, and whether the checker accepts it.
+fn derived(alloc: Global, (text, offset, dialect): (&str, usize, Dialect)) -> Result<String, Fail> {
+    let Some(found) = derivation(alloc, text, offset, dialect)? else {
+        return Ok(String::from_str(alloc, "none")?);
+    };
+    let Derivation { context, steps } = found;
+    let shown = context_shown(alloc, &context)?;
+    let entries = entries_of(alloc, context)?;
+    let count = steps.len();
+    let proof = proof_of(alloc, steps)?;
+    let accepted = is_accepted(alloc, text, offset, &entries, &proof, dialect)?;
+    Ok(format!(in alloc;
+        "{shown}|- {} by {count}, {accepted}",
+        text_of(alloc, &proof.ty)?
+    )?)
+}
+
+const APPLIED: &str = "(lambda r:{x:Nat}. r.x) {y=true, x=0};";
+
+const CHOSEN: &str = "let y = {b=0, a=true} in if y.a then y else {a=false}";
+
+const DECLARED: &str = "f : {a:Nat}->Nat; f {a=0, b=true}";
+
+const HIDDEN: &str =
+    "y = succ true; T = Nat; x : T; lambda r:{b:Nat, a:Bool}. let _ = r.b in let x = r in x";
+
+const RECURSIVE: &str = "letrec f:Nat->Top = lambda n:Nat. n in f";
+
+const BRANCHES: &str = "lambda c:Bool. if c then (lambda x:Nat. x) else (lambda x:Bool. 0)";
+
+/// Texts, offsets, and the derivations there.
+static ROWS: [((&str, usize, Dialect), &str); 25] = [
+    ((APPLIED, 23, One), "|- Nat by 11, true"),
+    ((APPLIED, 19, One), "r:{x:Nat}; |- {x:Nat} by 1, true"),
+    (
+        (CHOSEN, 25, One),
+        "y:{b:Nat, a:Bool}; |- {a:Bool} by 10, true",
+    ),
+    (
+        (CHOSEN, 28, One),
+        "y:{b:Nat, a:Bool}; |- {a:Bool, b:Nat} by 1, true",
+    ),
+    ((CHOSEN, 0, One), "|- {a:Bool} by 14, true"),
+    (
+        (DECLARED, 18, One),
+        "f:{a:Nat}->Nat; |- {a:Nat}->Nat by 1, true",
+    ),
+    ((DECLARED, 19, One), "f:{a:Nat}->Nat; |- Nat by 7, true"),
+    (
+        ("f : {a:Nat}->Nat; r = {b=true, a=0}; f r", 38, One),
+        "f:{a:Nat}->Nat; r:{b:Bool, a:Nat}; |- Nat by 7, true",
+    ),
+    (
+        ("letrec f:Nat->Nat = lambda n:Nat. f n in f", 35, One),
+        "f:Nat->Nat; n:Nat; |- Nat by 3, true",
+    ),
+    ((RECURSIVE, 0, One), "|- Nat->Nat by 12, true"),
+    (
+        ("letrec f:Nat->Top = lambda n:Nat. n in f 0", 0, One),
+        "|- Nat by 14, true",
+    ),
+    (("fix (lambda x:Top. 0)", 0, One), "|- Nat by 7, true"),
+    (
+        ("if true then {a=0} else {b=0}", 0, One),
+        "|- {} by 10, true",
+    ),
+    ((BRANCHES, 0, Two), "|- Bool->Bool->Nat by 11, true"),
+    (
+        ("Y = Q; z : Y; lambda x:Nat. x", 14, One),
+        "z; |- Nat->Nat by 2, true",
+    ),
+    (
+        ("(iszero (succ (pred 0))) as Top", 25, One),
+        "|- Top by 7, true",
+    ),
+    (("succ true", 0, Two), "|- Nat by 4, true"),
+    (
+        ("y = succ true; z = y;", 19, Two),
+        "y:Nat; |- Nat by 1, true",
+    ),
+    (
+        (HIDDEN, 85, One),
+        "y; x:Nat; r:{b:Nat, a:Bool}; _:Nat; x:{b:Nat, a:Bool}; |- {a:Bool, b:Nat} by 1, true",
+    ),
+    // Where no type is shown.
+    (("z", 0, One), "none"),
+    (("lambda x:Q. x;", 12, One), "none"),
+    (("x = 0; 1", 6, One), "none"),
+    (("unit false", 4, One), "none"),
+    (("{a=0, a=1}", 0, One), "none"),
+    (
+        ("letrec f:Nat->Top = lambda n:Nat. n in f unit", 0, One),
+        "none",
+    ),
+];
+
+#[test]
+fn derivations_that_the_checker_accepts(rt: HostRuntime) -> Result<(), Fail> {
+    check_rows(&rt, rt.alloc(), derived, &ROWS)
+}
+
+/// The derivation at the fourth byte of a definition whose record has labels from 500 and then those from 200, and what is
+/// before and behind that record.
+fn of_record(
+    alloc: Global,
+    before: &str,
+    end: u32,
+    behind: &str,
+    more: &str,
+) -> Result<String, Fail> {
+    let high = labelled(alloc, 500, end, behind)?;
+    let low = labelled(alloc, 200, 500, behind)?;
+    let text = format!(in alloc; "{before}{{{high}, {low}}}{more};")?;
+    derived(alloc, (&text, 4, One))
+}
+
+/// Of 1,999 tokens: three a field, 498 commas, two braces, the name and its equals sign.
+#[test]
+fn a_record_of_499_fields(rt: HostRuntime) -> Result<(), Fail> {
+    let sorted = labelled(rt.alloc(), 200, 699, ":Nat")?;
+    let wanted = format!(in rt.alloc(); "|- {{{sorted}}} by 500, true")?;
+    equal(&rt, &of_record(rt.alloc(), "x = ", 699, "=0", "")?, &wanted);
+    Ok(())
+}
+
+/// Of 1,998 tokens: three a field, 496 commas, two braces, and nine round them.
+#[test]
+fn a_written_type_of_497_fields(rt: HostRuntime) -> Result<(), Fail> {
+    let sorted = labelled(rt.alloc(), 200, 697, ":Nat")?;
+    let wanted = format!(in rt.alloc(); "|- {{{sorted}}}->Nat by 3, true")?;
+    let found = of_record(rt.alloc(), "f = lambda r:", 697, ":Nat", ". r.l696")?;
+    equal(&rt, &found, &wanted);
+    Ok(())
+}
+
+/// `x0`, `x1` and so on, so many, with the one text behind the even ones and the other behind the odd ones.
+fn numbered(alloc: Global, count: u32, even: &str, odd: &str) -> Result<String, AllocError> {
+    let mut text = String::new(alloc);
+    for number in 0..count {
+        let behind = if number % 2 == 0 { even } else { odd };
+        write!(text, "x{number}{behind}")?;
+    }
+    Ok(text)
+}
+
+#[test]
+fn a_context_of_199_names(rt: HostRuntime) -> Result<(), Fail> {
+    let front = numbered(rt.alloc(), 199, " = 0; ", " = true; ")?;
+    let text = format!(in rt.alloc(); "{front}x199 = x198;")?;
+    let context = numbered(rt.alloc(), 199, ":Nat; ", ":Bool; ")?;
+    let wanted = format!(in rt.alloc(); "{context}|- Nat by 1, true")?;
+    let offset = front.len().saturating_add(7);
+    equal(&rt, &derived(rt.alloc(), (&text, offset, One))?, &wanted);
+    Ok(())
+}
