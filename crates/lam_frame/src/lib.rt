@@ -16,8 +16,6 @@ mod held;
 mod laws;
 mod reader;
 mod streams;
-#[cfg(test)]
-mod tests;
 mod writer;
 
 pub use bytes::{BytesIn, BytesOut};

@@ -12,6 +12,3 @@ pub use laws::{
     bounds_in_order_are_one, each_pair_has_a_meet_or_nothing_below, every_pair_has_a_join,
 };
 pub use numbers::{join_no, meet_no};
-
-#[cfg(test)]
-mod tests;

@@ -31,8 +31,3 @@ pub use types::{
     Fields, Ty, copy_of, copy_of_fields, make_arrow, make_record, same, same_fields, size, wf,
 };
 pub use typing::{TypeProof, check_type};
-
-#[cfg(test)]
-mod table_tests;
-#[cfg(test)]
-mod tests;

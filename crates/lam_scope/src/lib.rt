@@ -35,8 +35,6 @@ mod seen;
 mod stacks;
 mod statement;
 mod stretches;
-#[cfg(test)]
-mod tests;
 mod token_lists;
 mod use_chains;
 mod uses_left;

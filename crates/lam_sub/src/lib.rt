@@ -14,6 +14,3 @@ pub use fields::field_type;
 pub use numbers::{field_number, is_sub_no};
 pub use proving::prove_sub;
 pub use verdicts::{Verdicts, verdicts_stay_right};
-
-#[cfg(test)]
-mod tests;

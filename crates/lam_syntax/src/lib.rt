@@ -17,8 +17,6 @@ mod spans;
 mod splitting;
 mod stop;
 mod terms;
-#[cfg(test)]
-mod tests;
 mod text;
 mod tokens;
 mod types;

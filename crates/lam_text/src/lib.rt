@@ -21,6 +21,3 @@ pub use document::Doc;
 pub use laws::{line_counts_ends, longest_front, one_cut, position_comes_back, range_is_unordered};
 pub use places::{Position, Range};
 pub use units::Encoding;
-
-#[cfg(test)]
-mod tests;

@@ -16,8 +16,6 @@ mod names;
 mod scan;
 mod segment;
 mod span;
-#[cfg(test)]
-mod tests;
 mod token;
 mod words;
 

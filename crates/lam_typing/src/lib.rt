@@ -29,6 +29,3 @@ pub use laws::{
     scopes_have_contexts, typed_where_unblamed,
 };
 pub use typing::Typing;
-
-#[cfg(test)]
-mod tests;

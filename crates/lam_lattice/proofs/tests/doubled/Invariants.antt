@@ -1,5 +1,0 @@
-use Rattle.lam_rules.specs.Numbers.{Stands, Keeps}
-use Rattle.lam_lattice.proofs.tests.doubled.Given as goal
-
-abbrev pub invariant-loop : goal.invariant-loop
-invariant-loop l = Keeps l.fn.table l.table × Stands l.table l.number
