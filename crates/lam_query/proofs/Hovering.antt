@@ -26,16 +26,6 @@ row_inside cs o n at = (position-Some (is_over o) (table cs).places n (place_row
 pub place_inside : (cs : List CommandTree) (o n : ℕ) → place_at (table cs) o ≡ Some n → n < length (places_in cs)
 place_inside cs o n at = rw (as_many_places cs) (row_inside cs o n at)
 
--- what was bound and what was resolved of the same commands have the same places
-pub inside_both : (cs : List CommandTree) (scopes : Scopes) (resolved : Resolved) (o n : ℕ)
-    → AreScopesOf scopes cs → statements_of resolved ≡ statements_in cs → Some n ≡ place_at (table_of scopes) o
-    → n < length (places_of [] (statements_of resolved))
-inside_both cs scopes resolved o n of same at =
-    let there = subst (λ t. Some n ≡ place_at t o) of.same_table at in
-    subst (λ ss. n < length (places_of [] ss)) (sym same) (place_inside cs o n (sym there))
-
-pub ruleset both = (inside_both)
-
 pub least_found : (cs : List CommandTree) (resolved : Resolved) (typing : Typing) (d : Dialect) (o n : ℕ)
     → AreFoundOf cs resolved typing d → place_at (table cs) o ≡ Some n
     → IsLeastAt (place_in cs n).scope (place_in cs n).here (get_or (found_of typing) n None) d
