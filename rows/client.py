@@ -125,6 +125,8 @@ class Script:
         self.texts, self.versions, self.requests = {}, {}, 0
         self.says, self.parts, self.repeats = "", {"prints": [], "complains": []}, 1
         self.recording, self.saved = None, None
+        if not row.steps:
+            raise Mistake("the row asks nothing")
         verbs = {getattr(it, "verb", "") for it in row.steps}
         self.is_whole = not verbs & {"send", "plays", "prints", "complains"}
         if self.is_whole:
@@ -197,6 +199,8 @@ class Script:
         elif self.texts[uri] != text:
             raise Mistake(f"the changes leave {self.texts[uri]!r}, and the row says {text!r}")
         if block.kind == "and":
+            if any(it.verb not in ("becomes", "inserts") for it in block.marks):
+                raise Mistake("a text behind 'and' is not the server's yet, so only its next change can be marked")
             return
         self.versions[uri] += 1
         document = {"uri": uri, "version": self.versions[uri]}

@@ -27,7 +27,7 @@ def plays(file):
             for encoding in row.encodings:
                 try:
                     ways.append(Script(row, dialect, encoding))
-                except Mistake as mistake:
+                except (Mistake, ValueError, IndexError) as mistake:
                     complaints.append(f"{file}:{row.line}: {row.title}: the row is wrong: {mistake}")
     return ways, complaints
 

@@ -129,7 +129,7 @@ class Reader:
             for at, source in enumerate(it.read().split("\n"), 1):
                 try:
                     self.take(at, source)
-                except Mistake as mistake:
+                except (Mistake, ValueError, IndexError) as mistake:
                     self.mistakes.append((at, str(mistake)))
         if not self.rows:
             self.mistakes.append((1, "the file has no row"))
