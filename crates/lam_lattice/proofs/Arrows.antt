@@ -1,10 +1,5 @@
 -- Bounds of two arrows.
-use Rattle.std.proofs.Common.{◌≡◌, ◌⊎◌, ◌∙◌, ap, sym, inl, inr, subst, Box}
-use Rattle.std.specs.declared.alloc.Global.{Global}
-use Rattle.lam_rules.specs.TypeViews.{typ_of}
-use Rattle.lam_rules.specs.declared.types.Ty.{Ty}
-use Rattle.lam_rules.specs.declared.types.Ty.TheVariants.{Arrow}
-use Rattle.lam_rules.proofs.TypeShapes.{typ_of-Arrow}
+use Rattle.std.proofs.Common.{◌≡◌, ◌⊎◌, sym, inl, inr, subst}
 use Rattle.lam_rules.specs.Types.{Typ, top, arrow, IsWellFormed}
 use Rattle.lam_rules.specs.Subtyping.{IsBelow}
 use Rattle.lam_rules.specs.declared.rules.Dialect.{Dialect}

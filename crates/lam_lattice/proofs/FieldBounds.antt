@@ -1,11 +1,10 @@
 -- Bounds of two record types.
-use Rattle.std.proofs.Common.{◌≡◌, ◌⊎◌, ℕ, ◌+◌, ◌<◌, ◌≤◌, ◌++◌, List, [], ◌∷◌, String, string_bytes, length, get_or, drop, sym, refl, inl, inr, subst}
-use Rattle.std.proofs.lemmas.List.{drop_all}
+use Rattle.std.proofs.Common.{◌≡◌, ◌⊎◌, ℕ, ◌+◌, ◌<◌, ◌++◌, List, [], ◌∷◌, String, string_bytes, length, get_or, drop, sym, refl, inl, inr, subst}
 use Rattle.std.specs.declared.alloc.Global.{Global}
 use Rattle.lam_rules.specs.TypeViews.{typ_of, fields_of}
 use Rattle.lam_rules.specs.declared.types.Ty.{Ty}
-use Rattle.lam_rules.proofs.TypeShapes.{fields_of-drop, joined-push, joined-none}
-use Rattle.lam_rules.specs.Types.{Label, Typ, top, record_of, Fields, no_fields, field, joined, Has, IsAbsent, IsWellFormed, AreWellFormed}
+use Rattle.lam_rules.proofs.TypeShapes.{fields_of-drop, joined-push}
+use Rattle.lam_rules.specs.Types.{Label, Typ, top, record_of, Fields, field, joined, Has, IsAbsent, IsWellFormed, AreWellFormed}
 use Rattle.lam_rules.specs.Subtyping.{IsBelow}
 use Rattle.lam_rules.specs.declared.rules.Dialect.{Dialect}
 use Rattle.lam_rules.proofs.ByShape.{below_wf}

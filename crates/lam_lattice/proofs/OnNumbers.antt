@@ -1,7 +1,7 @@
 -- Bounds of two types that are told by numbers of a table, while the table grows.
-use Rattle.std.proofs.Common.{◌≡◌, ◌∙◌, ℕ, ◌<◌, ◌++◌, List, [], ◌∷◌, String, Vec, length, ap, sym, refl, subst}
+use Rattle.std.proofs.Common.{◌≡◌, ◌∙◌, ℕ, ◌<◌, ◌++◌, List, [], ◌∷◌, String, length, ap, sym, refl, subst}
 use Rattle.std.specs.declared.alloc.Global.{Global}
-use Rattle.lam_rules.specs.Types.{Typ, top, arrow, record_of, Fields, joined, IsWellFormed}
+use Rattle.lam_rules.specs.Types.{Typ, top, arrow, record_of, joined, IsWellFormed}
 use Rattle.lam_rules.specs.Numbers.{type_of, Keeps, fields_over, shaped, IsOver, AreEarlier, HaveDistinctLabels}
 use Rattle.lam_rules.specs.declared.rules.Dialect.{Dialect}
 use Rattle.lam_rules.specs.declared.numbers.TyNo.{TyNo}
@@ -13,7 +13,7 @@ use Rattle.lam_sub.specs.OtherFields.{other_fields}
 use Rattle.lam_sub.specs.BoundOrder.{join_of_arrows, join_of_records, meet_of_arrows, meet_of_records}
 use Rattle.lam_sub.proofs.TableVerdicts.{fields_over-append}
 use Rattle.lam_lattice.specs.Bounds.{IsJoin, IsMeet, HaveNoMeet, JoinsInOrder, MeetsInOrder}
-use Rattle.lam_lattice.specs.Records.{AreUnlike, OrderlyJoins, OrderlyMeets, AreJoined, AreMet}
+use Rattle.lam_lattice.specs.Records.{OrderlyJoins, OrderlyMeets, AreJoined, AreMet}
 use Rattle.lam_lattice.proofs.Unlike.{join_seen, meet_seen, no_meet_seen}
 use Rattle.lam_lattice.proofs.Arrows.{arrows_join, arrows_join_top, arrows_meet, arrows_no_meet}
 use Rattle.lam_lattice.proofs.FieldBounds.{records_join, records_meet}

@@ -1,15 +1,9 @@
 -- Bounds of types that are not of one shape.
-use Rattle.std.proofs.Common.{◌≡◌, ◌∙◌, ap, sym, refl, subst, Box}
-use Rattle.std.specs.declared.alloc.Global.{Global}
-use Rattle.lam_rules.specs.Types.{Typ, top, arrow, record_of, Fields, IsWellFormed}
-use Rattle.lam_rules.specs.TypeViews.{typ_of, fields_of}
+use Rattle.std.proofs.Common.{◌≡◌, sym, refl, subst}
+use Rattle.lam_rules.specs.Types.{Typ, top, IsWellFormed}
 use Rattle.lam_rules.specs.Subtyping.{IsBelow}
 use Rattle.lam_rules.specs.declared.rules.Dialect.{Dialect}
-use Rattle.lam_rules.specs.declared.types.Ty.{Ty}
-use Rattle.lam_rules.specs.declared.types.Ty.TheVariants.{Arrow, Record}
-use Rattle.lam_rules.specs.declared.types.Fields.{Fields as RustFields, out-Fields}
 use Rattle.lam_rules.proofs.ByShape.{Under, under_bool, under_nat, under_unit, under_top, under_arrow, under_record, under_bool_nat, below_under, below_wf}
-use Rattle.lam_rules.proofs.TypeShapes.{ty_cases, typ_of-Bool, typ_of-Nat, typ_of-Unit, typ_of-Top, typ_of-Arrow, typ_of-Record}
 use Rattle.lam_rules.proofs.Composing.{below_refl, below_top}
 use Rattle.lam_sub.proofs.Below.{under_below}
 use Rattle.lam_lattice.specs.Bounds.{IsJoin, IsMeet, HaveNoMeet}

@@ -1,5 +1,5 @@
 -- What is shown of an offset, from what was found of places.
-use Rattle.std.proofs.Common.{◌≡◌, ℕ, ◌<◌, List, [], length, get_or, Some, None, sym, ap, subst, ◌∙◌}
+use Rattle.std.proofs.Common.{◌≡◌, ℕ, ◌<◌, List, length, get_or, Some, None, sym, ap, ◌∙◌}
 use Rattle.std.proofs.lemmas.List.Quantifiers.{position-Some}
 use Rattle.std.specs.Option.{unwrap_or}
 use Rattle.lam_rules.specs.Types.{Typ}
@@ -7,14 +7,11 @@ use Rattle.lam_rules.specs.declared.rules.Dialect.{Dialect}
 use Rattle.lam_token.specs.declared.span.Span.{Span}
 use Rattle.lam_syntax.specs.Trees.{CommandTree}
 use Rattle.lam_scope.specs.declared.resolved.Resolved.{Resolved}
-use Rattle.lam_scope.specs.declared.scopes.Scopes.{Scopes}
-use Rattle.lam_scope.specs.Places.{places_of}
-use Rattle.lam_scope.specs.Views.{AreScopesOf, table_of, statements_of}
 use Rattle.lam_scope.specs.Tables.{table, place_at, is_over, place_row_numbered}
 use Rattle.lam_typing.specs.LeastTypes.{IsLeastAt}
 use Rattle.lam_typing.specs.declared.typing.Typing.{Typing}
 use Rattle.lam_typing.specs.Typings.{found_of}
-use Rattle.lam_query.specs.Sizes.{IsSizeFault, statements_in, places_in}
+use Rattle.lam_query.specs.Sizes.{IsSizeFault, places_in}
 use Rattle.lam_query.specs.Hovers.{place_in, IsTypedAround, IsHover}
 use Rattle.lam_query.specs.Analyses.{AreFoundOf}
 use Rattle.lam_scope.proofs.PlaceCounts.{as_many_places}

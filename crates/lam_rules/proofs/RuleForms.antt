@@ -18,7 +18,7 @@ use Rattle.lam_rules.specs.declared.rules.Dialect.{Dialect}
 use Rattle.lam_rules.specs.declared.rules.TypeRule.{TypeRule}
 use Rattle.lam_rules.specs.declared.terms.Core.{Core}
 use Rattle.lam_rules.specs.declared.terms.Core.TheVariants.{True, False, If, Num, Succ, Pred, IsZero, Var, Abs, App, Unit as UnitTerm, Ascribe, Let, Record, Proj, Fix}
-use Rattle.lam_rules.proofs.TermShapes.{term_of-True, term_of-False, term_of-Num, term_of-Unit, term_of-Var, term_of-If, term_of-Succ, term_of-Pred, term_of-IsZero, term_of-Abs, term_of-App, term_of-Ascribe, term_of-Let, term_of-Proj, term_of-Fix, term_of-Record, terms_of-drop, Seen, seen, seen_True, seen_False, seen_If, seen_Num, seen_Succ, seen_Pred, seen_IsZero, seen_Var, seen_Abs, seen_App, seen_Unit, seen_Ascribe, seen_Let, seen_Record, seen_Proj, seen_Fix}
+use Rattle.lam_rules.proofs.TermShapes.{term_of-True, term_of-False, term_of-Num, term_of-Unit, term_of-Var, term_of-Succ, term_of-Pred, term_of-IsZero, term_of-Abs, term_of-App, term_of-Ascribe, term_of-Let, term_of-Proj, term_of-Fix, term_of-Record, terms_of-drop, Seen, seen, seen_True, seen_False, seen_If, seen_Num, seen_Succ, seen_Pred, seen_IsZero, seen_Var, seen_Abs, seen_App, seen_Unit, seen_Ascribe, seen_Let, seen_Record, seen_Proj, seen_Fix}
 
 -- a rule with a proof of subtyping is T-Sub
 pub only_sub : (r : TypeRule) → (r ≡ TypeRule.Sub → ⊥)

@@ -1,5 +1,5 @@
 -- How types are seen as trees: the tree at each variant, what a tree says of its type, and lists of fields.
-use Rattle.std.proofs.Common.{◌≡◌, ℕ, ◌+◌, ◌<◌, List, [], ◌∷◌, map, String, string_bytes, length, drop, get_or, ap, sym, ◌∙◌, refl, Box, drop-cons, add-one, subst, zero, suc, arith, ◌++◌, codes, ◌≢◌, append_assoc, ◌≤◌, Vec}
+use Rattle.std.proofs.Common.{◌≡◌, ℕ, ◌+◌, ◌<◌, List, [], ◌∷◌, map, String, string_bytes, length, drop, get_or, ap, sym, ◌∙◌, refl, Box, drop-cons, add-one, subst, suc, arith, ◌++◌, codes, ◌≢◌, append_assoc, ◌≤◌, Vec}
 use Rattle.std.specs.declared.alloc.Global.{Global}
 use Rattle.std.proofs.lemmas.List.{drop_all}
 use Rattle.lam_rules.specs.Texts.{Text, left_of_arrow, separator_before}
