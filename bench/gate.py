@@ -13,6 +13,16 @@ ROOT = os.path.join(os.path.dirname(os.path.realpath(__file__)), "..")
 COUNT = re.compile(r"(\d+) passed, (\d+) failed$")
 
 
+# What one check takes of memory at most, in bytes.
+A_CHECK = 5 << 30
+
+
+def lanes():
+    """How many crates are proved at a time, by one process each: several processes for one crate would load its libraries several times."""
+    memory = os.sysconf("SC_PAGE_SIZE") * os.sysconf("SC_PHYS_PAGES")
+    return max(1, min(len(os.sched_getaffinity(0)), memory // A_CHECK))
+
+
 def counted(words):
     """Runs the words and passes on what they print, but for the last line, which counts; returns the counts."""
     passed, failed, last = 0, 1, None
@@ -33,6 +43,7 @@ def counted(words):
 
 def main():
     start = time.monotonic()
+    os.environ.setdefault("RT_JOBS", str(lanes()))
     proofs = counted(["rt", "ci"])
     print(f"proofs, tests and edits: {proofs[0]} right, {proofs[1]} wrong", flush=True)
     middle = time.monotonic()
