@@ -11,6 +11,7 @@ pub struct Watch {
 }
 
 impl Watch {
+    /// Begins to take the time.
     pub fn start(clock: &impl Clock) -> Watch {
         Watch {
             start: Instant::now(clock).ok(),
