@@ -25,8 +25,11 @@ fn bound_at(alloc: Global, (text, offset): (&str, usize)) -> Result<String, Fail
     Ok(shown)
 }
 
+const DOWN: &str =
+    "letrec down:Nat->Bool = lambda n:Nat. if iszero n then true else down (pred n) in down 3";
+
 /// Texts, offsets, and the binders of the names there.
-static NAMES: [((&str, usize), &str); 22] = [
+static NAMES: [((&str, usize), &str); 23] = [
     (("x = 0; x = succ x; x", 16), "0: 0..1 16..17"),
     (("x = 0; x = succ x; x", 19), "1: 7..8 19..20"),
     (("x = 0; x = succ x; x", 0), "0: 0..1 16..17"),
@@ -46,6 +49,7 @@ static NAMES: [((&str, usize), &str); 22] = [
     (("letrec f:Nat = f in f", 7), "1: 7..8 15..16 20..21"),
     (("letrec f:Nat = f in f", 15), "1: 7..8 15..16 20..21"),
     (("letrec f:Nat = f in f", 20), "1: 7..8 15..16 20..21"),
+    ((DOWN, 7), "1: 7..11 65..69 82..86"),
     (("x = 0; y", 0), "0: 0..1"),
     (("x = 0; succ x; {x=x}", 0), "0: 0..1 12..13 18..19"),
     (
