@@ -4,6 +4,7 @@ import json
 import re
 
 from client import Failed, bodies_of, compact, compare_end, framed, ran
+from texts import edited
 
 SAVED = "file:///saved"
 
@@ -24,6 +25,20 @@ def hovers(uri, text, name):
     return frames
 
 
+def left_by(messages):
+    """The text that the opening and the changes among these messages leave, by the player's own reading of the protocol."""
+    text = ""
+    for message in messages:
+        if message.get("method") == "textDocument/didOpen":
+            text = message["params"]["textDocument"]["text"]
+        elif message.get("method") == "textDocument/didChange":
+            for change in message["params"]["contentChanges"]:
+                where = change.get("range")
+                places = where and [(where[it]["line"], where[it]["character"]) for it in ("start", "end")]
+                text = edited(text, (places, change["text"]), "utf-16")
+    return text
+
+
 def answers_of(output):
     """What each request was answered, by its id, and the faults that each document had before it was closed."""
     results, faults = {}, {}
@@ -39,8 +54,11 @@ def answers_of(output):
 def check_recording(program, script):
     """Plays the bodies; in front of the one that closes the document, a document with the saved text is opened, and both are asked about each place."""
     bodies, saved = read(script.recording).splitlines(), read(script.saved)
-    close = next(at for at, body in enumerate(bodies) if json.loads(body).get("method") == "textDocument/didClose")
-    uri = json.loads(bodies[close])["params"]["textDocument"]["uri"]
+    messages = [json.loads(body) for body in bodies]
+    close = next(at for at, it in enumerate(messages) if it.get("method") == "textDocument/didClose")
+    uri = messages[close]["params"]["textDocument"]["uri"]
+    if left_by(messages[:close]) != saved:
+        raise Failed("  the recorded changes do not leave the saved text")
     document = {"textDocument": {"uri": SAVED, "text": saved}}
     opened = framed(compact({"method": "textDocument/didOpen", "params": document}))
     asked = [*hovers(uri, saved, "edited"), opened, *hovers(SAVED, saved, "saved")]
