@@ -5,6 +5,7 @@
 
 mod deciding;
 mod fields;
+mod kept_bounds;
 mod numbers;
 mod proving;
 mod verdicts;

@@ -1,9 +1,9 @@
-//! What was once found of two types of a table, by their numbers.
+//! Whether one type of a table is below another, where that was once found, by their numbers.
 
 ghost use Rattle.std.specs.Prelude.{◌≡◌, List, Some, IfSome, OnOk};
 ghost use Rattle.lam_rules.specs.Types.{Typ};
 ghost use Rattle.lam_rules.specs.Numbers.{Keeps};
-ghost use Rattle.lam_sub.specs.Remembered.{IsVerdict, IsJoinOf, IsMeetOf, AreRight, verdict_kept, join_kept, meet_kept};
+ghost use Rattle.lam_sub.specs.Remembered.{IsVerdict, AreRight, verdict_kept};
 ghost use Rattle.lam_sub.specs.declared.verdicts.Verdicts.{Verdicts};
 
 use lam_rules::{Dialect, TyNo};
@@ -19,9 +19,9 @@ pub struct Verdicts {
     pub dialect: Dialect,
     /// Whether the first type is below the second, under the numbers of their sorted forms.
     below: HashMap<(TyNo, TyNo), bool>,
-    joins: HashMap<(TyNo, TyNo), TyNo>,
+    pub(crate) joins: HashMap<(TyNo, TyNo), TyNo>,
     /// None where no type is below both.
-    meets: HashMap<(TyNo, TyNo), Option<TyNo>>,
+    pub(crate) meets: HashMap<(TyNo, TyNo), Option<TyNo>>,
 }
 
 impl Verdicts {
@@ -59,47 +59,6 @@ impl Verdicts {
         ensures right { (ts : List Typ) → AreRight ts self.old → IsVerdict ts self.old.dialect (lower, upper) is_below → AreRight ts self.new }
     {
         self.below.insert((lower, upper), is_below)?;
-        Ok(())
-    }
-
-    /// What is kept as the join of two types.
-    pub fn known_join(&self, left: TyNo, right: TyNo) -> Option<TyNo>
-        ensures kept { result ≡ join_kept self.now (left, right) }
-        ensures right { (ts : List Typ) → AreRight ts self.now → IfSome result (IsJoinOf ts self.now.dialect (left, right)) }
-    {
-        self.joins.get(&(left, right)).copied()
-    }
-
-    /// Keeps a join of two types.
-    pub fn keep_join(&mut self, left: TyNo, right: TyNo, number: TyNo) -> Result<(), AllocError>
-        ensures kept { OnOk result (join_kept self.new (left, right) ≡ Some number) }
-        ensures dialect { self.new.dialect ≡ self.old.dialect }
-        ensures right { (ts : List Typ) → AreRight ts self.old → IsJoinOf ts self.old.dialect (left, right) number → AreRight ts self.new }
-    {
-        self.joins.insert((left, right), number)?;
-        Ok(())
-    }
-
-    /// What is kept as the meet of two types: some none where it is known that there is no meet.
-    pub fn known_meet(&self, left: TyNo, right: TyNo) -> Option<Option<TyNo>>
-        ensures kept { result ≡ meet_kept self.now (left, right) }
-        ensures right { (ts : List Typ) → AreRight ts self.now → IfSome result (IsMeetOf ts self.now.dialect (left, right)) }
-    {
-        self.meets.get(&(left, right)).copied()
-    }
-
-    /// Keeps a meet of two types, or that they have none.
-    pub fn keep_meet(
-        &mut self,
-        left: TyNo,
-        right: TyNo,
-        found: Option<TyNo>,
-    ) -> Result<(), AllocError>
-        ensures kept { OnOk result (meet_kept self.new (left, right) ≡ Some found) }
-        ensures dialect { self.new.dialect ≡ self.old.dialect }
-        ensures right { (ts : List Typ) → AreRight ts self.old → IsMeetOf ts self.old.dialect (left, right) found → AreRight ts self.new }
-    {
-        self.meets.insert((left, right), found)?;
         Ok(())
     }
 }
