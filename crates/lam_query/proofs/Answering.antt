@@ -10,7 +10,7 @@ use Rattle.lam_rules.specs.declared.rules.Dialect.{Dialect}
 use Rattle.lam_token.specs.declared.span.Span.{Span}
 use Rattle.lam_syntax.specs.Trees.{CommandTree}
 use Rattle.lam_scope.specs.declared.resolved.Resolved.{Resolved}
-use Rattle.lam_scope.specs.declared.fault.TypeFault.{TypeFault}
+use Rattle.lam_scope.specs.declared.type_fault.TypeFault.{TypeFault}
 use Rattle.lam_scope.specs.Nameless.{first_too_large, faults}
 use Rattle.lam_scope.specs.Places.{Statement, places_of}
 use Rattle.lam_scope.specs.Tables.{Table, table, no_span, place_at, place_row_numbered}

@@ -13,8 +13,8 @@ use Rattle.lam_token.specs.Lexeme.{Lexeme, lexeme, span_of}
 use Rattle.lam_token.specs.Cut as token
 use Rattle.lam_syntax.specs.Trees.{CommandTree}
 use Rattle.lam_syntax.specs.Answers.{pieces_of}
-use Rattle.lam_scope.specs.declared.fault.TypeFault.{TypeFault}
-use Rattle.lam_scope.specs.declared.fault.TypeFault.TheVariants.{UnboundTypeName, RepeatedLabel}
+use Rattle.lam_scope.specs.declared.type_fault.TypeFault.{TypeFault}
+use Rattle.lam_scope.specs.declared.type_fault.TypeFault.TheVariants.{UnboundTypeName, RepeatedLabel}
 use Rattle.lam_scope.specs.Nameless.{faults}
 use Rattle.lam_scope.specs.Tables.{no_span}
 use Rattle.lam_typing.specs.Blaming.{Blamed}

@@ -15,8 +15,8 @@ use Rattle.lam_syntax.specs.Trees.{CommandTree}
 use Rattle.lam_syntax.specs.Answers.{pieces_of}
 use Rattle.lam_scope.specs.Nameless.{faults}
 use Rattle.lam_scope.specs.Places.{Scope, Place}
-use Rattle.lam_scope.specs.declared.fault.TypeFault.{TypeFault}
-use Rattle.lam_scope.specs.declared.fault.TypeFault.TheVariants.{UnboundTypeName, RepeatedLabel}
+use Rattle.lam_scope.specs.declared.type_fault.TypeFault.{TypeFault}
+use Rattle.lam_scope.specs.declared.type_fault.TypeFault.TheVariants.{UnboundTypeName, RepeatedLabel}
 use Rattle.lam_typing.specs.Blaming.{Blamed, IsBlamedFor, application_code, AreBlamed}
 use Rattle.lam_query.specs.Faults.{Fault, fault_codes, is_among, HasKnownCode}
 use Rattle.lam_query.specs.Sizes.{places_in}

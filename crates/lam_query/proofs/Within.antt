@@ -5,8 +5,8 @@ use Rattle.lam_token.specs.declared.span.Span.{Span}
 use Rattle.lam_syntax.specs.Trees.{word, bound, TypeTree, type_tree, TypeNode, bool, nat, unit, top, named, arrow, record_type, TypeFields, no_type_fields, type_field, joined_types, TermTree, term_tree, TermNode, true_term, false_term, unit_term, variable, numeral, lambda, if_term, let_term, letrec_term, prefixed, apply, project, ascribe, record_term, TermFields, no_fields, field, CommandTree, definition, declaration, abbreviation, evaluation, type_span, term_span}
 use Rattle.lam_scope.specs.Expansions.{Abbreviation, expansion, is_bound, has_label, label_fault, type_faults, node_faults, field_faults, is_over_limit}
 use Rattle.lam_scope.specs.Nameless.{written_in, written_in_node, written_in_fields, written_in_command, faults_in, first_over_limit, faults, first_too_large, abbreviations_after}
-use Rattle.lam_scope.specs.declared.fault.TypeFault.{TypeFault}
-use Rattle.lam_scope.specs.declared.fault.TypeFault.TheVariants.{UnboundTypeName, RepeatedLabel}
+use Rattle.lam_scope.specs.declared.type_fault.TypeFault.{TypeFault}
+use Rattle.lam_scope.specs.declared.type_fault.TypeFault.TheVariants.{UnboundTypeName, RepeatedLabel}
 use Rattle.lam_scope.specs.declared.numbers.Origin.TheVariants.{Declaration, TypeName}
 use Rattle.lam_scope.specs.Names.{Name}
 use Rattle.lam_scope.specs.Sights.{lambda_at, term_at}

@@ -6,8 +6,8 @@ use Rattle.lam_token.specs.Cut.{AreTokensOf}
 use Rattle.lam_rules.specs.declared.rules.Dialect.{Dialect}
 use Rattle.lam_syntax.specs.Trees.{CommandTree}
 use Rattle.lam_syntax.specs.Answers.{pieces_of}
-use Rattle.lam_scope.specs.declared.fault.TypeFault.{TypeFault}
-use Rattle.lam_scope.specs.declared.fault.TypeFault.TheVariants.{UnboundTypeName, RepeatedLabel}
+use Rattle.lam_scope.specs.declared.type_fault.TypeFault.{TypeFault}
+use Rattle.lam_scope.specs.declared.type_fault.TypeFault.TheVariants.{UnboundTypeName, RepeatedLabel}
 use Rattle.lam_scope.specs.Nameless.{faults}
 use Rattle.lam_typing.specs.Blaming.{Blamed, AreBlamed}
 use Rattle.lam_query.specs.Commands.{AreCommandsOf}

@@ -6,8 +6,8 @@ use Rattle.std.proofs.Math.Dec.{ltb}
 use Rattle.lam_rules.specs.Types as rules
 use Rattle.lam_rules.specs.Types.{Typ, Fields, Label, nodes, nodes_in}
 use Rattle.lam_syntax.specs.Trees.{Word, word, TypeTree, type_tree, TypeNode, bool, nat, unit, top, named, arrow, record_type, TypeFields, no_type_fields, type_field, joined_types}
-use Rattle.lam_scope.specs.declared.fault.TypeFault.{TypeFault}
-use Rattle.lam_scope.specs.declared.fault.TypeFault.TheVariants.{UnboundTypeName, RepeatedLabel}
+use Rattle.lam_scope.specs.declared.type_fault.TypeFault.{TypeFault}
+use Rattle.lam_scope.specs.declared.type_fault.TypeFault.TheVariants.{UnboundTypeName, RepeatedLabel}
 use Rattle.lam_scope.specs.Names.{Name}
 
 -- an abbreviation: a type name and what it stands for, or none where its written type is faulty

@@ -3,7 +3,7 @@ use Rattle.std.specs.Prelude.{◌≡◌, List, ◌++◌, Result, IfOk, OnOk}
 use Rattle.lam_rules.specs.declared.terms.Core.{Core}
 use Rattle.lam_rules.specs.TermViews.{term_of}
 use Rattle.lam_syntax.specs.Trees.{TermNode, CommandTree}
-use Rattle.lam_scope.specs.declared.fault.ScopeFault.{ScopeFault}
+use Rattle.lam_scope.specs.declared.scope_fault.ScopeFault.{ScopeFault}
 use Rattle.lam_scope.specs.declared.nameless.Forming.{Forming}
 use Rattle.lam_scope.specs.declared.resolver.Resolver.{Resolver}
 use Rattle.lam_scope.specs.Counted.{counted_node, past_node, past_command}

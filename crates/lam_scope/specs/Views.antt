@@ -8,9 +8,9 @@ use Rattle.lam_rules.specs.declared.types.Ty.{Ty}
 use Rattle.lam_scope.specs.declared.abbreviations.Abbreviations.{Abbreviations}
 use Rattle.lam_syntax.specs.Trees.{CommandTree}
 use Rattle.lam_token.specs.declared.span.Span.{Span}
-use Rattle.lam_scope.specs.declared.fault.ScopeFault.{ScopeFault}
-use Rattle.lam_scope.specs.declared.fault.ScopeFault.TheVariants as faults
-use Rattle.lam_scope.specs.declared.fault.TypeFault.{TypeFault}
+use Rattle.lam_scope.specs.declared.scope_fault.ScopeFault.{ScopeFault}
+use Rattle.lam_scope.specs.declared.scope_fault.ScopeFault.TheVariants as faults
+use Rattle.lam_scope.specs.declared.type_fault.TypeFault.{TypeFault}
 use Rattle.lam_scope.specs.declared.numbers.Origin.{Origin}
 use Rattle.lam_scope.specs.declared.resolved.Resolved.{Resolved}
 use Rattle.lam_scope.specs.declared.scopes.Scopes.{Scopes}

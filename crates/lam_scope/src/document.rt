@@ -7,11 +7,11 @@ ghost use Rattle.lam_scope.specs.Tables.{table};
 ghost use Rattle.lam_scope.specs.TableViews.{text_use};
 ghost use Rattle.lam_scope.specs.Views.{statement_of, statements_of, origins_of, faults_of, AreScopesOf, IsLimit};
 
-use crate::fault::ScopeFault;
 use crate::numbers::Origin;
 use crate::resolved::Resolved;
 use crate::resolver::Resolver;
 use crate::rows::{BinderRow, UseRow};
+use crate::scope_fault::ScopeFault;
 use crate::scopes::Scopes;
 use lam_syntax::Command;
 use std::alloc::{AllocError, Global};

@@ -7,7 +7,7 @@ ghost use Rattle.lam_scope.specs.Expansions.{expansion, expansion_of_fields, cap
 ghost use Rattle.lam_scope.specs.Views.{abbreviations_of, expanded_fields_of};
 
 use crate::abbreviations::Abbreviations;
-use crate::fault::TypeFault;
+use crate::type_fault::TypeFault;
 use lam_rules::{Ty, copy_of, make_arrow, make_record, size};
 use lam_syntax::{TyField, TyNode, WrittenTy};
 use std::alloc::{AllocError, Global};

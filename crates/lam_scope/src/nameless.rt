@@ -14,7 +14,8 @@ ghost use Rattle.lam_scope.specs.Views.{abbreviations_of, IsLimit};
 
 use crate::abbreviations::Abbreviations;
 use crate::expansion::{NODE_LIMIT, collect_faults, expand, expanded_size};
-use crate::fault::{ScopeFault, TypeFault};
+use crate::scope_fault::ScopeFault;
+use crate::type_fault::TypeFault;
 use crate::uses_left::{UsesLeft, pass_type};
 use lam_rules::{Core, Ty, make_letrec};
 use lam_syntax::{

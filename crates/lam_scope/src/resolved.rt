@@ -7,10 +7,10 @@ ghost use Rattle.lam_scope.specs.StatementViews.{statement_of};
 ghost use Rattle.lam_scope.specs.WellFormed.{AreWellFormedStatements};
 ghost use Rattle.lam_scope.specs.ProofIrrelevance.{AreWellFormedStatements-prop};
 
-use crate::fault::TypeFault;
 use crate::numbers::{Origin, Place};
 use crate::search::{Found, find_place};
 use crate::statement::Statement;
+use crate::type_fault::TypeFault;
 use lam_rules::Core;
 
 /// The commands of a document without their names, where each binder takes its type from, the faults of written types,

@@ -8,9 +8,9 @@ ghost use Rattle.lam_scope.specs.Views.{statement_of, abbreviations_of};
 
 use crate::abbreviations::Abbreviations;
 use crate::expansion::copy_of_written;
-use crate::fault::ScopeFault;
 use crate::nameless::{Forming, nameless, nameless_type};
 use crate::rows::UseRow;
+use crate::scope_fault::ScopeFault;
 use crate::statement::Statement;
 use crate::uses_left::UsesLeft;
 use lam_syntax::Command;

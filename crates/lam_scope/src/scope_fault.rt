@@ -1,18 +1,9 @@
-//! What can be wrong with written types.
+//! Why no nameless form is made: an error of the call.
 ghost use Rattle.std.specs.Prelude.{◌≡◌};
-ghost use Rattle.lam_scope.specs.declared.fault.ScopeFault.TheVariants.{Memory};
+ghost use Rattle.lam_scope.specs.declared.scope_fault.ScopeFault.TheVariants.{Memory};
 
 use lam_token::Span;
 use std::alloc::{AllocError, AllocFailed};
-
-/// A fault of a written type, at its token.
-#[derive(Clone, Copy, Debug, PartialEq, Eq)]
-pub enum TypeFault {
-    /// A type name that no command before binds.
-    UnboundTypeName(Span),
-    /// The label of a field that has the same label as a field before it.
-    RepeatedLabel(Span),
-}
 
 /// Why a document has no nameless form.
 #[derive(Clone, Copy, Debug, PartialEq, Eq)]
