@@ -9,7 +9,7 @@ use Rattle.lam_scope.specs.declared.statement.Statement.{Statement as RustStatem
 use Rattle.lam_scope.specs.Expansions.{Abbreviation}
 use Rattle.lam_scope.specs.Nameless.{first_over_limit, first_too_large, abbreviations_after, written_in_command}
 use Rattle.lam_scope.specs.declared.rows.BinderRow.{BinderRow}
-use Rattle.lam_scope.specs.TableViews.{text_binder}
+use Rattle.lam_scope.specs.TableViews.{text_binder, origin_of}
 use Rattle.lam_scope.specs.Views.{statement_of}
 
 pub statements-push : (ss : List RustStatement) (s : RustStatement) → map statement_of (ss ++ s ∷ []) ≡ map statement_of ss ++ statement_of s ∷ []
@@ -32,6 +32,6 @@ first_is_large bs c cs s some = rw some refl
 
 pub ruleset commands = (commands-drop, first_large, first_is_large, append-nil, append_assoc, drop_all)
 
-pub origins-rows : (rows : List BinderRow) → map (λ b. b.origin) (map text_binder rows) ≡ map (λ r. r.origin) rows
+pub origins-rows : (rows : List BinderRow) → map (λ b. b.origin) (map text_binder rows) ≡ map (λ r. origin_of r.origin) rows
 origins-rows [] = refl
-origins-rows (r ∷ rows) = ap (λ os. r.origin ∷ os) (origins-rows rows)
+origins-rows (r ∷ rows) = ap (λ os. origin_of r.origin ∷ os) (origins-rows rows)

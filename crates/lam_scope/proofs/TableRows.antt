@@ -1,5 +1,5 @@
 -- How rows are added to tables.
-use Rattle.std.proofs.Common.{◌≡◌, ℕ, ◌+◌, ◌<◌, ◌≤◌, List, [], ◌∷◌, ◌++◌, length, drop, get_or, slice_set, zero, suc, refl, ap, sym, ◌∙◌, append_assoc, length-append, map, arith, Option, true}
+use Rattle.std.proofs.Common.{◌≡◌, ℕ, ◌+◌, ◌<◌, ◌≤◌, List, [], ◌∷◌, ◌++◌, length, drop, get_or, slice_set, zero, suc, refl, ap, sym, ◌∙◌, append_assoc, length-append, map, arith, Option, true, Some}
 use Rattle.lam_syntax.specs.Letters.{letters}
 use Rattle.std.proofs.lemmas.List.{append-nil, map-append, drop_all}
 use Rattle.std.specs.Option.{option_map}
@@ -20,7 +20,7 @@ use Rattle.lam_scope.specs.Names.{Name, count}
 use Rattle.lam_scope.specs.Slices.{AreInOrder}
 use Rattle.lam_scope.specs.Sights.{lambda_at, term_at}
 use Rattle.lam_scope.specs.Tables.{TextBinder, Table, ◌⊕◌, empty_table, Entry, entry, entry_names, letrec_rows, innermost, bound_to, binder_row, use_row, place_row, root, behind, roots_of_fields, binders_in, binders_in_fields, below_fields, field_uses, term_table, fields_table, command_table, types_seen_after, names_seen_after, binders_in_command, places_in_command, commands_table}
-use Rattle.lam_scope.specs.TableViews.{binder_number, binder_of, between_of, place_number, text_binder, text_use, text_place, text_places, terms_start, rows_table, originated, with_origin}
+use Rattle.lam_scope.specs.TableViews.{binder_number, binder_of, between_of, place_number, text_binder, text_use, text_place, text_places, terms_start, rows_table, originated, with_origin, origin_of}
 use Rattle.lam_scope.proofs.Resolving.{commands-drop}
 use Rattle.lam_scope.proofs.Slices.{in_order-longer, in_order-pushed, sliced-pushed}
 use Rattle.lam_scope.proofs.Walks.{fields_of-drop}
@@ -44,10 +44,10 @@ empty_plus s = refl
 
 pub new_binder : (bs more : List BinderRow) (us : List UseRow) (ps : List PlaceRow) (ts : List Place) (b : BinderRow) (x : Option Name) (seen : List Entry)
     → more ≡ bs ++ b ∷ [] → option_map (λ s. letters s) b.name ≡ x → option_map binder_number b.outer ≡ innermost seen
-    → rows_table more us ps ts ≡ rows_table bs us ps ts ⊕ binder_row x b.token seen b.answer.0 b.origin
+    → rows_table more us ps ts ≡ rows_table bs us ps ts ⊕ binder_row x b.token seen b.answer.0 (origin_of b.origin)
 unfolding ◌⊕◌
 new_binder bs more us ps ts b x seen pushed named outer = λ i. record {
-  binders = (ap (map text_binder) pushed ∙ map-append text_binder bs (b ∷ []) ∙ (λ j. map text_binder bs ++ record { name = named j; token = b.token; outer = outer j; answer = b.answer.0; origin = b.origin } ∷ [])) i;
+  binders = (ap (map text_binder) pushed ∙ map-append text_binder bs (b ∷ []) ∙ (λ j. map text_binder bs ++ record { name = named j; token = b.token; outer = outer j; answer = b.answer.0; origin = origin_of b.origin } ∷ [])) i;
   uses = sym (append-nil (map text_use us)) i;
   places = sym (append-nil (text_places ts ps)) i;
 }
@@ -89,7 +89,7 @@ originated-here [] b rest o = refl
 originated-here (c ∷ bs) b rest o = ap (λ cs. c ∷ cs) (originated-here bs b rest o)
 
 pub origin-set : (bs : List BinderRow) (n : ℕ) (b : BinderRow) (o : Origin) → n < length bs → b ≡ get_or bs n b
-    → map text_binder (slice_set bs n (record b { origin = o })) ≡ originated n o (map text_binder bs)
+    → map text_binder (slice_set bs n (record b { origin = Some o })) ≡ originated n o (map text_binder bs)
 origin-set [] n b o lt is = absurd (omega arith)
 origin-set (c ∷ bs) zero b o lt is = ap (λ d. record (text_binder d) { origin = o } ∷ map text_binder bs) is
 origin-set (c ∷ bs) (suc n) b o lt is = ap (λ cs. text_binder c ∷ cs) (origin-set bs n b o (omega arith) is)

@@ -1,6 +1,6 @@
 -- How the rows of the tables and the binders that are seen stand for those of the definitions.
-use Rattle.std.specs.Prelude.{List, [], ◌∷◌, ℕ, zero, suc, map}
-use Rattle.std.specs.Option.{option_map}
+use Rattle.std.specs.Prelude.{List, [], ◌∷◌, ℕ, zero, suc, map, Option}
+use Rattle.std.specs.Option.{option_map, unwrap_or}
 use Rattle.lam_syntax.specs.Letters.{letters}
 use Rattle.lam_scope.specs.declared.numbers.Binder.{Binder}
 use Rattle.lam_scope.specs.declared.numbers.Place.{Place}
@@ -8,6 +8,7 @@ use Rattle.lam_scope.specs.declared.rows.BinderRow.{BinderRow}
 use Rattle.lam_scope.specs.declared.rows.UseRow.{UseRow}
 use Rattle.lam_token.specs.declared.span.Span.{Span}
 use Rattle.lam_scope.specs.declared.numbers.Origin.{Origin}
+use Rattle.lam_scope.specs.declared.numbers.Origin.TheVariants.{TypeName}
 use Rattle.lam_scope.specs.declared.rows.Rows.{Rows}
 use Rattle.lam_scope.specs.declared.token_lists.TokenLists.{TokenLists}
 use Rattle.lam_scope.specs.declared.rows.PlaceRow.{PlaceRow}
@@ -33,9 +34,13 @@ entry_of b = entry (option_map (λ x. letters x.now) b.name) b.number.0 b.answer
 abbrev pub entries_of : List SeenBinder → List Entry
 entries_of = stacked entry_of []
 
+-- where a binder takes its type from: nowhere, if the walk has told no place, as of a type name
+abbrev pub origin_of : Option Origin → Origin
+origin_of o = unwrap_or o TypeName
+
 -- the binder that a `BinderRow` tells of
 abbrev pub text_binder : BinderRow → TextBinder
-text_binder r = record { name = option_map (λ s. letters s) r.name; token = r.token; outer = option_map binder_number r.outer; answer = r.answer.0; origin = r.origin }
+text_binder r = record { name = option_map (λ s. letters s) r.name; token = r.token; outer = option_map binder_number r.outer; answer = r.answer.0; origin = origin_of r.origin }
 
 -- the number of the binder of a use
 abbrev pub binder_of : Bound → ℕ

@@ -4,7 +4,7 @@ ghost use Rattle.lam_syntax.specs.Views.{command_of};
 ghost use Rattle.lam_scope.specs.Nameless.{statements, faults, first_too_large};
 ghost use Rattle.lam_scope.specs.Places.{places_of};
 ghost use Rattle.lam_scope.specs.Tables.{table};
-ghost use Rattle.lam_scope.specs.TableViews.{text_use};
+ghost use Rattle.lam_scope.specs.TableViews.{text_use, origin_of};
 ghost use Rattle.lam_scope.specs.Views.{statement_of, statements_of, origins_of, faults_of, AreScopesOf, IsLimit};
 
 use crate::numbers::Origin;
@@ -61,8 +61,12 @@ fn resolve_all<'a>(
     Ok(resolver)
 }
 
+/// Where the binders take their types from: those of type names from nowhere.
 fn origins_in(alloc: Global, binders: &[BinderRow]) -> Result<Vec<Origin>, AllocError>
-    ensures { IfOk result (λ origins. origins.items ≡ map (λ b. b.origin) binders.now) }
+    ensures { IfOk result (λ origins. origins.items ≡ map (λ b. origin_of b.origin) binders.now) }
 {
-    binders.iter().map(|b| b.origin).collect(alloc)
+    binders
+        .iter()
+        .map(|b| b.origin.unwrap_or(Origin::TypeName))
+        .collect(alloc)
 }

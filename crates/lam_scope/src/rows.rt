@@ -22,7 +22,9 @@ pub(crate) struct BinderRow {
     pub(crate) outer: Option<Binder>,
     /// The binder given as the answer for it and for its uses: itself, or, for a letrec's lambda, the let's.
     pub(crate) answer: Binder,
-    pub(crate) origin: Origin,
+    /// Where it takes its type from. The binder of a type name has none, and that of a name until the walk is past the
+    /// term that gives it a type, or that is its lambda: only then that place has its number.
+    pub(crate) origin: Option<Origin>,
 }
 
 /// A use of a name or of a type name.
@@ -59,7 +61,7 @@ pub(crate) struct Rows {
 }
 
 impl Rows {
-    ghost use Rattle.lam_scope.specs.TableViews.{place_number, rows_of, terms_start, with_origin};
+    ghost use Rattle.lam_scope.specs.TableViews.{place_number, rows_of, terms_start, origin_of, with_origin};
 
     /// Nothing was walked, and there is that room.
     pub(crate) fn with_room(alloc: Global, room: Room) -> Result<Rows, AllocError>
@@ -95,9 +97,9 @@ impl Rows {
         token: Span,
         seen: &Seen<'_>,
         answer: Binder,
-        origin: Origin,
+        origin: Option<Origin>,
     ) -> Result<(), AllocError>
-        ensures table { OnOk result (rows_of self.new ≡ rows_of self.old ⊕ binder_row (option_map (λ x. letters x.now) name.entry) token seen.now answer.0 origin) }
+        ensures table { OnOk result (rows_of self.new ≡ rows_of self.old ⊕ binder_row (option_map (λ x. letters x.now) name.entry) token seen.now answer.0 (origin_of origin)) }
         ensures binders { OnOk result (length self.new.binders.items ≡ length self.old.binders.items + 1) }
         ensures places { self.new.places ≡ self.old.places }
     {
@@ -193,7 +195,7 @@ impl Rows {
         ensures binders { length self.new.binders.items ≡ length self.old.binders.items }
         ensures places { self.new.places ≡ self.old.places }
     {
-        self.binders[binder.0].origin = origin;
+        self.binders[binder.0].origin = Some(origin);
     }
 }
 

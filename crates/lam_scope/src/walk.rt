@@ -5,10 +5,9 @@ ghost use Rattle.lam_syntax.specs.Letters.{letters};
 ghost use Rattle.std.specs.Option.{option_map};
 ghost use Rattle.lam_syntax.specs.Trees.{term_tree, lambda, if_term, let_term, letrec_term, apply, ascribe, record_term};
 ghost use Rattle.lam_syntax.specs.Views.{bound_of, type_of, type_fields_of, term_of, fields_of, command_of};
-ghost use Rattle.lam_scope.specs.Sights.{lambda_at, term_at};
-ghost use Rattle.lam_scope.specs.Tables.{◌⊕◌, entry, binder_row, use_row, place_row, root, behind, roots_of_fields, binders_in, binders_in_fields, below_fields, type_uses, field_uses, term_table, letrec_rows, fields_table};
-ghost use Rattle.lam_scope.specs.TableViews.{place_number, rows_of, entry_of, with_origin};
-ghost use Rattle.lam_scope.specs.Walked.{IsWalked, IsCommandWalked};
+ghost use Rattle.lam_scope.specs.Tables.{◌⊕◌, entry, use_row, place_row, root, behind, roots_of_fields, binders_in, binders_in_fields, below_fields, type_uses, field_uses, term_table, fields_table};
+ghost use Rattle.lam_scope.specs.TableViews.{place_number, rows_of, entry_of};
+ghost use Rattle.lam_scope.specs.Walked.{IsWalked, IsBoundWalked, IsFixWalked, with_derived, IsCommandWalked};
 
 use crate::names::name_of;
 use crate::numbers::{Binder, Origin, Place};
@@ -20,10 +19,6 @@ use lam_syntax::{
 };
 use lam_token::Span;
 use std::alloc::AllocError;
-
-/// What stands for the origin of a binder of a name until the walk has gone over the term that gives it a type, or is
-/// its lambda: only then that place has its number.
-const NOT_YET_KNOWN: Origin = Origin::TypeName;
 
 /// Adds the rows of a command, of that number. Those behind it then see what it binds.
 #[tactic(auto, using(crate::proofs::TableRows::walks))]
@@ -50,14 +45,14 @@ pub(crate) fn walk_command<'a>(
                 name.span,
                 names,
                 own,
-                Origin::Declaration(number),
+                Some(Origin::Declaration(number)),
             )?;
             walk_type(rows, types, ty)?;
             names.enter(seen)
         }
         Command::Abbreviation(name, ty) => {
             let seen = named(name, own);
-            rows.add_binder(seen.name, name.span, types, own, Origin::TypeName)?;
+            rows.add_binder(seen.name, name.span, types, own, None)?;
             walk_type(rows, types, ty)?;
             types.enter(seen)
         }
@@ -350,14 +345,11 @@ fn walk_bound<'a>(
     name: Option<&Text>,
     token: Span,
 ) -> Result<Place, AllocError>
-    ensures table { OnOk result (rows_of rows.new ≡ rows_of rows.old ⊕ (binder_row (option_map (λ x. letters x.now) name.entry) token names.old (length rows.old.binders.items) (term_at (root (length rows.old.places.items) (term_of bound.now))) ⊕ term_table types.now names.old (length rows.old.binders.items + 1) (length rows.old.places.items) (term_of bound.now))) }
-    ensures place { IfOk result (λ p. p.0 ≡ root (length rows.old.places.items) (term_of bound.now)) }
-    ensures binders { OnOk result (length rows.new.binders.items ≡ length rows.old.binders.items + 1 + binders_in (term_of bound.now)) }
-    ensures places { OnOk result (length rows.new.places.items ≡ behind (length rows.old.places.items) (term_of bound.now)) }
+    ensures walked { IsBoundWalked types.now names.old (option_map (λ x. letters x.now) name.entry) token (term_of bound.now) rows.old rows.new result }
     ensures names { OnOk result (names.new ≡ names.old) }
 {
     let number = Binder(rows.binder_count());
-    rows.add_binder(name, token, names, number, NOT_YET_KNOWN)?;
+    rows.add_binder(name, token, names, number, None)?;
     let place = walk_term(rows, types, names, bound)?;
     rows.set_origin(number, Origin::Term(place));
     Ok(place)
@@ -378,7 +370,7 @@ fn walk_lambda<'a>(
     let number = Binder(rows.binder_count());
     let seen = seen_as(&term.binder, number.0);
     let token = term.binder.span;
-    rows.add_binder(seen.name, token, names, number, NOT_YET_KNOWN)?;
+    rows.add_binder(seen.name, token, names, number, None)?;
     walk_type(rows, types, &term.ty)?;
     let body = walk_under(rows, types, names, &term.body, seen)?;
     rows.set_origin(number, Origin::Lambda(Place(rows.place_count())));
@@ -395,10 +387,7 @@ fn walk_fix<'a>(
     names: &mut Seen<'a>,
     term: &'a Letrec,
 ) -> Result<Place, AllocError>
-    ensures table { OnOk result (rows_of rows.new ≡ rows_of rows.old ⊕ letrec_rows (option_map (λ s. letters s) term.now.binder.name) term.now.binder.span names.old (length rows.old.binders.items) (root (length rows.old.places.items) (term_of term.now.bound)) term.now.bound.span (type_uses types.now (type_of term.now.ty)) (term_table types.now (entry (option_map (λ s. letters s) term.now.binder.name) (length rows.old.binders.items) (length rows.old.binders.items + 1) ∷ names.old) (length rows.old.binders.items + 2) (length rows.old.places.items) (term_of term.now.bound))) }
-    ensures place { IfOk result (λ p. p.0 ≡ root (length rows.old.places.items) (term_of term.now.bound) + 2) }
-    ensures binders { OnOk result (length rows.new.binders.items ≡ length rows.old.binders.items + 2 + binders_in (term_of term.now.bound)) }
-    ensures places { OnOk result (length rows.new.places.items ≡ root (length rows.old.places.items) (term_of term.now.bound) + 3) }
+    ensures walked { IsFixWalked types.now names.old (option_map (λ s. letters s) term.now.binder.name) term.now.binder.span (type_of term.now.ty) (term_of term.now.bound) rows.old rows.new result }
     ensures names { OnOk result (names.new ≡ names.old) }
 {
     let of_lambda = Binder(rows.binder_count());
@@ -409,8 +398,8 @@ fn walk_fix<'a>(
         answer: of_let,
     };
     let token = term.binder.span;
-    rows.add_binder(seen.name, token, names, of_let, NOT_YET_KNOWN)?;
-    rows.add_binder(seen.name, token, names, of_let, NOT_YET_KNOWN)?;
+    rows.add_binder(seen.name, token, names, of_let, None)?;
+    rows.add_binder(seen.name, token, names, of_let, None)?;
     walk_type(rows, types, &term.ty)?;
     let place = walk_under(rows, types, names, &term.bound, seen)?;
     let fixed = add_derived(rows, names, term.bound.span, place, of_lambda, of_let)?;
@@ -429,7 +418,7 @@ fn add_derived(
 ) -> Result<Place, AllocError>
     requires lambda { of_lambda.0 < length rows.old.binders.items }
     requires own { of_let.0 < length rows.old.binders.items }
-    ensures table { OnOk result (rows_of rows.new ≡ with_origin of_let.0 (term_at (length rows.old.places.items + 1)) (with_origin of_lambda.0 (lambda_at (length rows.old.places.items)) (rows_of rows.old ⊕ place_row span true (bound.0 ∷ []) names.now ⊕ place_row span true (length rows.old.places.items ∷ []) names.now))) }
+    ensures table { OnOk result (rows_of rows.new ≡ with_derived names.now span bound.0 of_lambda.0 of_let.0 (length rows.old.places.items) (rows_of rows.old)) }
     ensures place { IfOk result (λ p. p.0 ≡ length rows.old.places.items + 1) }
     ensures binders { OnOk result (length rows.new.binders.items ≡ length rows.old.binders.items) }
     ensures places { OnOk result (length rows.new.places.items ≡ length rows.old.places.items + 2) }

@@ -6,11 +6,12 @@ use Rattle.lam_scope.proofs.PlaceCounts.{as_many_places, rows_counted}
 use Rattle.lam_scope.proofs.Resolving.{origins-rows}
 use Rattle.lam_scope.proofs.WellFormedForms.{document-wf}
 use Rattle.lam_scope.proofs.document.resolve.Goals as goal
+use Rattle.lam_scope.specs.TableViews.{origin_of}
 
 pub returns-clause-origins : goal.returns-clause-origins
 returns-clause-origins c =
     c.in_ok-origins.ensures
-    ∙ ap (map (λ r. r.origin)) c.deref-2.ensures.value
+    ∙ ap (map (λ r. origin_of r.origin)) c.deref-2.ensures.value
     ∙ sym (origins-rows c.args.scopes.now.rows.binders.items)
     ∙ ap (λ t. map (λ b. b.origin) t.binders) c.requires.same_table
 

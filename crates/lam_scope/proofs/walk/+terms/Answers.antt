@@ -5,7 +5,7 @@ use Rattle.lam_syntax.specs.Trees.{lambda}
 use Rattle.lam_syntax.specs.Views.{term_of, bound_of, type_of}
 use Rattle.lam_scope.specs.declared.numbers.Origin.TheVariants.{TypeName}
 use Rattle.lam_scope.specs.Sights.{lambda_at, term_at}
-use Rattle.lam_scope.specs.Tables.{◌⊕◌, entry, root, behind, binder_row, term_table, node_table}
+use Rattle.lam_scope.specs.Tables.{◌⊕◌, entry, root, behind, binders_in, binder_row, term_table, node_table}
 use Rattle.std.proofs.lemmas.List.{append-nil, drop_all, length-map}
 use Rattle.lam_scope.specs.TableViews.{rows_of, place_number, text_binder}
 use Rattle.lam_scope.proofs.TableRows.{walks, plus_assoc, fields_more, roots_more, binders_more, places_more, fields_walked, bound_rows, lambda_rows, letrec_walked}
@@ -40,17 +40,22 @@ walk_fields-returns-clause-binders t c = let whole = rw (drop_all c.loop-i.i c.a
 pub walk_fields-returns-clause-places : goal.walk_fields-returns-clause-places
 walk_fields-returns-clause-places t c = let whole = rw (drop_all c.loop-i.i c.args.fields.now c.loop-i-test.false) at c.loop-i.invariant.places in omega arith
 
-pub walk_bound-returns-clause-table : goal.walk_bound-returns-clause-table
-walk_bound-returns-clause-table t c =
+pub walk_bound-returns-clause-walked : goal.walk_bound-returns-clause-walked
+walk_bound-returns-clause-walked t c =
     let old = c.args.rows.now in
     let added = c.in_ok-add_binder.ensures in
     let walked = c.in_ok-place.ensures.walked in
     let tree = term_of c.args.bound.now in
-    bound_rows (rows_of old) _ _ _ _ _ _ _ _ _ _ _ _ _
-    (added.table ∙ ap (λ a. rows_of old ⊕ binder_row (option_map (λ x. letters x.now) c.args.name) c.args.token c.args.names.now a TypeName) c.binder_count.ensures)
-    walked.table c.set_origin.ensures.table (c.binder_count.ensures ∙ sym (length-map old.binders.items text_binder))
-    (λ i. term_table c.args.types.now c.args.names.now (added.binders i) (length (added.places i).items) tree)
-    (ap (λ m. term_at m) (walked.place ∙ ap (λ v. root (length v.items) tree) added.places))
+    record {
+      table = bound_rows (rows_of old) _ _ _ _ _ _ _ _ _ _ _ _ _
+          (added.table ∙ ap (λ a. rows_of old ⊕ binder_row (option_map (λ x. letters x.now) c.args.name) c.args.token c.args.names.now a TypeName) c.binder_count.ensures)
+          walked.table c.set_origin.ensures.table (c.binder_count.ensures ∙ sym (length-map old.binders.items text_binder))
+          (λ i. term_table c.args.types.now c.args.names.now (added.binders i) (length (added.places i).items) tree)
+          (ap (λ m. term_at m) (walked.place ∙ ap (λ v. root (length v.items) tree) added.places));
+      place = walked.place ∙ ap (λ v. root (length v.items) tree) added.places;
+      binders = c.set_origin.ensures.binders ∙ walked.binders ∙ ap (λ n. n + binders_in tree) added.binders;
+      places = ap (λ v. length v.items) c.set_origin.ensures.places ∙ walked.places ∙ ap (λ v. behind (length v.items) tree) added.places;
+    }
 
 pub walk_lambda-returns-clause-walked : goal.walk_lambda-returns-clause-walked
 walk_lambda-returns-clause-walked t c =
@@ -72,26 +77,30 @@ walk_lambda-returns-clause-walked t c =
     (ap (λ m. lambda_at m) (c.place_count.ensures ∙ walked.places ∙ ap (λ v. behind (length v.items) tree) same_places)) in
     grind (arith, plus_assoc)
 
-pub walk_fix-returns-clause-table : goal.walk_fix-returns-clause-table
-walk_fix-returns-clause-table t c =
+pub walk_fix-returns-clause-walked : goal.walk_fix-returns-clause-walked
+walk_fix-returns-clause-walked t c =
     let old = c.args.rows.now in
     let first = c.in_ok-add_binder.ensures in
     let second = c.in_ok-add_binder-2.ensures in
     let typed = c.in_ok-walk_type.ensures in
     let walked = c.in_ok-place.ensures.walked in
+    let derived = c.in_ok-fixed.ensures in
     let tree = term_of c.args.term.now.bound in
     let n = length old.binders.items in
     let two_more : n + 1 + 1 ≡ n + 2 = omega arith in
     let same_places = ap (λ v. length v.items) (typed.places ∙ second.places ∙ first.places) in
-    letrec_walked c.args.types.now c.args.names.now c.walk_under.new.names (rows_of old) (rows_of c.add_binder.new.self) (rows_of c.add_binder-2.new.self) (rows_of c.walk_type.new.rows)
-    (rows_of c.walk_under.new.rows) (rows_of c.add_derived.new.rows) _ _ _ _ c.args.term.now.bound.span c.binder_count.result n
-    (length c.walk_type.new.rows.binders.items) (length old.places.items) (length c.walk_type.new.rows.places.items) (length c.walk_under.new.rows.places.items) c.in_ok-place.place.0 tree
-    c.name_of.ensures c.binder_count.ensures first.table second.table typed.table walked.table c.in_ok-fixed.ensures.table c.in_ok-place.ensures.names
-    (ap (λ v. length v.items) typed.binders ∙ second.binders ∙ ap (λ m. m + 1) first.binders ∙ two_more)
-    same_places
-    (walked.places ∙ ap (λ m. behind m tree) same_places)
-    (walked.place ∙ ap (λ m. root m tree) same_places)
-    (sym (length-map old.binders.items text_binder))
+    let same_binders = ap (λ v. length v.items) typed.binders ∙ second.binders ∙ ap (λ m. m + 1) first.binders ∙ two_more in
+    let above = walked.places ∙ ap (λ m. behind m tree) same_places in
+    record {
+      table = letrec_walked c.args.types.now c.args.names.now c.walk_under.new.names (rows_of old) (rows_of c.add_binder.new.self) (rows_of c.add_binder-2.new.self)
+          (rows_of c.walk_type.new.rows) (rows_of c.walk_under.new.rows) (rows_of c.add_derived.new.rows) _ _ _ _ c.args.term.now.bound.span c.binder_count.result n
+          (length c.walk_type.new.rows.binders.items) (length old.places.items) (length c.walk_type.new.rows.places.items) (length c.walk_under.new.rows.places.items) c.in_ok-place.place.0 tree
+          c.name_of.ensures c.binder_count.ensures first.table second.table typed.table walked.table derived.table c.in_ok-place.ensures.names
+          same_binders same_places above (walked.place ∙ ap (λ m. root m tree) same_places) (sym (length-map old.binders.items text_binder));
+      place = omega (arith, derived.place, above);
+      binders = derived.binders ∙ walked.binders ∙ ap (λ m. m + binders_in tree) same_binders;
+      places = omega (arith, derived.places, above);
+    }
 
 pub walk_fields-walk_term-requires : goal.walk_fields-walk_term-requires
 walk_fields-walk_term-requires t c = omega (arith, c.decreases, field_size c.args.fields.now c.loop-i.i c.index-fields-i.result c.loop-i-test.true c.index-fields-i.is)
