@@ -1,22 +1,20 @@
 -- A header part and then a body, each read by a chain of pulls, are one frame read by one chain.
 use Rattle.std.proofs.Common.{◌≡◌, ◌≢◌, ◌<◌, length, ℕ, List, [], ◌∷◌, ◌++◌, Option, Some, Result, Ok, Err, refl, sym, ap, ◌∙◌, subst, arith, append_assoc, length-append}
 use Rattle.std.specs.List.{concat}
+use Rattle.std.proofs.lemmas.List.Folds.{concat-append}
 use Rattle.lam_frame.specs.declared.fault.FrameFault.{FrameFault}
 use Rattle.lam_frame.specs.declared.fault.FrameFault.TheVariants.{NoLength, BadLength, TooLong, BadHeader, Truncated, Device, Memory, TooManyTurns, Spent}
 use Rattle.lam_frame.specs.Frame.{IsOpen}
 use Rattle.lam_frame.specs.Frame.IsOpen.{InBody}
 use Rattle.lam_frame.specs.Header.{ended_lines, header_text}
-use Rattle.lam_frame.specs.Next.{Reads, After, EndsEmpty, PulledWhile, Says, IsCutOff}
+use Rattle.lam_frame.specs.Next.{Reads, After, PulledWhile, Says, IsCutOff}
 use Rattle.lam_frame.specs.Steps.{HeaderIsRead, SaysBody, SaysHeader}
-use Rattle.lam_frame.proofs.Pulls.{PulledWhile-append, PulledWhile-front, not_ended_behind, stopped_behind, concat-append}
+use Rattle.lam_frame.proofs.Pulls.{PulledWhile-append, PulledWhile-front, EndsEmpty-behind, not_ended_behind, stopped_behind}
 
 -- the header part that is read, and then any part of its body
 body_open : (heard held part : List ℕ) (size : ℕ) (h : HeaderIsRead heard size held) → length part < size → IsOpen (header_text h.lines ++ part)
 body_open heard held part size h less =
     InBody h.lines part size (record { are_lines = h.header.are_lines; text = refl; fits = h.header.fits }) h.says less
-
-EndsEmpty-behind : (front back : List (List ℕ)) → EndsEmpty back → EndsEmpty (front ++ back)
-EndsEmpty-behind front back e = (front ++ e.0, ap (λ (l : List (List ℕ)). front ++ l) e.1 ∙ sym (append_assoc front e.0 ([] ∷ [])))
 
 module _ {V : Type 0} (items : V → List ℕ) where
   -- the same answer, where it was a fault of reading the body, or the body

@@ -4,12 +4,9 @@ use Rattle.std.specs.List.{concat}
 use Rattle.std.specs.Io.KnownBytes.{Consumes, IsAtEnd}
 use Rattle.std.proofs.lemmas.List.{nil_from_length}
 use Rattle.std.proofs.KnownBytes.{Consumes-nil, Consumes-trans}
+use Rattle.std.proofs.lemmas.List.Folds.{concat-append}
 use Rattle.lam_frame.specs.Next.{EndsEmpty, OnlyLastEmpty, PulledWhile}
 use Rattle.lam_frame.specs.Steps.{NoneEmpty, PulledPiece}
-
-pub concat-append : (front back : List (List ℕ)) → concat (front ++ back) ≡ concat front ++ concat back
-concat-append [] back = refl
-concat-append (piece ∷ front) back = ap (λ (l : List ℕ). piece ++ l) (concat-append front back) ∙ sym (append_assoc piece (concat front) (concat back))
 
 -- ---- which pieces are empty
 
@@ -23,6 +20,9 @@ last_has_bytes (p ∷ front) piece n = last_has_bytes front piece n.1
 
 pub not_ended : (pieces : List (List ℕ)) → NoneEmpty pieces → EndsEmpty pieces → ⊥
 not_ended pieces n e = let some = last_has_bytes e.0 [] (subst NoneEmpty e.1 n) in omega arith
+
+pub EndsEmpty-behind : (front back : List (List ℕ)) → EndsEmpty back → EndsEmpty (front ++ back)
+EndsEmpty-behind front back e = (front ++ e.0, ap (λ (l : List (List ℕ)). front ++ l) e.1 ∙ sym (append_assoc front e.0 ([] ∷ [])))
 
 pub stopped_behind : (front back : List (List ℕ)) → NoneEmpty front → OnlyLastEmpty back → OnlyLastEmpty (front ++ back)
 stopped_behind [] back f b = b

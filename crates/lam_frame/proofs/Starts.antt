@@ -1,9 +1,10 @@
 -- Bytes begin with a header part, or with one that is not over, or with one that is spoiled: only one of these.
-use Rattle.std.proofs.Common.{◌≡◌, ◌≤◌, ◌<◌, ◌⊎◌, inl, inr, length, drop, ℕ, Bool, true, false, not, ◌&&◌, ◌==◌, cond, if◌then◌else◌, nat_lt, List, [], ◌∷◌, ◌++◌, Result, Ok, Err, refl, sym, ap, ◌∙◌, subst, arith, append_assoc, append-nil, length-append}
+use Rattle.std.proofs.Common.{◌≡◌, ◌≤◌, ◌<◌, ◌⊎◌, inl, inr, length, drop, ℕ, Bool, true, false, not, ◌==◌, cond, if◌then◌else◌, nat_lt, List, [], ◌∷◌, ◌++◌, Result, Ok, Err, refl, sym, ap, ◌∙◌, subst, arith, append_assoc, append-nil, length-append}
 use Rattle.std.specs.List.{list_all, list_any, filter, after_first}
 use Rattle.std.specs.Str.Parse.{digits_value}
 use Rattle.std.proofs.lemmas.Bool.Decides.{nat_tests}
 use Rattle.std.proofs.lemmas.List.{drop-append-le}
+use Rattle.std.proofs.lemmas.Bool.{and_parts}
 use Rattle.lam_frame.specs.declared.fault.FrameFault.{FrameFault}
 use Rattle.lam_frame.specs.declared.fault.FrameFault.TheVariants.{NoLength, BadLength, TooLong, BadHeader}
 use Rattle.lam_frame.specs.Header.{AreLines, IsPlain, HasHeader, IsSpoiled, IsUnfinished, IsTooLong, IsMisplaced, IsBegunEnd, is_plain, ended_lines, header_text, body_length, one_length, is_number, has_colon, names_length, is_colon, trim}
@@ -30,19 +31,11 @@ read return line [] = Open
 read false line (b ∷ bs) = if is_plain b then read false (line ++ b ∷ []) bs else (if b == 13 then read true line bs else Wrong)
 read true line (b ∷ bs) = if b == 10 then (if length line == 0 then Whole [] bs else with_lines (line ∷ []) (read false [] bs)) else Wrong
 
-and_left : (p q : Bool) → (p && q) ≡ true → p ≡ true
-and_left true q e = refl
-and_left false q e = e
-
-and_right : (p q : Bool) → (p && q) ≡ true → q ≡ true
-and_right true q e = e
-and_right false q e = absurd (cc)
-
 read-plain : (line part rest : List ℕ) → IsPlain part → read false line (part ++ rest) ≡ read false (line ++ part) rest
 read-plain line [] rest p = ap (λ (l : List ℕ). read false l rest) (sym (append-nil line))
 read-plain line (b ∷ part) rest p =
-    rw (and_left (is_plain b) (list_all is_plain part) p)
-    (read-plain (line ++ b ∷ []) part rest (and_right (is_plain b) (list_all is_plain part) p) ∙ ap (λ (l : List ℕ). read false l rest) (append_assoc line (b ∷ []) part))
+    rw (and_parts (is_plain b) (list_all is_plain part) p).0
+    (read-plain (line ++ b ∷ []) part rest (and_parts (is_plain b) (list_all is_plain part) p).1 ∙ ap (λ (l : List ℕ). read false l rest) (append_assoc line (b ∷ []) part))
 
 with_lines-cons : (line : List ℕ) (front : List (List ℕ)) (lines : Lines) → with_lines (line ∷ []) (with_lines front lines) ≡ with_lines (line ∷ front) lines
 with_lines-cons line front (Whole lines after) = refl

@@ -2,7 +2,7 @@
 use Rattle.std.proofs.Common.{◌≡◌, ◌≤◌, ◌<◌, length, take, drop, set, ℕ, zero, suc, ◌+◌, ◌-◌, ◌*◌, ◌/◌, ◌%◌, ◌^◌, List, [], ◌∷◌, ◌++◌, Option, refl, sym, ap, ◌∙◌, subst, arith, add-one, append_assoc, append-nil, length-drop, length-take, take-append-drop}
 use Rattle.std.specs.Prelude.{false, ◌==◌, codes, decimal, OnErr, Result, Ok, Err}
 use Rattle.std.proofs.Math.Seq.{drop-append_seam}
-use Rattle.std.proofs.lemmas.List.{drop-drop, nil_from_length, take_rest}
+use Rattle.std.proofs.lemmas.List.{drop-drop, nil_from_length, take_rest, drop-set}
 use Rattle.std.proofs.lemmas.Slice.{drop-put_mid}
 use borrow.Rule.Slice.PartMut.{put_mid, post_of}
 use Rattle.lam_frame.specs.Frame.{frame_text, header_line}
@@ -25,25 +25,19 @@ one_digit_less n (suc (suc k)) h l =
     let size : suc (suc k) - 1 ≡ suc k = omega arith in
     (omega arith, subst (λ (i : ℕ). n / 10 < 10 ^ i) (sym size) less)
 
-put_digit : (room : List ℕ) (start digit : ℕ) → start < length room → drop start (set room start digit) ≡ digit ∷ drop (start + 1) room
-put_digit [] start digit h = absurd (omega arith)
-put_digit (b ∷ room) zero digit h = refl
-put_digit (b ∷ room) (suc start) digit h =
-    put_digit room start digit (omega arith) ∙ ap (λ (i : ℕ). digit ∷ drop i (b ∷ room)) (let same : suc (start + 1) ≡ suc start + 1 = omega arith in same)
-
 pub next_digit : (room tail : List ℕ) (number rest start : ℕ) → 10 ≤ rest → rest < 2 ^ 64 → 1 ≤ start → start ≤ length room → decimal number ++ tail ≡ decimal rest ++ drop start room
     → decimal number ++ tail ≡ decimal (rest / 10) ++ drop (start - 1) (set room (start - 1) (48 + rest % 10))
 next_digit room tail number rest start h fits some within e =
     let place : start - 1 + 1 ≡ start = omega arith in
     e ∙ ap (λ (l : List ℕ). l ++ drop start room) (decimal_step rest h fits)
     ∙ append_assoc (decimal (rest / 10)) ((48 + rest % 10) ∷ []) (drop start room)
-    ∙ ap (λ (l : List ℕ). decimal (rest / 10) ++ l) (ap (λ (i : ℕ). (48 + rest % 10) ∷ drop i room) (sym place) ∙ sym (put_digit room (start - 1) (48 + rest % 10) (omega arith)))
+    ∙ ap (λ (l : List ℕ). decimal (rest / 10) ++ l) (ap (λ (i : ℕ). (48 + rest % 10) ∷ drop i room) (sym place) ∙ sym (drop-set room (start - 1) (48 + rest % 10) (omega arith)))
 
 pub last_digit : (room tail : List ℕ) (number rest start : ℕ) → rest < 10 → 1 ≤ start → start ≤ length room → decimal number ++ tail ≡ decimal rest ++ drop start room
     → drop (start - 1) (set room (start - 1) (48 + rest)) ≡ decimal number ++ tail
 last_digit room tail number rest start h some within e =
     let place : start - 1 + 1 ≡ start = omega arith in
-    put_digit room (start - 1) (48 + rest) (omega arith) ∙ ap (λ (i : ℕ). (48 + rest) ∷ drop i room) place
+    drop-set room (start - 1) (48 + rest) (omega arith) ∙ ap (λ (i : ℕ). (48 + rest) ∷ drop i room) place
     ∙ ap (λ (l : List ℕ). l ++ drop start room) (sym (decimal_digit rest h)) ∙ sym e
 
 -- ---- pushes

@@ -3,10 +3,11 @@ use Rattle.std.proofs.Common.{◌≡◌, ◌≢◌, ◌≤◌, ℕ, ◌+◌, ◌
 use Rattle.std.specs.List.{concat}
 use Rattle.serde_json.specs.Data.{Data}
 use Rattle.std.proofs.KnownBytes.{Appends-trans}
+use Rattle.std.proofs.lemmas.List.Folds.{concat-append}
 use Rattle.lam_frame.specs.Frame.{HasFrame, IsOpen, IsRest}
-use Rattle.lam_frame.specs.Next.{EndsEmpty, OnlyLastEmpty, PulledWhile}
+use Rattle.lam_frame.specs.Next.{OnlyLastEmpty, PulledWhile}
 use Rattle.lam_frame.specs.Steps.{NoneEmpty}
-use Rattle.lam_frame.proofs.Pulls.{NoneEmpty-append, PulledWhile-append, PulledWhile-failed, concat-append, not_ended_behind, stopped_behind}
+use Rattle.lam_frame.proofs.Pulls.{NoneEmpty-append, PulledWhile-append, PulledWhile-failed, EndsEmpty-behind, not_ended_behind, stopped_behind}
 use Rattle.lam_frame.proofs.Readings.{open_no_frame}
 use Rattle.lam_frame.proofs.Told.{HasFault-more}
 use Rattle.lam_frame.specs.declared.fault.FrameFault.{FrameFault}
@@ -79,9 +80,6 @@ settled_rest start s pieces out left outcome turns live comes = λ more may. rec
   turns = Turns-more start (concat pieces) more out s left turns;
   comes_to = subst (λ (o : Option ℕ). ComesTo o (left ++ more) outcome) (sym live) (comes more may);
 }
-
-EndsEmpty-behind : (front back : List (List ℕ)) → EndsEmpty back → EndsEmpty (front ++ back)
-EndsEmpty-behind front back e = (front ++ e.0, ap (λ (l : List (List ℕ)). front ++ l) e.1 ∙ sym (append_assoc front e.0 ([] ∷ [])))
 
 silent_rest : (left more : List ℕ) (status : ℕ) → left ≡ [] → more ≡ [] → status ≡ 1 → ComesTo None (left ++ more) (Ok status)
 silent_rest left more status nothing none one = (ap (λ (l : List ℕ). l ++ more) nothing ∙ none, one)
