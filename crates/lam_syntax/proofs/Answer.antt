@@ -1,7 +1,6 @@
 -- From the run to the answers of `parse`.
-use Rattle.std.proofs.Common.{◌≡◌, ℕ, ◌+◌, ◌-◌, ◌≤◌, ◌<◌, List, [], ◌∷◌, ◌++◌, length, take, sym, refl, ap, ◌∙◌, subst, append_assoc, arith, length-append}
-use Rattle.std.proofs.lemmas.List.{append-nil}
-use Rattle.std.proofs.Math.Seq.{take-append_seam}
+use Rattle.std.proofs.Common.{◌≡◌, ◌+◌, ◌-◌, ◌≤◌, ◌<◌, List, [], ◌∷◌, ◌++◌, length, take, sym, refl, ap, ◌∙◌, subst, append_assoc, arith, length-append}
+use Rattle.std.proofs.lemmas.List.{append-nil, take_at}
 use Rattle.lam_token.specs.Lexeme.{Lexeme}
 use Rattle.lam_syntax.specs.Trees.{CommandTree}
 use Rattle.lam_syntax.specs.Grammar.{Spells, Begins}
@@ -9,10 +8,6 @@ use Rattle.lam_syntax.specs.Run.{need_command, fault, run}
 use Rattle.lam_syntax.specs.Answers.{GoesWrongAt, EndsEarly}
 use Rattle.lam_syntax.proofs.Complete.{complete}
 use Rattle.lam_syntax.proofs.Wrong.{goes_wrong}
-
--- the front of a list
-take_front : (ts front rest : List Lexeme) (n : ℕ) → ts ≡ front ++ rest → n ≡ length front → take n ts ≡ front
-take_front ts front rest n cut at = ap (λ m. take m ts) at ∙ ap (take (length front)) cut ∙ take-append_seam front rest
 
 pub left_within : (ts left : List Lexeme) → run ts need_command ≡ fault left → length left ≤ length ts
 left_within ts left h = let at = goes_wrong ts left h in omega (arith, ap length at.cut, length-append at.front left)
@@ -34,9 +29,9 @@ goes_wrong_at ts (t ∷ left) h some =
     let through : length ts - length (t ∷ left) + 1 ≡ length (at.front ++ t ∷ []) = omega (arith, counted, length-append at.front (t ∷ [])) in
     record {
       inside = omega (arith, counted);
-      before = subst Begins (sym (take_front ts at.front (t ∷ left) _ at.cut before)) at.begins;
+      before = subst Begins (sym (ap (take (length ts - length (t ∷ left))) at.cut ∙ take_at at.front (t ∷ left) _ (sym before))) at.begins;
       through = λ begins.
-          let some_more = subst Begins (take_front ts (at.front ++ t ∷ []) left _ cut' through) begins in
+          let some_more = subst Begins (ap (take (length ts - length (t ∷ left) + 1)) cut' ∙ take_at (at.front ++ t ∷ []) left _ (sym through)) begins in
           at.none t left refl some_more.0 some_more.1 (subst (λ l. Spells l some_more.1) (append_assoc at.front (t ∷ []) some_more.0) some_more.2);
     }
 

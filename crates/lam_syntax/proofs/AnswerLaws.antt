@@ -1,7 +1,7 @@
 -- Each list of tokens is a command, goes wrong at one place, or ends early, and no two of these.
-use Rattle.std.proofs.Common.{◌≡◌, ◌⊎◌, ℕ, zero, suc, ◌+◌, ◌≤◌, ◌<◌, List, [], ◌∷◌, ◌++◌, take, drop, ⊎_elim, inl, inr, sym, refl, ap, subst, append_assoc, arith}
+use Rattle.std.proofs.Common.{◌≡◌, ◌⊎◌, ℕ, ◌+◌, ◌≤◌, ◌<◌, List, [], ◌∷◌, ◌++◌, take, drop, ⊎_elim, inl, inr, sym, refl, subst, append_assoc, arith}
 use Rattle.std.proofs.lemmas.Bool.{cases_order}
-use Rattle.std.proofs.lemmas.List.{append-nil}
+use Rattle.std.proofs.lemmas.List.{append-nil, take-append-drop, take-take}
 use Rattle.lam_token.specs.Lexeme.{Lexeme}
 use Rattle.lam_syntax.specs.Trees.{CommandTree}
 use Rattle.lam_syntax.specs.Grammar.{Spells, Begins}
@@ -25,22 +25,11 @@ some_answer ts = answered ts (run ts need_command) refl
 begins_front : (xs ys : List Lexeme) → Begins (xs ++ ys) → Begins xs
 begins_front xs ys b = (ys ++ b.0, b.1, subst (λ l. Spells l b.1) (append_assoc xs ys b.0) b.2)
 
-split : (n : ℕ) (ts : List Lexeme) → take n ts ++ drop n ts ≡ ts
-split zero ts = refl
-split (suc n) [] = refl
-split (suc n) (t ∷ ts) = ap (λ l. t ∷ l) (split n ts)
-
 begins_taken : (n : ℕ) (ts : List Lexeme) → Begins ts → Begins (take n ts)
-begins_taken n ts b = begins_front (take n ts) (drop n ts) (subst Begins (sym (split n ts)) b)
-
-take_less : (m n : ℕ) (ts : List Lexeme) → m ≤ n → take m (take n ts) ≡ take m ts
-take_less zero n ts le = refl
-take_less (suc m) zero ts le = absurd (omega arith)
-take_less (suc m) (suc n) [] le = refl
-take_less (suc m) (suc n) (t ∷ ts) le = ap (λ l. t ∷ l) (take_less m n ts (omega arith))
+begins_taken n ts b = begins_front (take n ts) (drop n ts) (subst Begins (sym (take-append-drop n ts)) b)
 
 begins_less : (m n : ℕ) (ts : List Lexeme) → m ≤ n → Begins (take n ts) → Begins (take m ts)
-begins_less m n ts le b = subst Begins (take_less m n ts le) (begins_taken m (take n ts) b)
+begins_less m n ts le b = subst Begins (take-take m n ts le) (begins_taken m (take n ts) b)
 
 pub spelled_begins : (ts : List Lexeme) (c : CommandTree) → Spells ts c → Begins ts
 spelled_begins ts c spells = ([], c, subst (λ l. Spells l c) (sym (append-nil ts)) spells)

@@ -8,11 +8,7 @@ use Rattle.std.specs.Borrow.{Bor}
 use Rattle.std.proofs.lemmas.Bool.{eqb-true, eqb-false}
 use Rattle.lam_token.specs.Lexeme.{Lexeme}
 use Rattle.lam_syntax.specs.Answers.{is_semicolon, onto_first, runs_of, has_tokens, pieces_of}
-use Rattle.lam_syntax.specs.Reads.{run_len}
-
--- a run in front of pieces, if it has tokens
-abbrev pub with_piece : List Lexeme → List (List Lexeme) → List (List Lexeme)
-with_piece run ps = cond (has_tokens run) (run ∷ ps) ps
+use Rattle.lam_syntax.specs.Reads.{run_len, with_piece}
 
 -- the runs behind the first
 abbrev others : List Lexeme → List (List Lexeme)
@@ -138,7 +134,7 @@ some_kept true [] rest is all = absurd cc
 some_kept true (t ∷ ts) rest is all = (omega arith, all)
 some_kept false p rest is all = all
 
-none_empty : (runs : List (List Lexeme)) → AllByRecursion (λ q. 0 < length q) (filter has_tokens runs)
+pub none_empty : (runs : List (List Lexeme)) → AllByRecursion (λ q. 0 < length q) (filter has_tokens runs)
 none_empty [] = tt
 none_empty (p ∷ ps) = some_kept (has_tokens p) p (filter has_tokens ps) refl (none_empty ps)
 

@@ -17,7 +17,7 @@ use Rattle.lam_syntax.specs.declared.types.WrittenTy.{WrittenTy}
 use Rattle.lam_syntax.specs.declared.types.TyField.{TyField}
 use Rattle.lam_syntax.specs.Trees.{word, Bound, TermTree, term_tree, term_span, prefixed, record_term, TermFields, no_fields, field, joined, TypeFields, no_type_fields, type_field, joined_types, type_tree, record_type, from_to}
 use Rattle.lam_syntax.specs.Run.{Purpose, InTerm, InPath, as_head, as_operand, after_binder, after_atom, next_field, ended_asc, ended_app, ended_term, applied, outside, tree, InType, need_term, after_atype, next_type_field, Next, go, stop, ended_type, Outcome, fault, run, look}
-use Rattle.lam_syntax.specs.Answers.{is_semicolon}
+use Rattle.lam_syntax.specs.Answers.{is_semicolon, has_tokens}
 use Rattle.lam_syntax.specs.Views.{word_of, bound_of, type_of, term_of, command_of}
 
 -- The run over the tokens goes on behind what was read as over the tokens that are left, or has its fault where reading stopped.
@@ -146,3 +146,7 @@ Names tokens (Err Memory) = Unit {0}
 abbrev pub run_len : List Lexeme → ℕ
 run_len [] = 0
 run_len (t ∷ ts) = if is_semicolon t then 0 else suc (run_len ts)
+
+-- these tokens in front of pieces, if there are any
+abbrev pub with_piece : List Lexeme → List (List Lexeme) → List (List Lexeme)
+with_piece ts pieces = if has_tokens ts then ts ∷ pieces else pieces

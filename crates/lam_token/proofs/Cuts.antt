@@ -5,7 +5,7 @@ use Rattle.std.specs.List.{slice_range, AllByRecursion}
 use Rattle.std.specs.List.Sorted.{IsStrictlyIncreasing}
 use Rattle.std.specs.Str.{chars, IsUtf8, IsCharBoundary}
 use Rattle.std.proofs.lemmas.Bool.{cases_order, eqb-true, eqb-false}
-use Rattle.std.proofs.lemmas.List.{append-nil}
+use Rattle.std.proofs.lemmas.List.{append-nil, nil_from_length}
 use Rattle.std.proofs.lemmas.List.Elements.{All-from_recursion}
 use Rattle.std.proofs.lemmas.Str.{encodes-append, encodes-chars, chars-nil, length-le-encodes, IsCharBoundary-at_seam, IsUtf8-past_char}
 use Rattle.std.proofs.Math.Seq.{take-append_seam, drop-append_seam}
@@ -361,14 +361,10 @@ empty_is_none text is_end kind shape =
     let none : shape_of (chars text) ≡ None = ap shape_of (ap chars is_end ∙ chars-nil) in
     absurd cc
 
-no_bytes : (bytes : List ℕ) → length bytes ≡ 0 → bytes ≡ []
-no_bytes [] none = refl
-no_bytes (b ∷ bytes) none = absurd (omega arith)
-
 -- the text is its first segment
 pub all_is_first : (text rest : List ℕ) (s t : Segment) → SegmentIs text s rest → true ≡ (length rest == 0) → s ≡ t → IsFirst t (chars text) []
 all_is_first text rest s t is is_empty sort =
-    let none : chars rest ≡ [] = ap chars (no_bytes rest (eqb-true (length rest) 0 (sym is_empty))) ∙ chars-nil in
+    let none : chars rest ≡ [] = ap chars (nil_from_length rest (eqb-true (length rest) 0 (sym is_empty))) ∙ chars-nil in
     let whole : is.segment ≡ chars text = sym (append-nil _) ∙ ap (λ l. is.segment ++ l) (sym none) ∙ sym is.front.characters in
     subst (λ k. IsFirst k (chars text) []) sort
     (subst (λ l. IsFirst s (chars text) l) none (subst (λ l. IsFirst s l (chars rest)) whole is.is_first))

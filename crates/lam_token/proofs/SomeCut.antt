@@ -1,8 +1,7 @@
 -- Each text has a cut.
 use Rattle.std.proofs.Common.{◌≡◌, ℕ, zero, suc, ◌≤◌, ◌<◌, Bool, true, false, Option, Some, None, List, [], ◌∷◌, ◌++◌, length, take, drop, ⊎_elim, sym, refl, ap, ◌∙◌, subst, arith, length-append}
 use Rattle.std.proofs.lemmas.Bool.{cases_order}
-use Rattle.std.proofs.lemmas.List.{append-nil}
-use Rattle.std.proofs.Math.Seq.{take-append_seam}
+use Rattle.std.proofs.lemmas.List.{append-nil, take-append-drop, length-take-le, take_at}
 use Rattle.lam_token.specs.declared.kind.Kind.TheVariants.{BadCharacter, BadComment}
 use Rattle.lam_token.specs.declared.segment.Segment.{Segment}
 use Rattle.lam_token.specs.declared.segment.Segment.TheVariants.{Token}
@@ -25,9 +24,6 @@ record Begun (text : List ℕ) : Type 0 where
 abbrev NoneOver : ℕ → List ℕ → Type 0
 NoneOver n text = (front after : List ℕ) → text ≡ front ++ after → n < length front → shape_of front ≡ None
 
-front_is : (text front after : List ℕ) (n : ℕ) → text ≡ front ++ after → n ≡ length front → take n text ≡ front
-front_is text front after n cut is = ap (λ m. take m text) is ∙ ap (take (length front)) cut ∙ take-append_seam front after
-
 nothing : (text : List ℕ) → NoneOver 0 text → NothingBegins text
 nothing text none [] after cut = refl
 nothing text none (c ∷ front) after cut = none (c ∷ front) after cut (omega arith)
@@ -45,19 +41,9 @@ none_begins true c cs opens none =
     }
 none_begins false c cs opens none = record { sort = Token BadCharacter; segment = c ∷ []; rest = cs; cut = refl; some = omega arith; is_first = stray none opens refl }
 
-split : (n : ℕ) (text : List ℕ) → take n text ++ drop n text ≡ text
-split zero text = refl
-split (suc n) [] = refl
-split (suc n) (c ∷ text) = ap (λ l. c ∷ l) (split n text)
-
-length_taken : (n : ℕ) (text : List ℕ) → n ≤ length text → length (take n text) ≡ n
-length_taken zero text le = refl
-length_taken (suc n) [] le = absurd (omega arith)
-length_taken (suc n) (c ∷ text) le = ap suc (length_taken n text (omega arith))
-
 fewer : (n : ℕ) (text : List ℕ) → shape_of (take (suc n) text) ≡ None → NoneOver (suc n) text → NoneOver n text
 fewer n text here none front after cut more =
-    ⊎_elim (λ same. ap shape_of (sym (front_is text front after (suc n) cut same)) ∙ here)
+    ⊎_elim (λ same. ap shape_of (sym (ap (take (suc n)) cut ∙ take_at front after (suc n) (sym same))) ∙ here)
     (λ other. ⊎_elim (λ over. none front after cut over) (λ under. absurd (omega (arith, under, more))) other)
     (cases_order (suc n) (length front))
 
@@ -65,14 +51,14 @@ found_at : (o : Option Segment) (n c : ℕ) (cs : List ℕ) → suc n ≤ length
     → (NoneOver n (c ∷ cs) → Begun (c ∷ cs)) → Begun (c ∷ cs)
 found_at None n c cs le none is shorter = shorter (fewer n (c ∷ cs) is none)
 found_at (Some s) n c cs le none is shorter =
-    let counted = length_taken (suc n) (c ∷ cs) le in
+    let counted = length-take-le (suc n) (c ∷ cs) le in
     record {
       sort = s;
       segment = take (suc n) (c ∷ cs);
       rest = drop (suc n) (c ∷ cs);
-      cut = sym (split (suc n) (c ∷ cs));
+      cut = sym (take-append-drop (suc n) (c ∷ cs));
       some = omega (arith, counted);
-      is_first = longest is (λ front after cut more. none front after (sym (split (suc n) (c ∷ cs)) ∙ cut) (omega (arith, counted, more)));
+      is_first = longest is (λ front after cut more. none front after (sym (take-append-drop (suc n) (c ∷ cs)) ∙ cut) (omega (arith, counted, more)));
     }
 
 longest_from : (n c : ℕ) (cs : List ℕ) → n ≤ length (c ∷ cs) → NoneOver n (c ∷ cs) → Begun (c ∷ cs)
