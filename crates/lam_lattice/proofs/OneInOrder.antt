@@ -1,6 +1,6 @@
 -- Two bounds of one pair, both in its order, are one type.
 use Rattle.std.proofs.Common.{◌≡◌, ◌∙◌, ap, sym, refl, inl, inr, subst}
-use Rattle.lam_rules.specs.Types.{Label, Typ, nat, top, arrow, record_of, Fields, field, joined, Has, IsWellFormed, AreWellFormed}
+use Rattle.lam_rules.specs.Types.{Label, Typ, nat, arrow, record_of, Fields, field, joined, Has, IsWellFormed, AreWellFormed}
 use Rattle.lam_rules.specs.Subtyping.{IsBelow}
 use Rattle.lam_rules.specs.declared.rules.Dialect.{Dialect}
 use Rattle.lam_rules.proofs.ByShape.{Under, under_bool, under_nat, under_unit, under_top, under_arrow, under_record, under_bool_nat, below_under, below_wf}
@@ -10,16 +10,13 @@ use Rattle.lam_sub.specs.OtherFields.{other_fields}
 use Rattle.lam_sub.specs.BoundOrder.{HasNoParts, join_without_parts, join_of_arrows, join_of_records, FieldsJoinInOrder, join_no_fields, join_common, join_leaves_out, meet_without_parts, meet_under_top, meet_of_top, meet_of_arrows, meet_of_records, FieldsMeetInOrder, meet_no_fields, meet_common, meet_alone}
 use Rattle.lam_sub.proofs.LookUps.{has_in_first}
 use Rattle.lam_sub.proofs.Arranging.{field_below}
-use Rattle.lam_sub.proofs.Below.{arrow_inside, record_inside, below_bool}
+use Rattle.lam_sub.proofs.Below.{arrow_inside, record_inside, below_bool, above_top}
 use Rattle.lam_lattice.specs.Bounds.{IsJoin, IsMeet, JoinsInOrder, MeetsInOrder}
 
 -- a type without parts and one that is both above and below it
 
-above_top : (d : Dialect) (k : Typ) → Under d top k → top ≡ k
-above_top d _ (under_top _) = refl
-
 one_without_parts : (d : Dialect) (j k : Typ) → HasNoParts j → Under d j k → IsBelow k j d → j ≡ k
-one_without_parts d j _ n (under_top _) above = sym (above_top d j (below_under top j d above))
+one_without_parts d j _ n (under_top _) above = above_top j d above
 one_without_parts d _ _ n under_bool above = refl
 one_without_parts d _ _ n under_nat above = refl
 one_without_parts d _ _ n under_unit above = refl

@@ -1,7 +1,8 @@
 -- Fields of two record types of a table side by side, and what is made of them one after the other.
-use Rattle.std.proofs.Common.{◌≡◌, ◌∙◌, ℕ, ◌+◌, ◌<◌, ◌≤◌, ◌++◌, List, [], ◌∷◌, String, string_bytes, length, take, drop, get_or, max, zero, suc, ap, sym, refl, subst, arith, Option, Some, None, IfSome, IfNone, inl}
+use Rattle.std.proofs.Common.{◌≡◌, ◌∙◌, ℕ, ◌+◌, ◌<◌, ◌≤◌, ◌++◌, List, [], ◌∷◌, String, string_bytes, length, take, drop, get_or, max, zero, suc, ap, sym, refl, subst, arith, Some, None, IfSome, IfNone, inl}
 use Rattle.std.proofs.lemmas.List.{drop_all, take_more}
 use Rattle.std.specs.declared.alloc.Global.{Global}
+use Rattle.std.proofs.lemmas.Option.{IfSome_then}
 use Rattle.lam_rules.specs.Types.{Label, Typ, record_of, Fields, no_fields, field, joined, Has, IsAbsent}
 use Rattle.lam_rules.specs.Numbers.{type_of, Keeps, fields_over, AreEarlier}
 use Rattle.lam_rules.specs.declared.rules.Dialect.{Dialect}
@@ -9,9 +10,10 @@ use Rattle.lam_rules.specs.declared.numbers.TyNo.{TyNo}
 use Rattle.lam_rules.proofs.Tables.{keeps_same, kept_type, kept_fields}
 use Rattle.lam_rules.proofs.TableFields.{fields_over-push}
 use Rattle.lam_rules.proofs.TypeShapes.{joined-none}
+use Rattle.lam_rules.proofs.TableEntries.{fields_over-drop}
 use Rattle.lam_sub.specs.OtherFields.{other_fields}
 use Rattle.lam_sub.proofs.LookUps.{others_without, others_with}
-use Rattle.lam_sub.proofs.TableVerdicts.{fields_over-drop, number_in_back}
+use Rattle.lam_sub.proofs.TableVerdicts.{number_in_back}
 use Rattle.lam_lattice.specs.Bounds.{HaveNoMeet}
 use Rattle.lam_lattice.specs.Matches.{IsMatch, AreMatches, AreMatchesBelow}
 use Rattle.lam_lattice.specs.Records.{AreJoined, joined_none, joined_both, joined_left_out, AreMet, met_none, met_both, met_alone}
@@ -52,15 +54,11 @@ matches_length right (f ∷ fs) [] are = absurd are
 
 -- numbers below a bound
 
-some_then : {X : Type 0} (A B : X → Type 0) (o : Option X) → ((x : X) → A x → B x) → IfSome o A → IfSome o B
-some_then A B (Some x) f a = f x a
-some_then A B None f a = tt
-
 pub matches_below : (n : ℕ) (right left : List (String Global × TyNo)) (ms : List Match) → AreMatches right left ms → AreEarlier n left → AreEarlier n right → AreMatchesBelow n ms
 matches_below n right [] [] are one other = tt
 matches_below n right (f ∷ fs) (m ∷ ms) are one other = (
   let same = ap (λ x. x.index) are.0.left in let here = one.0 in omega arith,
-  some_then (λ number. (k : ℕ) → AreEarlier k right → number.index < k) (λ number. number.index < n) m.right (λ number below. below n other) are.0.below,
+  IfSome_then m.right are.0.below (λ number below. below n other),
   matches_below n right fs ms are.1 one.1 other,
 )
 matches_below n right [] (m ∷ ms) are one other = absurd are

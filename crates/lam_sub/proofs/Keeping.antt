@@ -1,11 +1,12 @@
 -- Answers that are kept stay right: one more is, and a table grows.
-use Rattle.std.proofs.Common.{◌≡◌, ◌↔◌, List, Bool, true, false, cond, IsTrue, sym, refl, subst, arith, Option, Some, None, IfSome, IfNone}
+use Rattle.std.proofs.Common.{◌≡◌, ◌↔◌, List, Bool, true, false, cond, IsTrue, sym, refl, subst, arith, Option, Some, None, IfSome}
 use Rattle.std.specs.Prelude.{eqb}
 use Rattle.std.proofs.lemmas.Bool.{and_parts}
 use Rattle.std.specs.HashMap.{HashMap, get, Updates, IsUnchanged}
 use Rattle.std.specs.Map.{lookup}
 use Rattle.std.specs.declared.hash.FoldHasher.{FoldHasher}
 use Rattle.std.specs.declared.hash.BuildHasherDefault.{BuildHasherDefault}
+use Rattle.std.proofs.lemmas.Option.{IfSome_then}
 use borrow.Author.Tests.{eqb-true}
 use Rattle.lam_rules.specs.Types.{Typ}
 use Rattle.lam_rules.specs.Numbers.{type_of, Stands, Keeps}
@@ -17,6 +18,7 @@ use Rattle.lam_sub.specs.BoundOrder.{JoinsInOrder, MeetsInOrder}
 use Rattle.lam_sub.specs.Bounds.{IsJoin, IsMeet, HaveNoMeet}
 use Rattle.lam_sub.specs.Remembered.{BothStand, IsVerdict, IsJoinOf, IsMeetOf, equal_pairs, AllKept, AreRight}
 use Rattle.lam_sub.specs.declared.verdicts.Verdicts.{Verdicts}
+use Rattle.lam_sub.proofs.LookUps.{none_then}
 
 same_pair : (p q : TyNo × TyNo) → equal_pairs p q ≡ true → p ≡ q
 same_pair p q e =
@@ -38,10 +40,6 @@ pub kept_same : {X : Type 0} (IsAnswer : TyNo × TyNo → X → Type 0) (m n : H
 kept_same IsAnswer m n unchanged all q = subst (λ es. IfSome (lookup (equal_pairs q) es) (IsAnswer q)) (sym unchanged) (all q)
 
 -- a table that grows
-
-some_more : {X : Type 0} (A B : X → Type 0) (o : Option X) → ((x : X) → A x → B x) → IfSome o A → IfSome o B
-some_more A B (Some x) f a = f x a
-some_more A B None f a = tt
 
 pub both_kept : (old now : List Typ) (pair : TyNo × TyNo) → Keeps old now → BothStand old pair → BothStand now pair
 both_kept old now pair keeps stand =
@@ -78,30 +76,22 @@ some_kept : (old now : List Typ) (found : Option TyNo) (P : Typ → Type 0) → 
 some_kept old now (Some number) P keeps stands p = subst P (sym (kept_type old now number.index keeps stands)) p
 some_kept old now None P keeps stands p = tt
 
-none_more : {X : Type 0} (A B : Type 0) (o : Option X) → (A → B) → IfNone o A → IfNone o B
-none_more A B (Some x) f a = tt
-none_more A B None f a = f a
-
 meet_kept : (old now : List Typ) (d : Dialect) (pair : TyNo × TyNo) (found : Option TyNo) → Keeps old now → IsMeetOf old d pair found → IsMeetOf now d pair found
 meet_kept old now d pair found keeps is = record {
   stand = both_kept old now pair keeps is.stand;
-  stands = some_more (Stands old) (Stands now) found (λ number here. let longer = keeps_length old now keeps in omega arith) is.stands;
+  stands = IfSome_then found is.stands (λ number here. let longer = keeps_length old now keeps in omega arith);
   some = pair_kept old now pair (λ s t. IfSome found (λ number. IsMeet s t (type_of now number) d)) keeps is.stand
       (some_kept old now found (λ m. IsMeet (type_of old pair.0) (type_of old pair.1) m d) keeps is.stands is.some);
   order = pair_kept old now pair (λ s t. IfSome found (λ number. MeetsInOrder s t (type_of now number))) keeps is.stand
       (some_kept old now found (λ m. MeetsInOrder (type_of old pair.0) (type_of old pair.1) m) keeps is.stands is.order);
-  none = none_more (HaveNoMeet (type_of old pair.0) (type_of old pair.1) d) (HaveNoMeet (type_of now pair.0) (type_of now pair.1) d) found
-      (pair_kept old now pair (λ s t. HaveNoMeet s t d) keeps is.stand) is.none;
+  none = none_then found is.none (pair_kept old now pair (λ s t. HaveNoMeet s t d) keeps is.stand);
 }
 
 pub right_kept : (old now : List Typ) (verdicts : Verdicts) → Keeps old now → AreRight old verdicts → AreRight now verdicts
 right_kept old now verdicts keeps right = record {
-  below = λ pair. some_more (IsVerdict old verdicts.dialect pair) (IsVerdict now verdicts.dialect pair) (get equal_pairs verdicts.below pair)
-      (λ is_below. verdict_kept old now verdicts.dialect pair is_below keeps) (right.below pair);
-  joins = λ pair. some_more (IsJoinOf old verdicts.dialect pair) (IsJoinOf now verdicts.dialect pair) (get equal_pairs verdicts.joins pair)
-      (λ number. join_kept old now verdicts.dialect pair number keeps) (right.joins pair);
-  meets = λ pair. some_more (IsMeetOf old verdicts.dialect pair) (IsMeetOf now verdicts.dialect pair) (get equal_pairs verdicts.meets pair)
-      (λ found. meet_kept old now verdicts.dialect pair found keeps) (right.meets pair);
+  below = λ pair. IfSome_then (get equal_pairs verdicts.below pair) (right.below pair) (λ is_below. verdict_kept old now verdicts.dialect pair is_below keeps);
+  joins = λ pair. IfSome_then (get equal_pairs verdicts.joins pair) (right.joins pair) (λ number. join_kept old now verdicts.dialect pair number keeps);
+  meets = λ pair. IfSome_then (get equal_pairs verdicts.meets pair) (right.meets pair) (λ found. meet_kept old now verdicts.dialect pair found keeps);
 }
 
 pub ruleset kept_verdicts = (right_kept)

@@ -172,6 +172,10 @@ pub none_there : {X : Type 0} {A : Type 0} (r : Option X) (b : Bool) → b ≡ i
 none_there (Some x) b e h p = absurd (cc)
 none_there None b e h p = p
 
+pub none_then : {X : Type 0} {A B : Type 0} (r : Option X) → IfNone r A → (A → B) → IfNone r B
+none_then (Some x) a f = tt
+none_then None a f = f a
+
 -- others appended one by one: the next is one of the known, or it is appended
 
 pub append_known : (made fs : Fields) (l : Label) (s t : Typ) (gs whole : Fields) → Has l t gs

@@ -1,9 +1,9 @@
 -- Subtyping of numbers of a table.
-use Rattle.std.proofs.Common.{◌≡◌, ◌⊎◌, ◌↔◌, ℕ, ◌+◌, ◌<◌, ◌++◌, List, [], ◌∷◌, Bool, true, false, if◌then◌else◌, IsTrue, String, string_bytes, length, get_or, take, drop, drop-cons, add-one, suc, ap, sym, ◌∙◌, refl, inl, inr, subst, arith, Option, Some, None, IfNone, Vec, zero}
+use Rattle.std.proofs.Common.{◌≡◌, ◌⊎◌, ◌↔◌, ℕ, ◌+◌, ◌<◌, ◌++◌, List, [], ◌∷◌, Bool, true, false, IsTrue, String, string_bytes, length, get_or, take, drop, ap, sym, ◌∙◌, refl, inl, inr, subst, arith, Vec}
 use Rattle.std.proofs.lemmas.List.{take-append-drop}
 use Rattle.std.specs.declared.alloc.Global.{Global}
-use Rattle.lam_rules.specs.Types.{Label, Typ, bool, nat, unit, top, arrow, record_of, Fields, no_fields, field, joined, Has, IsAbsent, nodes, nodes_in, IsWellFormed}
-use Rattle.lam_rules.specs.Texts.{is_not_after, placed, sorted, sorted_fields}
+use Rattle.lam_rules.specs.Types.{Label, Typ, bool, nat, unit, arrow, record_of, Fields, field, joined, Has, IsAbsent, nodes, IsWellFormed}
+use Rattle.lam_rules.specs.Texts.{sorted}
 use Rattle.lam_rules.specs.Subtyping.{IsBelow}
 use Rattle.lam_rules.specs.Numbers.{type_of, fields_over, shaped, IsOver, AreEarlier}
 use Rattle.lam_rules.specs.declared.rules.Dialect.{Dialect}
@@ -13,39 +13,14 @@ use Rattle.lam_rules.proofs.Tables.{below_more}
 use Rattle.lam_rules.proofs.SortedBelow.{below_sorted, sorted_below}
 use Rattle.lam_rules.proofs.ByShape.{below_wf}
 use Rattle.lam_rules.proofs.Composing.{below_refl, below_trans}
+use Rattle.lam_rules.proofs.TableEntries.{fields_over-drop}
 use Rattle.lam_sub.specs.FieldsBelow.{AreBelow}
 use Rattle.lam_sub.specs.Remembered.{IsConstant}
 use Rattle.lam_sub.proofs.LookUps.{has_in_first, has_in_second, absent_in_both}
 use Rattle.lam_sub.proofs.Below.{bool_below_nat, below_bool, below_nat, below_unit, below_arrow_is, below_record_is, arrow_iff}
 use Rattle.lam_sub.proofs.ByVariant.{true_here, false_here}
 
--- a sorted type has as many nodes, and is below what the type is
-
-nodes_placed : (l : Label) (t : Typ) (fs : Fields) → nodes_in (placed l t fs) ≡ nodes t + nodes_in fs
-nodes_placed l t no_fields = refl
-nodes_placed l t (field k u fs) = by (is_not_after l k) (nodes_placed l t fs)
-  where
-    by : (b : Bool) → nodes_in (placed l t fs) ≡ nodes t + nodes_in fs
-        → nodes_in (if b then field l t (field k u fs) else field k u (placed l t fs)) ≡ nodes t + (nodes u + nodes_in fs)
-    by true e = refl
-    by false e = omega (arith, e)
-
-mutual
-  pub nodes_sorted : (t : Typ) → nodes (sorted t) ≡ nodes t
-  nodes_sorted bool = refl
-  nodes_sorted nat = refl
-  nodes_sorted unit = refl
-  nodes_sorted top = refl
-  nodes_sorted (arrow s t) = let a = nodes_sorted s in let b = nodes_sorted t in omega (arith, a, b)
-  nodes_sorted (record_of fs) = let a = nodes_sorted_fields fs in omega (arith, a)
-
-  nodes_sorted_fields : (fs : Fields) → nodes_in (sorted_fields fs) ≡ nodes_in fs
-  nodes_sorted_fields no_fields = refl
-  nodes_sorted_fields (field l t fs) =
-      let a = nodes_placed l (sorted t) (sorted_fields fs) in
-      let b = nodes_sorted t in
-      let c = nodes_sorted_fields fs in
-      omega (arith, a, b, c)
+-- sorted types lie below each other as the types do
 
 pub sorted_iff : (s t : Typ) (d : Dialect) → IsWellFormed s → IsWellFormed t → IsBelow (sorted s) (sorted t) d ↔ IsBelow s t d
 sorted_iff s t d ws wt = (
@@ -111,11 +86,6 @@ shape_no_record ts s gs d n = false_here (λ below. by s n (below_record_is (sha
 
 -- labelled numbers
 
-pub fields_over-drop : (ts : List Typ) (fs : List (String Global × TyNo)) (i : ℕ) (f : String Global × TyNo)
-    → i < length fs → f ≡ get_or fs i f → fields_over ts (drop i fs) ≡ field (string_bytes f.0) (type_of ts f.1) (fields_over ts (drop (i + 1) fs))
-fields_over-drop ts fs i f lt is =
-    rw add-one (rw (drop-cons fs i f lt) (ap (λ g. field (string_bytes g.0) (type_of ts g.1) (fields_over ts (drop (suc i) fs))) (sym is)))
-
 pub fields_over-append : (ts : List Typ) (fs gs : List (String Global × TyNo)) → fields_over ts (fs ++ gs) ≡ joined (fields_over ts fs) (fields_over ts gs)
 fields_over-append ts [] gs = refl
 fields_over-append ts (f ∷ fs) gs = ap (λ rest. field (string_bytes f.0) (type_of ts f.1) rest) (fields_over-append ts fs gs)
@@ -140,16 +110,6 @@ numbers_split n (f ∷ fs) gs below = let rest = numbers_split n fs gs below.1 i
 pub numbers_cut : (n : ℕ) (fs : List (String Global × TyNo)) (k : ℕ) → AreEarlier n fs → AreEarlier n (take k fs) × AreEarlier n (drop k fs)
 numbers_cut n fs k below = numbers_split n (take k fs) (drop k fs) (subst (λ gs. AreEarlier n gs) (sym (take-append-drop k fs)) below)
 
-pub number_item : (n : ℕ) (fs : List (String Global × TyNo)) (i : ℕ) (f : String Global × TyNo) → AreEarlier n fs → i < length fs → f ≡ get_or fs i f → f.1.index < n
-number_item n [] i f below lt is = absurd (omega arith)
-number_item n (g ∷ fs) zero f below lt is = subst (λ x. x.1.index < n) (sym is) below.0
-number_item n (g ∷ fs) (suc i) f below lt is = number_item n fs i f below.1 (omega arith) is
-
-pub number_has : (ts : List Typ) (fs : List (String Global × TyNo)) (i : ℕ) (f : String Global × TyNo) → i < length fs → f ≡ get_or fs i f
-    → Has (string_bytes f.0) (type_of ts f.1) (fields_over ts fs)
-number_has ts fs i f lt is =
-    number_in_back ts fs i (string_bytes f.0) (type_of ts f.1) (rw (fields_over-drop ts fs i f lt is) (inl (refl, refl)))
-
 -- the fields above, one after the other
 pub number_first : (ts : List Typ) (fs : Fields) (gs : List (String Global × TyNo)) (i : ℕ) (g : String Global × TyNo) (d : Dialect) → i < length gs → g ≡ get_or gs i g
     → (((s : Typ) × Has (string_bytes g.0) s fs × IsBelow s (type_of ts g.1) d) × AreBelow fs (fields_over ts (drop (i + 1) gs)) d) ↔ AreBelow fs (fields_over ts (drop i gs)) d
@@ -162,10 +122,6 @@ sorted_verdict s t x y d r ws wt is_x is_y verdict =
     let iff = sorted_iff s t d ws wt in
     let here = subst (λ u. IsTrue r ↔ IsBelow u (sorted t) d) is_x (subst (λ u. IsTrue r ↔ IsBelow x u d) is_y verdict) in
     ((λ h. iff.0 (here.0 h)), (λ h. here.1 (iff.1 h)))
-
-pub none_then : {X : Type 0} {A B : Type 0} (r : Option X) → IfNone r A → (A → B) → IfNone r B
-none_then (Some x) a f = tt
-none_then None a f = f a
 
 -- types by the shapes of their numbers
 

@@ -2,8 +2,8 @@ use Rattle.std.proofs.Common.{sym, subst}
 use Rattle.lam_rules.specs.Types.{Has, IsAbsent}
 use Rattle.lam_rules.specs.Numbers.{type_of, fields_over, AreEarlier}
 use Rattle.lam_rules.proofs.TableFields.{below-push}
+use Rattle.lam_rules.proofs.TableEntries.{below_read}
 use Rattle.lam_sub.proofs.LookUps.{some_there, none_there}
-use Rattle.lam_sub.proofs.TableVerdicts.{number_item}
 use Rattle.lam_lattice.proofs.SideBySide.{others_known, others_new, others_all}
 use Rattle.lam_lattice.proofs.matching.others.Goals as goal
 
@@ -24,7 +24,7 @@ loop-i-preserved c =
       below = λ n below.
           subst (λ fs. AreEarlier n fs) (sym c.in_ok-push.ensures.items)
           (below-push n c.loop-i.made.items (c.in_ok-label.label, c.index-right-i.result.1) (c.loop-i.invariant.below n below)
-          (number_item n c.args.right.now c.loop-i.i c.index-right-i.result below c.loop-i-test.true c.index-right-i.is));
+          (below_read n c.args.right.now c.loop-i.i c.index-right-i.result below c.loop-i-test.true c.index-right-i.is));
       others = λ ts.
           others_new ts c.loop-i.made.items c.push.new.self.items c.args.right.now c.args.left.now c.loop-i.i c.index-right-i.result c.in_ok-label.label c.loop-i-test.true c.index-right-i.is
           (subst (λ l. IsAbsent l (fields_over ts c.args.left.now)) c.deref.ensures (absent ts)) c.in_ok-push.ensures.items c.in_ok-label.ensures.cases (c.loop-i.invariant.others ts);

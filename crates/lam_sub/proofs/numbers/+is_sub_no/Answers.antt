@@ -3,9 +3,12 @@ use Rattle.std.proofs.lemmas.Result.{IfOk-weaker}
 use Rattle.lam_rules.specs.Types.{Has, IsAbsent, IsWellFormed, record_of, nodes}
 use Rattle.lam_rules.specs.Numbers.{type_at, type_of, fields_over}
 use Rattle.lam_rules.specs.Subtyping.{IsBelow}
+use Rattle.lam_rules.proofs.SortedSizes.{nodes_sorted}
+use Rattle.lam_rules.proofs.TableEntries.{below_read}
+use Rattle.lam_rules.proofs.TableFields.{has_read}
 use Rattle.lam_sub.proofs.Below.{no_field, nodes_of_field, record_iff}
 use Rattle.lam_sub.proofs.ByVariant.{field_fails, field_holds, found_field, not_true, arrows_fail, arrows_rest}
-use Rattle.lam_sub.proofs.TableVerdicts.{nodes_sorted, sorted_verdict, equal_sorted, arrow_numbers, record_of_numbers, not_arrow_numbers, not_record_numbers, stand_in, number_first, number_item, number_has}
+use Rattle.lam_sub.proofs.TableVerdicts.{sorted_verdict, equal_sorted, arrow_numbers, record_of_numbers, not_arrow_numbers, not_record_numbers, stand_in, number_first}
 use Rattle.lam_sub.proofs.numbers.+is_sub_no.Goals as goal
 
 -- by the sorted forms
@@ -118,11 +121,11 @@ are_fields_sub_no-returns-in_default-clause-verdict t c =
 
 pub are_fields_sub_no-is_sub_no-requires : goal.are_fields_sub_no-is_sub_no-requires
 are_fields_sub_no-is_sub_no-requires t c =
-    let above = number_has c.args.table.now c.args.upper.now c.loop-i.i c.index-upper-i.result c.loop-i-test.true c.index-upper-i.is in (
+    let above = has_read c.args.table.now c.args.upper.now c.loop-i.i c.index-upper-i.result c.loop-i-test.true c.index-upper-i.is in (
       omega (arith, c.decreases, nodes_of_field (fields_over c.args.table.now c.args.lower.now) _ (type_of c.args.table.now c.in-Some.number) (subst (λ l. Has l (type_of c.args.table.now c.in-Some.number) (fields_over c.args.table.now c.args.lower.now)) c.deref.ensures (c.in-Some.ensures.found c.args.table.now)), nodes_of_field _ _ _ above),
       (
         c.in-Some.ensures.below _ c.requires.lower_stand,
-        (number_item _ c.args.upper.now c.loop-i.i c.index-upper-i.result c.requires.upper_stand c.loop-i-test.true c.index-upper-i.is, c.loop-i.invariant.right),
+        (below_read _ c.args.upper.now c.loop-i.i c.index-upper-i.result c.requires.upper_stand c.loop-i-test.true c.index-upper-i.is, c.loop-i.invariant.right),
       ),
     )
 

@@ -2,8 +2,9 @@ use Rattle.std.proofs.Common.{sym, subst}
 use Rattle.std.proofs.lemmas.Option.{IfSome_then}
 use Rattle.lam_rules.specs.Types.{Has, IsAbsent}
 use Rattle.lam_rules.specs.Numbers.{type_of, fields_over, AreEarlier}
-use Rattle.lam_sub.proofs.TableVerdicts.{numbers_cut, number_in_front, number_in_back, number_in_neither, none_then}
+use Rattle.lam_sub.proofs.TableVerdicts.{numbers_cut, number_in_front, number_in_back, number_in_neither}
 use Rattle.lam_sub.proofs.numbers.field_number.Goals as goal
+use Rattle.lam_sub.proofs.LookUps.{none_then}
 
 pub returns-in-Some-clause-below : goal.returns-in-Some-clause-below
 returns-in-Some-clause-below c = λ n below. c.in-Some.ensures.below n (subst (λ gs. AreEarlier n gs) (sym c.split_at.ensures.back) (numbers_cut n c.args.fields.now c.min.result below).1)
