@@ -1,5 +1,5 @@
 -- No written type is at fault just where each stands for a type.
-use Rattle.std.proofs.Common.{◌≡◌, ℕ, Bool, true, false, ◌||◌, List, [], ◌∷◌, ◌++◌, refl, ap, sym, ◌∙◌, subst, append_assoc, Option, Some, None}
+use Rattle.std.proofs.Common.{◌≡◌, ℕ, Bool, true, false, ◌||◌, List, [], ◌∷◌, ◌++◌, refl, ap, sym, ◌∙◌, subst, Option, Some, None}
 use Rattle.std.specs.Prelude.{◌↔◌, if◌then◌else◌}
 use Rattle.std.specs.Option.{option_map}
 use Rattle.std.specs.Str.{bytes_eq}
@@ -19,6 +19,7 @@ use Rattle.lam_scope.specs.Expansions.{Abbreviation, abbreviation, meaning, is_b
 use Rattle.lam_scope.specs.Nameless.{use_counted, prefixed, nameless, nameless_node, nameless_fields, statements, written_in, written_in_node, written_in_fields, faults_in, faults}
 use Rattle.lam_scope.specs.EachWritten.{EachWrittenInTerm, EachWrittenInTerms}
 use Rattle.lam_scope.specs.Expanded.{HasExpansion, IsExpanded}
+use Rattle.lam_scope.proofs.Forms.{faults_in-append}
 
 -- each type that is written in a term stands for a type
 abbrev pub HasExpansions : Term → Type 0
@@ -30,11 +31,11 @@ HaveExpansions es = EachWrittenInTerms HasExpansion es
 
 -- lists of nothing
 
-none_left : {X : Type 0} (xs ys : List X) → xs ++ ys ≡ [] → xs ≡ []
+pub none_left : {X : Type 0} (xs ys : List X) → xs ++ ys ≡ [] → xs ≡ []
 none_left [] ys e = refl
 none_left (x ∷ xs) ys e = cc
 
-none_right : {X : Type 0} (xs ys : List X) → xs ++ ys ≡ [] → ys ≡ []
+pub none_right : {X : Type 0} (xs ys : List X) → xs ++ ys ≡ [] → ys ≡ []
 none_right [] ys e = e
 none_right (x ∷ xs) ys e = cc
 
@@ -241,18 +242,14 @@ mutual
 
 -- the written types of a term, and of commands
 
-in_both : (bs : List Abbreviation) (us vs : List TypeTree) → faults_in bs (us ++ vs) ≡ faults_in bs us ++ faults_in bs vs
-in_both bs [] vs = refl
-in_both bs (u ∷ us) vs = ap (λ fs. type_faults bs u ++ fs) (in_both bs us vs) ∙ sym (append_assoc (type_faults bs u) (faults_in bs us) (faults_in bs vs))
-
 in_left : (bs : List Abbreviation) (us vs : List TypeTree) → faults_in bs (us ++ vs) ≡ [] → faults_in bs us ≡ []
-in_left bs us vs e = none_left (faults_in bs us) (faults_in bs vs) (sym (in_both bs us vs) ∙ e)
+in_left bs us vs e = none_left (faults_in bs us) (faults_in bs vs) (sym (faults_in-append bs us vs) ∙ e)
 
 in_right : (bs : List Abbreviation) (us vs : List TypeTree) → faults_in bs (us ++ vs) ≡ [] → faults_in bs vs ≡ []
-in_right bs us vs e = none_right (faults_in bs us) (faults_in bs vs) (sym (in_both bs us vs) ∙ e)
+in_right bs us vs e = none_right (faults_in bs us) (faults_in bs vs) (sym (faults_in-append bs us vs) ∙ e)
 
 in_none : (bs : List Abbreviation) (us vs : List TypeTree) → faults_in bs us ≡ [] → faults_in bs vs ≡ [] → faults_in bs (us ++ vs) ≡ []
-in_none bs us vs e f = in_both bs us vs ∙ none_both (faults_in bs us) (faults_in bs vs) e f
+in_none bs us vs e f = faults_in-append bs us vs ∙ none_both (faults_in bs us) (faults_in bs vs) e f
 
 in_first : (bs : List Abbreviation) (u : TypeTree) (us : List TypeTree) → faults_in bs (u ∷ us) ≡ [] → type_faults bs u ≡ []
 in_first bs u us e = none_left (type_faults bs u) (faults_in bs us) e

@@ -1,7 +1,7 @@
 -- How what stands under a name is found by the count of the name.
-use Rattle.std.proofs.Common.{◌≡◌, ◌⊎◌, inl, inr, ℕ, ◌-◌, ◌<◌, arith, Bool, true, false, List, [], ◌∷◌, ◌++◌, length, get_or, suc, refl, ap, sym, ◌∙◌, map, Option, Some, None}
+use Rattle.std.proofs.Common.{◌≡◌, ◌⊎◌, inl, inr, ℕ, ◌-◌, ◌<◌, arith, Bool, true, false, List, [], ◌∷◌, ◌++◌, length, get_or, suc, refl, ap, sym, ◌∙◌, Option, Some, None}
 use Rattle.std.specs.Prelude.{if◌then◌else◌, IsSome}
-use Rattle.std.proofs.lemmas.List.{append-nil}
+use Rattle.std.proofs.lemmas.List.{append-nil, length-map}
 use Rattle.std.specs.Option.{option_map, option_to_list}
 use Rattle.std.specs.Str.{bytes_eq}
 use Rattle.lam_rules.specs.Types.{Typ}
@@ -98,16 +98,12 @@ count-within x (b ∷ bs) n e = by (λ m rest. count-within x bs m rest) (split 
     by behind (inl (is_first, first)) = omega (arith, first)
     by behind (inr (no_match, (m, rest, next))) = let inner = behind m rest in omega (arith, next, inner)
 
-length-mapped : {X Y : Type 0} (f : X → Y) (xs : List X) → length (map f xs) ≡ length xs
-length-mapped f [] = refl
-length-mapped f (x ∷ xs) = ap suc (length-mapped f xs)
-
 -- the same of stacks
 
 pub seen_within : (stack : List SeenBinder) (names : List (Option Name)) (x : Name) (n : ℕ) → names ≡ entry_names (entries_of stack) → count x names ≡ Some n → n < length stack
 seen_within stack names x n named found =
     let within = count-within x (entry_names (entries_of stack)) n (ap (count x) (sym named) ∙ found) in
-    let as_many = length-mapped (λ e. e.name) (entries_of stack) in
+    let as_many = length-map (entries_of stack) (λ e. e.name) in
     let size = stacked-length entry_of [] stack in
     omega (arith, within, as_many, size)
 
@@ -125,7 +121,7 @@ pub abbreviation_within : (stack : List RustAbbreviation) (names : List (Option 
     → n < length stack
 abbreviation_within stack names x n named found =
     let within = count-within x (names_in (abbreviations_in stack)) n (ap (count x) (sym named) ∙ found) in
-    let as_many = length-mapped name_of_one (abbreviations_in stack) in
+    let as_many = length-map (abbreviations_in stack) name_of_one in
     let size = stacked-length abbreviation_of [] stack in
     omega (arith, within, as_many, size)
 

@@ -1,10 +1,9 @@
 -- The places of terms that stand within one another nest, and of those that have a byte the first is within all.
-use Rattle.std.proofs.Common.{◌≡◌, ℕ, ◌+◌, ◌<◌, ◌≤◌, List, [], ◌∷◌, ◌++◌, length, length-append, zero, suc, refl, ap, sym, ◌∙◌, subst, arith, inl, inr, Option, Some, None, Bool, true, false, ltb}
+use Rattle.std.proofs.Common.{◌≡◌, ℕ, ◌+◌, ◌<◌, ◌≤◌, List, [], ◌∷◌, ◌++◌, length, zero, suc, refl, ap, sym, ◌∙◌, subst, arith, inl, inr, Option, Some, None, Bool, true, false, ltb}
 use Rattle.std.specs.Prelude.{◌⊎◌, if◌then◌else◌}
-use Rattle.std.proofs.lemmas.Bool.Decides.{nat_tests}
 use Rattle.std.proofs.lemmas.List.{append-nil}
 use Rattle.std.proofs.lemmas.List.Quantifiers.{position-Some}
-use Rattle.std.proofs.lemmas.Bool.{cases_lt}
+use Rattle.std.proofs.lemmas.Bool.{cases_lt, ltb-true, ltb-false}
 use Rattle.std.proofs.Math.ListN.{get_or-eq_default}
 use Rattle.lam_token.specs.declared.span.Span.{Span}
 use Rattle.lam_syntax.specs.Trees as tree
@@ -14,7 +13,7 @@ use Rattle.lam_scope.specs.Sights.{lambda_at, term_at}
 use Rattle.lam_scope.specs.Tables.{TextPlace, Table, ◌⊕◌, Entry, entry, binder_row, place_row, root, behind, roots, below, binders_in, type_uses, term_table, node_table, fields_table, letrec_rows, commands_table, table, is_over, place_in, place_at, no_span}
 use Rattle.lam_scope.specs.Nesting.{IsWithin, Nests, NestsInAll, AreNested, AreSpelledFrom, IsInnermost}
 use Rattle.lam_scope.proofs.SpelledTerms.{StandsBetween, PartsStand, FieldsStand, CommandsStand, spelled_stand}
-use Rattle.lam_scope.proofs.PlaceCounts.{type_places}
+use Rattle.lam_scope.proofs.PlaceCounts.{type_places, places-plus}
 
 -- places between two bytes
 
@@ -88,10 +87,6 @@ nest_left : (low high : ℕ) (s t : Table) → length t.places ≡ 0 → NestBet
 unfolding ◌⊕◌
 nest_left low high s t e h = subst (λ ps. AreBetween low high ps × AreNested ps) (sym (none_right s.places t.places e)) h
 
-no_places : (s t : Table) → length s.places ≡ 0 → length t.places ≡ 0 → length (s ⊕ t).places ≡ 0
-unfolding ◌⊕◌
-no_places s t e f = length-append s.places t.places ∙ (λ i. e i + f i)
-
 letrec_nest : (s : Span) (x : Option (List ℕ)) (r : Span) (names : List Entry) (n p : ℕ) (u t : Table) → length u.places ≡ 0 → NestBetween s.start s.end t
     → NestBetween s.start s.end (letrec_rows x r names n p s u t)
 letrec_nest s x r names n p u t e h =
@@ -99,7 +94,7 @@ letrec_nest s x r names n p u t e h =
     let two = binder_row x r names (n + 1) (term_at (p + 2)) in
     let function = place_row s true (p ∷ []) names in
     nest_own s true ((p + 1) ∷ []) names (one ⊕ two ⊕ u ⊕ t ⊕ function)
-    (nest_own s true (p ∷ []) names (one ⊕ two ⊕ u ⊕ t) (nest_right s.start s.end (one ⊕ two ⊕ u) t (no_places (one ⊕ two) u (no_places one two refl refl) e) h))
+    (nest_own s true (p ∷ []) names (one ⊕ two ⊕ u ⊕ t) (nest_right s.start s.end (one ⊕ two ⊕ u) t (places-plus (one ⊕ two) u 0 0 (places-plus one two 0 0 refl refl) e) h))
 
 -- the places of a term
 
@@ -126,7 +121,7 @@ mutual
   node_nests types names n k low high (tree.lambda (bound b r) u t) le h =
       let own = binder_row b r names n (lambda_at (behind k t)) in
       let body = term_table types (entry b n n ∷ names) (n + 1) k t in
-      nest_right low high (own ⊕ type_uses types u) body (no_places own (type_uses types u) refl (type_places types u))
+      nest_right low high (own ⊕ type_uses types u) body (places-plus own (type_uses types u) 0 0 refl (type_places types u))
       (nest_more (term_span t).start (term_span t).end low high body (begins low high t h) (ends low high t h) (term_nests types (entry b n n ∷ names) (n + 1) k low high t h))
   node_nests types names n k low high (tree.if_term c t u) le h =
       let second = n + binders_in c in
@@ -241,11 +236,11 @@ commands_nest types names n k i low (definition (word x r) t ∷ cs) h =
     (commands_nest types (entry (Some x) n n ∷ names) (n + (1 + binders_in t)) (k + (below t + 1)) (i + 1) (term_span t).end cs h.1)
 commands_nest types names n k i low (declaration (word x r) u ∷ cs) h =
     let own = binder_row (Some x) r names n (Declaration i) in
-    from_right low (own ⊕ type_uses types u) (commands_table types (entry (Some x) n n ∷ names) (n + 1) (k + 0) (i + 1) cs) (no_places own (type_uses types u) refl (type_places types u))
+    from_right low (own ⊕ type_uses types u) (commands_table types (entry (Some x) n n ∷ names) (n + 1) (k + 0) (i + 1) cs) (places-plus own (type_uses types u) 0 0 refl (type_places types u))
     (commands_nest types (entry (Some x) n n ∷ names) (n + 1) (k + 0) (i + 1) low cs h)
 commands_nest types names n k i low (tree.abbreviation (word x r) u ∷ cs) h =
     let own = binder_row (Some x) r types n TypeName in
-    from_right low (own ⊕ type_uses types u) (commands_table (entry (Some x) n n ∷ types) names (n + 1) (k + 0) (i + 1) cs) (no_places own (type_uses types u) refl (type_places types u))
+    from_right low (own ⊕ type_uses types u) (commands_table (entry (Some x) n n ∷ types) names (n + 1) (k + 0) (i + 1) cs) (places-plus own (type_uses types u) 0 0 refl (type_places types u))
     (commands_nest (entry (Some x) n n ∷ types) names (n + 1) (k + 0) (i + 1) low cs h)
 commands_nest types names n k i low (evaluation t ∷ cs) h =
     let one = term_table types names n k t in
@@ -258,17 +253,11 @@ spelled_nest cs h = (commands_nest [] [] 0 0 0 0 cs (spelled_stand 0 cs h)).1
 
 -- the first place that has a byte
 
-not_before : (a b : ℕ) → ltb a b ≡ false → b ≤ a
-not_before a b e = grind (arith, nat_tests)
-
-is_before : (a b : ℕ) → ltb a b ≡ true → a < b
-is_before a b e = grind (arith, nat_tests)
-
 over_bounds_by : (d a b : Bool) (s : Span) (o : ℕ) → ltb o s.start ≡ a → ltb o s.end ≡ b → (if d then false else (if a then false else b)) ≡ true → (s.start ≤ o) × (o < s.end)
 over_bounds_by true a b s o e f h = cc
 over_bounds_by false true b s o e f h = cc
 over_bounds_by false false false s o e f h = cc
-over_bounds_by false false true s o e f h = (not_before o s.start e, is_before o s.end f)
+over_bounds_by false false true s o e f h = (ltb-false o s.start e, ltb-true o s.end f)
 
 over_bounds : (o : ℕ) (p : TextPlace) → is_over o p ≡ true → (p.span.start ≤ o) × (o < p.span.end)
 over_bounds o p h = over_bounds_by p.derived (ltb o p.span.start) (ltb o p.span.end) p.span o refl refl h

@@ -1,10 +1,8 @@
 -- The terms at the places of statements, and how the search for one ends.
-use Rattle.std.proofs.Common.{◌≡◌, ℕ, ◌+◌, ◌<◌, List, [], ◌∷◌, ◌++◌, length, drop, get_or, zero, suc, refl, ap, sym, ◌∙◌, arith, add-one, drop-cons, map}
+use Rattle.std.proofs.Common.{◌≡◌, ℕ, ◌+◌, ◌<◌, List, [], ◌∷◌, ◌++◌, length, get_or, zero, suc, refl, ap, sym, ◌∙◌, arith}
 use Rattle.lam_rules.specs.Terms.{Term, true_term, false_term, if_then_else, numeral, succ, pred, is_zero, variable, free, lambda, apply, unit_term, ascribe, let_in, record_term, project, fix, TermFields, no_terms, term_field}
-use Rattle.lam_scope.specs.declared.statement.Statement.{Statement as RustStatement}
 use Rattle.lam_scope.specs.Places.{written, of_term, Scope, Place, places, places_in, Statement, defines, declares, abbreviates, states, places_of, place_numbered}
 use Rattle.lam_scope.specs.Found.{terms_at, terms_at_fields, terms_stated, here, behind, seek, seek_on}
-use Rattle.lam_scope.specs.Views.{statement_of}
 use Rattle.lam_scope.proofs.Finding.{seek-append}
 
 -- the terms at the places of statements
@@ -93,7 +91,3 @@ sought_behind ss rest s n left more so_far gone =
 
 pub sought_nowhere : (ss : List Statement) (n left : ℕ) → n < length (places_of [] ss) → seek (terms_in ss) n ≡ seek (terms_in []) left → ⊥
 sought_nowhere ss n left lt so_far = let met = sym (seek-place ss n lt) ∙ so_far in cc
-
-pub statements-drop : (ss : List RustStatement) (i : ℕ) (s : RustStatement) → i < length ss → s ≡ get_or ss i s
-    → map statement_of (drop i ss) ≡ statement_of s ∷ map statement_of (drop (i + 1) ss)
-statements-drop ss i s lt is = rw add-one (rw (drop-cons ss i s lt) (ap (λ r. statement_of r ∷ map statement_of (drop (suc i) ss)) (sym is)))

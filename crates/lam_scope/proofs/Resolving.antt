@@ -1,7 +1,8 @@
 -- How commands are resolved one after the other.
-use Rattle.std.proofs.Common.{◌≡◌, ℕ, ◌+◌, ◌<◌, List, [], ◌∷◌, ◌++◌, length, drop, get_or, suc, refl, ap, sym, drop-cons, add-one, append_assoc, map, Some, None}
+use Rattle.std.proofs.Common.{◌≡◌, ℕ, ◌+◌, ◌<◌, List, [], ◌∷◌, ◌++◌, length, drop, get_or, refl, ap, append_assoc, map, Some, None}
 use Rattle.std.proofs.lemmas.List.{append-nil, drop_all}
 use Rattle.lam_token.specs.declared.span.Span.{Span}
+use Rattle.lam_rules.proofs.TableEntries.{drop_more_read}
 use Rattle.lam_syntax.specs.declared.terms.Command.{Command}
 use Rattle.lam_syntax.specs.Trees.{CommandTree}
 use Rattle.lam_syntax.specs.Views.{command_of}
@@ -16,11 +17,15 @@ pub statements-push : (ss : List RustStatement) (s : RustStatement) → map stat
 statements-push [] s = refl
 statements-push (r ∷ ss) s = ap (λ rs. statement_of r ∷ rs) (statements-push ss s)
 
+pub statements-drop : (ss : List RustStatement) (i : ℕ) (s : RustStatement) → i < length ss → s ≡ get_or ss i s
+    → map statement_of (drop i ss) ≡ statement_of s ∷ map statement_of (drop (i + 1) ss)
+statements-drop ss i s lt is = ap (map statement_of) (drop_more_read ss i s lt is)
+
 pub ruleset resolving = (statements-push, append-nil, append_assoc)
 
 pub commands-drop : (cs : List Command) (i : ℕ) (c : Command) → i < length cs → c ≡ get_or cs i c
     → map command_of (drop i cs) ≡ command_of c ∷ map command_of (drop (i + 1) cs)
-commands-drop cs i c lt is = rw add-one (rw (drop-cons cs i c lt) (ap (λ d. command_of d ∷ map command_of (drop (suc i) cs)) (sym is)))
+commands-drop cs i c lt is = ap (map command_of) (drop_more_read cs i c lt is)
 
 pub first_large : (bs : List Abbreviation) (c : CommandTree) (cs : List CommandTree) → first_over_limit bs (written_in_command c) ≡ None
     → first_too_large bs (c ∷ cs) ≡ first_too_large (abbreviations_after bs c) cs

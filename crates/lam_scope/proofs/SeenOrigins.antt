@@ -14,7 +14,7 @@ use Rattle.lam_scope.specs.Expansions.{Abbreviation}
 use Rattle.lam_scope.specs.Nameless.{use_counted, prefixed, nameless, nameless_node, nameless_fields, statements, abbreviations_after}
 use Rattle.lam_scope.specs.Sights.{Sight, inside, place_of_term, behind_term, lambda_at, term_at, sights, sights_in, sights_of, sight_numbered}
 use Rattle.lam_scope.specs.Tables.{TextBinder, TextPlace, Table, ◌⊕◌, Entry, entry, innermost, binder_row, place_row, root, behind, roots, below, binders_in, binders_in_node, binders_in_fields, type_uses, node_uses, field_uses, term_table, node_table, fields_table, letrec_rows, commands_table, table, binder_in, place_in, seen_in, visible_at}
-use Rattle.lam_scope.proofs.PlaceCounts.{type_places, inside-nameless}
+use Rattle.lam_scope.proofs.PlaceCounts.{type_places, inside-nameless, places-plus}
 use Rattle.lam_scope.proofs.Reading.{map-reverse}
 
 -- how many binders stand in the text
@@ -208,10 +208,6 @@ see_right : (bs : List TextBinder) (s t : Table) (ss : List Sight) → length s.
 unfolding ◌⊕◌
 see_right bs s t ss e h = none_before bs s.places t.places ss e h
 
-no_places : (s t : Table) → length s.places ≡ 0 → length t.places ≡ 0 → length (s ⊕ t).places ≡ 0
-unfolding ◌⊕◌
-no_places s t e f = length-append s.places t.places ∙ (λ i. e i + f i)
-
 -- the places of a term
 
 same_root : (bs : List Abbreviation) (xs : List (Option Name)) (k : ℕ) (t : TermTree) → root k t ≡ place_of_term k (nameless bs xs t)
@@ -258,7 +254,7 @@ letrec_sees bs x r span names n p u t ss s e seen first =
     let fixed = place_row span true ((p + 1) ∷ []) names in
     let here = origins_seen bs (length bs) names s (all_under bs names s seen) seen in
     see_both bs (one ⊕ two ⊕ u ⊕ t ⊕ function) fixed _ _
-    (see_both bs (one ⊕ two ⊕ u ⊕ t) function _ _ (see_right bs (one ⊕ two ⊕ u) t _ (no_places (one ⊕ two) u (no_places one two refl refl) e) first) (here, tt)) (here, tt)
+    (see_both bs (one ⊕ two ⊕ u ⊕ t) function _ _ (see_right bs (one ⊕ two ⊕ u) t _ (places-plus (one ⊕ two) u 0 0 (places-plus one two 0 0 refl refl) e) first) (here, tt)) (here, tt)
 
 mutual
   term_sees : (bs : List TextBinder) (types names : List Entry) (n k : ℕ) (known : List Abbreviation) (xs : List (Option Name)) (s : Sight) (t : TermTree)
@@ -285,7 +281,7 @@ mutual
       (one_more bs b r names n n n (lambda_at (behind k t)) (lambda_at (behind k t)) s [] refl under front seen)
       (rows_right bs n (n + 1) (own ⊕ type_uses types u) body (omega arith) stand) in (
         sights k (lambda_at (behind k t) ∷ s) (nameless known (b ∷ xs) t),
-        see_right bs (own ⊕ type_uses types u) body _ (no_places own (type_uses types u) refl (type_places types u)) inside_of,
+        see_right bs (own ⊕ type_uses types u) body _ (places-plus own (type_uses types u) 0 0 refl (type_places types u)) inside_of,
         (λ i. sights k (lambda_at (sym (same_behind known (b ∷ xs) k t) i) ∷ s) (nameless known (b ∷ xs) t) ++ s ∷ []),
       )
   node_sees bs types names n k known xs s (tree.if_term c t u) under seen stand =
@@ -406,7 +402,7 @@ commands_see bs types names n k i known xs s (declaration (word x r) u ∷ cs) u
     (rows_right bs n (n + 1) (own ⊕ type_uses types u) rest (omega arith) stand) in
     let same : k + 0 ≡ k = omega arith in
     subst (λ j. SeeOrigins bs ((own ⊕ type_uses types u) ⊕ rest).places (sights_of j (i + 1) (Declaration i ∷ s) (statements known (Some x ∷ xs) cs))) same
-    (see_right bs (own ⊕ type_uses types u) rest _ (no_places own (type_uses types u) refl (type_places types u)) others)
+    (see_right bs (own ⊕ type_uses types u) rest _ (places-plus own (type_uses types u) 0 0 refl (type_places types u)) others)
 commands_see bs types names n k i known xs s (tree.abbreviation (word x r) u ∷ cs) under seen stand =
     let c = tree.abbreviation (word x r) u in
     let own = binder_row (Some x) r types n TypeName in
@@ -416,7 +412,7 @@ commands_see bs types names n k i known xs s (tree.abbreviation (word x r) u ∷
     (rows_right bs n (n + 1) (own ⊕ type_uses types u) rest (omega arith) stand) in
     let same : k + 0 ≡ k = omega arith in
     subst (λ j. SeeOrigins bs ((own ⊕ type_uses types u) ⊕ rest).places (sights_of j (i + 1) s (statements (abbreviations_after known c) xs cs))) same
-    (see_right bs (own ⊕ type_uses types u) rest _ (no_places own (type_uses types u) refl (type_places types u)) others)
+    (see_right bs (own ⊕ type_uses types u) rest _ (places-plus own (type_uses types u) 0 0 refl (type_places types u)) others)
 commands_see bs types names n k i known xs s (evaluation t ∷ cs) under seen stand =
     let one = term_table types names n k t in
     let after = n + binders_in t in

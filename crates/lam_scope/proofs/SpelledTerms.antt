@@ -265,19 +265,19 @@ lower low high (declaration w u ∷ cs) le h = lower low high cs le h
 lower low high (abbreviation w u ∷ cs) le h = lower low high cs le h
 lower low high (evaluation t ∷ cs) le h = (more_between high (term_span t).end low (term_span t).end t le (omega arith) h.0, h.1)
 
-last_of : (low high : ℕ) (ts : List Lexeme) → TokensStand low ts high → low ≤ high
-last_of low high [] o = o
-last_of low high (lexeme k x s ∷ ts) o = let rest = last_of s.end high ts o.2 in omega (arith, o.0, o.1, rest)
+pub tokens_go_on : (low high : ℕ) (ts : List Lexeme) → TokensStand low ts high → low ≤ high
+tokens_go_on low high [] o = o
+tokens_go_on low high (lexeme k x s ∷ ts) o = let rest = tokens_go_on s.end high ts o.2 in omega (arith, o.0, o.1, rest)
 
 command_stands : (low high : ℕ) {ts : List Lexeme} (c : CommandTree) (cs : List CommandTree) → Spells ts c → TokensStand low ts high → CommandsStand high cs → CommandsStand low (c ∷ cs)
 command_stands low high (definition w t) cs (definition_command {q = q} d) o h =
     let own = term_stands q.end high d o.2.2 in
     (between low (term_span t).end t (omega (arith, o.0, o.1, o.2.0, o.2.1, own.0)) own.1 (omega arith) own.2, lower (term_span t).end high cs own.3 h)
 command_stands low high (declaration w u) cs (declaration_command {ts = ts} {c = c} d) o h =
-    let own = last_of c.end high ts o.2.2 in
+    let own = tokens_go_on c.end high ts o.2.2 in
     lower low high cs (omega (arith, o.0, o.1, o.2.0, o.2.1, own)) h
 command_stands low high (abbreviation w u) cs (abbreviation_command {ts = ts} {q = q} d) o h =
-    let own = last_of q.end high ts o.2.2 in
+    let own = tokens_go_on q.end high ts o.2.2 in
     lower low high cs (omega (arith, o.0, o.1, o.2.0, o.2.1, own)) h
 command_stands low high (evaluation t) cs (evaluation_command d) o h =
     let own = term_stands low high d o in

@@ -2,9 +2,10 @@
 use Rattle.std.proofs.Common.{◌≡◌, ℕ, ◌+◌, ◌<◌, ◌≤◌, arith, Bool, true, false, cond, ltb, List, [], ◌∷◌, ◌++◌, length, take, drop, get_or, zero, suc, refl, ap, sym, ◌∙◌, subst, append_assoc, Option, Some, None, position, map}
 use Rattle.std.specs.Prelude.{if◌then◌else◌}
 use Rattle.std.specs.List.{position_from}
-use Rattle.std.proofs.lemmas.Bool.Decides.{nat_tests}
 use Rattle.std.proofs.lemmas.Iterator.Adapters.{position_from-zero}
-use Rattle.std.proofs.lemmas.List.{append-nil, drop_all, drop_more, drop-drop, take_more, take-append-drop, length-drop, get_or-map, length-map, length-take, take-map, drop-map, take_all}
+use Rattle.std.proofs.lemmas.List.{append-nil, drop_all, drop-drop, take_more, take-append-drop, length-drop, get_or-map, length-map, length-take, take-map, drop-map, take_all}
+use Rattle.std.proofs.lemmas.Bool.{ltb-false, le-ltb}
+use Rattle.lam_rules.proofs.TableEntries.{drop_more_read}
 use Rattle.lam_scope.specs.declared.stretches.Stretch.{Stretch}
 use Rattle.lam_scope.specs.Stretches.{has, IsPart, AreParts, AreRuns}
 
@@ -87,14 +88,8 @@ rows_all f xs runs n le so_far = runs_all (map f xs) runs n (subst (λ k. k ≤ 
 
 -- the first that has a byte
 
-within_low : (a b : ℕ) → ltb a b ≡ false → b ≤ a
-within_low a b e = grind (arith, nat_tests)
-
-not_below : (a b : ℕ) → b ≤ a → ltb a b ≡ false
-not_below a b le = grind (arith, nat_tests)
-
 has_between : (o : ℕ) (s : Stretch) → s.lowest ≤ o → o ≤ s.highest → has o s ≡ true
-has_between o s low high = ap (λ a. if a then false else (if ltb s.highest o then false else true)) (not_below o s.lowest low) ∙ ap (λ b. if b then false else true) (not_below s.highest o high)
+has_between o s low high = ap (λ a. if a then false else (if ltb s.highest o then false else true)) (le-ltb o s.lowest low) ∙ ap (λ b. if b then false else true) (le-ltb s.highest o high)
 
 part_has_not : (o : ℕ) (s t : Stretch) → IsPart s t → has o t ≡ false → has o s ≡ false
 part_has_not o s t part none = by (ltb o s.lowest) (ltb s.highest o) refl refl
@@ -103,8 +98,8 @@ part_has_not o s t part none = by (ltb o s.lowest) (ltb s.highest o) refl refl
     by true b e f = refl
     by false true e f = refl
     by false false e f =
-        let low = within_low o s.lowest e in
-        let high = within_low s.highest o f in
+        let low = ltb-false o s.lowest e in
+        let high = ltb-false s.highest o f in
         let inside = has_between o t (omega (arith, part.0, low)) (omega (arith, part.1, high)) in
         sym inside ∙ none
 
@@ -121,14 +116,11 @@ first_passes o i s ss e = ap (λ b. cond b (Some i) (position_from (has o) (i + 
 first_fails : (o i : ℕ) (s : Stretch) (ss : List Stretch) → has o s ≡ false → position_from (has o) i (s ∷ ss) ≡ position_from (has o) (i + 1) ss
 first_fails o i s ss e = ap (λ b. cond b (Some i) (position_from (has o) (i + 1) ss)) e
 
-from_drop : (ss : List Stretch) (i : ℕ) (s : Stretch) → i < length ss → s ≡ get_or ss i s → drop i ss ≡ s ∷ drop (i + 1) ss
-from_drop ss i s lt is = drop_more ss i s lt ∙ ap (λ x. x ∷ drop (i + 1) ss) (sym is)
-
 pub found_in_run : {X : Type 0} (f : X → Stretch) (o before i : ℕ) (xs : List X) (x : X) (s : Stretch) → i < length xs → x ≡ get_or xs i x → s ≡ f x → has o s ≡ true
     → position_from (has o) before (map f xs) ≡ position_from (has o) (before + i) (drop i (map f xs)) → Some (before + i) ≡ position_from (has o) before (map f xs)
 found_in_run f o before i xs x s lt is same hit so_far =
     sym (so_far
-    ∙ ap (position_from (has o) (before + i)) (from_drop (map f xs) i (f x) (subst (λ n. i < n) (sym (length-map xs f)) lt) (row_mapped f xs i x lt is))
+    ∙ ap (position_from (has o) (before + i)) (drop_more_read (map f xs) i (f x) (subst (λ n. i < n) (sym (length-map xs f)) lt) (row_mapped f xs i x lt is))
     ∙ first_passes o (before + i) (f x) (drop (i + 1) (map f xs)) (ap (has o) (sym same) ∙ hit))
 
 pub missed_in_run : {X : Type 0} (f : X → Stretch) (o before i : ℕ) (xs : List X) (x : X) (s : Stretch) → i < length xs → x ≡ get_or xs i x → s ≡ f x → has o s ≡ false
@@ -137,7 +129,7 @@ pub missed_in_run : {X : Type 0} (f : X → Stretch) (o before i : ℕ) (xs : Li
 missed_in_run f o before i xs x s lt is same no_byte so_far =
     let next : before + i + 1 ≡ before + (i + 1) = omega arith in
     so_far
-    ∙ ap (position_from (has o) (before + i)) (from_drop (map f xs) i (f x) (subst (λ n. i < n) (sym (length-map xs f)) lt) (row_mapped f xs i x lt is))
+    ∙ ap (position_from (has o) (before + i)) (drop_more_read (map f xs) i (f x) (subst (λ n. i < n) (sym (length-map xs f)) lt) (row_mapped f xs i x lt is))
     ∙ first_fails o (before + i) (f x) (drop (i + 1) (map f xs)) (ap (has o) (sym same) ∙ no_byte)
     ∙ ap (λ k. position_from (has o) k (drop (i + 1) (map f xs))) next
 
@@ -197,7 +189,7 @@ no_run_left f o n i xs runs le rest so_far =
     sym (so_far ∙ ap (position_from (has o) n) over)
 
 next_runs : (ss runs : List Stretch) (i : ℕ) (whole : Stretch) → i < length runs → whole ≡ get_or runs i whole → AreRuns (drop i runs) ss → AreRuns (whole ∷ drop (i + 1) runs) ss
-next_runs ss runs i whole lt is rest = subst (λ rs. AreRuns rs ss) (from_drop runs i whole lt is) rest
+next_runs ss runs i whole lt is rest = subst (λ rs. AreRuns rs ss) (drop_more_read runs i whole lt is) rest
 
 pub next_run : {X : Type 0} (f : X → Stretch) (xs run : List X) (runs : List Stretch) (n i : ℕ) (whole : Stretch) → i < length runs → whole ≡ get_or runs i whole
     → AreRuns (drop i runs) (drop n (map f xs)) → run ≡ take 64 (drop n xs) → AreParts (map f run) whole

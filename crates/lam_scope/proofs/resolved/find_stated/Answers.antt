@@ -2,8 +2,9 @@ use Rattle.std.proofs.Common.{◌∙◌, ap, ◌+◌, map, drop}
 use Rattle.std.proofs.lemmas.List.{drop_all}
 use Rattle.lam_scope.specs.Found.{seek}
 use Rattle.lam_scope.specs.Views.{statement_of}
-use Rattle.lam_scope.proofs.PlaceTerms.{terms_in, sought_here, sought_behind, sought_nowhere, statements-drop}
+use Rattle.lam_scope.proofs.PlaceTerms.{terms_in, sought_here, sought_behind, sought_nowhere}
 use Rattle.lam_scope.proofs.resolved.find_stated.Goals as goal
+use Rattle.lam_scope.proofs.Resolving.{statements-drop}
 
 pub returns-in-Here : goal.returns-in-Here
 returns-in-Here c =
