@@ -7,6 +7,7 @@ use Rattle.lam_rules.specs.Typing.{Context, HasField, TypingTree, typing_step, T
 use Rattle.lam_rules.specs.declared.rules.Dialect.{Dialect}
 use Rattle.lam_rules.specs.declared.rules.TypeRule.{TypeRule}
 use Rattle.lam_rules.proofs.Composing.{below_refl, below_trans, below_arrow}
+use Rattle.lam_sub.proofs.Below.{arrow_inside, below_arrow_is, below_record_is}
 use Rattle.lam_scope.specs.Places.{written, of_term, Scope, Place}
 use Rattle.lam_scope.specs.Sights.{inside, inside_fields, place_of_term, behind_term}
 use Rattle.lam_typing.specs.LeastTypes.{IsLeastAt}
@@ -21,7 +22,6 @@ use Rattle.lam_typing.proofs.Forms.{fields_least}
 use Rattle.lam_typing.proofs.LeastIn.{LeastIn, lowest_written, lowest_some, lowest_none, least_in}
 use Rattle.lam_typing.proofs.LeastSteps.{entry_is, is_entry_at, lambda_least, apply_least, let_least, project_least, record_least, wf_each}
 use Rattle.lam_typing.proofs.Inversions.{of_true, of_false, of_unit, of_num, of_free, of_succ, of_pred, of_is_zero, of_if, of_variable, of_lambda, of_faulty_lambda, of_apply, of_ascribe, of_faulty_ascribe, of_let, of_record, of_project, of_fix}
-use Rattle.lam_typing.proofs.Shapes.{below_arrow_is, below_record_is, arrows_below}
 use Rattle.lam_typing.proofs.Sighted.{own_least}
 
 -- what is known of a term, and of a part of it
@@ -220,7 +220,7 @@ module _ (t : Grounds) where
   argument_below : (f a : Term) (g : Context) (p r q type : Typ) → LeastIn g f (Some (arrow p r)) (dialect_in t) → LeastIn g a (Some q) (dialect_in t) → Derives g (apply f a) type (dialect_in t) → IsBelow q p (dialect_in t)
   argument_below f a g p r q type lf la x =
       let h = of_apply g f a type (dialect_in t) x in
-      below_trans q h.parameter p (dialect_in t) (la.1 h.parameter h.argument) (arrows_below p r h.parameter h.outcome (dialect_in t) (lf.1 (arrow h.parameter h.outcome) h.function)).0
+      below_trans q h.parameter p (dialect_in t) (la.1 h.parameter h.argument) (arrow_inside p r h.parameter h.outcome (dialect_in t) (lf.1 (arrow h.parameter h.outcome) h.function)).0
 
   pub apply_form : (f a : Term) (place m : ℕ) (r p type : Typ) (pf pa qa : TypingTree) (o : Option TypingTree) → m + inside a + 1 ≡ place → IsProvenTerm t a place (Some pa) → IsProvenTerm t f m (Some pf)
       → type_in pf ≡ arrow p r → IsWidened pa p (Some qa) (dialect_in t)
@@ -251,7 +251,7 @@ module _ (t : Grounds) where
       let h = of_apply g f a type (dialect_in t) (whole t all k s g (apply f a) place type setting sees at lt found).0 in
       let hf = proven pf g f (dialect_in t) (part t all k s g f m (Some pf) setting sees.1 (omega (arith, at, e)) (omega (arith, lt, e)) first) in
       let arrow_is = below_arrow_is (type_in pf) h.parameter h.outcome (dialect_in t) (hf.1.1 (arrow h.parameter h.outcome) h.function) in
-      other arrow_is.parameter arrow_is.outcome arrow_is.is
+      other arrow_is.0 arrow_is.1 arrow_is.2
 
   pub apply_not_below : (f a : Term) (place m : ℕ) (p r type : Typ) (pf pa : TypingTree) → m + inside a + 1 ≡ place → IsProvenTerm t a place (Some pa) → IsProvenTerm t f m (Some pf)
       → type_in pf ≡ arrow p r → IsWidened pa p None (dialect_in t) → IsProvenForm t (apply f a) place type None
@@ -413,7 +413,7 @@ module _ (t : Grounds) where
       let h = of_project g e l type d (whole t all k s g (project e l) place type setting sees at lt found).0 in
       let hp = proven p g e d (part t all k s g e place (Some p) setting sees.1 (omega (arith, at)) (omega (arith, lt)) proves) in
       let r = below_record_is (type_in p) h.fields d (hp.1.1 (record_of h.fields) h.operand) in
-      other r.fields r.is
+      other r.0 r.1
 
   pub project_no_field : (e : Term) (l : Label) (place : ℕ) (fs : Fields) (type : Typ) (p : TypingTree) → IsProvenTerm t e place (Some p) → type_in p ≡ record_of fs → IsAbsent l fs → IsProvenForm t (project e l) place type None
   project_no_field e l place fs type p proves is absent all k s g setting sees at lt found =

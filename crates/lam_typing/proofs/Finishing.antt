@@ -1,5 +1,6 @@
 -- What a walk over a whole document has found, where it went through or stopped, is the analysis that was asked for.
-use Rattle.std.proofs.Common.{◌≡◌, ℕ, ◌+◌, ◌<◌, ◌≤◌, List, [], ◌∷◌, ◌++◌, length, take, get_or, Option, Some, None, zero, suc, ap, refl, sym, subst, ◌∙◌, arith}
+use Rattle.std.proofs.Common.{◌≡◌, ℕ, ◌+◌, ◌<◌, List, [], ◌∷◌, ◌++◌, length, take, get_or, Option, Some, None, zero, suc, ap, refl, sym, subst, ◌∙◌, arith}
+use Rattle.std.proofs.lemmas.List.{take_all, take_at}
 use Rattle.lam_rules.specs.Types.{Typ}
 use Rattle.lam_rules.specs.declared.rules.Dialect.{Dialect}
 use Rattle.lam_rules.specs.declared.numbers.TyNo.{TyNo}
@@ -18,17 +19,6 @@ use Rattle.lam_typing.specs.declared.walking.Stop.{Stop}
 use Rattle.lam_typing.proofs.LeastIn.{lowest}
 use Rattle.lam_typing.proofs.Growing.{length-answers}
 use Rattle.lam_typing.proofs.Together.{least_length}
-
-take_whole : (ps : List Place) (n : ℕ) → length ps ≤ n → take n ps ≡ ps
-take_whole [] zero le = refl
-take_whole [] (suc n) le = refl
-take_whole (p ∷ ps) zero le = absurd (omega arith)
-take_whole (p ∷ ps) (suc n) le = ap (λ rest. p ∷ rest) (take_whole ps n (omega arith))
-
-take_front : (ps qs : List Place) (n : ℕ) → n ≡ length ps → take n (ps ++ qs) ≡ ps
-take_front [] qs n e = rw e
-take_front (p ∷ ps) qs zero e = absurd (omega arith)
-take_front (p ∷ ps) qs (suc n) e = ap (λ rest. p ∷ rest) (take_front ps qs n (omega arith))
 
 first_behind : (ps qs : List Place) (os : List (Option Typ)) (q : Place) (d : Dialect) → AreLeast ps os d → AreSmall os → IsTooLarge q d → IsFirstTooLarge (ps ++ q ∷ qs) (length os) d
 first_behind [] qs [] q d least small large = large
@@ -91,11 +81,11 @@ found_length ps w d shows = least_length ps (progress_of w).found d shows.least 
 
 whole : (last : Option PlaceNumber) (ps : List Place) (n : ℕ) → length ps ≡ n → IsWithin last n → up_to last ps ≡ ps
 whole None ps n count within = refl
-whole (Some last) ps n count within = take_whole ps (last.0 + 1) (omega arith)
+whole (Some last) ps n count within = take_all (last.0 + 1) ps (omega arith)
 
 front_of : (last : Option PlaceNumber) (ps qs : List Place) (n : ℕ) → length ps ≡ n → IsWithin last n → IsBehind last n → up_to last (ps ++ qs) ≡ ps
 front_of None ps qs n count within behind = absurd behind
-front_of (Some last) ps qs n count within behind = take_front ps qs (last.0 + 1) (omega arith)
+front_of (Some last) ps qs n count within behind = take_at ps qs (last.0 + 1) (omega arith)
 
 next_first : (front rest : List Place) (w : Walk) (d : Dialect) → Shows front w d → NextIs next_is_too_large rest d → IsFirstTooLarge (front ++ rest) (length w.found.items) d
 unfolding Shows

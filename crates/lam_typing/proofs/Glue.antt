@@ -1,7 +1,7 @@
 -- From what the steps of a walk say of it to what they say of types, and back.
-use Rattle.std.proofs.Common.{◌≡◌, ◌&&◌, ℕ, ◌<◌, ◌≤◌, List, [], ◌∷◌, ◌++◌, ◌⊎◌, Vec, vec_len, take, length, string_bytes, String, Option, Some, None, is_some, Bool, true, false, Result, Ok, Err, ap, refl, sym, subst, ◌∙◌, codes, ◌-◌, arith, if◌then◌else◌, inl, inr, suc, zero, append_assoc}
+use Rattle.std.proofs.Common.{◌≡◌, ◌&&◌, ℕ, ◌<◌, ◌≤◌, List, [], ◌∷◌, ◌++◌, ◌⊎◌, Vec, vec_len, take, length, string_bytes, String, Option, Some, None, is_some, Bool, true, false, Result, Ok, Err, ap, refl, sym, subst, ◌∙◌, codes, ◌-◌, arith, if◌then◌else◌, inl, inr, append_assoc}
 use Rattle.std.specs.Result.{IsErrAnd}
-use Rattle.std.proofs.lemmas.List.{append-nil, length-append}
+use Rattle.std.proofs.lemmas.List.{append-nil, length-append, take_at}
 use Rattle.std.specs.declared.alloc.Global.{Global}
 use denote.Ref.{Bor}
 use Rattle.lam_rules.specs.Types.{Label, Typ, bool, nat, unit, Fields, field}
@@ -199,11 +199,6 @@ under_entry w t v o x sound keeps put is =
     ap (λ os. context_under t os) put ∙ context-push t w.entries.items o
     ∙ ap (λ y. y ∷ context_under t w.entries.items) is ∙ ap (λ g. x ∷ g) (context_keep w.table t w.entries.items keeps sound.entries)
 
-take_front : (os : List (Option TyNo)) (o : Option TyNo) (n : ℕ) → n ≡ length os → take n (os ++ o ∷ []) ≡ os
-take_front [] o n e = rw e
-take_front (p ∷ os) o zero e = absurd (omega arith)
-take_front (p ∷ os) o (suc n) e = ap (λ rest. p ∷ rest) (take_front os o n (omega arith))
-
 pub popped_is : (pushed : Vec (Option TyNo) Global) (w : Walk) (popped : Vec (Option TyNo) Global) (os : List (Option TyNo)) (o : Option TyNo)
     → pushed.items ≡ os ++ o ∷ [] → w.entries.items ≡ pushed.items → popped.items ≡ take (vec_len w.entries - 1) w.entries.items → popped.items ≡ os
 popped_is pushed w popped os o put same rest =
@@ -212,7 +207,7 @@ popped_is pushed w popped os o put same rest =
     let longer = ap length all in
     let count = length-append os (o ∷ []) in
     let n : vec_len w.entries - 1 ≡ length os = omega (arith, whole, longer, count) in
-    rest ∙ ap (λ xs. take (vec_len w.entries - 1) xs) all ∙ take_front os o (vec_len w.entries - 1) n
+    rest ∙ ap (λ xs. take (vec_len w.entries - 1) xs) all ∙ take_at os (o ∷ []) (vec_len w.entries - 1) (sym n)
 
 pub parts_empty : (after before parts : List (String Global × TyNo)) → after ≡ before ++ parts → before ≡ [] → after ≡ parts
 parts_empty after before parts are none = are ∙ ap (λ xs. xs ++ parts) none

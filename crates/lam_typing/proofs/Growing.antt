@@ -87,11 +87,6 @@ stands_at ts [] k o lt is stand = absurd (omega arith)
 stands_at ts (p ∷ os) zero o lt is stand = rw is stand.0
 stands_at ts (p ∷ os) (suc k) o lt is stand = stands_at ts os k o (omega arith) is stand.1
 
-pub any_default : {X : Type 0} (os : List X) (k : ℕ) (a b : X) → k < length os → get_or os k a ≡ get_or os k b
-any_default [] k a b lt = absurd (omega arith)
-any_default (o ∷ os) zero a b lt = refl
-any_default (o ∷ os) (suc k) a b lt = any_default os k a b (omega arith)
-
 pub some_answer : (ts : List Typ) (o : Option TyNo) → is_some (answer ts o) ≡ is_some o
 some_answer ts None = refl
 some_answer ts (Some number) = refl

@@ -9,12 +9,13 @@ use Rattle.lam_rules.proofs.ByShape.{below_wf}
 use Rattle.lam_rules.proofs.Composing.{below_refl, below_trans, below_arrow, below_depth, EachBelow}
 use Rattle.lam_rules.proofs.Permutations.{absent_not}
 use Rattle.lam_rules.proofs.SharedTexts.{one_type}
+use Rattle.lam_sub.proofs.Arranging.{field_below}
+use Rattle.lam_sub.proofs.Below.{arrow_inside, record_inside, below_arrow_is, below_record_is}
 use Rattle.lam_typing.specs.Steps.{entry_at, NatRule, LambdaRule, ArrowRule, ApplyRule, AscribeRule, LetRule, IfRule, FixRule, ProjectRule, MoreRule, RecordRule}
 use Rattle.lam_typing.proofs.Derivations.{Derives, FieldsDerive, t_true, t_false, t_if, t_num, t_succ, t_pred, t_is_zero, t_var, t_abs, t_app, t_unit, t_ascribe, t_let, t_rcd, t_proj, t_fix, t_sub, none_derive, more_derive, derives_wf}
 use Rattle.lam_typing.proofs.Narrows.{narrow, narrower_self}
 use Rattle.lam_typing.proofs.LeastIn.{LeastIn}
 use Rattle.lam_typing.proofs.Inversions.{of_true, of_false, of_unit, of_num, of_free, of_succ, of_pred, of_is_zero, of_if, of_variable, of_lambda, of_faulty_lambda, of_apply, of_ascribe, of_faulty_ascribe, of_let, of_record, of_project, of_fix, of_more, of_no_more}
-use Rattle.lam_typing.proofs.Shapes.{below_arrow_is, arrows_below, below_record_is, records_below}
 
 -- constants and numerals
 
@@ -94,16 +95,16 @@ module _ (g : Context) (f a : Term) (d : Dialect) where
       above : (u : Typ) → Derives g (apply f a) u d → IsBelow r u d
       above u x =
           let h = of_apply g f a u d x in
-          below_trans r h.outcome u d (arrows_below p r h.parameter h.outcome d (lf.1 (arrow h.parameter h.outcome) h.function)).1 h.below
+          below_trans r h.outcome u d (arrow_inside p r h.parameter h.outcome d (lf.1 (arrow h.parameter h.outcome) h.function)).1 h.below
   apply_arrow p r s None lf la rule = λ u x.
       let h = of_apply g f a u d x in
-      rule (below_trans s h.parameter p d (la.1 h.parameter h.argument) (arrows_below p r h.parameter h.outcome d (lf.1 (arrow h.parameter h.outcome) h.function)).0)
+      rule (below_trans s h.parameter p d (la.1 h.parameter h.argument) (arrow_inside p r h.parameter h.outcome d (lf.1 (arrow h.parameter h.outcome) h.function)).0)
 
   apply_other : (q : Typ) (o : Option Typ) → ((p r : Typ) → q ≡ arrow p r → ⊥) → LeastIn g f (Some q) d → o ≡ None → LeastIn g (apply f a) o d
   apply_other q o other lf rule = subst (λ z. LeastIn g (apply f a) z d) (sym rule) (λ u x.
       let h = of_apply g f a u d x in
       let k = below_arrow_is q h.parameter h.outcome d (lf.1 (arrow h.parameter h.outcome) h.function) in
-      other k.parameter k.outcome k.is)
+      other k.0 k.1 k.2)
 
   pub apply_least : (x y o : Option Typ) → LeastIn g f x d → LeastIn g a y d → ApplyRule x y o d → LeastIn g (apply f a) o d
   apply_least None y o lf la rule = subst (λ z. LeastIn g (apply f a) z d) (sym rule) (λ u x. let h = of_apply g f a u d x in lf (arrow h.parameter h.outcome) h.function)
@@ -150,7 +151,7 @@ fix_other : (g : Context) (e : Term) (q : Typ) (o : Option Typ) (d : Dialect) �
 fix_other g e q o d other least rule = subst (λ z. LeastIn g (fix e) z d) (sym rule) (λ u x.
     let h = of_fix g e u d x in
     let k = below_arrow_is q h.fixed h.fixed d (least.1 (arrow h.fixed h.fixed) h.operand) in
-    other k.parameter k.outcome k.is)
+    other k.0 k.1 k.2)
 
 pub fix_least : (g : Context) (e : Term) (x o : Option Typ) (d : Dialect) → LeastIn g e x d → FixRule x o d → LeastIn g (fix e) o d
 fix_least g e None o d least rule = subst (λ z. LeastIn g (fix e) z d) (sym rule) (λ u x. let h = of_fix g e u d x in least (arrow h.fixed h.fixed) h.operand)
@@ -162,10 +163,10 @@ fix_least g e (Some (arrow p r)) (Some t) d least rule = subst (λ z. LeastIn g 
     above : (u : Typ) → Derives g (fix e) u d → IsBelow r u d
     above u x =
         let h = of_fix g e u d x in
-        below_trans r h.fixed u d (arrows_below p r h.fixed h.fixed d (least.1 (arrow h.fixed h.fixed) h.operand)).1 h.below
+        below_trans r h.fixed u d (arrow_inside p r h.fixed h.fixed d (least.1 (arrow h.fixed h.fixed) h.operand)).1 h.below
 fix_least g e (Some (arrow p r)) None d least rule = λ u x.
     let h = of_fix g e u d x in
-    let k = arrows_below p r h.fixed h.fixed d (least.1 (arrow h.fixed h.fixed) h.operand) in
+    let k = arrow_inside p r h.fixed h.fixed d (least.1 (arrow h.fixed h.fixed) h.operand) in
     rule (below_trans r h.fixed p d k.1 k.0)
 fix_least g e (Some bool) o d least rule = fix_other g e bool o d (λ p r e. cc) least rule
 fix_least g e (Some nat) o d least rule = fix_other g e nat o d (λ p r e. cc) least rule
@@ -178,7 +179,7 @@ project_other : (g : Context) (e : Term) (l : Label) (q : Typ) (o : Option Typ) 
 project_other g e l q o d other least rule = subst (λ z. LeastIn g (project e l) z d) (sym rule) (λ u x.
     let h = of_project g e l u d x in
     let k = below_record_is q h.fields d (least.1 (record_of h.fields) h.operand) in
-    other k.fields k.is)
+    other k.0 k.1)
 
 pub project_least : (g : Context) (e : Term) (l : Label) (x o : Option Typ) (d : Dialect) → LeastIn g e x d → ProjectRule l x o → LeastIn g (project e l) o d
 project_least g e l None o d least rule = subst (λ z. LeastIn g (project e l) z d) (sym rule) (λ u x. let h = of_project g e l u d x in least (record_of h.fields) h.operand)
@@ -187,12 +188,12 @@ project_least g e l (Some (record_of fs)) (Some t) d least rule = (t_proj least.
     above : (u : Typ) → Derives g (project e l) u d → IsBelow t u d
     above u x =
         let h = of_project g e l u d x in
-        let k = records_below fs h.fields d (least.1 (record_of h.fields) h.operand) l h.type_of_field h.has in
+        let k = field_below fs h.fields d (record_inside fs h.fields d (least.1 (record_of h.fields) h.operand)) l h.type_of_field h.has in
         let same = one_type fs (derives_wf g e (record_of fs) d least.0).1 l k.0 t k.1 rule in
         below_trans t h.type_of_field u d (subst (λ z. IsBelow z h.type_of_field d) same k.2) h.below
 project_least g e l (Some (record_of fs)) None d least rule = λ u x.
     let h = of_project g e l u d x in
-    let k = records_below fs h.fields d (least.1 (record_of h.fields) h.operand) l h.type_of_field h.has in
+    let k = field_below fs h.fields d (record_inside fs h.fields d (least.1 (record_of h.fields) h.operand)) l h.type_of_field h.has in
     absent_not l fs k.0 rule k.1
 project_least g e l (Some bool) o d least rule = project_other g e l bool o d (λ fs e. cc) least rule
 project_least g e l (Some nat) o d least rule = project_other g e l nat o d (λ fs e. cc) least rule

@@ -1,7 +1,6 @@
 pub mod Derivations
 pub mod Narrows
 pub mod Inversions
-pub mod Shapes
 pub mod LeastIn
 pub mod LeastSteps
 pub mod Existing

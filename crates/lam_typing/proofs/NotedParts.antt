@@ -1,5 +1,5 @@
 -- How the notes of the parts of a term go together, and those of statements.
-use Rattle.std.proofs.Common.{◌≡◌, ℕ, ◌+◌, ◌-◌, ◌<◌, ◌≤◌, List, [], ◌∷◌, ◌++◌, length, map, drop, take, get_or, Vec, Result, Ok, Err, IfOk, OnOk, Option, None, ap, refl, sym, subst, ◌∙◌, arith, append_assoc, drop-cons, add-one, suc, zero}
+use Rattle.std.proofs.Common.{◌≡◌, ℕ, ◌+◌, ◌-◌, ◌<◌, ◌≤◌, List, [], ◌∷◌, ◌++◌, length, map, drop, take, get_or, Vec, Option, None, ap, refl, sym, subst, ◌∙◌, arith, append_assoc, suc, zero}
 use Rattle.std.proofs.lemmas.List.{append-nil, length-append, drop_all}
 use Rattle.std.specs.declared.alloc.Global.{Global}
 use Rattle.lam_rules.specs.Types.{Typ}
@@ -10,6 +10,7 @@ use Rattle.lam_scope.specs.Sights.{inside, inside_fields, place_of_term, behind_
 use Rattle.lam_scope.specs.Views.{statement_of}
 use Rattle.lam_scope.specs.declared.numbers.Place.{Place}
 use Rattle.lam_scope.specs.declared.statement.Statement.{Statement as RustStatement}
+use Rattle.lam_scope.proofs.Resolving.{statements-drop}
 use Rattle.lam_typing.specs.Notes.{Noted, note, notes, notes_in, notes_of, entry_of_source, entries_onto, context_in, noted_as, noted_by, NotesMore, NotesTerm, NotesFields, NotesOne, NotesStatement, NotesDocument, IsLeaf, IsOver}
 use Rattle.lam_typing.specs.Seeing.{note_among}
 use Rattle.lam_typing.specs.Steps.{entry_at}
@@ -181,14 +182,6 @@ popped_items pushed popped now es e n put same count rest =
     front (d ∷ es) e zero is = absurd (omega arith)
     front (d ∷ es) e (suc n) is = ap (λ rest. d ∷ rest) (front es e n (omega arith))
 
-pub ok_map : {A E : Type 0} (r : Result A E) (P Q : A → Type 0) → ((x : A) → P x → Q x) → IfOk r P → IfOk r Q
-ok_map (Ok x) P Q f p = f x p
-ok_map (Err e) P Q f p = tt
-
-pub on_ok_map : {A E : Type 0} (r : Result A E) (P Q : Type 0) → (P → Q) → OnOk r P → OnOk r Q
-on_ok_map (Ok x) P Q f p = f p
-on_ok_map (Err e) P Q f p = tt
-
 -- a let: the notes of its second term, under the entry that is of the first
 pub let_under : (n0 n1 n2 : Notes) (v u : Vec Source Global) (a b : Term) (first : Place) (second : ℕ)
     → NotesTerm n0 n1 a first.0 → v.items ≡ n1.sources.items ++ TermAt first ∷ []
@@ -257,10 +250,6 @@ through_none n all sources noted = λ found. λ i. noted_by found (noted i) ++ n
 pub through_all : (n : Notes) (all : List Statement) → NotesThrough n all [] → NotesDocument n.noted.items all
 through_all n all h = λ found. sym (append-nil (noted_by found n.noted.items)) ∙ h found
 
-next_statement : (ss : List RustStatement) (i : ℕ) (s : RustStatement) → i < length ss → s ≡ get_or ss i s
-    → map statement_of (drop i ss) ≡ statement_of s ∷ map statement_of (drop (i + 1) ss)
-next_statement ss i s lt is = rw add-one (rw (drop-cons ss i s lt) (ap (λ r. statement_of r ∷ map statement_of (drop (suc i) ss)) (sym is)))
-
 pub no_statement : (ss : List RustStatement) (i : ℕ) → length ss ≤ i → map statement_of (drop i ss) ≡ []
 no_statement ss i le = ap (λ rest. map statement_of rest) (drop_all i ss le)
 
@@ -268,7 +257,7 @@ no_statement ss i le = ap (λ rest. map statement_of rest) (drop_all i ss le)
 pub statement_noted : (n1 n2 : Notes) (all : List Statement) (ss : List RustStatement) (i : ℕ) (s : RustStatement) → i < length ss → s ≡ get_or ss i s
     → NotesThrough n1 all (map statement_of (drop i ss)) → NotesStatement n1 n2 (statement_of s) → NotesThrough n2 all (map statement_of (drop (i + 1) ss))
 statement_noted n1 n2 all ss i s lt is through one = λ found.
-    one found (map statement_of (drop (i + 1) ss)) ∙ (subst (λ rest. NotesThrough n1 all rest) (next_statement ss i s lt is) through) found
+    one found (map statement_of (drop (i + 1) ss)) ∙ (subst (λ rest. NotesThrough n1 all rest) (statements-drop ss i s lt is) through) found
 
 pub statements_noted : (n : Notes) (all : List Statement) (ss : List RustStatement) (i : ℕ) → length ss ≤ i → NotesThrough n all (map statement_of (drop i ss)) → NotesDocument n.noted.items all
 statements_noted n all ss i le through = through_all n all (subst (λ rest. NotesThrough n all rest) (no_statement ss i le) through)

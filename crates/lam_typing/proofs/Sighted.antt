@@ -1,6 +1,6 @@
 -- What each place of a document sees: its entries are the least ones, and its parts stand at their places.
 use Rattle.std.proofs.Common.{◌≡◌, ℕ, ◌+◌, ◌<◌, ◌≤◌, List, [], ◌∷◌, ◌++◌, length, map, get_or, Option, None, ap, refl, sym, subst, ◌∙◌, arith, append_assoc, suc, zero}
-use Rattle.std.proofs.lemmas.List.{length-append}
+use Rattle.std.proofs.lemmas.List.{length-append, get_or_at}
 use Rattle.lam_rules.specs.Types.{Typ}
 use Rattle.lam_rules.specs.Terms.{Term, true_term, false_term, if_then_else, numeral, succ, pred, is_zero, variable, free, lambda, apply, unit_term, ascribe, let_in, record_term, project, fix, TermFields, no_terms, term_field}
 use Rattle.lam_rules.specs.Typing.{Context}
@@ -9,6 +9,7 @@ use Rattle.lam_scope.specs.Places.{written, of_term, Scope, Place, places, place
 use Rattle.lam_scope.specs.Sights.{Sight, inside, inside_fields, place_of_term, behind_term, lambda_at, term_at, sights, sights_in, sights_of, sight_numbered}
 use Rattle.lam_scope.specs.WellFormed.{IsWellFormedTerm, AreWellFormedTerms, IsWellFormedScope, AreWellFormedStatements}
 use Rattle.lam_scope.specs.declared.numbers.Origin.TheVariants.{Declaration}
+use Rattle.lam_scope.proofs.PlaceCounts.{length-joined}
 use Rattle.lam_typing.specs.LeastTypes.{IsLeastAt}
 use Rattle.lam_typing.specs.Entries.{AreLeastEntries, written_in, declared_in, entry_from}
 use Rattle.lam_typing.specs.Steps.{entry_at}
@@ -16,9 +17,6 @@ use Rattle.lam_typing.specs.Notes.{Noted, note, notes, notes_in, notes_of}
 use Rattle.lam_typing.specs.Seeing.{place_among, note_among, LeastAmong, IsPlace, Sees, SeesFields}
 
 -- how many places and notes there are
-
-joined : {A : Type 0} (xs ys : List A) (a b : ℕ) → length xs ≡ a → length ys ≡ b → length (xs ++ ys) ≡ a + b
-joined xs ys a b e f = length-append xs ys ∙ (λ i. e i + f i)
 
 -- a note for each place, which says what is written there
 abbrev pub Paired : List Place → List Noted → Type 0
@@ -40,8 +38,8 @@ pub record Count (ps : List Place) (ms : List Noted) (n : ℕ) : Type 0 where
 
 counted_both : (ps qs : List Place) (ms os : List Noted) (a b n : ℕ) → a + b ≡ n → Count ps ms a → Count qs os b → Count (ps ++ qs) (ms ++ os) n
 counted_both ps qs ms os a b n e p q = record {
-  of_places = joined ps qs a b p.of_places q.of_places ∙ e;
-  of_notes = joined ms os a b p.of_notes q.of_notes ∙ e;
+  of_places = length-joined ps qs a b p.of_places q.of_places ∙ e;
+  of_notes = length-joined ms os a b p.of_notes q.of_notes ∙ e;
   paired = paired_both ps qs ms os p.paired q.paired;
 }
 
@@ -178,11 +176,6 @@ counted_of fs k s g (states e ∷ rest) =
 
 -- what stands at the beginning
 
-at_front : {A : Type 0} (front : List A) (x z : A) (xs : List A) (k : ℕ) → k ≡ length front → get_or (front ++ x ∷ xs) k z ≡ x
-at_front [] x z xs k e = rw e refl
-at_front (y ∷ front) x z xs zero e = absurd (omega arith)
-at_front (y ∷ front) x z xs (suc k) e = at_front front x z xs k (omega arith)
-
 stand_behind : (before : List Place) (noted_before : List Noted) (ps : List Place) (ms : List Noted) (k : ℕ) → k ≡ length before → k ≡ length noted_before → Paired ps ms
     → Stand (before ++ ps) (noted_before ++ ms) k ps ms
 stand_behind before noted_before [] [] k e f paired = tt
@@ -190,7 +183,7 @@ stand_behind before noted_before (p ∷ ps) (m ∷ ms) k e f paired =
     let one = length-append before (p ∷ []) in
     let two = length-append noted_before (m ∷ []) in
     let rest = stand_behind (before ++ p ∷ []) (noted_before ++ m ∷ []) ps ms (k + 1) (omega (arith, e, one)) (omega (arith, f, two)) paired.1 in
-    (at_front before p _ ps k e, at_front noted_before m _ ms k f, subst (λ xs. Stand xs (noted_before ++ m ∷ ms) (k + 1) ps ms) (append_assoc before (p ∷ []) ps) (subst (λ ys. Stand ((before ++ p ∷ []) ++ ps) ys (k + 1) ps ms) (append_assoc noted_before (m ∷ []) ms) rest))
+    (get_or_at before p ps _ k (sym e), get_or_at noted_before m ms _ k (sym f), subst (λ xs. Stand xs (noted_before ++ m ∷ ms) (k + 1) ps ms) (append_assoc before (p ∷ []) ps) (subst (λ ys. Stand ((before ++ p ∷ []) ++ ps) ys (k + 1) ps ms) (append_assoc noted_before (m ∷ []) ms) rest))
 stand_behind before noted_before [] (m ∷ ms) k e f paired = absurd paired
 stand_behind before noted_before (p ∷ ps) [] k e f paired = absurd paired
 

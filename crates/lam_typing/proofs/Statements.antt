@@ -1,5 +1,5 @@
 -- From statement to statement: what a walk over those that follow finds is found of all.
-use Rattle.std.proofs.Common.{◌≡◌, ℕ, List, [], ◌∷◌, ◌++◌, length, map, drop, get_or, drop-cons, add-one, suc, Vec, Option, Result, Ok, Err, IfErr, ap, refl, sym, subst, ◌∙◌, ◌+◌, ◌<◌, ◌≤◌}
+use Rattle.std.proofs.Common.{◌≡◌, ℕ, List, [], ◌∷◌, ◌++◌, length, map, drop, get_or, Vec, Option, Result, Ok, Err, IfErr, ap, refl, sym, subst, ◌∙◌, ◌+◌, ◌<◌, ◌≤◌}
 use Rattle.std.specs.Result.{IsErrAnd}
 use Rattle.std.proofs.lemmas.List.{drop_all}
 use Rattle.std.specs.declared.alloc.Global.{Global}
@@ -13,6 +13,7 @@ use Rattle.lam_scope.specs.Places.{Scope, written, of_term, places, Statement, d
 use Rattle.lam_scope.specs.WellFormed.{AreWellFormedStatements}
 use Rattle.lam_scope.specs.Views.{statement_of}
 use Rattle.lam_scope.specs.declared.statement.Statement.{Statement as RustStatement}
+use Rattle.lam_scope.proofs.Resolving.{statements-drop}
 use Rattle.lam_typing.specs.Answers.{answer}
 use Rattle.lam_typing.specs.Progress.{IsLowest, Went}
 use Rattle.lam_typing.specs.Walk.{entries_of, progress_of, IsSoundWalk, Grows, WalkedOver, HasStopped, HasStoppedAmong, HasStoppedAt, GoesOn}
@@ -91,13 +92,10 @@ pub record GoesThrough (old now : Walk) (all rest : List Statement) : Type 0 whe
   pub went : (end : Walk) → Went (entries_of now) (λ s. places_of s rest) (progress_of now) (progress_of end) now.verdicts.dialect → Went (entries_of old) (λ s. places_of s all) (progress_of old) (progress_of end) old.verdicts.dialect
   pub stopped : (stop : Stop) (end : Walk) → HasStoppedAmong stop (entries_of now) (λ s. places_of s rest) now end now.verdicts.dialect → HasStoppedAmong stop (entries_of old) (λ s. places_of s all) old end old.verdicts.dialect
 
-next_statement : (xs : List RustStatement) (i : ℕ) (x : RustStatement) → i < length xs → x ≡ get_or xs i x → map statement_of (drop i xs) ≡ statement_of x ∷ map statement_of (drop (i + 1) xs)
-next_statement xs i x lt is = rw add-one (rw (drop-cons xs i x lt) (ap (λ y. statement_of y ∷ map statement_of (drop (suc i) xs)) (sym is)))
-
 pub goes_further : (w0 w1 w2 : Walk) (all : List Statement) (xs : List RustStatement) (i : ℕ) (x : RustStatement) → i < length xs → x ≡ get_or xs i x
     → GoesThrough w0 w1 all (map statement_of (drop i xs)) → Grows w1 w2 → GoesOn w1 w2 (statement_of x) → GoesThrough w0 w2 all (map statement_of (drop (i + 1) xs))
 goes_further w0 w1 w2 all xs i x lt is through grows on =
-    let next = next_statement xs i x lt is in
+    let next = statements-drop xs i x lt is in
     let rest = map statement_of (drop (i + 1) xs) in
     record {
       grows = grows_trans w0 w1 w2 through.grows grows;
@@ -112,7 +110,7 @@ pub stops_at : (r : Result (Unit {0}) Stop) (stop : Stop) (w0 w1 w2 : Walk) (all
 stops_at (Ok y) stop w0 w1 w2 all xs i x lt is through err stopped = absurd err
 stops_at (Err e) stop w0 w1 w2 all xs i x lt is through err stopped =
     subst (λ y. HasStoppedAmong y (entries_of w0) (λ s. places_of s all) w0 w2 w0.verdicts.dialect) (sym err)
-    (through.stopped stop w2 (subst (λ ss. HasStoppedAmong stop (entries_of w1) (λ s. places_of s ss) w1 w2 w1.verdicts.dialect) (sym (next_statement xs i x lt is)) (stopped (map statement_of (drop (i + 1) xs)))))
+    (through.stopped stop w2 (subst (λ ss. HasStoppedAmong stop (entries_of w1) (λ s. places_of s ss) w1 w2 w1.verdicts.dialect) (sym (statements-drop xs i x lt is)) (stopped (map statement_of (drop (i + 1) xs)))))
 
 pub goes_to_end : (w0 w1 : Walk) (all : List Statement) (xs : List RustStatement) (i : ℕ) → length xs ≤ i
     → GoesThrough w0 w1 all (map statement_of (drop i xs)) → Went (entries_of w0) (λ s. places_of s all) (progress_of w0) (progress_of w1) w0.verdicts.dialect

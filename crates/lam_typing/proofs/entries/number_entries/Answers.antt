@@ -1,9 +1,10 @@
 use Rattle.std.proofs.Common.{[], None, ap, refl, sym, subst, ◌∙◌}
+use Rattle.std.proofs.lemmas.List.{get_or_default}
 use Rattle.lam_rules.specs.Typing.{IsWellFormedEntry}
 use Rattle.lam_rules.proofs.Tables.{keeps_same}
 use Rattle.lam_typing.specs.Answers.{answers}
 use Rattle.lam_typing.specs.Notes.{entry_told}
-use Rattle.lam_typing.proofs.Growing.{answers_keep, all_stand_keep, any_default}
+use Rattle.lam_typing.proofs.Growing.{answers_keep, all_stand_keep}
 use Rattle.lam_typing.proofs.Numbering.{numbered_more}
 use Rattle.lam_typing.proofs.entries.number_entries.Goals as goal
 
@@ -20,7 +21,7 @@ number_of-requires-clause-found c = all_stand_keep c.args.table.now c.loop-i.tab
 pub number_of-requires-clause-wf : goal.number_of-requires-clause-wf
 number_of-requires-clause-wf c =
     let source = c.index-sources-i.result in
-    let at = c.index-sources-i.is ∙ any_default c.args.sources.now c.loop-i.i source None c.loop-i-test.true in
+    let at = c.index-sources-i.is ∙ get_or_default c.args.sources.now c.loop-i.i source None c.loop-i-test.true in
     subst (λ e. IsWellFormedEntry (entry_told [] e)) (sym at) (c.requires.wf c.loop-i.i)
 
 pub loop-i-preserved : goal.loop-i-preserved

@@ -1,5 +1,6 @@
 use Rattle.std.proofs.Common.{◌≡◌, ◌+◌, ◌-◌, Some, None, ap, refl, sym, subst, ◌∙◌, string_bytes, arith, reverse}
 use Rattle.std.specs.Option.{option_map}
+use Rattle.std.proofs.lemmas.Result.{IfOk-weaker}
 use Rattle.lam_rules.specs.Types.{bool, nat, arrow, record_of}
 use Rattle.lam_rules.specs.Terms.{true_term, false_term, unit_term, numeral, if_then_else, succ, pred, is_zero, let_in}
 use Rattle.lam_rules.specs.TermViews.{term_of, terms_of, written_of}
@@ -13,7 +14,6 @@ use Rattle.lam_scope.specs.Sights.{inside, inside_fields}
 use Rattle.lam_typing.specs.Proving.{tree_in, trees_in, IsProvenAs}
 use Rattle.lam_typing.proofs.Sizes.{size_of, size_of_fields}
 use Rattle.lam_typing.proofs.Arms.{if_arm, succ_arm, pred_arm, is_zero_arm, lambda_arm, apply_arm, ascribe_arm, let_arm, record_arm, project_arm, fix_arm}
-use Rattle.lam_typing.proofs.NotedParts.{ok_map}
 use Rattle.lam_typing.proofs.BuiltProofs.{free_none, as_wide, as_none, number_form, number_none, if_form, if_none_else, if_none_then, if_none_condition, lambda_form, lambda_none, faulty_lambda_none, apply_none_argument, apply_none_function, ascribe_form, ascribe_none, faulty_ascribe_none, let_form, let_none_body, let_none_bound, record_form, record_none, no_fields_form, more_fields_form, more_fields_none, first_field_none, project_form, project_none, project_no_record, project_no_field, fix_form, fix_none}
 use Rattle.lam_typing.proofs.BuiltSteps.{no_terms_of, step_as, some_holds, some_term, none_term, some_as, none_as, some_fields, none_fields, some_wide, none_wide, term_of_form, term_none, record_in, no_record_in, first_before, first_behind, inside_number}
 use Rattle.lam_typing.proofs.proving.+prove_term.Goals as goal
@@ -52,7 +52,7 @@ prove_ascribe-returns-in_default-2 t c =
 pub prove_ascribe-returns : goal.prove_ascribe-returns
 prove_ascribe-returns t c =
     let built = rw c.in-Some-2.is at c.in_ok-made.ensures in
-    rw (ap written_of c.in-Some.is) (ok_map c.finish_over.result _ _ (λ made done. record {
+    rw (ap written_of c.in-Some.is) (IfOk-weaker c.finish_over.result _ _ (λ made done. record {
       first = first_before made c.in-Some-2.made.first (inside (term_of c.args.operand.now) + 1) c.args.place done.first (omega (arith, built.first));
       proves = ascribe_form c.args.grounds.now (term_of c.args.operand.now) (typ_of c.in-Some.wanted) c.args.place _ (typ_of c.args.ty.now) (tree_in c.in-Some-2.made) (option_map tree_in made) refl (some_as c.args.grounds.now (term_of c.args.operand.now) c.args.place (typ_of c.in-Some.wanted) c.in_ok-made.field-0 c.in-Some-2.made c.in-Some-2.is c.in_ok-made.ensures.proves)
           (rw c.in_ok-conclusion.ensures at done.wide);
@@ -101,7 +101,7 @@ prove_fix-returns-in_default t c =
 pub prove_fix-returns : goal.prove_fix-returns
 prove_fix-returns t c =
     let built = rw c.in-Some.is at c.in_ok-made.ensures in
-    ok_map c.finish_over.result _ _ (λ made done. record {
+    IfOk-weaker c.finish_over.result _ _ (λ made done. record {
       first = first_before made c.in-Some.made.first (inside (term_of c.args.operand.now) + 1) c.args.place done.first (omega (arith, built.first));
       proves = fix_form c.args.grounds.now (term_of c.args.operand.now) c.args.place _ _ (typ_of c.args.ty.now) (tree_in c.in-Some.made) (option_map tree_in made) c.in_ok-wanted.ensures refl (some_as c.args.grounds.now (term_of c.args.operand.now) c.args.place _ c.in_ok-made.field-0 c.in-Some.made c.in-Some.is c.in_ok-made.ensures.proves)
           (rw c.in_ok-conclusion.ensures at done.wide);
@@ -124,7 +124,7 @@ prove_if-returns t c =
     let third = rw c.in-Some.is at c.in_ok-third.ensures in
     let second = rw c.in-Some-2.is at c.in_ok-second.ensures in
     let first = rw c.in-Some-3.is at c.in_ok-first.ensures in
-    ok_map c.finish.result _ _ (λ made done. record {
+    IfOk-weaker c.finish.result _ _ (λ made done. record {
       first = first_before made c.in-Some-3.first.first (inside (if_then_else (term_of c.args.condition.now) (term_of c.args.then_term.now) (term_of c.args.else_term.now))) c.args.place done.first (omega (arith, third.first, second.first, first.first));
       proves = if_form c.args.grounds.now (term_of c.args.condition.now) (term_of c.args.then_term.now) (term_of c.args.else_term.now) c.args.place c.in-Some.third.first c.in-Some-2.second.first (typ_of c.args.ty.now) (tree_in c.in-Some-3.first) (tree_in c.in-Some-2.second) (tree_in c.in-Some.third) (option_map tree_in made) (some_holds c.in_ok-third.field-0 c.in-Some.third _ c.in-Some.is c.in_ok-third.ensures.first) (some_holds c.in_ok-second.field-0 c.in-Some-2.second _ c.in-Some-2.is c.in_ok-second.ensures.first)
           (some_as c.args.grounds.now (term_of c.args.else_term.now) c.args.place (typ_of c.args.ty.now) c.in_ok-third.field-0 c.in-Some.third c.in-Some.is c.in_ok-third.ensures.proves) (some_as c.args.grounds.now (term_of c.args.then_term.now) c.in-Some.third.first (typ_of c.args.ty.now) c.in_ok-second.field-0 c.in-Some-2.second c.in-Some-2.is c.in_ok-second.ensures.proves)
@@ -143,7 +143,7 @@ prove_lambda-returns-in_default-2 t c =
 pub prove_lambda-returns : goal.prove_lambda-returns
 prove_lambda-returns t c =
     let built = rw c.in-Some-2.is at c.in_ok-made.ensures in
-    rw (ap written_of c.in-Some.is) (ok_map c.finish_over.result _ _ (λ made done. record {
+    rw (ap written_of c.in-Some.is) (IfOk-weaker c.finish_over.result _ _ (λ made done. record {
       first = first_before made c.in-Some-2.made.first (inside (term_of c.args.body.now) + 1) c.args.place done.first (omega (arith, built.first));
       proves = lambda_form c.args.grounds.now (typ_of c.in-Some.parameter) (term_of c.args.body.now) c.args.place _ (typ_of c.args.ty.now) (tree_in c.in-Some-2.made) (option_map tree_in made)
           (c.in_ok-conclusion.ensures ∙ (λ i. arrow (typ_of c.in-Some.parameter) (sym (type_in-typing_tree_of c.in-Some-2.made.proof) i))) (some_term c.args.grounds.now (term_of c.args.body.now) c.args.place c.in_ok-made.field-0 c.in-Some-2.made c.in-Some-2.is c.in_ok-made.ensures.proves)
@@ -162,7 +162,7 @@ pub prove_let-returns : goal.prove_let-returns
 prove_let-returns t c =
     let second = rw c.in-Some.is at c.in_ok-second.ensures in
     let first = rw c.in-Some-2.is at c.in_ok-made.ensures in
-    ok_map c.finish_over_two.result _ _ (λ made done. record {
+    IfOk-weaker c.finish_over_two.result _ _ (λ made done. record {
       first = first_before made c.in-Some-2.made.first (inside (let_in (term_of c.args.bound.now) (term_of c.args.body.now))) c.args.place done.first (omega (arith, second.first, first.first));
       proves = let_form c.args.grounds.now (term_of c.args.bound.now) (term_of c.args.body.now) c.args.place c.in-Some.second.first _ (typ_of c.args.ty.now) (tree_in c.in-Some-2.made) (tree_in c.in-Some.second) (option_map tree_in made) (some_holds c.in_ok-second.field-0 c.in-Some.second _ c.in-Some.is c.in_ok-second.ensures.first)
           (c.in_ok-conclusion.ensures ∙ sym (type_in-typing_tree_of c.in-Some.second.proof)) (some_term c.args.grounds.now (term_of c.args.body.now) c.args.place c.in_ok-second.field-0 c.in-Some.second c.in-Some.is c.in_ok-second.ensures.proves) (some_term c.args.grounds.now (term_of c.args.bound.now) c.in-Some.second.first c.in_ok-made.field-0 c.in-Some-2.made c.in-Some-2.is c.in_ok-made.ensures.proves)
@@ -177,7 +177,7 @@ pub prove_number-returns : goal.prove_number-returns
 prove_number-returns t c =
     λ e is.
     let built = rw c.in-Some.is at c.in_ok-made.ensures in
-    ok_map c.finish_over.result _ _ (λ made done. record {
+    IfOk-weaker c.finish_over.result _ _ (λ made done. record {
       first = first_before made c.in-Some.made.first (inside e) c.args.place done.first (omega (arith, built.first, inside_number c.args.rule e (term_of c.args.operand.now) _ is));
       proves = number_form c.args.grounds.now c.args.rule e (term_of c.args.operand.now) (typ_of c.args.conclusion) (typ_of c.args.ty.now) c.args.place (tree_in c.in-Some.made) (option_map tree_in made) is
           (some_as c.args.grounds.now (term_of c.args.operand.now) c.args.place nat c.in_ok-made.field-0 c.in-Some.made c.in-Some.is (subst (λ u. IsProvenAs c.args.grounds.now (term_of c.args.operand.now) c.args.place u (option_map tree_in c.in_ok-made.field-0)) typ_of-Nat c.in_ok-made.ensures.proves))
@@ -199,7 +199,7 @@ prove_project-returns-in_default-field_type t c =
 pub prove_project-returns : goal.prove_project-returns
 prove_project-returns t c =
     let built = rw c.in-Some.is at c.in_ok-made.ensures in
-    ok_map c.finish_over.result _ _ (λ made done. record {
+    IfOk-weaker c.finish_over.result _ _ (λ made done. record {
       first = first_before made c.in-Some.made.first (inside (term_of c.args.operand.now) + 1) c.args.place done.first (omega (arith, built.first));
       proves = project_form c.args.grounds.now (term_of c.args.operand.now) c.args.label.now c.args.place (fields_of c.deref.result.now) (typ_of c.in-Some-field_type.field.now) _ (typ_of c.args.ty.now) (tree_in c.in-Some.made) (option_map tree_in made) (some_term c.args.grounds.now (term_of c.args.operand.now) c.args.place c.in_ok-made.field-0 c.in-Some.made c.in-Some.is c.in_ok-made.ensures.proves) (record_in c.in-Some.made c.in-Record.fields c.in-Record.is ∙ ap (λ fs. record_of (fields_of fs)) (sym c.deref.ensures.value)) c.in-Some-field_type.ensures.found c.in_ok-conclusion.ensures
           done.wide;
@@ -212,7 +212,7 @@ prove_record-returns-in_default t c =
 pub prove_record-returns : goal.prove_record-returns
 prove_record-returns t c =
     let built = rw c.in-Some.is at c.in_ok-made.ensures in
-    ok_map c.finish.result _ _ (λ made done. record {
+    IfOk-weaker c.finish.result _ _ (λ made done. record {
       first = first_before made c.in-Some.made.first (inside_fields (terms_of c.args.fields.now)) c.args.place done.first built.first;
       proves = record_form c.args.grounds.now (terms_of c.args.fields.now) c.args.place (trees_in c.in-Some.made) (typ_of c.args.ty.now) (option_map tree_in made) (some_fields c.args.grounds.now (terms_of c.args.fields.now) c.args.place c.in_ok-made.field-0 c.in-Some.made c.in-Some.is c.in_ok-made.ensures.proves)
           (step_as TypeRule.Rcd _ _ _ _ (typ_of c.args.ty.now) (option_map tree_in made) c.args.grounds.now.typing.now.dialect (c.make_record.ensures ∙ ap (λ fs. record_of (fields_of fs)) c.reverse-2.ensures.items) (ap typings_of c.reverse.ensures.items) done.wide);
@@ -224,7 +224,7 @@ prove_term-returns-in_default t c =
 
 pub prove_term-returns : goal.prove_term-returns
 prove_term-returns t c =
-    ok_map c.prove_form.result _ _ (λ made form. record { first = first_behind made (inside (term_of c.args.term.now)) (c.args.behind - 1) c.args.behind form.first (omega (arith, c.requires)); proves = term_of_form c.args.grounds.now (term_of c.args.term.now) c.args.behind (typ_of c.in-Some.ty) (option_map tree_in made) (sym (rw c.in-Some.is at c.in_ok-ty.ensures)) form.proves }) c.prove_form.ensures
+    IfOk-weaker c.prove_form.result _ _ (λ made form. record { first = first_behind made (inside (term_of c.args.term.now)) (c.args.behind - 1) c.args.behind form.first (omega (arith, c.requires)); proves = term_of_form c.args.grounds.now (term_of c.args.term.now) c.args.behind (typ_of c.in-Some.ty) (option_map tree_in made) (sym (rw c.in-Some.is at c.in_ok-ty.ensures)) form.proves }) c.prove_form.ensures
 
 pub prove_form-returns-in-True : goal.prove_form-returns-in-True
 prove_form-returns-in-True t c = rw (ap term_of c.in-True.is ∙ term_of-True) (c.prove_leaf.ensures true_term typ_of-Bool)
