@@ -4,7 +4,7 @@ use Rattle.lam_rules.specs.declared.rules.Dialect.{Dialect}
 use Rattle.lam_syntax.specs.Trees.{CommandTree}
 use Rattle.lam_scope.specs.Places.{Place}
 use Rattle.lam_scope.specs.Nameless.{faults}
-use Rattle.lam_scope.proofs.Faultless.{faultless_expanded}
+use Rattle.lam_scope.proofs.Faultless.{none_left, none_right, faultless_expanded}
 use Rattle.lam_scope.proofs.WellFormedForms.{document-wf}
 use Rattle.lam_typing.specs.Blaming.{Blamed, AreBlamed}
 use Rattle.lam_typing.specs.WellTyped.{AreUnblamed}
@@ -19,14 +19,6 @@ use Rattle.lam_query.specs.WellTypedDocuments.{IsWellTyped}
 none_mapped : {A B : Type 0} (f : A → B) (xs : List A) → map f xs ≡ [] → xs ≡ []
 none_mapped f [] none = refl
 none_mapped f (x ∷ xs) none = absurd cc
-
-none_before : {A : Type 0} (xs ys : List A) → xs ++ ys ≡ [] → xs ≡ []
-none_before [] ys none = refl
-none_before (x ∷ xs) ys none = absurd cc
-
-none_behind : {A : Type 0} (xs ys : List A) → xs ++ ys ≡ [] → ys ≡ []
-none_behind [] ys none = none
-none_behind (x ∷ xs) ys none = absurd cc
 
 -- no blame, and nobody to blame
 
@@ -44,8 +36,8 @@ module _ (commands : List CommandTree) (d : Dialect) where
   well_typed : (found : List Fault) → AreTypeFaults commands found d → found ≡ [] → IsWellTyped commands d
   well_typed _ (too_large fault) none = absurd cc
   well_typed _ (small blames is_small blamed) none =
-      let of_written = none_mapped written_fault (faults [] commands) (none_before (map written_fault (faults [] commands)) (map (blame_fault commands) blames) none) in
-      let of_places = none_mapped (blame_fault commands) blames (none_behind (map written_fault (faults [] commands)) (map (blame_fault commands) blames) none) in
+      let of_written = none_mapped written_fault (faults [] commands) (none_left (map written_fault (faults [] commands)) (map (blame_fault commands) blames) none) in
+      let of_places = none_mapped (blame_fault commands) blames (none_right (map written_fault (faults [] commands)) (map (blame_fault commands) blames) none) in
       let expanded = (faultless_expanded commands).0 of_written in
       let typed = (typed_where_unblamed d (statements_in commands) (document-wf commands) expanded).0 (unblamed 0 (places_in commands) blames d of_places blamed) in
       record { expanded = expanded; typed = typed; small = is_small }

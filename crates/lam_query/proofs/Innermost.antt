@@ -12,6 +12,7 @@ use Rattle.lam_syntax.specs.Answers.{is_semicolon, onto_first, runs_of, has_toke
 use Rattle.lam_scope.specs.Tables.{table, place_at}
 use Rattle.lam_scope.specs.Nesting.{TokensStand, AreSpelledFrom, IsInnermost}
 use Rattle.lam_scope.proofs.NestedRows.{spelled_nest, first_is_innermost}
+use Rattle.lam_scope.proofs.SpelledTerms.{tokens_go_on}
 use Rattle.lam_query.specs.Commands.{AreCommandsOf, AreCommandsOfText}
 
 -- tokens
@@ -19,10 +20,6 @@ use Rattle.lam_query.specs.Commands.{AreCommandsOf, AreCommandsOfText}
 tokens_from_lower : (low next high : ℕ) (ts : List Lexeme) → low ≤ next → TokensStand next ts high → TokensStand low ts high
 tokens_from_lower low next high [] le h = omega (arith, le, h)
 tokens_from_lower low next high (lexeme k x s ∷ ts) le h = (omega (arith, le, h.0), h.1, h.2)
-
-tokens_go_on : (low high : ℕ) (ts : List Lexeme) → TokensStand low ts high → low ≤ high
-tokens_go_on low high [] h = h
-tokens_go_on low high (lexeme k x s ∷ ts) h = let rest = tokens_go_on s.end high ts h.2 in omega (arith, h.0, h.1, rest)
 
 -- the tokens of segments stand behind the byte at which the segments begin
 

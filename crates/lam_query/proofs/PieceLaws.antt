@@ -1,14 +1,15 @@
 -- Each piece has one answer: a fault of its own or none; so pieces have one list of faults. And each is a command or none.
-use Rattle.std.proofs.Common.{Bool, true, false, cond, ◌≡◌, ◌⊎◌, ℕ, zero, suc, ◌-◌, ◌≤◌, ◌<◌, List, [], ◌∷◌, ◌++◌, Option, Some, None, length, ⊎_elim, inl, inr, sym, refl, ap, ◌∙◌, arith}
-use Rattle.std.proofs.lemmas.Bool.{cases_order}
-use Rattle.std.specs.Prelude.{slice_get, filter, codes}
+use Rattle.std.proofs.Common.{Bool, true, false, ◌≡◌, ◌⊎◌, ℕ, zero, suc, ◌-◌, ◌≤◌, ◌<◌, List, [], ◌∷◌, ◌++◌, Option, Some, None, length, inl, inr, sym, refl, ap, ◌∙◌, arith}
+use Rattle.std.proofs.lemmas.Bool.{cases_lt}
+use Rattle.std.specs.Prelude.{slice_get, codes}
 use Rattle.std.specs.List.{AllByRecursion}
 use Rattle.std.specs.Option.{option_to_list}
 use Rattle.lam_token.specs.Lexeme.{Lexeme, span_of}
 use Rattle.lam_syntax.specs.Trees.{CommandTree, from_to}
 use Rattle.lam_syntax.specs.Grammar.{Spells}
-use Rattle.lam_syntax.specs.Answers.{token_limit, has_bad, IsTaken, GoesWrongAt, EndsEarly, runs_of, has_tokens, pieces_of}
+use Rattle.lam_syntax.specs.Answers.{token_limit, has_bad, IsTaken, GoesWrongAt, EndsEarly, runs_of, pieces_of}
 use Rattle.lam_syntax.proofs.AnswerLaws.{some_answer, spelled_begins, not_wrong, one_wrong_place}
+use Rattle.lam_syntax.proofs.Runs.{none_empty}
 use Rattle.lam_query.specs.Faults.{Fault}
 use Rattle.lam_query.specs.Commands.{IsCommandOf, AreCommandsOf}
 use Rattle.lam_query.specs.SyntaxFaults.{fault_at, PieceFault, too_long, spoiled, a_command, goes_wrong, ends_early, PieceFaults}
@@ -19,12 +20,6 @@ some_at : (ts : List Lexeme) (k : ℕ) → k < length ts → (t : Lexeme) × sli
 some_at [] k inside = absurd (omega arith)
 some_at (t ∷ ts) zero inside = (t, refl)
 some_at (t ∷ ts) (suc k) inside = some_at ts k (omega arith)
-
-many_or_few : (n : ℕ) → (token_limit < n) ⊎ (n ≤ token_limit)
-many_or_few n =
-    ⊎_elim (λ same. inr (omega (arith, same)))
-    (λ apart. ⊎_elim (λ many. inl many) (λ few. inr (omega (arith, few))) apart)
-    (cases_order token_limit n)
 
 long_piece : (ts : List Lexeme) → token_limit < length ts → (one : Option Fault) × PieceFault ts one
 long_piece ts many =
@@ -56,7 +51,7 @@ sized_piece ts some (inl many) = long_piece ts many
 sized_piece ts some (inr few) = few_piece ts (has_bad ts) some few refl
 
 pub some_piece_fault : (ts : List Lexeme) → 0 < length ts → (one : Option Fault) × PieceFault ts one
-some_piece_fault ts some = sized_piece ts some (many_or_few (length ts))
+some_piece_fault ts some = sized_piece ts some (cases_lt token_limit (length ts))
 
 -- ---- no two
 
@@ -125,15 +120,6 @@ one_piece_faults (p ∷ ps) fs gs are are' =
 
 -- ---- the pieces of tokens
 
-some_kept : (b : Bool) (p : List Lexeme) (rest : List (List Lexeme)) → has_tokens p ≡ b → AllByRecursion (λ q. 0 < length q) rest → AllByRecursion (λ q. 0 < length q) (cond b (p ∷ rest) rest)
-some_kept true [] rest is all = absurd cc
-some_kept true (t ∷ ts) rest is all = (omega arith, all)
-some_kept false p rest is all = all
-
-none_empty : (runs : List (List Lexeme)) → AllByRecursion (λ q. 0 < length q) (filter has_tokens runs)
-none_empty [] = tt
-none_empty (p ∷ ps) = some_kept (has_tokens p) p (filter has_tokens ps) refl (none_empty ps)
-
 pub some_faults_of_pieces : (tokens : List Lexeme) → (fs : List Fault) × PieceFaults (pieces_of tokens) fs
 some_faults_of_pieces tokens = some_piece_faults (pieces_of tokens) (none_empty (runs_of tokens))
 
@@ -165,4 +151,4 @@ pub some_commands : (ps : List (List Lexeme)) → (cs : List CommandTree) × Are
 some_commands [] = ([], refl)
 some_commands (p ∷ ps) =
     let rest = some_commands ps in
-    commands_more p ps rest.0 (command_or_not p (taken_or_not p (has_bad p) refl (many_or_few (length p)))) rest.1
+    commands_more p ps rest.0 (command_or_not p (taken_or_not p (has_bad p) refl (cases_lt token_limit (length p)))) rest.1

@@ -1,8 +1,9 @@
 -- Whether a document has a size fault is decided, and it has no two.
-use Rattle.std.proofs.Common.{◌≡◌, ◌⊎◌, ℕ, zero, suc, ◌<◌, ◌≤◌, List, [], ◌∷◌, Option, Some, None, ⊎_elim, refl, sym, ap, ◌∙◌, inl, inr, arith}
-use Rattle.std.proofs.lemmas.Bool.{cases_order}
+use Rattle.std.proofs.Common.{◌≡◌, ◌⊎◌, ℕ, zero, suc, ◌<◌, ◌≤◌, List, [], ◌∷◌, Option, Some, None, refl, sym, ap, ◌∙◌, inl, inr, arith}
+use Rattle.std.proofs.lemmas.Bool.{cases_lt}
 use Rattle.lam_rules.specs.Types.{Typ, nodes}
 use Rattle.lam_rules.specs.declared.rules.Dialect.{Dialect}
+use Rattle.lam_rules.proofs.SortedSizes.{one_size}
 use Rattle.lam_token.specs.declared.span.Span.{Span}
 use Rattle.lam_syntax.specs.Trees.{CommandTree}
 use Rattle.lam_scope.specs.Places.{Place}
@@ -13,22 +14,16 @@ use Rattle.lam_typing.specs.Analysis.{AreLeast, IsSmall as IsSmallType, AreSmall
 use Rattle.lam_typing.proofs.Existing.{exists_at}
 use Rattle.lam_query.specs.Sizes.{IsSizeFault, of_written_type, of_place, IsSmall, statements_in, places_in, span_of_place}
 use Rattle.lam_typing.proofs.WellFormedPlaces.{AreWellFormedPlaces, places_of_wf}
-use Rattle.lam_query.proofs.Small.{same_nodes, is_small}
+use Rattle.lam_query.proofs.Small.{is_small}
 
 pub document_places_wf : (commands : List CommandTree) → AreWellFormedPlaces (places_in commands)
 document_places_wf commands = places_of_wf [] (statements_in commands) tt (document-wf commands)
 
 -- ---- whether one is too large
 
-many_or_few : (n : ℕ) → (4096 < n) ⊎ (n ≤ 4096)
-many_or_few n =
-    ⊎_elim (λ same. inr (omega (arith, same)))
-    (λ apart. ⊎_elim (λ many. inl many) (λ few. inr (omega (arith, few))) apart)
-    (cases_order 4096 n)
-
 large_or_small : (o : Option Typ) → ((t : Typ) × (o ≡ Some t) × (4096 < nodes t)) ⊎ IsSmallType o
 large_or_small None = inr tt
-large_or_small (Some t) = by (many_or_few (nodes t))
+large_or_small (Some t) = by (cases_lt 4096 (nodes t))
   where
     by : (4096 < nodes t) ⊎ (nodes t ≤ 4096) → ((u : Typ) × (Some t ≡ Some u) × (4096 < nodes u)) ⊎ IsSmallType (Some t)
     by (inl many) = inl (t, refl, many)
@@ -73,7 +68,7 @@ module _ (d : Dialect) where
   small_not_large : (p : Place) (o : Option Typ) → IsLeastAt p.scope p.here o d → IsSmallType o → IsTooLarge p d → ⊥
   small_not_large p None least small large = least large.0 large.1.0
   small_not_large p (Some u) least small large =
-      let same = same_nodes u large.0 d (least.1 large.0 large.1.0) (large.1.1 u least.0) in
+      let same = one_size u large.0 d (least.1 large.0 large.1.0) (large.1.1 u least.0) in
       let over = large.2 in
       omega arith
 

@@ -1,11 +1,12 @@
 -- What the tokens of a text are read as, one after another. For private functions alone.
-use Rattle.std.specs.Prelude.{◌≡◌, false, List, [], ◌∷◌, ◌++◌, ℕ, map, All, Option, Some, None, if◌then◌else◌}
+use Rattle.std.specs.Prelude.{◌≡◌, false, List, [], ◌++◌, ℕ, map, All, Option, Some, None}
 use Rattle.std.specs.Option.{option_to_list}
 use Rattle.std.specs.List.{filter_map}
 use Rattle.lam_token.specs.Lexeme.{Lexeme}
 use Rattle.lam_token.specs.Cut.{AreTokensOf, StandsIn}
 use Rattle.lam_syntax.specs.Trees.{CommandTree}
-use Rattle.lam_syntax.specs.Answers.{is_semicolon, has_tokens, pieces_of}
+use Rattle.lam_syntax.specs.Answers.{is_semicolon, pieces_of}
+use Rattle.lam_syntax.specs.Reads.{with_piece}
 use Rattle.lam_syntax.specs.Views.{command_of}
 use Rattle.lam_syntax.specs.declared.terms.Command.{Command}
 use Rattle.lam_query.specs.declared.answers.Fault.{Fault as RustFault}
@@ -27,10 +28,6 @@ IsCommandRead ts _ = (c : CommandTree) → IsCommandOf ts c → ⊥
 abbrev pub fault_read : Piece → Option Fault
 fault_read (piece.Fault fault) = Some (fault_of fault)
 fault_read _ = None
-
--- these tokens in front of pieces, if there are any
-abbrev pub with_piece : List Lexeme → List (List Lexeme) → List (List Lexeme)
-with_piece ts pieces = if has_tokens ts then ts ∷ pieces else pieces
 
 -- the commands found, and those of the pieces that are left, are those of all
 abbrev pub AreFound : List (List Lexeme) → List Command → List (List Lexeme) → Type 0
