@@ -7,7 +7,7 @@ use Rattle.lam_rules.specs.Types.{Typ, Fields, field, arrow, record_of, IsWellFo
 use Rattle.lam_rules.specs.TypeViews.{typ_of, fields_of}
 use Rattle.lam_rules.specs.SubViews.{sub_tree_of}
 use Rattle.lam_rules.specs.Subtyping.{ProvesBelow, IsBelow}
-use Rattle.lam_rules.specs.Terms.{Term, true_term, false_term, numeral, unit_term, succ, pred, is_zero, TermFields, no_terms}
+use Rattle.lam_rules.specs.Terms.{Term, true_term, false_term, numeral, unit_term, succ, pred, is_zero, no_terms}
 use Rattle.lam_rules.specs.TermViews.{terms_of}
 use Rattle.lam_rules.specs.declared.terms.Core.{Core}
 use Rattle.lam_rules.specs.declared.types.Fields.{Fields as RustFields, out-Fields}
@@ -24,9 +24,8 @@ use Rattle.lam_rules.proofs.ByShape.{below_wf}
 use Rattle.lam_rules.proofs.TypingShapes.{typing_tree_of-node, type_in-typing_tree_of, typing_wf_of}
 use Rattle.lam_scope.specs.Sights.{inside, place_of_term}
 use Rattle.lam_typing.specs.Grounds.{found_in, dialect_in}
-use Rattle.lam_typing.specs.Proving.{tree_in, trees_in, ProvesFound, ProvesThis, IsProvenTerm, IsProvenForm, IsProvenAs, AreProvenFields, IsWidened, IsLeafBy, IsNatBy}
+use Rattle.lam_typing.specs.Proving.{tree_in, ProvesFound, ProvesThis, IsProvenTerm, IsProvenForm, IsWidened, IsLeafBy, IsNatBy}
 use Rattle.lam_typing.specs.declared.proving.Proven.{Proven}
-use Rattle.lam_typing.specs.declared.proving.ProvenFields.{ProvenFields}
 use Rattle.lam_typing.specs.declared.grounds.Grounds.{Grounds}
 
 pub step_tree : (rule : TypeRule) (ty : Ty) (premises : Vec TypeProof Global) (sub : Option (Box SubProof Global))
@@ -86,18 +85,6 @@ some_term t e n o m is proves = subst (λ q. IsProvenTerm t e n (option_map tree
 
 pub none_term : (t : Grounds) (e : Term) (n : ℕ) (o : Option Proven) → o ≡ None → IsProvenTerm t e n (option_map tree_in o) → IsProvenTerm t e n None
 none_term t e n o is proves = subst (λ q. IsProvenTerm t e n (option_map tree_in q)) is proves
-
-pub some_as : (t : Grounds) (e : Term) (n : ℕ) (u : Typ) (o : Option Proven) (m : Proven) → o ≡ Some m → IsProvenAs t e n u (option_map tree_in o) → IsProvenAs t e n u (Some (tree_in m))
-some_as t e n u o m is proves = subst (λ q. IsProvenAs t e n u (option_map tree_in q)) is proves
-
-pub none_as : (t : Grounds) (e : Term) (n : ℕ) (u : Typ) (o : Option Proven) → o ≡ None → IsProvenAs t e n u (option_map tree_in o) → IsProvenAs t e n u None
-none_as t e n u o is proves = subst (λ q. IsProvenAs t e n u (option_map tree_in q)) is proves
-
-pub some_fields : (t : Grounds) (es : TermFields) (n : ℕ) (o : Option ProvenFields) (m : ProvenFields) → o ≡ Some m → AreProvenFields t es n (option_map trees_in o) → AreProvenFields t es n (Some (trees_in m))
-some_fields t es n o m is proves = subst (λ q. AreProvenFields t es n (option_map trees_in q)) is proves
-
-pub none_fields : (t : Grounds) (es : TermFields) (n : ℕ) (o : Option ProvenFields) → o ≡ None → AreProvenFields t es n (option_map trees_in o) → AreProvenFields t es n None
-none_fields t es n o is proves = subst (λ q. AreProvenFields t es n (option_map trees_in q)) is proves
 
 pub some_wide : (p : TypingTree) (u : Typ) (o : Option TypeProof) (m : TypeProof) (d : Dialect) → o ≡ Some m → IsWidened p u (option_map typing_tree_of o) d → IsWidened p u (Some (typing_tree_of m)) d
 some_wide p u o m d is wide = subst (λ q. IsWidened p u (option_map typing_tree_of q) d) is wide

@@ -35,7 +35,7 @@ analysis_of_all w0 w last ss origins t d begins grows went completes =
     let now = t.table in
     let keeps = completes.keeps in
     let same = progress_same w (record w { table = now }) grows.sound keeps refl refl in
-    analysed w0 (record w { table = now }) last ss t d begins (retabled_grows w0 w now grows keeps)
+    analysed w0 (record w { table = now }) last ss t d begins (retabled_grows grows keeps)
     (subst (λ p. Went (entries_of w0) (λ s. places_of s ss) (progress_of w0) p d) (sym same) went) (has_walked w ss origins t completes)
 
 pub analysis_of_some : (w0 w : Walk) (last : Option PlaceNumber) (ss : List Statement) (origins : List Origin) (t : Typing) (d : Dialect) → Begins w0 last → Grows w0 w
@@ -44,7 +44,7 @@ analysis_of_some w0 w last ss origins t d begins grows stopped completes =
     let now = t.table in
     let keeps = completes.keeps in
     let same = progress_same w (record w { table = now }) grows.sound keeps refl refl in
-    stopped_behind_last w0 (record w { table = now }) last ss t d begins (retabled_grows w0 w now grows keeps)
+    stopped_behind_last w0 (record w { table = now }) last ss t d begins (retabled_grows grows keeps)
     (rw same stopped.0, stopped.1) (has_walked w ss origins t completes)
 
 -- a typing of the document

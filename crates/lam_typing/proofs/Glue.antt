@@ -1,5 +1,5 @@
 -- From what the steps of a walk say of it to what they say of types, and back.
-use Rattle.std.proofs.Common.{◌≡◌, ◌&&◌, ℕ, ◌<◌, ◌≤◌, List, [], ◌∷◌, ◌++◌, ◌⊎◌, Vec, vec_len, take, length, string_bytes, String, Option, Some, None, is_some, Bool, true, false, Result, Ok, Err, ap, refl, sym, subst, ◌∙◌, codes, ◌-◌, arith, if◌then◌else◌, inl, inr, append_assoc}
+use Rattle.std.proofs.Common.{◌≡◌, ◌&&◌, ℕ, ◌<◌, ◌≤◌, List, [], ◌∷◌, ◌++◌, ◌⊎◌, Vec, take, length, string_bytes, String, Option, Some, None, is_some, Bool, true, false, Result, Ok, Err, ap, refl, sym, subst, ◌∙◌, codes, ◌-◌, arith, if◌then◌else◌, inl, inr, append_assoc}
 use Rattle.std.specs.Result.{IsErrAnd}
 use Rattle.std.proofs.lemmas.List.{append-nil, length-append, take_at}
 use Rattle.std.specs.declared.alloc.Global.{Global}
@@ -56,8 +56,8 @@ stopped_as g ps qs old now cause d same a = record {
 
 -- growth
 
-pub grows_trans : (a b c : Walk) → Grows a b → Grows b c → Grows a c
-grows_trans a b c p q = record { sound = q.sound; keeps = keeps_trans a.table b.table c.table p.keeps q.keeps; dialect = q.dialect ∙ p.dialect; last = q.last ∙ p.last }
+pub grows_trans : {a b c : Walk} → Grows a b → Grows b c → Grows a c
+grows_trans {a = a} {b = b} {c = c} p q = record { sound = q.sound; keeps = keeps_trans a.table b.table c.table p.keeps q.keeps; dialect = q.dialect ∙ p.dialect; last = q.last ∙ p.last }
 
 pub entries_same : (old now : Walk) → IsSoundWalk old → Keeps old.table now.table → now.entries.items ≡ old.entries.items → entries_of now ≡ entries_of old
 entries_same old now sound keeps same = ap (λ os. context_under now.table os) same ∙ context_keep old.table now.table old.entries.items keeps sound.entries
@@ -121,11 +121,11 @@ sound_with w now sound keeps entries found right room same = record {
   room = room;
 }
 
-pub grows_same : (w : Walk) → IsSoundWalk w → Grows w w
-grows_same w sound = record { sound = sound; keeps = keeps_same w.table; dialect = refl; last = refl }
+pub grows_same : {w : Walk} → IsSoundWalk w → Grows w w
+grows_same {w = w} sound = record { sound = sound; keeps = keeps_same w.table; dialect = refl; last = refl }
 
-pub stepped_grows : (w0 w : Walk) (t : List Typ) (v : Verdicts) → Grows w0 w → Keeps w.table t → AreRight t v → v.dialect ≡ w.verdicts.dialect → Grows w0 (stepped w t v)
-stepped_grows w0 w t v grows keeps right same = record {
+pub stepped_grows : {w0 w : Walk} {t : List Typ} {v : Verdicts} → Grows w0 w → Keeps w.table t → AreRight t v → v.dialect ≡ w.verdicts.dialect → Grows w0 (stepped w t v)
+stepped_grows {w0 = w0} {w = w} {t = t} {v = v} grows keeps right same = record {
   sound = sound_with w (stepped w t v) grows.sound keeps
       (all_stand_keep w.table t w.entries.items keeps grows.sound.entries) (all_stand_keep w.table t w.found.items keeps grows.sound.found) right grows.sound.room refl;
   keeps = keeps_trans w0.table w.table t grows.keeps keeps;
@@ -133,16 +133,16 @@ stepped_grows w0 w t v grows keeps right same = record {
   last = grows.last;
 }
 
-pub retabled_grows : (w0 w : Walk) (t : List Typ) → Grows w0 w → Keeps w.table t → Grows w0 (record w { table = t })
-retabled_grows w0 w t grows keeps = stepped_grows w0 w t w.verdicts grows keeps (right_kept w.table t w.verdicts keeps grows.sound.verdicts) refl
+pub retabled_grows : {w0 w : Walk} {t : List Typ} → Grows w0 w → Keeps w.table t → Grows w0 (record w { table = t })
+retabled_grows {w = w} {t = t} grows keeps = stepped_grows grows keeps (right_kept w.table t w.verdicts keeps grows.sound.verdicts) refl
 
 pub put_or_not : {A : Type 0} (b : Bool) (v xs ys : A) → v ≡ (if b then xs else ys) → (v ≡ xs) ⊎ (v ≡ ys)
 put_or_not true v xs ys e = inl e
 put_or_not false v xs ys e = inr e
 
-pub pushed_grows : (w : Walk) (t : List Typ) (v : Vec (Option TyNo) Global) (o : Option TyNo) → IsSoundWalk w → Keeps w.table t
+pub pushed_grows : {w : Walk} {t : List Typ} (v : Vec (Option TyNo) Global) (o : Option TyNo) → IsSoundWalk w → Keeps w.table t
     → (v.items ≡ w.entries.items ++ o ∷ []) ⊎ (v.items ≡ w.entries.items) → StandsIn t o → Grows w (record w { table = t; entries = v })
-pushed_grows w t v o sound keeps put stands = record {
+pushed_grows {w = w} {t = t} v o sound keeps put stands = record {
   sound = sound_with w (record w { table = t; entries = v }) sound keeps (stand put) (all_stand_keep w.table t w.found.items keeps sound.found) (right_kept w.table t w.verdicts keeps sound.verdicts) sound.room refl;
   keeps = keeps;
   dialect = refl;
@@ -156,9 +156,9 @@ pushed_grows w t v o sound keeps put stands = record {
     stand (inl e) = subst (λ os. AllStandIn t os) (sym e) (all_stand_push t w.entries.items o before stands)
     stand (inr e) = subst (λ os. AllStandIn t os) (sym e) before
 
-pub popped_grows : (w0 wp w : Walk) (t : List Typ) (v : Vec (Option TyNo) Global) → Grows w0 wp → Grows wp w → Keeps w.table t → v.items ≡ w0.entries.items → IsSoundWalk w0
+pub popped_grows : {w0 wp w : Walk} {t : List Typ} (v : Vec (Option TyNo) Global) → Grows w0 wp → Grows wp w → Keeps w.table t → v.items ≡ w0.entries.items → IsSoundWalk w0
     → Grows w0 (record w { table = t; entries = v })
-popped_grows w0 wp w t v first second keeps same sound =
+popped_grows {w0 = w0} {wp = wp} {w = w} {t = t} v first second keeps same sound =
     let all = keeps_trans w0.table w.table t (keeps_trans w0.table wp.table w.table first.keeps second.keeps) keeps in
     record {
       sound = sound_with w (record w { table = t; entries = v }) second.sound keeps
@@ -199,15 +199,27 @@ under_entry w t v o x sound keeps put is =
     ap (λ os. context_under t os) put ∙ context-push t w.entries.items o
     ∙ ap (λ y. y ∷ context_under t w.entries.items) is ∙ ap (λ g. x ∷ g) (context_keep w.table t w.entries.items keeps sound.entries)
 
-pub popped_is : (pushed : Vec (Option TyNo) Global) (w : Walk) (popped : Vec (Option TyNo) Global) (os : List (Option TyNo)) (o : Option TyNo)
-    → pushed.items ≡ os ++ o ∷ [] → w.entries.items ≡ pushed.items → popped.items ≡ take (vec_len w.entries - 1) w.entries.items → popped.items ≡ os
-popped_is pushed w popped os o put same rest =
-    let all : w.entries.items ≡ os ++ o ∷ [] = same ∙ put in
-    let whole = w.entries.ok.0 in
-    let longer = ap length all in
-    let count = length-append os (o ∷ []) in
-    let n : vec_len w.entries - 1 ≡ length os = omega (arith, whole, longer, count) in
-    rest ∙ ap (λ xs. take (vec_len w.entries - 1) xs) all ∙ take_at os (o ∷ []) (vec_len w.entries - 1) (sym n)
+-- the walk is under one more entry, and has found nothing since
+pub record IsUnder (old now : Walk) (entry : Option Typ) : Type 0 where
+  pub entries : entries_of now ≡ entry ∷ entries_of old
+  pub progress : progress_of now ≡ progress_of old
+  pub dialect : now.verdicts.dialect ≡ old.verdicts.dialect
+
+pub pushed_under : {w : Walk} {t : List Typ} {x : Option Typ} (v : Vec (Option TyNo) Global) (o : Option TyNo)
+    → IsSoundWalk w → Keeps w.table t → v.items ≡ w.entries.items ++ o ∷ [] → answer t o ≡ x → IsUnder w (record w { table = t; entries = v }) x
+pushed_under {w = w} {t = t} {x = x} v o sound keeps put is = record {
+  entries = under_entry w t v o x sound keeps put is;
+  progress = progress_same w (record w { table = t; entries = v }) sound keeps refl refl;
+  dialect = refl;
+}
+
+-- the last entry is taken off again
+pub popped_is : {os pushed entries popped : List (Option TyNo)} {n : ℕ} (o : Option TyNo)
+    → pushed ≡ os ++ o ∷ [] → entries ≡ pushed → popped ≡ take (n - 1) entries → n ≡ length entries → popped ≡ os
+popped_is {os = os} {entries = entries} {n = n} o put same rest size =
+    let all : entries ≡ os ++ o ∷ [] = same ∙ put in
+    let shorter : length os ≡ n - 1 = omega (arith, size, ap length all, length-append os (o ∷ [])) in
+    rest ∙ ap (take (n - 1)) all ∙ take_at os (o ∷ []) (n - 1) shorter
 
 pub parts_empty : (after before parts : List (String Global × TyNo)) → after ≡ before ++ parts → before ≡ [] → after ≡ parts
 parts_empty after before parts are none = are ∙ ap (λ xs. xs ++ parts) none
@@ -376,13 +388,14 @@ ready_at mid g e ps old found parts seen code blame d ready same blames =
 
 -- the same of what a step answers
 pub settled_walked : (r : Result (Option TyNo) Stop) (w0 mid now : Walk) (e : Term) (ps : Scope → List Place) (found : Option TyNo) (blame : Option (Bor Text))
-    → ((s : Scope) → ps s ++ record { scope = s; here = e } ∷ [] ≡ places s e)
-    → mid.entries.items ≡ w0.entries.items → StandsIn mid.table found
+    → HasSettled r mid now found blame
     → IsReady (entries_of w0) e ps (progress_of w0) (progress_of mid) (answer mid.table found) (blame_at (length mid.found.items) blame) w0.verdicts.dialect
-    → HasSettled r mid now found blame → HasWalked r w0 now e
-settled_walked (Ok number) w0 mid now e ps found blame split same stands ready h =
+    → mid.entries.items ≡ w0.entries.items → StandsIn mid.table found
+    → ((s : Scope) → ps s ++ record { scope = s; here = e } ∷ [] ≡ places s e)
+    → HasWalked r w0 now e
+settled_walked (Ok number) w0 mid now e ps found blame h ready same stands split =
     subst (λ o. WalkedOver w0 now e o) (sym h.0) (settled_over w0 mid now e ps found blame split same stands ready h.1)
-settled_walked (Err stop) w0 mid now e ps found blame split same stands ready h = settled_stop stop w0 mid now e ps found blame split same stands ready h
+settled_walked (Err stop) w0 mid now e ps found blame h ready same stands split = settled_stop stop w0 mid now e ps found blame split same stands ready h
 
 -- terms without parts
 
@@ -464,27 +477,26 @@ ascribe_parts w0 w1 w2 e w entry x found blame grows over keeps same is rule bla
 
 -- a lambda: the walk over its body under one more entry
 pub lambda_parts : (w0 w2 w3 w5 : Walk) (e : Term) (w : Option Typ) (outcome found : Option TyNo)
-    → IsWellFormedEntry w → entries_of w2 ≡ w ∷ entries_of w0 → progress_of w2 ≡ progress_of w0 → w2.verdicts.dialect ≡ w0.verdicts.dialect → WalkedOver w2 w3 e outcome → progress_of w5 ≡ progress_of w3
+    → IsWellFormedEntry w → IsUnder w0 w2 w → WalkedOver w2 w3 e outcome → progress_of w5 ≡ progress_of w3
     → LambdaRule w (answer w3.table outcome) (answer w5.table found)
     → IsReady (entries_of w0) (lambda w e) (λ s. places (written w ∷ s) e) (progress_of w0) (progress_of w5) (answer w5.table found) (blame_at (length w5.found.items) None) w0.verdicts.dialect
-lambda_parts w0 w2 w3 w5 e w outcome found wf under from is over to rule =
+lambda_parts w0 w2 w3 w5 e w outcome found wf under over to rule =
     let d = w0.verdicts.dialect in
     lambda_ready (entries_of w0) w e (progress_of w0) (progress_of w5) (answer w3.table outcome) (answer w5.table found) d wf
-    (over_as (entries_of w2) (w ∷ entries_of w0) e (progress_of w2) (progress_of w0) (progress_of w3) (progress_of w5) (answer w3.table outcome) (answer w3.table outcome) w2.verdicts.dialect d under from (sym to) refl is over.over)
+    (over_as (entries_of w2) (w ∷ entries_of w0) e (progress_of w2) (progress_of w0) (progress_of w3) (progress_of w5) (answer w3.table outcome) (answer w3.table outcome) w2.verdicts.dialect d under.entries under.progress (sym to) refl under.dialect over.over)
     rule
 
 -- a let: the walk over its first term, and over its second one under one more entry
 pub let_parts : (w0 w1 w2 w3 w4 : Walk) (a b : Term) (bound outcome found : Option TyNo)
-    → IsSoundWalk w0 → Keeps w0.table w1.table → WalkedOver w0 w1 a bound
-    → entries_of w2 ≡ answer w1.table bound ∷ entries_of w1 → progress_of w2 ≡ progress_of w1 → w2.verdicts.dialect ≡ w0.verdicts.dialect → WalkedOver w2 w3 b outcome → progress_of w4 ≡ progress_of w3
+    → IsSoundWalk w0 → Grows w0 w1 → WalkedOver w0 w1 a bound → IsUnder w1 w2 (answer w1.table bound) → WalkedOver w2 w3 b outcome → progress_of w4 ≡ progress_of w3
     → LetRule (answer w1.table bound) (answer w3.table outcome) (answer w4.table found)
     → IsReady (entries_of w0) (let_in a b) (λ s. places s a ++ places (of_term a ∷ s) b) (progress_of w0) (progress_of w4) (answer w4.table found) (blame_at (length w4.found.items) None) w0.verdicts.dialect
-let_parts w0 w1 w2 w3 w4 a b bound outcome found sound keeps over_a under from is over_b to rule =
+let_parts w0 w1 w2 w3 w4 a b bound outcome found sound grows over_a under over_b to rule =
     let d = w0.verdicts.dialect in
-    let same = entries_same w0 w1 sound keeps over_a.entries in
+    let same = entries_same w0 w1 sound grows.keeps over_a.entries in
     let_ready (entries_of w0) a b (progress_of w0) (progress_of w1) (progress_of w4) (answer w1.table bound) (answer w3.table outcome) (answer w4.table found) d over_a.over
     (over_as (entries_of w2) (answer w1.table bound ∷ entries_of w0) b (progress_of w2) (progress_of w1) (progress_of w3) (progress_of w4) (answer w3.table outcome) (answer w3.table outcome) w2.verdicts.dialect d
-    (under ∙ ap (λ g. answer w1.table bound ∷ g) same) from (sym to) refl is over_b.over)
+    (under.entries ∙ ap (λ g. answer w1.table bound ∷ g) same) under.progress (sym to) refl (under.dialect ∙ grows.dialect) over_b.over)
     rule
 
 -- terms with several parts in one scope

@@ -11,6 +11,7 @@ pub mod Together
 pub mod Forms
 pub mod Growing
 pub mod Glue
+pub mod Stops
 pub mod StepRules
 pub mod Sizes
 pub mod Arms

@@ -98,7 +98,7 @@ goes_further w0 w1 w2 all xs i x lt is through grows on =
     let next = statements-drop xs i x lt is in
     let rest = map statement_of (drop (i + 1) xs) in
     record {
-      grows = grows_trans w0 w1 w2 through.grows grows;
+      grows = grows_trans through.grows grows;
       wf = (subst AreWellFormedStatements next through.wf).1;
       went = λ end went. through.went end (subst (λ ss. Went (entries_of w1) (λ s. places_of s ss) (progress_of w1) (progress_of end) w1.verdicts.dialect) (sym next) (on.went rest end went));
       stopped = λ stop end stopped. through.stopped stop end (subst (λ ss. HasStoppedAmong stop (entries_of w1) (λ s. places_of s ss) w1 end w1.verdicts.dialect) (sym next) (on.stopped rest stop end stopped));

@@ -15,23 +15,23 @@ returns-in_err-found-in-Definition-clause-stopped c = rw (ap statement_of c.in-D
 
 pub returns-in_ok-push-in-Definition-clause-grows : goal.returns-in_ok-push-in-Definition-clause-grows
 returns-in_ok-push-in-Definition-clause-grows c =
-    grows_trans c.args.walk.now c.walk_term.new.walk _ c.in_ok-found-in-Definition.ensures.grows
-    (pushed_grows c.walk_term.new.walk c.walk_term.new.walk.table c.push.new.self c.in_ok-found-in-Definition.found c.in_ok-found-in-Definition.ensures.grows.sound (keeps_same c.walk_term.new.walk.table) (inl c.in_ok-push-in-Definition.ensures.items) c.in_ok-found-in-Definition.ensures.walked.stands)
+    grows_trans c.in_ok-found-in-Definition.ensures.grows
+    (pushed_grows c.push.new.self c.in_ok-found-in-Definition.found c.in_ok-found-in-Definition.ensures.grows.sound (keeps_same c.walk_term.new.walk.table) (inl c.in_ok-push-in-Definition.ensures.items) c.in_ok-found-in-Definition.ensures.walked.stands)
 
 pub returns-in_ok-push-in-Definition-clause-goes_on : goal.returns-in_ok-push-in-Definition-clause-goes_on
 returns-in_ok-push-in-Definition-clause-goes_on c = rw (ap statement_of c.in-Definition.is)
     (goes_on_defined c.args.walk.now c.walk_term.new.walk c.push.new.self (term_of c.in-Definition.core) c.in_ok-found-in-Definition.found c.requires.sound c.in_ok-found-in-Definition.ensures.grows c.in_ok-found-in-Definition.ensures.walked c.in_ok-push-in-Definition.ensures.items)
 
 pub returns-in_err-entry-in-Declaration-clause-grows : goal.returns-in_err-entry-in-Declaration-clause-grows
-returns-in_err-entry-in-Declaration-clause-grows c = retabled_grows c.args.walk.now c.args.walk.now c.number_of_written.new.table (grows_same c.args.walk.now c.requires.sound) c.number_of_written.ensures.keeps
+returns-in_err-entry-in-Declaration-clause-grows c = retabled_grows (grows_same c.requires.sound) c.number_of_written.ensures.keeps
 
 pub returns-in_err-push-in-Declaration-clause-grows : goal.returns-in_err-push-in-Declaration-clause-grows
 returns-in_err-push-in-Declaration-clause-grows c =
-    pushed_grows c.args.walk.now c.number_of_written.new.table c.push-in-Declaration.new.self c.in_ok-entry-in-Declaration.entry c.requires.sound c.number_of_written.ensures.keeps (put_or_not _ _ _ _ c.push-in-Declaration.ensures.items) c.in_ok-entry-in-Declaration.ensures.stands
+    pushed_grows c.push-in-Declaration.new.self c.in_ok-entry-in-Declaration.entry c.requires.sound c.number_of_written.ensures.keeps (put_or_not _ _ _ _ c.push-in-Declaration.ensures.items) c.in_ok-entry-in-Declaration.ensures.stands
 
 pub returns-in_ok-push-in-Declaration-clause-grows : goal.returns-in_ok-push-in-Declaration-clause-grows
 returns-in_ok-push-in-Declaration-clause-grows c =
-    pushed_grows c.args.walk.now c.number_of_written.new.table c.push-in-Declaration.new.self c.in_ok-entry-in-Declaration.entry c.requires.sound c.number_of_written.ensures.keeps (inl c.in_ok-push-in-Declaration.ensures.items) c.in_ok-entry-in-Declaration.ensures.stands
+    pushed_grows c.push-in-Declaration.new.self c.in_ok-entry-in-Declaration.entry c.requires.sound c.number_of_written.ensures.keeps (inl c.in_ok-push-in-Declaration.ensures.items) c.in_ok-entry-in-Declaration.ensures.stands
 
 pub returns-in_ok-push-in-Declaration-clause-goes_on : goal.returns-in_ok-push-in-Declaration-clause-goes_on
 returns-in_ok-push-in-Declaration-clause-goes_on c = rw (ap statement_of c.in-Declaration.is)
