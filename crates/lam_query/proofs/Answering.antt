@@ -14,28 +14,32 @@ use Rattle.lam_scope.specs.declared.type_fault.TypeFault.{TypeFault}
 use Rattle.lam_scope.specs.Nameless.{first_too_large, faults}
 use Rattle.lam_scope.specs.Places.{Statement, places_of}
 use Rattle.lam_scope.specs.Tables.{Table, table, no_span, place_at, place_row_numbered}
-use Rattle.lam_scope.specs.Views.{table_of, faults_of}
+use Rattle.lam_scope.specs.Views.{table_of, statements_of, faults_of}
 use Rattle.lam_typing.specs.declared.typing.Typing.{Typing}
 use Rattle.lam_typing.specs.declared.blame.Blame.{Blame}
 use Rattle.lam_typing.specs.Analysis.{IsFirstTooLarge}
-use Rattle.lam_typing.specs.Typings.{found_of, blamed_in}
+use Rattle.lam_typing.specs.Typings.{IsAnalysis, found_of, blamed_in}
 use Rattle.lam_typing.specs.Walk.{blames_of}
 use Rattle.lam_query.specs.declared.answers.Fault.{Fault as RustFault}
 use Rattle.lam_query.specs.declared.analyses.Analysis.{Analysis}
 use Rattle.lam_query.specs.declared.analyses.Types.{Types}
 use Rattle.lam_query.specs.declared.analyses.Types.TheVariants.{TooLarge, Found}
 use Rattle.lam_query.specs.Faults.{AreInOrder}
-use Rattle.lam_query.specs.Sizes.{IsSizeFault, of_place, statements_in}
+use Rattle.lam_query.specs.Sizes.{IsSizeFault, of_term, places_in}
 use Rattle.lam_query.specs.SyntaxFaults.{fault_at}
 use Rattle.lam_query.specs.TextFaults.{written_fault, blame_fault, AreTypeFaults, small, AreFaults}
-use Rattle.lam_query.specs.Hovers.{Shown, IsTypedAround}
+use Rattle.lam_query.specs.Hovers.{Shown, IsTypedAround, IsShownIn}
 use Rattle.lam_query.specs.Views.{fault_of}
 use Rattle.lam_query.specs.Within.{StandsIn}
-use Rattle.lam_query.specs.Analyses.{AreFoundOf, AreTypesOf, IsAnalysisOf, IsShownIn, commands_in}
+use Rattle.lam_query.specs.Analyses.{AreFoundOf, AreTypesOf, IsAnalysisOf, commands_in}
 use Rattle.lam_query.proofs.Within.{in_place}
 use Rattle.lam_query.proofs.TextPlaces.{commands_stand}
 use Rattle.lam_query.proofs.FaultPlaces.{faults_stand}
 use Rattle.lam_query.proofs.Small.{is_small}
+use Rattle.lam_scope.specs.PlacedTerms.{document_terms, tree_in}
+use Rattle.lam_scope.proofs.PlacedPlaces.{same_places}
+use Rattle.lam_query.specs.WellTypedDocuments.{statements_in}
+use Rattle.lam_query.proofs.RowsAndTerms.{span_told}
 use Rattle.lam_query.proofs.Hovering.{typed_around, untyped_around, nothing_around, too_large_around}
 
 -- the size fault of a place
@@ -44,15 +48,21 @@ pub large_place : (cs : List CommandTree) (t : Table) (ss : List Statement) (n :
     → t ≡ table cs → ss ≡ statements_in cs → first_too_large [] cs ≡ None → IsFirstTooLarge (places_of [] ss) n d → s ≡ (place_row_numbered t n).span
     → IsSizeFault cs s d
 large_place cs t ss n s d is_table are none large is =
-    let large_here = rw are at large in
-    rw (is, is_table) (of_place n none large_here)
+    let large_here = subst (λ ps. IsFirstTooLarge ps n d) (ap (places_of []) are ∙ same_places cs) large in
+    rw (is, is_table, span_told cs n) (of_term n none large_here)
+
+-- what is found of the places of statements is found of those of the terms
+
+pub found_of_terms : (cs : List CommandTree) (resolved : Resolved) (typing : Typing) (d : Dialect)
+    → statements_of resolved ≡ statements_in cs → IsAnalysis (places_of [] (statements_of resolved)) typing d → IsAnalysis (places_in cs) typing d
+found_of_terms cs resolved typing d are found = subst (λ ps. IsAnalysis ps typing d) (ap (places_of []) are ∙ same_places cs) found
 
 -- the faults that types decide
 
 blames_told : (cs : List CommandTree) (bs : List Blame)
     → map (blame_fault cs) (blames_of bs) ≡ map (λ b. fault_at b.code.now (place_row_numbered (table cs) b.place.0).span) bs
 blames_told cs [] = refl
-blames_told cs (b ∷ bs) = ap (λ fs. fault_at b.code.now (place_row_numbered (table cs) b.place.0).span ∷ fs) (blames_told cs bs)
+blames_told cs (b ∷ bs) = λ i. fault_at b.code.now (sym (span_told cs b.place.0) i) ∷ blames_told cs bs i
 
 pub of_types_found : (cs : List CommandTree) (resolved : Resolved) (typing : Typing) (d : Dialect) (t : Table) (written blamed all : List RustFault) (ws : List TypeFault) (bs : List Blame)
     → t ≡ table cs → AreFoundOf cs resolved typing d → ws ≡ faults_of resolved → map fault_of written ≡ map written_fault ws
@@ -122,7 +132,7 @@ shown_untyped text a resolved typing o n h is at none = record {
 
 pub typed_in : (text : List ℕ) (a : Analysis) (resolved : Resolved) (typing : Typing) (o n : ℕ) (t : Typ)
     → (h : IsAnalysisOf text a) → a.types ≡ Found resolved typing → Some n ≡ place_at (table_of a.scopes) o → get_or (found_of typing) n None ≡ Some t
-    → IsTypedAround (commands_in a) o n t a.dialect
+    → IsTypedAround (commands_in a) o (tree_in (document_terms (commands_in a)) n) t a.dialect
 typed_in text a resolved typing o n t h is at found =
     let here = subst (λ t. Some n ≡ place_at t o) h.scopes.same_table at in
     typed_around (commands_in a) resolved typing a.dialect o n t (types_held text a (Found resolved typing) h is) (sym here) found
@@ -133,7 +143,9 @@ pub shown_type : (text : List ℕ) (a : Analysis) (resolved : Resolved) (typing 
 shown_type text a resolved typing o n t shown h is at found is_text is_span = record {
   commands = commands_in a;
   are_commands = h.are_commands;
-  answer = (n, t, typed_in text a resolved typing o n t h is at found, is_text, subst (λ t. shown.span ≡ (place_row_numbered t n).span) h.scopes.same_table is_span);
+  answer =
+      let span_there = subst (λ t. shown.span ≡ (place_row_numbered t n).span) h.scopes.same_table is_span in
+      (tree_in (document_terms (commands_in a)) n, t, typed_in text a resolved typing o n t h is at found, is_text, span_there ∙ span_told (commands_in a) n);
 }
 
 -- what is told of a place stands in the text

@@ -12,7 +12,8 @@ use Rattle.lam_scope.specs.declared.numbers.Binder.{Binder}
 use Rattle.lam_scope.specs.declared.numbers.Origin.{Origin}
 use Rattle.lam_scope.specs.declared.numbers.Origin.TheVariants.{TypeName}
 use Rattle.lam_scope.specs.Sights.{sight_numbered}
-use Rattle.lam_scope.specs.Tables.{Table, TextBinder, table, place_at, place_row_numbered, binder_numbered, shown_name, visible_at}
+use Rattle.lam_scope.specs.Tables.{Table, TextBinder, table, place_at, place_row_numbered, binder_numbered, visible_at}
+use Rattle.lam_scope.specs.Names.{shown_name}
 use Rattle.lam_scope.specs.TableViews.{binder_number}
 use Rattle.lam_scope.specs.Views.{table_of, statements_of}
 use Rattle.lam_scope.proofs.SeenOrigins.{visible_origins}
@@ -20,17 +21,21 @@ use Rattle.lam_scope.proofs.Reading.{map-reverse}
 use Rattle.lam_typing.specs.declared.typing.Typing.{Typing}
 use Rattle.lam_typing.specs.Entries.{AreLeastEntries, entry_from}
 use Rattle.lam_typing.specs.Typings.{found_of, entries_in, context_at, IsProofAt}
+use Rattle.lam_query.specs.Hovers.{IsShownIn}
 use Rattle.lam_query.specs.declared.answers.Step.{Step as RustStep}
 use Rattle.lam_query.specs.declared.analyses.Analysis.{Analysis}
 use Rattle.lam_query.specs.declared.analyses.Types.TheVariants.{Found}
-use Rattle.lam_query.specs.Sizes.{statements_in}
-use Rattle.lam_query.specs.Hovers.{place_in}
-use Rattle.lam_query.specs.Steps.{steps_of, typing_proof}
-use Rattle.lam_query.specs.Derivations.{Entry, Derivation, IsDerivationAround}
+use Rattle.lam_scope.specs.Places.{Place, place_numbered}
+use Rattle.lam_scope.specs.PlacedTerms.{document_terms, tree_in}
+use Rattle.lam_query.specs.WellTypedDocuments.{statements_in}
+use Rattle.lam_query.specs.Steps.{steps_of}
+use Rattle.lam_query.specs.RowSteps.{row_proof}
+use Rattle.lam_query.specs.Derivations.{Entry, Derivation, IsDerivationAround, IsDerivedIn}
 use Rattle.lam_query.specs.Contexts.{entry_shown}
 use Rattle.lam_query.specs.Within.{StandsIn}
 use Rattle.lam_query.specs.Views.{StepStandsIn}
-use Rattle.lam_query.specs.Analyses.{AreFoundOf, IsAnalysisOf, IsShownIn, IsDerivedIn, commands_in}
+use Rattle.lam_query.specs.Analyses.{AreFoundOf, IsAnalysisOf, commands_in}
+use Rattle.lam_query.proofs.RowsAndTerms.{names_told, number_told, same_proof}
 use Rattle.lam_query.proofs.Hovering.{typed_around}
 use Rattle.lam_query.proofs.Answering.{types_held, place_stands}
 
@@ -41,9 +46,9 @@ by_number f (b ∷ bs) = ap (λ (es : List Entry). f b.0 ∷ es) (by_number f bs
 
 -- the names and the types of what is told of binders
 
-names_told : (t : Table) (types : List (Option Typ)) (bs : List ℕ) → map (λ e. e.name) (map (entry_shown t types) bs) ≡ map (λ b. shown_name (binder_numbered t b).name) bs
-names_told t types [] = refl
-names_told t types (b ∷ bs) = ap (λ (xs : List Text). shown_name (binder_numbered t b).name ∷ xs) (names_told t types bs)
+names_shown : (t : Table) (types : List (Option Typ)) (bs : List ℕ) → map (λ e. e.name) (map (entry_shown t types) bs) ≡ map (λ b. shown_name (binder_numbered t b).name) bs
+names_shown t types [] = refl
+names_shown t types (b ∷ bs) = ap (λ (xs : List Text). shown_name (binder_numbered t b).name ∷ xs) (names_shown t types bs)
 
 type_told : (f : Origin → Option Typ) (rows : List TextBinder) (n : ℕ) (default : TextBinder) → f TypeName ≡ None → default.origin ≡ TypeName
     → get_or (map f (map (λ b. b.origin) rows)) n None ≡ f (get_or rows n default).origin
@@ -71,35 +76,37 @@ entries_told cs resolved typing d n h =
 
 derivation_around : (cs : List CommandTree) (resolved : Resolved) (typing : Typing) (d : Dialect) (o n : ℕ) (tree : TypingTree) (derived : Derivation)
     → AreFoundOf cs resolved typing d → place_at (table cs) o ≡ Some n → IsProofAt (statements_of resolved) typing n tree
-    → derived.context ≡ map (entry_shown (table cs) (entries_in typing)) (visible_at (table cs) n) → derived.steps ≡ steps_of 0 (typing_proof (table cs) n tree)
+    → derived.context ≡ map (entry_shown (table cs) (entries_in typing)) (visible_at (table cs) n) → derived.steps ≡ steps_of 0 (row_proof (table cs) n tree)
     → IsDerivationAround cs o derived d
 derivation_around cs resolved typing d o n tree derived h at proof told steps =
     let there = subst (λ ss. IsProofAt ss typing n tree) h.statements proof in
     record {
-      number = n;
+      term = tree_in (document_terms cs) n;
       type = type_in tree;
       typed = typed_around cs resolved typing d o n (type_in tree) h at proof.type;
       entries = context_at (statements_in cs) typing n;
-      least = subst (λ e. AreLeastEntries (place_in cs n).scope (context_at (statements_in cs) typing n) e) h.dialect there.least;
-      names = ap (map (λ e. e.name)) told ∙ names_told (table cs) (entries_in typing) (visible_at (table cs) n);
+      least = subst (λ (p : Place). AreLeastEntries p.scope (context_at (statements_in cs) typing n) d) (number_told cs n)
+          (subst (λ e. AreLeastEntries (place_numbered (statements_in cs) n).scope (context_at (statements_in cs) typing n) e) h.dialect there.least);
+      names = ap (map (λ e. e.name)) told ∙ names_shown (table cs) (entries_in typing) (visible_at (table cs) n) ∙ names_told cs n;
       types = ap (map (λ e. e.type)) told ∙ entries_told cs resolved typing d n h;
       tree = tree;
-      proof = subst (λ e. IsTyping (context_at (statements_in cs) typing n) (place_in cs n).here tree e) h.dialect there.proof;
+      proof = subst (λ (p : Place). IsTyping (context_at (statements_in cs) typing n) p.here tree d) (number_told cs n)
+          (subst (λ e. IsTyping (context_at (statements_in cs) typing n) (place_numbered (statements_in cs) n).here tree e) h.dialect there.proof);
       concluded = refl;
-      steps = steps;
+      steps = steps ∙ ap (steps_of 0) (same_proof cs n tree);
     }
 
 pub derived_type : (text : List ℕ) (a : Analysis) (resolved : Resolved) (typing : Typing) (o n : ℕ) (tree : TypingTree) (derived : Derivation)
     → IsAnalysisOf text a → a.types ≡ Found resolved typing → Some n ≡ place_at (table_of a.scopes) o → IsProofAt (statements_of resolved) typing n tree
     → derived.context ≡ map (entry_shown (table_of a.scopes) (entries_in typing)) (visible_at (table_of a.scopes) n)
-    → derived.steps ≡ steps_of 0 (typing_proof (table_of a.scopes) n tree) → IsDerivedIn text o (Some derived) a.dialect
+    → derived.steps ≡ steps_of 0 (row_proof (table_of a.scopes) n tree) → IsDerivedIn text o (Some derived) a.dialect
 derived_type text a resolved typing o n tree derived h is at proof told steps = record {
   commands = commands_in a;
   are_commands = h.are_commands;
   answer =
       let at_place = subst (λ t. Some n ≡ place_at t o) h.scopes.same_table at in
       let told_there = subst (λ t. derived.context ≡ map (entry_shown t (entries_in typing)) (visible_at t n)) h.scopes.same_table told in
-      let steps_there = subst (λ t. derived.steps ≡ steps_of 0 (typing_proof t n tree)) h.scopes.same_table steps in
+      let steps_there = subst (λ t. derived.steps ≡ steps_of 0 (row_proof t n tree)) h.scopes.same_table steps in
       derivation_around (commands_in a) resolved typing a.dialect o n tree derived (types_held text a (Found resolved typing) h is) (sym at_place) proof told_there steps_there;
 }
 

@@ -20,11 +20,12 @@ use Rattle.lam_scope.specs.Tables.{no_span}
 use Rattle.lam_typing.specs.Blaming.{Blamed}
 use Rattle.lam_query.specs.declared.answers.Fault.{Fault as RustFault}
 use Rattle.lam_query.specs.Faults.{Fault, AreInOrder}
-use Rattle.lam_query.specs.Sizes.{IsSizeFault, of_written_type, of_place}
+use Rattle.lam_query.specs.Sizes.{IsSizeFault, of_written_type, of_term}
 use Rattle.lam_query.specs.SyntaxFaults.{fault_of_token, PieceFault, too_long, spoiled, a_command, goes_wrong, ends_early, PieceFaults, AreSyntaxFaults}
 use Rattle.lam_query.specs.TextFaults.{written_fault, blame_fault, AreTypeFaults, too_large, small}
 use Rattle.lam_query.specs.Views.{fault_of}
 use Rattle.lam_query.specs.Within.{StandsIn}
+use Rattle.lam_query.proofs.RowsAndTerms.{span_told}
 use Rattle.lam_query.proofs.TreePlaces.{InCommands}
 use Rattle.lam_query.proofs.Spans.{InTokens, Spreads}
 use Rattle.lam_query.proofs.TextPlaces.{InPieces, in_pieces, tokens_stand, stands_spread}
@@ -71,7 +72,7 @@ in_syntax Q w ts fs h are =
 
 size_in : (Q : Span → Type 0) (cs : List CommandTree) (s : Span) (d : Dialect) → Q no_span → InCommands Q cs → IsSizeFault cs s d → Q s
 size_in Q cs s d past h (of_written_type is) = in_too_large Q cs s is h
-size_in Q cs s d past h (of_place n none large) = in_place Q cs past h n
+size_in Q cs s d past h (of_term n none large) = subst Q (span_told cs n) (in_place Q cs past h n)
 
 of_written : (Q : Span → Type 0) (ws : List TypeFault) → InFaults Q ws → InFaultList Q (map written_fault ws)
 of_written Q [] h = tt
@@ -80,7 +81,7 @@ of_written Q (RepeatedLabel s ∷ ws) h = (h.0, of_written Q ws h.1)
 
 of_blames : (Q : Span → Type 0) (cs : List CommandTree) (bs : List Blamed) → Q no_span → InCommands Q cs → InFaultList Q (map (blame_fault cs) bs)
 of_blames Q cs [] past h = tt
-of_blames Q cs (b ∷ bs) past h = (in_place Q cs past h b.number, of_blames Q cs bs past h)
+of_blames Q cs (b ∷ bs) past h = (subst Q (span_told cs b.number) (in_place Q cs past h b.number), of_blames Q cs bs past h)
 
 in_types : (Q : Span → Type 0) (cs : List CommandTree) (fs : List Fault) (d : Dialect) → Q no_span → InCommands Q cs → AreTypeFaults cs fs d → InFaultList Q fs
 in_types Q cs _ d past h (too_large {s = s} size) = (size_in Q cs s d past h size, tt)

@@ -10,7 +10,8 @@ use Rattle.lam_scope.specs.Tables.{Table}
 use Rattle.lam_scope.specs.TableViews.{place_number}
 use Rattle.lam_scope.specs.declared.numbers.Place.{Place}
 use Rattle.lam_query.specs.declared.answers.Step.{Step as RustStep}
-use Rattle.lam_query.specs.Steps.{Conclusion, Proof, concludes, Proofs, no_proofs, proof_first, steps_before, number_of_steps, last_steps, steps_of, steps_of_each, sub_proof, with_side, typing_proof, typing_proofs}
+use Rattle.lam_query.specs.Steps.{Conclusion, Proof, concludes, Proofs, no_proofs, proof_first, steps_before, number_of_steps, last_steps, steps_of, steps_of_each, sub_proof, with_side}
+use Rattle.lam_query.specs.RowSteps.{row_proof, row_proofs}
 use Rattle.lam_query.specs.Views.{step_of}
 use Rattle.lam_query.specs.Listing.{AreListed}
 
@@ -116,15 +117,15 @@ side_listed start there now ps numbers q last h grows is =
 
 -- proofs of typing with their places
 
-pub typing_proofs-next : (t : Table) (place : ℕ) (terms : List Place) (i : ℕ) (ps : TypingTrees) (p : TypingTree) (rest : TypingTrees) → ps ≡ typing_first p rest
-    → typing_proofs t place (map place_number (drop i terms)) ps
-    ≡ proof_first (typing_proof t (get_or (map place_number terms) i place) p) (typing_proofs t place (map place_number (drop (i + 1) terms)) rest)
-typing_proofs-next t place [] i ps p rest e =
+pub row_proofs-next : (t : Table) (place : ℕ) (terms : List Place) (i : ℕ) (ps : TypingTrees) (p : TypingTree) (rest : TypingTrees) → ps ≡ typing_first p rest
+    → row_proofs t place (map place_number (drop i terms)) ps
+    ≡ proof_first (row_proof t (get_or (map place_number terms) i place) p) (row_proofs t place (map place_number (drop (i + 1) terms)) rest)
+row_proofs-next t place [] i ps p rest e =
     rw (e, drop_of_length-le {A = Place} [] {i = i} (omega arith), drop_of_length-le {A = Place} [] {i = i + 1} (omega arith)) refl
-typing_proofs-next t place (u ∷ terms) zero ps p rest e = rw e refl
-typing_proofs-next t place (u ∷ terms) (suc i) ps p rest e =
+row_proofs-next t place (u ∷ terms) zero ps p rest e = rw e refl
+row_proofs-next t place (u ∷ terms) (suc i) ps p rest e =
     let next : suc i + 1 ≡ suc (i + 1) = omega arith in
-    rw next (typing_proofs-next t place terms i ps p rest e)
+    rw next (row_proofs-next t place terms i ps p rest e)
 
-pub typing_proofs-end : (t : Table) (place : ℕ) (terms : List ℕ) (proofs : List TypeProof) (i : ℕ) → length proofs ≤ i → typing_proofs t place terms (typings_of (drop i proofs)) ≡ no_proofs
-typing_proofs-end t place terms proofs i le = rw (drop_of_length-le proofs le) refl
+pub row_proofs-end : (t : Table) (place : ℕ) (terms : List ℕ) (proofs : List TypeProof) (i : ℕ) → length proofs ≤ i → row_proofs t place terms (typings_of (drop i proofs)) ≡ no_proofs
+row_proofs-end t place terms proofs i le = rw (drop_of_length-le proofs le) refl

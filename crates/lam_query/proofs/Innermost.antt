@@ -1,5 +1,6 @@
 -- The tokens of a text stand one behind the other, and so do those of its commands: of the terms that have a byte, the one that is shown is within all.
-use Rattle.std.proofs.Common.{◌≡◌, ℕ, ◌+◌, ◌≤◌, List, [], ◌∷◌, Bool, true, false, cond, Some, length, arith, sym, subst, inl, inr}
+use Rattle.std.proofs.Common.{◌≡◌, ℕ, ◌+◌, ◌≤◌, List, [], ◌∷◌, Bool, true, false, cond, Some, length, get_or, arith, sym, ap, ◌∙◌, subst, inl, inr}
+use Rattle.std.proofs.lemmas.List.{get_or_default}
 use Rattle.std.specs.Prelude.{filter, encode_utf8_all}
 use Rattle.lam_token.specs.declared.kind.Kind.{Kind}
 use Rattle.lam_token.specs.declared.segment.Segment.{Segment}
@@ -9,8 +10,13 @@ use Rattle.lam_token.specs.Lexeme.{Lexeme, lexeme}
 use Rattle.lam_token.specs.Cut.{Part, with_token, tokens_of, AreTokensOf}
 use Rattle.lam_syntax.specs.Trees.{CommandTree}
 use Rattle.lam_syntax.specs.Answers.{is_semicolon, onto_first, runs_of, has_tokens, pieces_of}
-use Rattle.lam_scope.specs.Tables.{table, place_at}
-use Rattle.lam_scope.specs.Nesting.{TokensStand, AreSpelledFrom, IsInnermost}
+use Rattle.lam_scope.specs.Tables.{table, is_over, place_row_numbered}
+use Rattle.lam_scope.specs.Nesting.{TokensStand, AreSpelledFrom, IsWithin}
+use Rattle.lam_scope.specs.PlacedTerms.{PlacedTree, term_of, document_terms, tree_in}
+use Rattle.lam_scope.proofs.PlacedRows.{row_told}
+use Rattle.lam_query.specs.Hovers.{has_byte, innermost_at}
+use Rattle.lam_query.specs.Innermost.{IsInnermost}
+use Rattle.lam_query.proofs.RowsAndTerms.{span_told, same_byte, innermost_number}
 use Rattle.lam_scope.proofs.NestedRows.{spelled_nest, first_is_innermost}
 use Rattle.lam_scope.proofs.SpelledTerms.{tokens_go_on}
 use Rattle.lam_query.specs.Commands.{AreCommandsOf, AreCommandsOfText}
@@ -83,5 +89,14 @@ text_spelled text cs are =
     let stand = text_stands text are.tokens are.are_tokens in
     commands_spelled 0 (pieces_of are.tokens) cs (pieces_stand 0 stand.0 are.tokens stand.1) are.are_commands
 
-pub innermost_shown : (text : List ℕ) (cs : List CommandTree) (o n : ℕ) → AreCommandsOfText text cs → place_at (table cs) o ≡ Some n → IsInnermost o (table cs) n
-innermost_shown text cs o n are found = first_is_innermost (table cs) o n (spelled_nest cs (text_spelled text cs are)) found
+pub innermost_shown : (text : List ℕ) (cs : List CommandTree) (o : ℕ) (term : PlacedTree) → AreCommandsOfText text cs → innermost_at o (document_terms cs) ≡ Some term → IsInnermost o (document_terms cs) term
+innermost_shown text cs o term are found = λ k default lt has.
+    let all = document_terms cs in
+    let here = innermost_number cs o term found in
+    let other = get_or_default all k default (tree_in [] 0) lt in
+    let row = place_row_numbered (table cs) k in
+    let over : is_over o row ≡ true = same_byte (table cs) all o row (tree_in all k) (row_told cs k) ∙ ap (λ t. has_byte o (term_of t)) (sym other) ∙ has in
+    let within = first_is_innermost (table cs) o here.0 (spelled_nest cs (text_spelled text cs are)) here.1 k over in
+    let inner : (place_row_numbered (table cs) here.0).span ≡ (term_of term).span = span_told cs here.0 ∙ ap (λ t. (term_of t).span) here.2 in
+    let outer : row.span ≡ (term_of (get_or all k default)).span = span_told cs k ∙ ap (λ t. (term_of t).span) (sym other) in
+    subst (λ s. IsWithin (term_of term).span s) outer (subst (λ s. IsWithin s row.span) inner within)

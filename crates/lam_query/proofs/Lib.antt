@@ -2,6 +2,7 @@ pub mod CommandLists
 pub mod Flat
 pub mod Ordered
 pub mod Small
+pub mod RowsAndTerms
 pub mod Hovering
 pub mod TreePlaces
 pub mod Spans

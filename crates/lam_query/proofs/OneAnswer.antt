@@ -1,6 +1,6 @@
 -- A text has one list of commands, and one type is shown of an offset.
-use Rattle.std.proofs.Common.{◌≡◌, ℕ, List, [], ◌∷◌, Option, Some, None, refl, sym, ap, ◌∙◌, inl, inr}
-use Rattle.std.specs.Option.{unwrap_or}
+use Rattle.std.proofs.Common.{◌≡◌, ℕ, List, [], ◌∷◌, Option, Some, None, refl, sym, ap, subst, ◌∙◌, inl, inr}
+use Rattle.lam_typing.specs.LeastTypes.{IsLeastAt}
 use Rattle.lam_rules.specs.Types.{Typ}
 use Rattle.lam_rules.specs.declared.rules.Dialect.{Dialect}
 use Rattle.lam_rules.proofs.SharedTexts.{text_same}
@@ -10,9 +10,8 @@ use Rattle.lam_syntax.specs.Trees.{CommandTree}
 use Rattle.lam_syntax.specs.Answers.{pieces_of}
 use Rattle.lam_syntax.proofs.Complete.{one_tree}
 use Rattle.lam_query.specs.Commands.{AreCommandsOf, AreCommandsOfText}
-use Rattle.lam_query.specs.Sizes.{span_of_place}
-use Rattle.lam_query.specs.Hovers.{IsTypedAround, Shown, IsHover}
-use Rattle.lam_query.specs.Analyses.{IsShownIn}
+use Rattle.lam_scope.specs.PlacedTerms.{PlacedTree, term_of}
+use Rattle.lam_query.specs.Hovers.{IsTypedAround, Shown, IsHover, IsShownIn}
 
 one_commands : (ps : List (List Lexeme)) (cs ds : List CommandTree) → AreCommandsOf ps cs → AreCommandsOf ps ds → cs ≡ ds
 one_commands [] cs ds h k = h ∙ sym k
@@ -30,20 +29,20 @@ one_document text cs ds h k =
     let there = rw same at k.are_commands in
     one_commands (pieces_of h.tokens) cs ds h.are_commands there
 
-same_place : (cs : List CommandTree) (o m n : ℕ) (s t : Typ) (d : Dialect) → IsTypedAround cs o m s d → IsTypedAround cs o n t d → n ≡ m
-same_place cs o m n s t d h k = ap (λ x. unwrap_or x 0) (sym k.innermost ∙ h.innermost)
+same_term : (cs : List CommandTree) (o : ℕ) (a b : PlacedTree) (s t : Typ) (d : Dialect) → IsTypedAround cs o a s d → IsTypedAround cs o b t d → b ≡ a
+same_term cs o a b s t d h k = let both : Some b ≡ Some a = sym k.innermost ∙ h.innermost in cc
 
 one_shown : (cs : List CommandTree) (o : ℕ) (a b : Option Shown) (d : Dialect) → IsHover cs o a d → IsHover cs o b d → a ≡ b
 one_shown cs o None None d h k = refl
 one_shown cs o None (Some b) d h k = absurd (h k.0 k.1 k.2)
 one_shown cs o (Some a) None d h k = absurd (k h.0 h.1 h.2)
 one_shown cs o (Some a) (Some b) d h k =
-    let place = same_place cs o h.0 k.0 h.1 k.1 d h.2 k.2 in
-    let least = rw place at k.2.least in
+    let same = same_term cs o h.0 k.0 h.1 k.1 d h.2 k.2 in
+    let least = subst (λ t. IsLeastAt (term_of t).place.scope (term_of t).place.here (Some k.1) d) same k.2.least in
     let below = h.2.least.1 k.1 least.0 in
     let above = least.1 h.1 h.2.least.0 in
     let texts : a.text ≡ b.text = h.3 ∙ text_same h.1 k.1 d below above ∙ sym k.3 in
-    let spans : a.span ≡ b.span = h.4 ∙ ap (span_of_place cs) (sym place) ∙ sym k.4 in
+    let spans : a.span ≡ b.span = h.4 ∙ ap (λ t. (term_of t).span) (sym same) ∙ sym k.4 in
     ap Some (λ i. record { text = texts i; span = spans i })
 
 pub one_hover : (text : List ℕ) (o : ℕ) (a b : Option Shown) (d : Dialect) → IsShownIn text o a d → IsShownIn text o b d → a ≡ b

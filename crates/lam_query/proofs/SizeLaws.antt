@@ -1,5 +1,5 @@
 -- Whether a document has a size fault is decided, and it has no two.
-use Rattle.std.proofs.Common.{◌≡◌, ◌⊎◌, ℕ, zero, suc, ◌<◌, ◌≤◌, List, [], ◌∷◌, Option, Some, None, refl, sym, ap, ◌∙◌, inl, inr, arith}
+use Rattle.std.proofs.Common.{◌≡◌, ◌⊎◌, ℕ, zero, suc, ◌<◌, ◌≤◌, List, [], ◌∷◌, Option, Some, None, refl, sym, ap, subst, ◌∙◌, inl, inr, arith}
 use Rattle.std.proofs.lemmas.Bool.{cases_lt}
 use Rattle.lam_rules.specs.Types.{Typ, nodes}
 use Rattle.lam_rules.specs.declared.rules.Dialect.{Dialect}
@@ -12,12 +12,14 @@ use Rattle.lam_scope.proofs.WellFormedForms.{document-wf}
 use Rattle.lam_typing.specs.LeastTypes.{IsLeastAt}
 use Rattle.lam_typing.specs.Analysis.{AreLeast, IsSmall as IsSmallType, AreSmall, IsTooLarge, IsFirstTooLarge}
 use Rattle.lam_typing.proofs.Existing.{exists_at}
-use Rattle.lam_query.specs.Sizes.{IsSizeFault, of_written_type, of_place, IsSmall, statements_in, places_in, span_of_place}
+use Rattle.lam_query.specs.Sizes.{IsSizeFault, of_written_type, of_term, IsSmall, places_in, span_numbered}
 use Rattle.lam_typing.proofs.WellFormedPlaces.{AreWellFormedPlaces, places_of_wf}
+use Rattle.lam_scope.proofs.PlacedPlaces.{same_places}
+use Rattle.lam_query.specs.WellTypedDocuments.{statements_in}
 use Rattle.lam_query.proofs.Small.{is_small}
 
 pub document_places_wf : (commands : List CommandTree) → AreWellFormedPlaces (places_in commands)
-document_places_wf commands = places_of_wf [] (statements_in commands) tt (document-wf commands)
+document_places_wf commands = subst AreWellFormedPlaces (same_places commands) (places_of_wf [] (statements_in commands) tt (document-wf commands))
 
 -- ---- whether one is too large
 
@@ -60,7 +62,7 @@ module _ (d : Dialect) where
       by None is = placed (first_or_none (places_in commands) (document_places_wf commands))
         where
           placed : FirstOrNone (places_in commands) → ((s : Span) × IsSizeFault commands s d) ⊎ IsSmall commands d
-          placed (inl first) = inl (span_of_place commands first.0, of_place first.0 is first.1)
+          placed (inl first) = inl (span_numbered commands first.0, of_term first.0 is first.1)
           placed (inr none) = inr (is_small commands none.0 d is none.1 none.2)
 
   -- ---- no two
@@ -81,6 +83,6 @@ module _ (d : Dialect) where
 
   pub one_size_fault : (commands : List CommandTree) (s r : Span) → IsSizeFault commands s d → IsSizeFault commands r d → s ≡ r
   one_size_fault commands s r (of_written_type a) (of_written_type b) = let same : Some s ≡ Some r = sym a ∙ b in cc
-  one_size_fault commands s _ (of_written_type a) (of_place n none large) = let clash : Some s ≡ None = sym a ∙ none in absurd cc
-  one_size_fault commands _ r (of_place n none large) (of_written_type b) = let clash : Some r ≡ None = sym b ∙ none in absurd cc
-  one_size_fault commands _ _ (of_place m none large) (of_place n none' large') = ap (span_of_place commands) (one_first (places_in commands) m n large large')
+  one_size_fault commands s _ (of_written_type a) (of_term n none large) = let clash : Some s ≡ None = sym a ∙ none in absurd cc
+  one_size_fault commands _ r (of_term n none large) (of_written_type b) = let clash : Some r ≡ None = sym b ∙ none in absurd cc
+  one_size_fault commands _ _ (of_term m none large) (of_term n none' large') = ap (span_numbered commands) (one_first (places_in commands) m n large large')

@@ -8,7 +8,7 @@ use Rattle.lam_scope.specs.Places.{Place}
 use Rattle.lam_scope.specs.Nameless.{first_too_large}
 use Rattle.lam_typing.specs.LeastTypes.{IsLeastAt}
 use Rattle.lam_typing.specs.Analysis.{AreLeast, IsSmall as IsSmallType, AreSmall, IsTooLarge, IsFirstTooLarge}
-use Rattle.lam_query.specs.Sizes.{of_written_type, of_place, IsSmall, places_in}
+use Rattle.lam_query.specs.Sizes.{of_written_type, of_term, IsSmall, places_in}
 
 -- what is found of places
 
@@ -38,4 +38,4 @@ least_at (p ∷ ps) (o ∷ os) (suc n) default d lt h = least_at ps os n default
 pub is_small : (commands : List CommandTree) (os : List (Option Typ)) (d : Dialect)
     → first_too_large [] commands ≡ None → AreLeast (places_in commands) os d → AreSmall os → IsSmall commands d
 is_small commands os d no_written least small s (of_written_type is) = let no_way : Some s ≡ None = sym is ∙ no_written in cc
-is_small commands os d no_written least small s (of_place n none large) = none_too_large (places_in commands) os n d least small large
+is_small commands os d no_written least small s (of_term n none large) = none_too_large (places_in commands) os n d least small large

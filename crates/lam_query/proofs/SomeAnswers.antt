@@ -1,5 +1,5 @@
 -- Each text has a list of faults, and one alone. Of each offset a type is shown or none, and a derivation is there exactly where a type is shown.
-use Rattle.std.proofs.Common.{◌≡◌, ◌⊎◌, ℕ, suc, List, [], ◌∷◌, ◌++◌, map, Option, Some, None, unwrap_or, refl, sym, ap, subst, ◌∙◌, inl, inr, length, reverse, arith}
+use Rattle.std.proofs.Common.{◌≡◌, ◌⊎◌, ℕ, suc, List, [], ◌∷◌, ◌++◌, map, Option, Some, None, refl, sym, ap, subst, ◌∙◌, inl, inr, length, reverse, arith}
 use Rattle.std.proofs.lemmas.List.{length-map, length-reverse}
 use Rattle.std.specs.Prelude.{codes}
 use Rattle.std.specs.List.{filter_map}
@@ -20,7 +20,9 @@ use Rattle.lam_scope.specs.Places.{Binding, written, of_term, Scope}
 use Rattle.lam_scope.specs.WellFormed.{IsWellFormedScope}
 use Rattle.lam_scope.specs.Sights.{sight_numbered}
 use Rattle.lam_scope.proofs.SeenOrigins.{visible_origins}
-use Rattle.lam_scope.specs.Tables.{table, place_at, binder_numbered, shown_name, visible_at}
+use Rattle.lam_scope.specs.Names.{shown_name}
+use Rattle.lam_scope.specs.Tables.{table, binder_numbered, visible_at}
+use Rattle.lam_scope.specs.PlacedTerms.{PlacedTree, term_of, document_terms, tree_in}
 use Rattle.lam_typing.specs.LeastTypes.{IsLeastAt, IsLeastEntry}
 use Rattle.lam_typing.specs.Entries.{AreLeastEntries}
 use Rattle.lam_typing.proofs.Derivations.{has_type}
@@ -31,12 +33,13 @@ use Rattle.lam_query.specs.Faults.{Fault, AreInOrder}
 use Rattle.lam_query.specs.SyntaxFaults.{fault_at, fault_of_token, AreSyntaxFaults}
 use Rattle.lam_query.specs.TextFaults.{written_fault, blame_fault, AreTypeFaults, too_large, small, AreFaults}
 use Rattle.lam_query.specs.Commands.{AreCommandsOfText}
-use Rattle.lam_query.specs.Sizes.{IsSizeFault, IsSmall, statements_in, places_in, span_of_place}
+use Rattle.lam_query.specs.Sizes.{IsSizeFault, IsSmall, places_in}
+use Rattle.lam_query.specs.WellTypedDocuments.{statements_in}
 use Rattle.lam_query.specs.Steps.{steps_of, typing_proof}
-use Rattle.lam_query.specs.Derivations.{Entry, Derivation, names_seen, IsDerivation}
+use Rattle.lam_query.specs.Derivations.{Entry, Derivation, names_seen, IsDerivation, IsDerivedIn}
 use Rattle.lam_query.proofs.SightLengths.{sight_length}
-use Rattle.lam_query.specs.Hovers.{Shown, place_in, IsTypedAround, IsHover}
-use Rattle.lam_query.specs.Analyses.{IsShownIn, IsDerivedIn}
+use Rattle.lam_query.specs.Hovers.{Shown, innermost_at, IsTypedAround, IsHover, IsShownIn}
+use Rattle.lam_query.proofs.RowsAndTerms.{place_told, number_told, names_told, innermost_number}
 use Rattle.lam_query.proofs.OneAnswer.{one_document}
 use Rattle.lam_query.proofs.PieceLaws.{some_commands, some_faults_of_pieces, one_list_of_pieces}
 use Rattle.lam_query.proofs.SortedFaults.{some_order, one_order}
@@ -111,45 +114,48 @@ one_faults text a b d x y =
 
 -- what is shown
 
-place_wf : (commands : List CommandTree) (n : ℕ) → IsWellFormedPlace (place_in commands n)
-place_wf commands n = wf_at (places_in commands) n (document_places_wf commands)
+number_wf : (commands : List CommandTree) (n : ℕ) → IsWellFormedPlace (term_of (tree_in (document_terms commands) n)).place
+number_wf commands n = subst IsWellFormedPlace (place_told commands n) (wf_at (places_in commands) n (document_places_wf commands))
 
--- the number of the place and its least type, or none
+term_wf : (commands : List CommandTree) (offset : ℕ) (term : PlacedTree) → innermost_at offset (document_terms commands) ≡ Some term → IsWellFormedPlace (term_of term).place
+term_wf commands offset term found =
+    let here = innermost_number commands offset term found in
+    subst (λ t. IsWellFormedPlace (term_of t).place) here.2 (number_wf commands here.0)
+
+-- the innermost term and its least type, or none
 abbrev TypedOrNot : List CommandTree → ℕ → Dialect → Type 0
-TypedOrNot commands offset d = ((number : ℕ) × (type : Typ) × IsTypedAround commands offset number type d) ⊎ ((number : ℕ) (type : Typ) → IsTypedAround commands offset number type d → ⊥)
+TypedOrNot commands offset d = ((term : PlacedTree) × (type : Typ) × IsTypedAround commands offset term type d) ⊎ ((term : PlacedTree) (type : Typ) → IsTypedAround commands offset term type d → ⊥)
 
-same_number : (o : Option ℕ) (m n : ℕ) → o ≡ Some m → o ≡ Some n → m ≡ n
-same_number o m n a b = ap (λ x. unwrap_or x 0) (sym a ∙ b)
-
-typed_at_place : (commands : List CommandTree) (offset n : ℕ) (d : Dialect) → IsSmall commands d → place_at (table commands) offset ≡ Some n → TypedOrNot commands offset d
-typed_at_place commands offset n d is_small at = by (exists_at d (place_in commands n).scope (place_in commands n).here (place_wf commands n).0 (place_wf commands n).1)
+typed_at_term : (commands : List CommandTree) (offset : ℕ) (term : PlacedTree) (d : Dialect) → IsSmall commands d → innermost_at offset (document_terms commands) ≡ Some term → TypedOrNot commands offset d
+typed_at_term commands offset term d is_small at = by (exists_at d (term_of term).place.scope (term_of term).place.here (term_wf commands offset term at).0 (term_wf commands offset term at).1)
   where
-    by : (o : Option Typ) × IsLeastAt (place_in commands n).scope (place_in commands n).here o d → TypedOrNot commands offset d
-    by (Some t, least) = inl (n, t, record { small = is_small; innermost = at; least = least })
+    by : (o : Option Typ) × IsLeastAt (term_of term).place.scope (term_of term).place.here o d → TypedOrNot commands offset d
+    by (Some t, least) = inl (term, t, record { small = is_small; innermost = at; least = least })
     by (None, least) = inr none
       where
-        none : (number : ℕ) (type : Typ) → IsTypedAround commands offset number type d → ⊥
-        none number type typed =
-            let same = same_number (place_at (table commands) offset) number n typed.innermost at in
-            let here = subst (λ (k : ℕ). IsLeastAt (place_in commands k).scope (place_in commands k).here (Some type) d) same typed.least in
+        none : (other : PlacedTree) (type : Typ) → IsTypedAround commands offset other type d → ⊥
+        none other type typed =
+            let both : Some other ≡ Some term = sym typed.innermost ∙ at in
+            let same : other ≡ term = cc in
+            let here = subst (λ (t : PlacedTree). IsLeastAt (term_of t).place.scope (term_of t).place.here (Some type) d) same typed.least in
             least type here.0
 
 typed_or_none : (commands : List CommandTree) (offset : ℕ) (d : Dialect) → TypedOrNot commands offset d
 typed_or_none commands offset d = sized (fault_or_small d commands)
   where
     sized : ((s : Span) × IsSizeFault commands s d) ⊎ IsSmall commands d → TypedOrNot commands offset d
-    sized (inl fault) = inr (λ number type typed. typed.small fault.0 fault.1)
-    sized (inr is_small) = placed (place_at (table commands) offset) refl
+    sized (inl fault) = inr (λ term type typed. typed.small fault.0 fault.1)
+    sized (inr is_small) = around (innermost_at offset (document_terms commands)) refl
       where
-        placed : (o : Option ℕ) → place_at (table commands) offset ≡ o → TypedOrNot commands offset d
-        placed None at = inr (λ number type typed. let clash : Some number ≡ None = sym typed.innermost ∙ at in cc)
-        placed (Some n) at = typed_at_place commands offset n d is_small at
+        around : (o : Option PlacedTree) → innermost_at offset (document_terms commands) ≡ o → TypedOrNot commands offset d
+        around None at = inr (λ term type typed. let clash : Some term ≡ None = sym typed.innermost ∙ at in cc)
+        around (Some term) at = typed_at_term commands offset term d is_small at
 
 some_shown : (commands : List CommandTree) (offset : ℕ) (d : Dialect) → (shown : Option Shown) × IsHover commands offset shown d
 some_shown commands offset d = by (typed_or_none commands offset d)
   where
     by : TypedOrNot commands offset d → (shown : Option Shown) × IsHover commands offset shown d
-    by (inl (number, type, typed)) = (Some (record { text = text_of_type type; span = span_of_place commands number }), (number, type, typed, refl, refl))
+    by (inl (term, type, typed)) = (Some (record { text = text_of_type type; span = (term_of term).span }), (term, type, typed, refl, refl))
     by (inr none) = (None, none)
 
 pub some_hover : (text : List ℕ) (offset : ℕ) (d : Dialect) → (shown : Option Shown) × IsShownIn text offset shown d
@@ -194,35 +200,45 @@ types_named [] (t ∷ types) h = absurd cc
 types_named (x ∷ names) [] h = absurd cc
 types_named (x ∷ names) (t ∷ types) h = ap (λ (xs : List (Option Typ)). t ∷ xs) (types_named names types (let e : length names ≡ length types = omega arith in e))
 
--- a place sees as many names as its context has entries
-names_length : (commands : List CommandTree) (n : ℕ) (g : Context) (d : Dialect) → LeastContext (place_in commands n).scope g d → length (names_seen (table commands) n) ≡ length (reverse g)
-names_length commands n g d least =
+-- a term sees as many names as its context has entries
+
+number_names : (commands : List CommandTree) (n : ℕ) → length (names_seen (tree_in (document_terms commands) n)) ≡ length (term_of (tree_in (document_terms commands) n)).place.scope
+number_names commands n =
     let bs = visible_at (table commands) n in
-    let a = length-map bs (λ b. shown_name (binder_numbered (table commands) b).name) in
-    let b = length-map bs (λ b. (binder_numbered (table commands) b).origin) in
-    let c = ap length (visible_origins commands n) in
-    let e = length-reverse (sight_numbered (statements_in commands) n) in
-    let f = sight_length (statements_in commands) n in
-    let h = context_length (place_in commands n).scope g d least in
-    let k = length-reverse g in
+    let a = ap length (names_told commands n) in
+    let b = length-map bs (λ b. shown_name (binder_numbered (table commands) b).name) in
+    let c = length-map bs (λ b. (binder_numbered (table commands) b).origin) in
+    let e = ap length (visible_origins commands n) in
+    let f = length-reverse (sight_numbered (statements_in commands) n) in
+    let g = sight_length (statements_in commands) n in
+    let h = ap (λ p. length p.scope) (number_told commands n) in
+    omega arith
+
+names_length : (commands : List CommandTree) (offset : ℕ) (term : PlacedTree) (g : Context) (d : Dialect) → innermost_at offset (document_terms commands) ≡ Some term
+    → LeastContext (term_of term).place.scope g d → length (names_seen term) ≡ length (reverse g)
+names_length commands offset term g d found least =
+    let here = innermost_number commands offset term found in
+    let names = subst (λ t. length (names_seen t) ≡ length (term_of t).place.scope) here.2 (number_names commands here.0) in
+    let entries = context_length (term_of term).place.scope g d least in
+    let turned = length-reverse g in
     omega arith
 
 some_derived : (commands : List CommandTree) (offset : ℕ) (d : Dialect) → (derived : Option Derivation) × IsDerivation commands offset derived d
 some_derived commands offset d = by (typed_or_none commands offset d)
   where
     by : TypedOrNot commands offset d → (derived : Option Derivation) × IsDerivation commands offset derived d
-    by (inl (number, type, typed)) =
-        let place = place_in commands number in
-        let wf = place_wf commands number in
+    by (inl (term, type, typed)) =
+        let place = (term_of term).place in
+        let wf = term_wf commands offset term typed.innermost in
         let context = context_exists d place.scope wf.0 in
         let low = lowest place.scope context.0 d wf.0 context.1 in
         let least = least_in place.scope context.0 place.here (Some type) d low typed.least in
         let proof = has_type context.0 place.here type d least.0 in
-        let names = names_seen (table commands) number in
-        let as_many = names_length commands number context.0 d context.1 in (
-          Some (record { context = named names (reverse context.0); steps = steps_of 0 (typing_proof (table commands) number proof.0) }),
+        let names = names_seen term in
+        let as_many = names_length commands offset term context.0 d typed.innermost context.1 in (
+          Some (record { context = named names (reverse context.0); steps = steps_of 0 (typing_proof term proof.0) }),
           record {
-            number = number;
+            term = term;
             type = type;
             typed = typed;
             entries = context.0;
@@ -247,6 +263,6 @@ some_derivation text offset d =
 pub shown_of_derived : (text : List ℕ) (offset : ℕ) (derived : Derivation) (d : Dialect) → IsDerivedIn text offset (Some derived) d → (shown : Shown) × IsShownIn text offset (Some shown) d
 shown_of_derived text offset derived d h =
     let a = h.answer in (
-      record { text = text_of_type a.type; span = span_of_place h.commands a.number },
-      record { commands = h.commands; are_commands = h.are_commands; answer = (a.number, a.type, a.typed, refl, refl) },
+      record { text = text_of_type a.type; span = (term_of a.term).span },
+      record { commands = h.commands; are_commands = h.are_commands; answer = (a.term, a.type, a.typed, refl, refl) },
     )

@@ -8,7 +8,8 @@ use Rattle.lam_token.specs.declared.span.Span.{Span}
 use Rattle.lam_scope.specs.Tables.{Table, place_row_numbered}
 use Rattle.lam_query.specs.declared.answers.Step.{Step as RustStep}
 use Rattle.lam_query.specs.declared.answers.Step.TheVariants as rust
-use Rattle.lam_query.specs.Steps.{Conclusion, typing, subtyping, Step, Proof, concludes, Proofs, no_proofs, proof_first, steps_before, last_steps, steps_of, steps_of_each, sub_proof, sub_proofs, with_side, premise_places, typing_proof, typing_proofs}
+use Rattle.lam_query.specs.Steps.{Conclusion, typing, subtyping, Step, Proof, concludes, Proofs, no_proofs, proof_first, steps_before, last_steps, steps_of, steps_of_each, sub_proof, sub_proofs, with_side}
+use Rattle.lam_query.specs.RowSteps.{premise_places, row_proof, row_proofs}
 use Rattle.lam_query.specs.Within.{StandsIn}
 use Rattle.lam_query.specs.Views.{step_of, StepStandsIn}
 
@@ -38,11 +39,11 @@ in_side Q no_proofs (Some q) h = (in_sub Q q, tt)
 in_side Q (proof_first p ps) (Some q) h = (h.0, in_side Q ps (Some q) h.1)
 
 mutual
-  in_typing : (Q : Span → Type 0) (t : Table) → ((n : ℕ) → Q (place_row_numbered t n).span) → (place : ℕ) (p : TypingTree) → InProof Q (typing_proof t place p)
+  in_typing : (Q : Span → Type 0) (t : Table) → ((n : ℕ) → Q (place_row_numbered t n).span) → (place : ℕ) (p : TypingTree) → InProof Q (row_proof t place p)
   in_typing Q t h place (typing_step r ty ps side) =
-      (h place, in_side Q (typing_proofs t place (premise_places t place r) ps) side (in_typings Q t h place (premise_places t place r) ps))
+      (h place, in_side Q (row_proofs t place (premise_places t place r) ps) side (in_typings Q t h place (premise_places t place r) ps))
 
-  in_typings : (Q : Span → Type 0) (t : Table) → ((n : ℕ) → Q (place_row_numbered t n).span) → (place : ℕ) (terms : List ℕ) (ps : TypingTrees) → InProofs Q (typing_proofs t place terms ps)
+  in_typings : (Q : Span → Type 0) (t : Table) → ((n : ℕ) → Q (place_row_numbered t n).span) → (place : ℕ) (terms : List ℕ) (ps : TypingTrees) → InProofs Q (row_proofs t place terms ps)
   in_typings Q t h place terms no_typings = tt
   in_typings Q t h place [] (typing_first p ps) = (in_typing Q t h place p, in_typings Q t h place [] ps)
   in_typings Q t h place (term ∷ terms) (typing_first p ps) = (in_typing Q t h term p, in_typings Q t h place terms ps)
@@ -73,7 +74,7 @@ steps_seen text [] h = tt
 steps_seen text (x ∷ xs) h = (step_seen text x h.0, steps_seen text xs h.1)
 
 pub steps_stand : (text : List ℕ) (t : Table) (place : ℕ) (p : TypingTree) (steps : List RustStep)
-    → ((n : ℕ) → StandsIn text (place_row_numbered t n).span) → map step_of steps ≡ steps_of 0 (typing_proof t place p) → All (StepStandsIn text) steps
+    → ((n : ℕ) → StandsIn text (place_row_numbered t n).span) → map step_of steps ≡ steps_of 0 (row_proof t place p) → All (StepStandsIn text) steps
 steps_stand text t place p steps h are =
-    let there = in_steps (StandsIn text) 0 (typing_proof t place p) (in_typing (StandsIn text) t h place p) in
+    let there = in_steps (StandsIn text) 0 (row_proof t place p) (in_typing (StandsIn text) t h place p) in
     All-from_recursion (StepStandsIn text) steps (steps_seen text steps (subst (InSteps (StandsIn text)) (sym are) there))

@@ -1,5 +1,5 @@
--- What is known of a text, and the answers about a text.
-use Rattle.std.specs.Prelude.{◌≡◌, ℕ, List, [], map, All, Option, None}
+-- What is known of a text.
+use Rattle.std.specs.Prelude.{◌≡◌, ℕ, List, [], map, All, None}
 use Rattle.lam_token.specs.Cut as token
 use Rattle.lam_rules.specs.declared.rules.Dialect.{Dialect}
 use Rattle.lam_syntax.specs.Trees.{CommandTree}
@@ -16,9 +16,8 @@ use Rattle.lam_query.specs.declared.analyses.Types.TheVariants.{TooLarge, Found}
 use Rattle.lam_query.specs.Commands.{AreCommandsOfText}
 use Rattle.lam_query.specs.SyntaxFaults.{AreSyntaxFaults}
 use Rattle.lam_query.specs.Views.{fault_of}
-use Rattle.lam_query.specs.Sizes.{statements_in, places_in, IsSizeFault}
-use Rattle.lam_query.specs.Hovers.{Shown, IsHover}
-use Rattle.lam_query.specs.Derivations.{Derivation, IsDerivation}
+use Rattle.lam_query.specs.Sizes.{places_in, IsSizeFault}
+use Rattle.lam_query.specs.WellTypedDocuments.{statements_in}
 
 -- the nameless form and the types are those of these commands
 pub record AreFoundOf (commands : List CommandTree) (resolved : Resolved) (typing : Typing) (d : Dialect) : Type 0 where
@@ -52,15 +51,3 @@ pub record IsAnalysisOf (text : List ℕ) (a : Analysis) : Type 0 where
   pub syntax : AreSyntaxFaults are_commands.tokens (map fault_of a.syntax.items)
   pub scopes : AreScopesOf a.scopes (commands_in a)
   pub types : AreTypesOf (commands_in a) a.types a.dialect
-
--- what is shown of an offset of a text: what is shown of that offset in the text's commands
-pub record IsShownIn (text : List ℕ) (offset : ℕ) (shown : Option Shown) (d : Dialect) : Type 0 where
-  pub commands : List CommandTree
-  pub are_commands : AreCommandsOfText text commands
-  pub answer : IsHover commands offset shown d
-
--- what is derived for an offset of a text: what is derived for that offset in the text's commands
-pub record IsDerivedIn (text : List ℕ) (offset : ℕ) (derived : Option Derivation) (d : Dialect) : Type 0 where
-  pub commands : List CommandTree
-  pub are_commands : AreCommandsOfText text commands
-  pub answer : IsDerivation commands offset derived d

@@ -1,7 +1,8 @@
 -- The entries of a context while it is told. For private functions alone.
 use Rattle.std.specs.Prelude.{ℕ, List, Option, None, get_or}
 use Rattle.lam_rules.specs.Types.{Typ}
-use Rattle.lam_scope.specs.Tables.{Table, binder_numbered, shown_name}
+use Rattle.lam_scope.specs.Names.{shown_name}
+use Rattle.lam_scope.specs.Tables.{Table, binder_numbered}
 use Rattle.lam_query.specs.Derivations.{Entry}
 
 -- the name of a binder, and its type among those of all binders

@@ -5,9 +5,11 @@ use Rattle.lam_rules.specs.Texts.{Text, text}
 use Rattle.lam_rules.specs.Typing.{Context, TypingTree, type_in, IsTyping}
 use Rattle.lam_rules.specs.declared.rules.Dialect.{Dialect}
 use Rattle.lam_syntax.specs.Trees.{CommandTree}
-use Rattle.lam_scope.specs.Tables.{Table, table, binder_numbered, shown_name, visible_at}
+use Rattle.lam_scope.specs.Names.{shown_name}
+use Rattle.lam_scope.specs.PlacedTerms.{PlacedTree, term_of}
 use Rattle.lam_typing.specs.Entries.{AreLeastEntries}
-use Rattle.lam_query.specs.Hovers.{place_in, IsTypedAround, IsHover}
+use Rattle.lam_query.specs.Commands.{AreCommandsOfText}
+use Rattle.lam_query.specs.Hovers.{IsTypedAround, IsHover}
 use Rattle.lam_query.specs.Steps.{Step, steps_of, typing_proof}
 
 -- a binder of a context: its name, and its type or none
@@ -21,26 +23,32 @@ pub record Derivation : Type 0 where
   pub context : List Entry
   pub steps : List Step
 
--- the names of the binders that a place sees, the outermost first
-abbrev pub names_seen : Table → (place : ℕ) → List Text
-names_seen t place = map (λ b. shown_name (binder_numbered t b).name) (visible_at t place)
+-- the names of the binders that a term sees, the outermost first
+abbrev pub names_seen : PlacedTree → List Text
+names_seen t = map shown_name (reverse (term_of t).names)
 
 -- The context has the names and the least entries of the binders that the innermost term round the offset sees. The steps are those of a proof by the rules, in that
 -- context, that the term has a type with the text that is shown of it.
 pub record IsDerivationAround (commands : List CommandTree) (offset : ℕ) (derivation : Derivation) (d : Dialect) : Type 0 where
-  pub number : ℕ
+  pub term : PlacedTree
   pub type : Typ
-  pub typed : IsTypedAround commands offset number type d
+  pub typed : IsTypedAround commands offset term type d
   pub entries : Context
-  pub least : AreLeastEntries (place_in commands number).scope entries d
-  pub names : map (λ e. e.name) derivation.context ≡ names_seen (table commands) number
+  pub least : AreLeastEntries (term_of term).place.scope entries d
+  pub names : map (λ e. e.name) derivation.context ≡ names_seen term
   pub types : map (λ e. e.type) derivation.context ≡ reverse entries
   pub tree : TypingTree
-  pub proof : IsTyping entries (place_in commands number).here tree d
+  pub proof : IsTyping entries (term_of term).place.here tree d
   pub concluded : text (type_in tree) ≡ text type
-  pub steps : derivation.steps ≡ steps_of 0 (typing_proof (table commands) number tree)
+  pub steps : derivation.steps ≡ steps_of 0 (typing_proof term tree)
 
 -- a derivation, or none where nothing is shown
 abbrev pub IsDerivation : List CommandTree → (offset : ℕ) → Option Derivation → Dialect → Type 0
 IsDerivation commands offset (Some derivation) d = IsDerivationAround commands offset derivation d
 IsDerivation commands offset None d = IsHover commands offset None d
+
+-- what is derived for an offset of a text: what is derived for that offset in the text's commands
+pub record IsDerivedIn (text : List ℕ) (offset : ℕ) (derived : Option Derivation) (d : Dialect) : Type 0 where
+  pub commands : List CommandTree
+  pub are_commands : AreCommandsOfText text commands
+  pub answer : IsDerivation commands offset derived d

@@ -1,24 +1,30 @@
 -- What is shown of an offset.
-use Rattle.std.specs.Prelude.{◌≡◌, ℕ, List, Option, Some, None}
+use Rattle.std.specs.Prelude.{◌≡◌, ℕ, List, Bool, false, Option, Some, None, if◌then◌else◌}
+use Rattle.std.specs.List.{find}
+use Rattle.std.proofs.Math.Dec.{ltb}
 use Rattle.lam_token.specs.declared.span.Span.{Span}
 use Rattle.lam_rules.specs.Types.{Typ}
 use Rattle.lam_rules.specs.Texts.{Text, text}
 use Rattle.lam_rules.specs.declared.rules.Dialect.{Dialect}
 use Rattle.lam_syntax.specs.Trees.{CommandTree}
-use Rattle.lam_scope.specs.Places.{Place, place_numbered}
-use Rattle.lam_scope.specs.Tables.{table, place_at}
+use Rattle.lam_scope.specs.PlacedTerms.{PlacedTerm, PlacedTree, term_of, document_terms}
 use Rattle.lam_typing.specs.LeastTypes.{IsLeastAt}
-use Rattle.lam_query.specs.Sizes.{statements_in, span_of_place, IsSmall}
+use Rattle.lam_query.specs.Commands.{AreCommandsOfText}
+use Rattle.lam_query.specs.Sizes.{IsSmall}
 
--- the place of a number in a document
-abbrev pub place_in : List CommandTree → ℕ → Place
-place_in commands n = place_numbered (statements_in commands) n
+-- whether a term has byte o; one that is not written has none
+abbrev pub has_byte : ℕ → PlacedTerm → Bool
+has_byte o t = if t.is_written then (if ltb o t.span.start then false else ltb o t.span.end) else false
 
--- The document has no size fault, the innermost term round the offset is the place of this number, and its least type is this one.
-pub record IsTypedAround (commands : List CommandTree) (offset number : ℕ) (type : Typ) (d : Dialect) : Type 0 where
+-- the innermost of the terms that have byte o: the first, since each term stands behind its parts
+abbrev pub innermost_at : ℕ → List PlacedTree → Option PlacedTree
+innermost_at o terms = find (λ t. has_byte o (term_of t)) terms
+
+-- The document has no size fault, this is the innermost term round the offset, and its least type is this one.
+pub record IsTypedAround (commands : List CommandTree) (offset : ℕ) (term : PlacedTree) (type : Typ) (d : Dialect) : Type 0 where
   pub small : IsSmall commands d
-  pub innermost : place_at (table commands) offset ≡ Some number
-  pub least : IsLeastAt (place_in commands number).scope (place_in commands number).here (Some type) d
+  pub innermost : innermost_at offset (document_terms commands) ≡ Some term
+  pub least : IsLeastAt (term_of term).place.scope (term_of term).place.here (Some type) d
 
 -- the text of a type, and where the term is that has it
 pub record Shown : Type 0 where
@@ -28,5 +34,11 @@ pub record Shown : Type 0 where
 -- what is shown of an offset: the text of the least type, or nothing where there is no such type
 abbrev pub IsHover : List CommandTree → (offset : ℕ) → Option Shown → Dialect → Type 0
 IsHover commands offset (Some shown) d =
-    (number : ℕ) × (type : Typ) × IsTypedAround commands offset number type d × (shown.text ≡ text type) × (shown.span ≡ span_of_place commands number)
-IsHover commands offset None d = (number : ℕ) (type : Typ) → IsTypedAround commands offset number type d → ⊥
+    (term : PlacedTree) × (type : Typ) × IsTypedAround commands offset term type d × (shown.text ≡ text type) × (shown.span ≡ (term_of term).span)
+IsHover commands offset None d = (term : PlacedTree) (type : Typ) → IsTypedAround commands offset term type d → ⊥
+
+-- what is shown of an offset of a text: what is shown of that offset in the text's commands
+pub record IsShownIn (text : List ℕ) (offset : ℕ) (shown : Option Shown) (d : Dialect) : Type 0 where
+  pub commands : List CommandTree
+  pub are_commands : AreCommandsOfText text commands
+  pub answer : IsHover commands offset shown d

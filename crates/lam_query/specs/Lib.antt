@@ -5,11 +5,13 @@ pub mod Sizes
 pub mod SyntaxFaults
 pub mod TextFaults
 pub mod Hovers
+pub mod Innermost
 pub mod Steps
+pub mod RowSteps
 pub mod Derivations
 pub mod Views
 pub mod Listing
 pub mod Contexts
 pub mod Reading
-pub mod Analyses
 pub mod WellTypedDocuments
+pub mod Analyses

@@ -6,7 +6,7 @@ use Rattle.lam_rules.specs.Subtyping.{SubTree, sub_step, SubTrees, no_subs, sub_
 use Rattle.lam_rules.specs.Typing.{TypingTree, typing_step, TypingTrees, no_typings, typing_first}
 use Rattle.lam_rules.specs.declared.rules.SubRule.{SubRule}
 use Rattle.lam_rules.specs.declared.rules.TypeRule.{TypeRule}
-use Rattle.lam_scope.specs.Tables.{Table, place_row_numbered}
+use Rattle.lam_scope.specs.PlacedTerms.{PlacedTree, PlacedTrees, no_parts, part_first, one_part, term_of, parts_of}
 
 -- what a step concludes by its rule: that the term at the span has the type, or that the one type is below the other
 pub data Conclusion : Type 0 where
@@ -69,19 +69,18 @@ with_side ps None = ps
 with_side no_proofs (Some q) = proof_first (sub_proof q) no_proofs
 with_side (proof_first p ps) (Some q) = proof_first p (with_side ps (Some q))
 
--- the places of the immediate terms that the premises of a step are about: none for T-Sub, whose premise is about the term itself
-abbrev pub premise_places : Table → (place : ℕ) → TypeRule → List ℕ
-premise_places t place TypeRule.Sub = []
-premise_places t place rule = (place_row_numbered t place).terms
+-- the terms that the premises of a step are about: the parts of the term, but for T-Sub the term itself
+abbrev pub premise_terms : TypeRule → PlacedTree → PlacedTrees
+premise_terms TypeRule.Sub t = one_part t
+premise_terms rule t = parts_of t
 
--- a proof of typing as a tree of conclusions, where the term is the one of this place
+-- a proof of typing as a tree of conclusions, where it is about this term
 abbrev mutual
-  pub typing_proof : Table → (place : ℕ) → TypingTree → Proof
-  typing_proof t place (typing_step rule type premises side) =
-      concludes (typing rule (place_row_numbered t place).span type) (with_side (typing_proofs t place (premise_places t place rule) premises) side)
+  pub typing_proof : PlacedTree → TypingTree → Proof
+  typing_proof t (typing_step rule type premises side) = concludes (typing rule (term_of t).span type) (with_side (typing_proofs t (premise_terms rule t) premises) side)
 
-  -- those of its premises: each is about the next of these terms, and about the term of the place where none is left, as is the premise of T-Sub
-  pub typing_proofs : Table → (place : ℕ) → (terms : List ℕ) → TypingTrees → Proofs
-  typing_proofs t place terms no_typings = no_proofs
-  typing_proofs t place [] (typing_first p ps) = proof_first (typing_proof t place p) (typing_proofs t place [] ps)
-  typing_proofs t place (term ∷ terms) (typing_first p ps) = proof_first (typing_proof t term p) (typing_proofs t place terms ps)
+  -- those of its premises: each is about the next of these terms, and about the term itself where none is left, which no proof by the rules has
+  pub typing_proofs : PlacedTree → PlacedTrees → TypingTrees → Proofs
+  typing_proofs t parts no_typings = no_proofs
+  typing_proofs t no_parts (typing_first p ps) = proof_first (typing_proof t p) (typing_proofs t no_parts ps)
+  typing_proofs t (part_first part parts) (typing_first p ps) = proof_first (typing_proof part p) (typing_proofs t parts ps)

@@ -13,18 +13,18 @@ use Rattle.lam_typing.specs.Blaming.{Blamed, AreBlamed}
 use Rattle.lam_query.specs.Commands.{AreCommandsOf}
 use Rattle.lam_query.specs.Faults.{Fault, AreInOrder}
 use Rattle.lam_query.specs.SyntaxFaults.{fault_at, AreSyntaxFaults}
-use Rattle.lam_query.specs.Sizes.{IsSizeFault, IsSmall, places_in, span_of_place}
+use Rattle.lam_query.specs.Sizes.{IsSizeFault, IsSmall, places_in, span_numbered}
 
 -- the fault of a written type
 abbrev pub written_fault : TypeFault → Fault
 written_fault (UnboundTypeName s) = fault_at (codes "Y1") s
 written_fault (RepeatedLabel s) = fault_at (codes "Y2") s
 
--- the fault of a place that is to blame
+-- the fault of a term that is to blame
 abbrev pub blame_fault : List CommandTree → Blamed → Fault
-blame_fault commands blamed = fault_at blamed.code (span_of_place commands blamed.number)
+blame_fault commands blamed = fault_at blamed.code (span_numbered commands blamed.number)
 
--- Those that types decide: the size fault alone, where there is one; else all of written types, and all places that are to blame.
+-- Those that types decide: the size fault alone, where there is one; else all of written types, and all terms that are to blame.
 pub data AreTypeFaults : List CommandTree → List Fault → Dialect → Type 0 where
   too_large : {commands : List CommandTree} {s : Span} {d : Dialect} → IsSizeFault commands s d → AreTypeFaults commands (fault_at (codes "L1") s ∷ []) d
   small : {commands : List CommandTree} {d : Dialect} (blames : List Blamed)

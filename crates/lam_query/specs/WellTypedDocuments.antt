@@ -2,9 +2,15 @@
 use Rattle.std.specs.Prelude.{List, []}
 use Rattle.lam_rules.specs.declared.rules.Dialect.{Dialect}
 use Rattle.lam_syntax.specs.Trees.{CommandTree}
+use Rattle.lam_scope.specs.Places.{Statement}
+use Rattle.lam_scope.specs.Nameless.{statements}
 use Rattle.lam_scope.specs.Expanded.{IsExpanded}
 use Rattle.lam_typing.specs.WellTyped.{AreTyped}
-use Rattle.lam_query.specs.Sizes.{statements_in, IsSmall}
+use Rattle.lam_query.specs.Sizes.{IsSmall}
+
+-- what commands state, without their names
+abbrev pub statements_in : List CommandTree → List Statement
+statements_in commands = statements [] [] commands
 
 -- each written type stands for a type, each definition and each evaluation has a type, and none of them is too large
 pub record IsWellTyped (commands : List CommandTree) (d : Dialect) : Type 0 where

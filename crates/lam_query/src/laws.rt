@@ -2,15 +2,14 @@
 ghost use Rattle.std.specs.Prelude.{◌≡◌, ◌↔◌, ℕ, List, [], Option, Some, All};
 ghost use Rattle.lam_rules.specs.declared.rules.Dialect.{Dialect};
 ghost use Rattle.lam_syntax.specs.Trees.{CommandTree};
-ghost use Rattle.lam_scope.specs.Tables.{table, place_at};
-ghost use Rattle.lam_scope.specs.Nesting.{IsInnermost};
+ghost use Rattle.lam_scope.specs.PlacedTerms.{PlacedTree, document_terms};
 ghost use Rattle.lam_query.specs.Commands.{AreCommandsOfText};
 ghost use Rattle.lam_query.specs.Faults.{Fault, HasKnownCode};
 ghost use Rattle.lam_query.specs.TextFaults.{AreTypeFaults, AreFaults};
 ghost use Rattle.lam_query.specs.WellTypedDocuments.{IsWellTyped};
-ghost use Rattle.lam_query.specs.Hovers.{Shown};
-ghost use Rattle.lam_query.specs.Derivations.{Derivation};
-ghost use Rattle.lam_query.specs.Analyses.{IsShownIn, IsDerivedIn};
+ghost use Rattle.lam_query.specs.Hovers.{Shown, innermost_at, IsShownIn};
+ghost use Rattle.lam_query.specs.Innermost.{IsInnermost};
+ghost use Rattle.lam_query.specs.Derivations.{Derivation, IsDerivedIn};
 
 /// A text has one list of commands and one list of faults, and there is one answer to what is shown of an offset in it.
 pub fn one_answer()
@@ -21,7 +20,7 @@ pub fn one_answer()
 
 /// The term that is shown is the innermost one: each term of the text that has the byte is around it.
 pub fn shown_is_innermost()
-    ensures { (text : List ℕ) (commands : List CommandTree) (offset number : ℕ) → AreCommandsOfText text commands → place_at (table commands) offset ≡ Some number → IsInnermost offset (table commands) number }
+    ensures { (text : List ℕ) (commands : List CommandTree) (offset : ℕ) (term : PlacedTree) → AreCommandsOfText text commands → innermost_at offset (document_terms commands) ≡ Some term → IsInnermost offset (document_terms commands) term }
 {}
 
 /// Every text has a list of faults. At every offset a type is shown or none is, and where one is there is a derivation, and

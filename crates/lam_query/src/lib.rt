@@ -7,13 +7,15 @@
 mod analyses;
 pub mod answers;
 mod contexts;
+mod derivations;
+mod hovers;
 mod laws;
-mod order;
-mod queries;
 mod reading;
 mod steps;
-mod type_faults;
+mod text_faults;
 
 pub use analyses::Analysis;
+pub use derivations::derivation;
+pub use hovers::hover;
 pub use laws::{known_codes, no_fault_is_well_typed, one_answer, shown_is_innermost, some_answer};
-pub use queries::{derivation, faults, hover};
+pub use text_faults::faults;

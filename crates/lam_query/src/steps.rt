@@ -7,7 +7,8 @@ ghost use Rattle.lam_scope.specs.Tables.{place_row_numbered};
 ghost use Rattle.lam_scope.specs.TableViews.{place_number};
 ghost use Rattle.lam_scope.specs.Views.{table_of};
 ghost use Rattle.lam_query.specs.declared.answers.Step.{Step as RustStep};
-ghost use Rattle.lam_query.specs.Steps.{Proofs, steps_of, steps_before, sub_proof, sub_proofs, with_side, premise_places, typing_proof, typing_proofs};
+ghost use Rattle.lam_query.specs.Steps.{Proofs, steps_of, steps_before, sub_proof, sub_proofs, with_side};
+ghost use Rattle.lam_query.specs.RowSteps.{premise_places, row_proof, row_proofs};
 ghost use Rattle.lam_query.specs.Within.{StandsIn};
 ghost use Rattle.lam_query.specs.Views.{step_of, StepStandsIn};
 ghost use Rattle.lam_query.specs.Listing.{AreListed};
@@ -24,7 +25,7 @@ pub(crate) fn steps_of_proof(
     place: Place,
     proof: &TypeProof,
 ) -> Result<Vec<Step>, AllocError>
-    ensures steps { IfOk result (λ listed. map step_of listed.items ≡ steps_of 0 (typing_proof (table_of scopes.now) place.0 (typing_tree_of proof.now))) }
+    ensures steps { IfOk result (λ listed. map step_of listed.items ≡ steps_of 0 (row_proof (table_of scopes.now) place.0 (typing_tree_of proof.now))) }
     ensures whole_characters { IfOk result (λ listed. (text : List ℕ) → ((n : ℕ) → StandsIn text (place_row_numbered (table_of scopes.now) n).span) → All (StepStandsIn text) listed.items) }
 {
     let mut listed = Vec::new(alloc);
@@ -43,8 +44,8 @@ fn list_typing(
     place: Place,
     proof: &TypeProof,
 ) -> Result<usize, AllocError>
-    ensures steps { IfOk result (λ _. map step_of steps.new.items ≡ map step_of steps.old.items ++ steps_of (length steps.old.items) (typing_proof (table_of scopes.now) place.0 (typing_tree_of proof.now))) }
-    ensures last { IfOk result (λ last. last ≡ length steps.old.items + steps_before (typing_proof (table_of scopes.now) place.0 (typing_tree_of proof.now))) }
+    ensures steps { IfOk result (λ _. map step_of steps.new.items ≡ map step_of steps.old.items ++ steps_of (length steps.old.items) (row_proof (table_of scopes.now) place.0 (typing_tree_of proof.now))) }
+    ensures last { IfOk result (λ last. last ≡ length steps.old.items + steps_before (row_proof (table_of scopes.now) place.0 (typing_tree_of proof.now))) }
 {
     let terms = premise_places(scopes, place, proof.rule);
     let mut premises = list_typings(alloc, steps, scopes, place, terms, &proof.typing)?;
@@ -82,7 +83,7 @@ fn list_typings(
     terms: &[Place],
     proofs: &[TypeProof],
 ) -> Result<Vec<usize>, AllocError>
-    ensures { IfOk result (λ numbers. AreListed steps.old.items (typing_proofs (table_of scopes.now) place.0 (map place_number terms.now) (typings_of proofs.now)) steps.new.items numbers.items) }
+    ensures { IfOk result (λ numbers. AreListed steps.old.items (row_proofs (table_of scopes.now) place.0 (map place_number terms.now) (typings_of proofs.now)) steps.new.items numbers.items) }
 {
     let mut numbers = Vec::with_capacity(alloc, proofs.len())?;
     for i in 0..proofs.len() {

@@ -18,10 +18,12 @@ pub mod UseChains
 pub mod CountedForms
 pub mod Reading
 pub mod PlaceCounts
+pub mod BinderRows
 pub mod SeenOrigins
 pub mod SpelledTerms
 pub mod NestedRows
-pub mod SameTerms
+pub mod PlacedRows
+pub mod PlacedPlaces
 pub mod Faultless
 pub mod StretchRuns
 pub mod StretchedRows

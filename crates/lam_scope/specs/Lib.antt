@@ -18,6 +18,7 @@ pub mod Abbreviations
 pub mod Nesting
 pub mod Expanded
 pub mod PlacedTerms
+pub mod PlacedRows
 pub mod Stretches
 pub mod RowStretches
 pub mod StatementViews

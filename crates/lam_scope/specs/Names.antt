@@ -1,5 +1,5 @@
 -- Names, and the binders of them that a use sees, the innermost first.
-use Rattle.std.specs.Prelude.{ℕ, suc, List, [], ◌∷◌, Bool, false, Option, Some, None, if◌then◌else◌}
+use Rattle.std.specs.Prelude.{ℕ, suc, List, [], ◌∷◌, Bool, false, Option, Some, None, codes, if◌then◌else◌}
 use Rattle.std.specs.Option.{option_map}
 use Rattle.std.specs.Str.{bytes_eq}
 
@@ -16,3 +16,8 @@ binds (Some y) x = bytes_eq y x
 abbrev pub count : Name → List (Option Name) → Option ℕ
 count x [] = None
 count x (b ∷ bs) = if binds b x then Some 0 else option_map suc (count x bs)
+
+-- what is shown for the name of a binder
+abbrev pub shown_name : Option Name → Name
+shown_name None = codes "_"
+shown_name (Some x) = x

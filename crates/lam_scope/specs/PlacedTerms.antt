@@ -1,53 +1,127 @@
--- The terms of commands in the order of places, each with its span in the text and its nameless form.
-use Rattle.std.specs.Prelude.{List, [], ◌∷◌, ◌++◌, Option}
+-- The terms of commands as they stand in the text: where each is, what it sees, what it says without names, and its parts.
+use Rattle.std.specs.Prelude.{ℕ, List, [], ◌∷◌, ◌++◌, Bool, true, false, Option, get_or}
 use Rattle.lam_token.specs.declared.span.Span.{Span}
-use Rattle.lam_rules.specs.Terms.{Term, lambda, fix}
+use Rattle.lam_rules.specs.Terms.{Term, unit_term, lambda, fix}
 use Rattle.lam_syntax.specs.Trees as tree
-use Rattle.lam_syntax.specs.Trees.{bound, TermTree, term_tree, TermNode, CommandTree, definition, declaration, evaluation, term_span}
+use Rattle.lam_syntax.specs.Trees.{bound, TypeTree, TermTree, term_tree, TermNode, CommandTree, definition, declaration, evaluation, term_span}
 use Rattle.lam_scope.specs.Names.{Name}
 use Rattle.lam_scope.specs.Expansions.{Abbreviation, expansion}
 use Rattle.lam_scope.specs.Nameless.{nameless, nameless_node, abbreviations_after, names_after}
+use Rattle.lam_scope.specs.Places.{written, of_term, Scope, Place}
 
--- a term of a command: its span in the text, and its nameless form
+-- a term by itself
 pub record PlacedTerm : Type 0 where
   pub span : Span
-  pub term : Term
+  -- whether it is written, or else a lambda or a fix that a letrec stands for
+  pub is_written : Bool
+  -- the names of the binders that it sees, the innermost first; an underscore has none
+  pub names : List (Option Name)
+  -- these binders by what they take their types from, and the nameless form
+  pub place : Place
 
--- the term of this span and this nameless form
-abbrev pub placed : Span → Term → PlacedTerm
-placed s e = record { span = s; term = e }
+-- A term with its parts, which are its immediate terms.
+mutual
+  pub data PlacedTree : Type 0 where
+    placed : (term : PlacedTerm) → (parts : PlacedTrees) → PlacedTree
 
--- Each term stands behind its parts. The lambda and the fix that a letrec stands for are placed at its first term.
+  -- parts, from left to right
+  pub data PlacedTrees : Type 0 where
+    no_parts : PlacedTrees
+    part_first : (first : PlacedTree) → (rest : PlacedTrees) → PlacedTrees
+
+-- the term of a tree
+abbrev pub term_of : PlacedTree → PlacedTerm
+term_of (placed t ps) = t
+
+-- its parts
+abbrev pub parts_of : PlacedTree → PlacedTrees
+parts_of (placed t ps) = ps
+
+-- one part alone
+abbrev pub one_part : PlacedTree → PlacedTrees
+one_part p = part_first p no_parts
+
+-- two parts
+abbrev pub two_parts : PlacedTree → PlacedTree → PlacedTrees
+two_parts p q = part_first p (one_part q)
+
+-- a term at this span
+abbrev pub placed_at : Span → (is_written : Bool) → List (Option Name) → Scope → Term → PlacedTrees → PlacedTree
+placed_at r w xs s e ps = placed (record { span = r; is_written = w; names = xs; place = record { scope = s; here = e } }) ps
+
+-- the function that a letrec makes, from its type and its nameless first term
+abbrev pub letrec_function : List Abbreviation → TypeTree → Term → Term
+letrec_function bs w e = lambda (expansion bs w) e
+
+-- the fix of that function, at the first term's span: its part is the function, and the function's is the first term
+abbrev pub letrec_fix : List Abbreviation → List (Option Name) → Scope → TypeTree → Span → Term → (first : PlacedTree) → PlacedTree
+letrec_fix bs xs s w r e first =
+    placed_at r false xs s (fix (letrec_function bs w e)) (one_part (placed_at r false xs s (letrec_function bs w e) (one_part first)))
+
+-- A term with its parts, where it sees these abbreviations and these binders: their names, and what they take their types from. A letrec is the let of a fix that
+-- it stands for.
 abbrev mutual
-  pub terms_placed : List Abbreviation → List (Option Name) → TermTree → List PlacedTerm
-  terms_placed bs xs (term_tree s n) = parts_placed bs xs n ++ placed s (nameless_node bs xs n) ∷ []
+  pub placed_term : List Abbreviation → List (Option Name) → Scope → TermTree → PlacedTree
+  placed_term bs xs s (term_tree r n) = placed_at r true xs s (nameless_node bs xs n) (placed_parts bs xs s n)
 
-  -- the parts of a term, from left to right
-  pub parts_placed : List Abbreviation → List (Option Name) → TermNode → List PlacedTerm
-  parts_placed bs xs (tree.lambda (bound b r) u t) = terms_placed bs (b ∷ xs) t
-  parts_placed bs xs (tree.if_term c t u) = terms_placed bs xs c ++ terms_placed bs xs t ++ terms_placed bs xs u
-  parts_placed bs xs (tree.let_term (bound b r) t u) = terms_placed bs xs t ++ terms_placed bs (b ∷ xs) u
-  parts_placed bs xs (tree.letrec_term (bound b r) w t u) =
-      terms_placed bs (b ∷ xs) t
-      ++ placed (term_span t) (lambda (expansion bs w) (nameless bs (b ∷ xs) t)) ∷ []
-      ++ placed (term_span t) (fix (lambda (expansion bs w) (nameless bs (b ∷ xs) t))) ∷ []
-      ++ terms_placed bs (b ∷ xs) u
-  parts_placed bs xs (tree.prefixed p t) = terms_placed bs xs t
-  parts_placed bs xs (tree.apply t u) = terms_placed bs xs t ++ terms_placed bs xs u
-  parts_placed bs xs (tree.project t l) = terms_placed bs xs t
-  parts_placed bs xs (tree.ascribe t u) = terms_placed bs xs t
-  parts_placed bs xs (tree.record_term fs) = fields_placed bs xs fs
-  parts_placed bs xs n = []
+  -- the parts of a term of this form
+  pub placed_parts : List Abbreviation → List (Option Name) → Scope → TermNode → PlacedTrees
+  placed_parts bs xs s (tree.lambda (bound b r) u t) = one_part (placed_term bs (b ∷ xs) (written (expansion bs u) ∷ s) t)
+  placed_parts bs xs s (tree.if_term c t u) = part_first (placed_term bs xs s c) (two_parts (placed_term bs xs s t) (placed_term bs xs s u))
+  placed_parts bs xs s (tree.let_term (bound b r) t u) = two_parts (placed_term bs xs s t) (placed_term bs (b ∷ xs) (of_term (nameless bs xs t) ∷ s) u)
+  placed_parts bs xs s (tree.letrec_term (bound b r) w t u) =
+      two_parts
+      (letrec_fix bs xs s w (term_span t) (nameless bs (b ∷ xs) t) (placed_term bs (b ∷ xs) (written (expansion bs w) ∷ s) t))
+      (placed_term bs (b ∷ xs) (of_term (fix (letrec_function bs w (nameless bs (b ∷ xs) t))) ∷ s) u)
+  placed_parts bs xs s (tree.prefixed p t) = one_part (placed_term bs xs s t)
+  placed_parts bs xs s (tree.apply t u) = two_parts (placed_term bs xs s t) (placed_term bs xs s u)
+  placed_parts bs xs s (tree.project t l) = one_part (placed_term bs xs s t)
+  placed_parts bs xs s (tree.ascribe t u) = one_part (placed_term bs xs s t)
+  placed_parts bs xs s (tree.record_term fs) = placed_fields bs xs s fs
+  placed_parts bs xs s n = no_parts
 
-  -- the terms of a record, from left to right
-  pub fields_placed : List Abbreviation → List (Option Name) → tree.TermFields → List PlacedTerm
-  fields_placed bs xs tree.no_fields = []
-  fields_placed bs xs (tree.field l t fs) = terms_placed bs xs t ++ fields_placed bs xs fs
+  -- the terms of a record
+  pub placed_fields : List Abbreviation → List (Option Name) → Scope → tree.TermFields → PlacedTrees
+  placed_fields bs xs s tree.no_fields = no_parts
+  placed_fields bs xs s (tree.field l t fs) = part_first (placed_term bs xs s t) (placed_fields bs xs s fs)
 
--- the terms of commands, where the first command sees these abbreviations and these binders of names
-abbrev pub commands_placed : List Abbreviation → List (Option Name) → List CommandTree → List PlacedTerm
-commands_placed bs xs [] = []
-commands_placed bs xs (definition w t ∷ cs) = terms_placed bs xs t ++ commands_placed bs (names_after xs (definition w t)) cs
-commands_placed bs xs (declaration w u ∷ cs) = commands_placed bs (names_after xs (declaration w u)) cs
-commands_placed bs xs (tree.abbreviation w u ∷ cs) = commands_placed (abbreviations_after bs (tree.abbreviation w u)) xs cs
-commands_placed bs xs (evaluation t ∷ cs) = terms_placed bs xs t ++ commands_placed bs xs cs
+-- the terms in a term: those in its parts, from left to right, and itself behind them
+abbrev mutual
+  pub terms_in : PlacedTree → List PlacedTree
+  terms_in (placed t ps) = terms_in_each ps ++ placed t ps ∷ []
+
+  -- those in several parts
+  pub terms_in_each : PlacedTrees → List PlacedTree
+  terms_in_each no_parts = []
+  terms_in_each (part_first p ps) = terms_in p ++ terms_in_each ps
+
+-- the terms of a command that sees these abbreviations and binders
+abbrev pub command_terms : List Abbreviation → List (Option Name) → Scope → CommandTree → List PlacedTree
+command_terms bs xs s (definition w t) = terms_in (placed_term bs xs s t)
+command_terms bs xs s (declaration w u) = []
+command_terms bs xs s (tree.abbreviation w u) = []
+command_terms bs xs s (evaluation t) = terms_in (placed_term bs xs s t)
+
+-- what the commands behind one see, by what it takes its types from
+abbrev pub scope_after : List Abbreviation → List (Option Name) → Scope → CommandTree → Scope
+scope_after bs xs s (definition w t) = of_term (nameless bs xs t) ∷ s
+scope_after bs xs s (declaration w u) = written (expansion bs u) ∷ s
+scope_after bs xs s c = s
+
+-- the terms of commands, one command behind the other, where the first sees these abbreviations and binders
+abbrev pub commands_terms : List Abbreviation → List (Option Name) → Scope → List CommandTree → List PlacedTree
+commands_terms bs xs s [] = []
+commands_terms bs xs s (c ∷ cs) = command_terms bs xs s c ++ commands_terms (abbreviations_after bs c) (names_after xs c) (scope_after bs xs s c) cs
+
+-- the terms of a document
+abbrev pub document_terms : List CommandTree → List PlacedTree
+document_terms cs = commands_terms [] [] [] cs
+
+-- the term of a number, counted from 0; past the last one, a term that stands nowhere
+abbrev pub tree_in : List PlacedTree → ℕ → PlacedTree
+tree_in ts n = get_or ts n (placed_at (record { start = 0; end = 0 }) false [] [] unit_term no_parts)
+
+-- the terms of these numbers
+abbrev pub trees_in : List PlacedTree → List ℕ → PlacedTrees
+trees_in ts [] = no_parts
+trees_in ts (n ∷ ns) = part_first (tree_in ts n) (trees_in ts ns)

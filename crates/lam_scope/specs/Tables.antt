@@ -1,5 +1,5 @@
 -- What the names of a document are bound to: its binders, uses and places by number, each kind in its order.
-use Rattle.std.specs.Prelude.{ℕ, zero, suc, ◌+◌, List, [], ◌∷◌, ◌++◌, map, Bool, true, false, ◌==◌, Option, Some, None, if◌then◌else◌, length, get_or, reverse, filter, position, codes}
+use Rattle.std.specs.Prelude.{ℕ, zero, suc, ◌+◌, List, [], ◌∷◌, ◌++◌, map, Bool, true, false, ◌==◌, Option, Some, None, if◌then◌else◌, length, get_or, reverse, filter, position}
 use Rattle.std.specs.Option.{option_or}
 use Rattle.std.proofs.Math.Dec.{ltb}
 use Rattle.lam_token.specs.declared.span.Span.{Span}
@@ -348,8 +348,3 @@ is_over o p = if p.derived then false else if ltb o p.span.start then false else
 -- the first place that has byte o, which is the innermost: each term stands behind those in it in the order of places
 abbrev pub place_at : Table → ℕ → Option ℕ
 place_at t o = position (is_over o) t.places
-
--- what is shown for the name of a binder
-abbrev pub shown_name : Option Name → Name
-shown_name None = codes "_"
-shown_name (Some x) = x

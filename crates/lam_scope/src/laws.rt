@@ -6,11 +6,12 @@ ghost use Rattle.lam_scope.specs.Counted.{statements_counted, past_commands};
 ghost use Rattle.lam_scope.specs.Names.{Name, count};
 ghost use Rattle.lam_scope.specs.Nameless.{statements, faults};
 ghost use Rattle.lam_scope.specs.Expanded.{IsExpanded};
-ghost use Rattle.lam_scope.specs.PlacedTerms.{commands_placed};
+ghost use Rattle.lam_scope.specs.PlacedTerms.{document_terms, term_of, tree_in};
+ghost use Rattle.lam_scope.specs.PlacedRows.{IsRowOf};
 ghost use Rattle.lam_scope.specs.Places.{places_of};
 ghost use Rattle.lam_scope.specs.Sights.{sight_numbered};
 ghost use Rattle.lam_scope.specs.Nesting.{AreNested, AreSpelledFrom, IsInnermost};
-ghost use Rattle.lam_scope.specs.Tables.{Table, table, Entry, entry_names, bound_to, binder_numbered, visible_at, place_at};
+ghost use Rattle.lam_scope.specs.Tables.{Table, table, Entry, entry_names, bound_to, binder_numbered, place_row_numbered, visible_at, place_at};
 
 /// The table of commands and their nameless form have as many places, and the binders that a place sees in the table take
 /// their types from where the nameless form says, the outermost first.
@@ -27,11 +28,12 @@ pub fn innermost_place()
     ensures innermost { (t : Table) (offset p : ℕ) → AreNested t.places → place_at t offset ≡ Some p → IsInnermost offset t p }
 {}
 
-/// The row of a number and the place of that number are of one term: its span is in the table, its nameless form among the
-/// places.
+/// The list of a document's terms is what the table and the nameless form are of: as many rows as terms, the row of each
+/// number tells of the term of that number, and the places of the statements are those of the terms.
 pub fn one_term()
-    ensures spans { (cs : List CommandTree) → map (λ p. p.span) (table cs).places ≡ map (λ p. p.span) (commands_placed [] [] cs) }
-    ensures terms { (cs : List CommandTree) → map (λ p. p.here) (places_of [] (statements [] [] cs)) ≡ map (λ p. p.term) (commands_placed [] [] cs) }
+    ensures rows { (cs : List CommandTree) (n : ℕ) → IsRowOf (table cs) (document_terms cs) (place_row_numbered (table cs) n) (tree_in (document_terms cs) n) }
+    ensures as_many { (cs : List CommandTree) → length (table cs).places ≡ length (document_terms cs) }
+    ensures places { (cs : List CommandTree) → places_of [] (statements [] [] cs) ≡ map (λ t. (term_of t).place) (document_terms cs) }
 {}
 
 /// Of any binders of names that a term sees, the one that a use is told to have is the one that its count names, and it

@@ -2,7 +2,8 @@
 ghost use Rattle.std.specs.Prelude.{◌≡◌, [], length, slice_index_or, map, IfOk};
 ghost use Rattle.lam_syntax.specs.Letters.{letters};
 ghost use Rattle.std.specs.Option.{option_map};
-ghost use Rattle.lam_scope.specs.Tables.{binder_numbered, place_row_numbered, binder_at, binder_token_at, binder_used_at, visible_at, seen_in, binder_in, place_at, shown_name};
+ghost use Rattle.lam_scope.specs.Tables.{binder_numbered, place_row_numbered, binder_at, binder_token_at, binder_used_at, visible_at, seen_in, binder_in, place_at};
+ghost use Rattle.lam_scope.specs.Names.{shown_name};
 ghost use Rattle.lam_scope.specs.TableViews.{binder_number, place_number, text_binder, text_use, rows_of};
 ghost use Rattle.lam_scope.specs.Stretches.{AreRuns, AreRuns-prop};
 ghost use Rattle.lam_scope.specs.RowStretches.{place_stretch, binder_stretch, use_stretch, answer_at, used_at};

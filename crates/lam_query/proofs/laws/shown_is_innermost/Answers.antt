@@ -2,4 +2,4 @@ use Rattle.lam_query.proofs.Innermost.{innermost_shown}
 use Rattle.lam_query.proofs.laws.shown_is_innermost.Goals as goal
 
 pub returns : goal.returns
-returns c = λ text commands offset number. innermost_shown text commands offset number
+returns c = innermost_shown

@@ -1,7 +1,7 @@
 use Rattle.std.proofs.Common.{◌∙◌, refl, arith}
 use Rattle.lam_rules.proofs.TypingShapes.{typing_tree_of-node, typings_of-drop}
 use Rattle.lam_scope.specs.Views.{table_of}
-use Rattle.lam_query.proofs.Flat.{all_left, none_left, one_less, concluded, length-listed, typing_proofs-next, typing_proofs-end}
+use Rattle.lam_query.proofs.Flat.{all_left, none_left, one_less, concluded, length-listed, row_proofs-next, row_proofs-end}
 use Rattle.lam_query.proofs.steps.+list_typing.Goals as goal
 
 pub list_typing-returns-clause-steps : goal.list_typing-returns-clause-steps
@@ -24,11 +24,11 @@ list_typings-loop-i-init t c = rw c.in_ok-numbers.ensures.items (all_left _ _)
 pub list_typings-loop-i-preserved : goal.list_typings-loop-i-preserved
 list_typings-loop-i-preserved t c =
     let proofs = typings_of-drop c.args.proofs.now c.loop-i.i c.index-proofs-i.result (omega arith) c.index-proofs-i.is in
-    let left = typing_proofs-next (table_of c.args.scopes.now) c.args.place.0 c.args.terms.now c.loop-i.i _ _ _ proofs in
+    let left = row_proofs-next (table_of c.args.scopes.now) c.args.place.0 c.args.terms.now c.loop-i.i _ _ _ proofs in
     let steps = rw c.place_or-about.ensures at c.in_ok-last.ensures.steps in
     let last = rw c.place_or-about.ensures at c.in_ok-last.ensures.last in
     rw c.in_ok-push.ensures.items (one_less _ _ c.loop-i.steps.items _ _ _ _ _ _ left steps last c.loop-i.invariant)
 
 pub list_typings-returns : goal.list_typings-returns
 list_typings-returns t c =
-    none_left _ _ _ _ _ (typing_proofs-end (table_of c.args.scopes.now) c.args.place.0 _ c.args.proofs.now c.loop-i.i (omega arith)) c.loop-i.invariant
+    none_left _ _ _ _ _ (row_proofs-end (table_of c.args.scopes.now) c.args.place.0 _ c.args.proofs.now c.loop-i.i (omega arith)) c.loop-i.invariant

@@ -1,10 +1,14 @@
-use Rattle.lam_query.proofs.Answering.{types_held, shown_untyped}
+use Rattle.lam_query.proofs.Answering.{types_held, shown_nowhere, shown_untyped}
 use Rattle.lam_query.proofs.Deriving.{derived_type, derived_nothing, derived_stands}
 use Rattle.lam_query.specs.declared.analyses.Types.TheVariants.{Found}
 use Rattle.lam_query.proofs.analyses.Analysis.derivation.Goals as goal
 
 pub prove_at-requires : goal.prove_at-requires
 prove_at-requires c = record { of = (types_held c.args.text.now c.args.self.now (Found _ _) c.requires c.in-Found.is).types_of_it }
+
+pub returns-in_default-place_at-clause-derived : goal.returns-in_default-place_at-clause-derived
+returns-in_default-place_at-clause-derived c =
+    derived_nothing _ _ _ (shown_nowhere c.args.text.now c.args.self.now c.args.offset c.requires c.in_default-place_at.ensures)
 
 pub returns-in_default-2-clause-derived : goal.returns-in_default-2-clause-derived
 returns-in_default-2-clause-derived c =

@@ -1,6 +1,9 @@
 use Rattle.std.proofs.Common.{sym}
-use Rattle.lam_query.proofs.Answering.{shown_untyped, shown_type, place_stands}
+use Rattle.lam_query.proofs.Answering.{shown_nowhere, shown_untyped, shown_type, place_stands}
 use Rattle.lam_query.proofs.analyses.Analysis.hover.Goals as goal
+
+pub returns-in_default-place_at-clause-shown : goal.returns-in_default-place_at-clause-shown
+returns-in_default-place_at-clause-shown c = shown_nowhere c.args.text.now c.args.self.now c.args.offset c.requires c.in_default-place_at.ensures
 
 pub returns-in_default-type_at-clause-shown : goal.returns-in_default-type_at-clause-shown
 returns-in_default-type_at-clause-shown c =

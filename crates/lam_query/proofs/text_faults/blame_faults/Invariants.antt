@@ -4,7 +4,7 @@ use Rattle.lam_scope.specs.Tables.{place_row_numbered}
 use Rattle.lam_query.specs.SyntaxFaults.{fault_at}
 use Rattle.lam_query.specs.Views.{fault_of}
 use Rattle.lam_query.proofs.Collected.{IsCollected}
-use Rattle.lam_query.proofs.type_faults.blame_faults.Given as goal
+use Rattle.lam_query.proofs.text_faults.blame_faults.Given as goal
 
 abbrev pub invariant-loop-i : goal.invariant-loop-i
 invariant-loop-i l =

@@ -2,7 +2,7 @@ use Rattle.std.proofs.Common.{rules}
 use Rattle.std.proofs.lemmas.List.Sorted.{IsPermutation-map, answers_always}
 use Rattle.lam_query.specs.Views.{fault_of}
 use Rattle.lam_query.proofs.Ordered.{sorted_seen}
-use Rattle.lam_query.proofs.order.put_in_order.Goals as goal
+use Rattle.lam_query.proofs.text_faults.put_in_order.Goals as goal
 
 pub returns : goal.returns
 returns c = record {

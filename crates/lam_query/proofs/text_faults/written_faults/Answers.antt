@@ -1,7 +1,7 @@
 use Rattle.lam_query.specs.TextFaults.{written_fault}
 use Rattle.lam_query.specs.Views.{fault_of}
 use Rattle.lam_query.proofs.Collected.{one_collected, all_collected}
-use Rattle.lam_query.proofs.type_faults.written_faults.Goals as goal
+use Rattle.lam_query.proofs.text_faults.written_faults.Goals as goal
 
 pub loop-i-preserved : goal.loop-i-preserved
 loop-i-preserved c =
