@@ -1,8 +1,9 @@
 #!/usr/bin/env python3
 """build.py: proves the crates that the program stands on, side by side, and builds it; says how far it is and how long is left.
 
-As many crates are proved at a time as there are processors, each once those below it are. Where fewer are ready, a crate gets
-the idle processors too. What was built before and has not changed is not built again.
+As many crates are proved at a time as there are processors, each once those below it are, those with the longest chain above
+them first. Each is proved by as many processes as there are processors, up to four, so that none lies idle where few crates are
+ready. What was built before and has not changed is not built again.
 """
 
 import concurrent.futures
@@ -53,6 +54,14 @@ def lines(name):
     return count
 
 
+def chains(below, work):
+    """For each crate how long it is, with the longest chain of crates from it up to the program."""
+    length = {}
+    for name in reversed(needed(below)):
+        length[name] = work[name] + max((length[it] for it in work if name in below[it]), default=0)
+    return length
+
+
 def prove(name, jobs):
     """Proves a crate by that many processes, and keeps what it printed for where it fails."""
     words = ["rt", "run", "--jobs", str(jobs), "--", "--help"] if name == PROGRAM else ["rt", "lib", "--jobs", str(jobs)]
@@ -76,18 +85,16 @@ def main():
     below, start = crates(), time.monotonic()
     left, cores = needed(below), len(os.sched_getaffinity(0))
     work, taken, running = {it: lines(it) for it in left}, {}, {}
+    left.sort(key=chains(below, work).get, reverse=True)
     print(f"{len(left)} crates to prove on {cores} processors, about {clock(sum(work.values()) * SECONDS_A_LINE / 2)} from nothing", flush=True)
     with concurrent.futures.ThreadPoolExecutor(cores) as pool:
         while left or running:
             ready = [it for it in left if all(lower in taken for lower in below[it])]
-            for at, name in enumerate(ready):
-                idle = cores - sum(jobs for _, jobs, _ in running.values())
-                if idle > 0:
-                    jobs = max(1, min(4, idle // (len(ready) - at)))
-                    left.remove(name)
-                    running[pool.submit(prove, name, jobs)] = name, jobs, time.monotonic()
+            for name in ready[: cores - len(running)]:
+                left.remove(name)
+                running[pool.submit(prove, name, min(4, cores))] = name, time.monotonic()
             for it in concurrent.futures.wait(running, return_when=concurrent.futures.FIRST_COMPLETED).done:
-                name, _, began = running.pop(it)
+                name, began = running.pop(it)
                 if not it.result():
                     sys.exit(f"{name} is not proved")
                 taken[name] = time.monotonic() - began
