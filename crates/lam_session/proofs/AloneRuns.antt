@@ -14,23 +14,28 @@ use Rattle.lam_text.specs.Edits.{Edit, text_after}
 use Rattle.lam_session.specs.declared.states.Life.{Life}
 use Rattle.lam_session.specs.declared.states.Life.TheVariants.{Fresh, Running, Down, Over}
 use Rattle.lam_session.specs.declared.methods.RequestMethod.{RequestMethod}
-use Rattle.lam_session.specs.declared.methods.RequestMethod.TheVariants.{Initialize, Shutdown, Hover, Derivation, UnknownRequest}
+use Rattle.lam_session.specs.declared.methods.RequestMethod.TheVariants.{Initialize, Shutdown, Ask, Unknown as UnknownRequest}
 use Rattle.lam_session.specs.declared.methods.NoticeMethod.{NoticeMethod}
-use Rattle.lam_session.specs.declared.methods.NoticeMethod.TheVariants.{Exit, DidOpen, DidChange, DidClose, UnknownNotice}
-use Rattle.lam_session.specs.Documents.{OpenDocument, open_text, with_document, without_document}
+use Rattle.lam_session.specs.declared.methods.NoticeMethod.TheVariants.{Exit, DidOpen, DidChange, DidClose, Unknown as UnknownNotice}
+use Rattle.lam_session.specs.Documents.{OpenDocument, OpenDocuments, open_text, with_document, without_document}
 use Rattle.lam_session.specs.declared.refusals.Refusal.{Refusal}
 use Rattle.lam_session.specs.declared.refusals.Refusal.TheVariants.{UnreadableMessage, InvalidMessage, AlreadyInitialized, ShutDown, NotInitialized, MethodNotFound, InvalidParams, DocumentNotOpen}
 use Rattle.lam_session.specs.Does.{Does}
 use Rattle.lam_session.specs.Initialize.{chosen, initialize_answer}
-use Rattle.lam_session.specs.Questions.{Question, IsHoverValue, IsDerivationValue, AsksOpen, AsksAs, Asks}
+use Rattle.lam_session.specs.Asked.{Place, place_of, asked_place, asked_at}
+use Rattle.lam_session.specs.Questions.{RepliesOpen, RepliesAt, Asks}
+use Rattle.lam_session.specs.declared.questions.Question.{Question}
 use Rattle.lam_session.specs.Refusals.{refused}
 use Rattle.lam_session.specs.Methods.{request_method, notice_method}
 use Rattle.lam_session.specs.Runs.{Exchange, Runs, is_lifecycle, is_named, concerns, IsAlone, SaysNothing}
-use Rattle.lam_session.specs.State.{State, fresh}
+use Rattle.lam_session.specs.State.{State, open_in, fresh}
 use Rattle.lam_session.specs.Step.{exit_status, Serves, Awaits, Requested, Heeds, Passes, Noticed, Receives, ReceivesIn, Steps}
 use Rattle.lam_session.specs.Sync.{published, opened_text, given_version, Holds, OpensAs, ChangesText, ChangesAs, ClosesOpen, ClosesAs}
 use Rattle.lam_session.specs.Diagnostics.{diagnostics}
 use Rattle.lam_session.proofs.EntryLemmas.{same_text, found_set}
+use Rattle.lam_session.proofs.MethodLemmas.{fits_request, request_fits, fits_notice, notice_fits}
+use Rattle.lam_session.proofs.QuestionLaws.{laws}
+use Rattle.lam_session.proofs.ReplyLemmas.{HasNoMethod, refusal_has_no_method}
 
 -- ---- the documents
 
@@ -97,38 +102,48 @@ does_same uri values after docs sent next agree d =
 agree_named : (uri other : List ℕ) (ds es : List OpenDocument) → bytes_eq uri other ≡ true → open_text uri ds ≡ open_text uri es → open_text other ds ≡ open_text other es
 agree_named uri other ds es is agree = subst (λ (u : List ℕ). open_text u ds ≡ open_text u es) ((bytes_eq-Decides uri other).0 is) agree
 
-asks_open_same : (uri : List ℕ) (question : Question) (s : State) (docs : List OpenDocument) (id : Data) (position : Position) (found : Option (List ℕ)) (sent : List Data) (next : State)
-    → open_text uri s.documents ≡ open_text uri docs → AsksOpen question s id position found sent next → Goes uri (AsksOpen question (beside s docs) id position found) sent next
-asks_open_same uri question s docs id position None sent next agree d = does_same uri (refused id DocumentNotOpen ∷ []) s docs sent next agree d
-asks_open_same uri question s docs id position (Some text) sent next agree d =
-    let does = does_same uri (result_reply id d.value ∷ []) s docs sent next agree d.does in
-    (does.0, record { value = d.value; right = d.right; does = does.1 }, does.2)
+-- ---- questions
 
-asks_as_same : (uri : List ℕ) (question : Question) (s : State) (docs : List OpenDocument) (id : Data) (position : Option Position) (named : Option (List ℕ)) (sent : List Data) (next : State)
-    → open_text uri s.documents ≡ open_text uri docs → is_named uri named ≡ true → AsksAs question s id position named sent next → Goes uri (AsksAs question (beside s docs) id position named) sent next
-asks_as_same uri question s docs id None named sent next agree is d = does_same uri (refused id InvalidParams ∷ []) s docs sent next agree d
-asks_as_same uri question s docs id (Some position) None sent next agree is d = does_same uri (refused id InvalidParams ∷ []) s docs sent next agree d
-asks_as_same uri question s docs id (Some position) (Some other) sent next agree is d =
-    subst (λ (found : Option (List ℕ)). Goes uri (AsksOpen question (beside s docs) id position found) sent next)
-    (agree_named uri other s.documents docs is agree)
-    (asks_open_same uri question s docs id position (open_text other s.documents) sent next agree d)
+-- the document of a place is the one that the params name
+place_named : (position : Option Position) (named : Option (List ℕ)) (place : Place) → place_of position named ≡ Some place → named ≡ Some place.uri
+place_named None named place is = absurd cc
+place_named (Some position) None place is = absurd cc
+place_named (Some position) (Some uri) place is = let same : record { uri = uri; position = position } ≡ place = cc in ap (λ (p : Place). Some p.uri) same
+
+replies_open_same : (question : Question) (s : State) (docs : List OpenDocument) (id params : Data) (place : Place) (found : Option (List ℕ)) (answer : Data)
+    → RepliesOpen question (open_in s) id params place found answer → RepliesOpen question (open_in (beside s docs)) id params place found answer
+replies_open_same question s docs id params place None answer r = r
+replies_open_same question s docs id params place (Some text) answer r = r
+
+replies_same : (uri : List ℕ) (question : Question) (s : State) (docs : List OpenDocument) (id params : Data) (place : Option Place) (answer : Data)
+    → open_text uri s.documents ≡ open_text uri docs → is_named uri (named_uri params) ≡ true → asked_place question params ≡ place
+    → RepliesAt question (open_in s) id params place answer → RepliesAt question (open_in (beside s docs)) id params place answer
+replies_same uri question s docs id params None answer agree is asked r = r
+replies_same uri question s docs id params (Some place) answer agree is asked r =
+    let named = place_named (asked_position params) (named_uri params) place asked in
+    let names : bytes_eq uri place.uri ≡ true = subst (λ (o : Option (List ℕ)). is_named uri o ≡ true) named is in
+    subst (λ (found : Option (List ℕ)). RepliesOpen question (open_in (beside s docs)) id params place found answer)
+    (agree_named uri place.uri s.documents docs names agree)
+    (replies_open_same question s docs id params place (open_text place.uri s.documents) answer r)
 
 asks_same : (uri : List ℕ) (question : Question) (s : State) (docs : List OpenDocument) (id params : Data) (sent : List Data) (next : State)
     → open_text uri s.documents ≡ open_text uri docs → is_named uri (named_uri params) ≡ true → Asks question s id params sent next → Goes uri (Asks question (beside s docs) id params) sent next
-asks_same uri question s docs id params sent next agree is d = asks_as_same uri question s docs id (asked_position params) (named_uri params) sent next agree is d
+asks_same uri question s docs id params sent next agree is d =
+    let does = does_same uri (d.reply ∷ []) s docs sent next agree d.does in
+    (does.0, record { reply = d.reply; replies = replies_same uri question s docs id params (asked_place question params) d.reply agree is refl d.replies; does = does.1 }, does.2)
+
+-- ---- requests
 
 -- a fact that only a question about a document needs
 abbrev IfAsks : RequestMethod → Type 0 → Type 0
-IfAsks Hover P = P
-IfAsks Derivation P = P
+IfAsks (Ask question) P = P
 IfAsks _ P = Unit {0}
 
 serves_same : (uri : List ℕ) (s : State) (docs : List OpenDocument) (id : Data) (method : RequestMethod) (params : Data) (sent : List Data) (next : State)
     → open_text uri s.documents ≡ open_text uri docs → IfAsks method (is_named uri (named_uri params) ≡ true) → Serves s id method params sent next → Goes uri (Serves (beside s docs) id method params) sent next
 serves_same uri s docs id Initialize params sent next agree is d = does_same uri (refused id AlreadyInitialized ∷ []) s docs sent next agree d
 serves_same uri s docs id Shutdown params sent next agree is d = does_same uri (result_reply id null ∷ []) (record s { life = Down }) docs sent next agree d
-serves_same uri s docs id Hover params sent next agree is d = asks_same uri (IsHoverValue s.encoding s.dialect) s docs id params sent next agree is d
-serves_same uri s docs id Derivation params sent next agree is d = asks_same uri (IsDerivationValue s.encoding s.dialect) s docs id params sent next agree is d
+serves_same uri s docs id (Ask question) params sent next agree is d = asks_same uri question s docs id params sent next agree is d
 serves_same uri s docs id UnknownRequest params sent next agree is d = does_same uri (refused id MethodNotFound ∷ []) s docs sent next agree d
 
 awaits_same : (uri : List ℕ) (s : State) (docs : List OpenDocument) (id : Data) (method : RequestMethod) (params : Data) (sent : List Data) (next : State)
@@ -215,34 +230,30 @@ noticed_same uri Running s docs method params sent next agree is d = heeds_same 
 noticed_same uri (Over status) s docs method params sent next agree is d = does_same uri [] s docs sent next agree d
 noticed_same uri _ s docs method params sent next agree is d = passes_same uri s docs method sent next agree d
 
-if_named : (exit opens changes closes : Bool) (P : Type 0) → (changes ≡ true → P) → (closes ≡ true → P) → IfNamed (cond exit Exit (cond opens DidOpen (cond changes DidChange (cond closes DidClose UnknownNotice)))) P
-if_named true opens changes closes P f g = tt
-if_named false true changes closes P f g = tt
-if_named false false true closes P f g = f refl
-if_named false false false true P f g = g refl
-if_named false false false false P f g = tt
+or_right : (a b : Bool) → not a ≡ true → (a || b) ≡ true → b ≡ true
+or_right true b h either = absurd cc
+or_right false b h either = either
+
+if_named : (name : List ℕ) (method : NoticeMethod) (b : Bool) → fits_notice name method ≡ true → (is_lifecycle name || b) ≡ true → IfNamed method (b ≡ true)
+if_named name Exit b fits h = tt
+if_named name DidOpen b fits h = tt
+if_named name DidChange b fits h = or_right (is_lifecycle name) b fits h
+if_named name DidClose b fits h = or_right (is_lifecycle name) b fits h
+if_named name UnknownNotice b fits h = tt
 
 -- a change or a close that concerns a document names it
 concerned : (name : List ℕ) (b : Bool) → (is_lifecycle name || b) ≡ true → IfNamed (notice_method name) (b ≡ true)
-concerned name b h =
-    if_named (bytes_eq name (codes "exit")) (bytes_eq name (codes "textDocument/didOpen")) (bytes_eq name (codes "textDocument/didChange")) (bytes_eq name (codes "textDocument/didClose")) (b ≡ true)
-    (λ is. subst (λ (n : List ℕ). (is_lifecycle n || b) ≡ true) ((bytes_eq-Decides name (codes "textDocument/didChange")).0 is) h)
-    (λ is. subst (λ (n : List ℕ). (is_lifecycle n || b) ≡ true) ((bytes_eq-Decides name (codes "textDocument/didClose")).0 is) h)
+concerned name b h = if_named name (notice_method name) b (notice_fits name) h
 
-if_asks : (initialize shutdown hover derivation : Bool) (P : Type 0) → (hover ≡ true → P) → (derivation ≡ true → P)
-    → IfAsks (cond initialize Initialize (cond shutdown Shutdown (cond hover Hover (cond derivation Derivation UnknownRequest)))) P
-if_asks true shutdown hover derivation P f g = tt
-if_asks false true hover derivation P f g = tt
-if_asks false false true derivation P f g = f refl
-if_asks false false false true P f g = g refl
-if_asks false false false false P f g = tt
+if_asks : (name : List ℕ) (method : RequestMethod) (b : Bool) → fits_request name method ≡ true → (is_lifecycle name || b) ≡ true → IfAsks method (b ≡ true)
+if_asks name Initialize b fits h = tt
+if_asks name Shutdown b fits h = tt
+if_asks name (Ask question) b fits h = or_right (is_lifecycle name) b fits h
+if_asks name UnknownRequest b fits h = tt
 
 -- a question that concerns a document names it
 asks_concerned : (name : List ℕ) (b : Bool) → (is_lifecycle name || b) ≡ true → IfAsks (request_method name) (b ≡ true)
-asks_concerned name b h =
-    if_asks (bytes_eq name (codes "initialize")) (bytes_eq name (codes "shutdown")) (bytes_eq name (codes "textDocument/hover")) (bytes_eq name (codes "fullsub/derivation")) (b ≡ true)
-    (λ is. subst (λ (n : List ℕ). (is_lifecycle n || b) ≡ true) ((bytes_eq-Decides name (codes "textDocument/hover")).0 is) h)
-    (λ is. subst (λ (n : List ℕ). (is_lifecycle n || b) ≡ true) ((bytes_eq-Decides name (codes "fullsub/derivation")).0 is) h)
+asks_concerned name b h = if_asks name (request_method name) b (request_fits name) h
 
 receives_same : (uri : List ℕ) (s : State) (docs : List OpenDocument) (m : Message) (sent : List Data) (next : State)
     → open_text uri s.documents ≡ open_text uri docs → concerns uri m ≡ true → Receives s m sent next → Goes uri (Receives (beside s docs) m) sent next
@@ -270,8 +281,11 @@ does_quiet : (uri : List ℕ) (s : State) (values : List Data) (docs : List Open
 does_quiet uri s values docs sent next agree says d =
     subst (λ (x : State). Quiet uri s sent x) (sym d.1) (refl, agree, subst (λ (v : List Data). SaysNothing uri v) (sym d.0) says)
 
+reply_says : (uri : List ℕ) (answer : Data) → HasNoMethod answer → SaysNothing uri (answer ∷ [])
+reply_says uri answer no_method = (λ about. let clash : None ≡ Some (string (codes "textDocument/publishDiagnostics")) = sym no_method ∙ ap (get (codes "method")) about.2 in cc, tt)
+
 refused_says : (uri : List ℕ) (id : Data) (refusal : Refusal) → SaysNothing uri (refused id refusal ∷ [])
-refused_says uri id refusal = (λ about. let clash : None ≡ Some (string (codes "textDocument/publishDiagnostics")) = ap (get (codes "method")) about.2 in cc, tt)
+refused_says uri id refusal = reply_says uri (refused id refusal) (refusal_has_no_method id refusal)
 
 published_says : (uri other : List ℕ) (version : Option ℤ) (faults : Items) → bytes_eq uri other ≡ false → SaysNothing uri (published other version faults ∷ [])
 published_says uri other version faults apart = (
@@ -282,17 +296,17 @@ published_says uri other version faults apart = (
   tt,
 )
 
-answered_says : (uri : List ℕ) (id value : Data) → SaysNothing uri (result_reply id value ∷ [])
-answered_says uri id value = (λ about. let clash : None ≡ Some (string (codes "textDocument/publishDiagnostics")) = ap (get (codes "method")) about.2 in cc, tt)
+replies_open_quiet : (question : Question) (held : OpenDocuments) (id params : Data) (place : Place) (found : Option (List ℕ)) (answer : Data) → RepliesOpen question held id params place found answer → HasNoMethod answer
+replies_open_quiet question held id params place None answer r = subst HasNoMethod (sym r) (refusal_has_no_method id DocumentNotOpen)
+replies_open_quiet question held id params place (Some text) answer r = (laws question).no_method (asked_at held params place text) id answer r
 
-asks_open_quiet : (uri : List ℕ) (question : Question) (s : State) (id : Data) (position : Position) (found : Option (List ℕ)) (sent : List Data) (next : State) → AsksOpen question s id position found sent next → Quiet uri s sent next
-asks_open_quiet uri question s id position None sent next d = does_quiet uri s (refused id DocumentNotOpen ∷ []) s.documents sent next refl (refused_says uri id DocumentNotOpen) d
-asks_open_quiet uri question s id position (Some text) sent next d = does_quiet uri s (result_reply id d.value ∷ []) s.documents sent next refl (answered_says uri id d.value) d.does
+replies_quiet : (question : Question) (held : OpenDocuments) (id params : Data) (place : Option Place) (answer : Data) → RepliesAt question held id params place answer → HasNoMethod answer
+replies_quiet question held id params None answer r = subst HasNoMethod (sym r) (refusal_has_no_method id InvalidParams)
+replies_quiet question held id params (Some place) answer r = replies_open_quiet question held id params place (open_text place.uri held.documents) answer r
 
-asks_quiet : (uri : List ℕ) (question : Question) (s : State) (id : Data) (position : Option Position) (named : Option (List ℕ)) (sent : List Data) (next : State) → AsksAs question s id position named sent next → Quiet uri s sent next
-asks_quiet uri question s id None named sent next d = does_quiet uri s (refused id InvalidParams ∷ []) s.documents sent next refl (refused_says uri id InvalidParams) d
-asks_quiet uri question s id (Some position) None sent next d = does_quiet uri s (refused id InvalidParams ∷ []) s.documents sent next refl (refused_says uri id InvalidParams) d
-asks_quiet uri question s id (Some position) (Some other) sent next d = asks_open_quiet uri question s id position (open_text other s.documents) sent next d
+asks_quiet : (uri : List ℕ) (question : Question) (s : State) (id params : Data) (sent : List Data) (next : State) → Asks question s id params sent next → Quiet uri s sent next
+asks_quiet uri question s id params sent next d =
+    does_quiet uri s (d.reply ∷ []) s.documents sent next refl (reply_says uri d.reply (replies_quiet question (open_in s) id params (asked_place question params) d.reply d.replies)) d.does
 
 -- a request that does not shape the session
 abbrev IsOther : RequestMethod → Type 0
@@ -303,8 +317,7 @@ IsOther _ = Unit {0}
 serves_quiet : (uri : List ℕ) (s : State) (id : Data) (method : RequestMethod) (params : Data) (sent : List Data) (next : State) → IsOther method → Serves s id method params sent next → Quiet uri s sent next
 serves_quiet uri s id Initialize params sent next other d = absurd other
 serves_quiet uri s id Shutdown params sent next other d = absurd other
-serves_quiet uri s id Hover params sent next other d = asks_quiet uri (IsHoverValue s.encoding s.dialect) s id (asked_position params) (named_uri params) sent next d
-serves_quiet uri s id Derivation params sent next other d = asks_quiet uri (IsDerivationValue s.encoding s.dialect) s id (asked_position params) (named_uri params) sent next d
+serves_quiet uri s id (Ask question) params sent next other d = asks_quiet uri question s id params sent next d
 serves_quiet uri s id UnknownRequest params sent next other d = does_quiet uri s (refused id MethodNotFound ∷ []) s.documents sent next refl (refused_says uri id MethodNotFound) d
 
 awaits_quiet : (uri : List ℕ) (s : State) (id : Data) (method : RequestMethod) (params : Data) (sent : List Data) (next : State) → IsOther method → Awaits s id method params sent next → Quiet uri s sent next
@@ -317,17 +330,14 @@ requested_quiet uri Running s id method params sent next other d = serves_quiet 
 requested_quiet uri Down s id method params sent next other d = does_quiet uri s (refused id ShutDown ∷ []) s.documents sent next refl (refused_says uri id ShutDown) d
 requested_quiet uri (Over status) s id method params sent next other d = does_quiet uri s [] s.documents sent next refl tt d
 
-other_at : (initialize shutdown exit hover derivation : Bool) → (initialize || (shutdown || exit)) ≡ false
-    → IsOther (cond initialize Initialize (cond shutdown Shutdown (cond hover Hover (cond derivation Derivation UnknownRequest))))
-other_at true shutdown exit hover derivation is = absurd cc
-other_at false true exit hover derivation is = absurd cc
-other_at false false exit true derivation is = tt
-other_at false false exit false true is = tt
-other_at false false exit false false is = tt
+is_other : (name : List ℕ) (method : RequestMethod) → fits_request name method ≡ true → is_lifecycle name ≡ false → IsOther method
+is_other name Initialize fits is = true≢false (sym fits ∙ is)
+is_other name Shutdown fits is = true≢false (sym fits ∙ is)
+is_other name (Ask question) fits is = tt
+is_other name UnknownRequest fits is = tt
 
 other_request : (name : List ℕ) → is_lifecycle name ≡ false → IsOther (request_method name)
-other_request name is =
-    other_at (bytes_eq name (codes "initialize")) (bytes_eq name (codes "shutdown")) (bytes_eq name (codes "exit")) (bytes_eq name (codes "textDocument/hover")) (bytes_eq name (codes "fullsub/derivation")) is
+other_request name is = is_other name (request_method name) (request_fits name) is
 
 holds_quiet : (uri : List ℕ) (s : State) (document : OpenDocument) (sent : List Data) (next : State) → bytes_eq uri document.uri ≡ false → Holds s document sent next → Quiet uri s sent next
 holds_quiet uri s document sent next apart d =
@@ -376,17 +386,11 @@ noticed_quiet uri Running s method params sent next stays apart d = heeds_quiet 
 noticed_quiet uri (Over status) s method params sent next stays apart d = does_quiet uri s [] s.documents sent next refl tt d
 noticed_quiet uri _ s method params sent next stays apart d = passes_quiet uri s method sent next stays d
 
-exits_at : (exit opens changes closes : Bool) → exit ≡ false → cond exit Exit (cond opens DidOpen (cond changes DidChange (cond closes DidClose UnknownNotice))) ≡ Exit → ⊥
-exits_at true opens changes closes is e = cc
-exits_at false true changes closes is e = cc
-exits_at false false true closes is e = cc
-exits_at false false false true is e = cc
-exits_at false false false false is e = cc
+stays : (name : List ℕ) (method : NoticeMethod) → fits_notice name method ≡ true → is_lifecycle name ≡ false → method ≡ Exit → ⊥
+stays name method fits is exits = true≢false (sym (subst (λ (m : NoticeMethod). fits_notice name m ≡ true) exits fits) ∙ is)
 
 not_exit : (name : List ℕ) → is_lifecycle name ≡ false → notice_method name ≡ Exit → ⊥
-not_exit name is =
-    exits_at (bytes_eq name (codes "exit")) (bytes_eq name (codes "textDocument/didOpen")) (bytes_eq name (codes "textDocument/didChange")) (bytes_eq name (codes "textDocument/didClose"))
-    (or_parts (bytes_eq name (codes "shutdown")) (bytes_eq name (codes "exit")) (or_parts (bytes_eq name (codes "initialize")) _ is).1).1
+not_exit name is = stays name (notice_method name) (notice_fits name) is
 
 receives_quiet : (uri : List ℕ) (s : State) (m : Message) (sent : List Data) (next : State) → concerns uri m ≡ false → Receives s m sent next → Quiet uri s sent next
 receives_quiet uri s (request id method params) sent next apart d =

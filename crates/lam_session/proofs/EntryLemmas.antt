@@ -1,6 +1,5 @@
 -- What a change of the map is to the list of documents that it is seen as.
 use Rattle.std.proofs.Common.{not, subst, true≢false, Bor, IfSome, ◌≡◌, ℕ, List, [], ◌∷◌, Bool, true, false, cond, Option, None, Some, option_map, is_some, String, Global, string_bytes, refl, sym, ap, ◌∙◌}
-use Rattle.std.proofs.lemmas.Bool.{and_parts, and_from}
 use Rattle.std.proofs.lemmas.Slice.Eq.{bytes_eq-Decides}
 use Rattle.std.specs.Str.{bytes_eq}
 use Rattle.std.specs.Option.{option_copied}
@@ -10,7 +9,7 @@ use Rattle.indexmap.specs.IndexMap.{insert_entry}
 use Rattle.lam_text.specs.declared.units.Encoding.{Encoding}
 use Rattle.lam_rules.specs.declared.rules.Dialect.{Dialect}
 use Rattle.lam_session.specs.Documents.{OpenDocument, HeldDocument, open_text, with_document, without_document}
-use Rattle.lam_session.specs.Entries.{document_of, documents_of, are_analysed, AreUnder}
+use Rattle.lam_session.specs.Entries.{document_of, documents_of, IsReady, AreReady}
 
 abbrev Entry : Type 0
 Entry = String Global × HeldDocument
@@ -32,27 +31,14 @@ documents_of-insert_entry (e ∷ es) k v =
     inserted (string_eq k e.0) k v e es (insert_entry string_eq es k v) (bytes_eq-Decides (string_bytes k) (string_bytes e.0)).0
     ∙ ap (λ rest. cond (string_eq k e.0) (document_of (k, v) ∷ documents_of es) (document_of e ∷ rest)) (documents_of-insert_entry es k v)
 
-under_either : (encoding : Encoding) (d : Dialect) (b : Bool) (xs ys : List Entry) → AreUnder encoding d xs → AreUnder encoding d ys → AreUnder encoding d (cond b xs ys)
-under_either encoding d true xs ys h k = h
-under_either encoding d false xs ys h k = k
+ready_either : (encoding : Encoding) (d : Dialect) (b : Bool) (xs ys : List Entry) → AreReady encoding d xs → AreReady encoding d ys → AreReady encoding d (cond b xs ys)
+ready_either encoding d true xs ys h k = h
+ready_either encoding d false xs ys h k = k
 
-pub AreUnder-insert_entry : (encoding : Encoding) (d : Dialect) (es : List Entry) (k : String Global) (v : HeldDocument) → v.encoding ≡ encoding → v.dialect ≡ d → AreUnder encoding d es → AreUnder encoding d (insert_entry string_eq es k v)
-AreUnder-insert_entry encoding d [] k v unit rules all = ((unit, rules), all)
-AreUnder-insert_entry encoding d (e ∷ es) k v unit rules all =
-    under_either encoding d (string_eq k e.0) ((e.0, v) ∷ es) (e ∷ insert_entry string_eq es k v) ((unit, rules), all.1) (all.0, AreUnder-insert_entry encoding d es k v unit rules all.1)
-
--- ---- of every text an analysis is at hand
-
-analysed_either : (b : Bool) (xs ys : List Entry) → are_analysed xs ≡ true → are_analysed ys ≡ true → are_analysed (cond b xs ys) ≡ true
-analysed_either true xs ys h k = h
-analysed_either false xs ys h k = k
-
-pub are_analysed-insert_entry : (es : List Entry) (k : String Global) (v : HeldDocument) → v.analysed ≡ true → are_analysed es ≡ true → are_analysed (insert_entry string_eq es k v) ≡ true
-are_analysed-insert_entry [] k v new all = and_from v.analysed true new refl
-are_analysed-insert_entry (e ∷ es) k v new all =
-    let parts = and_parts e.1.analysed (are_analysed es) all in
-    analysed_either (string_eq k e.0) ((e.0, v) ∷ es) (e ∷ insert_entry string_eq es k v) (and_from v.analysed (are_analysed es) new parts.1)
-    (and_from e.1.analysed (are_analysed (insert_entry string_eq es k v)) parts.0 (are_analysed-insert_entry es k v new parts.1))
+pub AreReady-insert_entry : (encoding : Encoding) (d : Dialect) (es : List Entry) (k : String Global) (v : HeldDocument) → IsReady encoding d v → AreReady encoding d es → AreReady encoding d (insert_entry string_eq es k v)
+AreReady-insert_entry encoding d [] k v new all = (new, all)
+AreReady-insert_entry encoding d (e ∷ es) k v new all =
+    ready_either encoding d (string_eq k e.0) ((e.0, v) ∷ es) (e ∷ insert_entry string_eq es k v) (new, all.1) (all.0, AreReady-insert_entry encoding d es k v new all.1)
 
 -- ---- a look-up
 
@@ -74,24 +60,13 @@ some_text (Some o) = refl
 pub is_open-lookup : (uri : List ℕ) (es : List Entry) → is_some (lookup (is_uri uri) es) ≡ is_some (open_text uri (documents_of es))
 is_open-lookup uri es = sym (ap is_some (open_text-lookup uri es) ∙ some_text (lookup (is_uri uri) es))
 
-under_at : (encoding : Encoding) (d : Dialect) (b : Bool) (e : Entry) (rest : Option HeldDocument) (o : HeldDocument) → (e.1.encoding ≡ encoding) × (e.1.dialect ≡ d) → (rest ≡ Some o → (o.encoding ≡ encoding) × (o.dialect ≡ d))
-    → cond b (Some e.1) rest ≡ Some o → (o.encoding ≡ encoding) × (o.dialect ≡ d)
-under_at encoding d true e rest o here later is = let same : e.1 ≡ o = cc in subst (λ (w : HeldDocument). (w.encoding ≡ encoding) × (w.dialect ≡ d)) same here
-under_at encoding d false e rest o here later is = later is
+ready_at : (encoding : Encoding) (d : Dialect) (b : Bool) (e : Entry) (rest : Option HeldDocument) (o : HeldDocument) → IsReady encoding d e.1 → (rest ≡ Some o → IsReady encoding d o) → cond b (Some e.1) rest ≡ Some o → IsReady encoding d o
+ready_at encoding d true e rest o here later is = let same : e.1 ≡ o = cc in subst (λ (w : HeldDocument). IsReady encoding d w) same here
+ready_at encoding d false e rest o here later is = later is
 
-pub AreUnder-lookup : (encoding : Encoding) (d : Dialect) (uri : List ℕ) (es : List Entry) (o : HeldDocument) → AreUnder encoding d es → lookup (is_uri uri) es ≡ Some o → (o.encoding ≡ encoding) × (o.dialect ≡ d)
-AreUnder-lookup encoding d uri [] o all is = absurd cc
-AreUnder-lookup encoding d uri (e ∷ es) o all is = under_at encoding d (is_uri uri e.0) e (lookup (is_uri uri) es) o all.0 (AreUnder-lookup encoding d uri es o all.1) is
-
-analysed_at : (b : Bool) (e : Entry) (rest : Option HeldDocument) (o : HeldDocument) → e.1.analysed ≡ true → (rest ≡ Some o → o.analysed ≡ true) → cond b (Some e.1) rest ≡ Some o → o.analysed ≡ true
-analysed_at true e rest o here later is = let same : e.1 ≡ o = cc in subst (λ (w : HeldDocument). w.analysed ≡ true) same here
-analysed_at false e rest o here later is = later is
-
-pub are_analysed-lookup : (uri : List ℕ) (es : List Entry) (o : HeldDocument) → are_analysed es ≡ true → lookup (is_uri uri) es ≡ Some o → o.analysed ≡ true
-are_analysed-lookup uri [] o all is = absurd cc
-are_analysed-lookup uri (e ∷ es) o all is =
-    let parts = and_parts e.1.analysed (are_analysed es) all in
-    analysed_at (is_uri uri e.0) e (lookup (is_uri uri) es) o parts.0 (are_analysed-lookup uri es o parts.1) is
+pub AreReady-lookup : (encoding : Encoding) (d : Dialect) (uri : List ℕ) (es : List Entry) (o : HeldDocument) → AreReady encoding d es → lookup (is_uri uri) es ≡ Some o → IsReady encoding d o
+AreReady-lookup encoding d uri [] o all is = absurd cc
+AreReady-lookup encoding d uri (e ∷ es) o all is = ready_at encoding d (is_uri uri e.0) e (lookup (is_uri uri) es) o all.0 (AreReady-lookup encoding d uri es o all.1) is
 
 copied_text : (r : Option (Bor HeldDocument)) → option_map (λ d. d.now.text) r ≡ option_map (λ o. o.text) (option_copied r)
 copied_text None = refl
@@ -131,17 +106,10 @@ documents_of-set_value uri (e ∷ es) o w is =
     (bytes_eq-Decides uri (string_bytes e.0)).0
     (λ t. documents_of-set_value uri es o w (written_later (is_uri uri e.0) e (lookup (is_uri uri) es) o t is))
 
-pub AreUnder-set_value : (encoding : Encoding) (d : Dialect) (uri : List ℕ) (es : List Entry) (w : HeldDocument) → w.encoding ≡ encoding → w.dialect ≡ d → AreUnder encoding d es → AreUnder encoding d (set_value (is_uri uri) es w)
-AreUnder-set_value encoding d uri [] w unit rules all = all
-AreUnder-set_value encoding d uri (e ∷ es) w unit rules all =
-    under_either encoding d (is_uri uri e.0) ((e.0, w) ∷ es) (e ∷ set_value (is_uri uri) es w) ((unit, rules), all.1) (all.0, AreUnder-set_value encoding d uri es w unit rules all.1)
-
-pub are_analysed-set_value : (uri : List ℕ) (es : List Entry) (w : HeldDocument) → w.analysed ≡ true → are_analysed es ≡ true → are_analysed (set_value (is_uri uri) es w) ≡ true
-are_analysed-set_value uri [] w new all = all
-are_analysed-set_value uri (e ∷ es) w new all =
-    let parts = and_parts e.1.analysed (are_analysed es) all in
-    analysed_either (is_uri uri e.0) ((e.0, w) ∷ es) (e ∷ set_value (is_uri uri) es w) (and_from w.analysed (are_analysed es) new parts.1)
-    (and_from e.1.analysed (are_analysed (set_value (is_uri uri) es w)) parts.0 (are_analysed-set_value uri es w new parts.1))
+pub AreReady-set_value : (encoding : Encoding) (d : Dialect) (uri : List ℕ) (es : List Entry) (w : HeldDocument) → IsReady encoding d w → AreReady encoding d es → AreReady encoding d (set_value (is_uri uri) es w)
+AreReady-set_value encoding d uri [] w new all = all
+AreReady-set_value encoding d uri (e ∷ es) w new all =
+    ready_either encoding d (is_uri uri e.0) ((e.0, w) ∷ es) (e ∷ set_value (is_uri uri) es w) (new, all.1) (all.0, AreReady-set_value encoding d uri es w new all.1)
 
 -- ---- a removal
 
@@ -168,17 +136,10 @@ documents_of-remove_entry uri (e ∷ es) is =
     removed uri (is_uri uri e.0) e es (remove_entry (is_uri uri) es) (without_document uri (documents_of es))
     (none_goes uri es) (documents_of-remove_entry uri es) refl is
 
-pub AreUnder-remove_entry : (encoding : Encoding) (d : Dialect) (uri : List ℕ) (es : List Entry) → AreUnder encoding d es → AreUnder encoding d (remove_entry (is_uri uri) es)
-AreUnder-remove_entry encoding d uri [] all = all
-AreUnder-remove_entry encoding d uri (e ∷ es) all =
-    under_either encoding d (is_uri uri e.0) es (e ∷ remove_entry (is_uri uri) es) all.1 (all.0, AreUnder-remove_entry encoding d uri es all.1)
-
-pub are_analysed-remove_entry : (uri : List ℕ) (es : List Entry) → are_analysed es ≡ true → are_analysed (remove_entry (is_uri uri) es) ≡ true
-are_analysed-remove_entry uri [] all = all
-are_analysed-remove_entry uri (e ∷ es) all =
-    let parts = and_parts e.1.analysed (are_analysed es) all in
-    analysed_either (is_uri uri e.0) es (e ∷ remove_entry (is_uri uri) es) parts.1
-    (and_from e.1.analysed (are_analysed (remove_entry (is_uri uri) es)) parts.0 (are_analysed-remove_entry uri es parts.1))
+pub AreReady-remove_entry : (encoding : Encoding) (d : Dialect) (uri : List ℕ) (es : List Entry) → AreReady encoding d es → AreReady encoding d (remove_entry (is_uri uri) es)
+AreReady-remove_entry encoding d uri [] all = all
+AreReady-remove_entry encoding d uri (e ∷ es) all =
+    ready_either encoding d (is_uri uri e.0) es (e ∷ remove_entry (is_uri uri) es) all.1 (all.0, AreReady-remove_entry encoding d uri es all.1)
 
 -- ---- the change of an open document
 

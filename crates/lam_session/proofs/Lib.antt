@@ -1,9 +1,13 @@
+pub mod ReplyLemmas
+pub mod HoverLaws
+pub mod DerivationLaws
+pub mod QuestionLaws
+pub mod MethodLemmas
 pub mod Plain
 pub mod EntryLemmas
 pub mod ChangeSteps
 pub mod AloneRuns
 pub mod OneAnswer
 pub mod Values
-pub mod AskSteps
 pub mod Messages
 pub mod FaultMessages

@@ -1,49 +1,31 @@
--- Each message has an answer, and one alone, but for which derivation is given; so has each list of messages.
-use Rattle.std.proofs.Common.{◌≡◌, ℕ, ℤ, List, [], ◌∷◌, map, Option, None, Some, refl, sym, ap, subst, ◌∙◌}
+-- Each message has an answer, and one alone, but for replies that may vary; so has each list of messages.
+use Rattle.std.proofs.Common.{◌≡◌, inl, inr, ℕ, ℤ, List, [], ◌∷◌, map, Option, None, Some, refl, sym, ap, subst, ◌∙◌}
 use Rattle.serde_json.specs.Data.{Data}
-use Rattle.lam_rpc.specs.Fields.{asked_position, named_uri, listed_changes}
+use Rattle.lam_rpc.specs.Fields.{named_uri, listed_changes}
 use Rattle.lam_rpc.specs.Kind.{Message, request, notice, reply, unreadable, invalid}
-use Rattle.lam_rpc.specs.Reply.{result_reply}
-use Rattle.lam_rules.specs.Texts.{text as text_of_type}
-use Rattle.lam_rules.specs.declared.rules.Dialect.{Dialect}
-use Rattle.lam_text.specs.declared.places.Position.{Position}
 use Rattle.lam_text.specs.Edits.{Edit}
-use Rattle.lam_text.specs.Positions.{offset_of}
-use Rattle.lam_query.specs.Sizes.{span_of_place}
-use Rattle.lam_query.specs.Hovers.{Shown}
-use Rattle.lam_query.specs.Derivations.{Derivation as Derived}
-use Rattle.lam_query.specs.Analyses.{IsShownIn, IsDerivedIn}
-use Rattle.lam_query.proofs.OneAnswer.{one_hover}
-use Rattle.lam_query.proofs.SomeAnswers.{some_faults, one_faults, some_hover, some_derivation}
+use Rattle.lam_query.proofs.SomeAnswers.{some_faults, one_faults}
 use Rattle.lam_session.specs.declared.states.Life.{Life}
 use Rattle.lam_session.specs.declared.states.Life.TheVariants.{Fresh, Running, Down, Over}
 use Rattle.lam_session.specs.declared.methods.RequestMethod.{RequestMethod}
-use Rattle.lam_session.specs.declared.methods.RequestMethod.TheVariants.{Initialize, Shutdown, Hover, Derivation, UnknownRequest}
+use Rattle.lam_session.specs.declared.methods.RequestMethod.TheVariants.{Initialize, Shutdown, Ask, Unknown as UnknownRequest}
 use Rattle.lam_session.specs.declared.methods.NoticeMethod.{NoticeMethod}
-use Rattle.lam_session.specs.declared.methods.NoticeMethod.TheVariants.{Exit, DidOpen, DidChange, DidClose, UnknownNotice}
+use Rattle.lam_session.specs.declared.methods.NoticeMethod.TheVariants.{Exit, DidOpen, DidChange, DidClose, Unknown as UnknownNotice}
 use Rattle.lam_session.specs.Diagnostics.{diagnostics}
 use Rattle.lam_session.specs.Documents.{OpenDocument, open_text, with_document}
 use Rattle.lam_session.specs.Does.{Does, Ignores}
 use Rattle.lam_session.specs.Methods.{request_method, notice_method}
-use Rattle.lam_session.specs.OneAnswer.{AreAlike, same, two_derivations, HasOneAnswer}
-use Rattle.lam_session.specs.Questions.{Question, IsHoverValue, IsDerivationValue, AnswersOf, AsksOpen, AsksAs}
-use Rattle.lam_session.specs.Shown.{hover_value, derivation_value}
-use Rattle.lam_session.specs.State.{State}
+use Rattle.lam_session.specs.OneAnswer.{AreAlike, same, both_may_vary, HasOneAnswer}
+use Rattle.lam_session.specs.Asked.{Place, asked_place, asked_at}
+use Rattle.lam_session.specs.Questions.{RepliesOpen, RepliesAt, Asks}
+use Rattle.lam_session.specs.Refusals.{refused}
+use Rattle.lam_session.specs.declared.questions.Question.{Question}
+use Rattle.lam_session.specs.declared.refusals.Refusal.TheVariants.{InvalidParams, DocumentNotOpen}
+use Rattle.lam_session.proofs.QuestionLaws.{laws}
+use Rattle.lam_session.specs.State.{State, open_in}
 use Rattle.lam_session.specs.Step.{Serves, Awaits, Requested, Heeds, Passes, Noticed, Receives, ReceivesIn, Steps}
 use Rattle.lam_session.specs.Sync.{Holds, published, OpensAs, ChangesText, ChangesAs, ClosesOpen, ClosesAs, opened_text, given_version}
 use Rattle.lam_session.specs.Runs.{Exchange, Runs, AnswerAlike, both_end, both_go_on}
-
--- where a derivation is given, a type is shown; and none where none is
-
-shown_of_derived : (text : List ℕ) (offset : ℕ) (derived : Derived) (d : Dialect) → IsDerivedIn text offset (Some derived) d → (shown : Shown) × IsShownIn text offset (Some shown) d
-shown_of_derived text offset derived d h =
-    let a = h.answer in (
-      record { text = text_of_type a.type; span = span_of_place h.commands a.number },
-      record { commands = h.commands; are_commands = h.are_commands; answer = (a.number, a.type, a.typed, refl, refl) },
-    )
-
-nothing_derived : (text : List ℕ) (offset : ℕ) (d : Dialect) → IsDerivedIn text offset None d → IsShownIn text offset None d
-nothing_derived text offset d h = record { commands = h.commands; are_commands = h.are_commands; answer = h.answer }
 
 module _ (s : State) (m : Message) where
   -- a case of a step holds of some values and a state, and any two that it holds of are alike
@@ -61,91 +43,65 @@ module _ (s : State) (m : Message) where
 
   -- ---- requests
 
-  hover_one : (id : Data) (position : Position) (text : List ℕ) → IsOne (AnswersOf (IsHoverValue s.encoding s.dialect) s id position text)
-  hover_one id position text =
-      let offset = offset_of s.encoding text position in
-      let found = some_hover text offset s.dialect in
+  -- two replies to a question
+  alike_open : (question : Question) (id params : Data) (name : List ℕ) (place : Place) (found : Option (List ℕ)) (one other : Data)
+      → m ≡ request id name params → request_method name ≡ Ask question → asked_place question params ≡ Some place → open_text place.uri s.documents ≡ found
+      → RepliesOpen question (open_in s) id params place found one → RepliesOpen question (open_in s) id params place found other → AreAlike s m (one ∷ []) (other ∷ [])
+  alike_open question id params name place None one other asked meant named is_open a b = same (ap (λ d. d ∷ []) (a ∙ sym b))
+  alike_open question id params name place (Some text) one other asked meant named is_open a b =
+      let asked_about = asked_at (open_in s) params place text in
+      elim ((laws question).alike asked_about id one other a b) [
+        | inl is ↦ same (ap (λ d. d ∷ []) is)
+        | inr vary ↦ both_may_vary (record {
+          id = id;
+          method = name;
+          params = params;
+          asked = asked;
+          question = question;
+          meant = meant;
+          place = place;
+          named = named;
+          text = text;
+          open_as = is_open;
+          one = one;
+          varies = vary.0;
+          replied = refl;
+          other = other;
+          other_varies = vary.1;
+          other_replied = refl;
+        })
+      ]
+
+  alike_at : (question : Question) (id params : Data) (name : List ℕ) (place : Option Place) (one other : Data) → m ≡ request id name params → request_method name ≡ Ask question → asked_place question params ≡ place
+      → RepliesAt question (open_in s) id params place one → RepliesAt question (open_in s) id params place other → AreAlike s m (one ∷ []) (other ∷ [])
+  alike_at question id params name None one other asked meant named a b = same (ap (λ d. d ∷ []) (a ∙ sym b))
+  alike_at question id params name (Some place) one other asked meant named a b = alike_open question id params name place (open_text place.uri s.documents) one other asked meant named refl a b
+
+  some_open : (question : Question) (id params : Data) (place : Place) (found : Option (List ℕ)) → (reply : Data) × RepliesOpen question (open_in s) id params place found reply
+  some_open question id params place None = (refused id DocumentNotOpen, refl)
+  some_open question id params place (Some text) = (laws question).some (asked_at (open_in s) params place text) id
+
+  some_at : (question : Question) (id params : Data) (place : Option Place) → (reply : Data) × RepliesAt question (open_in s) id params place reply
+  some_at question id params None = (refused id InvalidParams, refl)
+  some_at question id params (Some place) = some_open question id params place (open_text place.uri s.documents)
+
+  asks_one : (question : Question) (id params : Data) (name : List ℕ) → m ≡ request id name params → request_method name ≡ Ask question → IsOne (Asks question s id params)
+  asks_one question id params name asked meant =
+      let found = some_at question id params (asked_place question params) in
       record {
-        values = result_reply id (hover_value s.encoding text found.0) ∷ [];
+        values = found.0 ∷ [];
         next = s;
-        holds = record { value = hover_value s.encoding text found.0; right = (found.0, found.1, refl); does = (refl, refl) };
+        holds = record { reply = found.0; replies = found.1; does = (refl, refl) };
         alone = λ sent others after later h k.
-            let shown = one_hover text offset h.right.0 k.right.0 s.dialect h.right.1 k.right.1 in
-            let values : h.value ≡ k.value = h.right.2 ∙ ap (hover_value s.encoding text) shown ∙ sym k.right.2 in
-            (same (h.does.0 ∙ ap (λ v. result_reply id v ∷ []) values ∙ sym k.does.0), h.does.1 ∙ sym k.does.1);
+            let alike = alike_at question id params name (asked_place question params) h.reply k.reply asked meant refl h.replies k.replies in
+            let told = subst (λ (v : List Data). AreAlike s m v (k.reply ∷ [])) (sym h.does.0) alike in
+            (subst (λ (v : List Data). AreAlike s m sent v) (sym k.does.0) told, h.does.1 ∙ sym k.does.1);
       }
-
-  -- a request for a derivation
-  record Asked (id : Data) (params : Data) : Type 0 where
-    method : List ℕ
-    asked : m ≡ request id method params
-    meant : request_method method ≡ Derivation
-
-  derivations_alike : (id params : Data) (uri text : List ℕ) (position : Position) (one other : Option Derived) (values sent : List Data)
-      → Asked id params → named_uri params ≡ Some uri → asked_position params ≡ Some position → open_text uri s.documents ≡ Some text
-      → IsDerivedIn text (offset_of s.encoding text position) one s.dialect → IsDerivedIn text (offset_of s.encoding text position) other s.dialect
-      → values ≡ result_reply id (derivation_value s.encoding text one) ∷ [] → sent ≡ result_reply id (derivation_value s.encoding text other) ∷ [] → AreAlike s m values sent
-  derivations_alike id params uri text position None None values sent asks named placed is_open a b va vb = same (va ∙ sym vb)
-  derivations_alike id params uri text position (Some one) (Some other) values sent asks named placed is_open a b va vb = two_derivations (record {
-    id = id;
-    method = asks.method;
-    params = params;
-    asked = asks.asked;
-    meant = asks.meant;
-    uri = uri;
-    named = named;
-    position = position;
-    placed = placed;
-    text = text;
-    open_as = is_open;
-    one = one;
-    derives = a;
-    replied = va;
-    other = other;
-    other_derives = b;
-    other_replied = vb;
-  })
-  derivations_alike id params uri text position None (Some other) values sent asks named placed is_open a b va vb =
-      let offset = offset_of s.encoding text position in
-      let shown = shown_of_derived text offset other s.dialect b in
-      let clash : None ≡ Some shown.0 = one_hover text offset None (Some shown.0) s.dialect (nothing_derived text offset s.dialect a) shown.1 in absurd cc
-  derivations_alike id params uri text position (Some one) None values sent asks named placed is_open a b va vb =
-      let offset = offset_of s.encoding text position in
-      let shown = shown_of_derived text offset one s.dialect a in
-      let clash : None ≡ Some shown.0 = one_hover text offset None (Some shown.0) s.dialect (nothing_derived text offset s.dialect b) shown.1 in absurd cc
-
-  derivation_one : (id params : Data) (uri text : List ℕ) (position : Position) → Asked id params → named_uri params ≡ Some uri → asked_position params ≡ Some position → open_text uri s.documents ≡ Some text
-      → IsOne (AnswersOf (IsDerivationValue s.encoding s.dialect) s id position text)
-  derivation_one id params uri text position asks named placed is_open =
-      let found = some_derivation text (offset_of s.encoding text position) s.dialect in
-      record {
-        values = result_reply id (derivation_value s.encoding text found.0) ∷ [];
-        next = s;
-        holds = record { value = derivation_value s.encoding text found.0; right = (found.0, found.1, refl); does = (refl, refl) };
-        alone = λ sent others after later h k. (
-          derivations_alike id params uri text position h.right.0 k.right.0 sent others asks named placed is_open h.right.1 k.right.1
-              (h.does.0 ∙ ap (λ v. result_reply id v ∷ []) h.right.2) (k.does.0 ∙ ap (λ v. result_reply id v ∷ []) k.right.2),
-          h.does.1 ∙ sym k.does.1,
-        );
-      }
-
-  asks_open_one : (question : Question) (id : Data) (position : Position) (found : Option (List ℕ)) → ((text : List ℕ) → found ≡ Some text → IsOne (AnswersOf question s id position text)) → IsOne (AsksOpen question s id position found)
-  asks_open_one question id position None one = does_one _ _
-  asks_open_one question id position (Some text) one = one text refl
-
-  asks_one : (question : Question) (id : Data) (position : Option Position) (named : Option (List ℕ))
-      → ((p : Position) (uri text : List ℕ) → position ≡ Some p → named ≡ Some uri → open_text uri s.documents ≡ Some text → IsOne (AnswersOf question s id p text)) → IsOne (AsksAs question s id position named)
-  asks_one question id None named one = does_one _ _
-  asks_one question id (Some position) None one = does_one _ _
-  asks_one question id (Some position) (Some uri) one = asks_open_one question id position (open_text uri s.documents) (λ text is. one position uri text refl refl is)
 
   serves_one : (id : Data) (name : List ℕ) (method : RequestMethod) (params : Data) → m ≡ request id name params → request_method name ≡ method → IsOne (Serves s id method params)
   serves_one id name Initialize params asked meant = does_one _ _
   serves_one id name Shutdown params asked meant = does_one _ _
-  serves_one id name Hover params asked meant = asks_one _ id (asked_position params) (named_uri params) (λ position uri text placed named is_open. hover_one id position text)
-  serves_one id name Derivation params asked meant =
-      asks_one _ id (asked_position params) (named_uri params)
-      (λ position uri text placed named is_open. derivation_one id params uri text position (record { method = name; asked = asked; meant = meant }) named placed is_open)
+  serves_one id name (Ask question) params asked meant = asks_one question id params name asked meant
   serves_one id name UnknownRequest params asked meant = does_one _ _
 
   awaits_one : (id : Data) (method : RequestMethod) (params : Data) → IsOne (Awaits s id method params)

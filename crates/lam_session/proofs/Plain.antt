@@ -1,8 +1,8 @@
 -- What a step sends holds no float where the request's id holds none: so its text is known.
 use Rattle.std.proofs.Common.{ℕ, ℤ, pos, negsuc, Option, None, Some, ◌≡◌, zero, suc, List, [], ◌∷◌, map, false, refl, subst, sym, arith}
 use Rattle.std.specs.List.{All}
-use Rattle.serde_json.specs.Data.{Data, Items, null, number, unsigned, no_items}
-use Rattle.serde_json.specs.View.{view, items_of}
+use Rattle.serde_json.specs.Data.{Data, Items, null, no_items}
+use Rattle.serde_json.specs.View.{view}
 use Rattle.serde_json.specs.Written.{has_float, items_have_float}
 use Rattle.serde_json.specs.declared.value.Value.{Value}
 use Rattle.lam_rpc.specs.Kind.{Message, request, notice, reply, unreadable, invalid, HasPlainId}
@@ -13,29 +13,26 @@ use Rattle.lam_text.specs.declared.units.Encoding.{Encoding}
 use Rattle.lam_text.specs.declared.units.Encoding.TheVariants.{Utf8, Utf16, Utf32}
 use Rattle.lam_text.specs.Edits.{Edit, text_after}
 use Rattle.lam_session.specs.declared.methods.RequestMethod.{RequestMethod}
-use Rattle.lam_session.specs.declared.methods.RequestMethod.TheVariants.{Initialize, Shutdown, Hover, Derivation, UnknownRequest}
+use Rattle.lam_session.specs.declared.methods.RequestMethod.TheVariants.{Initialize, Shutdown, Ask, Unknown as UnknownRequest}
 use Rattle.lam_session.specs.declared.methods.NoticeMethod.{NoticeMethod}
-use Rattle.lam_session.specs.declared.methods.NoticeMethod.TheVariants.{Exit, DidOpen, DidChange, DidClose, UnknownNotice}
+use Rattle.lam_session.specs.declared.methods.NoticeMethod.TheVariants.{Exit, DidOpen, DidChange, DidClose, Unknown as UnknownNotice}
 use Rattle.lam_session.specs.declared.refusals.Refusal.{Refusal}
 use Rattle.lam_session.specs.declared.refusals.Refusal.TheVariants.{UnreadableMessage, InvalidMessage, AlreadyInitialized, ShutDown, NotInitialized, MethodNotFound, InvalidParams, DocumentNotOpen}
 use Rattle.lam_session.specs.Initialize.{chosen, initialize_answer}
 use Rattle.lam_session.specs.Methods.{request_method, notice_method}
 use Rattle.lam_session.specs.Refusals.{refused}
-use Rattle.lam_session.specs.State.{State}
-use Rattle.lam_rpc.specs.Fields.{asked_position, named_uri, listed_changes}
+use Rattle.lam_session.specs.State.{State, open_in}
+use Rattle.lam_rpc.specs.Fields.{named_uri, listed_changes}
 use Rattle.lam_session.specs.Does.{Does}
-use Rattle.lam_session.specs.Documents.{OpenDocument, open_text}
-use Rattle.lam_rules.specs.Types.{Typ}
-use Rattle.lam_rules.specs.declared.rules.Dialect.{Dialect}
-use Rattle.lam_text.specs.declared.places.Position.{Position}
+use Rattle.lam_session.specs.Documents.{OpenDocument, OpenDocuments, open_text}
 use Rattle.lam_query.specs.Faults.{Fault}
-use Rattle.lam_query.specs.Hovers.{Shown}
-use Rattle.lam_query.specs.Steps.{Conclusion, typing, subtyping, Step}
-use Rattle.lam_query.specs.Derivations.{Entry, Derivation as Derived}
-use Rattle.lam_session.specs.Shown.{hover_value, type_value, entry_value, conclusion_value, step_value, derivation_value}
-use Rattle.lam_session.specs.Questions.{Question, IsHoverValue, IsDerivationValue, AsksOpen, AsksAs}
+use Rattle.lam_session.specs.Asked.{Place, asked_place, asked_at}
+use Rattle.lam_session.specs.Questions.{RepliesOpen, RepliesAt, Asks}
+use Rattle.lam_session.specs.declared.questions.Question.{Question}
 use Rattle.lam_session.specs.Diagnostics.{diagnostics}
 use Rattle.lam_session.specs.Sync.{published, opened_text, given_version, Holds, OpensAs, ChangesText, ChangesAs, ClosesOpen, ClosesAs}
+use Rattle.lam_session.proofs.QuestionLaws.{laws}
+use Rattle.lam_session.proofs.ReplyLemmas.{refusal_plain}
 use Rattle.lam_session.specs.Step.{Heeds, Passes, Serves, Awaits, Requested, Noticed, Receives, ReceivesIn, Steps}
 
 -- no value of the list holds a float
@@ -44,14 +41,7 @@ NoFloats [] = Unit {0}
 NoFloats (d ∷ ds) = (has_float d ≡ false) × NoFloats ds
 
 refused_plain : (id : Data) (refusal : Refusal) → has_float id ≡ false → NoFloats (refused id refusal ∷ [])
-refused_plain id UnreadableMessage h = (rw h, tt)
-refused_plain id InvalidMessage h = (rw h, tt)
-refused_plain id AlreadyInitialized h = (rw h, tt)
-refused_plain id ShutDown h = (rw h, tt)
-refused_plain id NotInitialized h = (rw h, tt)
-refused_plain id MethodNotFound h = (rw h, tt)
-refused_plain id InvalidParams h = (rw h, tt)
-refused_plain id DocumentNotOpen h = (rw h, tt)
+refused_plain id refusal h = (refusal_plain id refusal h, tt)
 
 initialized_plain : (id : Data) (encoding : Encoding) → has_float id ≡ false → NoFloats (result_reply id (initialize_answer encoding) ∷ [])
 initialized_plain id Utf8 h = (rw h, tt)
@@ -61,63 +51,23 @@ initialized_plain id Utf32 h = (rw h, tt)
 does_plain : (values : List Data) (after : State) (sent : List Data) (next : State) → NoFloats values → Does values after sent next → NoFloats sent
 does_plain values after sent next h d = subst NoFloats (sym d.0) h
 
--- ---- answers about a place
+-- ---- questions
 
-hover_plain : (encoding : Encoding) (text : List ℕ) (shown : Option Shown) → has_float (hover_value encoding text shown) ≡ false
-hover_plain encoding text None = refl
-hover_plain encoding text (Some shown) = refl
+replies_open_plain : (question : Question) (held : OpenDocuments) (id params : Data) (place : Place) (found : Option (List ℕ)) (answer : Data) → has_float id ≡ false → RepliesOpen question held id params place found answer → has_float answer ≡ false
+replies_open_plain question held id params place None answer h r = subst (λ (d : Data). has_float d ≡ false) (sym r) (refusal_plain id DocumentNotOpen h)
+replies_open_plain question held id params place (Some text) answer h r = (laws question).plain (asked_at held params place text) id answer h r
 
-type_plain : (o : Option Typ) → has_float (type_value o) ≡ false
-type_plain None = refl
-type_plain (Some t) = refl
+replies_plain : (question : Question) (held : OpenDocuments) (id params : Data) (place : Option Place) (answer : Data) → has_float id ≡ false → RepliesAt question held id params place answer → has_float answer ≡ false
+replies_plain question held id params None answer h r = subst (λ (d : Data). has_float d ≡ false) (sym r) (refusal_plain id InvalidParams h)
+replies_plain question held id params (Some place) answer h r = replies_open_plain question held id params place (open_text place.uri held.documents) answer h r
 
-entries_plain : (es : List Entry) → items_have_float (items_of (map entry_value es)) ≡ false
-entries_plain [] = refl
-entries_plain (e ∷ es) = rw (type_plain e.type, entries_plain es) refl
-
-premises_plain : (numbers : List ℕ) → items_have_float (items_of (map (λ n. number (unsigned n)) numbers)) ≡ false
-premises_plain [] = refl
-premises_plain (n ∷ ns) = premises_plain ns
-
-conclusion_plain : (encoding : Encoding) (text premises : List ℕ) (c : Conclusion) → has_float (conclusion_value encoding text premises c) ≡ false
-conclusion_plain encoding text premises (typing rule span type) = rw (premises_plain premises) refl
-conclusion_plain encoding text premises (subtyping rule lower upper) = rw (premises_plain premises) refl
-
-step_list_plain : (encoding : Encoding) (text : List ℕ) (steps : List Step) → items_have_float (items_of (map (step_value encoding text) steps)) ≡ false
-step_list_plain encoding text [] = refl
-step_list_plain encoding text (s ∷ ss) = rw (conclusion_plain encoding text s.premises s.conclusion, step_list_plain encoding text ss) refl
-
-derivation_plain : (encoding : Encoding) (text : List ℕ) (derived : Option Derived) → has_float (derivation_value encoding text derived) ≡ false
-derivation_plain encoding text None = refl
-derivation_plain encoding text (Some d) = rw (entries_plain d.context, step_list_plain encoding text d.steps) refl
-
--- no value that answers the question holds a float
-abbrev IsPlain : Question → Type 0
-IsPlain question = (text : List ℕ) (offset : ℕ) (value : Data) → question text offset value → has_float value ≡ false
-
-hover_values_plain : (encoding : Encoding) (d : Dialect) → IsPlain (IsHoverValue encoding d)
-hover_values_plain encoding d text offset value h = subst (λ (v : Data). has_float v ≡ false) (sym h.2) (hover_plain encoding text h.0)
-
-derivation_values_plain : (encoding : Encoding) (d : Dialect) → IsPlain (IsDerivationValue encoding d)
-derivation_values_plain encoding d text offset value h = subst (λ (v : Data). has_float v ≡ false) (sym h.2) (derivation_plain encoding text h.0)
-
-answered_plain : (id value : Data) → has_float id ≡ false → has_float value ≡ false → NoFloats (result_reply id value ∷ [])
-answered_plain id value h k = (rw (h, k) refl, tt)
-
-asks_open_plain : (question : Question) → IsPlain question → (s : State) (id : Data) (position : Position) (found : Option (List ℕ)) (sent : List Data) (next : State) → has_float id ≡ false → AsksOpen question s id position found sent next → NoFloats sent
-asks_open_plain question plain s id position None sent next h d = does_plain _ _ sent next (refused_plain id DocumentNotOpen h) d
-asks_open_plain question plain s id position (Some text) sent next h d = does_plain _ _ sent next (answered_plain id d.value h (plain text _ d.value d.right)) d.does
-
-asks_plain : (question : Question) → IsPlain question → (s : State) (id : Data) (position : Option Position) (named : Option (List ℕ)) (sent : List Data) (next : State) → has_float id ≡ false → AsksAs question s id position named sent next → NoFloats sent
-asks_plain question plain s id None named sent next h d = does_plain _ _ sent next (refused_plain id InvalidParams h) d
-asks_plain question plain s id (Some position) None sent next h d = does_plain _ _ sent next (refused_plain id InvalidParams h) d
-asks_plain question plain s id (Some position) (Some uri) sent next h d = asks_open_plain question plain s id position (open_text uri s.documents) sent next h d
+asks_plain : (question : Question) (s : State) (id params : Data) (sent : List Data) (next : State) → has_float id ≡ false → Asks question s id params sent next → NoFloats sent
+asks_plain question s id params sent next h d = does_plain _ _ sent next (replies_plain question (open_in s) id params (asked_place question params) d.reply h d.replies, tt) d.does
 
 serves_plain : (s : State) (id : Data) (method : RequestMethod) (params : Data) (sent : List Data) (next : State) → has_float id ≡ false → Serves s id method params sent next → NoFloats sent
 serves_plain s id Initialize params sent next h d = does_plain _ _ sent next (refused_plain id AlreadyInitialized h) d
 serves_plain s id Shutdown params sent next h d = does_plain _ _ sent next (rw h, tt) d
-serves_plain s id Hover params sent next h d = asks_plain _ (hover_values_plain s.encoding s.dialect) s id (asked_position params) (named_uri params) sent next h d
-serves_plain s id Derivation params sent next h d = asks_plain _ (derivation_values_plain s.encoding s.dialect) s id (asked_position params) (named_uri params) sent next h d
+serves_plain s id (Ask question) params sent next h d = asks_plain question s id params sent next h d
 serves_plain s id UnknownRequest params sent next h d = does_plain _ _ sent next (refused_plain id MethodNotFound h) d
 
 awaits_plain : (s : State) (id : Data) (method : RequestMethod) (params : Data) (sent : List Data) (next : State) → has_float id ≡ false → Awaits s id method params sent next → NoFloats sent

@@ -18,12 +18,11 @@ pub record HeldDocument : Type 0 where
   pub version : Option ℤ
   pub analysed : Bool
 
--- the open documents, the unit of their columns, the rules in force, and whether of every text an analysis is at hand
+-- the open documents, the unit of their columns and the rules in force
 pub record OpenDocuments : Type 0 where
   pub encoding : Encoding
   pub dialect : Dialect
   pub documents : List OpenDocument
-  pub analysed : Bool
 
 -- the text of the document with this uri
 abbrev pub open_text : List ℕ → List OpenDocument → Option (List ℕ)

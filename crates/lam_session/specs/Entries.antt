@@ -1,5 +1,5 @@
 -- How the documents stand in the session's map: for its model alone.
-use Rattle.std.specs.Prelude.{◌≡◌, Bool, true, ◌&&◌, List, [], ◌∷◌, map, String, string_bytes}
+use Rattle.std.specs.Prelude.{◌≡◌, true, List, map, String, string_bytes}
 use Rattle.std.specs.List.{AllByRecursion}
 use Rattle.std.specs.declared.alloc.Global.{Global}
 use Rattle.lam_rules.specs.declared.rules.Dialect.{Dialect}
@@ -14,11 +14,12 @@ document_of e = record { uri = string_bytes e.0; text = e.1.text; version = e.1.
 abbrev pub documents_of : List (String Global × HeldDocument) → List OpenDocument
 documents_of entries = map document_of entries
 
--- of every text an analysis is at hand
-abbrev pub are_analysed : List (String Global × HeldDocument) → Bool
-are_analysed [] = true
-are_analysed (e ∷ es) = e.1.analysed && are_analysed es
+-- the document counts its columns in this unit and stands under these rules, and an analysis of its text is at hand
+pub record IsReady (encoding : Encoding) (dialect : Dialect) (document : HeldDocument) : Type 0 where
+  pub encoding_is : document.encoding ≡ encoding
+  pub dialect_is : document.dialect ≡ dialect
+  pub analysed : document.analysed ≡ true
 
--- every text counts its columns in this unit and stands under these rules
-abbrev pub AreUnder : Encoding → Dialect → List (String Global × HeldDocument) → Type 0
-AreUnder encoding dialect entries = AllByRecursion (λ e. (e.1.encoding ≡ encoding) × (e.1.dialect ≡ dialect)) entries
+-- so does each document of these entries
+abbrev pub AreReady : Encoding → Dialect → List (String Global × HeldDocument) → Type 0
+AreReady encoding dialect entries = AllByRecursion (λ e. IsReady encoding dialect e.1) entries

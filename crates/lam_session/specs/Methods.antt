@@ -1,25 +1,39 @@
 -- The methods that are served, by their names; any other is unknown.
-use Rattle.std.specs.Prelude.{ℕ, List, codes, if◌then◌else◌}
+use Rattle.std.specs.Prelude.{ℕ, List, [], ◌∷◌, codes, if◌then◌else◌}
 use Rattle.std.specs.Str.{bytes_eq}
+use Rattle.lam_session.specs.declared.questions.Question.TheVariants as question
 use Rattle.lam_session.specs.declared.methods.RequestMethod.{RequestMethod}
-use Rattle.lam_session.specs.declared.methods.RequestMethod.TheVariants.{Initialize, Shutdown, Hover, Derivation, UnknownRequest}
+use Rattle.lam_session.specs.declared.methods.RequestMethod.TheVariants as request
 use Rattle.lam_session.specs.declared.methods.NoticeMethod.{NoticeMethod}
-use Rattle.lam_session.specs.declared.methods.NoticeMethod.TheVariants.{Exit, DidOpen, DidChange, DidClose, UnknownNotice}
+use Rattle.lam_session.specs.declared.methods.NoticeMethod.TheVariants as notice
+
+-- the method of the first pair with this name; where there is none, it is unknown
+abbrev pub method_named : {M : Type 0} → M → List ℕ → List (List ℕ × M) → M
+method_named unknown name [] = unknown
+method_named unknown name (p ∷ ps) = if bytes_eq name p.0 then p.1 else method_named unknown name ps
+
+-- the requests by their names
+abbrev pub requests : List (List ℕ × RequestMethod)
+requests =
+    (codes "initialize", request.Initialize)
+    ∷ (codes "shutdown", request.Shutdown)
+    ∷ (codes "textDocument/hover", request.Ask question.Hover)
+    ∷ (codes "fullsub/derivation", request.Ask question.Derivation)
+    ∷ []
 
 -- the request that a name means
 abbrev pub request_method : List ℕ → RequestMethod
-request_method name =
-    if bytes_eq name (codes "initialize") then Initialize
-    else (if bytes_eq name (codes "shutdown") then Shutdown
-    else (if bytes_eq name (codes "textDocument/hover") then Hover
-    else (if bytes_eq name (codes "fullsub/derivation") then Derivation
-    else UnknownRequest)))
+request_method name = method_named request.Unknown name requests
+
+-- the notices by their names
+abbrev pub notices : List (List ℕ × NoticeMethod)
+notices =
+    (codes "exit", notice.Exit)
+    ∷ (codes "textDocument/didOpen", notice.DidOpen)
+    ∷ (codes "textDocument/didChange", notice.DidChange)
+    ∷ (codes "textDocument/didClose", notice.DidClose)
+    ∷ []
 
 -- the notice that a name means
 abbrev pub notice_method : List ℕ → NoticeMethod
-notice_method name =
-    if bytes_eq name (codes "exit") then Exit
-    else (if bytes_eq name (codes "textDocument/didOpen") then DidOpen
-    else (if bytes_eq name (codes "textDocument/didChange") then DidChange
-    else (if bytes_eq name (codes "textDocument/didClose") then DidClose
-    else UnknownNotice)))
+notice_method name = method_named notice.Unknown name notices

@@ -1,59 +1,44 @@
--- What the questions about a place in a document are answered with. A question whose params have not the shape is refused first,
+-- What the questions about a place in a document are answered with. A question whose params lack what it needs is refused first,
 -- then one about a document that is not open.
 use Rattle.std.specs.Prelude.{◌≡◌, ℕ, List, [], ◌∷◌, Option, None, Some}
 use Rattle.serde_json.specs.Data.{Data}
-use Rattle.lam_rpc.specs.Fields.{asked_position, named_uri}
-use Rattle.lam_rpc.specs.Reply.{result_reply}
-use Rattle.lam_rules.specs.declared.rules.Dialect.{Dialect}
-use Rattle.lam_text.specs.declared.units.Encoding.{Encoding}
-use Rattle.lam_text.specs.declared.places.Position.{Position}
-use Rattle.lam_text.specs.Positions.{offset_of}
-use Rattle.lam_query.specs.Hovers.{Shown}
-use Rattle.lam_query.specs.Derivations.{Derivation}
-use Rattle.lam_query.specs.Analyses.{IsShownIn, IsDerivedIn}
-use Rattle.lam_session.specs.Documents.{open_text}
-use Rattle.lam_session.specs.Does.{Does, Refuses}
-use Rattle.lam_session.specs.Shown.{hover_value, derivation_value}
-use Rattle.lam_session.specs.State.{State}
-use Rattle.lam_session.specs.declared.questions.Question.{Question as Asked}
-use Rattle.lam_session.specs.declared.questions.Question.TheVariants.{Hover, Derivation as Why}
+use Rattle.lam_session.specs.Asked.{Place, asked_place, Asked, asked_at}
+use Rattle.lam_session.specs.Derivations.{IsDerivationReply, GivesDerivation}
+use Rattle.lam_session.specs.Documents.{OpenDocuments, open_text}
+use Rattle.lam_session.specs.Does.{Does}
+use Rattle.lam_session.specs.Hovers.{IsHoverReply}
+use Rattle.lam_session.specs.Refusals.{refused}
+use Rattle.lam_session.specs.State.{State, open_in}
+use Rattle.lam_session.specs.declared.questions.Question.{Question}
+use Rattle.lam_session.specs.declared.questions.Question.TheVariants.{Hover, Derivation}
 use Rattle.lam_session.specs.declared.refusals.Refusal.TheVariants.{InvalidParams, DocumentNotOpen}
 
--- whether a value answers a question about an offset of a text
-abbrev pub Question : Type 1
-Question = List ℕ → (offset : ℕ) → Data → Type 0
+-- the reply to the request with this id answers the question
+abbrev pub IsAnswerTo : Question → Asked → Data → Data → Type 0
+IsAnswerTo Hover a id reply = IsHoverReply a.encoding a.dialect a.text a.offset id reply
+IsAnswerTo Derivation a id reply = IsDerivationReply a.encoding a.dialect a.text a.offset id reply
 
--- the least type of the innermost term round the offset
-abbrev pub IsHoverValue : Encoding → Dialect → Question
-IsHoverValue encoding d text offset value =
-    (shown : Option Shown) × IsShownIn text offset shown d × (value ≡ hover_value encoding text shown)
+-- the reply is one of several that answer the question; only a derivation can be
+abbrev pub MayVary : Question → Asked → Data → Data → Type 0
+MayVary Derivation a id reply = GivesDerivation a.encoding a.dialect a.text a.offset id reply
+MayVary _ a id reply = ⊥
 
--- why it has that type: any proof that ends in the type shown
-abbrev pub IsDerivationValue : Encoding → Dialect → Question
-IsDerivationValue encoding d text offset value =
-    (derived : Option Derivation) × IsDerivedIn text offset derived d × (value ≡ derivation_value encoding text derived)
+-- the reply to a question about a place in a document, whose text this is; where it is not open, the question is refused
+abbrev pub RepliesOpen : Question → OpenDocuments → Data → Data → Place → Option (List ℕ) → Data → Type 0
+RepliesOpen question held id params place None reply = reply ≡ refused id DocumentNotOpen
+RepliesOpen question held id params place (Some text) reply = IsAnswerTo question (asked_at held params place text) id reply
 
--- what answers each
-abbrev pub IsAnswerTo : Asked → Encoding → Dialect → Question
-IsAnswerTo Hover = IsHoverValue
-IsAnswerTo Why = IsDerivationValue
+-- the reply to a question about this place; where the params name none, the question is refused
+abbrev pub RepliesAt : Question → OpenDocuments → Data → Data → Option Place → Data → Type 0
+RepliesAt question held id params None reply = reply ≡ refused id InvalidParams
+RepliesAt question held id params (Some place) reply = RepliesOpen question held id params place (open_text place.uri held.documents) reply
 
--- a value that answers the question about the text as it now is, and nothing changes
-pub record AnswersOf (question : Question) (s : State) (id : Data) (position : Position) (text : List ℕ) (sent : List Data) (next : State) : Type 0 where
-  pub value : Data
-  pub right : question text (offset_of s.encoding text position) value
-  pub does : Does (result_reply id value ∷ []) s sent next
+-- the reply to a question with these params
+abbrev pub Replies : Question → OpenDocuments → Data → Data → Data → Type 0
+Replies question held id params reply = RepliesAt question held id params (asked_place question params) reply
 
--- a question about a position in a document, whose text this is; refused where it is not open
-abbrev pub AsksOpen : Question → State → Data → Position → Option (List ℕ) → List Data → State → Type 0
-AsksOpen question s id position None = Refuses s id DocumentNotOpen
-AsksOpen question s id position (Some text) = AnswersOf question s id position text
-
--- a question about this position in the document of this uri; refused where the params lack either
-abbrev pub AsksAs : Question → State → Data → Option Position → Option (List ℕ) → List Data → State → Type 0
-AsksAs question s id (Some position) (Some uri) = AsksOpen question s id position (open_text uri s.documents)
-AsksAs question s id _ _ = Refuses s id InvalidParams
-
--- a question with these params
-abbrev pub Asks : Question → State → Data → Data → List Data → State → Type 0
-Asks question s id params = AsksAs question s id (asked_position params) (named_uri params)
+-- a question is replied to, and nothing changes
+pub record Asks (question : Question) (s : State) (id params : Data) (sent : List Data) (next : State) : Type 0 where
+  pub reply : Data
+  pub replies : Replies question (open_in s) id params reply
+  pub does : Does (reply ∷ []) s sent next

@@ -1,12 +1,12 @@
 -- What a session knows between two messages.
-use Rattle.std.specs.Prelude.{◌≡◌, ℕ, List, [], Bool, true, Option, Some, None}
+use Rattle.std.specs.Prelude.{ℕ, List, [], Bool, Option, Some, None}
 use Rattle.lam_rules.specs.declared.rules.Dialect.{Dialect}
 use Rattle.lam_session.specs.declared.states.Config.{Config}
 use Rattle.lam_session.specs.declared.states.Life.{Life}
 use Rattle.lam_session.specs.declared.states.Life.TheVariants.{Fresh, Running, Down, Over}
 use Rattle.lam_text.specs.declared.units.Encoding.{Encoding}
 use Rattle.lam_text.specs.declared.units.Encoding.TheVariants.{Utf16}
-use Rattle.lam_session.specs.Documents.{OpenDocument}
+use Rattle.lam_session.specs.Documents.{OpenDocument, OpenDocuments}
 
 -- the rules that a session is set to
 abbrev pub dialect_of : Config → Dialect
@@ -18,6 +18,10 @@ pub record State : Type 0 where
   pub encoding : Encoding
   pub dialect : Dialect
   pub documents : List OpenDocument
+
+-- the documents that are open in a state
+abbrev pub open_in : State → OpenDocuments
+open_in s = record { encoding = s.encoding; dialect = s.dialect; documents = s.documents }
 
 -- before the first message
 abbrev pub fresh : Dialect → State
@@ -34,12 +38,3 @@ ended_status (Over status) = Some status
 pub record Snapshot : Type 0 where
   pub state : State
   pub gave_up : Bool
-
--- a session gives up only while it lives
-abbrev pub IsWhole : Life → Bool → Type 0
-IsWhole life gave_up = gave_up ≡ true → ended_status life ≡ None
-
--- a state, and whether of the text of every open document an analysis is at hand
-pub record Standing : Type 0 where
-  pub state : State
-  pub analysed : Bool

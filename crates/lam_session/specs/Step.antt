@@ -1,5 +1,5 @@
--- What one message does: the values sent back, in order, and the state after it. A method that is
--- served is a case of its own; what is not served falls under the unknown ones.
+-- What one message does: the values sent back, in order, and the state after it. All questions about a
+-- place in a document are one case, and `Questions` says what answers each; what is not served falls under the unknown methods.
 use Rattle.std.specs.Prelude.{◌≡◌, ℕ, List, [], ◌∷◌, true, false, None}
 use Rattle.serde_json.specs.Data.{Data, null}
 use Rattle.lam_rpc.specs.Kind.{Message, request, notice, reply, unreadable, invalid}
@@ -7,14 +7,14 @@ use Rattle.lam_rpc.specs.Reply.{result_reply}
 use Rattle.lam_session.specs.declared.states.Life.{Life}
 use Rattle.lam_session.specs.declared.states.Life.TheVariants.{Fresh, Running, Down, Over}
 use Rattle.lam_session.specs.declared.methods.RequestMethod.{RequestMethod}
-use Rattle.lam_session.specs.declared.methods.RequestMethod.TheVariants.{Initialize, Shutdown, Hover, Derivation, UnknownRequest}
+use Rattle.lam_session.specs.declared.methods.RequestMethod.TheVariants.{Initialize, Shutdown, Ask, Unknown as UnknownRequest}
 use Rattle.lam_session.specs.declared.methods.NoticeMethod.{NoticeMethod}
-use Rattle.lam_session.specs.declared.methods.NoticeMethod.TheVariants.{Exit, DidOpen, DidChange, DidClose, UnknownNotice}
+use Rattle.lam_session.specs.declared.methods.NoticeMethod.TheVariants.{Exit, DidOpen, DidChange, DidClose, Unknown as UnknownNotice}
 use Rattle.lam_session.specs.declared.refusals.Refusal.TheVariants.{UnreadableMessage, InvalidMessage, AlreadyInitialized, ShutDown, NotInitialized, MethodNotFound}
 use Rattle.lam_session.specs.Does.{Does, Ignores, Refuses}
 use Rattle.lam_session.specs.Initialize.{chosen, initialize_answer}
 use Rattle.lam_session.specs.Methods.{request_method, notice_method}
-use Rattle.lam_session.specs.Questions.{IsHoverValue, IsDerivationValue, Asks}
+use Rattle.lam_session.specs.Questions.{Asks}
 use Rattle.lam_session.specs.Sync.{Opens, Changes, Closes}
 use Rattle.lam_session.specs.State.{State, Snapshot, ended_status}
 
@@ -36,8 +36,7 @@ Ends s status = Does [] (record s { life = Over status })
 abbrev pub Serves : State → Data → RequestMethod → Data → List Data → State → Type 0
 Serves s id Initialize params = Refuses s id AlreadyInitialized
 Serves s id Shutdown params = ShutsDown s id
-Serves s id Hover params = Asks (IsHoverValue s.encoding s.dialect) s id params
-Serves s id Derivation params = Asks (IsDerivationValue s.encoding s.dialect) s id params
+Serves s id (Ask question) params = Asks question s id params
 Serves s id UnknownRequest params = Refuses s id MethodNotFound
 
 -- a request before the first `initialize`

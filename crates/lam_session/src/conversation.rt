@@ -1,32 +1,32 @@
 //! What a session and its client have said so far, and what each message adds.
-ghost use Rattle.std.specs.Prelude.{◌≡◌, ℕ, List, ◌∷◌, [], map, true, IfOk, IsSome, OnErr, None, Some};
+ghost use Rattle.std.specs.Prelude.{◌≡◌, ℕ, List, ◌∷◌, [], map, IfOk, IsSome, OnErr, None, Some};
 ghost use Rattle.serde_json.specs.View.{view};
 ghost use Rattle.lam_rpc.specs.Kind.{message_of};
-ghost use Rattle.lam_rpc.specs.Reply.{result_reply};
+ghost use Rattle.lam_session.specs.Does.{Does, Ignores, Refuses};
 ghost use Rattle.lam_session.specs.Documents.{open_text};
-ghost use Rattle.lam_session.specs.Refusals.{refused};
+ghost use Rattle.lam_session.specs.Questions.{Asks};
 ghost use Rattle.lam_session.specs.State.{fresh, ended_status};
+ghost use Rattle.lam_session.specs.Step.{Steps, Requested, Awaits, Noticed, Heeds, Passes, Serves, Ends, Initializes, ShutsDown, exit_status};
 ghost use Rattle.lam_session.specs.Sync.{Tells, Opens, Changes, ChangesText, Closes};
 ghost use Rattle.lam_session.specs.Told.{IsTold};
-ghost use Rattle.lam_session.specs.Questions.{IsAnswerTo, Asks};
-ghost use Rattle.lam_session.specs.Step.{Steps, Requested, Awaits, Noticed, Heeds, Passes, Serves, Ends, Initializes, ShutsDown, exit_status};
 
 use crate::diagnostics::diagnostics;
 use crate::documents::Documents;
 use crate::initialize::{chosen, initialize_answer};
 use crate::methods::{NoticeMethod, RequestMethod, notice_method, request_method};
-use crate::questions::{Question, answer_to};
+use crate::questions::{Question, reply_to};
 use crate::refusals::{Refusal, refused};
 use crate::states::Life;
 use crate::sync::{given_version, opened_text, published};
-use lam_rpc::{ChangesFault, Incoming, ok_reply, read_changes, read_position, read_uri};
+use lam_rpc::{ChangesFault, Incoming, ok_reply, read_changes, read_uri};
 use lam_rules::Dialect;
 use lam_text::{Change, Encoding};
 use serde_json::Value;
 use std::alloc::{AllocError, Global};
 use std::marker::Model;
 
-/// The life of a session, and the open documents.
+/// The life of a session, and the open documents. A message uses it up, and where memory suffices the next one comes
+/// back beside the values to send.
 #[derive(Drop)]
 pub struct Conversation {
     alloc: Global,
@@ -43,25 +43,22 @@ struct ToldChange {
 }
 
 impl Model for Conversation {
-    ghost use Rattle.lam_session.specs.State.{Standing};
+    ghost use Rattle.lam_session.specs.State.{State};
 
-    ghost Value = { Standing };
+    ghost Value = { State };
 
     ghost view = { λ c. record {
-      state = record {
-        life = c.life;
-        encoding = c.documents.encoding;
-        dialect = c.documents.dialect;
-        documents = c.documents.documents;
-      };
-      analysed = c.documents.analysed;
+      life = c.life;
+      encoding = c.documents.encoding;
+      dialect = c.documents.dialect;
+      documents = c.documents.documents;
     } };
 }
 
 impl Conversation {
     /// Before the first message.
     pub fn new(alloc: Global, dialect: Dialect) -> Conversation
-        ensures { result ≡ record { state = fresh dialect; analysed = true } }
+        ensures { result ≡ fresh dialect }
     {
         Conversation {
             alloc,
@@ -70,26 +67,20 @@ impl Conversation {
         }
     }
 
-    /// The program's status, once an `exit` came.
-    pub fn ended(&self) -> Option<u8>
-        ensures { result ≡ ended_status self.now.state.life }
+    /// How far the session has come.
+    pub fn life(&self) -> Life
+        ensures { result ≡ self.now.life }
     {
-        match self.life {
-            Life::Over(status) => Some(status),
-            _ => None,
-        }
+        self.life
     }
 
-    /// Does what a message asks. After an error it is not to be asked anything more.
-    pub fn receive(&mut self, incoming: Incoming) -> Result<Vec<Value>, AllocError>
-        requires { self.old.analysed ≡ true }
-        ensures steps { IfOk result (λ values. Steps self.old.state (message_of incoming) (map view values.items) self.new.state) }
-        ensures analysed { IfOk result (λ _. self.new.analysed ≡ true) }
-        ensures life { OnErr result (self.new.state.life ≡ self.old.state.life) }
-        ensures lives { OnErr result (ended_status self.old.state.life ≡ None) }
+    /// Does what a message asks.
+    pub fn receive(self, incoming: Incoming) -> Result<(Conversation, Vec<Value>), AllocError>
+        ensures steps { IfOk result (λ r. Steps self (message_of incoming) (map view r.1.items) r.0) }
+        ensures lives { OnErr result (ended_status self.life ≡ None) }
     {
-        if self.ended().is_some() {
-            return Ok(Vec::new(self.alloc));
+        if self.life.ended().is_some() {
+            return Ok(self.ignore());
         }
         match incoming {
             Incoming::Request { id, method, params } => {
@@ -100,193 +91,192 @@ impl Conversation {
                 let method = notice_method(method.as_str());
                 self.notice(method, params)
             }
-            Incoming::Reply => Ok(Vec::new(self.alloc)),
-            Incoming::Unreadable => refuse(self.alloc, Value::Null, Refusal::UnreadableMessage),
-            Incoming::Invalid => refuse(self.alloc, Value::Null, Refusal::InvalidMessage),
+            Incoming::Reply => Ok(self.ignore()),
+            Incoming::Unreadable => self.refuse(Value::Null, Refusal::UnreadableMessage),
+            Incoming::Invalid => self.refuse(Value::Null, Refusal::InvalidMessage),
         }
     }
 
+    /// Sends nothing.
+    fn ignore(self) -> (Conversation, Vec<Value>)
+        ensures { Ignores self (map view result.1.items) result.0 }
+    {
+        let values = Vec::new(self.alloc);
+        (self, values)
+    }
+
+    /// Sends one value.
+    fn send(self, value: Value) -> Result<(Conversation, Vec<Value>), AllocError>
+        ensures { IfOk result (λ r. Does (view value ∷ []) self (map view r.1.items) r.0) }
+    {
+        let values = vec![in self.alloc; value]?;
+        Ok((self, values))
+    }
+
+    fn refuse(self, id: Value, refusal: Refusal) -> Result<(Conversation, Vec<Value>), AllocError>
+        ensures { IfOk result (λ r. Refuses self (view id) refusal (map view r.1.items) r.0) }
+    {
+        let reply = refused(self.alloc, id, refusal)?;
+        self.send(reply)
+    }
+
     fn request(
-        &mut self,
+        self,
         id: Value,
         method: RequestMethod,
         params: &Value,
-    ) -> Result<Vec<Value>, AllocError>
-        requires { self.old.analysed ≡ true }
-        ensures steps { IfOk result (λ values. Requested self.old.state.life self.old.state (view id) method (view params.now) (map view values.items) self.new.state) }
-        ensures analysed { IfOk result (λ _. self.new.analysed ≡ true) }
-        ensures same { OnErr result (self.new ≡ self.old) }
+    ) -> Result<(Conversation, Vec<Value>), AllocError>
+        ensures { IfOk result (λ r. Requested self.life self (view id) method (view params.now) (map view r.1.items) r.0) }
     {
         match self.life {
             Life::Fresh => self.await_initialize(id, method, params),
             Life::Running => self.serve(id, method, params),
-            Life::Down => refuse(self.alloc, id, Refusal::ShutDown),
-            Life::Over(_) => Ok(Vec::new(self.alloc)),
+            Life::Down => self.refuse(id, Refusal::ShutDown),
+            Life::Over(_) => Ok(self.ignore()),
         }
     }
 
     fn await_initialize(
-        &mut self,
+        self,
         id: Value,
         method: RequestMethod,
         params: &Value,
-    ) -> Result<Vec<Value>, AllocError>
-        requires { self.old.analysed ≡ true }
-        ensures steps { IfOk result (λ values. Awaits self.old.state (view id) method (view params.now) (map view values.items) self.new.state) }
-        ensures analysed { IfOk result (λ _. self.new.analysed ≡ true) }
-        ensures same { OnErr result (self.new ≡ self.old) }
+    ) -> Result<(Conversation, Vec<Value>), AllocError>
+        ensures { IfOk result (λ r. Awaits self (view id) method (view params.now) (map view r.1.items) r.0) }
     {
         match method {
             RequestMethod::Initialize => self.initialize(id, params),
-            _ => refuse(self.alloc, id, Refusal::NotInitialized),
+            _ => self.refuse(id, Refusal::NotInitialized),
         }
     }
 
-    fn initialize(&mut self, id: Value, params: &Value) -> Result<Vec<Value>, AllocError>
-        ensures steps { IfOk result (λ values. Initializes self.old.state (view id) (view params.now) (map view values.items) self.new.state) }
-        ensures analysed { IfOk result (λ _. self.new.analysed ≡ true) }
-        ensures same { OnErr result (self.new ≡ self.old) }
+    fn initialize(
+        mut self,
+        id: Value,
+        params: &Value,
+    ) -> Result<(Conversation, Vec<Value>), AllocError>
+        ensures { IfOk result (λ r. Initializes self (view id) (view params.now) (map view r.1.items) r.0) }
     {
         let encoding = chosen(params);
-        let values = answer(self.alloc, id, initialize_answer(self.alloc, encoding)?)?;
+        let reply = ok_reply(self.alloc, id, initialize_answer(self.alloc, encoding)?)?;
         self.life = Life::Running;
         self.documents = Documents::new(self.alloc, encoding, self.documents.dialect());
-        Ok(values)
+        self.send(reply)
     }
 
     fn serve(
-        &mut self,
+        self,
         id: Value,
         method: RequestMethod,
         params: &Value,
-    ) -> Result<Vec<Value>, AllocError>
-        requires { self.old.analysed ≡ true }
-        ensures steps { IfOk result (λ values. Serves self.old.state (view id) method (view params.now) (map view values.items) self.new.state) }
-        ensures analysed { IfOk result (λ _. self.new.analysed ≡ true) }
-        ensures same { OnErr result (self.new ≡ self.old) }
+    ) -> Result<(Conversation, Vec<Value>), AllocError>
+        ensures { IfOk result (λ r. Serves self (view id) method (view params.now) (map view r.1.items) r.0) }
     {
         match method {
-            RequestMethod::Initialize => refuse(self.alloc, id, Refusal::AlreadyInitialized),
+            RequestMethod::Initialize => self.refuse(id, Refusal::AlreadyInitialized),
             RequestMethod::Shutdown => self.shut_down(id),
-            RequestMethod::Hover => self.ask(Question::Hover, id, params),
-            RequestMethod::Derivation => self.ask(Question::Derivation, id, params),
-            RequestMethod::UnknownRequest => refuse(self.alloc, id, Refusal::MethodNotFound),
+            RequestMethod::Ask(question) => self.ask(question, id, params),
+            RequestMethod::Unknown => self.refuse(id, Refusal::MethodNotFound),
         }
     }
 
-    fn shut_down(&mut self, id: Value) -> Result<Vec<Value>, AllocError>
-        requires { self.old.analysed ≡ true }
-        ensures steps { IfOk result (λ values. ShutsDown self.old.state (view id) (map view values.items) self.new.state) }
-        ensures analysed { IfOk result (λ _. self.new.analysed ≡ true) }
-        ensures same { OnErr result (self.new ≡ self.old) }
+    fn shut_down(mut self, id: Value) -> Result<(Conversation, Vec<Value>), AllocError>
+        ensures { IfOk result (λ r. ShutsDown self (view id) (map view r.1.items) r.0) }
     {
-        let values = answer(self.alloc, id, Value::Null)?;
+        let reply = ok_reply(self.alloc, id, Value::Null)?;
         self.life = Life::Down;
-        Ok(values)
+        self.send(reply)
     }
 
-    /// Answers a question about a position in an open document.
-    fn ask(&self, question: Question, id: Value, params: &Value) -> Result<Vec<Value>, AllocError>
-        requires { self.now.analysed ≡ true }
-        ensures { IfOk result (λ values. Asks (IsAnswerTo question self.now.state.encoding self.now.state.dialect) self.now.state (view id) (view params.now) (map view values.items) self.now.state) }
+    /// Answers a question about a place in a document.
+    fn ask(
+        self,
+        question: Question,
+        id: Value,
+        params: &Value,
+    ) -> Result<(Conversation, Vec<Value>), AllocError>
+        ensures { IfOk result (λ r. Asks question self (view id) (view params.now) (map view r.1.items) r.0) }
     {
-        let Ok(position) = read_position(params) else {
-            return refuse(self.alloc, id, Refusal::InvalidParams);
-        };
-        let Ok(uri) = read_uri(params) else {
-            return refuse(self.alloc, id, Refusal::InvalidParams);
-        };
-        let Some(document) = self.documents.document(uri) else {
-            return refuse(self.alloc, id, Refusal::DocumentNotOpen);
-        };
-        let value = answer_to(self.alloc, question, document, position)?;
-        answer(self.alloc, id, value)
+        let reply = reply_to(self.alloc, question, id, params, &self.documents)?;
+        self.send(reply)
     }
 
-    fn notice(&mut self, method: NoticeMethod, params: Value) -> Result<Vec<Value>, AllocError>
-        requires { self.old.analysed ≡ true }
-        ensures steps { IfOk result (λ values. Noticed self.old.state.life self.old.state method (view params) (map view values.items) self.new.state) }
-        ensures analysed { IfOk result (λ _. self.new.analysed ≡ true) }
-        ensures life { OnErr result (self.new.state.life ≡ self.old.state.life) }
-        ensures lives { OnErr result (ended_status self.old.state.life ≡ None) }
+    fn notice(
+        self,
+        method: NoticeMethod,
+        params: Value,
+    ) -> Result<(Conversation, Vec<Value>), AllocError>
+        ensures { IfOk result (λ r. Noticed self.life self method (view params) (map view r.1.items) r.0) }
     {
         match self.life {
             Life::Running => self.heed(method, params),
-            Life::Over(_) => Ok(Vec::new(self.alloc)),
+            Life::Over(_) => Ok(self.ignore()),
             _ => Ok(self.pass(method)),
         }
     }
 
-    fn heed(&mut self, method: NoticeMethod, params: Value) -> Result<Vec<Value>, AllocError>
-        requires { self.old.analysed ≡ true }
-        ensures steps { IfOk result (λ values. Heeds self.old.state method (view params) (map view values.items) self.new.state) }
-        ensures analysed { IfOk result (λ _. self.new.analysed ≡ true) }
-        ensures life { OnErr result (self.new.state.life ≡ self.old.state.life) }
+    fn heed(
+        self,
+        method: NoticeMethod,
+        params: Value,
+    ) -> Result<(Conversation, Vec<Value>), AllocError>
+        ensures { IfOk result (λ r. Heeds self method (view params) (map view r.1.items) r.0) }
     {
         match method {
             NoticeMethod::Exit => Ok(self.exit()),
             NoticeMethod::DidOpen => self.open_document(&params),
             NoticeMethod::DidChange => self.change_document(params),
             NoticeMethod::DidClose => self.close_document(&params),
-            NoticeMethod::UnknownNotice => Ok(Vec::new(self.alloc)),
+            NoticeMethod::Unknown => Ok(self.ignore()),
         }
     }
 
-    fn pass(&mut self, method: NoticeMethod) -> Vec<Value>
-        requires { self.old.analysed ≡ true }
-        ensures steps { Passes self.old.state method (map view result.items) self.new.state }
-        ensures analysed { self.new.analysed ≡ true }
+    fn pass(self, method: NoticeMethod) -> (Conversation, Vec<Value>)
+        ensures { Passes self method (map view result.1.items) result.0 }
     {
         match method {
             NoticeMethod::Exit => self.exit(),
-            _ => Vec::new(self.alloc),
+            _ => self.ignore(),
         }
     }
 
-    fn exit(&mut self) -> Vec<Value>
-        requires { self.old.analysed ≡ true }
-        ensures steps { Ends self.old.state (exit_status self.old.state.life) (map view result.items) self.new.state }
-        ensures analysed { self.new.analysed ≡ true }
+    fn exit(mut self) -> (Conversation, Vec<Value>)
+        ensures { Ends self (exit_status self.life) (map view result.1.items) result.0 }
     {
         self.life = Life::Over(exit_status(self.life));
-        Vec::new(self.alloc)
+        self.ignore()
     }
 
-    fn open_document(&mut self, params: &Value) -> Result<Vec<Value>, AllocError>
-        requires { self.old.analysed ≡ true }
-        ensures steps { IfOk result (λ values. Opens self.old.state (view params.now) (map view values.items) self.new.state) }
-        ensures analysed { IfOk result (λ _. self.new.analysed ≡ true) }
-        ensures life { OnErr result (self.new.state.life ≡ self.old.state.life) }
+    fn open_document(mut self, params: &Value) -> Result<(Conversation, Vec<Value>), AllocError>
+        ensures { IfOk result (λ r. Opens self (view params.now) (map view r.1.items) r.0) }
     {
         let Ok(uri) = read_uri(params) else {
-            return Ok(Vec::new(self.alloc));
+            return Ok(self.ignore());
         };
         let Some(text) = opened_text(params) else {
-            return Ok(Vec::new(self.alloc));
+            return Ok(self.ignore());
         };
         let version = given_version(params);
-        self.documents.open(uri, text, version)?;
-        self.tell(uri, version)
+        self.documents = self.documents.open(uri, text, version)?;
+        let values = self.tell(uri, version)?;
+        Ok((self, values))
     }
 
-    fn change_document(&mut self, params: Value) -> Result<Vec<Value>, AllocError>
-        requires { self.old.analysed ≡ true }
-        ensures steps { IfOk result (λ values. Changes self.old.state (view params) (map view values.items) self.new.state) }
-        ensures analysed { IfOk result (λ _. self.new.analysed ≡ true) }
-        ensures life { OnErr result (self.new.state.life ≡ self.old.state.life) }
+    fn change_document(self, params: Value) -> Result<(Conversation, Vec<Value>), AllocError>
+        ensures { IfOk result (λ r. Changes self (view params) (map view r.1.items) r.0) }
     {
         let told = self.told_change(&params)?;
         // Blocks of the message would else lie in the room that the old analysis leaves to the new one.
         drop(params);
         match told {
             Some(change) => self.apply(&change.uri, &change.changes, change.version),
-            None => Ok(Vec::new(self.alloc)),
+            None => Ok(self.ignore()),
         }
     }
 
     /// The change that a notice tells; none where it is to be ignored.
     fn told_change(&self, params: &Value) -> Result<Option<ToldChange>, AllocError>
-        ensures { IfOk result (IsTold self.now.state (view params.now)) }
+        ensures { IfOk result (IsTold self.now (view params.now)) }
     {
         let Ok(uri) = read_uri(params) else {
             return Ok(None);
@@ -308,44 +298,38 @@ impl Conversation {
 
     /// Changes an open document, and tells its faults.
     fn apply(
-        &mut self,
+        mut self,
         uri: &str,
         changes: &[Change],
         version: Option<i64>,
-    ) -> Result<Vec<Value>, AllocError>
-        requires open { IsSome (open_text uri.now self.old.state.documents) }
-        requires analysed { self.old.analysed ≡ true }
-        ensures steps { IfOk result (λ values. ChangesText self.old.state uri.now (open_text uri.now self.old.state.documents) changes.now version (map view values.items) self.new.state) }
-        ensures analysed { IfOk result (λ _. self.new.analysed ≡ true) }
-        ensures life { OnErr result (self.new.state.life ≡ self.old.state.life) }
+    ) -> Result<(Conversation, Vec<Value>), AllocError>
+        requires { IsSome (open_text uri.now self.documents) }
+        ensures { IfOk result (λ r. ChangesText self uri.now (open_text uri.now self.documents) changes.now version (map view r.1.items) r.0) }
     {
-        self.documents.change(uri, changes, version)?;
-        self.tell(uri, version)
+        self.documents = self.documents.change(uri, changes, version)?;
+        let values = self.tell(uri, version)?;
+        Ok((self, values))
     }
 
-    fn close_document(&mut self, params: &Value) -> Result<Vec<Value>, AllocError>
-        requires { self.old.analysed ≡ true }
-        ensures steps { IfOk result (λ values. Closes self.old.state (view params.now) (map view values.items) self.new.state) }
-        ensures analysed { IfOk result (λ _. self.new.analysed ≡ true) }
-        ensures same { OnErr result (self.new ≡ self.old) }
+    fn close_document(mut self, params: &Value) -> Result<(Conversation, Vec<Value>), AllocError>
+        ensures { IfOk result (λ r. Closes self (view params.now) (map view r.1.items) r.0) }
     {
         let Ok(uri) = read_uri(params) else {
-            return Ok(Vec::new(self.alloc));
+            return Ok(self.ignore());
         };
         if self.documents.document(uri).is_none() {
-            return Ok(Vec::new(self.alloc));
+            return Ok(self.ignore());
         }
         let values = published(self.alloc, uri, None, Vec::new(self.alloc))?;
-        self.documents.close(uri);
-        Ok(values)
+        self.documents = self.documents.close(uri);
+        Ok((self, values))
     }
 
     /// The notice with all faults of an open document.
     fn tell(&self, uri: &str, version: Option<i64>) -> Result<Vec<Value>, AllocError>
-        requires open { IsSome (open_text uri.now self.now.state.documents) }
-        requires analysed { self.now.analysed ≡ true }
-        ensures { IfOk result (λ values. (text : List ℕ) → open_text uri.now self.now.state.documents ≡ Some text
-            → Tells self.now.state.encoding self.now.state.dialect (record { uri = uri.now; text = text; version = version }) (map view values.items)) }
+        requires { IsSome (open_text uri.now self.now.documents) }
+        ensures { IfOk result (λ values. (text : List ℕ) → open_text uri.now self.now.documents ≡ Some text
+            → Tells self.now.encoding self.now.dialect (record { uri = uri.now; text = text; version = version }) (map view values.items)) }
     {
         let Some(document) = self.documents.document(uri) else {
             unreachable!()
@@ -364,18 +348,4 @@ fn exit_status(life: Life) -> u8
         Life::Down => 0,
         _ => 1,
     }
-}
-
-fn refuse(alloc: Global, id: Value, refusal: Refusal) -> Result<Vec<Value>, AllocError>
-    ensures { IfOk result (λ values. map view values.items ≡ refused (view id) refusal ∷ []) }
-{
-    let value = refused(alloc, id, refusal)?;
-    Ok(vec![in alloc; value]?)
-}
-
-fn answer(alloc: Global, id: Value, outcome: Value) -> Result<Vec<Value>, AllocError>
-    ensures { IfOk result (λ values. map view values.items ≡ result_reply (view id) (view outcome) ∷ []) }
-{
-    let value = ok_reply(alloc, id, outcome)?;
-    Ok(vec![in alloc; value]?)
 }

@@ -69,13 +69,11 @@ impl Document {
         changes: &[Change],
         version: Option<i64>,
     ) -> Result<(), AllocError>
-        ensures changed { OnOk result (self.new ≡ record self.old {
+        ensures { OnOk result (self.new ≡ record self.old {
           text = text_after self.old.encoding self.old.text changes.now;
           version = version;
           analysed = true;
         }) }
-        ensures encoding { self.new.encoding ≡ self.old.encoding }
-        ensures dialect { self.new.dialect ≡ self.old.dialect }
     {
         self.analysis = None;
         self.doc.apply(changes)?;
@@ -84,9 +82,7 @@ impl Document {
     }
 
     fn analyse(&mut self, alloc: Global) -> Result<(), AllocError>
-        ensures analysed { OnOk result (self.new ≡ record self.old { analysed = true }) }
-        ensures encoding { self.new.encoding ≡ self.old.encoding }
-        ensures dialect { self.new.dialect ≡ self.old.dialect }
+        ensures { OnOk result (self.new ≡ record self.old { analysed = true }) }
     {
         let analysis = Analysis::new(alloc, self.doc.text(), self.dialect)?;
         self.analysis = Some(analysis);

@@ -1,5 +1,5 @@
 //! The open documents of a session.
-ghost use Rattle.std.specs.Prelude.{◌≡◌, ℕ, List, [], Some, true, option_map, OnOk, OnErr, IsSome, IfSome};
+ghost use Rattle.std.specs.Prelude.{◌≡◌, ℕ, List, [], Some, true, option_map, IfOk, IsSome, IfSome};
 ghost use Rattle.lam_text.specs.Edits.{text_after};
 ghost use Rattle.lam_session.specs.Documents.{open_text, with_document, without_document};
 
@@ -11,6 +11,7 @@ use std::alloc::{AllocError, Global};
 use std::marker::Model;
 
 /// The open documents by their uris, in the order of opening, with the unit of their columns and the rules in force.
+/// Each is analysed.
 #[derive(Drop)]
 pub struct Documents {
     alloc: Global,
@@ -24,22 +25,21 @@ impl Model for Documents {
 
     ghost Value = { OpenDocuments };
 
-    ghost use Rattle.lam_session.specs.Entries.{documents_of, are_analysed, AreUnder};
+    ghost use Rattle.lam_session.specs.Entries.{documents_of, AreReady};
 
     ghost view = { λ d. record {
       encoding = d.encoding;
       dialect = d.dialect;
       documents = documents_of d.by_uri.entries;
-      analysed = are_analysed d.by_uri.entries;
     } };
 
-    ghost invariant = { λ d. AreUnder d.encoding d.dialect d.by_uri.entries };
+    ghost invariant = { λ d. AreReady d.encoding d.dialect d.by_uri.entries };
 }
 
 impl Documents {
     /// No document.
     pub fn new(alloc: Global, encoding: Encoding, dialect: Dialect) -> Documents
-        ensures { result ≡ record { encoding = encoding; dialect = dialect; documents = []; analysed = true } }
+        ensures { result ≡ record { encoding = encoding; dialect = dialect; documents = [] } }
     {
         Documents {
             alloc,
@@ -61,53 +61,55 @@ impl Documents {
         ensures text { option_map (λ d. d.now.text) result ≡ open_text uri.now self.now.documents }
         ensures encoding { IfSome result (λ d. d.now.encoding ≡ self.now.encoding) }
         ensures dialect { IfSome result (λ d. d.now.dialect ≡ self.now.dialect) }
-        ensures analysed { self.now.analysed ≡ true → IfSome result (λ d. d.now.analysed ≡ true) }
+        ensures analysed { IfSome result (λ d. d.now.analysed ≡ true) }
     {
         self.by_uri.get(uri)
     }
 
     /// Opens a document, anew where one of its uri is open: that one keeps its place.
-    pub fn open(&mut self, uri: &str, text: &str, version: Option<i64>) -> Result<(), AllocError>
-        requires { self.old.analysed ≡ true }
-        ensures opened { OnOk result (self.new ≡ record self.old {
-          documents
-              = with_document (record { uri = uri.now; text = text.now; version = version }) self.old.documents;
+    pub fn open(
+        mut self,
+        uri: &str,
+        text: &str,
+        version: Option<i64>,
+    ) -> Result<Documents, AllocError>
+        ensures { IfOk result (λ d. d ≡ record self {
+          documents = with_document (record { uri = uri.now; text = text.now; version = version }) self.documents;
         }) }
-        ensures err { OnErr result (self.new ≡ self.old) }
     {
         let uri = String::from_str(self.alloc, uri)?;
         let document = Document::new(self.alloc, text, version, self.encoding, self.dialect)?;
         drop(self.by_uri.insert(uri, document)?);
-        Ok(())
+        Ok(self)
     }
 
-    /// Changes an open document.
+    /// Changes an open document, where it stands: no other document is touched.
     pub fn change(
-        &mut self,
+        mut self,
         uri: &str,
         changes: &[Change],
         version: Option<i64>,
-    ) -> Result<(), AllocError>
-        requires open { IsSome (open_text uri.now self.old.documents) }
-        requires analysed { self.old.analysed ≡ true }
-        ensures changed { OnOk result ((text : List ℕ) → open_text uri.now self.old.documents ≡ Some text
-            → self.new ≡ record self.old {
+    ) -> Result<Documents, AllocError>
+        requires { IsSome (open_text uri.now self.documents) }
+        ensures { IfOk result (λ d. (text : List ℕ) → open_text uri.now self.documents ≡ Some text
+            → d ≡ record self {
               documents = with_document
-                  (record { uri = uri.now; text = text_after self.old.encoding text changes.now; version = version }) self.old.documents;
+                  (record { uri = uri.now; text = text_after self.encoding text changes.now; version = version }) self.documents;
             }) }
     {
+        let alloc = self.alloc;
         let Some(document) = self.by_uri.get_mut(uri) else {
             unreachable!()
         };
-        document.change(self.alloc, changes, version)?;
-        Ok(())
+        document.change(alloc, changes, version)?;
+        Ok(self)
     }
 
     /// Closes a document; the others keep their order.
-    pub fn close(&mut self, uri: &str)
-        requires { self.old.analysed ≡ true }
-        ensures { self.new ≡ record self.old { documents = without_document uri.now self.old.documents } }
+    pub fn close(mut self, uri: &str) -> Documents
+        ensures { result ≡ record self { documents = without_document uri.now self.documents } }
     {
         drop(self.by_uri.shift_remove(uri));
+        self
     }
 }

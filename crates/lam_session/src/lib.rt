@@ -5,9 +5,11 @@
 #![tactic(auto)]
 
 mod conversation;
+mod derivation;
 mod diagnostics;
 mod document;
 mod documents;
+mod hover;
 mod initialize;
 mod laws;
 mod methods;
@@ -16,7 +18,6 @@ mod questions;
 mod ranges;
 mod refusals;
 mod session;
-mod shown;
 mod states;
 mod sync;
 

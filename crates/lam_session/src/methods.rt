@@ -1,14 +1,16 @@
 //! The methods that are served, by their names.
-ghost use Rattle.std.specs.Prelude.{◌≡◌};
-ghost use Rattle.lam_session.specs.Methods.{request_method, notice_method};
+ghost use Rattle.std.specs.Prelude.{◌≡◌, map};
+ghost use Rattle.lam_session.specs.Methods.{method_named, request_method, notice_method};
+
+use crate::questions::Question;
 
 #[derive(Clone, Copy)]
 pub enum RequestMethod {
     Initialize,
     Shutdown,
-    Hover,
-    Derivation,
-    UnknownRequest,
+    /// A question about a place in a document.
+    Ask(Question),
+    Unknown,
 }
 
 #[derive(Clone, Copy)]
@@ -17,43 +19,50 @@ pub enum NoticeMethod {
     DidOpen,
     DidChange,
     DidClose,
-    UnknownNotice,
+    Unknown,
 }
+
+/// The requests by their names.
+static REQUESTS: [(&str, RequestMethod); 4] = [
+    ("initialize", RequestMethod::Initialize),
+    ("shutdown", RequestMethod::Shutdown),
+    ("textDocument/hover", RequestMethod::Ask(Question::Hover)),
+    (
+        "fullsub/derivation",
+        RequestMethod::Ask(Question::Derivation),
+    ),
+];
+
+/// The notices by their names.
+static NOTICES: [(&str, NoticeMethod); 4] = [
+    ("exit", NoticeMethod::Exit),
+    ("textDocument/didOpen", NoticeMethod::DidOpen),
+    ("textDocument/didChange", NoticeMethod::DidChange),
+    ("textDocument/didClose", NoticeMethod::DidClose),
+];
 
 /// The request of this name.
 pub fn request_method(name: &str) -> RequestMethod
     ensures { result ≡ request_method name.now }
 {
-    if name == "initialize" {
-        return RequestMethod::Initialize;
-    }
-    if name == "shutdown" {
-        return RequestMethod::Shutdown;
-    }
-    if name == "textDocument/hover" {
-        return RequestMethod::Hover;
-    }
-    if name == "fullsub/derivation" {
-        return RequestMethod::Derivation;
-    }
-    RequestMethod::UnknownRequest
+    method_named(RequestMethod::Unknown, name, REQUESTS.as_slice())
 }
 
 /// The notice of this name.
 pub fn notice_method(name: &str) -> NoticeMethod
     ensures { result ≡ notice_method name.now }
 {
-    if name == "exit" {
-        return NoticeMethod::Exit;
+    method_named(NoticeMethod::Unknown, name, NOTICES.as_slice())
+}
+
+/// The method of the first pair with this name; where there is none, it is unknown.
+fn method_named<M: Copy>(unknown: M, name: &str, methods: &[(&str, M)]) -> M
+    ensures { result ≡ method_named unknown name.now (map (λ m. (m.0.now, m.1)) methods.now) }
+{
+    for (known, method) in methods {
+        if name == *known {
+            return *method;
+        }
     }
-    if name == "textDocument/didOpen" {
-        return NoticeMethod::DidOpen;
-    }
-    if name == "textDocument/didChange" {
-        return NoticeMethod::DidChange;
-    }
-    if name == "textDocument/didClose" {
-        return NoticeMethod::DidClose;
-    }
-    NoticeMethod::UnknownNotice
+    unknown
 }

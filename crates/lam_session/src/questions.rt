@@ -1,12 +1,13 @@
-//! The questions about a place in a document, and what answers each.
-ghost use Rattle.std.specs.Prelude.{◌≡◌, true, IfOk};
+//! The questions about a place in a document, and the reply to each.
+ghost use Rattle.std.specs.Prelude.{IfOk};
 ghost use Rattle.serde_json.specs.View.{view};
-ghost use Rattle.lam_text.specs.Positions.{offset_of};
-ghost use Rattle.lam_session.specs.Questions.{IsAnswerTo};
+ghost use Rattle.lam_session.specs.Questions.{Replies};
 
-use crate::document::Document;
-use crate::shown::{derivation_value, hover_value};
-use lam_text::Position;
+use crate::derivation::derivation_reply;
+use crate::documents::Documents;
+use crate::hover::hover_reply;
+use crate::refusals::{Refusal, refused};
+use lam_rpc::{read_position, read_uri};
 use serde_json::Value;
 use std::alloc::{AllocError, Global};
 
@@ -19,24 +20,27 @@ pub enum Question {
     Derivation,
 }
 
-/// The value that answers a question about a position in a document.
-pub fn answer_to(
+/// The reply to a question with these params.
+pub fn reply_to(
     alloc: Global,
     question: Question,
-    document: &Document,
-    position: Position,
+    id: Value,
+    params: &Value,
+    documents: &Documents,
 ) -> Result<Value, AllocError>
-    requires { document.now.analysed ≡ true }
-    ensures { IfOk result (λ value. IsAnswerTo question document.now.encoding document.now.dialect document.now.text (offset_of document.now.encoding document.now.text position) (view value)) }
+    ensures { IfOk result (λ reply. Replies question documents.now (view id) (view params.now) (view reply)) }
 {
+    let Ok(position) = read_position(params) else {
+        return refused(alloc, id, Refusal::InvalidParams);
+    };
+    let Ok(uri) = read_uri(params) else {
+        return refused(alloc, id, Refusal::InvalidParams);
+    };
+    let Some(document) = documents.document(uri) else {
+        return refused(alloc, id, Refusal::DocumentNotOpen);
+    };
     match question {
-        Question::Hover => {
-            let shown = document.hover(alloc, position)?;
-            hover_value(alloc, document.doc(), shown)
-        }
-        Question::Derivation => {
-            let derived = document.derivation(alloc, position)?;
-            derivation_value(alloc, document.doc(), derived)
-        }
+        Question::Hover => hover_reply(alloc, id, document, position),
+        Question::Derivation => derivation_reply(alloc, id, document, position),
     }
 }

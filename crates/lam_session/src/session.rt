@@ -9,28 +9,38 @@ ghost use Rattle.lam_session.specs.State.{fresh, dialect_of, ended_status};
 ghost use Rattle.lam_session.specs.Step.{Answers, GivesUp};
 
 use crate::conversation::Conversation;
-use crate::states::Config;
+use crate::states::{Config, Life};
 use lam_rpc::Incoming;
 use serde_json::Value;
 use std::alloc::{AllocError, Global};
 use std::marker::Model;
+use std::mem;
 
-/// A session with one client. Until it gives up, of every open document an analysis of the present text is at hand.
+/// A session with one client.
 #[derive(Drop)]
 pub struct Session {
-    conversation: Conversation,
-    gave_up: bool,
+    course: Course,
+}
+
+/// Whether a session goes on.
+#[derive(Drop)]
+enum Course {
+    /// Each message is answered.
+    Going(Conversation),
+    /// Memory was refused, and nothing is answered any more: how far it had come is all that is kept.
+    GaveUp(Life),
 }
 
 impl Model for Session {
-    ghost use Rattle.std.specs.Prelude.{◌≡◌, false, true};
-    ghost use Rattle.lam_session.specs.State.{Snapshot, IsWhole};
+    ghost use Rattle.lam_session.specs.State.{Snapshot};
 
     ghost Value = { Snapshot };
 
-    ghost view = { λ s. record { state = s.conversation.state; gave_up = s.gave_up } };
+    ghost use Rattle.lam_session.specs.Courses.{snapshot_of, IsWhole};
 
-    ghost invariant = { λ s. IsWhole s.conversation.state.life s.gave_up × (s.gave_up ≡ false → s.conversation.analysed ≡ true) };
+    ghost view = { λ s. snapshot_of s.course };
+
+    ghost invariant = { λ s. IsWhole s.course };
 }
 
 impl Session {
@@ -39,8 +49,7 @@ impl Session {
         ensures { result ≡ record { state = fresh (dialect_of config); gave_up = false } }
     {
         Session {
-            conversation: Conversation::new(alloc, config.dialect()),
-            gave_up: false,
+            course: Course::Going(Conversation::new(alloc, config.dialect())),
         }
     }
 
@@ -48,7 +57,16 @@ impl Session {
     pub fn ended(&self) -> Option<u8>
         ensures { result ≡ ended_status self.now.state.life }
     {
-        self.conversation.ended()
+        self.life().ended()
+    }
+
+    fn life(&self) -> Life
+        ensures { result ≡ self.now.state.life }
+    {
+        match &self.course {
+            Course::Going(conversation) => conversation.life(),
+            Course::GaveUp(life) => *life,
+        }
     }
 
     /// One message, answered in full: the values to send, in order.
@@ -64,13 +82,12 @@ impl Session {
         ensures plain { HasPlainId (message_of incoming) → IfOk result (λ values. All (λ v. has_float (view v) ≡ false) values.items) }
         ensures one_answer { HasOneAnswer self.old.state (message_of incoming) }
     {
-        if self.gave_up {
+        let gave_up = Course::GaveUp(self.life());
+        let Course::Going(conversation) = mem::replace(&mut self.course, gave_up) else {
             return Err(AllocError);
-        }
-        let answer = self.conversation.receive(incoming);
-        if answer.is_err() {
-            self.gave_up = true;
-        }
-        answer
+        };
+        let (conversation, values) = conversation.receive(incoming)?;
+        self.course = Course::Going(conversation);
+        Ok(values)
     }
 }

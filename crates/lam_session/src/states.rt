@@ -1,6 +1,6 @@
-//! What a session is set to.
+//! How far a session has come, and what it is set to.
 ghost use Rattle.std.specs.Prelude.{◌≡◌};
-ghost use Rattle.lam_session.specs.State.{dialect_of};
+ghost use Rattle.lam_session.specs.State.{dialect_of, ended_status};
 
 use lam_rules::Dialect;
 
@@ -14,6 +14,18 @@ pub enum Life {
     Down,
     /// An `exit` came: the program's status.
     Over(u8),
+}
+
+impl Life {
+    /// The program's status, once an `exit` came.
+    pub fn ended(self) -> Option<u8>
+        ensures { result ≡ ended_status self }
+    {
+        match self {
+            Life::Over(status) => Some(status),
+            _ => None,
+        }
+    }
 }
 
 /// What the program is started with: the rules of subtyping that are in force.

@@ -1,5 +1,5 @@
 use Rattle.std.proofs.Common.{◌≡◌, true}
-use Rattle.lam_session.proofs.EntryLemmas.{found_text, of_found, AreUnder-lookup, are_analysed-lookup}
+use Rattle.lam_session.proofs.EntryLemmas.{found_text, of_found, AreReady-lookup}
 use Rattle.lam_session.proofs.documents.Documents.document.Goals as goal
 
 pub returns-clause-text : goal.returns-clause-text
@@ -10,17 +10,17 @@ returns-clause-encoding c =
     let entries = c.self.inside.by_uri.entries in
     rw (← c.self.view_is)
     (of_found (λ o. o.encoding ≡ c.self.inside.encoding) c.args.uri.now entries c.get.result c.get.ensures.value
-    (λ o there. (AreUnder-lookup c.self.inside.encoding c.self.inside.dialect c.args.uri.now entries o c.self.invariant there).0))
+    (λ o there. (AreReady-lookup c.self.inside.encoding c.self.inside.dialect c.args.uri.now entries o c.self.invariant there).encoding_is))
 
 pub returns-clause-dialect : goal.returns-clause-dialect
 returns-clause-dialect c =
     let entries = c.self.inside.by_uri.entries in
     rw (← c.self.view_is)
     (of_found (λ o. o.dialect ≡ c.self.inside.dialect) c.args.uri.now entries c.get.result c.get.ensures.value
-    (λ o there. (AreUnder-lookup c.self.inside.encoding c.self.inside.dialect c.args.uri.now entries o c.self.invariant there).1))
+    (λ o there. (AreReady-lookup c.self.inside.encoding c.self.inside.dialect c.args.uri.now entries o c.self.invariant there).dialect_is))
 
 pub returns-clause-analysed : goal.returns-clause-analysed
 returns-clause-analysed c =
     let entries = c.self.inside.by_uri.entries in
-    rw (← c.self.view_is)
-    (λ all. of_found (λ o. o.analysed ≡ true) c.args.uri.now entries c.get.result c.get.ensures.value (λ o there. are_analysed-lookup c.args.uri.now entries o all there))
+    of_found (λ o. o.analysed ≡ true) c.args.uri.now entries c.get.result c.get.ensures.value
+    (λ o there. (AreReady-lookup c.self.inside.encoding c.self.inside.dialect c.args.uri.now entries o c.self.invariant there).analysed)

@@ -1,0 +1,90 @@
+-- What holds of the replies to a request for a derivation.
+use Rattle.std.proofs.Common.{◌≡◌, ◌⊎◌, inl, inr, ℕ, List, [], ◌∷◌, map, false, Option, None, Some, refl, sym, subst, ◌∙◌}
+use Rattle.serde_json.specs.Data.{Data, number, unsigned}
+use Rattle.serde_json.specs.View.{items_of}
+use Rattle.serde_json.specs.Written.{has_float, items_have_float}
+use Rattle.lam_rpc.specs.Reply.{result_reply}
+use Rattle.lam_rules.specs.Types.{Typ}
+use Rattle.lam_rules.specs.Texts.{text as text_of_type}
+use Rattle.lam_rules.specs.declared.rules.Dialect.{Dialect}
+use Rattle.lam_text.specs.declared.units.Encoding.{Encoding}
+use Rattle.lam_query.specs.Sizes.{span_of_place}
+use Rattle.lam_query.specs.Hovers.{Shown}
+use Rattle.lam_query.specs.Steps.{Conclusion, typing, subtyping, Step}
+use Rattle.lam_query.specs.Derivations.{Entry, Derivation}
+use Rattle.lam_query.specs.Analyses.{IsShownIn, IsDerivedIn}
+use Rattle.lam_query.proofs.OneAnswer.{one_hover}
+use Rattle.lam_query.proofs.SomeAnswers.{some_derivation}
+use Rattle.lam_session.specs.Derivations.{type_value, entry_value, conclusion_value, step_value, derivation_value, IsDerivationReply, GivesDerivation}
+use Rattle.lam_session.proofs.ReplyLemmas.{HasNoMethod, result_plain, result_has_no_method}
+
+-- ---- no value holds a float
+
+type_plain : (o : Option Typ) → has_float (type_value o) ≡ false
+type_plain None = refl
+type_plain (Some t) = refl
+
+entries_plain : (es : List Entry) → items_have_float (items_of (map entry_value es)) ≡ false
+entries_plain [] = refl
+entries_plain (e ∷ es) = rw (type_plain e.type, entries_plain es) refl
+
+premises_plain : (numbers : List ℕ) → items_have_float (items_of (map (λ n. number (unsigned n)) numbers)) ≡ false
+premises_plain [] = refl
+premises_plain (n ∷ ns) = premises_plain ns
+
+conclusion_plain : (encoding : Encoding) (text premises : List ℕ) (c : Conclusion) → has_float (conclusion_value encoding text premises c) ≡ false
+conclusion_plain encoding text premises (typing rule span type) = rw (premises_plain premises) refl
+conclusion_plain encoding text premises (subtyping rule lower upper) = rw (premises_plain premises) refl
+
+steps_plain : (encoding : Encoding) (text : List ℕ) (steps : List Step) → items_have_float (items_of (map (step_value encoding text) steps)) ≡ false
+steps_plain encoding text [] = refl
+steps_plain encoding text (s ∷ ss) = rw (conclusion_plain encoding text s.premises s.conclusion, steps_plain encoding text ss) refl
+
+value_plain : (encoding : Encoding) (text : List ℕ) (derived : Option Derivation) → has_float (derivation_value encoding text derived) ≡ false
+value_plain encoding text None = refl
+value_plain encoding text (Some d) = rw (entries_plain d.context, steps_plain encoding text d.steps) refl
+
+-- ---- a derivation is given where a type is shown, and none where none is
+
+shown_of_derived : (text : List ℕ) (offset : ℕ) (derived : Derivation) (d : Dialect) → IsDerivedIn text offset (Some derived) d → (shown : Shown) × IsShownIn text offset (Some shown) d
+shown_of_derived text offset derived d h =
+    let a = h.answer in (
+      record { text = text_of_type a.type; span = span_of_place h.commands a.number },
+      record { commands = h.commands; are_commands = h.are_commands; answer = (a.number, a.type, a.typed, refl, refl) },
+    )
+
+nothing_derived : (text : List ℕ) (offset : ℕ) (d : Dialect) → IsDerivedIn text offset None d → IsShownIn text offset None d
+nothing_derived text offset d h = record { commands = h.commands; are_commands = h.are_commands; answer = h.answer }
+
+clash : (text : List ℕ) (offset : ℕ) (derived : Derivation) (d : Dialect) → IsDerivedIn text offset None d → IsDerivedIn text offset (Some derived) d → ⊥
+clash text offset derived d none some =
+    let shown = shown_of_derived text offset derived d some in
+    let same : None ≡ Some shown.0 = one_hover text offset None (Some shown.0) d (nothing_derived text offset d none) shown.1 in cc
+
+module _ (encoding : Encoding) (d : Dialect) (text : List ℕ) (offset : ℕ) (id : Data) where
+  -- a reply to this request
+  abbrev Shows : Data → Type 0
+  Shows reply = IsDerivationReply encoding d text offset id reply
+
+  -- one that gives a derivation
+  abbrev Gives : Data → Type 0
+  Gives reply = GivesDerivation encoding d text offset id reply
+
+  pub some_reply : (reply : Data) × Shows reply
+  some_reply = let found = some_derivation text offset d in (result_reply id (derivation_value encoding text found.0), record { derived = found.0; right = found.1; replied = refl })
+
+  alike : (a b : Option Derivation) (one other : Data) → IsDerivedIn text offset a d → IsDerivedIn text offset b d
+      → one ≡ result_reply id (derivation_value encoding text a) → other ≡ result_reply id (derivation_value encoding text b) → (one ≡ other) ⊎ (Gives one × Gives other)
+  alike None None one other ra rb va vb = inl (va ∙ sym vb)
+  alike None (Some derived) one other ra rb va vb = absurd (clash text offset derived d ra rb)
+  alike (Some derived) None one other ra rb va vb = absurd (clash text offset derived d rb ra)
+  alike (Some first) (Some second) one other ra rb va vb = inr (record { derivation = first; right = ra; replied = va }, record { derivation = second; right = rb; replied = vb })
+
+  pub alike_replies : (one other : Data) → Shows one → Shows other → (one ≡ other) ⊎ (Gives one × Gives other)
+  alike_replies one other h k = alike h.derived k.derived one other h.right k.right h.replied k.replied
+
+  pub plain : (reply : Data) → has_float id ≡ false → Shows reply → has_float reply ≡ false
+  plain reply no_float h = subst (λ (r : Data). has_float r ≡ false) (sym h.replied) (result_plain id (derivation_value encoding text h.derived) no_float (value_plain encoding text h.derived))
+
+  pub no_method : (reply : Data) → Shows reply → HasNoMethod reply
+  no_method reply h = subst HasNoMethod (sym h.replied) (result_has_no_method id (derivation_value encoding text h.derived))

@@ -1,0 +1,32 @@
+-- What holds of the replies to every question, stated once for each question: so the laws of steps have one case for all of them.
+use Rattle.std.proofs.Common.{◌≡◌, ◌⊎◌, inl, false}
+use Rattle.serde_json.specs.Data.{Data}
+use Rattle.serde_json.specs.Written.{has_float}
+use Rattle.lam_session.specs.Asked.{Asked}
+use Rattle.lam_session.specs.Questions.{IsAnswerTo, MayVary}
+use Rattle.lam_session.specs.declared.questions.Question.{Question}
+use Rattle.lam_session.specs.declared.questions.Question.TheVariants.{Hover, Derivation}
+use Rattle.lam_session.proofs.DerivationLaws as derivation
+use Rattle.lam_session.proofs.HoverLaws as hover
+use Rattle.lam_session.proofs.ReplyLemmas.{HasNoMethod}
+
+-- there is a reply, two replies are one or may vary, and a reply holds no float of its own and is no notice
+pub record HasLaws (question : Question) : Type 0 where
+  pub some : (a : Asked) (id : Data) → (reply : Data) × IsAnswerTo question a id reply
+  pub alike : (a : Asked) (id one other : Data) → IsAnswerTo question a id one → IsAnswerTo question a id other → (one ≡ other) ⊎ (MayVary question a id one × MayVary question a id other)
+  pub plain : (a : Asked) (id reply : Data) → has_float id ≡ false → IsAnswerTo question a id reply → has_float reply ≡ false
+  pub no_method : (a : Asked) (id reply : Data) → IsAnswerTo question a id reply → HasNoMethod reply
+
+pub laws : (question : Question) → HasLaws question
+laws Hover = record {
+  some = λ a id. hover.some_reply a.encoding a.dialect a.text a.offset id;
+  alike = λ a id one other h k. inl (hover.one_reply a.encoding a.dialect a.text a.offset id one other h k);
+  plain = λ a id. hover.plain a.encoding a.dialect a.text a.offset id;
+  no_method = λ a id. hover.no_method a.encoding a.dialect a.text a.offset id;
+}
+laws Derivation = record {
+  some = λ a id. derivation.some_reply a.encoding a.dialect a.text a.offset id;
+  alike = λ a id. derivation.alike_replies a.encoding a.dialect a.text a.offset id;
+  plain = λ a id. derivation.plain a.encoding a.dialect a.text a.offset id;
+  no_method = λ a id. derivation.no_method a.encoding a.dialect a.text a.offset id;
+}

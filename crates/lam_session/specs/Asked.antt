@@ -1,0 +1,44 @@
+-- What a question about a place in a document is about.
+use Rattle.std.specs.Prelude.{ℕ, List, Option, None, Some}
+use Rattle.serde_json.specs.Data.{Data}
+use Rattle.lam_rpc.specs.Fields.{asked_position, named_uri}
+use Rattle.lam_rules.specs.declared.rules.Dialect.{Dialect}
+use Rattle.lam_text.specs.declared.units.Encoding.{Encoding}
+use Rattle.lam_text.specs.declared.places.Position.{Position}
+use Rattle.lam_text.specs.Positions.{offset_of}
+use Rattle.lam_session.specs.Documents.{OpenDocuments}
+use Rattle.lam_session.specs.declared.questions.Question.{Question}
+
+-- a place as the client names it: the uri of a document and a position in it
+pub record Place : Type 0 where
+  pub uri : List ℕ
+  pub position : Position
+
+-- a place, where both of its parts are given
+abbrev pub place_of : Option Position → Option (List ℕ) → Option Place
+place_of (Some position) (Some uri) = Some (record { uri = uri; position = position })
+place_of _ _ = None
+
+-- the place that a question's params name, none where they lack what the question needs; each needs a position and a uri
+abbrev pub asked_place : Question → Data → Option Place
+asked_place question params = place_of (asked_position params) (named_uri params)
+
+-- what is asked about: an offset in the text that the document of this uri now has, the unit of its columns, the rules in force, and the params
+pub record Asked : Type 0 where
+  pub encoding : Encoding
+  pub dialect : Dialect
+  pub params : Data
+  pub uri : List ℕ
+  pub text : List ℕ
+  pub offset : ℕ
+
+-- what is asked about with these params, at this place in a document with this text
+abbrev pub asked_at : OpenDocuments → Data → Place → List ℕ → Asked
+asked_at held params place text = record {
+  encoding = held.encoding;
+  dialect = held.dialect;
+  params = params;
+  uri = place.uri;
+  text = text;
+  offset = offset_of held.encoding text place.position;
+}
