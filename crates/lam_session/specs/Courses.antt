@@ -6,7 +6,7 @@ use Rattle.lam_session.specs.declared.session.Course.TheVariants.{Going, GaveUp}
 use Rattle.lam_session.specs.declared.states.Life.{Life}
 use Rattle.lam_session.specs.State.{State, fresh, Snapshot, ended_status}
 
--- what is left of a session that gave up: how far it had come, and nothing else that was said
+-- what is left of a session that gave up: how far it had come; all else is as before the first message
 abbrev pub left : Life → State
 left life = record (fresh One) { life = life }
 

@@ -25,8 +25,8 @@ use serde_json::Value;
 use std::alloc::{AllocError, Global};
 use std::marker::Model;
 
-/// The life of a session, and the open documents. A message uses it up, and where memory suffices the next one comes
-/// back beside the values to send.
+/// The life of a session, and the open documents. Each message takes it by value, and gives the next one back with the
+/// values to send, or neither where memory was refused.
 #[derive(Drop)]
 pub struct Conversation {
     alloc: Global,

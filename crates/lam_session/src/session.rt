@@ -60,15 +60,6 @@ impl Session {
         self.life().ended()
     }
 
-    fn life(&self) -> Life
-        ensures { result ≡ self.now.state.life }
-    {
-        match &self.course {
-            Course::Going(conversation) => conversation.life(),
-            Course::GaveUp(life) => *life,
-        }
-    }
-
     /// One message, answered in full: the values to send, in order.
     ///
     /// `AllocError` says that memory ran out, in this step or an earlier one; from then on every
@@ -89,5 +80,14 @@ impl Session {
         let (conversation, values) = conversation.receive(incoming)?;
         self.course = Course::Going(conversation);
         Ok(values)
+    }
+
+    fn life(&self) -> Life
+        ensures { result ≡ self.now.state.life }
+    {
+        match &self.course {
+            Course::Going(conversation) => conversation.life(),
+            Course::GaveUp(life) => *life,
+        }
     }
 }
