@@ -266,3 +266,7 @@ shown_of_derived text offset derived d h =
       record { text = text_of_type a.type; span = (term_of a.term).span },
       record { commands = h.commands; are_commands = h.are_commands; answer = (a.term, a.type, a.typed, refl, refl) },
     )
+
+-- where none is derived, nothing is shown
+pub nothing_derived : (text : List ℕ) (offset : ℕ) (d : Dialect) → IsDerivedIn text offset None d → IsShownIn text offset None d
+nothing_derived text offset d h = record { commands = h.commands; are_commands = h.are_commands; answer = h.answer }

@@ -5,16 +5,12 @@ use Rattle.serde_json.specs.View.{items_of}
 use Rattle.serde_json.specs.Written.{has_float, items_have_float}
 use Rattle.lam_rpc.specs.Reply.{result_reply}
 use Rattle.lam_rules.specs.Types.{Typ}
-use Rattle.lam_rules.specs.Texts.{text as text_of_type}
 use Rattle.lam_rules.specs.declared.rules.Dialect.{Dialect}
 use Rattle.lam_text.specs.declared.units.Encoding.{Encoding}
-use Rattle.lam_query.specs.Sizes.{span_of_place}
-use Rattle.lam_query.specs.Hovers.{Shown}
 use Rattle.lam_query.specs.Steps.{Conclusion, typing, subtyping, Step}
-use Rattle.lam_query.specs.Derivations.{Entry, Derivation}
-use Rattle.lam_query.specs.Analyses.{IsShownIn, IsDerivedIn}
+use Rattle.lam_query.specs.Derivations.{Entry, Derivation, IsDerivedIn}
 use Rattle.lam_query.proofs.OneAnswer.{one_hover}
-use Rattle.lam_query.proofs.SomeAnswers.{some_derivation}
+use Rattle.lam_query.proofs.SomeAnswers.{some_derivation, shown_of_derived, nothing_derived}
 use Rattle.lam_session.specs.Derivations.{type_value, entry_value, conclusion_value, step_value, derivation_value, IsDerivationReply, GivesDerivation}
 use Rattle.lam_session.proofs.ReplyLemmas.{HasNoMethod, result_plain, result_has_no_method}
 
@@ -45,16 +41,6 @@ value_plain encoding text None = refl
 value_plain encoding text (Some d) = rw (entries_plain d.context, steps_plain encoding text d.steps) refl
 
 -- ---- a derivation is given where a type is shown, and none where none is
-
-shown_of_derived : (text : List ℕ) (offset : ℕ) (derived : Derivation) (d : Dialect) → IsDerivedIn text offset (Some derived) d → (shown : Shown) × IsShownIn text offset (Some shown) d
-shown_of_derived text offset derived d h =
-    let a = h.answer in (
-      record { text = text_of_type a.type; span = span_of_place h.commands a.number },
-      record { commands = h.commands; are_commands = h.are_commands; answer = (a.number, a.type, a.typed, refl, refl) },
-    )
-
-nothing_derived : (text : List ℕ) (offset : ℕ) (d : Dialect) → IsDerivedIn text offset None d → IsShownIn text offset None d
-nothing_derived text offset d h = record { commands = h.commands; are_commands = h.are_commands; answer = h.answer }
 
 clash : (text : List ℕ) (offset : ℕ) (derived : Derivation) (d : Dialect) → IsDerivedIn text offset None d → IsDerivedIn text offset (Some derived) d → ⊥
 clash text offset derived d none some =

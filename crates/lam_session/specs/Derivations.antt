@@ -9,8 +9,7 @@ use Rattle.lam_rules.specs.Rules.{name_of_sub_rule, name_of_type_rule}
 use Rattle.lam_rules.specs.declared.rules.Dialect.{Dialect}
 use Rattle.lam_text.specs.declared.units.Encoding.{Encoding}
 use Rattle.lam_query.specs.Steps.{Conclusion, typing, subtyping, Step}
-use Rattle.lam_query.specs.Derivations.{Entry, Derivation}
-use Rattle.lam_query.specs.Analyses.{IsDerivedIn}
+use Rattle.lam_query.specs.Derivations.{Entry, Derivation, IsDerivedIn}
 use Rattle.lam_session.specs.Ranges.{range_value}
 
 -- the text of an entry's type, with the fields in their own order; null where it has none

@@ -4,8 +4,7 @@ use Rattle.serde_json.specs.Data.{Data, null, string, object, member, no_members
 use Rattle.lam_rpc.specs.Reply.{result_reply}
 use Rattle.lam_rules.specs.declared.rules.Dialect.{Dialect}
 use Rattle.lam_text.specs.declared.units.Encoding.{Encoding}
-use Rattle.lam_query.specs.Hovers.{Shown}
-use Rattle.lam_query.specs.Analyses.{IsShownIn}
+use Rattle.lam_query.specs.Hovers.{Shown, IsShownIn}
 use Rattle.lam_session.specs.Ranges.{range_value}
 
 -- a text that a client shows as it is (LSP 3.17, MarkupKind plaintext)

@@ -1,6 +1,8 @@
 //! An open document, and what is known of its text.
 ghost use Rattle.std.specs.Prelude.{◌≡◌, true, map, option_map, All, IfOk, IfSome, OnOk};
-ghost use Rattle.lam_query.specs.Analyses.{IsAnalysisOf, IsShownIn, IsDerivedIn, dialect_of};
+ghost use Rattle.lam_query.specs.Derivations.{IsDerivedIn};
+ghost use Rattle.lam_query.specs.Hovers.{IsShownIn};
+ghost use Rattle.lam_query.specs.Analyses.{IsAnalysisOf, dialect_of};
 ghost use Rattle.lam_query.specs.TextFaults.{AreFaults};
 ghost use Rattle.lam_query.specs.Views.{fault_of, shown_of, derivation_of, StepStandsIn};
 ghost use Rattle.lam_query.specs.Within.{StandsIn};
