@@ -1,13 +1,12 @@
 -- Bytes begin with a header part, or with one that is not over, or with one that is spoiled: only one of these.
-use Rattle.std.proofs.Common.{◌≡◌, ◌≤◌, ◌<◌, ◌⊎◌, inl, inr, length, drop, ℕ, Bool, true, false, not, ◌==◌, cond, if◌then◌else◌, nat_lt, List, [], ◌∷◌, ◌++◌, Result, Ok, Err, refl, sym, ap, ◌∙◌, subst, arith, append_assoc, append-nil, length-append}
-use Rattle.std.specs.List.{list_all, list_any, filter, after_first}
-use Rattle.std.specs.Str.Parse.{digits_value}
+use Rattle.std.proofs.Common.{◌≡◌, ◌≤◌, ◌<◌, ◌⊎◌, inl, inr, length, drop, ℕ, Bool, true, false, not, ◌==◌, cond, if◌then◌else◌, List, [], ◌∷◌, ◌++◌, Result, Ok, Err, refl, sym, ap, ◌∙◌, subst, arith, append_assoc, append-nil, length-append}
+use Rattle.std.specs.List.{list_all, list_any, filter}
 use Rattle.std.proofs.lemmas.Bool.Decides.{nat_tests}
 use Rattle.std.proofs.lemmas.List.{drop-append-le}
 use Rattle.std.proofs.lemmas.Bool.{and_parts}
 use Rattle.lam_frame.specs.declared.fault.FrameFault.{FrameFault}
 use Rattle.lam_frame.specs.declared.fault.FrameFault.TheVariants.{NoLength, BadLength, TooLong, BadHeader}
-use Rattle.lam_frame.specs.Header.{AreLines, IsPlain, HasHeader, IsSpoiled, IsUnfinished, IsTooLong, IsMisplaced, IsBegunEnd, is_plain, ended_lines, header_text, body_length, one_length, is_number, has_colon, names_length, is_colon, trim}
+use Rattle.lam_frame.specs.Header.{AreLines, IsPlain, HasHeader, IsSpoiled, IsUnfinished, IsTooLong, IsMisplaced, IsBegunEnd, is_plain, ended_lines, header_text, body_length, one_length, has_colon, names_length}
 use Rattle.lam_frame.specs.Frame.{HasFault}
 use Rattle.lam_frame.specs.Frame.HasFault.{Spoiled as SpoiledFault, Endless, BadFields}
 use Rattle.lam_frame.specs.Scan.{HasLines}
@@ -186,26 +185,6 @@ verdict-fault false named fault e = one_length-fault named fault e
 
 pub body_length-fault : (lines : List (List ℕ)) (fault : FrameFault) → body_length lines ≡ Err fault → IsByteFault fault
 body_length-fault lines fault e = verdict-fault (list_any (λ (l : List ℕ). not (has_colon l)) lines) (filter names_length lines) fault e
-
-small_by : (long : Bool) (n size : ℕ) → nat_lt 67108864 n ≡ long → cond long (Err TooLong) (Ok n) ≡ Ok size → size ≤ 67108864
-small_by true n size t e = absurd (cc e)
-small_by false n size t e = let same : n ≡ size = cc e in let small : n ≤ 67108864 = grind (arith, nat_tests) in omega (arith, same, small)
-
-length_in-small : (numeral : Bool) (n size : ℕ) → cond numeral (cond (nat_lt 67108864 n) (Err TooLong) (Ok n)) (Err BadLength) ≡ Ok size → size ≤ 67108864
-length_in-small true n size e = small_by (nat_lt 67108864 n) n size refl e
-length_in-small false n size e = absurd (cc e)
-
-one_length-small : (named : List (List ℕ)) (size : ℕ) → one_length named ≡ Ok size → size ≤ 67108864
-one_length-small [] size e = absurd (cc e)
-one_length-small (line ∷ []) size e = let value = trim (after_first is_colon line) in length_in-small (is_number value) (digits_value 10 value) size e
-one_length-small (line ∷ other ∷ named) size e = absurd (cc e)
-
-verdict-small : (bad : Bool) (named : List (List ℕ)) (size : ℕ) → cond bad (Err BadHeader) (one_length named) ≡ Ok size → size ≤ 67108864
-verdict-small true named size e = absurd (cc e)
-verdict-small false named size e = one_length-small named size e
-
-pub body_length-small : (lines : List (List ℕ)) (size : ℕ) → body_length lines ≡ Ok size → size ≤ 67108864
-body_length-small lines size e = verdict-small (list_any (λ (l : List ℕ). not (has_colon l)) lines) (filter names_length lines) size e
 
 pub HasFault-byte : (bytes : List ℕ) (fault : FrameFault) → HasFault bytes fault → IsByteFault fault
 HasFault-byte bytes fault (SpoiledFault s e) = subst IsByteFault (sym e) tt

@@ -8,7 +8,7 @@ use Rattle.std.proofs.lemmas.List.Elements.{filter-append}
 use Rattle.std.proofs.lemmas.List.{get_or-take, nil_from_length}
 use Rattle.std.proofs.Math.Seq.{drop-append_seam}
 use Rattle.lam_frame.specs.declared.fault.FrameFault.{FrameFault}
-use Rattle.lam_frame.specs.declared.fault.FrameFault.TheVariants.{NoLength, BadLength, TooLong, BadHeader}
+use Rattle.lam_frame.specs.declared.fault.FrameFault.TheVariants.{BadLength, TooLong, BadHeader}
 use Rattle.lam_frame.specs.Header.{AreLines, IsPlain, IsSpoiled, IsUnfinished, IsMisplaced, IsBegunEnd, is_plain, is_colon, ended_lines, header_text, body_length, one_length, is_number, has_colon, names_length, trim}
 use Rattle.lam_frame.specs.Scan.{HasLines, plain_part, plain_rest, with_length_of, with_line_of}
 
@@ -65,9 +65,6 @@ pub record Walked (bytes rest : List ℕ) (body : Result ℕ FrameFault) : Type 
   pub are_lines : AreLines lines
   pub text : bytes ≡ ended_lines lines ++ rest
   pub says : body ≡ body_length lines
-
-pub walked_none : (bytes : List ℕ) → Walked bytes bytes (Err NoLength)
-walked_none bytes = record { lines = []; are_lines = tt; text = refl; says = refl }
 
 line_and_rest : (rest line after : List ℕ) → line ≡ plain_part rest → plain_rest rest ≡ 13 ∷ 10 ∷ after → rest ≡ line ++ (13 ∷ 10 ∷ after)
 line_and_rest rest line after l a = sym (take-append-drop (prefix_len is_plain rest) rest) ∙ ap (λ (t : List ℕ). plain_part rest ++ t) a ∙ ap (λ (t : List ℕ). t ++ (13 ∷ 10 ∷ after)) (sym l)

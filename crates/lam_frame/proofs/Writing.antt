@@ -7,7 +7,7 @@ use Rattle.std.proofs.lemmas.Slice.{drop-put_mid}
 use borrow.Rule.Slice.PartMut.{put_mid, post_of}
 use Rattle.lam_frame.specs.Frame.{frame_text, header_line}
 use Rattle.std.specs.Io.KnownBytes.{Appends, Keeps}
-use Rattle.std.proofs.KnownBytes.{Appends-nil, Appends-trans, Appends-kept}
+use Rattle.std.proofs.KnownBytes.{Appends-trans, Appends-kept}
 use Rattle.std.proofs.lemmas.Bool.Decides.{nat_tests}
 use Rattle.std.proofs.lemmas.Fmt.{decimal_step, decimal_digit}
 use Rattle.lam_frame.specs.Device.{AppendsFront, failures_after_push}
@@ -48,24 +48,12 @@ pub record Pushed (old new : Option (List ℕ)) (bytes rest : List ℕ) : Type 0
   pub split : bytes ≡ front ++ rest
   pub appended : Appends old new front
 
-pub pushed_none : (known : Option (List ℕ)) (bytes : List ℕ) → Pushed known known bytes bytes
-pushed_none known bytes = record { front = []; split = refl; appended = Appends-nil known }
-
 pub pushed_more : (old middle new : Option (List ℕ)) (bytes rest : List ℕ) (n : ℕ) → Pushed old middle bytes rest → Appends middle new (take n rest) → Pushed old new bytes (drop n rest)
 pushed_more old middle new bytes rest n p a = record {
   front = p.front ++ take n rest;
   split = p.split ∙ ap (λ (l : List ℕ). p.front ++ l) (sym (take-append-drop n rest)) ∙ sym (append_assoc p.front (take n rest) (drop n rest));
   appended = Appends-trans old middle new p.front (take n rest) p.appended a;
 }
-
-pub pushed_all : (old new : Option (List ℕ)) (bytes rest : List ℕ) → Pushed old new bytes rest → rest ≡ [] → Appends old new bytes
-pushed_all old new bytes rest p e = subst (Appends old new) (sym (p.split ∙ ap (λ (l : List ℕ). p.front ++ l) e ∙ append-nil p.front)) p.appended
-
-pub pushed_front : (old middle new : Option (List ℕ)) (bytes rest : List ℕ) → Pushed old middle bytes rest → Keeps middle new → AppendsFront old new bytes
-pushed_front old middle new bytes rest p k = record { front = p.front; rest = rest; split = p.split; appended = Appends-kept old middle new p.front p.appended k }
-
-pub pushed_nothing : (old middle new : Option (List ℕ)) (bytes rest : List ℕ) (n : ℕ) → Pushed old middle bytes rest → Appends middle new (take n rest) → AppendsFront old new bytes
-pushed_nothing old middle new bytes rest n p a = let q = pushed_more old middle new bytes rest n p a in record { front = q.front; rest = drop n rest; split = q.split; appended = q.appended }
 
 -- ---- two parts of one text
 

@@ -45,10 +45,6 @@ stack_pushed stack more before after b n is pushed last shadowed set =
     } in
     subst (λ s. IsNameStack s after) (sym pushed) whole
 
-pub stack_unchanged : (stack same : List Named) (before after : NameIndex) → IsNameStack stack before → same ≡ stack → after.entries ≡ before.entries → IsNameStack same after
-stack_unchanged stack same before after is e f =
-    subst (λ s. IsNameStack s after) (sym e) (record { shadowed = is.shadowed; found = λ x. ap (λ es. flattened (lookup (λ k. bytes_eq x k.now) es)) f ∙ is.found x })
-
 set_by : (b : Bool) (i : ℕ) (o : Option (Option ℕ)) → flattened (cond b (Some (Some i)) o) ≡ (if b then Some i else flattened o)
 set_by true i o = refl
 set_by false i o = refl

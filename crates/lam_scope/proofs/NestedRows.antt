@@ -67,10 +67,6 @@ nest_own s derived ts names t h =
     let own = place_row s derived ts names in
     (between_append s.start s.end t.places own.places h.0 (omega arith, omega arith, tt), nested_own t.places _ h.0 h.1)
 
-no_places_nest : (low high : ℕ) (ps : List TextPlace) → length ps ≡ 0 → AreBetween low high ps × AreNested ps
-no_places_nest low high [] e = (tt, tt)
-no_places_nest low high (p ∷ ps) e = absurd (omega arith)
-
 none_right : (ps qs : List TextPlace) → length qs ≡ 0 → ps ++ qs ≡ ps
 none_right ps [] e = append-nil ps
 none_right ps (q ∷ qs) e = absurd (omega arith)

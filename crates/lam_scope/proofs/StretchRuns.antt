@@ -133,10 +133,6 @@ missed_in_run f o before i xs x s lt is same no_byte so_far =
     ∙ first_fails o (before + i) (f x) (drop (i + 1) (map f xs)) (ap (has o) (sym same) ∙ no_byte)
     ∙ ap (λ k. position_from (has o) k (drop (i + 1) (map f xs))) next
 
-pub missed_run : {X : Type 0} (f : X → Stretch) (o before i : ℕ) (xs : List X) → length xs ≤ i → position_from (has o) before (map f xs) ≡ position_from (has o) (before + i) (drop i (map f xs))
-    → None ≡ position_from (has o) before (map f xs)
-missed_run f o before i xs le so_far = sym (so_far ∙ ap (position_from (has o) (before + i)) (drop_all i (map f xs) (subst (λ n. n ≤ i) (sym (length-map xs f)) le)))
-
 skip_run : (o i j : ℕ) (ss ts : List Stretch) → j ≡ i + length ss → position_from (has o) i ss ≡ None → position_from (has o) i (ss ++ ts) ≡ position_from (has o) j ts
 skip_run o i j [] ts e none = let same : i ≡ j = omega arith in ap (λ k. position_from (has o) k ts) same
 skip_run o i j (s ∷ ss) ts e none = by (λ n. skip_run o (i + 1) j ss ts (omega arith) n) (has o s) refl none
@@ -177,16 +173,6 @@ miss_runs f o n m xs run found is last search none so_far =
     ∙ ap (position_from (has o) n) (split_rest (map f xs) (map f run) n same)
     ∙ skip_run o n m (map f run) (drop 64 (drop n (map f xs))) behind (sym search ∙ none)
     ∙ ap (position_from (has o) m) (sym (behind_run (map f xs) n m (behind ∙ ap (λ rs. n + length rs) same)))
-
-all_gone : (ss : List Stretch) → AreRuns [] ss → ss ≡ []
-all_gone [] h = refl
-all_gone (s ∷ ss) h = absurd h
-
-pub no_run_left : {X : Type 0} (f : X → Stretch) (o n i : ℕ) (xs : List X) (runs : List Stretch) → length runs ≤ i → AreRuns (drop i runs) (drop n (map f xs))
-    → position (has o) (map f xs) ≡ position_from (has o) n (drop n (map f xs)) → None ≡ position (has o) (map f xs)
-no_run_left f o n i xs runs le rest so_far =
-    let over = all_gone (drop n (map f xs)) (subst (λ rs. AreRuns rs (drop n (map f xs))) (drop_all i runs le) rest) in
-    sym (so_far ∙ ap (position_from (has o) n) over)
 
 next_runs : (ss runs : List Stretch) (i : ℕ) (whole : Stretch) → i < length runs → whole ≡ get_or runs i whole → AreRuns (drop i runs) ss → AreRuns (whole ∷ drop (i + 1) runs) ss
 next_runs ss runs i whole lt is rest = subst (λ rs. AreRuns rs ss) (drop_more_read runs i whole lt is) rest

@@ -1,5 +1,5 @@
 -- How stacks of abbreviations and lists of fields of written types are seen, and what is counted of them.
-use Rattle.std.proofs.Common.{◌≡◌, ℕ, ◌+◌, ◌<◌, ◌≤◌, min, List, [], ◌∷◌, ◌++◌, length, take, drop, get_or, suc, refl, ap, sym, ◌∙◌, drop-cons, add-one, arith, append_assoc, Option, Some, None, String, string_bytes, false}
+use Rattle.std.proofs.Common.{◌≡◌, ℕ, ◌+◌, ◌<◌, ◌≤◌, min, List, [], ◌∷◌, ◌++◌, length, take, drop, get_or, suc, refl, ap, sym, ◌∙◌, drop-cons, add-one, append_assoc, Option, Some, None, String, string_bytes, false}
 use Rattle.lam_syntax.specs.Letters.{letters}
 use Rattle.std.specs.declared.alloc.Global.{Global}
 use Rattle.lam_token.specs.declared.span.Span.{Span}
@@ -10,12 +10,12 @@ use Rattle.lam_rules.proofs.TypeShapes.{typ_of-Bool, typ_of-Nat, typ_of-Unit, ty
 use Rattle.std.proofs.Math.Seq.{take-suc}
 use Rattle.std.specs.Option.{option_map}
 use Rattle.lam_rules.specs.Types as rules
-use Rattle.lam_rules.specs.Types.{Typ, Fields, Label, nodes, joined}
+use Rattle.lam_rules.specs.Types.{Fields, Label, joined}
 use Rattle.lam_syntax.specs.declared.types.TyField.{TyField}
 use Rattle.lam_syntax.specs.Trees.{word, TypeTree, TypeFields, type_field, no_type_fields, joined_types}
 use Rattle.lam_syntax.specs.Views.{word_of, type_of, type_fields_of}
 use Rattle.lam_syntax.proofs.Shapes.{type_node_of-Bool, type_node_of-Nat, type_node_of-Unit, type_node_of-Top, type_node_of-Named, type_node_of-Arrow, type_node_of-Record, type_fields_of-push}
-use Rattle.lam_scope.specs.Expansions.{Abbreviation, both, has_label, expansion, expansion_of_fields, node_limit, capped_nodes_in}
+use Rattle.lam_scope.specs.Expansions.{Abbreviation, both, has_label, expansion, expansion_of_fields, node_limit}
 
 pub type_fields_of-drop : (fs : List TyField) (i : ℕ) (f : TyField) → i < length fs → f ≡ get_or fs i f
     → type_fields_of (drop i fs) ≡ type_field (word_of f.label) (type_of f.ty) (type_fields_of (drop (i + 1) fs))
@@ -30,11 +30,6 @@ type_fields_of-take fs i f lt is =
 abbrev pub plus_capped : ℕ → Option ℕ → Option ℕ
 plus_capped n None = None
 plus_capped n (Some m) = Some (min (n + m) (node_limit + 1))
-
-pub plus_capped-more : (n : ℕ) (l : Label) (t : Typ) (rest : Option Fields)
-    → plus_capped n (capped_nodes_in (both (rules.field l) (Some t) rest)) ≡ plus_capped (min (n + min (nodes t) (node_limit + 1)) (node_limit + 1)) (capped_nodes_in rest)
-plus_capped-more n l t None = refl
-plus_capped-more n l t (Some fs) = ap (λ m. Some m) (omega arith)
 
 -- fields in front of those of a record type
 abbrev pub behind_fields : Fields → Option Fields → Option Fields

@@ -1,4 +1,4 @@
--- What the walks over a term and over a command add to the rows, and answer.
+-- What the walks over a term and over a command add to the rows, and answer. For private contracts only.
 use Rattle.std.specs.Prelude.{◌≡◌, ℕ, ◌+◌, List, [], ◌∷◌, true, length, Option, Result, IfOk, OnOk}
 use Rattle.std.specs.declared.alloc.AllocError.{AllocError}
 use Rattle.lam_token.specs.declared.span.Span.{Span}

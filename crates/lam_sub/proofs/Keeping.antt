@@ -2,8 +2,7 @@
 use Rattle.std.proofs.Common.{◌≡◌, ◌↔◌, List, Bool, true, false, cond, IsTrue, sym, refl, subst, arith, Option, Some, None, IfSome}
 use Rattle.std.specs.Prelude.{eqb}
 use Rattle.std.proofs.lemmas.Bool.{and_parts}
-use Rattle.std.specs.HashMap.{HashMap, get, Updates, IsUnchanged}
-use Rattle.std.specs.Map.{lookup}
+use Rattle.std.specs.HashMap.{HashMap, get, Updates}
 use Rattle.std.specs.declared.hash.FoldHasher.{FoldHasher}
 use Rattle.std.specs.declared.hash.BuildHasherDefault.{BuildHasherDefault}
 use Rattle.std.proofs.lemmas.Option.{IfSome_then}
@@ -34,10 +33,6 @@ kept_more IsAnswer m n pair x updates all here q = subst (λ o. IfSome o (IsAnsw
     by : (b : Bool) → equal_pairs pair q ≡ b → IfSome (cond b (Some x) (get equal_pairs m q)) (IsAnswer q)
     by true eq = subst (λ p. IsAnswer p x) (same_pair pair q eq) here
     by false eq = all q
-
-pub kept_same : {X : Type 0} (IsAnswer : TyNo × TyNo → X → Type 0) (m n : HashMap (TyNo × TyNo) X (BuildHasherDefault FoldHasher))
-    → IsUnchanged m n → AllKept IsAnswer m → AllKept IsAnswer n
-kept_same IsAnswer m n unchanged all q = subst (λ es. IfSome (lookup (equal_pairs q) es) (IsAnswer q)) (sym unchanged) (all q)
 
 -- a table that grows
 

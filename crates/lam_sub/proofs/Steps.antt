@@ -1,5 +1,5 @@
 -- Trees of subtyping put together in code.
-use Rattle.std.proofs.Common.{◌≡◌, ℕ, ◌+◌, ◌<◌, ◌++◌, List, [], ◌∷◌, Option, ap, sym, ◌∙◌, refl, subst, Vec, length, get_or, drop, String, string_bytes, append_assoc, Result, IfOk}
+use Rattle.std.proofs.Common.{◌≡◌, ℕ, ◌+◌, ◌<◌, ◌++◌, List, [], ◌∷◌, ap, sym, ◌∙◌, refl, subst, Vec, length, get_or, drop, String, string_bytes, append_assoc, Result, IfOk}
 use Rattle.std.specs.declared.alloc.Global.{Global}
 use Rattle.std.specs.declared.alloc.AllocError.{AllocError}
 use Rattle.std.proofs.lemmas.Result.{IfOk-weaker}
@@ -16,7 +16,6 @@ use Rattle.lam_rules.proofs.ByShape.{below_wf}
 use Rattle.lam_rules.proofs.TypeShapes.{fields_of-drop, joined-push}
 use Rattle.lam_sub.specs.Arranging.{HasLabelsOf, type_under, picked}
 use Rattle.lam_sub.specs.OtherFields.{other_fields}
-use Rattle.lam_sub.specs.Steps.{LeadsTo}
 use Rattle.lam_sub.proofs.LookUps.{begins_with_first}
 use Rattle.lam_sub.proofs.Arranging.{arranged, arranged_permutes}
 
@@ -63,12 +62,6 @@ chained p q lower upper made s u t d is_lower is_upper is first second =
       ),
       refl,
     )
-
-pub leads_first : (q : Option SubProof) (s u t : Typ) (d : Dialect) → s ≡ u → LeadsTo q u t d → LeadsTo q s t d
-leads_first q s u t d same leads = subst (λ x. LeadsTo q x t d) (sym same) leads
-
-pub leads_second : (p : Option SubProof) (s u t : Typ) (d : Dialect) → LeadsTo p s u d → u ≡ t → LeadsTo p s t d
-leads_second p s u t d leads same = subst (λ x. LeadsTo p s x d) same leads
 
 -- the fields as they were copied
 

@@ -2,7 +2,7 @@
 use Rattle.std.proofs.Common.{◌≡◌, ◌⊎◌, ◌↔◌, ℕ, ◌+◌, ◌<◌, ◌++◌, List, [], ◌∷◌, Bool, true, false, IsTrue, String, string_bytes, length, get_or, take, drop, ap, sym, ◌∙◌, refl, inl, inr, subst, arith, Vec}
 use Rattle.std.proofs.lemmas.List.{take-append-drop}
 use Rattle.std.specs.declared.alloc.Global.{Global}
-use Rattle.lam_rules.specs.Types.{Label, Typ, bool, nat, unit, arrow, record_of, Fields, field, joined, Has, IsAbsent, nodes, IsWellFormed}
+use Rattle.lam_rules.specs.Types.{Label, Typ, bool, nat, unit, arrow, record_of, Fields, field, joined, Has, IsAbsent, IsWellFormed}
 use Rattle.lam_rules.specs.Texts.{sorted}
 use Rattle.lam_rules.specs.Subtyping.{IsBelow}
 use Rattle.lam_rules.specs.Numbers.{type_of, fields_over, shaped, IsOver, AreEarlier}
@@ -15,7 +15,6 @@ use Rattle.lam_rules.proofs.ByShape.{below_wf}
 use Rattle.lam_rules.proofs.Composing.{below_refl, below_trans}
 use Rattle.lam_rules.proofs.TableEntries.{fields_over-drop}
 use Rattle.lam_sub.specs.FieldsBelow.{AreBelow}
-use Rattle.lam_sub.specs.Remembered.{IsConstant}
 use Rattle.lam_sub.proofs.LookUps.{has_in_first, has_in_second, absent_in_both}
 use Rattle.lam_sub.proofs.Below.{bool_below_nat, below_bool, below_nat, below_unit, below_arrow_is, below_record_is, arrow_iff}
 use Rattle.lam_sub.proofs.ByVariant.{true_here, false_here}
@@ -29,14 +28,6 @@ sorted_iff s t d ws wt = (
 )
 
 -- shapes
-
-pub constant : (s : Shape) → ((p q : TyNo) → s ≡ Shape.Arrow p q → ⊥) → ((fs : Vec (String Global × TyNo) Global) → s ≡ Shape.Record fs → ⊥) → IsConstant s
-constant Shape.Bool n m = tt
-constant Shape.Nat n m = tt
-constant Shape.Unit n m = tt
-constant Shape.Top n m = tt
-constant (Shape.Arrow p q) n m = n p q refl
-constant (Shape.Record fs) n m = m fs refl
 
 shape_bool : (ts : List Typ) (s : Shape) → shaped ts s ≡ bool → s ≡ Shape.Bool
 shape_bool ts Shape.Bool e = refl
@@ -131,9 +122,6 @@ arrow_numbers ts s t x y p o q r d is_s is_t is_x is_y =
     subst (λ u. (IsBelow (type_of ts q) (type_of ts p) d × IsBelow (type_of ts o) (type_of ts r) d) ↔ IsBelow u t d) (sym (is_s ∙ ap (shaped ts) is_x))
     (subst (λ u. (IsBelow (type_of ts q) (type_of ts p) d × IsBelow (type_of ts o) (type_of ts r) d) ↔ IsBelow (arrow (type_of ts p) (type_of ts o)) u d) (sym (is_t ∙ ap (shaped ts) is_y))
     (arrow_iff (type_of ts p) (type_of ts o) (type_of ts q) (type_of ts r) d))
-
-pub nodes_of_numbers : (ts : List Typ) (s : Typ) (x : Shape) (p o : TyNo) → s ≡ shaped ts x → x ≡ Shape.Arrow p o → nodes s ≡ 1 + nodes (type_of ts p) + nodes (type_of ts o)
-nodes_of_numbers ts s x p o is_s is_x = ap nodes (is_s ∙ ap (shaped ts) is_x)
 
 pub record_of_numbers : (ts : List Typ) (s : Typ) (x : Shape) (fs : Vec (String Global × TyNo) Global) (xs : List (String Global × TyNo))
     → s ≡ shaped ts x → x ≡ Shape.Record fs → xs ≡ fs.items → s ≡ record_of (fields_over ts xs)

@@ -1,6 +1,6 @@
 -- The pieces of tokens, one run at a time.
-use Rattle.std.proofs.Common.{◌≡◌, ℕ, zero, suc, ◌+◌, ◌≤◌, ◌<◌, Bool, true, false, cond, List, [], ◌∷◌, ◌++◌, length, take, drop, map, sym, refl, ap, ◌∙◌, subst, add-one, arith, get_or, drop-cons}
-use Rattle.std.proofs.lemmas.List.{drop_all, append-nil}
+use Rattle.std.proofs.Common.{◌≡◌, ℕ, zero, suc, ◌+◌, ◌<◌, Bool, true, false, cond, List, [], ◌∷◌, ◌++◌, length, take, drop, map, sym, refl, ap, ◌∙◌, subst, arith}
+use Rattle.std.proofs.lemmas.List.{append-nil}
 use Rattle.std.specs.Prelude.{filter, All, ◌==◌}
 use Rattle.std.specs.List.{AllByRecursion}
 use Rattle.std.proofs.lemmas.List.Elements.{All-from_recursion, recursion_from_All}
@@ -82,31 +82,6 @@ piece_ended piece left t none ends = ap (filter has_tokens) (ended_run piece lef
 
 pub last_piece : (piece : List Lexeme) → All GoesOn piece → pieces_of piece ≡ with_piece piece []
 last_piece piece none = ap (filter has_tokens) (last_run piece (recursion_from_All GoesOn piece none))
-
--- one token more before the first semicolon, and none
-pub run_len-more : (ts : List Lexeme) (n : ℕ) (t : Lexeme) → n < length ts → t ≡ get_or ts n t → false ≡ is_semicolon t → run_len (drop n ts) ≡ suc (run_len (drop (n + 1) ts))
-run_len-more ts n t lt is other =
-    ap run_len (drop-cons ts n t lt)
-    ∙ ap (λ u. cond (is_semicolon u) 0 (suc (run_len (drop (suc n) ts)))) (sym is)
-    ∙ ap (λ b. cond b 0 (suc (run_len (drop (suc n) ts)))) (sym other)
-    ∙ ap (λ m. suc (run_len (drop m ts))) (sym (add-one n))
-
-pub run_len-here : (ts : List Lexeme) (n : ℕ) (t : Lexeme) → n < length ts → t ≡ get_or ts n t → true ≡ is_semicolon t → run_len (drop n ts) ≡ 0
-run_len-here ts n t lt is semicolon =
-    ap run_len (drop-cons ts n t lt)
-    ∙ ap (λ u. cond (is_semicolon u) 0 (suc (run_len (drop (suc n) ts)))) (sym is)
-    ∙ ap (λ b. cond b 0 (suc (run_len (drop (suc n) ts)))) (sym semicolon)
-
-pub run_len-end : (ts : List Lexeme) (n : ℕ) → length ts ≤ n → run_len (drop n ts) ≡ 0
-run_len-end ts n le = ap run_len (drop_all n ts le)
-
-pub run_len-within : (ts : List Lexeme) → run_len ts ≤ length ts
-run_len-within [] = omega arith
-run_len-within (t ∷ ts) = by (is_semicolon t) (run_len-within ts)
-  where
-    by : (b : Bool) → run_len ts ≤ length ts → cond b 0 (suc (run_len ts)) ≤ suc (length ts)
-    by true le = omega arith
-    by false le = omega arith
 
 -- a piece at the end of those found, and none
 

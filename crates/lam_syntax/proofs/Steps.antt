@@ -11,59 +11,13 @@ use Rattle.lam_syntax.specs.declared.terms.Prefix.{Prefix}
 use Rattle.lam_syntax.specs.declared.terms.Tm.{Tm}
 use Rattle.lam_syntax.specs.declared.stop.Stop.{Stop}
 use Rattle.lam_syntax.specs.declared.stop.Stop.TheVariants.{At, Memory}
-use Rattle.lam_syntax.proofs.Ends.{run-look}
-use Rattle.lam_syntax.specs.Trees.{Word, word, Bound, from_to, term_span, term_tree, project, TypeFields, no_type_fields, type_field, joined_types, TypeTree, TermTree, TermFields, no_fields, field, joined}
-use Rattle.lam_syntax.specs.Run.{Purpose, for_lambda, for_let, for_letrec, in_condition, in_then, in_let, in_letrec, of_lambda, of_letrec, after_binder, InTerm, InPath, as_head, InType, in_type_field, in_field, State, need_command, after_type_name, need_type, need_type_field, next_type_field, need_binder, need_term, need_field, next_field, after_label, after_type_label, need_label, after_asc, after_atom, of_evaluation, begin_app, begin_atom, ended_type, ended_term, ended_app, ended_asc, applied, outside, Outcome, fault, run, look}
-use Rattle.lam_syntax.specs.Reads.{Reads, ReadsBehind, ReadsAll, Names, Expects, Front, Starts, NoFront, behind_term, placed, prefixed_by, type_fields_next, fields_next}
+use Rattle.lam_syntax.specs.Trees.{Word, word, Bound, TypeFields, no_type_fields, TypeTree, TermTree, TermFields, no_fields}
+use Rattle.lam_syntax.specs.Run.{for_lambda, for_let, for_letrec, in_condition, in_then, in_let, in_letrec, of_lambda, of_letrec, after_binder, InTerm, InPath, InType, need_command, after_type_name, need_type_field, next_type_field, need_term, need_field, next_field, after_label, after_type_label, need_label, after_atom, of_evaluation, begin_app, ended_type, ended_term, ended_app, ended_asc, applied, outside, Outcome, fault, run, look}
+use Rattle.lam_syntax.specs.Reads.{Reads, ReadsBehind, ReadsAll, Names, Expects, Front, NoFront, behind_term, placed, prefixed_by}
 
 -- a token of a known kind
 pub known_kind : (tokens rest : List Lexeme) (t : Lexeme) (k : Kind) → tokens ≡ t ∷ rest → k ≡ kind_of t → tokens ≡ lexeme k (text_of t) (span_of t) ∷ rest
 known_kind tokens rest (lexeme j x s) k are is = are ∙ ap (λ i. lexeme i x s ∷ rest) (sym is)
-
--- the run at a token of a known kind
-pub run_known : (tokens rest : List Lexeme) (t : Lexeme) (k : Kind) (s : State) → tokens ≡ t ∷ rest → k ≡ kind_of t → run tokens s ≡ run (lexeme k (text_of t) (span_of t) ∷ rest) s
-run_known tokens rest t k s are is = ap (λ l. run l s) (known_kind tokens rest t k are is)
-
--- no token of a type
-pub no_type : (t : Lexeme) (tokens rest : List Lexeme) (k : InType) → tokens ≡ t ∷ rest
-    → (kind_of t ≡ kind.OpenParen → ⊥) → (kind_of t ≡ kind.OpenBrace → ⊥) → (kind_of t ≡ kind.TypeName → ⊥) → (kind_of t ≡ kind.BoolType → ⊥)
-    → (kind_of t ≡ kind.NatType → ⊥) → (kind_of t ≡ kind.UnitType → ⊥) → (kind_of t ≡ kind.TopType → ⊥)
-    → run tokens (need_type k) ≡ fault tokens
-no_type (lexeme kind.OpenParen x s) tokens rest k are a b c d e f g = absurd (a refl)
-no_type (lexeme kind.OpenBrace x s) tokens rest k are a b c d e f g = absurd (b refl)
-no_type (lexeme kind.TypeName x s) tokens rest k are a b c d e f g = absurd (c refl)
-no_type (lexeme kind.BoolType x s) tokens rest k are a b c d e f g = absurd (d refl)
-no_type (lexeme kind.NatType x s) tokens rest k are a b c d e f g = absurd (e refl)
-no_type (lexeme kind.UnitType x s) tokens rest k are a b c d e f g = absurd (f refl)
-no_type (lexeme kind.TopType x s) tokens rest k are a b c d e f g = absurd (g refl)
-no_type (lexeme _ x s) tokens rest k are a b c d e f g = ap (λ l. run l (need_type k)) are ∙ sym (ap fault are)
-
--- no token of an atom
-pub no_atom : (t : Lexeme) (tokens rest : List Lexeme) (k : InPath) → tokens ≡ t ∷ rest
-    → (kind_of t ≡ kind.OpenParen → ⊥) → (kind_of t ≡ kind.OpenBrace → ⊥) → (kind_of t ≡ kind.Name → ⊥) → (kind_of t ≡ kind.Numeral → ⊥)
-    → (kind_of t ≡ kind.True → ⊥) → (kind_of t ≡ kind.False → ⊥) → (kind_of t ≡ kind.UnitTerm → ⊥)
-    → look tokens (λ o. begin_atom o k) ≡ fault tokens
-no_atom (lexeme kind.OpenParen x s) tokens rest k are a b c d e f g = absurd (a refl)
-no_atom (lexeme kind.OpenBrace x s) tokens rest k are a b c d e f g = absurd (b refl)
-no_atom (lexeme kind.Name x s) tokens rest k are a b c d e f g = absurd (c refl)
-no_atom (lexeme kind.Numeral x s) tokens rest k are a b c d e f g = absurd (d refl)
-no_atom (lexeme kind.True x s) tokens rest k are a b c d e f g = absurd (e refl)
-no_atom (lexeme kind.False x s) tokens rest k are a b c d e f g = absurd (f refl)
-no_atom (lexeme kind.UnitTerm x s) tokens rest k are a b c d e f g = absurd (g refl)
-no_atom (lexeme _ x s) tokens rest k are a b c d e f g = ap (λ l. look l (λ o. begin_atom o k)) are ∙ sym (ap fault are)
-
-pub no_start : (t : Lexeme) (tokens rest : List Lexeme) → tokens ≡ t ∷ rest
-    → (kind_of t ≡ kind.OpenParen → ⊥) → (kind_of t ≡ kind.OpenBrace → ⊥) → (kind_of t ≡ kind.Name → ⊥) → (kind_of t ≡ kind.Numeral → ⊥)
-    → (kind_of t ≡ kind.True → ⊥) → (kind_of t ≡ kind.False → ⊥) → (kind_of t ≡ kind.UnitTerm → ⊥)
-    → Starts tokens → ⊥
-no_start (lexeme kind.OpenParen x s) tokens rest are a b c d e f g = λ h. a refl
-no_start (lexeme kind.OpenBrace x s) tokens rest are a b c d e f g = λ h. b refl
-no_start (lexeme kind.Name x s) tokens rest are a b c d e f g = λ h. c refl
-no_start (lexeme kind.Numeral x s) tokens rest are a b c d e f g = λ h. d refl
-no_start (lexeme kind.True x s) tokens rest are a b c d e f g = λ h. e refl
-no_start (lexeme kind.False x s) tokens rest are a b c d e f g = λ h. f refl
-no_start (lexeme kind.UnitTerm x s) tokens rest are a b c d e f g = λ h. g refl
-no_start (lexeme _ x s) tokens rest are a b c d e f g = λ h. rw are at h
 
 -- no word that a term other than an application begins with
 pub no_word : (t : Lexeme) (tokens rest : List Lexeme) (k : InTerm) → tokens ≡ t ∷ rest
@@ -74,32 +28,6 @@ no_word (lexeme kind.If x s) tokens rest k are a b c d = absurd (b refl)
 no_word (lexeme kind.Let x s) tokens rest k are a b c d = absurd (c refl)
 no_word (lexeme kind.Letrec x s) tokens rest k are a b c d = absurd (d refl)
 no_word (lexeme _ x s) tokens rest k are a b c d = ap (λ l. run l (need_term k)) are ∙ sym (ap (λ l. look l (λ o. begin_app o k)) are)
-
--- no prefix
-pub no_prefix : (t : Lexeme) (tokens rest : List Lexeme) (k : InTerm) → tokens ≡ t ∷ rest
-    → (kind_of t ≡ kind.Fix → ⊥) → (kind_of t ≡ kind.Succ → ⊥) → (kind_of t ≡ kind.Pred → ⊥) → (kind_of t ≡ kind.IsZero → ⊥)
-    → look tokens (λ o. begin_app o k) ≡ look tokens (λ o. begin_atom o (as_head k))
-no_prefix (lexeme kind.Fix x s) tokens rest k are a b c d = absurd (a refl)
-no_prefix (lexeme kind.Succ x s) tokens rest k are a b c d = absurd (b refl)
-no_prefix (lexeme kind.Pred x s) tokens rest k are a b c d = absurd (c refl)
-no_prefix (lexeme kind.IsZero x s) tokens rest k are a b c d = absurd (d refl)
-no_prefix (lexeme _ x s) tokens rest k are a b c d = ap (λ l. look l (λ o. begin_app o k)) are ∙ sym (ap (λ l. look l (λ o. begin_atom o (as_head k))) are)
-
--- no binder
-pub no_binder : (t : Lexeme) (tokens rest : List Lexeme) (p : Purpose) (s : Span) (k : InTerm) → tokens ≡ t ∷ rest
-    → (kind_of t ≡ kind.Name → ⊥) → (kind_of t ≡ kind.Underscore → ⊥)
-    → run tokens (need_binder p s k) ≡ fault tokens
-no_binder (lexeme kind.Name x r) tokens rest p s k are a b = absurd (a refl)
-no_binder (lexeme kind.Underscore x r) tokens rest p s k are a b = absurd (b refl)
-no_binder (lexeme _ x r) tokens rest p s k are a b = ap (λ l. run l (need_binder p s k)) are ∙ sym (ap fault are)
-
--- no definition, declaration or abbreviation
-pub no_command_word : (t : Lexeme) (tokens rest : List Lexeme) → tokens ≡ t ∷ rest
-    → (kind_of t ≡ kind.Name → ⊥) → (kind_of t ≡ kind.TypeName → ⊥)
-    → run tokens need_command ≡ run tokens (need_term of_evaluation)
-no_command_word (lexeme kind.Name x r) tokens rest are a b = absurd (a refl)
-no_command_word (lexeme kind.TypeName x r) tokens rest are a b = absurd (b refl)
-no_command_word (lexeme _ x r) tokens rest are a b = ap (λ l. run l need_command) are ∙ sym (ap (λ l. run l (need_term of_evaluation)) are)
 
 -- a name without a mark
 no_mark : (x : List ℕ) (s : Span) (rest : List Lexeme) → NoFront kind.Equals rest → NoFront kind.Colon rest → run (lexeme kind.Name x s ∷ rest) need_command ≡ run (lexeme kind.Name x s ∷ rest) (need_term of_evaluation)
@@ -125,37 +53,6 @@ some_fields [] s k none = refl
 some_fields (lexeme kind.CloseBrace x e ∷ ts) s k none = absurd (none x e ts refl)
 some_fields (lexeme kind.Name x e ∷ ts) s k none = refl
 some_fields (lexeme _ x e ∷ ts) s k none = refl
-
--- behind the type of a field, and behind its term
-pub behind_field_type : (tokens : List Lexeme) (t : TypeTree) (s : Span) (before : TypeFields) (l : List ℕ) (r : Span) (k : InType) → look tokens (λ o. ended_type o t (in_type_field s before (word l r) k)) ≡ look tokens (λ o. type_fields_next o s (joined_types before (type_field (word l r) t no_type_fields)) k)
-behind_field_type [] t s before l r k = refl
-behind_field_type (lexeme kind.Comma x e ∷ ts) t s before l r k = refl
-behind_field_type (lexeme kind.CloseBrace x e ∷ ts) t s before l r k = refl
-behind_field_type (lexeme _ x e ∷ ts) t s before l r k = refl
-
-pub behind_field_term : (tokens : List Lexeme) (t : TermTree) (s : Span) (before : TermFields) (l : List ℕ) (r : Span) (k : InPath) → look tokens (λ o. ended_term o t (in_field s before (word l r) k)) ≡ look tokens (λ o. fields_next o s (joined before (field (word l r) t no_fields)) k)
-behind_field_term [] t s before l r k = refl
-behind_field_term (lexeme kind.Comma x e ∷ ts) t s before l r k = refl
-behind_field_term (lexeme kind.CloseBrace x e ∷ ts) t s before l r k = refl
-behind_field_term (lexeme _ x e ∷ ts) t s before l r k = refl
-
--- an argument, and none
-pub argument_next : (tokens : List Lexeme) (t : TermTree) (k : InTerm) → (Starts tokens → ⊥) → look tokens (λ o. ended_app o t k) ≡ look tokens (λ o. ended_term o t k)
-argument_next [] t k none = refl
-argument_next (lexeme kind.OpenParen x s ∷ ts) t k none = absurd (none tt)
-argument_next (lexeme kind.True x s ∷ ts) t k none = absurd (none tt)
-argument_next (lexeme kind.False x s ∷ ts) t k none = absurd (none tt)
-argument_next (lexeme kind.UnitTerm x s ∷ ts) t k none = absurd (none tt)
-argument_next (lexeme kind.Name x s ∷ ts) t k none = absurd (none tt)
-argument_next (lexeme kind.Numeral x s ∷ ts) t k none = absurd (none tt)
-argument_next (lexeme kind.OpenBrace x s ∷ ts) t k none = absurd (none tt)
-argument_next (lexeme _ x s ∷ ts) t k none = refl
-
--- no label behind a path
-pub no_label : (tokens : List Lexeme) (t : TermTree) (k : InPath) → NoFront kind.Dot tokens → look tokens (λ o. ended_asc o t k) ≡ look tokens (λ o. ended_app o (applied t k) (outside k))
-no_label [] t k none = refl
-no_label (lexeme kind.Dot x s ∷ ts) t k none = absurd (none x s ts refl)
-no_label (lexeme _ x s ∷ ts) t k none = refl
 
 -- no type behind an atom
 pub no_ascription : (tokens : List Lexeme) (t : TermTree) (k : InPath) → NoFront kind.As tokens → run tokens (after_atom t k) ≡ look tokens (λ o. ended_asc o t k)
@@ -215,10 +112,6 @@ dot_read tokens rest m t k front = ap (λ l. look l (λ o. ended_asc o t k)) fro
 pub dot_label_stop : {X : Type 0} (tokens rest : List Lexeme) (m : Span) (e : Stop) (t : TermTree) (k : InPath) (o : Outcome) (f : X → List Lexeme → Outcome) → o ≡ look tokens (λ a. ended_asc a t k) → Front kind.Dot tokens m rest → Names rest (Err e) → Reads (Err e) o f
 dot_label_stop tokens rest m (At left) t k o f so_far front h = so_far ∙ dot_read tokens rest m t k front ∙ no_dot_label rest t k h.1 ∙ ap fault (sym h.0)
 dot_label_stop tokens rest m Memory t k o f so_far front h = tt
-
-pub label_read : (tokens rest after : List Lexeme) (m s : Span) (l : List ℕ) (t : TermTree) (k : InPath) → Front kind.Dot tokens m rest → rest ≡ lexeme kind.Name l s ∷ after → look tokens (λ o. ended_asc o t k) ≡ look after (λ o. ended_asc o (term_tree (from_to (term_span t) s) (project t (word l s))) k)
-label_read tokens rest after m s l t k front named =
-    dot_read tokens rest m t k front ∙ ap (λ r. run r (need_label t k)) named ∙ run-look after (after_asc _ k)
 
 -- the same run under another name
 pub reads_same : {X : Type 0} (r : Result (X × Bor (List Lexeme)) Stop) (o p : Outcome) (f : X → List Lexeme → Outcome) → p ≡ o → Reads r o f → Reads r p f

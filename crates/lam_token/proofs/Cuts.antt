@@ -10,7 +10,7 @@ use Rattle.std.proofs.lemmas.List.Elements.{All-from_recursion}
 use Rattle.std.proofs.lemmas.Str.{encodes-append, encodes-chars, chars-nil, length-le-encodes, IsCharBoundary-at_seam, IsUtf8-past_char}
 use Rattle.std.proofs.Math.Seq.{take-append_seam, drop-append_seam}
 use Rattle.lam_token.specs.declared.kind.Kind.{Kind}
-use Rattle.lam_token.specs.declared.kind.Kind.TheVariants.{Name, TypeName, BadCharacter, BadComment}
+use Rattle.lam_token.specs.declared.kind.Kind.TheVariants.{Name, TypeName, BadComment}
 use Rattle.lam_token.specs.declared.segment.Segment.{Segment}
 use Rattle.lam_token.specs.declared.segment.Segment.TheVariants.{Blank, Comment, Token}
 use Rattle.lam_token.specs.declared.segment.Beginning.{Beginning}
@@ -273,11 +273,6 @@ rest_of_text start text offset rest stands =
 abbrev pub GoesOn : (whole rest : List ℕ) → (start : ℕ) → (so_far : List Lexeme) → Type 0
 GoesOn whole rest start so_far = (others : List Lexeme) → AreTokensFrom start rest others → AreTokensOf whole (so_far ++ others)
 
-pub goes_on_behind : (whole rest after : List ℕ) (start : ℕ) (so_far now : List Lexeme) (t : Lexeme) → now ≡ so_far ++ t ∷ [] → ((others : List Lexeme) → AreTokensFrom (end_of t) after others → AreTokensFrom start rest (t ∷ others)) → GoesOn whole rest start so_far → GoesOn whole after (end_of t) now
-goes_on_behind whole rest after start so_far now t pushed first goes others are =
-    subst (AreTokensOf whole) (sym (append_assoc so_far (t ∷ []) others) ∙ ap (λ l. l ++ others) (sym pushed))
-    (goes (t ∷ others) (first others are))
-
 pub goes_no_further : (whole rest : List ℕ) (start : ℕ) (so_far : List Lexeme) → AreTokensFrom start rest [] → GoesOn whole rest start so_far → AreTokensOf whole so_far
 goes_no_further whole rest start so_far none goes = subst (AreTokensOf whole) (append-nil so_far) (goes [] none)
 
@@ -321,11 +316,6 @@ segment_alone text rest s kind front is_text is sort bytes =
 
 -- the kind of the whole text
 
-pub whole_shape : (k : Kind) (text : List ℕ) → IsFirst (Token k) text [] → (kind : Kind) → shape_of text ≡ Some (Token kind) → k ≡ kind
-whole_shape k text (longest one none_longer) kind shape = cc
-whole_shape k text (unclosed none is_open ends) kind shape = let no = none text [] refl in absurd cc
-whole_shape k text (stray none not_open single) kind shape = let no = none text [] refl in absurd cc
-
 pub name_shape : (k : Kind) (text : List ℕ) → IsFirst (Token k) text [] → k ≡ Name → shape_of text ≡ Some (Token Name)
 name_shape k text (longest one none_longer) is = one ∙ ap (λ n. Some (Token n)) is
 name_shape k text (unclosed none is_open ends) is = absurd cc
@@ -368,13 +358,6 @@ all_is_first text rest s t is is_empty sort =
     let whole : is.segment ≡ chars text = sym (append-nil _) ∙ ap (λ l. is.segment ++ l) (sym none) ∙ sym is.front.characters in
     subst (λ k. IsFirst k (chars text) []) sort
     (subst (λ l. IsFirst s (chars text) l) none (subst (λ l. IsFirst s l (chars rest)) whole is.is_first))
-
-pub blank_is_none : (text : List ℕ) (s : Segment) → IsFirst s text [] → ((kind : Kind) → s ≡ Token kind → ⊥) → IsWholeKind text None
-blank_is_none text s (longest one none_longer) no_token kind shape =
-    let same : Some s ≡ Some (Token kind) = sym one ∙ shape in
-    no_token kind cc
-blank_is_none text s (unclosed none is_open ends) no_token kind shape = no_token BadComment refl
-blank_is_none text s (stray none not_open single) no_token kind shape = no_token BadCharacter refl
 
 -- what is left behind a segment is shorter
 pub segment_shorter : (text rest : List ℕ) (s : Segment) → SegmentIs text s rest → length rest < length text

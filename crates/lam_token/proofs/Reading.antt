@@ -81,11 +81,6 @@ pub run_at_end : (passes : ℕ → Bool) (text : List ℕ) → IsUtf8 text → t
 run_at_end passes text is_text is_end =
     run_none passes text is_text (subst (EndsRun passes) (sym (ap chars is_end ∙ chars-nil)) tt)
 
--- a character that fails the test ends a run
-pub run_at_other : (passes : ℕ → Bool) (text rest : List ℕ) (c : ℕ) → IsUtf8 text → FirstIs text c rest → passes c ≡ false → RunIs passes text text
-run_at_other passes text rest c is_text first fails =
-    run_none passes text is_text (subst (EndsRun passes) (sym first.characters) fails)
-
 -- one character more in front of a run
 pub run_more : (passes : ℕ → Bool) (text rest after : List ℕ) (c : ℕ) → FirstIs text c rest → passes c ≡ true → RunIs passes rest after → RunIs passes text after
 run_more passes text rest after c first pass run = record {

@@ -3,10 +3,10 @@ use Rattle.std.proofs.Common.{◌≡◌, ℕ, ◌+◌, ◌-◌, arith, List, [],
 use Rattle.std.specs.Option.{option_map}
 use Rattle.std.specs.declared.alloc.Global.{Global}
 use Rattle.std.proofs.lemmas.List.{reverse-append}
-use Rattle.lam_rules.specs.Types.{Typ, Fields, field, arrow, record_of, IsWellFormed}
+use Rattle.lam_rules.specs.Types.{Typ, Fields, field, arrow, record_of}
 use Rattle.lam_rules.specs.TypeViews.{typ_of, fields_of}
 use Rattle.lam_rules.specs.SubViews.{sub_tree_of}
-use Rattle.lam_rules.specs.Subtyping.{ProvesBelow, IsBelow}
+use Rattle.lam_rules.specs.Subtyping.{ProvesBelow}
 use Rattle.lam_rules.specs.Terms.{Term, true_term, false_term, numeral, unit_term, succ, pred, is_zero, no_terms}
 use Rattle.lam_rules.specs.TermViews.{terms_of}
 use Rattle.lam_rules.specs.declared.terms.Core.{Core}
@@ -21,7 +21,7 @@ use Rattle.lam_rules.specs.declared.rules.Dialect.{Dialect}
 use Rattle.lam_rules.specs.declared.rules.TypeRule.{TypeRule}
 use Rattle.lam_rules.specs.declared.typing.TypeProof.{TypeProof, roll-TypeProof, out-TypeProof, out-roll-TypeProof}
 use Rattle.lam_rules.proofs.ByShape.{below_wf}
-use Rattle.lam_rules.proofs.TypingShapes.{typing_tree_of-node, type_in-typing_tree_of, typing_wf_of}
+use Rattle.lam_rules.proofs.TypingShapes.{typing_tree_of-node, type_in-typing_tree_of}
 use Rattle.lam_scope.specs.Sights.{inside, place_of_term}
 use Rattle.lam_typing.specs.Grounds.{found_in, dialect_in}
 use Rattle.lam_typing.specs.Proving.{tree_in, ProvesFound, ProvesThis, IsProvenTerm, IsProvenForm, IsWidened, IsLeafBy, IsNatBy}
@@ -33,10 +33,6 @@ pub step_tree : (rule : TypeRule) (ty : Ty) (premises : Vec TypeProof Global) (s
 step_tree rule ty premises sub =
     typing_tree_of-node (roll-TypeProof record { rule = rule; ty = ty; typing = premises; sub = sub })
     ∙ ap (λ o. typing_step o.rule (typ_of o.ty) (typings_of o.typing.items) (option_map (λ q. sub_tree_of q.value) o.sub)) (out-roll-TypeProof record { rule = rule; ty = ty; typing = premises; sub = sub })
-
--- a proof of the type already
-pub same_widened : (p : TypeProof) (t : Typ) (d : Dialect) → typ_of (out-TypeProof p).ty ≡ t → IsWidened (typing_tree_of p) t (Some (typing_tree_of p)) d
-same_widened p t d same g e typing = (typing, type_in-typing_tree_of p ∙ same)
 
 -- one step of subsumption more
 pub sub_widened : (p : TypeProof) (ty : Ty) (premises : Vec TypeProof Global) (sub : Box SubProof Global) (t : Typ) (d : Dialect) → premises.items ≡ p ∷ [] → typ_of ty ≡ t
@@ -51,16 +47,6 @@ sub_widened p ty premises sub t d one same below g e typing =
   where
     context_wf : (q : TypingTree) (g : Context) (e : Term) (d : Dialect) → IsTyping g e q d → IsWellFormedContext g
     context_wf (typing_step r u ps s) g e d h = h.0
-
--- none, where it is not below
-pub not_below_widened : (p : TypeProof) (t : Typ) (d : Dialect) → (IsBelow (typ_of (out-TypeProof p).ty) t d → ⊥) → IsWidened (typing_tree_of p) t None d
-not_below_widened p t d not g e typing = λ below. not (subst (λ s. IsBelow s t d) (type_in-typing_tree_of p) below)
-
-pub faulty_widened : (p : TypeProof) (t : Typ) (d : Dialect) → (IsWellFormed (typ_of (out-TypeProof p).ty) → ⊥) → IsWidened (typing_tree_of p) t None d
-faulty_widened p t d not g e typing = λ below. not (typing_wf_of g e p d typing)
-
-pub faulty_upper_widened : (p : TypeProof) (t : Typ) (d : Dialect) → (IsWellFormed t → ⊥) → IsWidened (typing_tree_of p) t None d
-faulty_upper_widened p t d not g e typing = λ below. not (below_wf (type_in (typing_tree_of p)) t d below).1
 
 -- lists that were filled from the last to the first
 

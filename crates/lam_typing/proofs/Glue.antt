@@ -231,16 +231,10 @@ pub err_walked : (r : Result (Option TyNo) Stop) (stop : Stop) (w0 now : Walk) (
 err_walked (Ok x) stop w0 now e is stopped = absurd is
 err_walked (Err s) stop w0 now e is stopped = subst (λ x. HasStopped x w0 now e) (sym is) stopped
 
-pub memory_walked : (r : Result (Option TyNo) Stop) (w0 now : Walk) (e : Term) → IsErrAnd r (λ y. y ≡ Stop.Memory) → HasWalked r w0 now e
-memory_walked r w0 now e is = err_walked r Stop.Memory w0 now e is tt
-
 pub err_fields_walked : (r : Result Bool Stop) (stop : Stop) (w0 now : Walk) (es : TermFields) (before after : List (String Global × TyNo))
     → IsErrAnd r (λ y. y ≡ stop) → HasStoppedInFields stop w0 now es → HasWalkedFields r w0 now es before after
 err_fields_walked (Ok x) stop w0 now es before after is stopped = absurd is
 err_fields_walked (Err s) stop w0 now es before after is stopped = subst (λ x. HasStoppedInFields x w0 now es) (sym is) stopped
-
-pub memory_fields_walked : (r : Result Bool Stop) (w0 now : Walk) (es : TermFields) (before after : List (String Global × TyNo)) → IsErrAnd r (λ y. y ≡ Stop.Memory) → HasWalkedFields r w0 now es before after
-memory_fields_walked r w0 now es before after is = err_fields_walked r Stop.Memory w0 now es before after is tt
 
 -- the terms of a record, one after the other
 

@@ -43,10 +43,6 @@ pub all_stand_push : (ts : List Typ) (os : List (Option TyNo)) (o : Option TyNo)
 all_stand_push ts [] o stand stands = (stands, tt)
 all_stand_push ts (p ∷ os) o stand stands = (stand.0, all_stand_push ts os o stand.1 stands)
 
-pub all_stand_front : (ts : List Typ) (os : List (Option TyNo)) (o : Option TyNo) → AllStandIn ts (os ++ o ∷ []) → AllStandIn ts os
-all_stand_front ts [] o stand = tt
-all_stand_front ts (p ∷ os) o stand = (stand.0, all_stand_front ts os o stand.1)
-
 under-push : (ts : List Typ) (g : Context) (os : List (Option TyNo)) (o : Option TyNo) → under_entries ts g (os ++ o ∷ []) ≡ answer ts o ∷ under_entries ts g os
 under-push ts g [] o = refl
 under-push ts g (p ∷ os) o = under-push ts (answer ts p ∷ g) os o

@@ -1,6 +1,6 @@
 -- How the notes of the parts of a term go together, and those of statements.
 use Rattle.std.proofs.Common.{◌≡◌, ℕ, ◌+◌, ◌-◌, ◌<◌, ◌≤◌, List, [], ◌∷◌, ◌++◌, length, map, drop, take, get_or, Vec, Option, None, ap, refl, sym, subst, ◌∙◌, arith, append_assoc, suc, zero}
-use Rattle.std.proofs.lemmas.List.{append-nil, length-append, drop_all}
+use Rattle.std.proofs.lemmas.List.{append-nil, length-append}
 use Rattle.std.specs.declared.alloc.Global.{Global}
 use Rattle.lam_rules.specs.Types.{Typ}
 use Rattle.lam_rules.specs.Terms.{Term, true_term, false_term, if_then_else, numeral, succ, pred, is_zero, variable, free, lambda, apply, unit_term, ascribe, let_in, record_term, project, fix, TermFields, term_field}
@@ -11,7 +11,7 @@ use Rattle.lam_scope.specs.Views.{statement_of}
 use Rattle.lam_scope.specs.declared.numbers.Place.{Place}
 use Rattle.lam_scope.specs.declared.statement.Statement.{Statement as RustStatement}
 use Rattle.lam_scope.proofs.Resolving.{statements-drop}
-use Rattle.lam_typing.specs.Notes.{Noted, note, notes, notes_in, notes_of, entry_of_source, entries_onto, context_in, noted_as, noted_by, NotesMore, NotesTerm, NotesFields, NotesOne, NotesStatement, NotesDocument, IsLeaf, IsOver}
+use Rattle.lam_typing.specs.Notes.{Noted, note, notes, notes_in, notes_of, entry_of_source, entries_onto, context_in, noted_as, noted_by, NotesMore, NotesTerm, NotesFields, NotesOne, NotesStatement, IsLeaf, IsOver}
 use Rattle.lam_typing.specs.Seeing.{note_among}
 use Rattle.lam_typing.specs.Steps.{entry_at}
 use Rattle.lam_typing.specs.declared.noting.Source.{Source}
@@ -244,20 +244,8 @@ abbrev pub NotesThrough : Notes → (all rest : List Statement) → Type 0
 NotesThrough n all rest =
     (found : List (Option Typ)) → noted_by found n.noted.items ++ notes_of (length n.noted.items) found (context_in found n.sources.items) rest ≡ notes_of 0 found [] all
 
-pub through_none : (n : Notes) (all : List Statement) → n.sources.items ≡ [] → n.noted.items ≡ [] → NotesThrough n all all
-through_none n all sources noted = λ found. λ i. noted_by found (noted i) ++ notes_of (length (noted i)) found (context_in found (sources i)) all
-
-pub through_all : (n : Notes) (all : List Statement) → NotesThrough n all [] → NotesDocument n.noted.items all
-through_all n all h = λ found. sym (append-nil (noted_by found n.noted.items)) ∙ h found
-
-pub no_statement : (ss : List RustStatement) (i : ℕ) → length ss ≤ i → map statement_of (drop i ss) ≡ []
-no_statement ss i le = ap (λ rest. map statement_of rest) (drop_all i ss le)
-
 -- at a statement of the slice
 pub statement_noted : (n1 n2 : Notes) (all : List Statement) (ss : List RustStatement) (i : ℕ) (s : RustStatement) → i < length ss → s ≡ get_or ss i s
     → NotesThrough n1 all (map statement_of (drop i ss)) → NotesStatement n1 n2 (statement_of s) → NotesThrough n2 all (map statement_of (drop (i + 1) ss))
 statement_noted n1 n2 all ss i s lt is through one = λ found.
     one found (map statement_of (drop (i + 1) ss)) ∙ (subst (λ rest. NotesThrough n1 all rest) (statements-drop ss i s lt is) through) found
-
-pub statements_noted : (n : Notes) (all : List Statement) (ss : List RustStatement) (i : ℕ) → length ss ≤ i → NotesThrough n all (map statement_of (drop i ss)) → NotesDocument n.noted.items all
-statements_noted n all ss i le through = through_all n all (subst (λ rest. NotesThrough n all rest) (no_statement ss i le) through)

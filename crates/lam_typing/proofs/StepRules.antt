@@ -2,10 +2,7 @@
 use Rattle.std.proofs.Common.{List, Some, None, refl}
 use Rattle.lam_rules.specs.Types.{Label, Typ, bool, nat, unit, top, arrow, record_of}
 use Rattle.lam_rules.specs.Typing.{HasField}
-use Rattle.lam_rules.specs.Numbers.{type_of}
-use Rattle.lam_rules.specs.declared.numbers.TyNo.{TyNo}
 use Rattle.lam_sub.proofs.LookUps.{absent_from}
-use Rattle.lam_typing.specs.Answers.{answer}
 use Rattle.lam_typing.specs.Steps.{FieldRule, ProjectRule}
 
 no_field_rule : (l : Label) (t : Typ) → ((u : Typ) → HasField t l u → ⊥) → FieldRule l t None
@@ -16,16 +13,5 @@ no_field_rule l unit n = refl
 no_field_rule l top n = refl
 no_field_rule l (arrow a b) n = refl
 
-some_field_rule : (l : Label) (t u : Typ) → HasField t l u → FieldRule l t (Some u)
-some_field_rule l (record_of fs) u has = has
-some_field_rule l bool u has = absurd has
-some_field_rule l nat u has = absurd has
-some_field_rule l unit u has = absurd has
-some_field_rule l top u has = absurd has
-some_field_rule l (arrow a b) u has = absurd has
-
 pub no_field_found : (ts : List Typ) (l : Label) (t : Typ) → ((u : Typ) → HasField t l u → ⊥) → ProjectRule l (Some t) None
 no_field_found ts l t n = no_field_rule l t n
-
-pub field_found : (ts : List Typ) (l : Label) (t : Typ) (number : TyNo) → HasField t l (type_of ts number) → ProjectRule l (Some t) (answer ts (Some number))
-field_found ts l t number has = some_field_rule l t (type_of ts number) has
