@@ -1,13 +1,16 @@
 -- The tokens of a text stand one behind the other, and so do those of its commands: of the terms that have a byte, the one that is shown is within all.
-use Rattle.std.proofs.Common.{◌≡◌, ℕ, ◌+◌, ◌≤◌, List, [], ◌∷◌, Bool, true, false, cond, Some, length, get_or, arith, sym, ap, ◌∙◌, subst, inl, inr}
+use Rattle.std.proofs.Common.{◌≡◌, ℕ, ◌+◌, ◌<◌, ◌≤◌, List, [], ◌∷◌, Bool, true, false, cond, Some, length, get_or, arith, sym, ap, ◌∙◌, subst, inl, inr}
 use Rattle.std.proofs.lemmas.List.{get_or_default}
+use Rattle.std.proofs.lemmas.Str.{length-le-encodes}
 use Rattle.std.specs.Prelude.{filter, encode_utf8_all}
+use Rattle.std.specs.Str.{chars}
 use Rattle.lam_token.specs.declared.kind.Kind.{Kind}
 use Rattle.lam_token.specs.declared.segment.Segment.{Segment}
 use Rattle.lam_token.specs.declared.segment.Segment.TheVariants.{Blank, Comment, Token}
 use Rattle.lam_token.specs.declared.span.Span.{Span}
 use Rattle.lam_token.specs.Lexeme.{Lexeme, lexeme}
-use Rattle.lam_token.specs.Cut.{Part, with_token, tokens_of, AreTokensOf}
+use Rattle.lam_token.specs.Cut.{IsFirst, longest, unclosed, stray, Part, IsCut, with_token, tokens_of, AreTokensOf}
+use Rattle.lam_token.specs.Shape.{opens_comment}
 use Rattle.lam_syntax.specs.Trees.{CommandTree}
 use Rattle.lam_syntax.specs.Answers.{is_semicolon, onto_first, runs_of, has_tokens, pieces_of}
 use Rattle.lam_scope.specs.Tables.{table, is_over, place_row_numbered}
@@ -27,22 +30,31 @@ tokens_from_lower : (low next high : ℕ) (ts : List Lexeme) → low ≤ next �
 tokens_from_lower low next high [] le h = omega (arith, le, h)
 tokens_from_lower low next high (lexeme k x s ∷ ts) le h = (omega (arith, le, h.0), h.1, h.2)
 
+-- a first segment has a character
+some_characters : (s : Segment) (cs rest : List ℕ) → IsFirst s cs rest → 0 < length cs
+some_characters s [] rest (longest one none_longer) = absurd cc
+some_characters s (c ∷ cs) rest (longest one none_longer) = omega arith
+some_characters s [] rest (unclosed none is_open ends) = let no = ap opens_comment ends in absurd cc
+some_characters s (c ∷ cs) rest (unclosed none is_open ends) = omega arith
+some_characters s cs rest (stray none not_open single) = omega arith
+
 -- the tokens of segments stand behind the byte at which the segments begin
 
-with_token_stands : (s : Segment) (bytes : List ℕ) (start high : ℕ) (ts : List Lexeme) → TokensStand (start + length bytes) ts high → TokensStand start (with_token s bytes start ts) high
-with_token_stands Blank bytes start high ts h = tokens_from_lower start (start + length bytes) high ts (omega arith) h
-with_token_stands Comment bytes start high ts h = tokens_from_lower start (start + length bytes) high ts (omega arith) h
-with_token_stands (Token kind) bytes start high ts h = (omega arith, omega arith, h)
+with_token_stands : (s : Segment) (bytes : List ℕ) (start high : ℕ) (ts : List Lexeme) → 0 < length bytes → TokensStand (start + length bytes) ts high → TokensStand start (with_token s bytes start ts) high
+with_token_stands Blank bytes start high ts some h = tokens_from_lower start (start + length bytes) high ts (omega arith) h
+with_token_stands Comment bytes start high ts some h = tokens_from_lower start (start + length bytes) high ts (omega arith) h
+with_token_stands (Token kind) bytes start high ts some h = (omega arith, omega arith, h)
 
-parts_stand : (start : ℕ) (ps : List Part) → (high : ℕ) × TokensStand start (tokens_of start ps) high
-parts_stand start [] = (start, omega arith)
-parts_stand start (p ∷ ps) =
+parts_stand : (start : ℕ) (left : List ℕ) (ps : List Part) → IsCut left ps → (high : ℕ) × TokensStand start (tokens_of start ps) high
+parts_stand start left [] cut = (start, omega arith)
+parts_stand start left (p ∷ ps) cut =
     let bytes = encode_utf8_all p.characters in
-    let rest = parts_stand (start + length bytes) ps in
-    (rest.0, with_token_stands p.sort bytes start rest.0 (tokens_of (start + length bytes) ps) rest.1)
+    let some : 0 < length bytes = omega (arith, some_characters p.sort p.characters cut.0 cut.2, length-le-encodes p.characters) in
+    let rest = parts_stand (start + length bytes) cut.0 ps cut.3 in
+    (rest.0, with_token_stands p.sort bytes start rest.0 (tokens_of (start + length bytes) ps) some rest.1)
 
-text_stands : (text : List ℕ) (ts : List Lexeme) → AreTokensOf text ts → (high : ℕ) × TokensStand 0 ts high
-text_stands text ts are = subst (λ us. (high : ℕ) × TokensStand 0 us high) (sym are.tokens_are) (parts_stand 0 are.parts)
+pub text_stands : (text : List ℕ) (ts : List Lexeme) → AreTokensOf text ts → (high : ℕ) × TokensStand 0 ts high
+text_stands text ts are = subst (λ us. (high : ℕ) × TokensStand 0 us high) (sym are.tokens_are) (parts_stand 0 (chars text) are.parts are.cut)
 
 -- pieces, those of each behind those of the pieces before it
 
@@ -58,7 +70,7 @@ one_of : (low : ℕ) (b : Bool) (ps qs : List (List Lexeme)) → PiecesStand low
 one_of low true ps qs h k = h
 one_of low false ps qs h k = k
 
-onto_stands : (low : ℕ) (k : Kind) (x : List ℕ) (s : Span) (runs : List (List Lexeme)) → low ≤ s.start → s.start ≤ s.end → PiecesStand s.end runs → PiecesStand low (onto_first (lexeme k x s) runs)
+onto_stands : (low : ℕ) (k : Kind) (x : List ℕ) (s : Span) (runs : List (List Lexeme)) → low ≤ s.start → s.start < s.end → PiecesStand s.end runs → PiecesStand low (onto_first (lexeme k x s) runs)
 onto_stands low k x s [] first own h = (s.end, (first, own, omega arith), tt)
 onto_stands low k x s (run ∷ runs) first own h = (h.0, (first, own, h.1), h.2)
 
@@ -84,7 +96,7 @@ commands_spelled low [] cs h are = rw are tt
 commands_spelled low (p ∷ ps) cs h (inl are) = rw are.2 (p, h.0, are.3.spelled, h.1, commands_spelled h.0 ps are.1 h.2 are.4)
 commands_spelled low (p ∷ ps) cs h (inr are) = commands_spelled low ps cs (pieces_from_lower low h.0 ps (tokens_go_on low h.0 p h.1) h.2) are.1
 
-text_spelled : (text : List ℕ) (cs : List CommandTree) → AreCommandsOfText text cs → AreSpelledFrom 0 cs
+pub text_spelled : (text : List ℕ) (cs : List CommandTree) → AreCommandsOfText text cs → AreSpelledFrom 0 cs
 text_spelled text cs are =
     let stand = text_stands text are.tokens are.are_tokens in
     commands_spelled 0 (pieces_of are.tokens) cs (pieces_stand 0 stand.0 are.tokens stand.1) are.are_commands

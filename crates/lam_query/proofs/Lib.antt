@@ -11,6 +11,7 @@ pub mod Collected
 pub mod FaultLists
 pub mod Answering
 pub mod TextPlaces
+pub mod MentionPlaces
 pub mod FaultPlaces
 pub mod StepPlaces
 pub mod OneAnswer
@@ -25,3 +26,8 @@ pub mod SomeAnswers
 pub mod Deriving
 pub mod Faultless
 pub mod KnownCodes
+pub mod TouchedNames
+pub mod Defining
+pub mod DefinitionLaws
+pub mod NameTokens
+pub mod SharedDefinitions

@@ -4,6 +4,8 @@ pub mod Faults
 pub mod Sizes
 pub mod SyntaxFaults
 pub mod TextFaults
+pub mod Touched
+pub mod Definitions
 pub mod Hovers
 pub mod Innermost
 pub mod Steps

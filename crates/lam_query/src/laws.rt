@@ -1,5 +1,8 @@
 //! What holds of the answers: the contracts of functions that do nothing.
-ghost use Rattle.std.specs.Prelude.{◌≡◌, ◌↔◌, ℕ, List, [], Option, Some, All};
+ghost use Rattle.std.specs.Prelude.{◌≡◌, ◌↔◌, ℕ, Bool, true, List, [], Option, Some, All, Contains};
+ghost use Rattle.lam_token.specs.declared.span.Span.{Span};
+ghost use Rattle.lam_token.specs.Lexeme.{Lexeme, span_of};
+ghost use Rattle.lam_token.specs.Cut.{AreTokensOf};
 ghost use Rattle.lam_rules.specs.declared.rules.Dialect.{Dialect};
 ghost use Rattle.lam_syntax.specs.Trees.{CommandTree};
 ghost use Rattle.lam_scope.specs.PlacedTerms.{PlacedTree, document_terms};
@@ -10,12 +13,17 @@ ghost use Rattle.lam_query.specs.WellTypedDocuments.{IsWellTyped};
 ghost use Rattle.lam_query.specs.Hovers.{Shown, innermost_at, IsShownIn};
 ghost use Rattle.lam_query.specs.Innermost.{IsInnermost};
 ghost use Rattle.lam_query.specs.Derivations.{Derivation, IsDerivedIn};
+ghost use Rattle.lam_query.specs.Touched.{touched};
+ghost use Rattle.lam_query.specs.Definitions.{IsDefinitionIn, AreReferencesIn};
 
-/// A text has one list of commands and one list of faults, and there is one answer to what is shown of an offset in it.
+/// A text has one list of commands and one list of faults, and there is one answer to what is shown of an offset in it, to
+/// where the name there comes from, and to where that is used.
 pub fn one_answer()
     ensures commands { (text : List ℕ) (commands others : List CommandTree) → AreCommandsOfText text commands → AreCommandsOfText text others → commands ≡ others }
     ensures faults { (text : List ℕ) (faults others : List Fault) (d : Dialect) → AreFaults text faults d → AreFaults text others d → faults ≡ others }
     ensures shown { (text : List ℕ) (offset : ℕ) (shown other : Option Shown) (d : Dialect) → IsShownIn text offset shown d → IsShownIn text offset other d → shown ≡ other }
+    ensures definition { (text : List ℕ) (offset : ℕ) (found other : Option Span) → IsDefinitionIn text offset found → IsDefinitionIn text offset other → found ≡ other }
+    ensures references { (text : List ℕ) (offset : ℕ) (declared : Bool) (found others : Option (List Span)) → AreReferencesIn text offset declared found → AreReferencesIn text offset declared others → found ≡ others }
 {}
 
 /// The term that is shown is the innermost one: each term of the text that has the byte is around it.
@@ -24,12 +32,21 @@ pub fn shown_is_innermost()
 {}
 
 /// Every text has a list of faults. At every offset a type is shown or none is, and where one is there is a derivation, and
-/// only there.
+/// only there. At every offset there is a definition with its references, or there is none.
 pub fn some_answer()
     ensures faults { (text : List ℕ) (d : Dialect) → (faults : List Fault) × AreFaults text faults d }
     ensures shown { (text : List ℕ) (offset : ℕ) (d : Dialect) → (shown : Option Shown) × IsShownIn text offset shown d }
     ensures derived { (text : List ℕ) (offset : ℕ) (d : Dialect) → (derived : Option Derivation) × IsDerivedIn text offset derived d }
     ensures as_shown { (text : List ℕ) (offset : ℕ) (derived : Derivation) (d : Dialect) → IsDerivedIn text offset (Some derived) d → (shown : Shown) × IsShownIn text offset (Some shown) d }
+    ensures definition { (text : List ℕ) (offset : ℕ) → (found : Option Span) × IsDefinitionIn text offset found }
+    ensures references { (text : List ℕ) (offset : ℕ) (declared : Bool) → (found : Option (List Span)) × AreReferencesIn text offset declared found }
+{}
+
+/// Where there are references there is a definition, and it is that of each of them too: asked for at their first bytes, it
+/// is the same. With the binder asked for, the name under the cursor is one of them.
+pub fn references_share_a_definition()
+    ensures definition { (text : List ℕ) (offset : ℕ) (declared : Bool) (spans : List Span) → AreReferencesIn text offset declared (Some spans) → (binder : Span) × IsDefinitionIn text offset (Some binder) × All (λ s. IsDefinitionIn text s.start (Some binder)) spans }
+    ensures among { (text : List ℕ) (offset : ℕ) (spans : List Span) (tokens : List Lexeme) (name : Lexeme) → AreTokensOf text tokens → touched offset tokens ≡ Some name → AreReferencesIn text offset true (Some spans) → Contains spans (span_of name) }
 {}
 
 /// Types have no fault in a document just where each written type in it stands for a type, each definition and each

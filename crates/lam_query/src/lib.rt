@@ -7,15 +7,21 @@
 mod analyses;
 pub mod answers;
 mod contexts;
+mod definitions;
 mod derivations;
 mod hovers;
 mod laws;
 mod reading;
 mod steps;
 mod text_faults;
+mod touched;
 
 pub use analyses::Analysis;
+pub use definitions::{definition, references};
 pub use derivations::derivation;
 pub use hovers::hover;
-pub use laws::{known_codes, no_fault_is_well_typed, one_answer, shown_is_innermost, some_answer};
+pub use laws::{
+    known_codes, no_fault_is_well_typed, one_answer, references_share_a_definition,
+    shown_is_innermost, some_answer,
+};
 pub use text_faults::faults;

@@ -21,9 +21,12 @@ pub mod PlaceCounts
 pub mod BinderRows
 pub mod SeenOrigins
 pub mod SpelledTerms
+pub mod SpelledMentions
 pub mod NestedRows
 pub mod PlacedRows
 pub mod PlacedPlaces
 pub mod Faultless
 pub mod StretchRuns
 pub mod StretchedRows
+pub mod MentionRows
+pub mod BoundMentions

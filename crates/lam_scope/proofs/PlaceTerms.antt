@@ -1,5 +1,5 @@
 -- The terms at the places of statements, and how the search for one ends.
-use Rattle.std.proofs.Common.{◌≡◌, ℕ, ◌+◌, ◌<◌, List, [], ◌∷◌, ◌++◌, length, get_or, zero, suc, refl, ap, sym, ◌∙◌, arith}
+use Rattle.std.proofs.Common.{◌≡◌, ℕ, ◌<◌, List, [], ◌∷◌, ◌++◌, length, get_or, zero, suc, refl, ap, sym, ◌∙◌, arith}
 use Rattle.lam_rules.specs.Terms.{Term, true_term, false_term, if_then_else, numeral, succ, pred, is_zero, variable, free, lambda, apply, unit_term, ascribe, let_in, record_term, project, fix, TermFields, no_terms, term_field}
 use Rattle.lam_scope.specs.Places.{written, of_term, Scope, Place, places, places_in, Statement, defines, declares, abbreviates, states, places_of, place_numbered}
 use Rattle.lam_scope.specs.Found.{terms_at, terms_at_fields, terms_stated, here, behind, seek, seek_on}

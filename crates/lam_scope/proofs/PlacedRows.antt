@@ -1,5 +1,5 @@
 -- The row of each place tells of the term of its number.
-use Rattle.std.proofs.Common.{◌≡◌, ℕ, zero, suc, ◌+◌, List, [], ◌∷◌, ◌++◌, length, length-append, append_assoc, refl, ap, sym, ◌∙◌, subst, arith, Option, Some, true, false}
+use Rattle.std.proofs.Common.{◌≡◌, ℕ, zero, suc, ◌+◌, List, [], ◌∷◌, ◌++◌, length, append_assoc, refl, ap, sym, ◌∙◌, subst, arith, Option, Some, true, false}
 use Rattle.std.proofs.lemmas.List.{append-nil}
 use Rattle.lam_rules.specs.Terms.{Term, fix}
 use Rattle.lam_syntax.specs.Trees as tree

@@ -110,11 +110,11 @@ mutual
   atype_stands low high (parens_atype {rest = rest} {t = t} {s = s} {e = e} d) o =
       let inner = type_stands s.end high d o.2 in
       type_spanned low high (from_to s e) t rest o.0 (omega (arith, o.1, inner.0, inner.1, inner.2.0, inner.2.1)) inner.2.2
-  atype_stands low high bool_atype o = (o.0, o.1, o.2)
-  atype_stands low high nat_atype o = (o.0, o.1, o.2)
-  atype_stands low high unit_atype o = (o.0, o.1, o.2)
-  atype_stands low high top_atype o = (o.0, o.1, o.2)
-  atype_stands low high name_atype o = (o.0, o.1, o.2)
+  atype_stands low high bool_atype o = (o.0, omega (arith, o.1), o.2)
+  atype_stands low high nat_atype o = (o.0, omega (arith, o.1), o.2)
+  atype_stands low high unit_atype o = (o.0, omega (arith, o.1), o.2)
+  atype_stands low high top_atype o = (o.0, omega (arith, o.1), o.2)
+  atype_stands low high name_atype o = (o.0, omega (arith, o.1), o.2)
   atype_stands low high empty_atype o = (o.0, omega (arith, o.1, o.2.0, o.2.1), o.2.2)
   atype_stands low high (record_atype {s = s} d) o =
       let fields = type_fields_stand s.end high d o.2 in
@@ -227,16 +227,16 @@ mutual
   atom_stands low high (parens_atom {rest = rest} {t = t} {s = s} {e = e} d) o =
       let inner = term_stands s.end high d o.2 in
       term_spanned low high (from_to s e) t rest o.0 (omega (arith, o.1, inner.0, inner.1, inner.3.0, inner.3.1)) (omega (arith, o.1, inner.0)) (omega (arith, inner.3.0, inner.3.1)) inner.2 inner.3.2
-  atom_stands low high true_atom o = (o.0, o.1, tt, o.2)
-  atom_stands low high false_atom o = (o.0, o.1, tt, o.2)
-  atom_stands low high unit_atom o = (o.0, o.1, tt, o.2)
-  atom_stands low high name_atom o = (o.0, o.1, tt, o.2)
-  atom_stands low high numeral_atom o = (o.0, o.1, tt, o.2)
+  atom_stands low high true_atom o = (o.0, omega (arith, o.1), tt, o.2)
+  atom_stands low high false_atom o = (o.0, omega (arith, o.1), tt, o.2)
+  atom_stands low high unit_atom o = (o.0, omega (arith, o.1), tt, o.2)
+  atom_stands low high name_atom o = (o.0, omega (arith, o.1), tt, o.2)
+  atom_stands low high numeral_atom o = (o.0, omega (arith, o.1), tt, o.2)
   atom_stands low high empty_atom o = (o.0, omega (arith, o.1, o.2.0, o.2.1), tt, o.2.2)
   atom_stands low high (record_atom {fs = fs} {s = s} {e = e} d) o =
       let fields = fields_stand s.end high d o.2 in
       let last : fields.0 ≤ e.end = omega (arith, fields.3.0, fields.3.1) in
-      (o.0, omega (arith, o.1, fields.1, last), more_fields_between s.end fields.0 s.start e.end fs o.1 last fields.2, fields.3.2)
+      (o.0, omega (arith, o.1, fields.1, last), more_fields_between s.end fields.0 s.start e.end fs (omega (arith, o.1)) last fields.2, fields.3.2)
 
   -- fields, up to the byte where the last one ends
   fields_stand : (low high : ℕ) {ts rest : List Lexeme} {fs : TermFields} → FieldsAre ts fs rest → TokensStand low ts high

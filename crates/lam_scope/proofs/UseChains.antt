@@ -62,10 +62,10 @@ tokens_skip n u us e = rw e refl
 tokens_take : (n : ℕ) (u : TextUse) (us : List TextUse) → is_use_of n u ≡ true → tokens_of n (u ∷ us) ≡ u.token ∷ tokens_of n us
 tokens_take n u us e = rw e refl
 
-same_number : (b n : ℕ) → b ≡ n → (b == n) ≡ true
+pub same_number : (b n : ℕ) → b ≡ n → (b == n) ≡ true
 same_number b n e = grind (arith, nat_tests)
 
-other_number : (b n : ℕ) → b ≢ n → (b == n) ≡ false
+pub other_number : (b n : ℕ) → b ≢ n → (b == n) ≡ false
 other_number b n e = grind (arith, nat_tests)
 
 same_or_not : (b n : ℕ) → (b ≡ n) ⊎ (b ≢ n)

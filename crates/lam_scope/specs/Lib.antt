@@ -17,6 +17,7 @@ pub mod Found
 pub mod Abbreviations
 pub mod Nesting
 pub mod Expanded
+pub mod Mentions
 pub mod PlacedTerms
 pub mod PlacedRows
 pub mod Stretches

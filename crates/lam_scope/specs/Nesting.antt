@@ -1,5 +1,5 @@
 -- Places that nest: each part of a term stands within it, and behind the parts before it.
-use Rattle.std.specs.Prelude.{ℕ, ◌≤◌, ◌≡◌, ◌⊎◌, true, List, [], ◌∷◌}
+use Rattle.std.specs.Prelude.{ℕ, ◌<◌, ◌≤◌, ◌≡◌, ◌⊎◌, true, List, [], ◌∷◌}
 use Rattle.lam_token.specs.declared.span.Span.{Span}
 use Rattle.lam_token.specs.Lexeme.{Lexeme, lexeme}
 use Rattle.lam_syntax.specs.Grammar.{Spells}
@@ -28,10 +28,10 @@ AreNested (p ∷ ps) = NestsInAll p ps × AreNested ps
 abbrev pub IsInnermost : (offset : ℕ) → Table → ℕ → Type 0
 IsInnermost o t p = (q : ℕ) → is_over o (place_row_numbered t q) ≡ true → IsWithin (place_row_numbered t p).span (place_row_numbered t q).span
 
--- tokens between two bytes, each behind those before it
+-- tokens between two bytes, none of them empty, each behind those before it
 abbrev pub TokensStand : (low : ℕ) → List Lexeme → (high : ℕ) → Type 0
 TokensStand low [] high = low ≤ high
-TokensStand low (lexeme k x s ∷ ts) high = (low ≤ s.start) × (s.start ≤ s.end) × TokensStand s.end ts high
+TokensStand low (lexeme k x s ∷ ts) high = (low ≤ s.start) × (s.start < s.end) × TokensStand s.end ts high
 
 -- commands that such tokens spell, those of each behind those of the commands before it
 abbrev pub AreSpelledFrom : (low : ℕ) → List CommandTree → Type 0

@@ -1,6 +1,7 @@
 //! What holds of the table and the nameless form of any commands.
 //! Each law is the contract of a function that does nothing.
 ghost use Rattle.std.specs.Prelude.{◌≡◌, ◌↔◌, ℕ, [], List, None, Some, map, length, get_or, reverse};
+ghost use Rattle.std.specs.Option.{option_map};
 ghost use Rattle.lam_syntax.specs.Trees.{CommandTree};
 ghost use Rattle.lam_scope.specs.Counted.{statements_counted, past_commands};
 ghost use Rattle.lam_scope.specs.Names.{Name, count};
@@ -10,8 +11,9 @@ ghost use Rattle.lam_scope.specs.PlacedTerms.{document_terms, term_of, tree_in};
 ghost use Rattle.lam_scope.specs.PlacedRows.{IsRowOf};
 ghost use Rattle.lam_scope.specs.Places.{places_of};
 ghost use Rattle.lam_scope.specs.Sights.{sight_numbered};
+ghost use Rattle.lam_scope.specs.Mentions.{mentions, bound_at, uses_of, Ascend};
 ghost use Rattle.lam_scope.specs.Nesting.{AreNested, AreSpelledFrom, IsInnermost};
-ghost use Rattle.lam_scope.specs.Tables.{Table, table, Entry, entry_names, bound_to, binder_numbered, place_row_numbered, visible_at, place_at};
+ghost use Rattle.lam_scope.specs.Tables.{Table, table, Entry, entry_names, bound_to, binder_numbered, place_row_numbered, visible_at, place_at, binder_at, tokens_of};
 
 /// The table of commands and their nameless form have as many places, and the binders that a place sees in the table take
 /// their types from where the nameless form says, the outermost first.
@@ -53,4 +55,17 @@ pub fn one_count()
 /// No written type is at fault just where each of them stands for a type.
 pub fn faultless_is_expanded()
     ensures { (cs : List CommandTree) → ((faults [] cs ≡ []) ↔ IsExpanded (statements [] [] cs)) }
+{}
+
+/// The names and type names of a text come one behind the other, each with a byte: so at most one begins at a byte. That is
+/// so of commands that are spelled by tokens one behind the other.
+pub fn mentions_ascend()
+    ensures { (cs : List CommandTree) → AreSpelledFrom 0 cs → (high : ℕ) × Ascend 0 (mentions cs) high }
+{}
+
+/// What the table tells of the names of a text is what its mentions tell, where these stand one behind the other: what the
+/// name that starts at a byte is bound to, and which are the uses of a binder that some name is bound to.
+pub fn mentions_are_rows()
+    ensures bound { (cs : List CommandTree) (high o : ℕ) → Ascend 0 (mentions cs) high → option_map (λ n. (binder_numbered (table cs) n).token) (binder_at (table cs) o) ≡ bound_at o (mentions cs) }
+    ensures uses { (cs : List CommandTree) (high o n : ℕ) → Ascend 0 (mentions cs) high → binder_at (table cs) o ≡ Some n → tokens_of n (table cs).uses ≡ uses_of (binder_numbered (table cs) n).token (mentions cs) }
 {}

@@ -45,7 +45,8 @@ pub use binding::bind;
 pub use document::resolve;
 pub use expansion::NODE_LIMIT;
 pub use laws::{
-    faultless_is_expanded, innermost_place, one_binder, one_count, one_sight, one_term,
+    faultless_is_expanded, innermost_place, mentions_are_rows, mentions_ascend, one_binder,
+    one_count, one_sight, one_term,
 };
 pub use numbers::{Binder, Origin, Place};
 pub use resolved::Resolved;

@@ -1,5 +1,6 @@
 use Rattle.lam_query.proofs.SomeAnswers.{one_faults}
 use Rattle.lam_query.proofs.OneAnswer.{one_document, one_hover}
+use Rattle.lam_query.proofs.DefinitionLaws.{one_definition, one_list_of_references}
 use Rattle.lam_query.proofs.laws.one_answer.Goals as goal
 
 pub returns-clause-commands : goal.returns-clause-commands
@@ -10,3 +11,9 @@ returns-clause-shown c = one_hover
 
 pub returns-clause-faults : goal.returns-clause-faults
 returns-clause-faults c = one_faults
+
+pub returns-clause-definition : goal.returns-clause-definition
+returns-clause-definition c = one_definition
+
+pub returns-clause-references : goal.returns-clause-references
+returns-clause-references c = one_list_of_references

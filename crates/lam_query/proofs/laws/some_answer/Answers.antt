@@ -1,4 +1,5 @@
 use Rattle.lam_query.proofs.SomeAnswers.{some_faults, some_hover, some_derivation, shown_of_derived}
+use Rattle.lam_query.proofs.DefinitionLaws.{some_definition, some_references}
 use Rattle.lam_query.proofs.laws.some_answer.Goals as goal
 
 pub returns-clause-faults : goal.returns-clause-faults
@@ -12,3 +13,9 @@ returns-clause-derived c = some_derivation
 
 pub returns-clause-as_shown : goal.returns-clause-as_shown
 returns-clause-as_shown c = shown_of_derived
+
+pub returns-clause-definition : goal.returns-clause-definition
+returns-clause-definition c = some_definition
+
+pub returns-clause-references : goal.returns-clause-references
+returns-clause-references c = some_references

@@ -1,4 +1,4 @@
-use Rattle.std.proofs.Common.{◌+◌, [], ◌∷◌, ◌++◌, length, Some, None, string_bytes, ap, refl, sym, subst, ◌∙◌, inl, arith, codes}
+use Rattle.std.proofs.Common.{[], ◌∷◌, ◌++◌, length, Some, None, string_bytes, ap, refl, sym, subst, ◌∙◌, inl, arith, codes}
 use Rattle.lam_rules.specs.Types.{bool, nat, unit}
 use Rattle.lam_rules.specs.Terms.{if_then_else, lambda, apply, ascribe, let_in, record_term, project, fix, numeral, free, true_term, false_term, unit_term, term_field}
 use Rattle.lam_rules.specs.TermViews.{term_of, terms_of, written_of}

@@ -1,0 +1,8 @@
+use Rattle.lam_query.proofs.SharedDefinitions.{references_share, touched_among}
+use Rattle.lam_query.proofs.laws.references_share_a_definition.Goals as goal
+
+pub returns-clause-definition : goal.returns-clause-definition
+returns-clause-definition c = references_share
+
+pub returns-clause-among : goal.returns-clause-among
+returns-clause-among c = touched_among

@@ -1,0 +1,16 @@
+use Rattle.std.proofs.Common.{◌≡◌, ◌+◌, None, length}
+use denote.Shadow.{shadow}
+use denote.Text.{Utf8}
+use Rattle.lam_token.proofs.SomeCut.{tokens_at}
+use Rattle.lam_query.proofs.TouchedNames.{touched_from}
+use Rattle.lam_query.proofs.touched.touched.Given as goal
+
+abbrev pub invariant-loop-token : goal.invariant-loop-token
+invariant-loop-token l = record {
+  is_text : shadow (Utf8 l.rest);
+  place : l.start + length l.rest ≡ length l.fn.text;
+  passed : touched_from None l.offset (tokens_at 0 l.fn.text) ≡ touched_from l.before l.offset (tokens_at l.start l.rest);
+}
+
+abbrev pub decreases-loop-token : goal.decreases-loop-token
+decreases-loop-token l = length l.rest

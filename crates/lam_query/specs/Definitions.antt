@@ -1,0 +1,35 @@
+-- Where the name under the cursor comes from, and who uses it.
+use Rattle.std.specs.Prelude.{◌≡◌, ℕ, List, ◌∷◌, Bool, Option, if◌then◌else◌}
+use Rattle.std.specs.Option.{option_map, option_and_then}
+use Rattle.lam_token.specs.declared.span.Span.{Span}
+use Rattle.lam_token.specs.Lexeme.{Lexeme, start_of}
+use Rattle.lam_token.specs.Cut.{AreTokensOf}
+use Rattle.lam_syntax.specs.Trees.{CommandTree}
+use Rattle.lam_syntax.specs.Answers.{pieces_of}
+use Rattle.lam_scope.specs.Mentions.{mentions, bound_at, uses_of}
+use Rattle.lam_query.specs.Commands.{AreCommandsOf}
+use Rattle.lam_query.specs.Touched.{touched}
+
+-- the token of the binder that the touched name is or uses; none where no name is touched, or it is free, a label, or in no command
+abbrev pub definition_in : List Lexeme → List CommandTree → ℕ → Option Span
+definition_in tokens commands o = option_and_then (λ t. bound_at (start_of t) (mentions commands)) (touched o tokens)
+
+-- the tokens of the uses of a binder, in the order of the text, behind the binder itself where it is asked for
+abbrev pub references_to : List CommandTree → (declared : Bool) → Span → List Span
+references_to commands declared b = if declared then b ∷ uses_of b (mentions commands) else uses_of b (mentions commands)
+
+-- the definition of the name at an offset of a text
+pub record IsDefinitionIn (text : List ℕ) (offset : ℕ) (answer : Option Span) : Type 0 where
+  pub tokens : List Lexeme
+  pub are_tokens : AreTokensOf text tokens
+  pub commands : List CommandTree
+  pub are_commands : AreCommandsOf (pieces_of tokens) commands
+  pub told : answer ≡ definition_in tokens commands offset
+
+-- the references to what the name at an offset of a text is bound to, none where it is bound to nothing
+pub record AreReferencesIn (text : List ℕ) (offset : ℕ) (declared : Bool) (answer : Option (List Span)) : Type 0 where
+  pub tokens : List Lexeme
+  pub are_tokens : AreTokensOf text tokens
+  pub commands : List CommandTree
+  pub are_commands : AreCommandsOf (pieces_of tokens) commands
+  pub told : answer ≡ option_map (references_to commands declared) (definition_in tokens commands offset)

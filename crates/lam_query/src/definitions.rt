@@ -1,0 +1,94 @@
+//! Where the name under the cursor comes from, and who uses it.
+ghost use Rattle.std.specs.Prelude.{All, IfOk, IfSome};
+ghost use Rattle.std.specs.Option.{option_map};
+ghost use Rattle.lam_query.specs.Analyses.{IsAnalysisOf};
+ghost use Rattle.lam_query.specs.Definitions.{IsDefinitionIn, AreReferencesIn};
+ghost use Rattle.lam_query.specs.Within.{StandsIn};
+
+use crate::analyses::Analysis;
+use crate::reading::read;
+use crate::touched::touched;
+use lam_scope::bind;
+use lam_token::Span;
+use std::alloc::{AllocError, Global};
+
+/// The token of the binder that the name or type name at an offset is or uses, as `textDocument/definition` of LSP 3.17
+/// asks for it. The offset and the span are bytes of the text's UTF-8. None where no name is touched, or it is bound to
+/// nothing.
+pub fn definition(alloc: Global, text: &str, offset: usize) -> Result<Option<Span>, AllocError>
+    ensures definition { IfOk result (IsDefinitionIn text.now offset) }
+    ensures whole_characters { IfOk result (λ found. IfSome found (StandsIn text.now)) }
+{
+    let Some(start) = touched(text, offset) else {
+        return Ok(None);
+    };
+    let parsed = read(alloc, text)?;
+    let scopes = bind(alloc, &parsed.commands)?;
+    let Some(binder) = scopes.binder_at(start) else {
+        return Ok(None);
+    };
+    Ok(Some(scopes.token_of(binder)))
+}
+
+/// The tokens of the uses of what the name or type name at an offset is bound to, in the order of the text, behind the
+/// token of the binder where `declared` asks for it, as `textDocument/references` of LSP 3.17 does by
+/// `includeDeclaration`. The offset and the spans are bytes of the text's UTF-8. None where no name is touched, or it is
+/// bound to nothing.
+pub fn references(
+    alloc: Global,
+    text: &str,
+    offset: usize,
+    declared: bool,
+) -> Result<Option<Vec<Span>>, AllocError>
+    ensures references { IfOk result (λ found. AreReferencesIn text.now offset declared (option_map (λ spans. spans.items) found)) }
+    ensures whole_characters { IfOk result (λ found. IfSome found (λ spans. All (StandsIn text.now) spans.items)) }
+{
+    let Some(start) = touched(text, offset) else {
+        return Ok(None);
+    };
+    let parsed = read(alloc, text)?;
+    let scopes = bind(alloc, &parsed.commands)?;
+    let Some(binder) = scopes.binder_at(start) else {
+        return Ok(None);
+    };
+    let mut spans = Vec::new(alloc);
+    if declared {
+        spans.push(scopes.token_of(binder))?;
+    }
+    spans.extend_from_slice(scopes.uses_of(binder))?;
+    Ok(Some(spans))
+}
+
+impl Analysis {
+    /// The token of the binder that the name or type name at an offset, in bytes, is or uses; none where no name is
+    /// touched, or it is bound to nothing.
+    pub fn definition(
+        &self,
+        alloc: Global,
+        text: &str,
+        offset: usize,
+    ) -> Result<Option<Span>, AllocError>
+        requires { IsAnalysisOf text.now self.now }
+        ensures definition { IfOk result (IsDefinitionIn text.now offset) }
+        ensures whole_characters { IfOk result (λ found. IfSome found (StandsIn text.now)) }
+    {
+        definition(alloc, text, offset)
+    }
+
+    /// The tokens of the uses of what the name or type name at an offset, in bytes, is bound to, in the order of the
+    /// text, behind the token of the binder where `declared` asks for it; none where no name is touched, or it is bound
+    /// to nothing.
+    pub fn references(
+        &self,
+        alloc: Global,
+        text: &str,
+        offset: usize,
+        declared: bool,
+    ) -> Result<Option<Vec<Span>>, AllocError>
+        requires { IsAnalysisOf text.now self.now }
+        ensures references { IfOk result (λ found. AreReferencesIn text.now offset declared (option_map (λ spans. spans.items) found)) }
+        ensures whole_characters { IfOk result (λ found. IfSome found (λ spans. All (StandsIn text.now) spans.items)) }
+    {
+        references(alloc, text, offset, declared)
+    }
+}

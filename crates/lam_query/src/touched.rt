@@ -1,0 +1,65 @@
+//! The name under the cursor.
+ghost use Rattle.std.specs.Prelude.{◌≡◌, List, Some, None, if◌then◌else◌};
+ghost use Rattle.std.specs.Option.{option_map};
+ghost use Rattle.lam_token.specs.Lexeme.{Lexeme, start_of};
+ghost use Rattle.lam_token.specs.Cut.{AreTokensOf};
+ghost use Rattle.lam_query.specs.Touched.{is_name, is_name_over, is_name_before, touched};
+
+use lam_token::{Kind, Token, first_token};
+
+/// The byte at which the name or type name under the cursor begins: of the one that has the byte at the offset or, where
+/// there is none, of the one that ends there.
+pub(crate) fn touched(text: &str, offset: usize) -> Option<usize>
+    ensures { (tokens : List Lexeme) → AreTokensOf text.now tokens → result ≡ option_map start_of (touched offset tokens) }
+{
+    let mut before = None;
+    let mut rest = text;
+    let mut start = 0;
+    while let Some((token, after)) = first_token(rest, start) {
+        if is_name_over(&token, offset) {
+            return Some(token.start());
+        }
+        if before.is_none() {
+            before = name_before(&token, offset);
+        }
+        rest = after;
+        start = token.end();
+    }
+    before
+}
+
+/// Whether the token is a name or a type name that has the byte at the offset.
+fn is_name_over(token: &Token<'_>, offset: usize) -> bool
+    ensures { result ≡ is_name_over offset token.now }
+{
+    if !is_name(token.kind()) {
+        return false;
+    }
+    if offset < token.start() {
+        return false;
+    }
+    offset < token.end()
+}
+
+/// The byte at which the token begins, if it is a name or a type name that ends at the offset.
+fn name_before(token: &Token<'_>, offset: usize) -> Option<usize>
+    ensures { result ≡ if is_name_before offset token.now then Some (start_of token.now) else None }
+{
+    if !is_name(token.kind()) {
+        return None;
+    }
+    if token.end() != offset {
+        return None;
+    }
+    Some(token.start())
+}
+
+fn is_name(kind: Kind) -> bool
+    ensures { result ≡ is_name kind }
+{
+    match kind {
+        Kind::Name => true,
+        Kind::TypeName => true,
+        _ => false,
+    }
+}

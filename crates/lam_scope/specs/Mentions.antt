@@ -1,0 +1,136 @@
+-- Where the names and the type names of commands stand in the text, and what each is bound to. A binder is told by its token.
+use Rattle.std.specs.Prelude.{◌==◌, ◌≤◌, ◌<◌, ℕ, List, [], ◌∷◌, ◌++◌, Bool, ◌&&◌, Option, Some, None, if◌then◌else◌}
+use Rattle.std.specs.List.{filter_map}
+use Rattle.lam_token.specs.declared.span.Span.{Span}
+use Rattle.lam_syntax.specs.Trees.{word, Bound, bound, TypeTree, type_tree, TypeNode, named, arrow, record_type, TypeFields, no_type_fields, type_field, TermTree, term_tree, TermNode, variable, lambda, if_term, let_term, letrec_term, prefixed, apply, project, ascribe, record_term, TermFields, no_fields, field, CommandTree, definition, declaration, abbreviation, evaluation}
+use Rattle.lam_scope.specs.Names.{Name, binds}
+
+-- a binder as it is seen from where it binds: its name, an underscore having none, and its token
+pub record Binder : Type 0 where
+  pub name : Option Name
+  pub token : Span
+
+-- the binder of this name and this token
+abbrev pub binder : Option Name → Span → Binder
+binder x s = record { name = x; token = s }
+
+-- the token of the innermost binder of a name, the innermost binder first; none where the name is free
+abbrev pub bound_to : Name → List Binder → Option Span
+bound_to x [] = None
+bound_to x (b ∷ bs) = if binds b.name x then Some b.token else bound_to x bs
+
+-- a name or a type name that stands in a command: a binder, at its token; or a use at its token, with the token of its binder, none where it is free
+pub data Mention : Type 0 where
+  binds_at : (token : Span) → Mention
+  uses_at : (token : Span) → (binder : Option Span) → Mention
+
+-- the token of a mention
+abbrev pub token_of : Mention → Span
+token_of (binds_at s) = s
+token_of (uses_at s b) = s
+
+-- the binder that a mention is or uses
+abbrev pub binder_of : Mention → Option Span
+binder_of (binds_at s) = Some s
+binder_of (uses_at s b) = b
+
+-- a binder of a term; an underscore is no name
+abbrev pub mention_of : Bound → List Mention
+mention_of (bound None s) = []
+mention_of (bound (Some x) s) = binds_at s ∷ []
+
+-- a binder of a term, as it is seen
+abbrev pub seen_of : Bound → Binder
+seen_of (bound x s) = binder x s
+
+-- the type names in a written type that sees these binders of type names, in the order of the text
+abbrev mutual
+  pub mentions_of_type : List Binder → TypeTree → List Mention
+  mentions_of_type types (type_tree s n) = mentions_of_type_node types n
+
+  pub mentions_of_type_node : List Binder → TypeNode → List Mention
+  mentions_of_type_node types (named (word x s)) = uses_at s (bound_to x types) ∷ []
+  mentions_of_type_node types (arrow a b) = mentions_of_type types a ++ mentions_of_type types b
+  mentions_of_type_node types (record_type fs) = mentions_of_type_fields types fs
+  mentions_of_type_node types n = []
+
+  pub mentions_of_type_fields : List Binder → TypeFields → List Mention
+  mentions_of_type_fields types no_type_fields = []
+  mentions_of_type_fields types (type_field l t fs) = mentions_of_type types t ++ mentions_of_type_fields types fs
+
+-- The names and type names in a term that sees these binders of type names and of names, in the order of the text. Labels are none. A letrec's name is bound in
+-- both of its terms.
+abbrev mutual
+  pub mentions_of : (types names : List Binder) → TermTree → List Mention
+  mentions_of types names (term_tree s n) = mentions_of_node types names n
+
+  pub mentions_of_node : (types names : List Binder) → TermNode → List Mention
+  mentions_of_node types names (variable (word x s)) = uses_at s (bound_to x names) ∷ []
+  mentions_of_node types names (lambda b u t) = mention_of b ++ mentions_of_type types u ++ mentions_of types (seen_of b ∷ names) t
+  mentions_of_node types names (if_term c t u) = mentions_of types names c ++ mentions_of types names t ++ mentions_of types names u
+  mentions_of_node types names (let_term b t u) = mention_of b ++ mentions_of types names t ++ mentions_of types (seen_of b ∷ names) u
+  mentions_of_node types names (letrec_term b w t u) =
+      mention_of b ++ mentions_of_type types w ++ mentions_of types (seen_of b ∷ names) t ++ mentions_of types (seen_of b ∷ names) u
+  mentions_of_node types names (prefixed p t) = mentions_of types names t
+  mentions_of_node types names (apply t u) = mentions_of types names t ++ mentions_of types names u
+  mentions_of_node types names (project t l) = mentions_of types names t
+  mentions_of_node types names (ascribe t u) = mentions_of types names t ++ mentions_of_type types u
+  mentions_of_node types names (record_term fs) = mentions_of_fields types names fs
+  mentions_of_node types names n = []
+
+  pub mentions_of_fields : (types names : List Binder) → TermFields → List Mention
+  mentions_of_fields types names no_fields = []
+  mentions_of_fields types names (field l t fs) = mentions_of types names t ++ mentions_of_fields types names fs
+
+-- those of a command that sees these binders
+abbrev pub mentions_of_command : (types names : List Binder) → CommandTree → List Mention
+mentions_of_command types names (definition (word x s) t) = binds_at s ∷ mentions_of types names t
+mentions_of_command types names (declaration (word x s) u) = binds_at s ∷ mentions_of_type types u
+mentions_of_command types names (abbreviation (word x s) u) = binds_at s ∷ mentions_of_type types u
+mentions_of_command types names (evaluation t) = mentions_of types names t
+
+-- the binders of type names that the commands behind one see
+abbrev pub types_behind : List Binder → CommandTree → List Binder
+types_behind types (abbreviation (word x s) u) = binder (Some x) s ∷ types
+types_behind types c = types
+
+-- the binders of names that the commands behind one see
+abbrev pub names_behind : List Binder → CommandTree → List Binder
+names_behind names (definition (word x s) t) = binder (Some x) s ∷ names
+names_behind names (declaration (word x s) u) = binder (Some x) s ∷ names
+names_behind names c = names
+
+-- the mentions of commands that see these binders, and each those of the commands before it too
+abbrev pub mentions_from : (types names : List Binder) → List CommandTree → List Mention
+mentions_from types names [] = []
+mentions_from types names (c ∷ cs) = mentions_of_command types names c ++ mentions_from (types_behind types c) (names_behind names c) cs
+
+-- the mentions of a document, in the order of the text
+abbrev pub mentions : List CommandTree → List Mention
+mentions cs = mentions_from [] [] cs
+
+-- What is bound to what.
+
+-- the token of the binder that the mention is or uses whose token begins at byte o; none where there is no such mention, or it is free
+abbrev pub bound_at : ℕ → List Mention → Option Span
+bound_at o [] = None
+bound_at o (m ∷ ms) = if (token_of m).start == o then binder_of m else bound_at o ms
+
+-- whether two tokens are one
+abbrev pub is_token : Span → Span → Bool
+is_token s t = (s.start == t.start) && (s.end == t.end)
+
+-- the token of a use of this binder
+abbrev pub use_of : Span → Mention → Option Span
+use_of b (binds_at s) = None
+use_of b (uses_at s None) = None
+use_of b (uses_at s (Some c)) = if is_token b c then Some s else None
+
+-- the tokens of the uses of a binder, in the order of the mentions
+abbrev pub uses_of : Span → List Mention → List Span
+uses_of b ms = filter_map (use_of b) ms
+
+-- each token ends where the next begins, or before it, and none is empty
+abbrev pub Ascend : (low : ℕ) → List Mention → (high : ℕ) → Type 0
+Ascend low [] high = low ≤ high
+Ascend low (m ∷ ms) high = (low ≤ (token_of m).start) × ((token_of m).start < (token_of m).end) × Ascend (token_of m).end ms high
