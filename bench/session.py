@@ -85,13 +85,16 @@ class Client:
             taken += [self.key(line, 0, "x"), self.key(line, 1, "")]
         return taken
 
-    def hover(self, line, column):
-        """Milliseconds from the frame to the answer, which has to show a type."""
+    def question(self, method, line, column):
+        """Milliseconds from the frame to the answer, which must not be null."""
         where = {"textDocument": {"uri": URI}, "position": {"line": line, "character": column}}
-        taken, body = self.timed(self.request("textDocument/hover", where))
+        taken, body = self.timed(self.request(f"textDocument/{method}", where))
         if json.loads(body)["result"] is None:
-            sys.exit(f"nothing is shown in line {line}, column {column}")
+            sys.exit(f"{method}: nothing is answered in line {line}, column {column}")
         return taken
+
+    def hover(self, line, column):
+        return self.question("hover", line, column)
 
     def keys_and_hovers(self, line, column, count):
         """So many blanks, each typed in front of a line and taken away again, with a hover behind each."""
@@ -161,6 +164,9 @@ def main():
     peak = client.peak()
     row("peak of memory after ten keys", f"{after_ten / len(text):.1f} times the text")
     row("peak of memory after 1,220 more", f"{peak / len(text):.1f} times the text")
+    row("a definition in the middle", spread([client.question("definition", middle, 0) for _ in range(20)]))
+    row("all references of the first name", spread([client.question("references", 0, 0) for _ in range(20)]))
+    row("peak of memory with both", f"{client.peak() / len(text):.1f} times the text")
     row("the program's status", client.close())
 
     text = make_document.document(22_950)

@@ -33,7 +33,15 @@ MESSAGES = {
     "E9": "label used twice in a record",
 }
 # How the marks are written of which something is asked or that change something.
-SIGNS = {"hover": r"~*\^~*", "why": r"~*\^~*", "becomes": r"\^+", "inserts": r"\^"}
+SIGNS = {
+    "hover": r"~*\^~*",
+    "why": r"~*\^~*",
+    "becomes": r"\^+",
+    "inserts": r"\^",
+    "as": r"~+",
+    "definition": r"\^",
+    "references": r"\^",
+}
 CUT_SHORT = "lam_server: F5 Truncated"
 
 # What was asked in which line of the row file, and the body that must come.
@@ -53,6 +61,13 @@ def framed(body):
     """The frame of a body, a text or bytes."""
     body = body.encode() if isinstance(body, str) else body
     return b"Content-Length: %d\r\n\r\n%b" % (len(body), body)
+
+
+def location(mark, uri, called, name):
+    """The place in the text that is called so."""
+    if name not in called:
+        raise Mistake(f"line {mark.line}: no place is called {name!r}: 'as {name}' under ~ calls one so")
+    return {"uri": uri, "range": called[name]}
 
 
 def position(place):
@@ -167,9 +182,9 @@ class Script:
     def notice(self, line, method, params, body):
         self.tell(line, {"method": f"textDocument/{method}", "params": params}, body)
 
-    def ask(self, line, method, place, uri, result):
+    def ask(self, line, method, place, uri, result, **more):
         self.requests += 1
-        params = {"textDocument": {"uri": uri}, "position": position(place)}
+        params = {"textDocument": {"uri": uri}, "position": position(place), **more}
         self.tell(line, {"id": self.requests, "method": method, "params": params}, reply(self.requests, result))
 
     # Documents.
@@ -211,6 +226,7 @@ class Script:
     def take_marks(self, block, places):
         """Asks and changes as the marks say, one after the other; the steps of a derivation stand behind the mark that asks for it."""
         spans = {id(mark): it for mark, *it in places}
+        called = {mark.rest: span(*spans[id(mark)][:2]) for mark in block.marks if mark.verb == "as"}
         left = collections.deque(it for it in block.marks if not FAULT.match(it.verb))
         while left:
             mark = left.popleft()
@@ -226,7 +242,11 @@ class Script:
                     check_signs(left[0], "~*")
                     listed.append((left[0], spans[id(left.popleft())][:2]))
                 self.why(mark, block.uri, cursor, listed)
-            else:
+            elif mark.verb == "definition":
+                self.definition(mark, block.uri, cursor, called)
+            elif mark.verb == "references":
+                self.references(mark, block.uri, cursor, called)
+            elif mark.verb != "as":
                 self.change(mark, block.uri, start, start if mark.verb == "inserts" else end)
 
     def hover(self, mark, uri, place, cursor):
@@ -241,6 +261,19 @@ class Script:
             steps = [self.step(at, *it) for at, it in enumerate(listed)]
             result = {"context": [entry(it) for it in context], "steps": steps}
         self.ask(mark.line, "fullsub/derivation", cursor, uri, result)
+
+    def definition(self, mark, uri, cursor, called):
+        """Asks where the name comes from: the place that is called so, or nothing."""
+        result = None if mark.rest == "nothing" else location(mark, uri, called, mark.rest)
+        self.ask(mark.line, "textDocument/definition", cursor, uri, result)
+
+    def references(self, mark, uri, cursor, called):
+        """Asks who uses the name: the places that are called so, behind `and definition` with the binder among them; none, or nothing."""
+        declared = mark.rest.startswith("and definition")
+        words = mark.rest.removeprefix("and definition").strip()
+        listed = [location(mark, uri, called, it) for it in words.split() if words not in ("none", "nothing")]
+        result = None if words == "nothing" else listed
+        self.ask(mark.line, "textDocument/references", cursor, uri, result, context={"includeDeclaration": declared})
 
     def step(self, at, mark, place):
         number, rule, concluded, premises = STEP.match(mark.says).groups()
@@ -263,7 +296,13 @@ class Script:
 
     def do_initialize(self, line, rest):
         params = {"capabilities": {"general": {"positionEncodings": [self.encoding]}}}
-        told = {"hoverProvider": True, "positionEncoding": self.encoding, "textDocumentSync": {"change": 2, "openClose": True}}
+        told = {
+            "definitionProvider": True,
+            "hoverProvider": True,
+            "positionEncoding": self.encoding,
+            "referencesProvider": True,
+            "textDocumentSync": {"change": 2, "openClose": True},
+        }
         self.tell(line, {"id": 0, "method": "initialize", "params": params}, reply(0, {"capabilities": told}))
 
     def do_close(self, line, uri):

@@ -148,11 +148,6 @@ pub text_found : (uri : List ℕ) (es : List Entry) (o : HeldDocument) (text : L
 text_found uri es o text is told =
     let same : Some o.text ≡ Some text = sym (open_text-lookup uri es ∙ ap (option_map (λ w. w.text)) is) ∙ told in cc
 
--- no text is open where no entry has this uri
-pub no_text : (uri : List ℕ) (es : List Entry) (text : List ℕ) → lookup (is_uri uri) es ≡ None → open_text uri (documents_of es) ≡ Some text → ⊥
-no_text uri es text is told =
-    let clash : None ≡ Some text = sym (open_text-lookup uri es ∙ ap (option_map (λ w. w.text)) is) ∙ told in cc
-
 -- ---- the list of documents
 
 pub same_text : (uri : List ℕ) → bytes_eq uri uri ≡ true

@@ -1,6 +1,8 @@
 pub mod ReplyLemmas
 pub mod HoverLaws
 pub mod DerivationLaws
+pub mod DefinitionLaws
+pub mod ReferencesLaws
 pub mod QuestionLaws
 pub mod MethodLemmas
 pub mod Plain

@@ -5,9 +5,12 @@ use Rattle.serde_json.specs.Written.{has_float}
 use Rattle.lam_session.specs.Asked.{Asked}
 use Rattle.lam_session.specs.Questions.{IsAnswerTo, MayVary}
 use Rattle.lam_session.specs.declared.questions.Question.{Question}
-use Rattle.lam_session.specs.declared.questions.Question.TheVariants.{Hover, Derivation}
+use Rattle.lam_session.specs.declared.questions.Question.TheVariants.{Hover, Derivation, Definition, References}
+use Rattle.lam_session.specs.References.{is_declared}
+use Rattle.lam_session.proofs.DefinitionLaws as definition
 use Rattle.lam_session.proofs.DerivationLaws as derivation
 use Rattle.lam_session.proofs.HoverLaws as hover
+use Rattle.lam_session.proofs.ReferencesLaws as references
 use Rattle.lam_session.proofs.ReplyLemmas.{HasNoMethod}
 
 -- there is a reply, two replies are one or may vary, and a reply holds no float of its own and is no notice
@@ -29,4 +32,16 @@ laws Derivation = record {
   alike = λ a id. derivation.alike_replies a.encoding a.dialect a.text a.offset id;
   plain = λ a id. derivation.plain a.encoding a.dialect a.text a.offset id;
   no_method = λ a id. derivation.no_method a.encoding a.dialect a.text a.offset id;
+}
+laws Definition = record {
+  some = λ a id. definition.some_reply a.encoding a.uri a.text a.offset id;
+  alike = λ a id one other h k. inl (definition.one_reply a.encoding a.uri a.text a.offset id one other h k);
+  plain = λ a id. definition.plain a.encoding a.uri a.text a.offset id;
+  no_method = λ a id. definition.no_method a.encoding a.uri a.text a.offset id;
+}
+laws References = record {
+  some = λ a id. references.some_reply a.encoding a.uri a.text a.offset (is_declared a.params) id;
+  alike = λ a id one other h k. inl (references.one_reply a.encoding a.uri a.text a.offset (is_declared a.params) id one other h k);
+  plain = λ a id. references.plain a.encoding a.uri a.text a.offset (is_declared a.params) id;
+  no_method = λ a id. references.no_method a.encoding a.uri a.text a.offset (is_declared a.params) id;
 }

@@ -48,9 +48,11 @@ document_sync = object (member (codes "change") (number (unsigned 2)) (member (c
 -- what the server can do, with the unit that it has chosen
 abbrev pub capabilities : Encoding → Data
 capabilities encoding =
-    object (member (codes "hoverProvider") (boolean true)
+    object (member (codes "definitionProvider") (boolean true)
+    (member (codes "hoverProvider") (boolean true)
     (member (codes "positionEncoding") (string (encoding_name encoding))
-    (member (codes "textDocumentSync") document_sync no_members)))
+    (member (codes "referencesProvider") (boolean true)
+    (member (codes "textDocumentSync") document_sync no_members)))))
 
 -- the answer to `initialize`
 abbrev pub initialize_answer : Encoding → Data

@@ -14,6 +14,8 @@ pub mod Told
 pub mod Asked
 pub mod Hovers
 pub mod Derivations
+pub mod Definitions
+pub mod References
 pub mod Questions
 pub mod Step
 pub mod OneAnswer

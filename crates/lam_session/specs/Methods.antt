@@ -19,6 +19,8 @@ requests =
     ∷ (codes "shutdown", request.Shutdown)
     ∷ (codes "textDocument/hover", request.Ask question.Hover)
     ∷ (codes "fullsub/derivation", request.Ask question.Derivation)
+    ∷ (codes "textDocument/definition", request.Ask question.Definition)
+    ∷ (codes "textDocument/references", request.Ask question.References)
     ∷ []
 
 -- the request that a name means

@@ -1,6 +1,6 @@
--- Places of a text as a client is told them (LSP 3.17, "Position" and "Range").
+-- Places of a text as a client is told them (LSP 3.17, "Position", "Range" and "Location").
 use Rattle.std.specs.Prelude.{ℕ, List, codes}
-use Rattle.serde_json.specs.Data.{Data, number, unsigned, object, member, no_members}
+use Rattle.serde_json.specs.Data.{Data, number, unsigned, string, object, member, no_members}
 use Rattle.lam_token.specs.declared.span.Span.{Span}
 use Rattle.lam_text.specs.declared.units.Encoding.{Encoding}
 use Rattle.lam_text.specs.declared.places.Position.{Position}
@@ -16,3 +16,7 @@ abbrev pub range_value : Encoding → List ℕ → Span → Data
 range_value encoding text span =
     object (member (codes "end") (position_value (position_of encoding text span.end))
     (member (codes "start") (position_value (position_of encoding text span.start)) no_members))
+
+-- that range in the document of this uri
+abbrev pub location_value : Encoding → List ℕ → (uri : List ℕ) → Span → Data
+location_value encoding text uri span = object (member (codes "range") (range_value encoding text span) (member (codes "uri") (string uri) no_members))

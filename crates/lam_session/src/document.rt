@@ -3,6 +3,7 @@ ghost use Rattle.std.specs.Prelude.{◌≡◌, true, map, option_map, All, IfOk,
 ghost use Rattle.lam_query.specs.Derivations.{IsDerivedIn};
 ghost use Rattle.lam_query.specs.Hovers.{IsShownIn};
 ghost use Rattle.lam_query.specs.Analyses.{IsAnalysisOf, dialect_of};
+ghost use Rattle.lam_query.specs.Definitions.{IsDefinitionIn, AreReferencesIn};
 ghost use Rattle.lam_query.specs.TextFaults.{AreFaults};
 ghost use Rattle.lam_query.specs.Views.{fault_of, shown_of, derivation_of, StepStandsIn};
 ghost use Rattle.lam_query.specs.Within.{StandsIn};
@@ -13,6 +14,7 @@ use lam_query::Analysis;
 use lam_query::answers::{Derivation, Fault, Hover};
 use lam_rules::Dialect;
 use lam_text::{Change, Doc, Encoding, Position};
+use lam_token::Span;
 use std::alloc::{AllocError, Global};
 use std::marker::Model;
 
@@ -142,5 +144,31 @@ impl Document {
     {
         let offset = self.doc.offset_of(position);
         self.analysis().derivation(alloc, self.doc.text(), offset)
+    }
+
+    /// Where the name at a position comes from.
+    pub fn definition(&self, alloc: Global, position: Position) -> Result<Option<Span>, AllocError>
+        requires { self.now.analysed ≡ true }
+        ensures definition { IfOk result (IsDefinitionIn self.now.text (offset_of self.now.encoding self.now.text position)) }
+        ensures whole_characters { IfOk result (λ found. IfSome found (StandsIn self.now.text)) }
+    {
+        let offset = self.doc.offset_of(position);
+        self.analysis().definition(alloc, self.doc.text(), offset)
+    }
+
+    /// Who uses the name at a position, with its declaration if it is asked for.
+    pub fn references(
+        &self,
+        alloc: Global,
+        position: Position,
+        declared: bool,
+    ) -> Result<Option<Vec<Span>>, AllocError>
+        requires { self.now.analysed ≡ true }
+        ensures references { IfOk result (λ found. AreReferencesIn self.now.text (offset_of self.now.encoding self.now.text position) declared (option_map (λ spans. spans.items) found)) }
+        ensures whole_characters { IfOk result (λ found. IfSome found (λ spans. All (StandsIn self.now.text) spans.items)) }
+    {
+        let offset = self.doc.offset_of(position);
+        self.analysis()
+            .references(alloc, self.doc.text(), offset, declared)
     }
 }

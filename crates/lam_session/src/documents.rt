@@ -83,7 +83,8 @@ impl Documents {
         Ok(self)
     }
 
-    /// Changes an open document, where it stands: no other document is touched.
+    /// Changes an open document, where it stands: no other document is touched. Where memory is refused, the changed
+    /// document may have no analysis, and so the documents are not given back.
     pub fn change(
         mut self,
         uri: &str,

@@ -82,8 +82,10 @@ fn capabilities(alloc: Global, encoding: Encoding) -> Result<Value, AllocError>
     ensures { IfOk result (λ value. view value ≡ capabilities encoding) }
 {
     Object::new(alloc)
+        .value("definitionProvider", Ok(Value::from(true)))
         .value("hoverProvider", Ok(Value::from(true)))
         .text("positionEncoding", encoding_name(encoding))
+        .value("referencesProvider", Ok(Value::from(true)))
         .value("textDocumentSync", document_sync(alloc))
         .finish()
 }

@@ -5,6 +5,7 @@
 #![tactic(auto)]
 
 mod conversation;
+mod definition;
 mod derivation;
 mod diagnostics;
 mod document;
@@ -16,6 +17,7 @@ mod methods;
 mod objects;
 mod questions;
 mod ranges;
+mod references;
 mod refusals;
 mod session;
 mod states;

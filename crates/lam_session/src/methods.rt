@@ -23,13 +23,21 @@ pub enum NoticeMethod {
 }
 
 /// The requests by their names.
-static REQUESTS: [(&str, RequestMethod); 4] = [
+static REQUESTS: [(&str, RequestMethod); 6] = [
     ("initialize", RequestMethod::Initialize),
     ("shutdown", RequestMethod::Shutdown),
     ("textDocument/hover", RequestMethod::Ask(Question::Hover)),
     (
         "fullsub/derivation",
         RequestMethod::Ask(Question::Derivation),
+    ),
+    (
+        "textDocument/definition",
+        RequestMethod::Ask(Question::Definition),
+    ),
+    (
+        "textDocument/references",
+        RequestMethod::Ask(Question::References),
     ),
 ];
 

@@ -3,21 +3,27 @@ ghost use Rattle.std.specs.Prelude.{IfOk};
 ghost use Rattle.serde_json.specs.View.{view};
 ghost use Rattle.lam_session.specs.Questions.{Replies};
 
+use crate::definition::definition_reply;
 use crate::derivation::derivation_reply;
 use crate::documents::Documents;
 use crate::hover::hover_reply;
+use crate::references::references_reply;
 use crate::refusals::{Refusal, refused};
 use lam_rpc::{read_position, read_uri};
 use serde_json::Value;
 use std::alloc::{AllocError, Global};
 
-/// What is asked of the innermost term round a position.
+/// What is asked of the innermost term round a position, or of the name there.
 #[derive(Clone, Copy)]
 pub enum Question {
-    /// Its type.
+    /// The type of the term.
     Hover,
     /// Why it has that type.
     Derivation,
+    /// Where the name comes from.
+    Definition,
+    /// Who uses it.
+    References,
 }
 
 /// The reply to a question with these params.
@@ -42,5 +48,7 @@ pub fn reply_to(
     match question {
         Question::Hover => hover_reply(alloc, id, document, position),
         Question::Derivation => derivation_reply(alloc, id, document, position),
+        Question::Definition => definition_reply(alloc, id, uri, document, position),
+        Question::References => references_reply(alloc, id, params, uri, document, position),
     }
 }

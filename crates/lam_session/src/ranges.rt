@@ -1,8 +1,8 @@
-//! Places of a text as a client is told them (LSP 3.17, `Position` and `Range`).
+//! Places of a text as a client is told them (LSP 3.17, `Position`, `Range` and `Location`).
 ghost use Rattle.std.specs.Prelude.{◌≡◌, IfOk};
 ghost use Rattle.serde_json.specs.View.{view};
 ghost use Rattle.lam_query.specs.Within.{StandsIn};
-ghost use Rattle.lam_session.specs.Ranges.{position_value, range_value};
+ghost use Rattle.lam_session.specs.Ranges.{position_value, range_value, location_value};
 
 use crate::objects::Object;
 use lam_text::{Doc, Position};
@@ -18,6 +18,17 @@ pub fn range_value(alloc: Global, doc: &Doc, span: Span) -> Result<Value, AllocE
     Object::new(alloc)
         .value("end", position_value(alloc, doc.position_of(span.end)))
         .value("start", position_value(alloc, doc.position_of(span.start)))
+        .finish()
+}
+
+/// That range in the document of this uri.
+pub fn location_value(alloc: Global, doc: &Doc, uri: &str, span: Span) -> Result<Value, AllocError>
+    requires { StandsIn doc.now.text span }
+    ensures { IfOk result (λ value. view value ≡ location_value doc.now.encoding doc.now.text uri.now span) }
+{
+    Object::new(alloc)
+        .value("range", range_value(alloc, doc, span))
+        .text("uri", uri)
         .finish()
 }
 

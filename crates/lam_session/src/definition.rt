@@ -1,0 +1,47 @@
+//! Where a name comes from, as a client is told it (LSP 3.17, `textDocument/definition`).
+ghost use Rattle.std.specs.Prelude.{◌≡◌, true, IfOk, IfSome};
+ghost use Rattle.serde_json.specs.View.{view};
+ghost use Rattle.lam_text.specs.Positions.{offset_of};
+ghost use Rattle.lam_query.specs.Within.{StandsIn};
+ghost use Rattle.lam_session.specs.Definitions.{definition_value, IsDefinitionReply};
+
+use crate::document::Document;
+use crate::ranges::location_value;
+use lam_rpc::ok_reply;
+use lam_text::{Doc, Position};
+use lam_token::Span;
+use serde_json::Value;
+use std::alloc::{AllocError, Global};
+
+/// The reply to the request with this id: where the name at a position of the document of this uri is bound.
+pub fn definition_reply(
+    alloc: Global,
+    id: Value,
+    uri: &str,
+    document: &Document,
+    position: Position,
+) -> Result<Value, AllocError>
+    requires { document.now.analysed ≡ true }
+    ensures { IfOk result (λ reply. IsDefinitionReply document.now.encoding uri.now document.now.text
+        (offset_of document.now.encoding document.now.text position) (view id) (view reply)) }
+{
+    let found = document.definition(alloc, position)?;
+    let value = definition_value(alloc, document.doc(), uri, found)?;
+    ok_reply(alloc, id, value)
+}
+
+/// The place of the binder; null where there is none.
+fn definition_value(
+    alloc: Global,
+    doc: &Doc,
+    uri: &str,
+    found: Option<Span>,
+) -> Result<Value, AllocError>
+    requires { IfSome found (StandsIn doc.now.text) }
+    ensures { IfOk result (λ value. view value ≡ definition_value doc.now.encoding doc.now.text uri.now found) }
+{
+    match found {
+        Some(span) => location_value(alloc, doc, uri, span),
+        None => Ok(Value::Null),
+    }
+}
