@@ -27,8 +27,9 @@ use Rattle.lam_query.specs.Views.{fault_of}
 use Rattle.lam_query.specs.Within.{StandsIn}
 use Rattle.lam_query.proofs.RowsAndTerms.{span_told}
 use Rattle.lam_query.proofs.TreePlaces.{InCommands}
-use Rattle.lam_query.proofs.Spans.{InTokens, Spreads}
-use Rattle.lam_query.proofs.TextPlaces.{InPieces, in_pieces, tokens_stand, stands_spread}
+use Rattle.lam_query.proofs.Spans.{AtPlace, InTokens, Spreads}
+use Rattle.lam_query.proofs.Pieces.{InPieces, pieces_in}
+use Rattle.lam_query.proofs.TextPlaces.{tokens_stand, stands_spread}
 use Rattle.lam_query.proofs.Within.{InFaults, in_faults, in_place, in_too_large}
 
 abbrev pub InFaultList : (Span → Type 0) → List Fault → Type 0
@@ -51,7 +52,7 @@ in_piece Q w ts _ h (a_command taken spells) = tt
 in_piece Q w ts _ h (goes_wrong taken wrong at) = (token_in Q ts _ _ h at, tt)
 in_piece Q w ts _ h (ends_early taken early at) = (token_in Q ts _ _ h at, tt)
 
-in_all_pieces : (Q : Span → Type 0) → Spreads Q → (ps : List (List Lexeme)) (fs : List Fault) → InPieces Q ps → PieceFaults ps fs → InFaultList Q fs
+in_all_pieces : (Q : Span → Type 0) → Spreads Q → (ps : List (List Lexeme)) (fs : List Fault) → InPieces (AtPlace Q) ps → PieceFaults ps fs → InFaultList Q fs
 in_all_pieces Q w [] fs h are = subst (InFaultList Q) (sym are) tt
 in_all_pieces Q w (p ∷ ps) fs h are =
     subst (InFaultList Q) (sym are.4) (in_both Q (option_to_list are.0) are.1 (in_piece Q w p are.0 h.0 are.2) (in_all_pieces Q w ps are.1 h.1 are.3))
@@ -68,7 +69,7 @@ of_tokens Q (t ∷ ts) h = of_token Q t (filter_map fault_of_token ts) h.0 (of_t
 in_syntax : (Q : Span → Type 0) → Spreads Q → (ts : List Lexeme) (fs : List Fault) → InTokens Q ts → AreSyntaxFaults ts fs → InFaultList Q fs
 in_syntax Q w ts fs h are =
     subst (InFaultList Q) (sym are.all)
-    (in_both Q (filter_map fault_of_token ts) are.of_pieces (of_tokens Q ts h) (in_all_pieces Q w (pieces_of ts) are.of_pieces (in_pieces Q ts h) are.pieces))
+    (in_both Q (filter_map fault_of_token ts) are.of_pieces (of_tokens Q ts h) (in_all_pieces Q w (pieces_of ts) are.of_pieces (pieces_in (AtPlace Q) ts h) are.pieces))
 
 size_in : (Q : Span → Type 0) (cs : List CommandTree) (s : Span) (d : Dialect) → Q no_span → InCommands Q cs → IsSizeFault cs s d → Q s
 size_in Q cs s d past h (of_written_type is) = in_too_large Q cs s is h

@@ -5,6 +5,7 @@ pub mod Small
 pub mod RowsAndTerms
 pub mod Hovering
 pub mod TreePlaces
+pub mod Pieces
 pub mod Spans
 pub mod Within
 pub mod Collected

@@ -1,16 +1,16 @@
 -- What holds of each token of a text that is a name or a type name holds of the token of each mention.
-use Rattle.std.proofs.Common.{◌≡◌, List, [], ◌∷◌, ◌++◌, true, false, Bool, cond, refl, subst, inl, inr}
-use Rattle.std.specs.Prelude.{filter}
+use Rattle.std.proofs.Common.{◌≡◌, List, [], ◌∷◌, ◌++◌, true, refl, subst, inl, inr}
 use Rattle.std.specs.List.{AllByRecursion}
 use Rattle.lam_token.specs.declared.span.Span.{Span}
 use Rattle.lam_token.specs.Lexeme.{Lexeme, kind_of, span_of}
 use Rattle.lam_syntax.specs.Trees.{Bound, TypeTree, TypeFields, TermTree, TermFields, CommandTree, from_to}
 use Rattle.lam_syntax.specs.Grammar.{BinderIs, name_binder, blank_binder, TypeIs, atype_type, arrow_type, ATypeIs, parens_atype, bool_atype, nat_atype, unit_atype, top_atype, name_atype, empty_atype, record_atype, TypeFieldsAre, last_type_field, more_type_fields, TermIs, lambda_is, if_is, let_is, letrec_is, app_is, AppIs, head_app, argument_app, HeadIs, path_head, fix_head, succ_head, pred_head, iszero_head, PathIs, asc_path, label_path, AscIs, atom_asc, typed_asc, AtomIs, parens_atom, true_atom, false_atom, unit_atom, name_atom, numeral_atom, empty_atom, record_atom, FieldsAre, last_field, more_fields, Spells, definition_command, declaration_command, abbreviation_command, evaluation_command}
-use Rattle.lam_syntax.specs.Answers.{is_semicolon, onto_first, runs_of, has_tokens, pieces_of}
+use Rattle.lam_syntax.specs.Answers.{pieces_of}
 use Rattle.lam_scope.specs.Mentions.{Binder, seen_of, Mention, token_of, mention_of, mentions_of_type, mentions_of_type_fields, mentions_of, mentions_of_fields, mentions_of_command, types_behind, names_behind, mentions_from, mentions}
 use Rattle.lam_scope.proofs.SpelledMentions.{in_parentheses, term_in_parentheses}
 use Rattle.lam_query.specs.Commands.{AreCommandsOf}
 use Rattle.lam_query.specs.Touched.{is_name}
+use Rattle.lam_query.proofs.Pieces.{InPieces, pieces_in}
 
 -- Q holds of the place of a token, if it is a name or a type name
 abbrev pub IfName : (Span → Type 0) → Lexeme → Type 0
@@ -145,28 +145,7 @@ command_in Q types names (declaration_command d) h = (h.0 refl, (type_passes Q t
 command_in Q types names (abbreviation_command d) h = (h.0 refl, (type_passes Q types d h.1.1).0)
 command_in Q types names (evaluation_command d) h = (term_passes Q types names d h).0
 
-abbrev InPieces : (Span → Type 0) → List (List Lexeme) → Type 0
-InPieces Q ps = AllByRecursion (InNames Q) ps
-
-one_of : (Q : Span → Type 0) (b : Bool) (ps qs : List (List Lexeme)) → InPieces Q ps → InPieces Q qs → InPieces Q (cond b ps qs)
-one_of Q true ps qs h k = h
-one_of Q false ps qs h k = k
-
-onto_in : (Q : Span → Type 0) (t : Lexeme) (runs : List (List Lexeme)) → IfName Q t → InPieces Q runs → InPieces Q (onto_first t runs)
-onto_in Q t [] q h = ((q, tt), tt)
-onto_in Q t (run ∷ runs) q h = ((q, h.0), h.1)
-
-runs_in : (Q : Span → Type 0) (ts : List Lexeme) → InNames Q ts → InPieces Q (runs_of ts)
-runs_in Q [] h = (tt, tt)
-runs_in Q (t ∷ ts) h =
-    let rest = runs_in Q ts h.1 in
-    one_of Q (is_semicolon t) ([] ∷ runs_of ts) (onto_first t (runs_of ts)) (tt, rest) (onto_in Q t (runs_of ts) h.0 rest)
-
-kept_in : (Q : Span → Type 0) (runs : List (List Lexeme)) → InPieces Q runs → InPieces Q (filter has_tokens runs)
-kept_in Q [] h = tt
-kept_in Q (run ∷ runs) h = one_of Q (has_tokens run) (run ∷ filter has_tokens runs) (filter has_tokens runs) (h.0, kept_in Q runs h.1) (kept_in Q runs h.1)
-
-commands_in : (Q : Span → Type 0) (types names : List Binder) (ps : List (List Lexeme)) (cs : List CommandTree) → InPieces Q ps → AreCommandsOf ps cs → AreIn Q (mentions_from types names cs)
+commands_in : (Q : Span → Type 0) (types names : List Binder) (ps : List (List Lexeme)) (cs : List CommandTree) → InPieces (IfName Q) ps → AreCommandsOf ps cs → AreIn Q (mentions_from types names cs)
 commands_in Q types names [] cs h are = rw are tt
 commands_in Q types names (p ∷ ps) cs h (inl are) =
     let types_then = types_behind types are.0 in
@@ -176,4 +155,4 @@ commands_in Q types names (p ∷ ps) cs h (inl are) =
 commands_in Q types names (p ∷ ps) cs h (inr are) = commands_in Q types names ps cs h.1 are.1
 
 pub names_in : (Q : Span → Type 0) (ts : List Lexeme) (cs : List CommandTree) → AreCommandsOf (pieces_of ts) cs → InNames Q ts → AreIn Q (mentions cs)
-names_in Q ts cs are h = commands_in Q [] [] (pieces_of ts) cs (kept_in Q (runs_of ts) (runs_in Q ts h)) are
+names_in Q ts cs are h = commands_in Q [] [] (pieces_of ts) cs (pieces_in (IfName Q) ts h) are

@@ -1,14 +1,18 @@
 -- The places in a tree are made of those of its tokens.
-use Rattle.std.proofs.Common.{List, [], ◌∷◌}
+use Rattle.std.proofs.Common.{List}
+use Rattle.std.specs.List.{AllByRecursion}
 use Rattle.lam_token.specs.declared.span.Span.{Span}
 use Rattle.lam_token.specs.Lexeme.{Lexeme, span_of}
 use Rattle.lam_syntax.specs.Trees.{Bound, TypeTree, type_tree, TypeFields, TermTree, term_tree, TermFields, CommandTree, from_to, type_span, term_span, spanning_type, spanning_term}
 use Rattle.lam_syntax.specs.Grammar.{BinderIs, name_binder, blank_binder, TypeIs, atype_type, arrow_type, ATypeIs, parens_atype, bool_atype, nat_atype, unit_atype, top_atype, name_atype, empty_atype, record_atype, TypeFieldsAre, last_type_field, more_type_fields, TermIs, lambda_is, if_is, let_is, letrec_is, app_is, AppIs, head_app, argument_app, HeadIs, path_head, fix_head, succ_head, pred_head, iszero_head, PathIs, asc_path, label_path, AscIs, atom_asc, typed_asc, AtomIs, parens_atom, true_atom, false_atom, unit_atom, name_atom, numeral_atom, empty_atom, record_atom, FieldsAre, last_field, more_fields, Spells, definition_command, declaration_command, abbreviation_command, evaluation_command}
 use Rattle.lam_query.proofs.TreePlaces.{InBound, InType, InTypeFields, InTerm, InFields, InCommand}
 
+-- Q holds of the place of a token
+abbrev pub AtPlace : (Span → Type 0) → Lexeme → Type 0
+AtPlace Q t = Q (span_of t)
+
 abbrev pub InTokens : (Span → Type 0) → List Lexeme → Type 0
-InTokens Q [] = Unit {0}
-InTokens Q (t ∷ ts) = Q (span_of t) × InTokens Q ts
+InTokens Q ts = AllByRecursion (AtPlace Q) ts
 
 -- a test that goes on from two places to the one from the start of the first to the end of the second
 abbrev pub Spreads : (Span → Type 0) → Type 0
