@@ -9,8 +9,8 @@ use Rattle.lam_token.specs.declared.segment.Segment.{Segment}
 use Rattle.lam_token.specs.declared.segment.Segment.TheVariants.{Blank, Comment, Token}
 use Rattle.lam_token.specs.declared.span.Span.{Span}
 use Rattle.lam_token.specs.Lexeme.{Lexeme, lexeme}
-use Rattle.lam_token.specs.Cut.{IsFirst, longest, unclosed, stray, Part, IsCut, with_token, tokens_of, AreTokensOf}
-use Rattle.lam_token.specs.Shape.{opens_comment}
+use Rattle.lam_token.specs.Cut.{Part, IsCut, with_token, tokens_of, AreTokensOf}
+use Rattle.lam_token.proofs.Cuts.{some_characters}
 use Rattle.lam_syntax.specs.Trees.{CommandTree}
 use Rattle.lam_syntax.specs.Answers.{is_semicolon, onto_first, runs_of, has_tokens, pieces_of}
 use Rattle.lam_scope.specs.Tables.{table, is_over, place_row_numbered}
@@ -29,14 +29,6 @@ use Rattle.lam_query.specs.Commands.{AreCommandsOf, AreCommandsOfText}
 tokens_from_lower : (low next high : ℕ) (ts : List Lexeme) → low ≤ next → TokensStand next ts high → TokensStand low ts high
 tokens_from_lower low next high [] le h = omega (arith, le, h)
 tokens_from_lower low next high (lexeme k x s ∷ ts) le h = (omega (arith, le, h.0), h.1, h.2)
-
--- a first segment has a character
-some_characters : (s : Segment) (cs rest : List ℕ) → IsFirst s cs rest → 0 < length cs
-some_characters s [] rest (longest one none_longer) = absurd cc
-some_characters s (c ∷ cs) rest (longest one none_longer) = omega arith
-some_characters s [] rest (unclosed none is_open ends) = let no = ap opens_comment ends in absurd cc
-some_characters s (c ∷ cs) rest (unclosed none is_open ends) = omega arith
-some_characters s cs rest (stray none not_open single) = omega arith
 
 -- the tokens of segments stand behind the byte at which the segments begin
 

@@ -75,7 +75,7 @@ one_first s t cs ds rest more same (stray none not_open single) (stray none' not
     (refl, found.0, found.1)
 
 -- a first segment has a character
-some_characters : (s : Segment) (cs rest : List ℕ) → IsFirst s cs rest → 0 < length cs
+pub some_characters : (s : Segment) (cs rest : List ℕ) → IsFirst s cs rest → 0 < length cs
 some_characters s [] rest (longest one none_longer) = absurd cc
 some_characters s (c ∷ cs) rest (longest one none_longer) = omega arith
 some_characters s [] rest (unclosed none is_open ends) = let no = ap opens_comment ends in absurd cc
