@@ -7,3 +7,5 @@ pub mod Answer
 pub mod Runs
 pub mod Steps
 pub mod AnswerLaws
+pub mod RespelledTrees
+pub mod RespelledPieces

@@ -2,6 +2,7 @@ pub mod Trees
 pub mod Letters
 pub mod Views
 pub mod Grammar
+pub mod Respelled
 pub mod Answers
 pub mod Run
 pub mod Reads

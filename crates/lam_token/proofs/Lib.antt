@@ -5,3 +5,8 @@ pub mod Segments
 pub mod Cuts
 pub mod Comments
 pub mod SomeCut
+pub mod NextSegment
+pub mod Exchanged
+pub mod Places
+pub mod Moved
+pub mod EditedTexts

@@ -33,7 +33,7 @@ segment_longest text rest after cs c b s begins first front is none_longer = rec
         ap (λ x. shape_of (x ∷ front)) head ∙ ap (λ k. begun k c front) begins ∙ none_longer front more tail (omega arith)
 
 -- a character that begins nothing
-nothing_begins : (c : ℕ) (cs : List ℕ) (b : Beginning) → beginning_of c ≡ b → ((front more : List ℕ) → cs ≡ front ++ more → begun b c front ≡ None) → NothingBegins (c ∷ cs)
+pub nothing_begins : (c : ℕ) (cs : List ℕ) (b : Beginning) → beginning_of c ≡ b → ((front more : List ℕ) → cs ≡ front ++ more → begun b c front ≡ None) → NothingBegins (c ∷ cs)
 nothing_begins c cs b begins none [] more same = refl
 nothing_begins c cs b begins none (d ∷ front) more same =
     let head : d ≡ c = cc in
@@ -91,7 +91,7 @@ begun_underscore : (c : ℕ) (front : List ℕ) → 0 < length front → begun b
 begun_underscore c [] some = absurd (omega arith)
 begun_underscore c (d ∷ front) some = refl
 
-longer_underscore : (c : ℕ) (cs rest front after : List ℕ) → EndsRun is_continuing rest → cs ++ rest ≡ front ++ after → length cs < length front → begun begin.Underscore c front ≡ None
+pub longer_underscore : (c : ℕ) (cs rest front after : List ℕ) → EndsRun is_continuing rest → cs ++ rest ≡ front ++ after → length cs < length front → begun begin.Underscore c front ≡ None
 longer_underscore c cs rest front after ends same longer =
     begun_underscore c front (omega arith)
     ∙ ap (λ b. cond b (Some (Token Name)) None) (longer_fails is_continuing cs rest front after ends same longer)
@@ -155,7 +155,7 @@ lone_slash_segment text rest c first begins is_end =
     at_end [] more same = refl
     at_end (e ∷ front) more same = absurd cc
 
-begun_slash : (c d : ℕ) (cs front more : List ℕ) → d ∷ cs ≡ front ++ more → ((inside : List ℕ) → front ≡ d ∷ inside → cs ≡ inside ++ more → cond (d == 42) (closed_at_end (rest_of_comment 1 32 inside)) None ≡ None) → begun begin.Slash c front ≡ None
+pub begun_slash : (c d : ℕ) (cs front more : List ℕ) → d ∷ cs ≡ front ++ more → ((inside : List ℕ) → front ≡ d ∷ inside → cs ≡ inside ++ more → cond (d == 42) (closed_at_end (rest_of_comment 1 32 inside)) None ≡ None) → begun begin.Slash c front ≡ None
 begun_slash c d cs [] more same none = refl
 begun_slash c d cs (e ∷ inside) more same none =
     let head : e ≡ d = cc in

@@ -4,3 +4,4 @@ pub mod Shape
 pub mod Comment
 pub mod Cut
 pub mod Reading
+pub mod Edits

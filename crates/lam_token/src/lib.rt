@@ -20,7 +20,7 @@ mod token;
 mod words;
 
 pub use kind::Kind;
-pub use laws::{comments_nest, some_cut};
+pub use laws::{comments_nest, names_change_alone, some_cut};
 pub use lexer::{first_token, lex};
 pub use names::{is_name, is_type_name};
 pub use span::Span;

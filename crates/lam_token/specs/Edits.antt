@@ -1,0 +1,68 @@
+-- Tokens that are spelled otherwise, and a text in which a new name stands in the place of others.
+use Rattle.std.specs.Prelude.{◌≡◌, ◌⊎◌, ℕ, ◌+◌, ◌-◌, ◌≤◌, ◌==◌, Bool, true, false, ◌&&◌, nat_le, if◌then◌else◌, List, [], ◌∷◌, ◌++◌, length, take, drop, Contains, Some}
+use Rattle.std.specs.List.{list_any}
+use Rattle.std.specs.Str.{chars}
+use Rattle.lam_token.specs.declared.kind.Kind.{Kind}
+use Rattle.lam_token.specs.declared.kind.Kind.TheVariants.{Name, TypeName}
+use Rattle.lam_token.specs.declared.segment.Segment.TheVariants.{Token}
+use Rattle.lam_token.specs.declared.span.Span.{Span}
+use Rattle.lam_token.specs.Lexeme.{Lexeme, lexeme, kind_of, span_of}
+use Rattle.lam_token.specs.Shape.{shape_of}
+
+-- Tokens with other letters and at other places.
+
+-- a span whose bytes have other offsets
+abbrev pub placed : (place : ℕ → ℕ) → Span → Span
+placed place s = record { start = place s.start; end = place s.end }
+
+-- a token of the same kind with other letters, which its kind, its own letters and its span decide, and at another place
+abbrev pub respelled : (place : ℕ → ℕ) → (letters : Kind → List ℕ → Span → List ℕ) → Lexeme → Lexeme
+respelled place letters (lexeme k x s) = lexeme k (letters k x s) (placed place s)
+
+-- A new name in the place of some of a text's tokens.
+
+-- whether two spans are one
+abbrev pub is_span : Span → Span → Bool
+is_span s t = (s.start == t.start) && (s.end == t.end)
+
+-- whether a span is one of these
+abbrev pub among : List Span → Span → Bool
+among spans s = list_any (is_span s) spans
+
+-- the text with the new name in the place of each span, put there from the last to the first
+abbrev pub edited : List ℕ → List Span → (new : List ℕ) → List ℕ
+edited text [] new = text
+edited text (s ∷ spans) new = let later = edited text spans new in take s.start later ++ new ++ drop s.end later
+
+-- where a byte offset of the text that is inside none of the spans is in the edited one: as much further on, or back, as the new name is longer, or shorter, than the spans that end there or before it
+abbrev pub moved : List Span → (new : List ℕ) → ℕ → ℕ
+moved [] new o = o
+moved (s ∷ spans) new o = if nat_le s.end o then (moved spans new o + length new) - (s.end - s.start) else moved spans new o
+
+-- whether tokens of this kind are names or type names
+abbrev pub is_name_kind : Kind → Bool
+is_name_kind Name = true
+is_name_kind TypeName = true
+is_name_kind _ = false
+
+-- the new name at these spans, where names and type names are, and elsewhere the letters that were there
+abbrev pub renaming : List Span → (new : List ℕ) → Kind → List ℕ → Span → List ℕ
+renaming spans new kind text s = if is_name_kind kind && among spans s then new else text
+
+-- a token as it stands in the edited text
+abbrev pub retold : List Span → (new : List ℕ) → Lexeme → Lexeme
+retold spans new t = respelled (moved spans new) (renaming spans new) t
+
+-- the kind is that of names, or that of type names
+abbrev pub IsNameKind : Kind → Type 0
+IsNameKind kind = (kind ≡ Name) ⊎ (kind ≡ TypeName)
+
+-- a text that is one token of this kind by itself
+abbrev pub IsOne : Kind → List ℕ → Type 0
+IsOne kind text = shape_of (chars text) ≡ Some (Token kind)
+
+-- the spans stand one behind the other, from this byte on, and each is that of a token of this kind
+abbrev pub AreSpansOf : Kind → List Lexeme → (low : ℕ) → List Span → Type 0
+AreSpansOf kind tokens low [] = Unit {0}
+AreSpansOf kind tokens low (s ∷ spans) =
+    (low ≤ s.start) × ((t : Lexeme) × Contains tokens t × (kind_of t ≡ kind) × (span_of t ≡ s)) × AreSpansOf kind tokens s.end spans
