@@ -1,5 +1,5 @@
 -- What the name under the cursor is bound to, and the uses of that, from the rows of a text's table.
-use Rattle.std.proofs.Common.{◌≡◌, ℕ, zero, suc, ◌+◌, ◌<◌, List, [], ◌∷◌, ◌++◌, Bool, true, false, if◌then◌else◌, Option, Some, None, map, length, refl, sym, ap, subst, ◌∙◌, arith}
+use Rattle.std.proofs.Common.{◌≡◌, ℕ, ◌+◌, List, [], ◌∷◌, ◌++◌, Bool, true, false, if◌then◌else◌, Option, Some, None, map, length, refl, sym, ap, subst, ◌∙◌, arith}
 use Rattle.std.specs.Prelude.{slice_index_or}
 use Rattle.std.specs.Option.{option_map, option_and_then}
 use Rattle.std.specs.List.{All, AllByRecursion}
@@ -11,11 +11,12 @@ use Rattle.lam_token.proofs.SomeCut.{tokens_at, are_tokens_at}
 use Rattle.lam_syntax.specs.Trees.{CommandTree}
 use Rattle.lam_syntax.specs.Views.{command_of}
 use Rattle.lam_syntax.specs.Answers.{pieces_of}
-use Rattle.lam_scope.specs.Tables.{Table, TextUse, table, binder_numbered, binder_at, tokens_of, tokens_by}
+use Rattle.lam_scope.specs.Tables.{Table, table, binder_numbered, binder_at, tokens_of, tokens_by}
 use Rattle.lam_scope.specs.Mentions.{mentions, bound_at, uses_of, Ascend}
 use Rattle.lam_scope.specs.Views.{AreScopesOf, table_of, uses_in}
 use Rattle.lam_scope.specs.declared.scopes.Scopes.{Scopes}
 use Rattle.lam_scope.proofs.SpelledMentions.{spelled_ascend}
+use Rattle.lam_scope.proofs.TokenLists.{tokens_by-at}
 use Rattle.lam_scope.proofs.BoundMentions.{bound_told, uses_told, own_answer}
 use Rattle.lam_query.specs.declared.reading.Parsed.{Parsed}
 use Rattle.lam_query.specs.Commands.{AreCommandsOf}
@@ -38,11 +39,11 @@ text_ascends text ts cs are commands = spelled_ascend cs (text_spelled text cs (
 
 -- the definition of the touched name is that of the name that begins there
 
-bound_nowhere : (cs : List CommandTree) (t : Option Lexeme) → None ≡ option_map start_of t → None ≡ option_and_then (λ u. bound_at (start_of u) (mentions cs)) t
+pub bound_nowhere : (cs : List CommandTree) (t : Option Lexeme) → None ≡ option_map start_of t → None ≡ option_and_then (λ u. bound_at (start_of u) (mentions cs)) t
 bound_nowhere cs None is = refl
 bound_nowhere cs (Some t) is = absurd cc
 
-bound_there : (cs : List CommandTree) (start : ℕ) (t : Option Lexeme) → Some start ≡ option_map start_of t → bound_at start (mentions cs) ≡ option_and_then (λ u. bound_at (start_of u) (mentions cs)) t
+pub bound_there : (cs : List CommandTree) (start : ℕ) (t : Option Lexeme) → Some start ≡ option_map start_of t → bound_at start (mentions cs) ≡ option_and_then (λ u. bound_at (start_of u) (mentions cs)) t
 bound_there cs start None is = absurd cc
 bound_there cs start (Some t) is = let same : start ≡ start_of t = cc in ap (λ n. bound_at n (mentions cs)) same
 
@@ -98,23 +99,16 @@ row_defines text o start answer token parsed scopes read of is_touched at is = r
 
 -- the uses of that binder
 
-tokens_by-at : (us : List TextUse) (m count n : ℕ) → n < count → slice_index_or (tokens_by m count us) n [] ≡ tokens_of (m + n) us
-tokens_by-at us m zero n within = absurd (omega arith)
-tokens_by-at us m (suc count) zero within = let same : m ≡ m + 0 = omega arith in ap (λ k. tokens_of k us) same
-tokens_by-at us m (suc count) (suc n) within =
-    let same : m + 1 + n ≡ m + suc n = omega arith in
-    tokens_by-at us (m + 1) count n (omega (arith, within)) ∙ ap (λ k. tokens_of k us) same
-
 used_in : (cs : List CommandTree) (t : Table) (lists : List (List Span)) (high start n : ℕ) → t ≡ table cs → lists ≡ tokens_by 0 (length (table cs).binders) (table cs).uses → Ascend 0 (mentions cs) high
     → Some n ≡ binder_at t start → slice_index_or lists (binder_numbered t n).answer [] ≡ uses_of (binder_numbered t n).token (mentions cs)
 used_in cs t lists high start n same listed ascend at =
     let here : binder_at (table cs) start ≡ Some n = sym (at ∙ ap (λ u. binder_at u start) same) in
-    let own = own_answer cs high start n ascend here in
+    let own = own_answer cs start n here in
     let all = tokens_by 0 (length (table cs).binders) (table cs).uses in
     let first : 0 + n ≡ n = omega arith in
     (λ i. slice_index_or (listed i) (binder_numbered (same i) n).answer [])
     ∙ ap (λ k. slice_index_or all k []) own.1
-    ∙ tokens_by-at (table cs).uses 0 (length (table cs).binders) n own.0
+    ∙ tokens_by-at (table cs).uses 0 (length (table cs).binders) n own.0.inside
     ∙ ap (λ k. tokens_of k (table cs).uses) first
     ∙ uses_told cs high start n ascend here
     ∙ ap (λ (u : Table). uses_of (binder_numbered u n).token (mentions cs)) (sym same)

@@ -19,6 +19,7 @@ pub mod OneAnswer
 pub mod Innermost
 pub mod PiecesRead
 pub mod PieceLaws
+pub mod ParsedPieces
 pub mod SortedFaults
 pub mod BlameLaws
 pub mod SizeLaws
@@ -32,3 +33,6 @@ pub mod Defining
 pub mod DefinitionLaws
 pub mod NameTokens
 pub mod SharedDefinitions
+pub mod RenamedTexts
+pub mod RenamedRows
+pub mod RenameLaws

@@ -1,11 +1,12 @@
--- What holds of each place in a tree holds of the token of each mention in it, and of each binder's.
+-- What holds of each place in a tree holds of the token of each mention in it, labels among them, and of each binder's.
 use Rattle.std.proofs.Common.{◌≡◌, ℕ, List, [], ◌∷◌, ◌++◌, Bool, true, false, cond, Option, Some, None, subst}
 use Rattle.std.specs.Prelude.{◌==◌}
 use Rattle.std.specs.List.{AllByRecursion, cons_option}
 use Rattle.lam_token.specs.declared.span.Span.{Span}
+use Rattle.lam_token.specs.Edits.{is_span}
 use Rattle.lam_syntax.specs.Trees.{word, Bound, bound, TypeTree, type_tree, TypeNode, bool, nat, unit, top, named, arrow, record_type, TypeFields, no_type_fields, type_field, TermTree, term_tree, TermNode, true_term, false_term, unit_term, variable, numeral, lambda, if_term, let_term, letrec_term, prefixed, apply, project, ascribe, record_term, TermFields, no_fields, field, CommandTree, definition, declaration, abbreviation, evaluation}
 use Rattle.lam_scope.specs.Names.{Name, binds}
-use Rattle.lam_scope.specs.Mentions.{Binder, seen_of, bound_to, Mention, binds_at, uses_at, token_of, binder_of, mention_of, mentions_of_type, mentions_of_type_node, mentions_of_type_fields, mentions_of, mentions_of_node, mentions_of_fields, mentions_of_command, types_behind, names_behind, mentions_from, mentions, bound_at, is_token, use_of, uses_of}
+use Rattle.lam_scope.specs.Mentions.{Binder, seen_of, bound_to, Mention, uses_at, labels_at, token_of, binder_of, mention_of, mentions_of_type, mentions_of_type_node, mentions_of_type_fields, mentions_of, mentions_of_node, mentions_of_fields, mentions_of_command, types_behind, names_behind, mentions_from, mentions, bound_at, use_of, uses_of}
 use Rattle.lam_query.proofs.TreePlaces.{InBound, InType, InTypeNode, InTypeFields, InTerm, InNode, InFields, InCommand, InCommands}
 
 -- Mentions whose tokens Q holds of, and whose binders' tokens too; and binders that are seen.
@@ -58,7 +59,8 @@ mutual
 
   in_type_fields : (Q : Span → Type 0) (types : List Binder) (fs : TypeFields) → InBinders Q types → InTypeFields Q fs → InMentions Q (mentions_of_type_fields types fs)
   in_type_fields Q types no_type_fields seen h = tt
-  in_type_fields Q types (type_field l t fs) seen h = in_both Q (mentions_of_type types t) (mentions_of_type_fields types fs) (in_type Q types t seen h.1) (in_type_fields Q types fs seen h.2)
+  in_type_fields Q types (type_field (word l s) t fs) seen h =
+      (h.0, tt, in_both Q (mentions_of_type types t) (mentions_of_type_fields types fs) (in_type Q types t seen h.1) (in_type_fields Q types fs seen h.2))
 
 mutual
   in_term : (Q : Span → Type 0) (types names : List Binder) (t : TermTree) → InBinders Q types → InBinders Q names → InTerm Q t → InMentions Q (mentions_of types names t)
@@ -91,14 +93,14 @@ mutual
       (in_term Q types names_inside u seen seen_inside h.3)
   in_node Q types names (prefixed p t) seen seen_names h = in_term Q types names t seen seen_names h
   in_node Q types names (apply t u) seen seen_names h = in_both Q (mentions_of types names t) (mentions_of types names u) (in_term Q types names t seen seen_names h.0) (in_term Q types names u seen seen_names h.1)
-  in_node Q types names (project t l) seen seen_names h = in_term Q types names t seen seen_names h.0
+  in_node Q types names (project t (word l s)) seen seen_names h = in_both Q (mentions_of types names t) (labels_at s ∷ []) (in_term Q types names t seen seen_names h.0) (h.1, tt, tt)
   in_node Q types names (ascribe t u) seen seen_names h = in_both Q (mentions_of types names t) (mentions_of_type types u) (in_term Q types names t seen seen_names h.0) (in_type Q types u seen h.1)
   in_node Q types names (record_term fs) seen seen_names h = in_fields Q types names fs seen seen_names h
 
   in_fields : (Q : Span → Type 0) (types names : List Binder) (fs : TermFields) → InBinders Q types → InBinders Q names → InFields Q fs → InMentions Q (mentions_of_fields types names fs)
   in_fields Q types names no_fields seen seen_names h = tt
-  in_fields Q types names (field l t fs) seen seen_names h =
-      in_both Q (mentions_of types names t) (mentions_of_fields types names fs) (in_term Q types names t seen seen_names h.1) (in_fields Q types names fs seen seen_names h.2)
+  in_fields Q types names (field (word l s) t fs) seen seen_names h =
+      (h.0, tt, in_both Q (mentions_of types names t) (mentions_of_fields types names fs) (in_term Q types names t seen seen_names h.1) (in_fields Q types names fs seen seen_names h.2))
 
 -- the mentions of commands
 
@@ -138,9 +140,8 @@ in_bound_at Q o [] h = tt
 in_bound_at Q o (m ∷ ms) h = in_one_of Q ((token_of m).start == o) (binder_of m) (bound_at o ms) h.1 (in_bound_at Q o ms h.2)
 
 in_use : (Q : Span → Type 0) (b : Span) (m : Mention) → Q (token_of m) → InToken Q (use_of b m)
-in_use Q b (binds_at s) h = tt
-in_use Q b (uses_at s None) h = tt
-in_use Q b (uses_at s (Some c)) h = in_one_of Q (is_token b c) (Some s) None h tt
+in_use Q b (uses_at k s (Some c)) h = in_one_of Q (is_span b c) (Some s) None h tt
+in_use Q b m h = tt
 
 in_kept : (Q : Span → Type 0) (kept : Option Span) (ss : List Span) → InToken Q kept → AllByRecursion Q ss → AllByRecursion Q (cons_option kept ss)
 in_kept Q None ss h k = k

@@ -1,37 +1,36 @@
 -- All references of a name have one definition, and the name is among them.
-use Rattle.std.proofs.Common.{◌≡◌, ◌≢◌, ◌⊎◌, ℕ, suc, ◌+◌, ◌<◌, ◌≤◌, List, [], ◌∷◌, Bool, true, false, ltb, not, Option, Some, None, length, inl, inr, refl, sym, ap, subst, ◌∙◌, arith}
+use Rattle.std.proofs.Common.{◌≡◌, ◌⊎◌, ℕ, suc, ◌<◌, ◌≤◌, List, [], ◌∷◌, Bool, true, false, ltb, not, Option, Some, None, inl, inr, refl, sym, ap, subst, ◌∙◌, arith}
 use Rattle.std.specs.Prelude.{◌==◌, ◌&&◌, if◌then◌else◌}
 use Rattle.std.specs.Option.{option_map, option_or, option_and_then}
 use Rattle.std.specs.List.{All, AllByRecursion, Contains, cons_option, find}
-use Rattle.std.proofs.lemmas.Bool.{cases_eq, eqb-true, lt-ltb, le-ltb}
-use Rattle.std.proofs.lemmas.List.Elements.{All-from_recursion}
+use Rattle.std.proofs.lemmas.Bool.{eqb-true, lt-ltb, le-ltb}
+use Rattle.std.proofs.lemmas.List.Elements.{All-from_recursion, All-contains}
 use Rattle.lam_token.specs.declared.span.Span.{Span}
+use Rattle.lam_token.specs.Edits.{is_span, is_name_kind}
 use Rattle.lam_token.specs.Lexeme.{Lexeme, lexeme, kind_of, span_of, start_of}
 use Rattle.lam_token.specs.Cut.{AreTokensOf}
 use Rattle.lam_token.proofs.Cuts.{one_list}
 use Rattle.lam_syntax.specs.Trees.{CommandTree}
 use Rattle.lam_syntax.specs.Answers.{pieces_of}
 use Rattle.lam_scope.specs.Nesting.{TokensStand}
-use Rattle.lam_scope.specs.Tables.{TextBinder, table, binder_in, binder_at}
-use Rattle.lam_scope.specs.Mentions.{Mention, binds_at, uses_at, token_of, binder_of, mentions, bound_at, is_token, use_of, uses_of, Ascend}
+use Rattle.lam_scope.specs.Mentions.{Mention, binds_at, uses_at, labels_at, token_of, binder_of, mentions, bound_at, use_of, uses_of, Ascend}
 use Rattle.lam_scope.proofs.UseChains.{same_number, other_number}
-use Rattle.lam_scope.proofs.BinderRows.{BindersStand, all_stand}
-use Rattle.lam_scope.proofs.MentionRows.{is_answer, IsAnswer, Told, tokens_bound, answer_tokens, table_mentioned}
-use Rattle.lam_scope.proofs.BoundMentions.{same_token, all_told}
+use Rattle.lam_scope.proofs.BoundMentions.{same_token, binder_holds}
 use Rattle.lam_query.specs.Commands.{AreCommandsOf}
-use Rattle.lam_query.specs.Touched.{is_name, is_name_over, is_name_before, touched}
+use Rattle.lam_query.specs.Touched.{is_name_over, is_name_before, touched}
 use Rattle.lam_query.specs.Definitions.{definition_in, references_to, IsDefinitionIn, AreReferencesIn}
 use Rattle.lam_query.proofs.Innermost.{text_stands}
 use Rattle.lam_query.proofs.NameTokens.{IfName, InNames, names_in}
 use Rattle.lam_query.proofs.Defining.{text_ascends}
+use Rattle.lam_query.proofs.DefinitionLaws.{one_definition}
 
 -- claims about each element
 
-each : {A : Type 0} (P R : A → Type 0) (xs : List A) → ((x : A) → P x → R x) → AllByRecursion P xs → AllByRecursion R xs
+pub each : {A : Type 0} (P R : A → Type 0) (xs : List A) → ((x : A) → P x → R x) → AllByRecursion P xs → AllByRecursion R xs
 each P R [] f h = tt
 each P R (x ∷ xs) f h = (f x h.0, each P R xs f h.1)
 
-both_of : {A : Type 0} (P R : A → Type 0) (xs : List A) → AllByRecursion P xs → AllByRecursion R xs → AllByRecursion (λ x. P x × R x) xs
+pub both_of : {A : Type 0} (P R : A → Type 0) (xs : List A) → AllByRecursion P xs → AllByRecursion R xs → AllByRecursion (λ x. P x × R x) xs
 both_of P R [] h k = tt
 both_of P R (x ∷ xs) h k = ((h.0, k.0), both_of P R xs h.1 k.1)
 
@@ -60,19 +59,19 @@ behind_it true true o end le = le-ltb o end le
 behind_it true false o end le = refl
 behind_it false b o end le = refl
 
-abbrev FoundFrom : ℕ → List Lexeme → Lexeme → Type 0
-FoundFrom low ts t = (low ≤ start_of t) × (is_name (kind_of t) ≡ true → find (is_name_over (start_of t)) ts ≡ Some t)
+abbrev pub FoundFrom : ℕ → List Lexeme → Lexeme → Type 0
+FoundFrom low ts t = (low ≤ start_of t) × (is_name_kind (kind_of t) ≡ true → find (is_name_over (start_of t)) ts ≡ Some t)
 
-found_each : (low high : ℕ) (ts : List Lexeme) → TokensStand low ts high → AllByRecursion (FoundFrom low ts) ts
+pub found_each : (low high : ℕ) (ts : List Lexeme) → TokensStand low ts high → AllByRecursion (FoundFrom low ts) ts
 found_each low high [] h = tt
 found_each low high (lexeme k x s ∷ ts) h = (
-  (h.0, λ name. rw (over_itself (is_name k) s name h.1) refl),
+  (h.0, λ name. rw (over_itself (is_name_kind k) s name h.1) refl),
   each (FoundFrom s.end ts) (FoundFrom low (lexeme k x s ∷ ts)) ts
       (λ t found.
       let first = h.0 in
       let some = h.1 in
       let behind = found.0 in
-      (omega arith, λ name. rw (behind_it (is_name k) (not (ltb (start_of t) s.start)) (start_of t) s.end found.0) (found.1 name)))
+      (omega arith, λ name. rw (behind_it (is_name_kind k) (not (ltb (start_of t) s.start)) (start_of t) s.end found.0) (found.1 name)))
       (found_each s.end high ts h.2),
 )
 
@@ -80,13 +79,13 @@ found_each low high (lexeme k x s ∷ ts) h = (
 abbrev IsTouchedAt : List Lexeme → Span → Type 0
 IsTouchedAt ts s = (t : Lexeme) × (span_of t ≡ s) × (touched s.start ts ≡ Some t)
 
-found_touched : (ts : List Lexeme) (t : Lexeme) → find (is_name_over (start_of t)) ts ≡ Some t → touched (start_of t) ts ≡ Some t
+pub found_touched : (ts : List Lexeme) (t : Lexeme) → find (is_name_over (start_of t)) ts ≡ Some t → touched (start_of t) ts ≡ Some t
 found_touched ts t found = ap (λ o. option_or o (find (is_name_before (start_of t)) ts)) found
 
-names_touched : (text : List ℕ) (ts : List Lexeme) → AreTokensOf text ts → InNames (IsTouchedAt ts) ts
+names_touched : (text : List ℕ) (ts : List Lexeme) → AreTokensOf text ts → InNames (λ k s. IsTouchedAt ts s) ts
 names_touched text ts are =
     let stand = text_stands text ts are in
-    each (FoundFrom 0 ts) (IfName (IsTouchedAt ts)) ts (λ t found name. (t, refl, found_touched ts t (found.1 name))) (found_each 0 stand.0 ts stand.1)
+    each (FoundFrom 0 ts) (IfName (λ k s. IsTouchedAt ts s)) ts (λ t found name. (t, refl, found_touched ts t (found.1 name))) (found_each 0 stand.0 ts stand.1)
 
 -- the touched token is a name of the text
 
@@ -102,12 +101,12 @@ left_true : (a b : Bool) → (a && b) ≡ true → a ≡ true
 left_true true b h = refl
 left_true false b h = absurd cc
 
-touched_holds : (P : Lexeme → Type 0) (o : ℕ) (ts : List Lexeme) (t : Lexeme) → AllByRecursion P ts → touched o ts ≡ Some t → P t × (is_name (kind_of t) ≡ true)
+pub touched_holds : (P : Lexeme → Type 0) (o : ℕ) (ts : List Lexeme) (t : Lexeme) → AllByRecursion P ts → touched o ts ≡ Some t → P t × (is_name_kind (kind_of t) ≡ true)
 touched_holds P o ts t h is = by (find (is_name_over o) ts) refl is
   where
-    by : (f : Option Lexeme) → find (is_name_over o) ts ≡ f → option_or f (find (is_name_before o) ts) ≡ Some t → P t × (is_name (kind_of t) ≡ true)
-    by (Some u) e over = let held = find_holds P (is_name_over o) ts t h (e ∙ over) in (held.0, left_true (is_name (kind_of t)) _ held.1)
-    by None e before = let held = find_holds P (is_name_before o) ts t h before in (held.0, left_true (is_name (kind_of t)) _ held.1)
+    by : (f : Option Lexeme) → find (is_name_over o) ts ≡ f → option_or f (find (is_name_before o) ts) ≡ Some t → P t × (is_name_kind (kind_of t) ≡ true)
+    by (Some u) e over = let held = find_holds P (is_name_over o) ts t h (e ∙ over) in (held.0, left_true (is_name_kind (kind_of t)) _ held.1)
+    by None e before = let held = find_holds P (is_name_before o) ts t h before in (held.0, left_true (is_name_kind (kind_of t)) _ held.1)
 
 -- each mention is the one that begins where it does
 
@@ -129,7 +128,7 @@ told_each low high (m ∷ ms) h = (
 
 -- the uses of a binder are bound to it
 
-one_token : (b c : Span) → is_token b c ≡ true → b ≡ c
+pub one_token : (b c : Span) → is_span b c ≡ true → b ≡ c
 one_token b c is = by (b.start == c.start) (b.end == c.end) refl refl is
   where
     by : (x y : Bool) → (b.start == c.start) ≡ x → (b.end == c.end) ≡ y → (x && y) ≡ true → b ≡ c
@@ -144,51 +143,15 @@ Shares Q all b s = (bound_at s.start all ≡ Some b) × Q s
 abbrev IsTold : (Span → Type 0) → List Mention → Mention → Type 0
 IsTold Q all m = (bound_at (token_of m).start all ≡ binder_of m) × Q (token_of m)
 
-use_shares : (Q : Span → Type 0) (all : List Mention) (b c s : Span) (us : List Span) (is : Bool) → is_token b c ≡ is → bound_at s.start all ≡ Some c → Q s → AllByRecursion (Shares Q all b) us
+use_shares : (Q : Span → Type 0) (all : List Mention) (b c s : Span) (us : List Span) (is : Bool) → is_span b c ≡ is → bound_at s.start all ≡ Some c → Q s → AllByRecursion (Shares Q all b) us
     → AllByRecursion (Shares Q all b) (cons_option (if is then Some s else None) us)
 use_shares Q all b c s us true is told q h = ((told ∙ ap Some (sym (one_token b c is)), q), h)
 use_shares Q all b c s us false is told q h = h
 
 uses_share : (Q : Span → Type 0) (all : List Mention) (b : Span) (ms : List Mention) → AllByRecursion (IsTold Q all) ms → AllByRecursion (Shares Q all b) (uses_of b ms)
 uses_share Q all b [] h = tt
-uses_share Q all b (binds_at s ∷ ms) h = uses_share Q all b ms h.1
-uses_share Q all b (uses_at s None ∷ ms) h = uses_share Q all b ms h.1
-uses_share Q all b (uses_at s (Some c) ∷ ms) h = use_shares Q all b c s (uses_of b ms) (is_token b c) refl h.0.0 h.0.1 (uses_share Q all b ms h.1)
-
-binder_shares : (Q : Span → Type 0) (all : List Mention) (b : Span) (ms : List Mention) → AllByRecursion (IsTold Q all) ms → IsIn b (tokens_bound ms) → Shares Q all b b
-binder_shares Q all b [] h is = absurd is
-binder_shares Q all b (binds_at s ∷ ms) h (inl e) = subst (λ (c : Span). Shares Q all c c) (sym e) h.0
-binder_shares Q all b (binds_at s ∷ ms) h (inr is) = binder_shares Q all b ms h.1 is
-binder_shares Q all b (uses_at s c ∷ ms) h is = binder_shares Q all b ms h.1 is
-
--- what a name is bound to is itself a binder of the text
-
-in_first : (yes : Bool) (s t : Span) (ts : List Span) → yes ≡ true → s ≡ t → IsIn s (if yes then t ∷ ts else ts)
-in_first true s t ts is e = inl e
-in_first false s t ts is e = absurd cc
-
-in_rest : (yes : Bool) (s t : Span) (ts : List Span) → IsIn s ts → IsIn s (if yes then t ∷ ts else ts)
-in_rest true s t ts h = inr h
-in_rest false s t ts h = h
-
-answer_in : (bs : List TextBinder) (n k : ℕ) (rows : List TextBinder) → BindersStand bs n rows → IsAnswer bs k → n ≤ k → k < n + length rows → IsIn (binder_in bs k).token (answer_tokens n rows)
-answer_in bs n k [] stand answer le lt = absurd (omega arith)
-answer_in bs n k (b ∷ rows) stand answer le lt = by (λ more. answer_in bs (n + 1) k rows stand.2 answer (omega arith) (omega arith)) (cases_eq k n)
-  where
-    by : (n < k → IsIn (binder_in bs k).token (answer_tokens (n + 1) rows)) → (k ≡ n) ⊎ (k ≢ n) → IsIn (binder_in bs k).token (if is_answer n b then b.token ∷ answer_tokens (n + 1) rows else answer_tokens (n + 1) rows)
-    by rest (inl e) =
-        let row : binder_in bs k ≡ b = ap (binder_in bs) e ∙ stand.1 in
-        in_first (is_answer n b) _ b.token _ ((λ i. is_answer (sym e i) (sym row i)) ∙ answer.1) (ap (λ c. c.token) row)
-    by rest (inr off) = in_rest (is_answer n b) _ b.token _ (rest (omega arith))
-
-told_in : (bs : List TextBinder) (a : Option ℕ) (b : Span) → Told bs a (Some b) → IsIn b (answer_tokens 0 bs)
-told_in bs None b h = absurd h
-told_in bs (Some n) b h = let within = h.1.0 in subst (λ s. IsIn s (answer_tokens 0 bs)) h.0 (answer_in bs 0 n bs (all_stand bs) h.1 (omega arith) (omega arith))
-
-binder_bound : (cs : List CommandTree) (high o : ℕ) (b : Span) → Ascend 0 (mentions cs) high → bound_at o (mentions cs) ≡ Some b → IsIn b (tokens_bound (mentions cs))
-binder_bound cs high o b ascend is =
-    let bs = (table cs).binders in
-    subst (IsIn b) (table_mentioned cs).answers (told_in bs (binder_at (table cs) o) b (subst (Told bs (binder_at (table cs) o)) is (all_told cs high o ascend)))
+uses_share Q all b (uses_at k s (Some c) ∷ ms) h = use_shares Q all b c s (uses_of b ms) (is_span b c) refl h.0.0 h.0.1 (uses_share Q all b ms h.1)
+uses_share Q all b (m ∷ ms) h = uses_share Q all b ms h.1
 
 -- the name is among them
 
@@ -201,12 +164,13 @@ still_in b s kept us (inl e) = inl e
 still_in b s kept us (inr h) = inr (kept_in kept s us h)
 
 mention_in : (b : Span) (m : Mention) (us : List Span) → binder_of m ≡ Some b → IsIn (token_of m) (b ∷ cons_option (use_of b m) us)
-mention_in b (binds_at s) us is = inl (let same : s ≡ b = cc in same)
-mention_in b (uses_at s None) us is = absurd cc
-mention_in b (uses_at s (Some c)) us is =
+mention_in b (binds_at k s) us is = inl (let same : s ≡ b = cc in same)
+mention_in b (uses_at k s None) us is = absurd cc
+mention_in b (uses_at k s (Some c)) us is =
     let same : c ≡ b = cc in
-    let own : is_token b c ≡ true = same_token b c (sym same) in
+    let own : is_span b c ≡ true = same_token b c (sym same) in
     inr (rw own (inl refl))
+mention_in b (labels_at s) us is = absurd cc
 
 found_in : (o : ℕ) (b : Span) (ms : List Mention) → bound_at o ms ≡ Some b → (s : Span) × (s.start ≡ o) × IsIn s (b ∷ uses_of b ms)
 found_in o b [] is = absurd cc
@@ -224,9 +188,9 @@ all_share text ts cs o b are commands is =
     let ms = mentions cs in
     let ascend = text_ascends text ts cs are commands in
     let told = each (ToldFrom 0 ms) (λ m. bound_at (token_of m).start ms ≡ binder_of m) ms (λ m h. h.1) (told_each 0 ascend.0 ms ascend.1) in
-    let named = names_in (IsTouchedAt ts) ts cs commands (names_touched text ts are) in
+    let named = names_in (λ k s. IsTouchedAt ts s) ts cs commands (names_touched text ts are) in
     let all = both_of (λ m. bound_at (token_of m).start ms ≡ binder_of m) (λ m. IsTouchedAt ts (token_of m)) ms told named in
-    (binder_shares (IsTouchedAt ts) ms b ms all (binder_bound cs ascend.0 o b ascend.1 is), uses_share (IsTouchedAt ts) ms b ms all)
+    ((binder_holds (IsTold (IsTouchedAt ts) ms) cs ascend.0 o b ascend.1 is all).1, uses_share (IsTouchedAt ts) ms b ms all)
 
 listed_share : (P : Span → Type 0) (declared : Bool) (b : Span) (us : List Span) → AllByRecursion P (b ∷ us) → AllByRecursion P (if declared then b ∷ us else us)
 listed_share P true b us h = h
@@ -270,7 +234,7 @@ references_share text o declared spans h = by (definition_in h.tokens h.commands
 -- the touched name has the place of the name that begins there
 same_place : (text : List ℕ) (ts : List Lexeme) (o : ℕ) (t : Lexeme) (s : Span) → AreTokensOf text ts → touched o ts ≡ Some t → IsTouchedAt ts s → s.start ≡ start_of t → s ≡ span_of t
 same_place text ts o t s are is (u, place, here) begins =
-    let held = touched_holds (IfName (IsTouchedAt ts)) o ts t (names_touched text ts are) is in
+    let held = touched_holds (IfName (λ k s. IsTouchedAt ts s)) o ts t (names_touched text ts are) is in
     let own = held.0 held.1 in
     let both : Some u ≡ Some own.0 = sym here ∙ ap (λ n. touched n ts) begins ∙ own.2 in
     let same : u ≡ own.0 = cc in
@@ -297,3 +261,17 @@ touched_among text o spans ts t are touches h = by (bound_at (start_of t) ms) re
         let at = in_all (Shares (IsTouchedAt h.tokens) ms b) here.0 (b ∷ uses_of b ms) shares here.2 in
         let place = same_place text h.tokens o t here.0 h.are_tokens touched_there at.1 here.1 in
         contained (span_of t) spans (subst (IsIn (span_of t)) (sym same) (subst (λ (s : Span). IsIn s (b ∷ uses_of b ms)) place here.2))
+
+-- two definitions of a name are one
+one_binder : (text : List ℕ) (o : ℕ) (b c : Span) → IsDefinitionIn text o (Some b) → IsDefinitionIn text o (Some c) → b ≡ c
+one_binder text o b c h k = let both = one_definition text o (Some b) (Some c) h k in cc
+
+-- a span that is a reference of two names tells their binder
+pub references_apart : (text : List ℕ) (o p : ℕ) (declared also : Bool) (spans others : List Span) (b c s : Span) → AreReferencesIn text o declared (Some spans) → IsDefinitionIn text o (Some b)
+    → AreReferencesIn text p also (Some others) → IsDefinitionIn text p (Some c) → (b ≡ c → ⊥) → Contains spans s → Contains others s → ⊥
+references_apart text o p declared also spans others b c s are of_one others_are of_other apart in_one in_other =
+    let one = references_share text o declared spans are in
+    let other = references_share text p also others others_are in
+    let here = All-contains (λ t. IsDefinitionIn text t.start (Some one.0)) spans s one.2 in_one in
+    let there = All-contains (λ t. IsDefinitionIn text t.start (Some other.0)) others s other.2 in_other in
+    apart (one_binder text o b one.0 of_one one.1 ∙ one_binder text s.start one.0 other.0 here there ∙ one_binder text p other.0 c other.1 of_other)

@@ -6,6 +6,7 @@ pub mod SyntaxFaults
 pub mod TextFaults
 pub mod Touched
 pub mod Definitions
+pub mod Renames
 pub mod Hovers
 pub mod Innermost
 pub mod Steps

@@ -1,25 +1,18 @@
 -- The name under the cursor.
-use Rattle.std.specs.Prelude.{◌==◌, ℕ, List, Bool, true, false, ◌&&◌, not, Option}
+use Rattle.std.specs.Prelude.{◌==◌, ℕ, List, Bool, ◌&&◌, not, Option}
 use Rattle.std.specs.Option.{option_or}
 use Rattle.std.specs.List.{find}
 use Rattle.std.proofs.Math.Dec.{ltb}
-use Rattle.lam_token.specs.declared.kind.Kind.{Kind}
-use Rattle.lam_token.specs.declared.kind.Kind.TheVariants.{Name, TypeName}
+use Rattle.lam_token.specs.Edits.{is_name_kind}
 use Rattle.lam_token.specs.Lexeme.{Lexeme, kind_of, start_of, end_of}
-
--- whether a token is a name or a type name
-abbrev pub is_name : Kind → Bool
-is_name Name = true
-is_name TypeName = true
-is_name _ = false
 
 -- whether a token is a name or a type name that has byte o
 abbrev pub is_name_over : ℕ → Lexeme → Bool
-is_name_over o t = is_name (kind_of t) && (not (ltb o (start_of t)) && ltb o (end_of t))
+is_name_over o t = is_name_kind (kind_of t) && (not (ltb o (start_of t)) && ltb o (end_of t))
 
 -- whether a token is a name or a type name that ends at byte o
 abbrev pub is_name_before : ℕ → Lexeme → Bool
-is_name_before o t = is_name (kind_of t) && (end_of t == o)
+is_name_before o t = is_name_kind (kind_of t) && (end_of t == o)
 
 -- the name or type name that has the byte at the cursor; where there is none, the one that ends there
 abbrev pub touched : ℕ → List Lexeme → Option Lexeme

@@ -1,5 +1,6 @@
 //! What holds of the answers: the contracts of functions that do nothing.
-ghost use Rattle.std.specs.Prelude.{◌≡◌, ◌↔◌, ℕ, Bool, true, List, [], Option, Some, All, Contains};
+ghost use Rattle.std.specs.Prelude.{◌≡◌, ◌↔◌, ℕ, Bool, true, List, [], Option, Some, Result, Ok, Err, All, Contains};
+ghost use Rattle.std.specs.Str.{IsUtf8};
 ghost use Rattle.lam_token.specs.declared.span.Span.{Span};
 ghost use Rattle.lam_token.specs.Lexeme.{Lexeme, span_of};
 ghost use Rattle.lam_token.specs.Cut.{AreTokensOf};
@@ -15,15 +16,19 @@ ghost use Rattle.lam_query.specs.Innermost.{IsInnermost};
 ghost use Rattle.lam_query.specs.Derivations.{Derivation, IsDerivedIn};
 ghost use Rattle.lam_query.specs.Touched.{touched};
 ghost use Rattle.lam_query.specs.Definitions.{IsDefinitionIn, AreReferencesIn};
+ghost use Rattle.lam_query.specs.declared.renames.RenameFault.{RenameFault};
+ghost use Rattle.lam_query.specs.declared.renames.RenameFault.TheVariants.{ChangesBinding};
+ghost use Rattle.lam_query.specs.Renames.{IsRenameIn, IsRenamedText, IsOtherText};
 
 /// A text has one list of commands and one list of faults, and there is one answer to what is shown of an offset in it, to
-/// where the name there comes from, and to where that is used.
+/// where the name there comes from, to where that is used, and to a new name for it.
 pub fn one_answer()
     ensures commands { (text : List ℕ) (commands others : List CommandTree) → AreCommandsOfText text commands → AreCommandsOfText text others → commands ≡ others }
     ensures faults { (text : List ℕ) (faults others : List Fault) (d : Dialect) → AreFaults text faults d → AreFaults text others d → faults ≡ others }
     ensures shown { (text : List ℕ) (offset : ℕ) (shown other : Option Shown) (d : Dialect) → IsShownIn text offset shown d → IsShownIn text offset other d → shown ≡ other }
     ensures definition { (text : List ℕ) (offset : ℕ) (found other : Option Span) → IsDefinitionIn text offset found → IsDefinitionIn text offset other → found ≡ other }
     ensures references { (text : List ℕ) (offset : ℕ) (declared : Bool) (found others : Option (List Span)) → AreReferencesIn text offset declared found → AreReferencesIn text offset declared others → found ≡ others }
+    ensures rename { (text : List ℕ) (offset : ℕ) (new : List ℕ) (found other : Result (List Span) RenameFault) → IsRenameIn text offset new found → IsRenameIn text offset new other → found ≡ other }
 {}
 
 /// The term that is shown is the innermost one: each term of the text that has the byte is around it.
@@ -32,7 +37,8 @@ pub fn shown_is_innermost()
 {}
 
 /// Every text has a list of faults. At every offset a type is shown or none is, and where one is there is a derivation, and
-/// only there. At every offset there is a definition with its references, or there is none.
+/// only there. At every offset there is a definition with its references, or there is none. To each new name for what is
+/// at an offset there is an answer: the spans that get it, or one of the five refusals.
 pub fn some_answer()
     ensures faults { (text : List ℕ) (d : Dialect) → (faults : List Fault) × AreFaults text faults d }
     ensures shown { (text : List ℕ) (offset : ℕ) (d : Dialect) → (shown : Option Shown) × IsShownIn text offset shown d }
@@ -40,13 +46,25 @@ pub fn some_answer()
     ensures as_shown { (text : List ℕ) (offset : ℕ) (derived : Derivation) (d : Dialect) → IsDerivedIn text offset (Some derived) d → (shown : Shown) × IsShownIn text offset (Some shown) d }
     ensures definition { (text : List ℕ) (offset : ℕ) → (found : Option Span) × IsDefinitionIn text offset found }
     ensures references { (text : List ℕ) (offset : ℕ) (declared : Bool) → (found : Option (List Span)) × AreReferencesIn text offset declared found }
+    ensures rename { (text : List ℕ) (offset : ℕ) (new : List ℕ) → (found : Result (List Span) RenameFault) × IsRenameIn text offset new found }
 {}
 
 /// Where there are references there is a definition, and it is that of each of them too: asked for at their first bytes, it
-/// is the same. With the binder asked for, the name under the cursor is one of them.
+/// is the same. With the binder asked for, the name under the cursor is one of them. References of two names with different
+/// binders have no span in common.
 pub fn references_share_a_definition()
     ensures definition { (text : List ℕ) (offset : ℕ) (declared : Bool) (spans : List Span) → AreReferencesIn text offset declared (Some spans) → (binder : Span) × IsDefinitionIn text offset (Some binder) × All (λ s. IsDefinitionIn text s.start (Some binder)) spans }
     ensures among { (text : List ℕ) (offset : ℕ) (spans : List Span) (tokens : List Lexeme) (name : Lexeme) → AreTokensOf text tokens → touched offset tokens ≡ Some name → AreReferencesIn text offset true (Some spans) → Contains spans (span_of name) }
+    ensures apart { (text : List ℕ) (offset other : ℕ) (declared also : Bool) (spans others : List Span) (binder another : Span) (s : Span) → AreReferencesIn text offset declared (Some spans) → IsDefinitionIn text offset (Some binder) → AreReferencesIn text other also (Some others) → IsDefinitionIn text other (Some another) → (binder ≡ another → ⊥) → Contains spans s → Contains others s → ⊥ }
+{}
+
+/// What a new name does to a text. Where there are spans for it, the text with the new name in their places, put there from
+/// the last to the first, has the same tokens but for that name, each piece is still a command, and the names and type
+/// names are bound as before: the commands have the nameless form that they had. Where it is refused since binding would
+/// change, the text with the new name at the binder and its uses has another nameless form.
+pub fn renames_keep_binding()
+    ensures renamed { (text : List ℕ) (offset : ℕ) (new : List ℕ) (spans : List Span) → IsUtf8 text → IsUtf8 new → IsRenameIn text offset new (Ok spans) → IsRenamedText text spans new }
+    ensures changed { (text : List ℕ) (offset : ℕ) (new : List ℕ) → IsUtf8 text → IsUtf8 new → IsRenameIn text offset new (Err ChangesBinding) → (spans : List Span) × AreReferencesIn text offset true (Some spans) × IsOtherText text spans new }
 {}
 
 /// Types have no fault in a document just where each written type in it stands for a type, each definition and each

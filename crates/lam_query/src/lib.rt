@@ -12,6 +12,7 @@ mod derivations;
 mod hovers;
 mod laws;
 mod reading;
+mod renames;
 mod steps;
 mod text_faults;
 mod touched;
@@ -22,6 +23,7 @@ pub use derivations::derivation;
 pub use hovers::hover;
 pub use laws::{
     known_codes, no_fault_is_well_typed, one_answer, references_share_a_definition,
-    shown_is_innermost, some_answer,
+    renames_keep_binding, shown_is_innermost, some_answer,
 };
+pub use renames::{RenameFault, rename};
 pub use text_faults::faults;

@@ -3,7 +3,8 @@ ghost use Rattle.std.specs.Prelude.{◌≡◌, List, Some, None, if◌then◌els
 ghost use Rattle.std.specs.Option.{option_map};
 ghost use Rattle.lam_token.specs.Lexeme.{Lexeme, start_of};
 ghost use Rattle.lam_token.specs.Cut.{AreTokensOf};
-ghost use Rattle.lam_query.specs.Touched.{is_name, is_name_over, is_name_before, touched};
+ghost use Rattle.lam_token.specs.Edits.{is_name_kind};
+ghost use Rattle.lam_query.specs.Touched.{is_name_over, is_name_before, touched};
 
 use lam_token::{Kind, Token, first_token};
 
@@ -55,7 +56,7 @@ fn name_before(token: &Token<'_>, offset: usize) -> Option<usize>
 }
 
 fn is_name(kind: Kind) -> bool
-    ensures { result ≡ is_name kind }
+    ensures { result ≡ is_name_kind kind }
 {
     match kind {
         Kind::Name => true,

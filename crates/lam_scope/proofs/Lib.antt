@@ -2,6 +2,10 @@ pub mod WrittenTypes
 pub mod StackViews
 pub mod NameStacks
 pub mod Lookups
+pub mod NewNames
+pub mod KeptForms
+pub mod AnswerNumbers
+pub mod RenamedBinders
 pub mod AbbreviationStacks
 pub mod Walks
 pub mod TreeSizes
@@ -30,3 +34,6 @@ pub mod StretchRuns
 pub mod StretchedRows
 pub mod MentionRows
 pub mod BoundMentions
+pub mod PlacelessForms
+pub mod TokenRenames
+pub mod BindersBefore

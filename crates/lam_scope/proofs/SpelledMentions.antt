@@ -1,10 +1,10 @@
--- Tokens that stand one behind the other spell names that ascend, whatever binders they see.
-use Rattle.std.proofs.Common.{◌≡◌, ℕ, ◌≤◌, List, [], ◌∷◌, ◌++◌, refl, subst, arith}
+-- Tokens that stand one behind the other spell names and labels that ascend, whatever binders they see.
+use Rattle.std.proofs.Common.{◌≡◌, ℕ, ◌<◌, ◌≤◌, List, [], ◌∷◌, ◌++◌, refl, subst, arith}
 use Rattle.lam_token.specs.Lexeme.{Lexeme}
 use Rattle.lam_token.specs.declared.span.Span.{Span}
 use Rattle.lam_syntax.specs.Trees.{Bound, TypeTree, type_tree, TypeFields, TermTree, term_tree, TermFields, CommandTree, from_to, spanning_type, spanning_term}
 use Rattle.lam_syntax.specs.Grammar.{BinderIs, name_binder, blank_binder, TypeIs, atype_type, arrow_type, ATypeIs, parens_atype, bool_atype, nat_atype, unit_atype, top_atype, name_atype, empty_atype, record_atype, TypeFieldsAre, last_type_field, more_type_fields, TermIs, lambda_is, if_is, let_is, letrec_is, app_is, AppIs, head_app, argument_app, HeadIs, path_head, fix_head, succ_head, pred_head, iszero_head, PathIs, asc_path, label_path, AscIs, atom_asc, typed_asc, AtomIs, parens_atom, true_atom, false_atom, unit_atom, name_atom, numeral_atom, empty_atom, record_atom, FieldsAre, last_field, more_fields, Spells, definition_command, declaration_command, abbreviation_command, evaluation_command}
-use Rattle.lam_scope.specs.Mentions.{Binder, seen_of, Mention, token_of, mention_of, mentions_of_type, mentions_of_type_fields, mentions_of, mentions_of_fields, mentions_of_command, types_behind, names_behind, mentions_from, mentions, Ascend}
+use Rattle.lam_scope.specs.Mentions.{Binder, seen_of, Mention, token_of, labels_at, mention_of, mentions_of_type, mentions_of_type_fields, mentions_of, mentions_of_fields, mentions_of_command, types_behind, names_behind, mentions_from, mentions, Ascend}
 use Rattle.lam_scope.specs.Nesting.{TokensStand, AreSpelledFrom}
 
 -- mentions that ascend
@@ -40,6 +40,11 @@ wider low next mid high ms first last h = ascend_from_lower low next high ms fir
 -- the last mentions, where no token is behind them
 ends : (low next high : ℕ) (ms : List Mention) → low ≤ next → AscendTo next ms [] high → Ascend low ms high
 ends low next high ms le h = wider low next h.0 high ms le h.2 h.1
+
+-- a label before mentions, and the token between them
+labelled : (low : ℕ) (s : Span) (next high : ℕ) (ms : List Mention) (rest : List Lexeme) → low ≤ s.start → s.start < s.end → s.end ≤ next → AscendTo next ms rest high
+    → AscendTo low (labels_at s ∷ ms) rest high
+labelled low s next high ms rest first some le h = let own = later s.end next high ms rest le h in (own.0, (first, some, own.1), own.2)
 
 -- parentheses round a type, or a term, change no mention
 
@@ -82,13 +87,13 @@ mutual
 
   type_fields_ascend : (types : List Binder) (low high : ℕ) {ts rest : List Lexeme} {fs : TypeFields} → TypeFieldsAre ts fs rest → TokensStand low ts high
       → AscendTo low (mentions_of_type_fields types fs) rest high
-  type_fields_ascend types low high (last_type_field {rest = rest} {t = t} {c = c} d) o =
-      let own = later low c.end high (mentions_of_type types t) rest (omega (arith, o.0, o.1, o.2.0, o.2.1)) (type_ascends types c.end high d o.2.2) in
-      (own.0, ascend_append low own.0 own.0 own.0 (mentions_of_type types t) [] own.1 (omega arith) (omega arith), own.2)
-  type_fields_ascend types low high (more_type_fields {rest = rest} {t = t} {fs = fs} {c = c} {d = comma} d e) o =
+  type_fields_ascend types low high (last_type_field {rest = rest} {t = t} {s = s} {c = c} d) o =
+      let own = type_ascends types c.end high d o.2.2 in
+      labelled low s c.end high (mentions_of_type types t ++ []) rest o.0 o.1 (omega (arith, o.2.0, o.2.1)) (further c.end own.0 own.0 high (mentions_of_type types t) [] rest own.1 (omega arith) (own.0, omega arith, own.2))
+  type_fields_ascend types low high (more_type_fields {rest = rest} {t = t} {fs = fs} {s = s} {c = c} {d = comma} d e) o =
       let own = type_ascends types c.end high d o.2.2 in
       let others = type_fields_ascend types comma.end high e own.2.2 in
-      later low c.end high (mentions_of_type types t ++ mentions_of_type_fields types fs) rest (omega (arith, o.0, o.1, o.2.0, o.2.1))
+      labelled low s c.end high (mentions_of_type types t ++ mentions_of_type_fields types fs) rest o.0 o.1 (omega (arith, o.2.0, o.2.1))
       (further c.end own.0 comma.end high (mentions_of_type types t) (mentions_of_type_fields types fs) rest own.1 (omega (arith, own.2.0, own.2.1)) others)
 
 mutual
@@ -150,9 +155,10 @@ mutual
 
   path_ascends : (types names : List Binder) (low high : ℕ) {ts rest : List Lexeme} {t : TermTree} → PathIs ts t rest → TokensStand low ts high → AscendTo low (mentions_of types names t) rest high
   path_ascends types names low high (asc_path d) o = asc_ascends types names low high d o
-  path_ascends types names low high (label_path {t = t} {s = s} d) o =
+  path_ascends types names low high (label_path {rest = rest} {t = t} {d = dot} {s = s} d) o =
       let one = path_ascends types names low high d o in
-      (s.end, ascend_to_higher low one.0 s.end (mentions_of types names t) (omega (arith, one.2.0, one.2.1, one.2.2.0, one.2.2.1)) one.1, one.2.2.2)
+      let own = one.2.2 in
+      further low one.0 dot.end high (mentions_of types names t) (labels_at s ∷ []) rest one.1 (omega (arith, one.2.0, one.2.1)) (s.end, (own.0, own.1, omega arith), own.2)
 
   asc_ascends : (types names : List Binder) (low high : ℕ) {ts rest : List Lexeme} {t : TermTree} → AscIs ts t rest → TokensStand low ts high → AscendTo low (mentions_of types names t) rest high
   asc_ascends types names low high (atom_asc d) o = atom_ascends types names low high d o
@@ -179,13 +185,13 @@ mutual
 
   fields_ascend : (types names : List Binder) (low high : ℕ) {ts rest : List Lexeme} {fs : TermFields} → FieldsAre ts fs rest → TokensStand low ts high
       → AscendTo low (mentions_of_fields types names fs) rest high
-  fields_ascend types names low high (last_field {rest = rest} {t = t} {c = c} d) o =
-      let own = later low c.end high (mentions_of types names t) rest (omega (arith, o.0, o.1, o.2.0, o.2.1)) (term_ascends types names c.end high d o.2.2) in
-      (own.0, ascend_append low own.0 own.0 own.0 (mentions_of types names t) [] own.1 (omega arith) (omega arith), own.2)
-  fields_ascend types names low high (more_fields {rest = rest} {t = t} {fs = fs} {c = c} {d = comma} d e) o =
+  fields_ascend types names low high (last_field {rest = rest} {t = t} {s = s} {c = c} d) o =
+      let own = term_ascends types names c.end high d o.2.2 in
+      labelled low s c.end high (mentions_of types names t ++ []) rest o.0 o.1 (omega (arith, o.2.0, o.2.1)) (further c.end own.0 own.0 high (mentions_of types names t) [] rest own.1 (omega arith) (own.0, omega arith, own.2))
+  fields_ascend types names low high (more_fields {rest = rest} {t = t} {fs = fs} {s = s} {c = c} {d = comma} d e) o =
       let own = term_ascends types names c.end high d o.2.2 in
       let others = fields_ascend types names comma.end high e own.2.2 in
-      later low c.end high (mentions_of types names t ++ mentions_of_fields types names fs) rest (omega (arith, o.0, o.1, o.2.0, o.2.1))
+      labelled low s c.end high (mentions_of types names t ++ mentions_of_fields types names fs) rest o.0 o.1 (omega (arith, o.2.0, o.2.1))
       (further c.end own.0 comma.end high (mentions_of types names t) (mentions_of_fields types names fs) rest own.1 (omega (arith, own.2.0, own.2.1)) others)
 
 -- commands

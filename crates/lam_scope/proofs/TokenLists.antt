@@ -1,5 +1,6 @@
 -- Lists of tokens that stand one behind the other.
-use Rattle.std.proofs.Common.{◌≡◌, ℕ, ◌+◌, ◌-◌, ◌<◌, ◌≤◌, List, [], ◌∷◌, ◌++◌, length, length-append, drop, get_or, suc, ap, sym, ◌∙◌, append_assoc, arith, add-one}
+use Rattle.std.proofs.Common.{◌≡◌, ℕ, ◌+◌, ◌-◌, ◌<◌, ◌≤◌, List, [], ◌∷◌, ◌++◌, length, length-append, drop, get_or, zero, suc, ap, sym, ◌∙◌, append_assoc, arith, add-one}
+use Rattle.std.specs.Prelude.{slice_index_or}
 use Rattle.std.proofs.lemmas.List.{append-nil}
 use Rattle.lam_token.specs.declared.span.Span.{Span}
 use Rattle.std.specs.List.{slice_range}
@@ -7,6 +8,15 @@ use Rattle.lam_scope.specs.Slices.{first_start, sliced, AreInOrder}
 use Rattle.lam_scope.proofs.Slices.{first_start-at, first_start-past, in_order-longer, in_order-pushed, in_order-at, in_order-within, sliced-pushed, sliced-at, sliced-past}
 use Rattle.lam_scope.specs.Tables.{TextUse, tokens_of, tokens_by}
 use Rattle.lam_scope.specs.TableViews.{list_start, listed}
+
+-- the list of a binder
+
+pub tokens_by-at : (us : List TextUse) (m count n : ℕ) → n < count → slice_index_or (tokens_by m count us) n [] ≡ tokens_of (m + n) us
+tokens_by-at us m zero n within = absurd (omega arith)
+tokens_by-at us m (suc count) zero within = let same : m ≡ m + 0 = omega arith in ap (λ k. tokens_of k us) same
+tokens_by-at us m (suc count) (suc n) within =
+    let same : m + 1 + n ≡ m + suc n = omega arith in
+    tokens_by-at us (m + 1) count n (omega (arith, within)) ∙ ap (λ k. tokens_of k us) same
 
 -- a list more
 

@@ -17,6 +17,9 @@ pub mod Found
 pub mod Abbreviations
 pub mod Nesting
 pub mod Expanded
+pub mod Forms
+pub mod Renames
+pub mod Bearers
 pub mod Mentions
 pub mod PlacedTerms
 pub mod PlacedRows

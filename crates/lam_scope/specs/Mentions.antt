@@ -1,8 +1,11 @@
--- Where the names and the type names of commands stand in the text, and what each is bound to. A binder is told by its token.
-use Rattle.std.specs.Prelude.{◌==◌, ◌≤◌, ◌<◌, ℕ, List, [], ◌∷◌, ◌++◌, Bool, ◌&&◌, Option, Some, None, if◌then◌else◌}
+-- Where the names, the type names and the labels of commands stand in the text, and what each is bound to. A binder is told by its token.
+use Rattle.std.specs.Prelude.{◌==◌, ◌≤◌, ◌<◌, ℕ, List, [], ◌∷◌, ◌++◌, Option, Some, None, if◌then◌else◌}
 use Rattle.std.specs.List.{filter_map}
+use Rattle.lam_token.specs.declared.kind.Kind.{Kind}
+use Rattle.lam_token.specs.declared.kind.Kind.TheVariants as kind
 use Rattle.lam_token.specs.declared.span.Span.{Span}
-use Rattle.lam_syntax.specs.Trees.{word, Bound, bound, TypeTree, type_tree, TypeNode, named, arrow, record_type, TypeFields, no_type_fields, type_field, TermTree, term_tree, TermNode, variable, lambda, if_term, let_term, letrec_term, prefixed, apply, project, ascribe, record_term, TermFields, no_fields, field, CommandTree, definition, declaration, abbreviation, evaluation}
+use Rattle.lam_token.specs.Edits.{is_span}
+use Rattle.lam_syntax.specs.Trees.{Word, word, Bound, bound, TypeTree, type_tree, TypeNode, named, arrow, record_type, TypeFields, no_type_fields, type_field, TermTree, term_tree, TermNode, variable, lambda, if_term, let_term, letrec_term, prefixed, apply, project, ascribe, record_term, TermFields, no_fields, field, CommandTree, definition, declaration, abbreviation, evaluation}
 use Rattle.lam_scope.specs.Names.{Name, binds}
 
 -- a binder as it is seen from where it binds: its name, an underscore having none, and its token
@@ -19,53 +22,66 @@ abbrev pub bound_to : Name → List Binder → Option Span
 bound_to x [] = None
 bound_to x (b ∷ bs) = if binds b.name x then Some b.token else bound_to x bs
 
--- a name or a type name that stands in a command: a binder, at its token; or a use at its token, with the token of its binder, none where it is free
+-- a name, a type name or a label that stands in a command: a binder, at its token; a use at its token, with the token of its binder, none where it is free; or a label
 pub data Mention : Type 0 where
-  binds_at : (token : Span) → Mention
-  uses_at : (token : Span) → (binder : Option Span) → Mention
+  binds_at : (sort : Kind) → (token : Span) → Mention
+  uses_at : (sort : Kind) → (token : Span) → (binder : Option Span) → Mention
+  labels_at : (token : Span) → Mention
 
 -- the token of a mention
 abbrev pub token_of : Mention → Span
-token_of (binds_at s) = s
-token_of (uses_at s b) = s
+token_of (binds_at k s) = s
+token_of (uses_at k s b) = s
+token_of (labels_at s) = s
 
--- the binder that a mention is or uses
+-- whether it is a name or a type name; a label is a name by its letters
+abbrev pub kind_of : Mention → Kind
+kind_of (binds_at k s) = k
+kind_of (uses_at k s b) = k
+kind_of (labels_at s) = kind.Name
+
+-- the binder that a mention is or uses; a label is bound to nothing
 abbrev pub binder_of : Mention → Option Span
-binder_of (binds_at s) = Some s
-binder_of (uses_at s b) = b
+binder_of (binds_at k s) = Some s
+binder_of (uses_at k s b) = b
+binder_of (labels_at s) = None
 
 -- a binder of a term; an underscore is no name
 abbrev pub mention_of : Bound → List Mention
 mention_of (bound None s) = []
-mention_of (bound (Some x) s) = binds_at s ∷ []
+mention_of (bound (Some x) s) = binds_at kind.Name s ∷ []
 
 -- a binder of a term, as it is seen
 abbrev pub seen_of : Bound → Binder
 seen_of (bound x s) = binder x s
 
--- the type names in a written type that sees these binders of type names, in the order of the text
+-- the label of a field
+abbrev pub label_of : Word → Mention
+label_of (word l s) = labels_at s
+
+-- the type names and labels in a written type that sees these binders of type names, in the order of the text
 abbrev mutual
   pub mentions_of_type : List Binder → TypeTree → List Mention
   mentions_of_type types (type_tree s n) = mentions_of_type_node types n
 
   pub mentions_of_type_node : List Binder → TypeNode → List Mention
-  mentions_of_type_node types (named (word x s)) = uses_at s (bound_to x types) ∷ []
+  mentions_of_type_node types (named (word x s)) = uses_at kind.TypeName s (bound_to x types) ∷ []
   mentions_of_type_node types (arrow a b) = mentions_of_type types a ++ mentions_of_type types b
   mentions_of_type_node types (record_type fs) = mentions_of_type_fields types fs
   mentions_of_type_node types n = []
 
   pub mentions_of_type_fields : List Binder → TypeFields → List Mention
   mentions_of_type_fields types no_type_fields = []
-  mentions_of_type_fields types (type_field l t fs) = mentions_of_type types t ++ mentions_of_type_fields types fs
+  mentions_of_type_fields types (type_field l t fs) = label_of l ∷ mentions_of_type types t ++ mentions_of_type_fields types fs
 
--- The names and type names in a term that sees these binders of type names and of names, in the order of the text. Labels are none. A letrec's name is bound in
--- both of its terms.
+-- The names, type names and labels in a term that sees these binders of type names and of names, in the order of the text. A letrec's name is bound in both of
+-- its terms.
 abbrev mutual
   pub mentions_of : (types names : List Binder) → TermTree → List Mention
   mentions_of types names (term_tree s n) = mentions_of_node types names n
 
   pub mentions_of_node : (types names : List Binder) → TermNode → List Mention
-  mentions_of_node types names (variable (word x s)) = uses_at s (bound_to x names) ∷ []
+  mentions_of_node types names (variable (word x s)) = uses_at kind.Name s (bound_to x names) ∷ []
   mentions_of_node types names (lambda b u t) = mention_of b ++ mentions_of_type types u ++ mentions_of types (seen_of b ∷ names) t
   mentions_of_node types names (if_term c t u) = mentions_of types names c ++ mentions_of types names t ++ mentions_of types names u
   mentions_of_node types names (let_term b t u) = mention_of b ++ mentions_of types names t ++ mentions_of types (seen_of b ∷ names) u
@@ -73,20 +89,20 @@ abbrev mutual
       mention_of b ++ mentions_of_type types w ++ mentions_of types (seen_of b ∷ names) t ++ mentions_of types (seen_of b ∷ names) u
   mentions_of_node types names (prefixed p t) = mentions_of types names t
   mentions_of_node types names (apply t u) = mentions_of types names t ++ mentions_of types names u
-  mentions_of_node types names (project t l) = mentions_of types names t
+  mentions_of_node types names (project t l) = mentions_of types names t ++ label_of l ∷ []
   mentions_of_node types names (ascribe t u) = mentions_of types names t ++ mentions_of_type types u
   mentions_of_node types names (record_term fs) = mentions_of_fields types names fs
   mentions_of_node types names n = []
 
   pub mentions_of_fields : (types names : List Binder) → TermFields → List Mention
   mentions_of_fields types names no_fields = []
-  mentions_of_fields types names (field l t fs) = mentions_of types names t ++ mentions_of_fields types names fs
+  mentions_of_fields types names (field l t fs) = label_of l ∷ mentions_of types names t ++ mentions_of_fields types names fs
 
 -- those of a command that sees these binders
 abbrev pub mentions_of_command : (types names : List Binder) → CommandTree → List Mention
-mentions_of_command types names (definition (word x s) t) = binds_at s ∷ mentions_of types names t
-mentions_of_command types names (declaration (word x s) u) = binds_at s ∷ mentions_of_type types u
-mentions_of_command types names (abbreviation (word x s) u) = binds_at s ∷ mentions_of_type types u
+mentions_of_command types names (definition (word x s) t) = binds_at kind.Name s ∷ mentions_of types names t
+mentions_of_command types names (declaration (word x s) u) = binds_at kind.Name s ∷ mentions_of_type types u
+mentions_of_command types names (abbreviation (word x s) u) = binds_at kind.TypeName s ∷ mentions_of_type types u
 mentions_of_command types names (evaluation t) = mentions_of types names t
 
 -- the binders of type names that the commands behind one see
@@ -116,15 +132,10 @@ abbrev pub bound_at : ℕ → List Mention → Option Span
 bound_at o [] = None
 bound_at o (m ∷ ms) = if (token_of m).start == o then binder_of m else bound_at o ms
 
--- whether two tokens are one
-abbrev pub is_token : Span → Span → Bool
-is_token s t = (s.start == t.start) && (s.end == t.end)
-
 -- the token of a use of this binder
 abbrev pub use_of : Span → Mention → Option Span
-use_of b (binds_at s) = None
-use_of b (uses_at s None) = None
-use_of b (uses_at s (Some c)) = if is_token b c then Some s else None
+use_of b (uses_at k s (Some c)) = if is_span b c then Some s else None
+use_of b m = None
 
 -- the tokens of the uses of a binder, in the order of the mentions
 abbrev pub uses_of : Span → List Mention → List Span
@@ -134,3 +145,8 @@ uses_of b ms = filter_map (use_of b) ms
 abbrev pub Ascend : (low : ℕ) → List Mention → (high : ℕ) → Type 0
 Ascend low [] high = low ≤ high
 Ascend low (m ∷ ms) high = (low ≤ (token_of m).start) × ((token_of m).start < (token_of m).end) × Ascend (token_of m).end ms high
+
+-- a use stands behind its binder
+abbrev pub IsBehindBinder : Mention → Type 0
+IsBehindBinder (uses_at k s (Some b)) = b.end ≤ s.start
+IsBehindBinder m = Unit {0}

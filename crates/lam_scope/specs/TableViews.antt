@@ -52,7 +52,7 @@ between_of b = b.between
 
 -- the use that a `UseRow` tells of
 abbrev pub text_use : UseRow → TextUse
-text_use r = record { token = r.token; binder = option_map binder_of r.bound; between = option_map between_of r.bound }
+text_use r = record { token = r.token; binder = option_map binder_of r.bound; between = option_map between_of r.bound; inner = option_map binder_number r.inner; free = option_map (λ x. letters x) r.free }
 
 -- the place that a `PlaceRow` tells of, with these immediate terms
 abbrev pub text_place : PlaceRow → List Place → TextPlace

@@ -27,6 +27,10 @@ pub record TextUse : Type 0 where
   pub binder : Option ℕ
   -- how many binders of its kind stand between it and its own, or none where it is unbound
   pub between : Option ℕ
+  -- the innermost of the binders of its kind that it sees
+  pub inner : Option ℕ
+  -- its name where it is unbound; else it has that of its binder
+  pub free : Option Name
 
 -- a term of a command, in the order of places
 pub record TextPlace : Type 0 where
@@ -81,9 +85,18 @@ entry_names = map (λ e. e.name)
 abbrev pub binder_row : Option Name → Span → List Entry → (answer : ℕ) → Origin → Table
 binder_row x s seen a o = record { binders = record { name = x; token = s; outer = innermost seen; answer = a; origin = o } ∷ []; uses = []; places = [] }
 
+-- a name where it is unbound
+abbrev pub free_name : Name → Option ℕ → Option Name
+free_name x None = Some x
+free_name x (Some n) = None
+
+-- one use, of a name that sees these binders of its kind
+abbrev pub use_of : Name → Span → List Entry → TextUse
+use_of x s seen = record { token = s; binder = bound_to x seen; between = count x (entry_names seen); inner = innermost seen; free = free_name x (bound_to x seen) }
+
 -- the table of one use, of a name that sees these binders of its kind
 abbrev pub use_row : Name → Span → List Entry → Table
-use_row x s seen = record { binders = []; uses = record { token = s; binder = bound_to x seen; between = count x (entry_names seen) } ∷ []; places = [] }
+use_row x s seen = record { binders = []; uses = use_of x s seen ∷ []; places = [] }
 
 -- the table of one place, which sees these binders of names
 abbrev pub place_row : Span → (derived : Bool) → (terms : List ℕ) → List Entry → Table

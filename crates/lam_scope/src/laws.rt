@@ -1,17 +1,22 @@
 //! What holds of the table and the nameless form of any commands.
 //! Each law is the contract of a function that does nothing.
-ghost use Rattle.std.specs.Prelude.{◌≡◌, ◌↔◌, ℕ, [], List, None, Some, map, length, get_or, reverse};
+ghost use Rattle.std.specs.Prelude.{◌≡◌, ◌↔◌, ℕ, [], ◌∷◌, List, None, Some, map, length, get_or, reverse};
 ghost use Rattle.std.specs.Option.{option_map};
+ghost use Rattle.std.specs.List.{AllByRecursion};
+ghost use Rattle.lam_token.specs.Edits.{renaming};
 ghost use Rattle.lam_syntax.specs.Trees.{CommandTree};
+ghost use Rattle.lam_syntax.specs.Respelled.{Letters, respelled_command};
 ghost use Rattle.lam_scope.specs.Counted.{statements_counted, past_commands};
 ghost use Rattle.lam_scope.specs.Names.{Name, count};
+ghost use Rattle.lam_scope.specs.Forms.{forms};
 ghost use Rattle.lam_scope.specs.Nameless.{statements, faults};
 ghost use Rattle.lam_scope.specs.Expanded.{IsExpanded};
 ghost use Rattle.lam_scope.specs.PlacedTerms.{document_terms, term_of, tree_in};
 ghost use Rattle.lam_scope.specs.PlacedRows.{IsRowOf};
 ghost use Rattle.lam_scope.specs.Places.{places_of};
 ghost use Rattle.lam_scope.specs.Sights.{sight_numbered};
-ghost use Rattle.lam_scope.specs.Mentions.{mentions, bound_at, uses_of, Ascend};
+ghost use Rattle.lam_scope.specs.Mentions.{binder_of, kind_of, mentions, bound_at, uses_of, Ascend, IsBehindBinder};
+ghost use Rattle.lam_scope.specs.Renames.{HasName, answer_for, kind_of_binder, renamed};
 ghost use Rattle.lam_scope.specs.Nesting.{AreNested, AreSpelledFrom, IsInnermost};
 ghost use Rattle.lam_scope.specs.Tables.{Table, table, Entry, entry_names, bound_to, binder_numbered, place_row_numbered, visible_at, place_at, binder_at, tokens_of};
 
@@ -57,15 +62,30 @@ pub fn faultless_is_expanded()
     ensures { (cs : List CommandTree) → ((faults [] cs ≡ []) ↔ IsExpanded (statements [] [] cs)) }
 {}
 
-/// The names and type names of a text come one behind the other, each with a byte: so at most one begins at a byte. That is
-/// so of commands that are spelled by tokens one behind the other.
+/// The names, type names and labels of a text come one behind the other, each with a byte: so at most one begins at a byte,
+/// and each use stands behind its binder. That is so of commands that are spelled by tokens one behind the other.
 pub fn mentions_ascend()
-    ensures { (cs : List CommandTree) → AreSpelledFrom 0 cs → (high : ℕ) × Ascend 0 (mentions cs) high }
+    ensures ascend { (cs : List CommandTree) → AreSpelledFrom 0 cs → (high : ℕ) × Ascend 0 (mentions cs) high }
+    ensures behind { (cs : List CommandTree) (high : ℕ) → Ascend 0 (mentions cs) high → AllByRecursion IsBehindBinder (mentions cs) }
 {}
 
-/// What the table tells of the names of a text is what its mentions tell, where these stand one behind the other: what the
-/// name that starts at a byte is bound to, and which are the uses of a binder that some name is bound to.
+/// What the table tells of the names and type names of a text is what its mentions tell, where these, its labels among them,
+/// stand one behind the other: what the name that starts at a byte is bound to, a label being bound to nothing; and which are
+/// the uses of a binder that some name is bound to. Such a binder has a name, and is itself the answer for it; and all that is
+/// bound to it is of its kind, names or type names.
 pub fn mentions_are_rows()
     ensures bound { (cs : List CommandTree) (high o : ℕ) → Ascend 0 (mentions cs) high → option_map (λ n. (binder_numbered (table cs) n).token) (binder_at (table cs) o) ≡ bound_at o (mentions cs) }
     ensures uses { (cs : List CommandTree) (high o n : ℕ) → Ascend 0 (mentions cs) high → binder_at (table cs) o ≡ Some n → tokens_of n (table cs).uses ≡ uses_of (binder_numbered (table cs) n).token (mentions cs) }
+    ensures answer { (cs : List CommandTree) (o n : ℕ) → binder_at (table cs) o ≡ Some n → HasName cs n × (answer_for cs n ≡ n) }
+    ensures kinds { (cs : List CommandTree) (high o n : ℕ) → Ascend 0 (mentions cs) high → binder_at (table cs) o ≡ Some n → AllByRecursion (λ m. binder_of m ≡ Some (binder_numbered (table cs) n).token → kind_of m ≡ kind_of_binder cs n) (mentions cs) }
+{}
+
+/// The nameless form of commands tells nothing of places.
+pub fn forms_have_no_places()
+    ensures { (cs : List CommandTree) (place : ℕ → ℕ) (letters : Letters) → forms (map (respelled_command place letters) cs) ≡ forms (map (respelled_command (λ o. o) letters) cs) }
+{}
+
+/// To give a binder of a text and its uses a new name is to put it at their tokens: at these alone, so that no label changes.
+pub fn renamed_at_tokens()
+    ensures { (cs : List CommandTree) (o n : ℕ) (new : Name) → AreSpelledFrom 0 cs → binder_at (table cs) o ≡ Some n → map (respelled_command (λ o. o) (renaming ((binder_numbered (table cs) n).token ∷ tokens_of n (table cs).uses) new)) cs ≡ renamed n new cs }
 {}

@@ -23,6 +23,8 @@ mod name_stack;
 mod nameless;
 mod names;
 mod numbers;
+mod rename_fault;
+mod renaming;
 mod resolved;
 mod resolver;
 mod room;
@@ -45,10 +47,11 @@ pub use binding::bind;
 pub use document::resolve;
 pub use expansion::NODE_LIMIT;
 pub use laws::{
-    faultless_is_expanded, innermost_place, mentions_are_rows, mentions_ascend, one_binder,
-    one_count, one_sight, one_term,
+    faultless_is_expanded, forms_have_no_places, innermost_place, mentions_are_rows,
+    mentions_ascend, one_binder, one_count, one_sight, one_term, renamed_at_tokens,
 };
 pub use numbers::{Binder, Origin, Place};
+pub use rename_fault::RenameFault;
 pub use resolved::Resolved;
 pub use scope_fault::ScopeFault;
 pub use scopes::Scopes;

@@ -3,7 +3,7 @@ ghost use Rattle.std.specs.Prelude.{◌≡◌, ◌+◌, ◌<◌, length, map, dr
 ghost use Rattle.lam_syntax.specs.Letters.{letters};
 ghost use Rattle.std.specs.Option.{option_map};
 ghost use Rattle.lam_scope.specs.Slices.{first_start, AreInOrder, AreInOrder-prop};
-ghost use Rattle.lam_scope.specs.Tables.{◌⊕◌, empty_table, binder_row, use_row, place_row, place_row_numbered};
+ghost use Rattle.lam_scope.specs.Tables.{◌⊕◌, empty_table, binder_row, use_row, free_name, place_row, place_row_numbered};
 
 use crate::numbers::{Binder, Origin, Place};
 use crate::room::Room;
@@ -33,6 +33,10 @@ pub(crate) struct UseRow {
     pub(crate) token: Span,
     /// The binder given as the answer for it, or none where it is unbound.
     pub(crate) bound: Option<Bound>,
+    /// The innermost of the binders of its kind that it sees.
+    pub(crate) inner: Option<Binder>,
+    /// Its name where it is unbound; else it has that of its binder.
+    pub(crate) free: Option<Text>,
 }
 
 /// A place.
@@ -122,9 +126,13 @@ impl Rows {
         ensures binders { self.new.binders ≡ self.old.binders }
         ensures places { self.new.places ≡ self.old.places }
     {
+        let bound = seen.find(used.text.as_str());
+        let free = copy_if_free(&used.text, bound)?;
         let row = UseRow {
             token: used.span,
-            bound: seen.find(used.text.as_str()),
+            bound,
+            inner: seen.innermost(),
+            free,
         };
         self.uses.push(row)?;
         Ok(())
@@ -196,6 +204,19 @@ impl Rows {
         ensures places { self.new.places ≡ self.old.places }
     {
         self.binders[binder.0].origin = Some(origin);
+    }
+}
+
+/// A copy of the name of a use that is bound so, if it is unbound.
+fn copy_if_free(name: &Text, bound: Option<Bound>) -> Result<Option<Text>, AllocError>
+    ensures { IfOk result (λ copy. option_map (λ x. letters x) copy ≡ free_name (letters name.now) (option_map (λ b. b.binder.0) bound)) }
+{
+    match bound {
+        Some(_) => Ok(None),
+        None => {
+            let copy = name.clone()?;
+            Ok(Some(copy))
+        }
     }
 }
 

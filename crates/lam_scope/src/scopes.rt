@@ -151,7 +151,7 @@ fn shown_name(name: &Option<Text>) -> &str
 
 /// The binder given as the answer for a binder's uses.
 #[tactic(auto, using(crate::proofs::Reading::reading))]
-fn answer_of(binders: &[BinderRow], binder: Binder) -> Binder
+pub(crate) fn answer_of(binders: &[BinderRow], binder: Binder) -> Binder
     ensures { result.0 ≡ (binder_in (map text_binder binders.now) binder.0).answer }
 {
     match binders.get(binder.0) {

@@ -1,6 +1,7 @@
 use Rattle.lam_query.proofs.SomeAnswers.{one_faults}
 use Rattle.lam_query.proofs.OneAnswer.{one_document, one_hover}
 use Rattle.lam_query.proofs.DefinitionLaws.{one_definition, one_list_of_references}
+use Rattle.lam_query.proofs.RenameLaws.{one_rename}
 use Rattle.lam_query.proofs.laws.one_answer.Goals as goal
 
 pub returns-clause-commands : goal.returns-clause-commands
@@ -17,3 +18,6 @@ returns-clause-definition c = one_definition
 
 pub returns-clause-references : goal.returns-clause-references
 returns-clause-references c = one_list_of_references
+
+pub returns-clause-rename : goal.returns-clause-rename
+returns-clause-rename c = one_rename

@@ -1,5 +1,6 @@
 use Rattle.lam_query.proofs.SomeAnswers.{some_faults, some_hover, some_derivation, shown_of_derived}
 use Rattle.lam_query.proofs.DefinitionLaws.{some_definition, some_references}
+use Rattle.lam_query.proofs.RenameLaws.{some_rename}
 use Rattle.lam_query.proofs.laws.some_answer.Goals as goal
 
 pub returns-clause-faults : goal.returns-clause-faults
@@ -19,3 +20,6 @@ returns-clause-definition c = some_definition
 
 pub returns-clause-references : goal.returns-clause-references
 returns-clause-references c = some_references
+
+pub returns-clause-rename : goal.returns-clause-rename
+returns-clause-rename c = some_rename

@@ -1,3 +1,4 @@
+use Rattle.std.proofs.Common.{◌∷◌, ap, sym, ◌∙◌}
 use Rattle.lam_scope.proofs.UseChains.{chain_rest, tokens_more}
 use Rattle.lam_scope.proofs.use_chains.push_tokens.Goals as goal
 
@@ -7,5 +8,6 @@ loop-left-preserved c =
     record {
       rest = step.0;
       chain = step.2;
-      tokens = tokens_more c.loop-left.tokens.items _ step.0 c.loop-left.invariant.rest _ _ c.in_ok-push.ensures.items (step.1 _) c.loop-left.invariant.tokens;
+      tokens = tokens_more c.loop-left.tokens.items _ step.0 c.loop-left.invariant.rest _ _ c.in_ok-push.ensures.items
+          (step.1 c.index-uses-uses.result ∙ ap (λ u. u.token ∷ step.0) (sym c.index-uses-uses.is)) c.loop-left.invariant.tokens;
     }

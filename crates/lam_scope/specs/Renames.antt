@@ -1,0 +1,138 @@
+-- Renaming: the binder and its uses take the new name, and all else in the commands stays.
+use Rattle.std.specs.Prelude.{◌≡◌, ℕ, ◌+◌, ◌<◌, ◌==◌, List, [], ◌∷◌, Option, Some, None, true, length, if◌then◌else◌}
+use Rattle.lam_token.specs.declared.kind.Kind.{Kind}
+use Rattle.lam_token.specs.declared.kind.Kind.TheVariants as kind
+use Rattle.lam_token.specs.declared.span.Span.{Span}
+use Rattle.lam_token.specs.Edits.{IsOne}
+use Rattle.lam_syntax.specs.Trees.{word, bound, TypeTree, type_tree, TypeNode, named, arrow, record_type, TypeFields, no_type_fields, type_field, TermTree, term_tree, TermNode, variable, lambda, if_term, let_term, letrec_term, prefixed, apply, project, ascribe, record_term, TermFields, no_fields, field, CommandTree, definition, declaration, abbreviation, evaluation}
+use Rattle.lam_scope.specs.declared.rename_fault.RenameFault.{RenameFault}
+use Rattle.lam_scope.specs.declared.rename_fault.RenameFault.TheVariants as fault
+use Rattle.lam_scope.specs.declared.numbers.Origin.{Origin}
+use Rattle.lam_scope.specs.declared.numbers.Origin.TheVariants.{TypeName}
+use Rattle.lam_scope.specs.Names.{Name}
+use Rattle.lam_scope.specs.Forms.{forms}
+use Rattle.lam_scope.specs.Tables.{Entry, entry, bound_to, is_number, binders_in, types_seen_after, names_seen_after, binders_in_command, table, binder_numbered, has_name, tokens_of}
+
+-- Which of a document's binders is renamed is told by its number. A letrec's token is two binders, and both are renamed: the number is the one given as their answer.
+
+-- the name of a use, which sees these binders of its kind
+abbrev pub renamed_use : (b : ℕ) → (new : Name) → List Entry → Name → Name
+renamed_use b new seen x = if is_number b (bound_to x seen) then new else x
+
+-- the name of a binder for which that answer is given
+abbrev pub renamed_name : (b : ℕ) → (new : Name) → (answer : ℕ) → Name → Name
+renamed_name b new answer x = if answer == b then new else x
+
+-- the same where an underscore may stand, which has no name and stays
+abbrev pub renamed_binder : (b : ℕ) → (new : Name) → (answer : ℕ) → Option Name → Option Name
+renamed_binder b new answer None = None
+renamed_binder b new answer (Some x) = Some (renamed_name b new answer x)
+
+-- a written type that sees these binders of type names
+abbrev mutual
+  pub renamed_type : (b : ℕ) → (new : Name) → (types : List Entry) → TypeTree → TypeTree
+  renamed_type b new types (type_tree s n) = type_tree s (renamed_type_node b new types n)
+
+  pub renamed_type_node : (b : ℕ) → (new : Name) → (types : List Entry) → TypeNode → TypeNode
+  renamed_type_node b new types (named (word x s)) = named (word (renamed_use b new types x) s)
+  renamed_type_node b new types (arrow t u) = arrow (renamed_type b new types t) (renamed_type b new types u)
+  renamed_type_node b new types (record_type fs) = record_type (renamed_type_fields b new types fs)
+  renamed_type_node b new types n = n
+
+  pub renamed_type_fields : (b : ℕ) → (new : Name) → (types : List Entry) → TypeFields → TypeFields
+  renamed_type_fields b new types no_type_fields = no_type_fields
+  renamed_type_fields b new types (type_field l t fs) = type_field l (renamed_type b new types t) (renamed_type_fields b new types fs)
+
+-- a term that sees these binders of type names and of names, and whose first binder has the number n
+abbrev mutual
+  pub renamed_term : (b : ℕ) → (new : Name) → (types names : List Entry) → (n : ℕ) → TermTree → TermTree
+  renamed_term b new types names n (term_tree s node) = term_tree s (renamed_node b new types names n node)
+
+  pub renamed_node : (b : ℕ) → (new : Name) → (types names : List Entry) → (n : ℕ) → TermNode → TermNode
+  renamed_node b new types names n (variable (word x s)) = variable (word (renamed_use b new names x) s)
+  renamed_node b new types names n (lambda (bound x s) u t) =
+      lambda (bound (renamed_binder b new n x) s) (renamed_type b new types u) (renamed_term b new types (entry x n n ∷ names) (n + 1) t)
+  renamed_node b new types names n (if_term c t u) =
+      if_term (renamed_term b new types names n c) (renamed_term b new types names (n + binders_in c) t) (renamed_term b new types names (n + binders_in c + binders_in t) u)
+  renamed_node b new types names n (let_term (bound x s) t u) =
+      let_term (bound (renamed_binder b new n x) s) (renamed_term b new types names (n + 1) t) (renamed_term b new types (entry x n n ∷ names) (n + 1 + binders_in t) u)
+  renamed_node b new types names n (letrec_term (bound x s) w t u) =
+      letrec_term (bound (renamed_binder b new (n + 1) x) s) (renamed_type b new types w)
+      (renamed_term b new types (entry x n (n + 1) ∷ names) (n + 2) t)
+      (renamed_term b new types (entry x (n + 1) (n + 1) ∷ names) (n + 2 + binders_in t) u)
+  renamed_node b new types names n (prefixed p t) = prefixed p (renamed_term b new types names n t)
+  renamed_node b new types names n (apply t u) = apply (renamed_term b new types names n t) (renamed_term b new types names (n + binders_in t) u)
+  renamed_node b new types names n (project t l) = project (renamed_term b new types names n t) l
+  renamed_node b new types names n (ascribe t u) = ascribe (renamed_term b new types names n t) (renamed_type b new types u)
+  renamed_node b new types names n (record_term fs) = record_term (renamed_fields b new types names n fs)
+  renamed_node b new types names n node = node
+
+  pub renamed_fields : (b : ℕ) → (new : Name) → (types names : List Entry) → (n : ℕ) → TermFields → TermFields
+  renamed_fields b new types names n no_fields = no_fields
+  renamed_fields b new types names n (field l t fs) =
+      field l (renamed_term b new types names n t) (renamed_fields b new types names (n + binders_in t) fs)
+
+-- a command that sees these binders, where n binders are before it
+abbrev pub renamed_command : (b : ℕ) → (new : Name) → (types names : List Entry) → (n : ℕ) → CommandTree → CommandTree
+renamed_command b new types names n (definition (word x s) t) = definition (word (renamed_name b new n x) s) (renamed_term b new types names (n + 1) t)
+renamed_command b new types names n (declaration (word x s) u) = declaration (word (renamed_name b new n x) s) (renamed_type b new types u)
+renamed_command b new types names n (abbreviation (word x s) u) = abbreviation (word (renamed_name b new n x) s) (renamed_type b new types u)
+renamed_command b new types names n (evaluation t) = evaluation (renamed_term b new types names n t)
+
+-- commands that see these binders, and each those of the commands before it too
+abbrev pub renamed_from : (b : ℕ) → (new : Name) → (types names : List Entry) → (n : ℕ) → List CommandTree → List CommandTree
+renamed_from b new types names n [] = []
+renamed_from b new types names n (c ∷ cs) =
+    renamed_command b new types names n c
+    ∷ renamed_from b new (types_seen_after n types c) (names_seen_after n names c) (n + binders_in_command c) cs
+
+-- the commands of a document in which the binder of this number and its uses have the new name
+abbrev pub renamed : (b : ℕ) → (new : Name) → List CommandTree → List CommandTree
+renamed b new cs = renamed_from b new [] [] 0 cs
+
+-- Binding stays: with the new name the commands have the nameless form that they had.
+abbrev pub KeepsBinding : (b : ℕ) → (new : Name) → List CommandTree → Type 0
+KeepsBinding b new cs = forms (renamed b new cs) ≡ forms cs
+
+-- the kind of the names that a binder binds, by where it takes its type from
+abbrev pub kind_bound : Origin → Kind
+kind_bound TypeName = kind.TypeName
+kind_bound o = kind.Name
+
+-- a type name for a name, a name for a type name
+abbrev pub other_kind : Kind → Kind
+other_kind kind.Name = kind.TypeName
+other_kind k = kind.Name
+
+-- the binder given as the answer for a binder
+abbrev pub answer_for : List CommandTree → (n : ℕ) → ℕ
+answer_for cs n = (binder_numbered (table cs) n).answer
+
+-- whether the names that the binder of this number binds are names or type names
+abbrev pub kind_of_binder : List CommandTree → (n : ℕ) → Kind
+kind_of_binder cs n = kind_bound (binder_numbered (table cs) n).origin
+
+-- a binder of these commands that has a name: no underscore
+pub record HasName (cs : List CommandTree) (n : ℕ) : Type 0 where
+  pub inside : n < length (table cs).binders
+  pub named : has_name (binder_numbered (table cs) n).name ≡ true
+
+-- the tokens of a binder and of its uses, in the order of the text, where both can have the new name: it is a name where the other is one, or a type name where
+-- that is one, and binding stays
+pub record AreRenamed (cs : List CommandTree) (n : ℕ) (new : Name) (spans : List Span) : Type 0 where
+  pub kind : IsOne (kind_of_binder cs n) new
+  pub keeps : KeepsBinding (answer_for cs n) new cs
+  pub tokens : spans ≡ (binder_numbered (table cs) n).token ∷ tokens_of (answer_for cs n) (table cs).uses
+
+-- Why they can't. Of several causes the first refuses: so where a later one does, those before it do not stand.
+abbrev pub IsRefused : List CommandTree → (n : ℕ) → (new : Name) → RenameFault → Type 0
+IsRefused cs n new fault.NotAName = (IsOne kind.Name new → ⊥) × (IsOne kind.TypeName new → ⊥)
+IsRefused cs n new fault.WrongKind = IsOne (other_kind (kind_of_binder cs n)) new
+IsRefused cs n new fault.ChangesBinding = IsOne (kind_of_binder cs n) new × (KeepsBinding (answer_for cs n) new cs → ⊥)
+IsRefused cs n new fault.Memory = Unit {0}
+
+-- why a text that is not of this kind can't be the new name: it is of the other kind, or no name at all
+abbrev pub IsUnfit : Kind → (text : Name) → RenameFault → Type 0
+IsUnfit k text fault.NotAName = (IsOne kind.Name text → ⊥) × (IsOne kind.TypeName text → ⊥)
+IsUnfit k text fault.WrongKind = IsOne (other_kind k) text
+IsUnfit k text f = ⊥

@@ -1,0 +1,33 @@
+//! Why a binder is not renamed.
+ghost use Rattle.std.specs.Prelude.{◌≡◌};
+ghost use Rattle.lam_scope.specs.declared.rename_fault.RenameFault.TheVariants.{Memory};
+
+use std::alloc::{AllocError, AllocFailed};
+
+/// Why a binder and its uses do not get a new name.
+#[derive(Clone, Copy, Debug, PartialEq, Eq)]
+pub enum RenameFault {
+    /// The new name is neither a name nor a type name.
+    NotAName,
+    /// It is a type name, and the binder is one of a name, or the other way round.
+    WrongKind,
+    /// With it some name or type name would be bound elsewhere.
+    ChangesBinding,
+    Memory,
+}
+
+impl From<AllocError> for RenameFault {
+    ghost from_gives = { λ _ fault. fault ≡ Memory };
+
+    fn from(_refused: AllocError) -> RenameFault {
+        RenameFault::Memory
+    }
+}
+
+impl<T: Drop> From<AllocFailed<T>> for RenameFault {
+    ghost from_gives = { λ _ fault. fault ≡ Memory };
+
+    fn from(_refused: AllocFailed<T>) -> RenameFault {
+        RenameFault::Memory
+    }
+}
