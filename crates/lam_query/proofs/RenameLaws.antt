@@ -103,7 +103,7 @@ all_tokens (t ∷ ts) = (tt, all_tokens ts)
 
 module _ (text : List ℕ) (o : ℕ) where
   -- it is a name or a type name
-  is_name : (b : IsBound text o) → is_name_kind (kind_of b.name) ≡ true
+  pub is_name : (b : IsBound text o) → is_name_kind (kind_of b.name) ≡ true
   is_name b = (touched_holds (λ t. Unit {0}) o b.parsed.tokens b.name (all_tokens b.parsed.tokens) b.is_touched).1
 
   is_definition : (b : IsBound text o) → definition_in b.parsed.tokens b.parsed.commands o ≡ Some b.binder

@@ -35,7 +35,7 @@ use Rattle.lam_query.proofs.Innermost.{text_stands, text_spelled}
 use Rattle.lam_query.proofs.NameTokens.{IfName, InNames, names_in}
 use Rattle.lam_query.proofs.Defining.{text_ascends}
 use Rattle.lam_query.proofs.ParsedPieces.{all_are_commands}
-use Rattle.lam_query.proofs.RenameLaws.{spans_told, form_told}
+use Rattle.lam_query.proofs.RenameLaws.{is_name, spans_told, form_told}
 use Rattle.lam_query.proofs.SharedDefinitions.{each, both_of, FoundFrom, found_each, found_touched, touched_holds, one_token}
 
 -- ---- pieces that are spelled otherwise
@@ -108,10 +108,6 @@ bound_row : (cs : List CommandTree) (start : ℕ) (b : Span) (found : Option ℕ
 bound_row cs start b None is = absurd cc
 bound_row cs start b (Some n) is = (n, refl, cc)
 
-all_unit : (ts : List Lexeme) → AllByRecursion (λ t. Unit {0}) ts
-all_unit [] = tt
-all_unit (t ∷ ts) = (tt, all_unit ts)
-
 name_bound_as : (k : Kind) → is_name_kind k ≡ true → IsNameKind k
 name_bound_as kind.Name is = inl refl
 name_bound_as kind.TypeName is = inr refl
@@ -183,8 +179,7 @@ module _ (text : List ℕ) (offset : ℕ) (bound : IsBound text offset) where
     edited_read : (new : List ℕ) → IsUtf8 text → IsUtf8 new → IsOne (kind_of bound.name) new
         → AreTokensOf (edited text spans new) (map (retold spans new) tokens) × AreAllCommandsOf (pieces_of (map (retold spans new) tokens)) (map (retold_command spans new) commands)
     edited_read new is_text is_new one =
-        let named = touched_holds (λ t. Unit {0}) offset tokens bound.name (all_unit tokens) bound.is_touched in
-        let change = names_change (kind_of bound.name) text new tokens spans is_text is_new (name_bound_as (kind_of bound.name) named.1) one bound.parsed.are_tokens spans_stand in (
+        let change = names_change (kind_of bound.name) text new tokens spans is_text is_new (name_bound_as (kind_of bound.name) (is_name text offset bound)) one bound.parsed.are_tokens spans_stand in (
           change.0,
           subst (λ ps. AreAllCommandsOf ps (map (retold_command spans new) commands)) (sym (pieces_respelled (moved spans new) (renaming spans new) tokens))
               (respelled_pieces (moved spans new) (renaming spans new) (pieces_of tokens) commands bound.parsed.are_commands),

@@ -12,6 +12,7 @@ use Rattle.lam_scope.specs.Tables.{TextBinder, Entry, entry, entry_names, innerm
 use Rattle.lam_scope.specs.Forms.{unbound, use_form}
 use Rattle.lam_scope.specs.Renames.{renamed_use, renamed_binder}
 use Rattle.lam_scope.specs.Bearers.{bears, told_of, bearer, bearers_behind, bearers, name_by, takes, is_answer, keeps}
+use Rattle.lam_scope.proofs.Lookups.{unbound_by_count}
 use Rattle.lam_scope.proofs.UseChains.{same_number}
 
 -- the binders in sight as they are then
@@ -244,14 +245,6 @@ counts_of_forms x y (Some m) (Some n) e = ap Some cc
 counts_of_forms x y None (Some n) e = cc
 counts_of_forms x y (Some m) None e = cc
 
-free_stays : (x : Name) (es : List Entry) → count x (entry_names es) ≡ None → bound_to x es ≡ None
-free_stays x [] e = refl
-free_stays x (f ∷ es) e = by (λ none. free_stays x es none) (binds f.name x) e
-  where
-    by : (count x (entry_names es) ≡ None → bound_to x es ≡ None) → (c : Bool) → (if c then Some 0 else option_map suc (count x (entry_names es))) ≡ None → (if c then Some f.answer else bound_to x es) ≡ None
-    by outside true none = cc
-    by outside false none = outside (suc_same _ None none)
-
 module _ (b : ℕ) (new : Name) (bs : List TextBinder) (n : ℕ) (x : Name) (s : Span) (es : List Entry) (sight : AreInSight bs n es) where
   abbrev told : Name
   told = renamed_use b new es x
@@ -295,7 +288,7 @@ module _ (b : ℕ) (new : Name) (bs : List TextBinder) (n : ℕ) (x : Name) (s :
 
       by : (o : Option ℕ) → count x (entry_names es) ≡ o → use_form told (count told (entry_names (renamed_entries b new es))) ≡ use_form x o
       by None none =
-          let free = free_stays x es none in
+          let free = unbound_by_count x es none in
           ap (use_form told) (counts ∙ none) ∙ ap (λ o. unbound (if is_number b o then new else x)) free
       by (Some m) some = ap (use_form told) (counts ∙ some)
 
