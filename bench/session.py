@@ -85,11 +85,11 @@ class Client:
             taken += [self.key(line, 0, "x"), self.key(line, 1, "")]
         return taken
 
-    def question(self, method, line, column):
-        """Milliseconds from the frame to the answer, which must not be null."""
-        where = {"textDocument": {"uri": URI}, "position": {"line": line, "character": column}}
+    def question(self, method, line, column, **more):
+        """Milliseconds from the frame to the answer, which must be neither null nor a refusal."""
+        where = {"textDocument": {"uri": URI}, "position": {"line": line, "character": column}, **more}
         taken, body = self.timed(self.request(f"textDocument/{method}", where))
-        if json.loads(body)["result"] is None:
+        if json.loads(body).get("result") is None:
             sys.exit(f"{method}: nothing is answered in line {line}, column {column}")
         return taken
 
@@ -166,8 +166,15 @@ def main():
     row("peak of memory after 1,220 more", f"{peak / len(text):.1f} times the text")
     row("a definition in the middle", spread([client.question("definition", middle, 0) for _ in range(20)]))
     row("all references of the first name", spread([client.question("references", 0, 0) for _ in range(20)]))
-    row("peak of memory with both", f"{client.peak() / len(text):.1f} times the text")
+    row("a rename in the middle", spread([client.question("rename", middle, 0, newName="fresh") for _ in range(20)]))
+    row("a rename of the first name", spread([client.question("rename", 0, 0, newName="fresh") for _ in range(20)]))
+    row("peak of memory with all three", f"{client.peak() / len(text):.1f} times the text")
     row("the program's status", client.close())
+
+    client = Client(program)
+    client.open("x = 0;\n" + 10_000 * "x;\n")
+    row("a rename of a name that is used 10,000 times", spread([client.question("rename", 0, 0, newName="fresh") for _ in range(20)]))
+    client.close()
 
     text = make_document.document(22_950)
     opened = [open_alone(program, text) for _ in range(RUNS)]

@@ -56,6 +56,7 @@ vim.api.nvim_create_autocmd("FileType", {
     vim.keymap.set("n", "K", vim.lsp.buf.hover, { buffer = event.buf })
     vim.keymap.set("n", "gd", vim.lsp.buf.definition, { buffer = event.buf })
     vim.keymap.set("n", "gr", vim.lsp.buf.references, { buffer = event.buf })
+    vim.keymap.set("n", "<F2>", vim.lsp.buf.rename, { buffer = event.buf })
     start(event.buf)
   end,
 })
