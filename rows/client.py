@@ -13,6 +13,7 @@ SECONDS = 60
 
 FAULT = re.compile(r"[BPLYE]\d$")
 STEP = re.compile(r"(\d+) +([ST]-\w+) +(.*?)(?: from ([\d ]+))?$")
+RENAME = re.compile(r'("(?:[^"\\]|\\.)*"|\S+) (at|refused) (.+)$')
 MESSAGES = {
     "B1": "character not allowed",
     "B2": "comment not closed",
@@ -32,6 +33,13 @@ MESSAGES = {
     "E8": "fix needs a function whose result fits its parameter",
     "E9": "label used twice in a record",
 }
+REFUSALS = {
+    "new name is not a name": -32602,
+    "some command does not parse": -32803,
+    "no bound name here": -32803,
+    "new name is of the wrong kind": -32602,
+    "binding would change": -32803,
+}
 # How the marks are written of which something is asked or that change something.
 SIGNS = {
     "hover": r"~*\^~*",
@@ -41,6 +49,7 @@ SIGNS = {
     "as": r"~+",
     "definition": r"\^",
     "references": r"\^",
+    "rename": r"\^",
 }
 CUT_SHORT = "lam_server: F5 Truncated"
 
@@ -136,7 +145,7 @@ class Script:
 
     def __init__(self, row, dialect, encoding):
         self.row, self.dialect, self.encoding = row, dialect, encoding
-        self.sent, self.wanted, self.changes = [], [], []
+        self.sent, self.wanted, self.changes, self.edits = [], [], [], []
         self.texts, self.versions, self.requests = {}, {}, 0
         self.says, self.parts, self.repeats = "", {"prints": [], "complains": []}, 1
         self.recording, self.saved = None, None
@@ -182,10 +191,11 @@ class Script:
     def notice(self, line, method, params, body):
         self.tell(line, {"method": f"textDocument/{method}", "params": params}, body)
 
-    def ask(self, line, method, place, uri, result, **more):
+    def ask(self, line, method, place, uri, result, error=None, **more):
         self.requests += 1
         params = {"textDocument": {"uri": uri}, "position": position(place), **more}
-        self.tell(line, {"id": self.requests, "method": method, "params": params}, reply(self.requests, result))
+        body = refusal(self.requests, REFUSALS[error], error) if error else reply(self.requests, result)
+        self.tell(line, {"id": self.requests, "method": method, "params": params}, body)
 
     # Documents.
 
@@ -207,6 +217,8 @@ class Script:
         uri = block.uri
         if uri not in self.texts:
             raise Mistake("a document that is not open cannot be changed")
+        if block.kind == "applied":
+            self.apply_edits(uri)
         if block.kind == "whole":
             self.changes.append({"text": text})
         elif not self.changes:
@@ -246,8 +258,10 @@ class Script:
                 self.definition(mark, block.uri, cursor, called)
             elif mark.verb == "references":
                 self.references(mark, block.uri, cursor, called)
+            elif mark.verb == "rename":
+                self.rename(mark, block.uri, cursor, called)
             elif mark.verb != "as":
-                self.change(mark, block.uri, start, start if mark.verb == "inserts" else end)
+                self.change(block.uri, start, start if mark.verb == "inserts" else end, quoted(mark.rest))
 
     def hover(self, mark, uri, place, cursor):
         shown = {"contents": {"kind": "plaintext", "value": expanded(mark.rest)}, "range": span(*place)}
@@ -275,6 +289,27 @@ class Script:
         result = None if words == "nothing" else listed
         self.ask(mark.line, "textDocument/references", cursor, uri, result, context={"includeDeclaration": declared})
 
+    def rename(self, mark, uri, cursor, called):
+        """Asks for a new name: it is to stand at the places that are called so, or is refused for a reason."""
+        found = RENAME.match(mark.rest)
+        if not found:
+            raise Mistake(f"line {mark.line}: a rename is 'NAME at PLACES' or 'NAME refused REASON'")
+        new, rest = quoted(found[1]), found[3]
+        if found[2] == "refused":
+            if rest not in REFUSALS:
+                raise Mistake(f"line {mark.line}: {rest!r} is none of: {', '.join(REFUSALS)}")
+            self.ask(mark.line, "textDocument/rename", cursor, uri, None, rest, newName=new)
+            return
+        self.edits = [{"newText": new, "range": location(mark, uri, called, it)["range"]} for it in rest.split()]
+        self.ask(mark.line, "textDocument/rename", cursor, uri, {"changes": {uri: self.edits}}, newName=new)
+
+    def apply_edits(self, uri):
+        """Changes the text by the edits of the last rename, from the last to the first, so that each finds its place as it was told."""
+        for edit in reversed(self.edits):
+            start, end = ((it["line"], it["character"]) for it in (edit["range"]["start"], edit["range"]["end"]))
+            self.change(uri, start, end, edit["newText"])
+        self.edits = []
+
     def step(self, at, mark, place):
         number, rule, concluded, premises = STEP.match(mark.says).groups()
         if int(number) != at:
@@ -287,8 +322,7 @@ class Script:
             return {**made, "lower": lower, "upper": upper}
         return {**made, "range": span(*place), "type": expanded(concluded)}
 
-    def change(self, mark, uri, start, end):
-        new = quoted(mark.rest)
+    def change(self, uri, start, end, new):
         self.texts[uri] = edited(self.texts[uri], ((start, end), new), self.encoding)
         self.changes.append({"range": span(start, end), "text": new})
 
@@ -301,6 +335,7 @@ class Script:
             "hoverProvider": True,
             "positionEncoding": self.encoding,
             "referencesProvider": True,
+            "renameProvider": True,
             "textDocumentSync": {"change": 2, "openClose": True},
         }
         self.tell(line, {"id": 0, "method": "initialize", "params": params}, reply(0, {"capabilities": told}))

@@ -51,7 +51,7 @@ class Mark:
 
 @dataclass
 class Block:
-    """A text with its marks. `kind` is what is done with it: open, now, and, whole."""
+    """A text with its marks. `kind` is what is done with it: open, now, and, whole, applied."""
 
     line: int
     kind: str
@@ -92,7 +92,7 @@ SETTINGS = {
     "cut": lambda row, rest: setattr(row, "is_cut", chosen_one(rest, ("at each byte",)) != ""),
 }
 
-BLOCKS = ("now", "and", "whole")
+BLOCKS = ("now", "and", "whole", "applied")
 
 VERBS = (*SETTINGS, *BLOCKS, "document", "text", "initialize", "close", "send", "get", "says", "complains", "prints", "plays", "leaves")
 

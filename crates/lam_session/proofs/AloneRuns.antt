@@ -22,7 +22,7 @@ use Rattle.lam_session.specs.declared.refusals.Refusal.{Refusal}
 use Rattle.lam_session.specs.declared.refusals.Refusal.TheVariants.{UnreadableMessage, InvalidMessage, AlreadyInitialized, ShutDown, NotInitialized, MethodNotFound, InvalidParams, DocumentNotOpen}
 use Rattle.lam_session.specs.Does.{Does}
 use Rattle.lam_session.specs.Initialize.{chosen, initialize_answer}
-use Rattle.lam_session.specs.Asked.{Place, place_of, asked_place, asked_at}
+use Rattle.lam_session.specs.Asked.{Place, place_of, has_rest, asked_place, asked_at}
 use Rattle.lam_session.specs.Questions.{RepliesOpen, RepliesAt, Asks}
 use Rattle.lam_session.specs.declared.questions.Question.{Question}
 use Rattle.lam_session.specs.Refusals.{refused}
@@ -105,10 +105,11 @@ agree_named uri other ds es is agree = subst (λ (u : List ℕ). open_text u ds 
 -- ---- questions
 
 -- the document of a place is the one that the params name
-place_named : (position : Option Position) (named : Option (List ℕ)) (place : Place) → place_of position named ≡ Some place → named ≡ Some place.uri
-place_named None named place is = absurd cc
-place_named (Some position) None place is = absurd cc
-place_named (Some position) (Some uri) place is = let same : record { uri = uri; position = position } ≡ place = cc in ap (λ (p : Place). Some p.uri) same
+place_named : (has : Bool) (position : Option Position) (named : Option (List ℕ)) (place : Place) → cond has (place_of position named) None ≡ Some place → named ≡ Some place.uri
+place_named false position named place is = absurd cc
+place_named true None named place is = absurd cc
+place_named true (Some position) None place is = absurd cc
+place_named true (Some position) (Some uri) place is = let same : record { uri = uri; position = position } ≡ place = cc in ap (λ (p : Place). Some p.uri) same
 
 replies_open_same : (question : Question) (s : State) (docs : List OpenDocument) (id params : Data) (place : Place) (found : Option (List ℕ)) (answer : Data)
     → RepliesOpen question (open_in s) id params place found answer → RepliesOpen question (open_in (beside s docs)) id params place found answer
@@ -120,7 +121,7 @@ replies_same : (uri : List ℕ) (question : Question) (s : State) (docs : List O
     → RepliesAt question (open_in s) id params place answer → RepliesAt question (open_in (beside s docs)) id params place answer
 replies_same uri question s docs id params None answer agree is asked r = r
 replies_same uri question s docs id params (Some place) answer agree is asked r =
-    let named = place_named (asked_position params) (named_uri params) place asked in
+    let named = place_named (has_rest question params) (asked_position params) (named_uri params) place asked in
     let names : bytes_eq uri place.uri ≡ true = subst (λ (o : Option (List ℕ)). is_named uri o ≡ true) named is in
     subst (λ (found : Option (List ℕ)). RepliesOpen question (open_in (beside s docs)) id params place found answer)
     (agree_named uri place.uri s.documents docs names agree)

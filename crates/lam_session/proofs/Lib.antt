@@ -3,6 +3,7 @@ pub mod HoverLaws
 pub mod DerivationLaws
 pub mod DefinitionLaws
 pub mod ReferencesLaws
+pub mod RenameLaws
 pub mod QuestionLaws
 pub mod MethodLemmas
 pub mod Plain

@@ -5,12 +5,14 @@ use Rattle.serde_json.specs.Written.{has_float}
 use Rattle.lam_session.specs.Asked.{Asked}
 use Rattle.lam_session.specs.Questions.{IsAnswerTo, MayVary}
 use Rattle.lam_session.specs.declared.questions.Question.{Question}
-use Rattle.lam_session.specs.declared.questions.Question.TheVariants.{Hover, Derivation, Definition, References}
+use Rattle.lam_session.specs.declared.questions.Question.TheVariants.{Hover, Derivation, Definition, References, Rename}
 use Rattle.lam_session.specs.References.{is_declared}
+use Rattle.lam_session.specs.Renames.{new_name}
 use Rattle.lam_session.proofs.DefinitionLaws as definition
 use Rattle.lam_session.proofs.DerivationLaws as derivation
 use Rattle.lam_session.proofs.HoverLaws as hover
 use Rattle.lam_session.proofs.ReferencesLaws as references
+use Rattle.lam_session.proofs.RenameLaws as rename
 use Rattle.lam_session.proofs.ReplyLemmas.{HasNoMethod}
 
 -- there is a reply, two replies are one or may vary, and a reply holds no float of its own and is no notice
@@ -44,4 +46,10 @@ laws References = record {
   alike = λ a id one other h k. inl (references.one_reply a.encoding a.uri a.text a.offset (is_declared a.params) id one other h k);
   plain = λ a id. references.plain a.encoding a.uri a.text a.offset (is_declared a.params) id;
   no_method = λ a id. references.no_method a.encoding a.uri a.text a.offset (is_declared a.params) id;
+}
+laws Rename = record {
+  some = λ a id. rename.some_reply a.encoding a.uri a.text a.offset (new_name a.params) id;
+  alike = λ a id one other h k. inl (rename.one_reply a.encoding a.uri a.text a.offset (new_name a.params) id one other h k);
+  plain = λ a id. rename.plain a.encoding a.uri a.text a.offset (new_name a.params) id;
+  no_method = λ a id. rename.no_method a.encoding a.uri a.text a.offset (new_name a.params) id;
 }

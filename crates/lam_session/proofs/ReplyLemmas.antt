@@ -6,7 +6,7 @@ use Rattle.serde_json.specs.Written.{has_float}
 use Rattle.lam_rpc.specs.Reply.{result_reply}
 use Rattle.lam_session.specs.Refusals.{refused}
 use Rattle.lam_session.specs.declared.refusals.Refusal.{Refusal}
-use Rattle.lam_session.specs.declared.refusals.Refusal.TheVariants.{UnreadableMessage, InvalidMessage, AlreadyInitialized, ShutDown, NotInitialized, MethodNotFound, InvalidParams, DocumentNotOpen}
+use Rattle.lam_session.specs.declared.refusals.Refusal.TheVariants.{UnreadableMessage, InvalidMessage, AlreadyInitialized, ShutDown, NotInitialized, MethodNotFound, InvalidParams, DocumentNotOpen, NotAName, UnparsedCommand, NoBoundName, WrongKind, ChangesBinding}
 
 -- no notice is meant by it
 abbrev pub HasNoMethod : Data → Type 0
@@ -30,3 +30,8 @@ refusal_plain id NotInitialized h = rw h refl
 refusal_plain id MethodNotFound h = rw h refl
 refusal_plain id InvalidParams h = rw h refl
 refusal_plain id DocumentNotOpen h = rw h refl
+refusal_plain id NotAName h = rw h refl
+refusal_plain id UnparsedCommand h = rw h refl
+refusal_plain id NoBoundName h = rw h refl
+refusal_plain id WrongKind h = rw h refl
+refusal_plain id ChangesBinding h = rw h refl

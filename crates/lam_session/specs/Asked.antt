@@ -1,13 +1,14 @@
 -- What a question about a place in a document is about.
-use Rattle.std.specs.Prelude.{ℕ, List, Option, None, Some}
+use Rattle.std.specs.Prelude.{ℕ, List, codes, Bool, true, if◌then◌else◌, Option, None, Some, is_some}
 use Rattle.serde_json.specs.Data.{Data}
-use Rattle.lam_rpc.specs.Fields.{asked_position, named_uri}
+use Rattle.lam_rpc.specs.Fields.{text_at, asked_position, named_uri}
 use Rattle.lam_rules.specs.declared.rules.Dialect.{Dialect}
 use Rattle.lam_text.specs.declared.units.Encoding.{Encoding}
 use Rattle.lam_text.specs.declared.places.Position.{Position}
 use Rattle.lam_text.specs.Positions.{offset_of}
 use Rattle.lam_session.specs.Documents.{OpenDocuments}
 use Rattle.lam_session.specs.declared.questions.Question.{Question}
+use Rattle.lam_session.specs.declared.questions.Question.TheVariants.{Rename}
 
 -- a place as the client names it: the uri of a document and a position in it
 pub record Place : Type 0 where
@@ -19,9 +20,18 @@ abbrev pub place_of : Option Position → Option (List ℕ) → Option Place
 place_of (Some position) (Some uri) = Some (record { uri = uri; position = position })
 place_of _ _ = None
 
--- the place that a question's params name, none where they lack what the question needs; each needs a position and a uri
+-- the new name that the params give, where they give one
+abbrev pub given_name : Data → Option (List ℕ)
+given_name params = text_at (codes "newName") params
+
+-- the params have what the question needs beside a position and a uri: a rename needs a new name
+abbrev pub has_rest : Question → Data → Bool
+has_rest Rename params = is_some (given_name params)
+has_rest _ params = true
+
+-- the place that a question's params name, none where they lack what the question needs
 abbrev pub asked_place : Question → Data → Option Place
-asked_place question params = place_of (asked_position params) (named_uri params)
+asked_place question params = if has_rest question params then place_of (asked_position params) (named_uri params) else None
 
 -- what is asked about: an offset in the text that the document of this uri now has, the unit of its columns, the rules in force, and the params
 pub record Asked : Type 0 where

@@ -52,7 +52,8 @@ capabilities encoding =
     (member (codes "hoverProvider") (boolean true)
     (member (codes "positionEncoding") (string (encoding_name encoding))
     (member (codes "referencesProvider") (boolean true)
-    (member (codes "textDocumentSync") document_sync no_members)))))
+    (member (codes "renameProvider") (boolean true)
+    (member (codes "textDocumentSync") document_sync no_members))))))
 
 -- the answer to `initialize`
 abbrev pub initialize_answer : Encoding → Data

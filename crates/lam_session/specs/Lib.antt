@@ -16,6 +16,7 @@ pub mod Hovers
 pub mod Derivations
 pub mod Definitions
 pub mod References
+pub mod Renames
 pub mod Questions
 pub mod Step
 pub mod OneAnswer

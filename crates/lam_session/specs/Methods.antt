@@ -21,6 +21,7 @@ requests =
     ∷ (codes "fullsub/derivation", request.Ask question.Derivation)
     ∷ (codes "textDocument/definition", request.Ask question.Definition)
     ∷ (codes "textDocument/references", request.Ask question.References)
+    ∷ (codes "textDocument/rename", request.Ask question.Rename)
     ∷ []
 
 -- the request that a name means

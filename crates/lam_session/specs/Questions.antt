@@ -10,9 +10,10 @@ use Rattle.lam_session.specs.Does.{Does}
 use Rattle.lam_session.specs.Hovers.{IsHoverReply}
 use Rattle.lam_session.specs.References.{is_declared, IsReferencesReply}
 use Rattle.lam_session.specs.Refusals.{refused}
+use Rattle.lam_session.specs.Renames.{new_name, IsRenameReply}
 use Rattle.lam_session.specs.State.{State, open_in}
 use Rattle.lam_session.specs.declared.questions.Question.{Question}
-use Rattle.lam_session.specs.declared.questions.Question.TheVariants.{Hover, Derivation, Definition, References}
+use Rattle.lam_session.specs.declared.questions.Question.TheVariants.{Hover, Derivation, Definition, References, Rename}
 use Rattle.lam_session.specs.declared.refusals.Refusal.TheVariants.{InvalidParams, DocumentNotOpen}
 
 -- the reply to the request with this id answers the question
@@ -21,6 +22,7 @@ IsAnswerTo Hover a id reply = IsHoverReply a.encoding a.dialect a.text a.offset 
 IsAnswerTo Derivation a id reply = IsDerivationReply a.encoding a.dialect a.text a.offset id reply
 IsAnswerTo Definition a id reply = IsDefinitionReply a.encoding a.uri a.text a.offset id reply
 IsAnswerTo References a id reply = IsReferencesReply a.encoding a.uri a.text a.offset (is_declared a.params) id reply
+IsAnswerTo Rename a id reply = IsRenameReply a.encoding a.uri a.text a.offset (new_name a.params) id reply
 
 -- the reply is one of several that answer the question; only a derivation can be
 abbrev pub MayVary : Question → Asked → Data → Data → Type 0

@@ -1,17 +1,18 @@
 //! An open document, and what is known of its text.
-ghost use Rattle.std.specs.Prelude.{◌≡◌, true, map, option_map, All, IfOk, IfSome, OnOk};
+ghost use Rattle.std.specs.Prelude.{◌≡◌, ◌≢◌, true, map, option_map, All, Ok, Err, IfOk, IfErr, IfSome, OnOk};
 ghost use Rattle.lam_query.specs.Derivations.{IsDerivedIn};
 ghost use Rattle.lam_query.specs.Hovers.{IsShownIn};
 ghost use Rattle.lam_query.specs.Analyses.{IsAnalysisOf, dialect_of};
 ghost use Rattle.lam_query.specs.Definitions.{IsDefinitionIn, AreReferencesIn};
+ghost use Rattle.lam_query.specs.Renames.{IsRenameIn};
 ghost use Rattle.lam_query.specs.TextFaults.{AreFaults};
 ghost use Rattle.lam_query.specs.Views.{fault_of, shown_of, derivation_of, StepStandsIn};
 ghost use Rattle.lam_query.specs.Within.{StandsIn};
 ghost use Rattle.lam_text.specs.Edits.{text_after};
 ghost use Rattle.lam_text.specs.Positions.{offset_of};
 
-use lam_query::Analysis;
 use lam_query::answers::{Derivation, Fault, Hover};
+use lam_query::{Analysis, RenameFault};
 use lam_rules::Dialect;
 use lam_text::{Change, Doc, Encoding, Position};
 use lam_token::Span;
@@ -170,5 +171,21 @@ impl Document {
         let offset = self.doc.offset_of(position);
         self.analysis()
             .references(alloc, self.doc.text(), offset, declared)
+    }
+
+    /// The spans that get a new name: those of the binder of the name at a position, and of its uses.
+    pub fn rename(
+        &self,
+        alloc: Global,
+        position: Position,
+        new: &str,
+    ) -> Result<Vec<Span>, RenameFault>
+        requires { self.now.analysed ≡ true }
+        ensures renamed { IfOk result (λ spans. IsRenameIn self.now.text (offset_of self.now.encoding self.now.text position) new.now (Ok spans.items)) }
+        ensures refused { IfErr result (λ fault. fault ≢ RenameFault.Memory → IsRenameIn self.now.text (offset_of self.now.encoding self.now.text position) new.now (Err fault)) }
+        ensures whole_characters { IfOk result (λ spans. All (StandsIn self.now.text) spans.items) }
+    {
+        let offset = self.doc.offset_of(position);
+        self.analysis().rename(alloc, self.doc.text(), offset, new)
     }
 }

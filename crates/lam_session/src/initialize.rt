@@ -86,6 +86,7 @@ fn capabilities(alloc: Global, encoding: Encoding) -> Result<Value, AllocError>
         .value("hoverProvider", Ok(Value::from(true)))
         .text("positionEncoding", encoding_name(encoding))
         .value("referencesProvider", Ok(Value::from(true)))
+        .value("renameProvider", Ok(Value::from(true)))
         .value("textDocumentSync", document_sync(alloc))
         .finish()
 }

@@ -19,6 +19,7 @@ mod questions;
 mod ranges;
 mod references;
 mod refusals;
+mod rename;
 mod session;
 mod states;
 mod sync;

@@ -23,7 +23,7 @@ pub enum NoticeMethod {
 }
 
 /// The requests by their names.
-static REQUESTS: [(&str, RequestMethod); 6] = [
+static REQUESTS: [(&str, RequestMethod); 7] = [
     ("initialize", RequestMethod::Initialize),
     ("shutdown", RequestMethod::Shutdown),
     ("textDocument/hover", RequestMethod::Ask(Question::Hover)),
@@ -39,6 +39,7 @@ static REQUESTS: [(&str, RequestMethod); 6] = [
         "textDocument/references",
         RequestMethod::Ask(Question::References),
     ),
+    ("textDocument/rename", RequestMethod::Ask(Question::Rename)),
 ];
 
 /// The notices by their names.

@@ -1,6 +1,7 @@
 //! The questions about a place in a document, and the reply to each.
-ghost use Rattle.std.specs.Prelude.{IfOk};
+ghost use Rattle.std.specs.Prelude.{◌≡◌, IfOk};
 ghost use Rattle.serde_json.specs.View.{view};
+ghost use Rattle.lam_session.specs.Asked.{has_rest};
 ghost use Rattle.lam_session.specs.Questions.{Replies};
 
 use crate::definition::definition_reply;
@@ -9,6 +10,7 @@ use crate::documents::Documents;
 use crate::hover::hover_reply;
 use crate::references::references_reply;
 use crate::refusals::{Refusal, refused};
+use crate::rename::{given_name, rename_reply};
 use lam_rpc::{read_position, read_uri};
 use serde_json::Value;
 use std::alloc::{AllocError, Global};
@@ -24,6 +26,8 @@ pub enum Question {
     Definition,
     /// Who uses it.
     References,
+    /// A new name for the name.
+    Rename,
 }
 
 /// The reply to a question with these params.
@@ -42,6 +46,9 @@ pub fn reply_to(
     let Ok(uri) = read_uri(params) else {
         return refused(alloc, id, Refusal::InvalidParams);
     };
+    if !has_rest(question, params) {
+        return refused(alloc, id, Refusal::InvalidParams);
+    }
     let Some(document) = documents.document(uri) else {
         return refused(alloc, id, Refusal::DocumentNotOpen);
     };
@@ -50,5 +57,16 @@ pub fn reply_to(
         Question::Derivation => derivation_reply(alloc, id, document, position),
         Question::Definition => definition_reply(alloc, id, uri, document, position),
         Question::References => references_reply(alloc, id, params, uri, document, position),
+        Question::Rename => rename_reply(alloc, id, params, uri, document, position),
+    }
+}
+
+/// Whether the params have what a question needs beside a position and a uri: a rename needs a new name.
+fn has_rest(question: Question, params: &Value) -> bool
+    ensures { result ≡ has_rest question (view params.now) }
+{
+    match question {
+        Question::Rename => given_name(params).is_some(),
+        _ => true,
     }
 }

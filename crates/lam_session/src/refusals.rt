@@ -16,6 +16,12 @@ pub enum Refusal {
     MethodNotFound,
     InvalidParams,
     DocumentNotOpen,
+    // Why a name is not renamed.
+    NotAName,
+    UnparsedCommand,
+    NoBoundName,
+    WrongKind,
+    ChangesBinding,
 }
 
 fn code_of(refusal: Refusal) -> i64
@@ -30,6 +36,11 @@ fn code_of(refusal: Refusal) -> i64
         Refusal::MethodNotFound => -32601,
         Refusal::InvalidParams => -32602,
         Refusal::DocumentNotOpen => -32602,
+        Refusal::NotAName => -32602,
+        Refusal::UnparsedCommand => -32803,
+        Refusal::NoBoundName => -32803,
+        Refusal::WrongKind => -32602,
+        Refusal::ChangesBinding => -32803,
     }
 }
 
@@ -45,6 +56,11 @@ fn text_of(refusal: Refusal) -> &'static str
         Refusal::MethodNotFound => "method not found",
         Refusal::InvalidParams => "invalid params",
         Refusal::DocumentNotOpen => "document not open",
+        Refusal::NotAName => "new name is not a name",
+        Refusal::UnparsedCommand => "some command does not parse",
+        Refusal::NoBoundName => "no bound name here",
+        Refusal::WrongKind => "new name is of the wrong kind",
+        Refusal::ChangesBinding => "binding would change",
     }
 }
 

@@ -1,0 +1,48 @@
+-- What a rename is answered with (LSP 3.17, "Rename Request").
+use Rattle.std.specs.Prelude.{◌≡◌, ℕ, List, [], map, codes, Option, None, Some, option_map, unwrap_or, Result, Ok, Err}
+use Rattle.serde_json.specs.Data.{Data, string, array, object, member, no_members}
+use Rattle.serde_json.specs.View.{items_of}
+use Rattle.lam_rpc.specs.Reply.{result_reply}
+use Rattle.lam_token.specs.declared.span.Span.{Span}
+use Rattle.lam_text.specs.declared.units.Encoding.{Encoding}
+use Rattle.lam_query.specs.declared.renames.RenameFault.{RenameFault}
+use Rattle.lam_query.specs.declared.renames.RenameFault.TheVariants as fault
+use Rattle.lam_query.specs.Renames.{IsRenameIn}
+use Rattle.lam_session.specs.declared.refusals.Refusal.{Refusal}
+use Rattle.lam_session.specs.declared.refusals.Refusal.TheVariants as refusal
+use Rattle.lam_session.specs.Asked.{given_name}
+use Rattle.lam_session.specs.Ranges.{range_value}
+use Rattle.lam_session.specs.Refusals.{refused}
+
+-- the new name; where the params give none, which is refused before, it is an empty text
+abbrev pub new_name : Data → List ℕ
+new_name params = unwrap_or (given_name params) []
+
+-- a span of the text gets the new name (LSP 3.17, "TextEdit")
+abbrev pub edit_value : Encoding → List ℕ → (new : List ℕ) → Span → Data
+edit_value encoding text new span = object (member (codes "newText") (string new) (member (codes "range") (range_value encoding text span) no_members))
+
+-- the edits of the document of this uri, one for each span, in their order (LSP 3.17, "WorkspaceEdit")
+abbrev pub rename_value : Encoding → List ℕ → (uri new : List ℕ) → List Span → Data
+rename_value encoding text uri new spans =
+    object (member (codes "changes") (object (member uri (array (items_of (map (edit_value encoding text new) spans))) no_members)) no_members)
+
+-- the refusal that tells why a name is not renamed; want of memory is none
+abbrev pub refusal_of : RenameFault → Option Refusal
+refusal_of fault.NotAName = Some refusal.NotAName
+refusal_of fault.UnparsedCommand = Some refusal.UnparsedCommand
+refusal_of fault.NoBoundName = Some refusal.NoBoundName
+refusal_of fault.WrongKind = Some refusal.WrongKind
+refusal_of fault.ChangesBinding = Some refusal.ChangesBinding
+refusal_of fault.Memory = None
+
+-- the reply that tells the answer: the edits, or the refusal; none for want of memory
+abbrev pub reply_for : Encoding → (uri text new : List ℕ) → (id : Data) → Result (List Span) RenameFault → Option Data
+reply_for encoding uri text new id (Ok spans) = Some (result_reply id (rename_value encoding text uri new spans))
+reply_for encoding uri text new id (Err f) = option_map (refused id) (refusal_of f)
+
+-- the reply tells the edits that give the name at the offset its new name, or why there are none
+pub record IsRenameReply (encoding : Encoding) (uri text : List ℕ) (offset : ℕ) (new : List ℕ) (id reply : Data) : Type 0 where
+  pub found : Result (List Span) RenameFault
+  pub right : IsRenameIn text offset new found
+  pub replied : reply_for encoding uri text new id found ≡ Some reply

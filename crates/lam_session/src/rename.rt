@@ -1,0 +1,109 @@
+//! A new name for a name, as a client is told it (LSP 3.17, `textDocument/rename`).
+ghost use Rattle.std.specs.Prelude.{◌≡◌, true, map, option_map, All, IfOk};
+ghost use Rattle.std.specs.Result.{result_ok};
+ghost use Rattle.serde_json.specs.Data.{array};
+ghost use Rattle.serde_json.specs.View.{view, items_of};
+ghost use Rattle.lam_text.specs.Positions.{offset_of};
+ghost use Rattle.lam_query.specs.Within.{StandsIn};
+ghost use Rattle.lam_session.specs.Asked.{given_name};
+ghost use Rattle.lam_session.specs.Renames.{new_name, edit_value, rename_value, refusal_of, IsRenameReply};
+
+use crate::document::Document;
+use crate::objects::Object;
+use crate::ranges::range_value;
+use crate::refusals::{Refusal, refused};
+use lam_query::RenameFault;
+use lam_rpc::ok_reply;
+use lam_text::{Doc, Position};
+use lam_token::Span;
+use serde_json::Value;
+use std::alloc::{AllocError, Global};
+
+/// The reply to the request with this id and these params: the edits that give the name at a position of the document of
+/// this uri its new name, or why there are none.
+pub fn rename_reply(
+    alloc: Global,
+    id: Value,
+    params: &Value,
+    uri: &str,
+    document: &Document,
+    position: Position,
+) -> Result<Value, AllocError>
+    requires { document.now.analysed ≡ true }
+    ensures { IfOk result (λ reply. IsRenameReply document.now.encoding uri.now document.now.text
+        (offset_of document.now.encoding document.now.text position) (new_name (view params.now)) (view id) (view reply)) }
+{
+    let new = new_name(params);
+    match document.rename(alloc, position, new) {
+        Ok(spans) => {
+            let value = rename_value(alloc, document.doc(), uri, new, &spans)?;
+            ok_reply(alloc, id, value)
+        }
+        Err(fault) => refused(alloc, id, refusal_of(fault)?),
+    }
+}
+
+/// The new name that the params give, where they give one.
+pub fn given_name(params: &Value) -> Option<&str>
+    ensures { option_map (λ name. name.now) result ≡ given_name (view params.now) }
+{
+    params.get("newName")?.as_str()
+}
+
+/// The new name; where the params give none, it is an empty text.
+fn new_name(params: &Value) -> &str
+    ensures { result.now ≡ new_name (view params.now) }
+{
+    given_name(params).unwrap_or("")
+}
+
+/// The edits of the document of this uri, one for each span (LSP 3.17, `WorkspaceEdit`).
+fn rename_value(
+    alloc: Global,
+    doc: &Doc,
+    uri: &str,
+    new: &str,
+    spans: &[Span],
+) -> Result<Value, AllocError>
+    requires { All (StandsIn doc.now.text) spans.now }
+    ensures { IfOk result (λ value. view value ≡ rename_value doc.now.encoding doc.now.text uri.now new.now spans.now) }
+{
+    let edits = Object::new(alloc).value(uri, edits_value(alloc, doc, new, spans));
+    Object::new(alloc).value("changes", edits.finish()).finish()
+}
+
+fn edits_value(alloc: Global, doc: &Doc, new: &str, spans: &[Span]) -> Result<Value, AllocError>
+    requires { All (StandsIn doc.now.text) spans.now }
+    ensures { IfOk result (λ value. view value ≡ array (items_of (map (edit_value doc.now.encoding doc.now.text new.now) spans.now))) }
+{
+    let mut values = Vec::new(alloc);
+    for span in spans {
+        values.push(edit_value(alloc, doc, new, *span)?)?;
+    }
+    Ok(Value::Array(values))
+}
+
+/// The text of a span becomes the new name (LSP 3.17, `TextEdit`).
+fn edit_value(alloc: Global, doc: &Doc, new: &str, span: Span) -> Result<Value, AllocError>
+    requires { StandsIn doc.now.text span }
+    ensures { IfOk result (λ value. view value ≡ edit_value doc.now.encoding doc.now.text new.now span) }
+{
+    Object::new(alloc)
+        .text("newText", new)
+        .value("range", range_value(alloc, doc, span))
+        .finish()
+}
+
+/// The refusal that tells why a name is not renamed; want of memory is none.
+fn refusal_of(fault: RenameFault) -> Result<Refusal, AllocError>
+    ensures { result_ok result ≡ refusal_of fault }
+{
+    match fault {
+        RenameFault::NotAName => Ok(Refusal::NotAName),
+        RenameFault::UnparsedCommand => Ok(Refusal::UnparsedCommand),
+        RenameFault::NoBoundName => Ok(Refusal::NoBoundName),
+        RenameFault::WrongKind => Ok(Refusal::WrongKind),
+        RenameFault::ChangesBinding => Ok(Refusal::ChangesBinding),
+        RenameFault::Memory => Err(AllocError),
+    }
+}
