@@ -1,4 +1,4 @@
-"""Recorded sessions of editors, played again: the text that the changes leave must be answered as the text that was saved."""
+"""Recorded sessions of editors, played again: the text that the changes leave must be answered as the text that was saved, and edits be what the editor made of them."""
 
 import json
 import re
@@ -51,6 +51,21 @@ def answers_of(output):
     return results, faults
 
 
+def check_renames(messages, results):
+    """Where a rename was answered with edits, the editor's next change leaves the text that these edits leave, put in from the last to the first."""
+    for at, message in enumerate(messages):
+        answer = message.get("method") == "textDocument/rename" and results.get(message["id"])
+        if not answer:
+            continue
+        text = left_by(messages[:at])
+        for edit in reversed(answer["changes"][message["params"]["textDocument"]["uri"]]):
+            places = [(edit["range"][it]["line"], edit["range"][it]["character"]) for it in ("start", "end")]
+            text = edited(text, (places, edit["newText"]), "utf-16")
+        change = next(it for it in range(at, len(messages)) if messages[it].get("method") == "textDocument/didChange")
+        if left_by(messages[: change + 1]) != text:
+            raise Failed(f"  the edits of the rename to {message['params']['newName']!r} do not leave the editor's next text")
+
+
 def check_recording(program, script):
     """Plays the bodies; in front of the one that closes the document, a document with the saved text is opened, and both are asked about each place."""
     bodies, saved = read(script.recording).splitlines(), read(script.saved)
@@ -66,6 +81,7 @@ def check_recording(program, script):
     done = ran(program, script, b"".join(given))
     compare_end(script, done, script.status, "")
     results, faults = answers_of(done.stdout)
+    check_renames(messages, results)
     if faults[uri] != faults[SAVED]:
         raise Failed(f"  the faults of the edited text are {faults[uri]}, those of the saved one {faults[SAVED]}")
     places = [it.removeprefix("saved ") for it in map(str, results) if it.startswith("saved ")]

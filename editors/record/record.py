@@ -26,9 +26,13 @@ y = x.a;
 PASTED = "\x1b[200~f = lambda 😀n:Nat. succ n;\rß = f y; /* 👩‍🔬 */\r\x1b[201~"
 
 ESCAPE = "\x1b"
+F2 = "\x1bOQ"
 
 # Keys for Neovim, a pause after each.
 NEOVIM_KEYS = [
+    "4Gfx", "gd", "4Gfx", "gr", ":cclose\r",  # where a name comes from, and who uses it
+    "3G0", F2, "\x15größe\r", "u", "\x12",  # gives it a new name, undoes it and does it again
+    "2G0", F2, "\x15t\r",  # which a type name can't have
     "Go", "z = succ y;", " /* äöü 😀 */", ESCAPE,  # types a line at the end
     "u", "\x12",  # undoes it and does it again
     "gg", "f😀", "a é😀", ESCAPE, "x", "u",  # types behind the emoji
@@ -43,6 +47,9 @@ NEOVIM_END = [":w\r", ":bdelete\r", ":q\r"]
 
 # Keys for Emacs, a pause after each.
 EMACS_KEYS = [
+    "\x0e\x0e\x0e\x06\x06\x06\x06", "\x1b.", "\x1b,", "\x1b?", "q",  # where a name comes from, and who uses it
+    "\x10\x01", "\x1bxeglot-rename\r", "größe\r", "\x1f", "\x07\x1f",  # gives it a new name, undoes it and does it again
+    "\x10\x01", "\x1bxeglot-rename\r", "t\r",  # which a type name can't have
     "\x1b>", "z = succ y;", " /* äöü 😀 */\r",  # types a line at the end
     "\x1f", "\x07\x1f",  # undoes it and does it again
     "\x1b<", "\x13😀\r", " é😀", "\x7f",  # types behind the emoji
