@@ -1,4 +1,5 @@
-//! The answers about a text: its faults, the type at an offset, and a derivation of that type.
+//! The answers about a text: its faults; the type at an offset, and a derivation of it; where the name there comes from,
+//! who uses it, and whether and where it can have another.
 //!
 //! Each answer is a function of the text, an offset and the dialect, but for the derivation, which may be any that the
 //! rules accept. Offsets and spans are bytes of the text's UTF-8.

@@ -12,8 +12,8 @@ use Rattle.lam_scope.specs.declared.scopes.Scopes.{Scopes}
 use Rattle.lam_scope.specs.Names.{Name}
 use Rattle.lam_scope.specs.Tables.{Table, table, binder_numbered, tokens_of, tokens_by}
 use Rattle.lam_scope.specs.Views.{AreScopesOf, table_of, uses_in}
-use Rattle.lam_scope.specs.Renames.{kind_bound, HasName, AreRenamed, IsRefused, IsUnfit, answer_for}
-use Rattle.lam_scope.specs.Bearers.{all_keep}
+use Rattle.lam_scope.specs.Renames.{kind_bound, HasName, AreRenamed, IsRefused, answer_for}
+use Rattle.lam_scope.specs.Bearers.{all_keep, IsUnfit}
 use Rattle.lam_scope.proofs.AnswerNumbers.{answer_within}
 use Rattle.lam_scope.proofs.TokenLists.{tokens_by-at}
 use Rattle.lam_scope.proofs.KeptForms.{keeps_if_all, all_if_keeps}

@@ -1,9 +1,15 @@
--- Who bears the new name once a binder has it: whether the name of each use then still finds its binder, by the rows of a table alone.
+-- For private contracts: who bears the new name once a binder has it, and so whether the name of each use then still finds its binder, by the rows of a table alone; and why a
+-- text can't be the new name.
 use Rattle.std.specs.Prelude.{ℕ, ◌==◌, List, [], ◌∷◌, ◌++◌, Bool, true, false, Option, Some, None, if◌then◌else◌, get_or}
 use Rattle.std.specs.List.{list_all}
+use Rattle.lam_token.specs.declared.kind.Kind.{Kind}
+use Rattle.lam_token.specs.declared.kind.Kind.TheVariants as kind
+use Rattle.lam_token.specs.Edits.{IsOne}
+use Rattle.lam_scope.specs.declared.rename_fault.RenameFault.{RenameFault}
+use Rattle.lam_scope.specs.declared.rename_fault.RenameFault.TheVariants as fault
 use Rattle.lam_scope.specs.Names.{Name, binds}
 use Rattle.lam_scope.specs.Tables.{TextBinder, TextUse, binder_in, is_number}
-use Rattle.lam_scope.specs.Renames.{renamed_binder}
+use Rattle.lam_scope.specs.Renames.{renamed_binder, other_kind}
 
 -- whether a binder bears the new name then
 abbrev pub bears : (b : ℕ) → (new : Name) → TextBinder → Bool
@@ -49,3 +55,9 @@ keeps b new rows told u = if takes b new rows u then is_answer (told_of told u.i
 -- whether all uses do
 abbrev pub all_keep : (b : ℕ) → (new : Name) → List TextBinder → List TextUse → Bool
 all_keep b new rows us = list_all (keeps b new rows (bearers b new rows)) us
+
+-- why a text that is not of this kind can't be the new name: it is of the other kind, or no name at all
+abbrev pub IsUnfit : Kind → (text : Name) → RenameFault → Type 0
+IsUnfit k text fault.NotAName = (IsOne kind.Name text → ⊥) × (IsOne kind.TypeName text → ⊥)
+IsUnfit k text fault.WrongKind = IsOne (other_kind k) text
+IsUnfit k text f = ⊥

@@ -130,9 +130,3 @@ IsRefused cs n new fault.NotAName = (IsOne kind.Name new → ⊥) × (IsOne kind
 IsRefused cs n new fault.WrongKind = IsOne (other_kind (kind_of_binder cs n)) new
 IsRefused cs n new fault.ChangesBinding = IsOne (kind_of_binder cs n) new × (KeepsBinding (answer_for cs n) new cs → ⊥)
 IsRefused cs n new fault.Memory = Unit {0}
-
--- why a text that is not of this kind can't be the new name: it is of the other kind, or no name at all
-abbrev pub IsUnfit : Kind → (text : Name) → RenameFault → Type 0
-IsUnfit k text fault.NotAName = (IsOne kind.Name text → ⊥) × (IsOne kind.TypeName text → ⊥)
-IsUnfit k text fault.WrongKind = IsOne (other_kind k) text
-IsUnfit k text f = ⊥

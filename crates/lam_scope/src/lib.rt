@@ -5,7 +5,8 @@
 //!
 //! Binding: `walk` fills the tables of `rows`, with the binders in sight on a stack (`seen`, over `names` and
 //! `name_stack`); `room` counts the rows first. `use_chains` and `token_lists` give each binder its uses, `stretches`
-//! and `row_stretches` the search by a byte; `scopes` reads the tables.
+//! and `row_stretches` the search by a byte; `scopes` reads the tables, and
+//! `renaming` tells from them whether a binder and its uses can have another name.
 //!
 //! Resolving: `resolver` takes command by command, `nameless` makes a term's form, `expansion` a written type's over
 //! the `abbreviations` in sight, `uses_left` hands on the counts. `resolved` keeps the result, `search` finds a place's

@@ -8,8 +8,8 @@ ghost use Rattle.lam_syntax.specs.Trees.{CommandTree};
 ghost use Rattle.lam_scope.specs.Names.{binds};
 ghost use Rattle.lam_scope.specs.Tables.{binder_in, binder_numbered};
 ghost use Rattle.lam_scope.specs.TableViews.{binder_number, binder_of, origin_of, text_binder, text_use, rows_of};
-ghost use Rattle.lam_scope.specs.Bearers.{bears, told_of, bearers, name_by, takes, is_answer, keeps, all_keep};
-ghost use Rattle.lam_scope.specs.Renames.{kind_bound, HasName, AreRenamed, IsRefused, IsUnfit};
+ghost use Rattle.lam_scope.specs.Bearers.{bears, told_of, bearers, name_by, takes, is_answer, keeps, all_keep, IsUnfit};
+ghost use Rattle.lam_scope.specs.Renames.{kind_bound, HasName, AreRenamed, IsRefused};
 ghost use Rattle.lam_scope.specs.Views.{AreScopesOf, table_of, uses_in};
 
 use crate::numbers::{Binder, Origin};
@@ -22,10 +22,10 @@ use lam_token::{Kind, Span, is_name, is_type_name};
 use std::alloc::{AllocError, Global};
 
 impl Scopes {
-    #[tactic(auto, using(crate::proofs::RenamedBinders::bound_kind))]
     /// The tokens of a binder and of its uses, in the order of the text, where these can have the new name: it is a name
     /// where the binder is one of names, a type name where it is one of type names, and each name and type name is then
     /// bound as it was. The name may stay the old one. The binder is no underscore. Of several causes the first refuses.
+    #[tactic(auto, using(crate::proofs::RenamedBinders::bound_kind))]
     pub fn rename(&self, alloc: Global, binder: Binder, new: &str) -> Result<Vec<Span>, RenameFault>
         ensures renamed { (commands : List CommandTree) → AreScopesOf self.now commands → HasName commands binder.0 → IfOk result (λ spans. AreRenamed commands binder.0 new.now spans.items) }
         ensures refused { (commands : List CommandTree) → AreScopesOf self.now commands → HasName commands binder.0 → IfErr result (IsRefused commands binder.0 new.now) }
