@@ -18,7 +18,7 @@ use Rattle.lam_scope.proofs.UseChains.{same_number, other_number}
 use Rattle.lam_scope.proofs.BoundMentions.{same_token, binder_holds}
 use Rattle.lam_query.specs.Commands.{AreCommandsOf}
 use Rattle.lam_query.specs.Touched.{is_name_over, is_name_before, touched}
-use Rattle.lam_query.specs.Definitions.{definition_in, references_to, IsDefinitionIn, AreReferencesIn}
+use Rattle.lam_query.specs.Definitions.{definition_in, references_to, IsDefinitionIn, AreReferencesIn, AreApart}
 use Rattle.lam_query.proofs.Innermost.{text_stands}
 use Rattle.lam_query.proofs.NameTokens.{IfName, InNames, names_in}
 use Rattle.lam_query.proofs.Defining.{text_ascends}
@@ -267,9 +267,9 @@ one_binder : (text : List ℕ) (o : ℕ) (b c : Span) → IsDefinitionIn text o 
 one_binder text o b c h k = let both = one_definition text o (Some b) (Some c) h k in cc
 
 -- a span that is a reference of two names tells their binder
-pub references_apart : (text : List ℕ) (o p : ℕ) (declared also : Bool) (spans others : List Span) (b c s : Span) → AreReferencesIn text o declared (Some spans) → IsDefinitionIn text o (Some b)
-    → AreReferencesIn text p also (Some others) → IsDefinitionIn text p (Some c) → (b ≡ c → ⊥) → Contains spans s → Contains others s → ⊥
-references_apart text o p declared also spans others b c s are of_one others_are of_other apart in_one in_other =
+pub references_apart : (text : List ℕ) (o p : ℕ) (declared also : Bool) (spans others : List Span) → AreReferencesIn text o declared (Some spans) → AreReferencesIn text p also (Some others)
+    → AreApart text o p spans others
+references_apart text o p declared also spans others are others_are b c s of_one of_other apart in_one in_other =
     let one = references_share text o declared spans are in
     let other = references_share text p also others others_are in
     let here = All-contains (λ t. IsDefinitionIn text t.start (Some one.0)) spans s one.2 in_one in

@@ -1,5 +1,5 @@
 -- Where the name under the cursor comes from, and who uses it.
-use Rattle.std.specs.Prelude.{◌≡◌, ℕ, List, ◌∷◌, Bool, Option, if◌then◌else◌}
+use Rattle.std.specs.Prelude.{◌≡◌, ℕ, List, ◌∷◌, Bool, Option, Some, Contains, if◌then◌else◌}
 use Rattle.std.specs.Option.{option_map, option_and_then}
 use Rattle.lam_token.specs.declared.span.Span.{Span}
 use Rattle.lam_token.specs.Lexeme.{Lexeme, start_of}
@@ -33,3 +33,9 @@ pub record AreReferencesIn (text : List ℕ) (offset : ℕ) (declared : Bool) (a
   pub commands : List CommandTree
   pub are_commands : AreCommandsOf (pieces_of tokens) commands
   pub told : answer ≡ option_map (references_to commands declared) (definition_in tokens commands offset)
+
+-- where two names of a text have different binders, these spans and those have none in common
+abbrev pub AreApart : (text : List ℕ) → (offset other : ℕ) → (spans others : List Span) → Type 0
+AreApart text offset other spans others =
+    (binder another : Span) (s : Span) → IsDefinitionIn text offset (Some binder) → IsDefinitionIn text other (Some another) → (binder ≡ another → ⊥)
+    → Contains spans s → Contains others s → ⊥

@@ -15,7 +15,7 @@ ghost use Rattle.lam_query.specs.Hovers.{Shown, innermost_at, IsShownIn};
 ghost use Rattle.lam_query.specs.Innermost.{IsInnermost};
 ghost use Rattle.lam_query.specs.Derivations.{Derivation, IsDerivedIn};
 ghost use Rattle.lam_query.specs.Touched.{touched};
-ghost use Rattle.lam_query.specs.Definitions.{IsDefinitionIn, AreReferencesIn};
+ghost use Rattle.lam_query.specs.Definitions.{IsDefinitionIn, AreReferencesIn, AreApart};
 ghost use Rattle.lam_query.specs.declared.renames.RenameFault.{RenameFault};
 ghost use Rattle.lam_query.specs.declared.renames.RenameFault.TheVariants.{ChangesBinding};
 ghost use Rattle.lam_query.specs.Renames.{IsRenameIn, IsRenamedText, IsOtherText};
@@ -55,7 +55,7 @@ pub fn some_answer()
 pub fn references_share_a_definition()
     ensures definition { (text : List ℕ) (offset : ℕ) (declared : Bool) (spans : List Span) → AreReferencesIn text offset declared (Some spans) → (binder : Span) × IsDefinitionIn text offset (Some binder) × All (λ s. IsDefinitionIn text s.start (Some binder)) spans }
     ensures among { (text : List ℕ) (offset : ℕ) (spans : List Span) (tokens : List Lexeme) (name : Lexeme) → AreTokensOf text tokens → touched offset tokens ≡ Some name → AreReferencesIn text offset true (Some spans) → Contains spans (span_of name) }
-    ensures apart { (text : List ℕ) (offset other : ℕ) (declared also : Bool) (spans others : List Span) (binder another : Span) (s : Span) → AreReferencesIn text offset declared (Some spans) → IsDefinitionIn text offset (Some binder) → AreReferencesIn text other also (Some others) → IsDefinitionIn text other (Some another) → (binder ≡ another → ⊥) → Contains spans s → Contains others s → ⊥ }
+    ensures apart { (text : List ℕ) (offset other : ℕ) (declared also : Bool) (spans others : List Span) → AreReferencesIn text offset declared (Some spans) → AreReferencesIn text other also (Some others) → AreApart text offset other spans others }
 {}
 
 /// What a new name does to a text. Where there are spans for it, the text with the new name in their places, put there from
