@@ -108,7 +108,7 @@ bound_row : (cs : List CommandTree) (start : ℕ) (b : Span) (found : Option ℕ
 bound_row cs start b None is = absurd cc
 bound_row cs start b (Some n) is = (n, refl, cc)
 
-name_bound_as : (k : Kind) → is_name_kind k ≡ true → IsNameKind k
+pub name_bound_as : (k : Kind) → is_name_kind k ≡ true → IsNameKind k
 name_bound_as kind.Name is = inl refl
 name_bound_as kind.TypeName is = inr refl
 name_bound_as k is = absurd cc
@@ -179,7 +179,16 @@ module _ (text : List ℕ) (offset : ℕ) (bound : IsBound text offset) where
     edited_read : (new : List ℕ) → IsUtf8 text → IsUtf8 new → IsOne (kind_of bound.name) new
         → AreTokensOf (edited text spans new) (map (retold spans new) tokens) × AreAllCommandsOf (pieces_of (map (retold spans new) tokens)) (map (retold_command spans new) commands)
     edited_read new is_text is_new one =
-        let change = names_change (kind_of bound.name) text new tokens spans is_text is_new (name_bound_as (kind_of bound.name) (is_name text offset bound)) one bound.parsed.are_tokens spans_stand in (
+        let change = names_change (kind_of bound.name) text new tokens spans (
+        record {
+          of_names = name_bound_as (kind_of bound.name) (is_name text offset bound);
+          is_text = is_text;
+          are_tokens = bound.parsed.are_tokens;
+          are_spans = spans_stand;
+          is_new = is_new;
+          is_one = one;
+        })
+        in (
           change.0,
           subst (λ ps. AreAllCommandsOf ps (map (retold_command spans new) commands)) (sym (pieces_respelled (moved spans new) (renaming spans new) tokens))
               (respelled_pieces (moved spans new) (renaming spans new) (pieces_of tokens) commands bound.parsed.are_commands),

@@ -11,7 +11,7 @@ use Rattle.lam_token.specs.declared.segment.Segment.TheVariants.{Blank, Comment,
 use Rattle.lam_token.specs.declared.span.Span.{Span}
 use Rattle.lam_token.specs.Lexeme.{Lexeme, lexeme}
 use Rattle.lam_token.specs.Cut.{Part, IsCut, with_token, tokens_of, AreTokensOf}
-use Rattle.lam_token.specs.Edits.{among, edited, moved, is_name_kind, renaming, retold, IsNameKind, IsOne, AreSpansOf}
+use Rattle.lam_token.specs.Edits.{among, edited, moved, is_name_kind, renaming, retold, IsNameKind, AreSpansOf, IsNewName}
 use Rattle.lam_token.proofs.Exchanged.{size, span_at, joined, spelled, Exchanged, nothing, kept, renamed, cut_joined, exchanged_cut}
 use Rattle.lam_token.proofs.Places.{have_bytes, span_places, exchange}
 use Rattle.lam_token.proofs.Moved.{AreApart, apart_lower, Agrees, agrees_all, agrees_kept, agrees_renamed, agrees_here, kept_among, renamed_among}
@@ -59,7 +59,7 @@ scalars-append (x ∷ xs) ys = let others = scalars-append xs ys in grind arith
 scalars_both : (xs ys : List ℕ) → all_scalars xs ≡ true → all_scalars ys ≡ true → all_scalars (xs ++ ys) ≡ true
 scalars_both xs ys first last = scalars-append xs ys ∙ rw (first, last) refl
 
-scalars_parts : (xs ys : List ℕ) → all_scalars (xs ++ ys) ≡ true → (all_scalars xs ≡ true) × (all_scalars ys ≡ true)
+pub scalars_parts : (xs ys : List ℕ) → all_scalars (xs ++ ys) ≡ true → (all_scalars xs ≡ true) × (all_scalars ys ≡ true)
 scalars_parts xs ys all = and_parts (all_scalars xs) (all_scalars ys) (sym (scalars-append xs ys) ∙ all)
 
 module _ {kind : Kind} {name : List ℕ} where
@@ -130,23 +130,24 @@ module _ {kind : Kind} {name : List ℕ} (is_name : is_name_kind kind ≡ true) 
 
 -- ---- the law
 
-pub names_change : (kind : Kind) (text new : List ℕ) (tokens : List Lexeme) (spans : List Span) → IsUtf8 text → IsUtf8 new → IsNameKind kind → IsOne kind new → AreTokensOf text tokens → AreSpansOf kind tokens 0 spans
+pub names_change : (kind : Kind) (text new : List ℕ) (tokens : List Lexeme) (spans : List Span) → IsNewName kind text new tokens spans
     → AreTokensOf (edited text spans new) (map (retold spans new) tokens) × IsUtf8 (edited text spans new)
-names_change kind text new tokens spans is_text is_new is one are places =
+names_change kind text new tokens spans h =
+    let are = h.are_tokens in
     let ps = are.parts in
     let found = exchange kind (chars new) 0 ps spans (have_bytes (chars text) ps are.cut)
-    (span_places kind 0 ps 0 spans (subst (λ ts. AreSpansOf kind ts 0 spans) are.tokens_are places)) in
+    (span_places kind 0 ps 0 spans (subst (λ ts. AreSpansOf kind ts 0 spans) are.tokens_are h.are_spans)) in
     let qs = found.0 in
-    let name : encode_utf8_all (chars new) ≡ new = encodes-chars new is_new in
-    let whole : text ≡ encode_utf8_all (joined ps) = sym (encodes-chars text is_text) ∙ ap encode_utf8_all (cut_joined (chars text) ps are.cut) in
+    let name : encode_utf8_all (chars new) ≡ new = encodes-chars new h.is_new in
+    let whole : text ≡ encode_utf8_all (joined ps) = sym (encodes-chars text h.is_text) ∙ ap encode_utf8_all (cut_joined (chars text) ps are.cut) in
     let bytes : edited text spans new ≡ encode_utf8_all (joined qs) = ap (edited text spans) (sym name) ∙ edited_bytes found.1 text [] whole refl in
-    let letters = exchanged_scalars found.1 (scalars-chars new is_new) (ap all_scalars (sym (cut_joined (chars text) ps are.cut)) ∙ scalars-chars text is_text) in
+    let letters = exchanged_scalars found.1 (scalars-chars new h.is_new) (ap all_scalars (sym (cut_joined (chars text) ps are.cut)) ∙ scalars-chars text h.is_text) in
     let is_edited : IsUtf8 (edited text spans new) = (joined qs, (letters, sym bytes)) in
     let spelt = chars_from_encodes (joined qs) (edited text spans new) is_edited (sym bytes) in (
       record {
         parts = qs;
-        cut = subst (λ l. IsCut l qs) spelt (exchanged_cut kind (chars new) is one found.1 (chars text) are.cut);
-        tokens_are = ap (map (retold spans new)) are.tokens_are ∙ ap (λ l. map (retold spans l) (tokens_of 0 ps)) (sym name) ∙ sym (retold_tokens (named kind is) spans found.1 0 (agrees_all spans (encode_utf8_all (chars new))));
+        cut = subst (λ l. IsCut l qs) spelt (exchanged_cut kind (chars new) h.of_names h.is_one found.1 (chars text) are.cut);
+        tokens_are = ap (map (retold spans new)) are.tokens_are ∙ ap (λ l. map (retold spans l) (tokens_of 0 ps)) (sym name) ∙ sym (retold_tokens (named kind h.of_names) spans found.1 0 (agrees_all spans (encode_utf8_all (chars new))));
       },
       is_edited,
     )

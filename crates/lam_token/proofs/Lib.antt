@@ -10,3 +10,4 @@ pub mod Exchanged
 pub mod Places
 pub mod Moved
 pub mod EditedTexts
+pub mod NamePlaces

@@ -44,14 +44,14 @@ beginning_tells c = by_tests (is_blank c) (is_digit c) (is_xid_start c) refl ref
     by_tests false false false d l = mark_tells c
 
 -- a name begins with a letter or an underscore
-abbrev MayBeginName : Beginning → Type 0
+abbrev pub MayBeginName : Beginning → Type 0
 MayBeginName b = (b ≡ begin.Letter) ⊎ (b ≡ begin.Underscore)
 
-abbrev BeginsName : ℕ → Type 0
+abbrev pub BeginsName : ℕ → Type 0
 BeginsName c = MayBeginName (beginning_of c)
 
 -- what begins a name is no digit, and it also continues one
-begins_tells : (c : ℕ) → BeginsName c → (is_digit c ≡ false) × (is_continuing c ≡ true)
+pub begins_tells : (c : ℕ) → BeginsName c → (is_digit c ≡ false) × (is_continuing c ≡ true)
 unfolding is_digit is_continuing
 begins_tells c begins =
     ⊎_elim
@@ -83,7 +83,7 @@ alone_is : (s t : Segment) (cs : List ℕ) → alone s cs ≡ Some t → (cs ≡
 alone_is s t [] e = (refl, cc)
 alone_is s t (c ∷ cs) e = absurd cc
 
-chosen_is : (b : Bool) (o : Option Segment) (t : Segment) → cond b o None ≡ Some t → (b ≡ true) × (o ≡ Some t)
+pub chosen_is : (b : Bool) (o : Option Segment) (t : Segment) → cond b o None ≡ Some t → (b ≡ true) × (o ≡ Some t)
 chosen_is true o t e = (refl, e)
 chosen_is false o t e = absurd cc
 
@@ -115,7 +115,7 @@ begins_by begin.Dash c (d ∷ cs) kind is told shape =
 begins_by (begin.Mark k) c cs kind is told shape = absurd (other_kind k kind told is (alone_is (Token k) (Token kind) cs shape).1)
 begins_by begin.Stray c cs kind is told shape = absurd cc
 
-name_begins : (c : ℕ) (cs : List ℕ) (kind : Kind) → IsNameKind kind → shape_of (c ∷ cs) ≡ Some (Token kind) → BeginsName c
+pub name_begins : (c : ℕ) (cs : List ℕ) (kind : Kind) → IsNameKind kind → shape_of (c ∷ cs) ≡ Some (Token kind) → BeginsName c
 name_begins c cs kind is shape = begins_by (beginning_of c) c cs kind is (beginning_tells c) shape
 
 -- ---- what a segment goes on with

@@ -1,13 +1,14 @@
 -- Tokens that are spelled otherwise, and a text in which a new name stands in the place of others.
 use Rattle.std.specs.Prelude.{◌≡◌, ◌⊎◌, ℕ, ◌+◌, ◌-◌, ◌≤◌, ◌==◌, Bool, true, false, ◌&&◌, nat_le, if◌then◌else◌, List, [], ◌∷◌, ◌++◌, length, take, drop, Contains, Some}
 use Rattle.std.specs.List.{list_any}
-use Rattle.std.specs.Str.{chars}
+use Rattle.std.specs.Str.{chars, IsUtf8}
 use Rattle.lam_token.specs.declared.kind.Kind.{Kind}
 use Rattle.lam_token.specs.declared.kind.Kind.TheVariants.{Name, TypeName}
 use Rattle.lam_token.specs.declared.segment.Segment.TheVariants.{Token}
 use Rattle.lam_token.specs.declared.span.Span.{Span}
 use Rattle.lam_token.specs.Lexeme.{Lexeme, lexeme, kind_of, span_of}
 use Rattle.lam_token.specs.Shape.{shape_of}
+use Rattle.lam_token.specs.Cut.{AreTokensOf}
 
 -- Tokens with other letters and at other places.
 
@@ -66,3 +67,12 @@ abbrev pub AreSpansOf : Kind → List Lexeme → (low : ℕ) → List Span → T
 AreSpansOf kind tokens low [] = Unit {0}
 AreSpansOf kind tokens low (s ∷ spans) =
     (low ≤ s.start) × ((t : Lexeme) × Contains tokens t × (kind_of t ≡ kind) × (span_of t ≡ s)) × AreSpansOf kind tokens s.end spans
+
+-- a new name for some of a text's names, or a new type name for some of its type names
+pub record IsNewName (kind : Kind) (text new : List ℕ) (tokens : List Lexeme) (spans : List Span) : Type 0 where
+  pub of_names : IsNameKind kind
+  pub is_text : IsUtf8 text
+  pub are_tokens : AreTokensOf text tokens
+  pub are_spans : AreSpansOf kind tokens 0 spans
+  pub is_new : IsUtf8 new
+  pub is_one : IsOne kind new

@@ -8,7 +8,7 @@ ghost use Rattle.lam_token.specs.Lexeme.{Lexeme};
 ghost use Rattle.lam_token.specs.Shape.{rest_of_comment};
 ghost use Rattle.lam_token.specs.Comment.{Inside};
 ghost use Rattle.lam_token.specs.Cut.{Part, IsCut, AreTokensOf};
-ghost use Rattle.lam_token.specs.Edits.{edited, retold, IsNameKind, IsOne, AreSpansOf};
+ghost use Rattle.lam_token.specs.Edits.{edited, retold, IsNewName};
 
 /// Marks that are read one after another from the left, with a count of the open ones, find what the grammar of
 /// comments says: comments nest.
@@ -24,6 +24,6 @@ pub fn some_cut()
 /// A name in the place of names, or a type name in the place of type names, leaves all other tokens of a text as they are,
 /// as much further on, or back, as the text in front of them is longer, or shorter.
 pub fn names_change_alone()
-    ensures tokens { (kind : Kind) (text new : List ℕ) (tokens : List Lexeme) (spans : List Span) → IsUtf8 text → IsUtf8 new → IsNameKind kind → IsOne kind new → AreTokensOf text tokens → AreSpansOf kind tokens 0 spans → AreTokensOf (edited text spans new) (map (retold spans new) tokens) }
-    ensures text { (kind : Kind) (text new : List ℕ) (tokens : List Lexeme) (spans : List Span) → IsUtf8 text → IsUtf8 new → IsNameKind kind → IsOne kind new → AreTokensOf text tokens → AreSpansOf kind tokens 0 spans → IsUtf8 (edited text spans new) }
+    ensures tokens { (kind : Kind) (text new : List ℕ) (tokens : List Lexeme) (spans : List Span) → IsNewName kind text new tokens spans → AreTokensOf (edited text spans new) (map (retold spans new) tokens) }
+    ensures text { (kind : Kind) (text new : List ℕ) (tokens : List Lexeme) (spans : List Span) → IsNewName kind text new tokens spans → IsUtf8 (edited text spans new) }
 {}

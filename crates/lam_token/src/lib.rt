@@ -22,6 +22,6 @@ mod words;
 pub use kind::Kind;
 pub use laws::{comments_nest, names_change_alone, some_cut};
 pub use lexer::{first_token, lex};
-pub use names::{is_name, is_type_name};
+pub use names::{is_name, is_type_name, placeholder};
 pub use span::Span;
 pub use token::Token;

@@ -1,12 +1,14 @@
-//! Whether a text is one name by itself.
-ghost use Rattle.std.specs.Prelude.{◌≡◌, ◌↔◌, Some, IsTrue};
+//! Whether a text is one name by itself; and a name where none is.
+ghost use Rattle.std.specs.Prelude.{◌≡◌, ◌↔◌, ◌+◌, ◌<◌, ◌^◌, codes, Some, IsTrue};
 ghost use Rattle.std.specs.Str.{chars};
 ghost use Rattle.lam_token.specs.Shape.{shape_of};
 ghost use Rattle.lam_token.specs.Cut.{IsWholeKind};
+ghost use Rattle.lam_token.specs.Lexeme.{lexeme_at};
 
 use crate::kind::Kind;
 use crate::scan::next_segment;
 use crate::segment::Segment;
+use crate::token::{Token, token_at};
 
 /// Whether a whole text is one name: neither a word of the language, nor anything more or less.
 pub fn is_name(text: &str) -> bool
@@ -26,6 +28,14 @@ pub fn is_type_name(text: &str) -> bool
         Some(kind) => matches!(kind, Kind::TypeName),
         None => false,
     }
+}
+
+/// The name `a` as a token that begins at this byte: it stands for a name that is still to be written.
+pub fn placeholder(start: usize) -> Token<'static>
+    requires { start + 1 < 2 ^ 64 }
+    ensures { result ≡ lexeme_at Kind.Name (codes "a") start }
+{
+    token_at(Kind::Name, "a", start)
 }
 
 /// The kind of a text that is one segment, where that is a token.
