@@ -18,6 +18,7 @@ use Rattle.lam_scope.specs.declared.scopes.Scopes.{Scopes}
 use Rattle.lam_scope.proofs.SpelledMentions.{spelled_ascend}
 use Rattle.lam_scope.proofs.TokenLists.{tokens_by-at}
 use Rattle.lam_scope.proofs.BoundMentions.{bound_told, uses_told, own_answer}
+use Rattle.lam_scope.proofs.EveryElement.{every_append}
 use Rattle.lam_query.specs.declared.reading.Parsed.{Parsed}
 use Rattle.lam_query.specs.Commands.{AreCommandsOf}
 use Rattle.lam_query.specs.Touched.{touched}
@@ -164,10 +165,6 @@ front_stands : (text : List ℕ) (declared : Bool) (b : Span) → StandsIn text 
 front_stands text true b h = (h, tt)
 front_stands text false b h = tt
 
-both_stand : (Q : Span → Type 0) (xs ys : List Span) → AllByRecursion Q xs → AllByRecursion Q ys → AllByRecursion Q (xs ++ ys)
-both_stand Q [] ys h k = k
-both_stand Q (x ∷ xs) ys h k = (h.0, both_stand Q xs ys h.1 k)
-
 pub rows_stand : (text : List ℕ) (start n : ℕ) (declared : Bool) (front uses spans : List Span) (parsed : Parsed) (scopes : Scopes) → IsRead text parsed
     → AreScopesOf scopes (commands_read parsed) → Some n ≡ binder_at (table_of scopes) start
     → uses ≡ slice_index_or (uses_in scopes) (binder_numbered (table_of scopes) n).answer [] → front ≡ behind_token declared (token_in scopes n) → spans ≡ front ++ uses → All (StandsIn text) spans
@@ -177,4 +174,4 @@ rows_stand text start n declared front uses spans parsed scopes read of at are f
     let of_binder = front_stands text declared (token_in scopes n) (row_stands text start n (token_in scopes n) parsed scopes read of at refl) in
     let of_uses = uses_places (StandsIn text) cs stand (token_in scopes n) in
     let all : spans ≡ behind_token declared (token_in scopes n) ++ uses_of (token_in scopes n) (mentions cs) = joined ∙ (λ i. first i ++ (are ∙ row_used text start n parsed scopes read of at) i) in
-    All-from_recursion (StandsIn text) spans (subst (AllByRecursion (StandsIn text)) (sym all) (both_stand (StandsIn text) _ _ of_binder of_uses))
+    All-from_recursion (StandsIn text) spans (subst (AllByRecursion (StandsIn text)) (sym all) (every_append (StandsIn text) _ _ of_binder of_uses))

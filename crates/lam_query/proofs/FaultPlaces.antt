@@ -18,6 +18,7 @@ use Rattle.lam_scope.specs.declared.type_fault.TypeFault.TheVariants.{UnboundTyp
 use Rattle.lam_scope.specs.Nameless.{faults}
 use Rattle.lam_scope.specs.Tables.{no_span}
 use Rattle.lam_typing.specs.Blaming.{Blamed}
+use Rattle.lam_scope.proofs.EveryElement.{every_append}
 use Rattle.lam_query.specs.declared.answers.Fault.{Fault as RustFault}
 use Rattle.lam_query.specs.Faults.{Fault, AreInOrder}
 use Rattle.lam_query.specs.Sizes.{IsSizeFault, of_written_type, of_term}
@@ -32,12 +33,11 @@ use Rattle.lam_query.proofs.Pieces.{InPieces, pieces_in}
 use Rattle.lam_query.proofs.TextPlaces.{tokens_stand, stands_spread}
 use Rattle.lam_query.proofs.Within.{InFaults, in_faults, in_place, in_too_large}
 
-abbrev pub InFaultList : (Span → Type 0) → List Fault → Type 0
-InFaultList Q = AllByRecursion (λ f. Q f.span)
+abbrev InFault : (Span → Type 0) → Fault → Type 0
+InFault Q f = Q f.span
 
-in_both : (Q : Span → Type 0) (fs gs : List Fault) → InFaultList Q fs → InFaultList Q gs → InFaultList Q (fs ++ gs)
-in_both Q [] gs h k = k
-in_both Q (f ∷ fs) gs h k = (h.0, in_both Q fs gs h.1 k)
+abbrev pub InFaultList : (Span → Type 0) → List Fault → Type 0
+InFaultList Q = AllByRecursion (InFault Q)
 
 token_in : (Q : Span → Type 0) (ts : List Lexeme) (k : ℕ) (t : Lexeme) → InTokens Q ts → slice_get ts k ≡ Some t → Q (span_of t)
 token_in Q [] k t h is = absurd cc
@@ -55,7 +55,7 @@ in_piece Q w ts _ h (ends_early taken early at) = (token_in Q ts _ _ h at, tt)
 in_all_pieces : (Q : Span → Type 0) → Spreads Q → (ps : List (List Lexeme)) (fs : List Fault) → InPieces (AtPlace Q) ps → PieceFaults ps fs → InFaultList Q fs
 in_all_pieces Q w [] fs h are = subst (InFaultList Q) (sym are) tt
 in_all_pieces Q w (p ∷ ps) fs h are =
-    subst (InFaultList Q) (sym are.4) (in_both Q (option_to_list are.0) are.1 (in_piece Q w p are.0 h.0 are.2) (in_all_pieces Q w ps are.1 h.1 are.3))
+    subst (InFaultList Q) (sym are.4) (every_append (InFault Q) (option_to_list are.0) are.1 (in_piece Q w p are.0 h.0 are.2) (in_all_pieces Q w ps are.1 h.1 are.3))
 
 of_token : (Q : Span → Type 0) (t : Lexeme) (fs : List Fault) → Q (span_of t) → InFaultList Q fs → InFaultList Q (cons_option (fault_of_token t) fs)
 of_token Q (lexeme kind.BadCharacter x s) fs q h = (q, h)
@@ -69,7 +69,7 @@ of_tokens Q (t ∷ ts) h = of_token Q t (filter_map fault_of_token ts) h.0 (of_t
 in_syntax : (Q : Span → Type 0) → Spreads Q → (ts : List Lexeme) (fs : List Fault) → InTokens Q ts → AreSyntaxFaults ts fs → InFaultList Q fs
 in_syntax Q w ts fs h are =
     subst (InFaultList Q) (sym are.all)
-    (in_both Q (filter_map fault_of_token ts) are.of_pieces (of_tokens Q ts h) (in_all_pieces Q w (pieces_of ts) are.of_pieces (pieces_in (AtPlace Q) ts h) are.pieces))
+    (every_append (InFault Q) (filter_map fault_of_token ts) are.of_pieces (of_tokens Q ts h) (in_all_pieces Q w (pieces_of ts) are.of_pieces (pieces_in (AtPlace Q) ts h) are.pieces))
 
 size_in : (Q : Span → Type 0) (cs : List CommandTree) (s : Span) (d : Dialect) → Q no_span → InCommands Q cs → IsSizeFault cs s d → Q s
 size_in Q cs s d past h (of_written_type is) = in_too_large Q cs s is h
@@ -87,7 +87,7 @@ of_blames Q cs (b ∷ bs) past h = (subst Q (span_told cs b.number) (in_place Q 
 in_types : (Q : Span → Type 0) (cs : List CommandTree) (fs : List Fault) (d : Dialect) → Q no_span → InCommands Q cs → AreTypeFaults cs fs d → InFaultList Q fs
 in_types Q cs _ d past h (too_large {s = s} size) = (size_in Q cs s d past h size, tt)
 in_types Q cs _ d past h (small blames none are) =
-    in_both Q (map written_fault (faults [] cs)) (map (blame_fault cs) blames) (of_written Q (faults [] cs) (in_faults Q [] cs h)) (of_blames Q cs blames past h)
+    every_append (InFault Q) (map written_fault (faults [] cs)) (map (blame_fault cs) blames) (of_written Q (faults [] cs) (in_faults Q [] cs h)) (of_blames Q cs blames past h)
 
 unviewed : (Q : Span → Type 0) (fs : List RustFault) → All (λ f. Q f.span) (map fault_of fs) → All (λ f. Q f.span) fs
 unviewed Q fs h = λ k default lt.
@@ -102,7 +102,7 @@ pub faults_stand : (text : List ℕ) (cs : List CommandTree) (d : Dialect) (toke
 faults_stand text cs d tokens of_syntax types all ordered past h within syntax of_types joined order =
     let first = in_syntax (StandsIn text) (stands_spread text) tokens (map fault_of of_syntax) (tokens_stand text tokens h) syntax in
     let second = in_types (StandsIn text) cs (map fault_of types) d past within of_types in
-    let every = in_both (StandsIn text) (map fault_of of_syntax) (map fault_of types) first second in
+    let every = every_append (InFault (StandsIn text)) (map fault_of of_syntax) (map fault_of types) first second in
     let whole : map fault_of all ≡ map fault_of of_syntax ++ map fault_of types = rw joined (map-append fault_of of_syntax types) in
     let same = rw whole at order.same in
     unviewed (StandsIn text) ordered

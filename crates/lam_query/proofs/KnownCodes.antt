@@ -18,6 +18,7 @@ use Rattle.lam_scope.specs.Places.{Scope, Place}
 use Rattle.lam_scope.specs.declared.type_fault.TypeFault.{TypeFault}
 use Rattle.lam_scope.specs.declared.type_fault.TypeFault.TheVariants.{UnboundTypeName, RepeatedLabel}
 use Rattle.lam_typing.specs.Blaming.{Blamed, IsBlamedFor, application_code, AreBlamed}
+use Rattle.lam_scope.proofs.EveryElement.{every_append}
 use Rattle.lam_query.specs.Faults.{Fault, fault_codes, is_among, HasKnownCode}
 use Rattle.lam_query.specs.Sizes.{places_in}
 use Rattle.lam_query.specs.SyntaxFaults.{fault_of_token, PieceFault, too_long, spoiled, a_command, goes_wrong, ends_early, PieceFaults}
@@ -25,10 +26,6 @@ use Rattle.lam_query.specs.TextFaults.{written_fault, blame_fault, AreTypeFaults
 
 abbrev Have : List Fault → Type 0
 Have = AllByRecursion HasKnownCode
-
-joined : (fs gs : List Fault) → Have fs → Have gs → Have (fs ++ gs)
-joined [] gs h k = k
-joined (f ∷ fs) gs h k = (h.0, joined fs gs h.1 k)
 
 -- ---- tokens and pieces
 
@@ -54,7 +51,7 @@ piece_has ts _ (ends_early taken early at) = (refl, tt)
 
 pieces_have : (ps : List (List Lexeme)) (fs : List Fault) → PieceFaults ps fs → Have fs
 pieces_have [] fs are = subst Have (sym are) tt
-pieces_have (p ∷ ps) fs are = subst Have (sym are.4) (joined (option_to_list are.0) are.1 (piece_has p are.0 are.2) (pieces_have ps are.1 are.3))
+pieces_have (p ∷ ps) fs are = subst Have (sym are.4) (every_append HasKnownCode (option_to_list are.0) are.1 (piece_has p are.0 are.2) (pieces_have ps are.1 are.3))
 
 -- ---- types
 
@@ -102,7 +99,7 @@ blames_have d commands n (p ∷ ps) blames (inr are) =
 types_have : (commands : List CommandTree) (fs : List Fault) (d : Dialect) → AreTypeFaults commands fs d → Have fs
 types_have commands _ d (too_large fault) = (refl, tt)
 types_have commands _ d (small blames is are) =
-    joined (map written_fault (faults [] commands)) (map (blame_fault commands) blames) (written_have (faults [] commands)) (blames_have d commands 0 (places_in commands) blames are)
+    every_append HasKnownCode (map written_fault (faults [] commands)) (map (blame_fault commands) blames) (written_have (faults [] commands)) (blames_have d commands 0 (places_in commands) blames are)
 
 -- ---- all
 
@@ -110,6 +107,6 @@ pub known_codes : (text : List ℕ) (fs : List Fault) (d : Dialect) → AreFault
 known_codes text fs d are =
     let of_syntax =
     subst Have (sym are.are_of_syntax.all)
-    (joined (filter_map fault_of_token are.tokens) are.are_of_syntax.of_pieces (tokens_have are.tokens) (pieces_have (pieces_of are.tokens) are.are_of_syntax.of_pieces are.are_of_syntax.pieces)) in
-    let all = joined are.of_syntax are.of_types of_syntax (types_have are.commands are.of_types d are.are_of_types) in
+    (every_append HasKnownCode (filter_map fault_of_token are.tokens) are.are_of_syntax.of_pieces (tokens_have are.tokens) (pieces_have (pieces_of are.tokens) are.are_of_syntax.of_pieces are.are_of_syntax.pieces)) in
+    let all = every_append HasKnownCode are.of_syntax are.of_types of_syntax (types_have are.commands are.of_types d are.are_of_types) in
     All-permutation HasKnownCode (are.of_syntax ++ are.of_types) fs are.in_order.same (All-from_recursion HasKnownCode (are.of_syntax ++ are.of_types) all)

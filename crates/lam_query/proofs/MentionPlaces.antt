@@ -7,6 +7,7 @@ use Rattle.lam_token.specs.Edits.{is_span}
 use Rattle.lam_syntax.specs.Trees.{word, Bound, bound, TypeTree, type_tree, TypeNode, bool, nat, unit, top, named, arrow, record_type, TypeFields, no_type_fields, type_field, TermTree, term_tree, TermNode, true_term, false_term, unit_term, variable, numeral, lambda, if_term, let_term, letrec_term, prefixed, apply, project, ascribe, record_term, TermFields, no_fields, field, CommandTree, definition, declaration, abbreviation, evaluation}
 use Rattle.lam_scope.specs.Names.{Name, binds}
 use Rattle.lam_scope.specs.Mentions.{Binder, seen_of, bound_to, Mention, uses_at, labels_at, token_of, binder_of, mention_of, mentions_of_type, mentions_of_type_node, mentions_of_type_fields, mentions_of, mentions_of_node, mentions_of_fields, mentions_of_command, types_behind, names_behind, mentions_from, mentions, bound_at, use_of, uses_of}
+use Rattle.lam_scope.proofs.EveryElement.{every_append}
 use Rattle.lam_query.proofs.TreePlaces.{InBound, InType, InTypeNode, InTypeFields, InTerm, InNode, InFields, InCommand, InCommands}
 
 -- Mentions whose tokens Q holds of, and whose binders' tokens too; and binders that are seen.
@@ -15,17 +16,15 @@ abbrev InToken : (Span → Type 0) → Option Span → Type 0
 InToken Q None = Unit {0}
 InToken Q (Some s) = Q s
 
+abbrev InMention : (Span → Type 0) → Mention → Type 0
+InMention Q m = Q (token_of m) × InToken Q (binder_of m)
+
 abbrev InMentions : (Span → Type 0) → List Mention → Type 0
-InMentions Q [] = Unit {0}
-InMentions Q (m ∷ ms) = Q (token_of m) × InToken Q (binder_of m) × InMentions Q ms
+InMentions Q = AllByRecursion (InMention Q)
 
 abbrev InBinders : (Span → Type 0) → List Binder → Type 0
 InBinders Q [] = Unit {0}
 InBinders Q (b ∷ bs) = Q b.token × InBinders Q bs
-
-in_both : (Q : Span → Type 0) (ms ns : List Mention) → InMentions Q ms → InMentions Q ns → InMentions Q (ms ++ ns)
-in_both Q [] ns h k = k
-in_both Q (m ∷ ms) ns h k = (h.0, h.1, in_both Q ms ns h.2 k)
 
 in_one_of : (Q : Span → Type 0) (b : Bool) (s t : Option Span) → InToken Q s → InToken Q t → InToken Q (cond b s t)
 in_one_of Q true s t h k = h
@@ -37,7 +36,7 @@ in_bound_to Q x (b ∷ bs) h = in_one_of Q (binds b.name x) (Some b.token) (boun
 
 in_mention : (Q : Span → Type 0) (b : Bound) → InBound Q b → InMentions Q (mention_of b)
 in_mention Q (bound None s) h = tt
-in_mention Q (bound (Some x) s) h = (h, h, tt)
+in_mention Q (bound (Some x) s) h = ((h, h), tt)
 
 in_seen : (Q : Span → Type 0) (b : Bound) (bs : List Binder) → InBound Q b → InBinders Q bs → InBinders Q (seen_of b ∷ bs)
 in_seen Q (bound x s) bs h k = (h, k)
@@ -53,14 +52,14 @@ mutual
   in_type_node Q types nat seen h = tt
   in_type_node Q types unit seen h = tt
   in_type_node Q types top seen h = tt
-  in_type_node Q types (named (word x s)) seen h = (h, in_bound_to Q x types seen, tt)
-  in_type_node Q types (arrow a b) seen h = in_both Q (mentions_of_type types a) (mentions_of_type types b) (in_type Q types a seen h.0) (in_type Q types b seen h.1)
+  in_type_node Q types (named (word x s)) seen h = ((h, in_bound_to Q x types seen), tt)
+  in_type_node Q types (arrow a b) seen h = every_append (InMention Q) (mentions_of_type types a) (mentions_of_type types b) (in_type Q types a seen h.0) (in_type Q types b seen h.1)
   in_type_node Q types (record_type fs) seen h = in_type_fields Q types fs seen h
 
   in_type_fields : (Q : Span → Type 0) (types : List Binder) (fs : TypeFields) → InBinders Q types → InTypeFields Q fs → InMentions Q (mentions_of_type_fields types fs)
   in_type_fields Q types no_type_fields seen h = tt
   in_type_fields Q types (type_field (word l s) t fs) seen h =
-      (h.0, tt, in_both Q (mentions_of_type types t) (mentions_of_type_fields types fs) (in_type Q types t seen h.1) (in_type_fields Q types fs seen h.2))
+      ((h.0, tt), every_append (InMention Q) (mentions_of_type types t) (mentions_of_type_fields types fs) (in_type Q types t seen h.1) (in_type_fields Q types fs seen h.2))
 
 mutual
   in_term : (Q : Span → Type 0) (types names : List Binder) (t : TermTree) → InBinders Q types → InBinders Q names → InTerm Q t → InMentions Q (mentions_of types names t)
@@ -71,43 +70,43 @@ mutual
   in_node Q types names false_term seen seen_names h = tt
   in_node Q types names unit_term seen seen_names h = tt
   in_node Q types names (numeral w) seen seen_names h = tt
-  in_node Q types names (variable (word x s)) seen seen_names h = (h, in_bound_to Q x names seen_names, tt)
+  in_node Q types names (variable (word x s)) seen seen_names h = ((h, in_bound_to Q x names seen_names), tt)
   in_node Q types names (lambda b u t) seen seen_names h =
-      in_both Q (mention_of b ++ mentions_of_type types u) (mentions_of types (seen_of b ∷ names) t)
-      (in_both Q (mention_of b) (mentions_of_type types u) (in_mention Q b h.0) (in_type Q types u seen h.1))
+      every_append (InMention Q) (mention_of b ++ mentions_of_type types u) (mentions_of types (seen_of b ∷ names) t)
+      (every_append (InMention Q) (mention_of b) (mentions_of_type types u) (in_mention Q b h.0) (in_type Q types u seen h.1))
       (in_term Q types (seen_of b ∷ names) t seen (in_seen Q b names h.0 seen_names) h.2)
   in_node Q types names (if_term c t u) seen seen_names h =
-      in_both Q (mentions_of types names c ++ mentions_of types names t) (mentions_of types names u)
-      (in_both Q (mentions_of types names c) (mentions_of types names t) (in_term Q types names c seen seen_names h.0) (in_term Q types names t seen seen_names h.1))
+      every_append (InMention Q) (mentions_of types names c ++ mentions_of types names t) (mentions_of types names u)
+      (every_append (InMention Q) (mentions_of types names c) (mentions_of types names t) (in_term Q types names c seen seen_names h.0) (in_term Q types names t seen seen_names h.1))
       (in_term Q types names u seen seen_names h.2)
   in_node Q types names (let_term b t u) seen seen_names h =
-      in_both Q (mention_of b ++ mentions_of types names t) (mentions_of types (seen_of b ∷ names) u)
-      (in_both Q (mention_of b) (mentions_of types names t) (in_mention Q b h.0) (in_term Q types names t seen seen_names h.1))
+      every_append (InMention Q) (mention_of b ++ mentions_of types names t) (mentions_of types (seen_of b ∷ names) u)
+      (every_append (InMention Q) (mention_of b) (mentions_of types names t) (in_mention Q b h.0) (in_term Q types names t seen seen_names h.1))
       (in_term Q types (seen_of b ∷ names) u seen (in_seen Q b names h.0 seen_names) h.2)
   in_node Q types names (letrec_term b w t u) seen seen_names h =
       let names_inside = seen_of b ∷ names in
       let seen_inside : InBinders Q (seen_of b ∷ names) = in_seen Q b names h.0 seen_names in
-      in_both Q (mention_of b ++ mentions_of_type types w ++ mentions_of types names_inside t) (mentions_of types names_inside u)
-      (in_both Q (mention_of b ++ mentions_of_type types w) (mentions_of types names_inside t)
-      (in_both Q (mention_of b) (mentions_of_type types w) (in_mention Q b h.0) (in_type Q types w seen h.1)) (in_term Q types names_inside t seen seen_inside h.2))
+      every_append (InMention Q) (mention_of b ++ mentions_of_type types w ++ mentions_of types names_inside t) (mentions_of types names_inside u)
+      (every_append (InMention Q) (mention_of b ++ mentions_of_type types w) (mentions_of types names_inside t)
+      (every_append (InMention Q) (mention_of b) (mentions_of_type types w) (in_mention Q b h.0) (in_type Q types w seen h.1)) (in_term Q types names_inside t seen seen_inside h.2))
       (in_term Q types names_inside u seen seen_inside h.3)
   in_node Q types names (prefixed p t) seen seen_names h = in_term Q types names t seen seen_names h
-  in_node Q types names (apply t u) seen seen_names h = in_both Q (mentions_of types names t) (mentions_of types names u) (in_term Q types names t seen seen_names h.0) (in_term Q types names u seen seen_names h.1)
-  in_node Q types names (project t (word l s)) seen seen_names h = in_both Q (mentions_of types names t) (labels_at s ∷ []) (in_term Q types names t seen seen_names h.0) (h.1, tt, tt)
-  in_node Q types names (ascribe t u) seen seen_names h = in_both Q (mentions_of types names t) (mentions_of_type types u) (in_term Q types names t seen seen_names h.0) (in_type Q types u seen h.1)
+  in_node Q types names (apply t u) seen seen_names h = every_append (InMention Q) (mentions_of types names t) (mentions_of types names u) (in_term Q types names t seen seen_names h.0) (in_term Q types names u seen seen_names h.1)
+  in_node Q types names (project t (word l s)) seen seen_names h = every_append (InMention Q) (mentions_of types names t) (labels_at s ∷ []) (in_term Q types names t seen seen_names h.0) ((h.1, tt), tt)
+  in_node Q types names (ascribe t u) seen seen_names h = every_append (InMention Q) (mentions_of types names t) (mentions_of_type types u) (in_term Q types names t seen seen_names h.0) (in_type Q types u seen h.1)
   in_node Q types names (record_term fs) seen seen_names h = in_fields Q types names fs seen seen_names h
 
   in_fields : (Q : Span → Type 0) (types names : List Binder) (fs : TermFields) → InBinders Q types → InBinders Q names → InFields Q fs → InMentions Q (mentions_of_fields types names fs)
   in_fields Q types names no_fields seen seen_names h = tt
   in_fields Q types names (field (word l s) t fs) seen seen_names h =
-      (h.0, tt, in_both Q (mentions_of types names t) (mentions_of_fields types names fs) (in_term Q types names t seen seen_names h.1) (in_fields Q types names fs seen seen_names h.2))
+      ((h.0, tt), every_append (InMention Q) (mentions_of types names t) (mentions_of_fields types names fs) (in_term Q types names t seen seen_names h.1) (in_fields Q types names fs seen seen_names h.2))
 
 -- the mentions of commands
 
 in_command : (Q : Span → Type 0) (types names : List Binder) (c : CommandTree) → InBinders Q types → InBinders Q names → InCommand Q c → InMentions Q (mentions_of_command types names c)
-in_command Q types names (definition (word x s) t) seen seen_names h = (h.0, h.0, in_term Q types names t seen seen_names h.1)
-in_command Q types names (declaration (word x s) u) seen seen_names h = (h.0, h.0, in_type Q types u seen h.1)
-in_command Q types names (abbreviation (word x s) u) seen seen_names h = (h.0, h.0, in_type Q types u seen h.1)
+in_command Q types names (definition (word x s) t) seen seen_names h = ((h.0, h.0), in_term Q types names t seen seen_names h.1)
+in_command Q types names (declaration (word x s) u) seen seen_names h = ((h.0, h.0), in_type Q types u seen h.1)
+in_command Q types names (abbreviation (word x s) u) seen seen_names h = ((h.0, h.0), in_type Q types u seen h.1)
 in_command Q types names (evaluation t) seen seen_names h = in_term Q types names t seen seen_names h
 
 types_in : (Q : Span → Type 0) (types : List Binder) (c : CommandTree) → InBinders Q types → InCommand Q c → InBinders Q (types_behind types c)
@@ -127,7 +126,7 @@ in_mentions Q types names [] seen seen_names h = tt
 in_mentions Q types names (c ∷ cs) seen seen_names h =
     let types_then = types_behind types c in
     let names_then = names_behind names c in
-    in_both Q (mentions_of_command types names c) (mentions_from types_then names_then cs) (in_command Q types names c seen seen_names h.0)
+    every_append (InMention Q) (mentions_of_command types names c) (mentions_from types_then names_then cs) (in_command Q types names c seen seen_names h.0)
     (in_mentions Q types_then names_then cs (types_in Q types c seen h.0) (names_in Q names c seen_names h.0) h.1)
 
 -- what is bound to what
@@ -137,7 +136,7 @@ in_told Q told s h e = let claim : Option Span → Type 0 = InToken Q in subst c
 
 in_bound_at : (Q : Span → Type 0) (o : ℕ) (ms : List Mention) → InMentions Q ms → InToken Q (bound_at o ms)
 in_bound_at Q o [] h = tt
-in_bound_at Q o (m ∷ ms) h = in_one_of Q ((token_of m).start == o) (binder_of m) (bound_at o ms) h.1 (in_bound_at Q o ms h.2)
+in_bound_at Q o (m ∷ ms) h = in_one_of Q ((token_of m).start == o) (binder_of m) (bound_at o ms) h.0.1 (in_bound_at Q o ms h.1)
 
 in_use : (Q : Span → Type 0) (b : Span) (m : Mention) → Q (token_of m) → InToken Q (use_of b m)
 in_use Q b (uses_at k s (Some c)) h = in_one_of Q (is_span b c) (Some s) None h tt
@@ -149,7 +148,7 @@ in_kept Q (Some s) ss h k = (h, k)
 
 in_uses : (Q : Span → Type 0) (b : Span) (ms : List Mention) → InMentions Q ms → AllByRecursion Q (uses_of b ms)
 in_uses Q b [] h = tt
-in_uses Q b (m ∷ ms) h = in_kept Q (use_of b m) (uses_of b ms) (in_use Q b m h.0) (in_uses Q b ms h.2)
+in_uses Q b (m ∷ ms) h = in_kept Q (use_of b m) (uses_of b ms) (in_use Q b m h.0.0) (in_uses Q b ms h.1)
 
 pub binder_in : (Q : Span → Type 0) (cs : List CommandTree) → InCommands Q cs → (o : ℕ) (s : Span) → bound_at o (mentions cs) ≡ Some s → Q s
 binder_in Q cs h o s e = in_told Q (bound_at o (mentions cs)) s (in_bound_at Q o (mentions cs) (in_mentions Q [] [] cs tt tt h)) e

@@ -11,6 +11,7 @@ use Rattle.lam_syntax.specs.Grammar.{BinderIs, name_binder, blank_binder, TypeIs
 use Rattle.lam_syntax.specs.Answers.{pieces_of}
 use Rattle.lam_scope.specs.Mentions.{Binder, seen_of, Mention, labels_at, token_of, kind_of as kind_of_mention, mention_of, mentions_of_type, mentions_of_type_fields, mentions_of, mentions_of_fields, mentions_of_command, types_behind, names_behind, mentions_from, mentions}
 use Rattle.lam_scope.proofs.SpelledMentions.{in_parentheses, term_in_parentheses}
+use Rattle.lam_scope.proofs.EveryElement.{every_append}
 use Rattle.lam_query.specs.Commands.{AreCommandsOf}
 use Rattle.lam_query.proofs.Pieces.{InPieces, pieces_in}
 
@@ -22,19 +23,18 @@ abbrev pub InNames : (Kind → Span → Type 0) → List Lexeme → Type 0
 InNames Q ts = AllByRecursion (IfName Q) ts
 
 -- Q holds of the kind and the token of each mention
-abbrev pub AreIn : (Kind → Span → Type 0) → List Mention → Type 0
-AreIn Q ms = AllByRecursion (λ m. Q (kind_of_mention m) (token_of m)) ms
+abbrev pub IsIn : (Kind → Span → Type 0) → Mention → Type 0
+IsIn Q m = Q (kind_of_mention m) (token_of m)
 
-both_in : (Q : Kind → Span → Type 0) (ms ns : List Mention) → AreIn Q ms → AreIn Q ns → AreIn Q (ms ++ ns)
-both_in Q [] ns h k = k
-both_in Q (m ∷ ms) ns h k = (h.0, both_in Q ms ns h.1 k)
+abbrev pub AreIn : (Kind → Span → Type 0) → List Mention → Type 0
+AreIn Q ms = AllByRecursion (IsIn Q) ms
 
 -- those of a front, and the tokens behind it
 abbrev Passes : (Kind → Span → Type 0) → List Mention → List Lexeme → Type 0
 Passes Q ms rest = AreIn Q ms × InNames Q rest
 
 join : (Q : Kind → Span → Type 0) (ms ns : List Mention) (rest : List Lexeme) → AreIn Q ms → Passes Q ns rest → Passes Q (ms ++ ns) rest
-join Q ms ns rest h k = (both_in Q ms ns h k.0, k.1)
+join Q ms ns rest h k = (every_append (IsIn Q) ms ns h k.0, k.1)
 
 -- a label before them
 labelled : (Q : Kind → Span → Type 0) (s : Span) (ms : List Mention) (rest : List Lexeme) → Q kind.Name s → Passes Q ms rest → Passes Q (labels_at s ∷ ms) rest
@@ -79,17 +79,17 @@ mutual
   term_passes Q types names (lambda_is {rest = rest} {b = b} {u = u} {t = t} n d e) h =
       let binder = binder_passes Q n h.1 in
       let type = type_passes Q types d binder.1.1 in
-      join Q (mention_of b ++ mentions_of_type types u) (mentions_of types (seen_of b ∷ names) t) rest (both_in Q (mention_of b) (mentions_of_type types u) binder.0 type.0)
+      join Q (mention_of b ++ mentions_of_type types u) (mentions_of types (seen_of b ∷ names) t) rest (every_append (IsIn Q) (mention_of b) (mentions_of_type types u) binder.0 type.0)
       (term_passes Q types (seen_of b ∷ names) e type.1.1)
   term_passes Q types names (if_is {rest = rest} {c = c} {t = t} {e = u} d e f) h =
       let one = term_passes Q types names d h.1 in
       let two = term_passes Q types names e one.1.1 in
-      join Q (mentions_of types names c ++ mentions_of types names t) (mentions_of types names u) rest (both_in Q (mentions_of types names c) (mentions_of types names t) one.0 two.0)
+      join Q (mentions_of types names c ++ mentions_of types names t) (mentions_of types names u) rest (every_append (IsIn Q) (mentions_of types names c) (mentions_of types names t) one.0 two.0)
       (term_passes Q types names f two.1.1)
   term_passes Q types names (let_is {rest = rest} {b = b} {t = t} {u = u} n d e) h =
       let binder = binder_passes Q n h.1 in
       let one = term_passes Q types names d binder.1.1 in
-      join Q (mention_of b ++ mentions_of types names t) (mentions_of types (seen_of b ∷ names) u) rest (both_in Q (mention_of b) (mentions_of types names t) binder.0 one.0)
+      join Q (mention_of b ++ mentions_of types names t) (mentions_of types (seen_of b ∷ names) u) rest (every_append (IsIn Q) (mention_of b) (mentions_of types names t) binder.0 one.0)
       (term_passes Q types (seen_of b ∷ names) e one.1.1)
   term_passes Q types names (letrec_is {rest = rest} {b = b} {y = y} {t = t} {u = u} n d e f) h =
       let inside = seen_of b ∷ names in
@@ -97,7 +97,7 @@ mutual
       let type = type_passes Q types d binder.1.1 in
       let one = term_passes Q types (seen_of b ∷ names) e type.1.1 in
       join Q (mention_of b ++ mentions_of_type types y ++ mentions_of types inside t) (mentions_of types inside u) rest
-      (both_in Q (mention_of b ++ mentions_of_type types y) (mentions_of types inside t) (both_in Q (mention_of b) (mentions_of_type types y) binder.0 type.0) one.0)
+      (every_append (IsIn Q) (mention_of b ++ mentions_of_type types y) (mentions_of types inside t) (every_append (IsIn Q) (mention_of b) (mentions_of_type types y) binder.0 type.0) one.0)
       (term_passes Q types (seen_of b ∷ names) f one.1.1)
   term_passes Q types names (app_is d) h = app_passes Q types names d h
 
@@ -161,7 +161,7 @@ commands_in Q types names (p ∷ ps) cs h (inl are) =
     let types_then = types_behind types are.0 in
     let names_then = names_behind names are.0 in
     rw are.2
-    (both_in Q (mentions_of_command types names are.0) (mentions_from types_then names_then are.1) (command_in Q types names are.3.spelled h.0) (commands_in Q types_then names_then ps are.1 h.1 are.4))
+    (every_append (IsIn Q) (mentions_of_command types names are.0) (mentions_from types_then names_then are.1) (command_in Q types names are.3.spelled h.0) (commands_in Q types_then names_then ps are.1 h.1 are.4))
 commands_in Q types names (p ∷ ps) cs h (inr are) = commands_in Q types names ps cs h.1 are.1
 
 pub names_in : (Q : Kind → Span → Type 0) (ts : List Lexeme) (cs : List CommandTree) → AreCommandsOf (pieces_of ts) cs → InNames Q ts → AreIn Q (mentions cs)

@@ -1,11 +1,12 @@
 -- The steps of a proof stand in the text.
-use Rattle.std.proofs.Common.{◌≡◌, ℕ, ◌+◌, List, [], ◌∷◌, ◌++◌, map, Option, Some, None, sym, subst}
+use Rattle.std.proofs.Common.{◌≡◌, ℕ, ◌+◌, List, [], ◌∷◌, map, Option, Some, None, sym, subst}
 use Rattle.std.specs.List.{All, AllByRecursion}
 use Rattle.std.proofs.lemmas.List.Elements.{All-from_recursion}
 use Rattle.lam_rules.specs.Subtyping.{SubTree, sub_step, SubTrees, no_subs, sub_first}
 use Rattle.lam_rules.specs.Typing.{TypingTree, typing_step, TypingTrees, no_typings, typing_first}
 use Rattle.lam_token.specs.declared.span.Span.{Span}
 use Rattle.lam_scope.specs.Tables.{Table, place_row_numbered}
+use Rattle.lam_scope.proofs.EveryElement.{every_append}
 use Rattle.lam_query.specs.declared.answers.Step.{Step as RustStep}
 use Rattle.lam_query.specs.declared.answers.Step.TheVariants as rust
 use Rattle.lam_query.specs.Steps.{Conclusion, typing, subtyping, Step, Proof, concludes, Proofs, no_proofs, proof_first, steps_before, last_steps, steps_of, steps_of_each, sub_proof, sub_proofs, with_side}
@@ -48,22 +49,21 @@ mutual
   in_typings Q t h place [] (typing_first p ps) = (in_typing Q t h place p, in_typings Q t h place [] ps)
   in_typings Q t h place (term ∷ terms) (typing_first p ps) = (in_typing Q t h term p, in_typings Q t h place terms ps)
 
-abbrev pub InSteps : (Span → Type 0) → List Step → Type 0
-InSteps Q = AllByRecursion (λ s. InConclusion Q s.conclusion)
+abbrev InStep : (Span → Type 0) → Step → Type 0
+InStep Q s = InConclusion Q s.conclusion
 
-in_both_steps : (Q : Span → Type 0) (xs ys : List Step) → InSteps Q xs → InSteps Q ys → InSteps Q (xs ++ ys)
-in_both_steps Q [] ys h k = k
-in_both_steps Q (x ∷ xs) ys h k = (h.0, in_both_steps Q xs ys h.1 k)
+abbrev pub InSteps : (Span → Type 0) → List Step → Type 0
+InSteps Q = AllByRecursion (InStep Q)
 
 mutual
   in_steps : (Q : Span → Type 0) (n : ℕ) (p : Proof) → InProof Q p → InSteps Q (steps_of n p)
   in_steps Q n (concludes c ps) h =
-      in_both_steps Q (steps_of_each n ps) (record { conclusion = c; premises = last_steps n ps } ∷ []) (in_steps_of_each Q n ps h.1) (h.0, tt)
+      every_append (InStep Q) (steps_of_each n ps) (record { conclusion = c; premises = last_steps n ps } ∷ []) (in_steps_of_each Q n ps h.1) (h.0, tt)
 
   in_steps_of_each : (Q : Span → Type 0) (n : ℕ) (ps : Proofs) → InProofs Q ps → InSteps Q (steps_of_each n ps)
   in_steps_of_each Q n no_proofs h = tt
   in_steps_of_each Q n (proof_first p ps) h =
-      in_both_steps Q (steps_of n p) (steps_of_each (n + steps_before p + 1) ps) (in_steps Q n p h.0) (in_steps_of_each Q (n + steps_before p + 1) ps h.1)
+      every_append (InStep Q) (steps_of n p) (steps_of_each (n + steps_before p + 1) ps) (in_steps Q n p h.0) (in_steps_of_each Q (n + steps_before p + 1) ps h.1)
 
 step_seen : (text : List ℕ) (step : RustStep) → InConclusion (StandsIn text) (step_of step).conclusion → StepStandsIn text step
 step_seen text (rust.Typing rule span ty premises) h = h

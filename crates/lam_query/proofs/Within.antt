@@ -1,6 +1,7 @@
 -- The places of a document's table, and of its faults, are those in the trees of its commands.
 use Rattle.std.proofs.Common.{◌≡◌, ℕ, zero, suc, ◌+◌, List, [], ◌∷◌, ◌++◌, get_or, Bool, true, false, if◌then◌else◌, Option, Some, None, refl}
 use Rattle.std.specs.Option.{option_or}
+use Rattle.std.specs.List.{AllByRecursion}
 use Rattle.lam_token.specs.declared.span.Span.{Span}
 use Rattle.lam_syntax.specs.Trees.{word, bound, TypeTree, type_tree, TypeNode, bool, nat, unit, top, named, arrow, record_type, TypeFields, no_type_fields, type_field, joined_types, TermTree, term_tree, TermNode, true_term, false_term, unit_term, variable, numeral, lambda, if_term, let_term, letrec_term, prefixed, apply, project, ascribe, record_term, TermFields, no_fields, field, CommandTree, definition, declaration, abbreviation, evaluation, type_span, term_span}
 use Rattle.lam_scope.specs.Expansions.{Abbreviation, expansion, is_bound, has_label, label_fault, type_faults, node_faults, field_faults, is_over_limit}
@@ -11,22 +12,21 @@ use Rattle.lam_scope.specs.declared.numbers.Origin.TheVariants.{Declaration, Typ
 use Rattle.lam_scope.specs.Names.{Name}
 use Rattle.lam_scope.specs.Sights.{lambda_at, term_at}
 use Rattle.lam_scope.specs.Tables.{Entry, entry, TextPlace, Table, ◌⊕◌, binder_row, place_row, letrec_rows, binders_in, root, behind, type_uses, node_uses, field_uses, term_table, node_table, fields_table, command_table, types_seen_after, names_seen_after, binders_in_command, places_in_command, commands_table, table, roots, no_span, place_row_numbered}
+use Rattle.lam_scope.proofs.EveryElement.{every_append}
 use Rattle.lam_query.proofs.TreePlaces.{InType, InTypeNode, InTypeFields, InTerm, InNode, InFields, InCommand, InCommands}
 use Rattle.lam_query.proofs.Spans.{type_place, term_place}
 
 -- the rows of a table
 
-abbrev pub InRows : (Span → Type 0) → List TextPlace → Type 0
-InRows Q [] = Unit {0}
-InRows Q (p ∷ ps) = Q p.span × InRows Q ps
+abbrev InRow : (Span → Type 0) → TextPlace → Type 0
+InRow Q p = Q p.span
 
-in_both_rows : (Q : Span → Type 0) (xs ys : List TextPlace) → InRows Q xs → InRows Q ys → InRows Q (xs ++ ys)
-in_both_rows Q [] ys p q = q
-in_both_rows Q (x ∷ xs) ys p q = (p.0, in_both_rows Q xs ys p.1 q)
+abbrev pub InRows : (Span → Type 0) → List TextPlace → Type 0
+InRows Q = AllByRecursion (InRow Q)
 
 in_tables : (Q : Span → Type 0) (a b : Table) → InRows Q a.places → InRows Q b.places → InRows Q (a ⊕ b).places
 unfolding ◌⊕◌
-in_tables Q a b p q = in_both_rows Q a.places b.places p q
+in_tables Q a b p q = every_append (InRow Q) a.places b.places p q
 
 -- written types have no places
 
@@ -144,13 +144,11 @@ abbrev pub fault_span : TypeFault → Span
 fault_span (UnboundTypeName s) = s
 fault_span (RepeatedLabel s) = s
 
-abbrev pub InFaults : (Span → Type 0) → List TypeFault → Type 0
-InFaults Q [] = Unit {0}
-InFaults Q (f ∷ fs) = Q (fault_span f) × InFaults Q fs
+abbrev InFault : (Span → Type 0) → TypeFault → Type 0
+InFault Q f = Q (fault_span f)
 
-in_both_faults : (Q : Span → Type 0) (xs ys : List TypeFault) → InFaults Q xs → InFaults Q ys → InFaults Q (xs ++ ys)
-in_both_faults Q [] ys p q = q
-in_both_faults Q (x ∷ xs) ys p q = (p.0, in_both_faults Q xs ys p.1 q)
+abbrev pub InFaults : (Span → Type 0) → List TypeFault → Type 0
+InFaults Q = AllByRecursion (InFault Q)
 
 in_either : (Q : Span → Type 0) (b : Bool) (xs ys : List TypeFault) → InFaults Q xs → InFaults Q ys → InFaults Q (if b then xs else ys)
 in_either Q true xs ys p q = p
@@ -166,23 +164,18 @@ mutual
   in_node_faults Q bs unit h = tt
   in_node_faults Q bs top h = tt
   in_node_faults Q bs (named (word x s)) h = in_either Q (is_bound x bs) [] (UnboundTypeName s ∷ []) tt (h, tt)
-  in_node_faults Q bs (arrow a b) h = in_both_faults Q (type_faults bs a) (type_faults bs b) (in_type_faults Q bs a h.0) (in_type_faults Q bs b h.1)
+  in_node_faults Q bs (arrow a b) h = every_append (InFault Q) (type_faults bs a) (type_faults bs b) (in_type_faults Q bs a h.0) (in_type_faults Q bs b h.1)
   in_node_faults Q bs (record_type fs) h = in_field_faults Q bs no_type_fields fs h
 
   in_field_faults : (Q : Span → Type 0) (bs : List Abbreviation) (earlier fs : TypeFields) → InTypeFields Q fs → InFaults Q (field_faults bs earlier fs)
   in_field_faults Q bs earlier no_type_fields h = tt
   in_field_faults Q bs earlier (type_field (word l s) t rest) h =
-      in_both_faults Q (label_fault (word l s) earlier ++ type_faults bs t) (field_faults bs (joined_types earlier (type_field (word l s) t no_type_fields)) rest)
-      (in_both_faults Q (label_fault (word l s) earlier) (type_faults bs t) (in_either Q (has_label l earlier) (RepeatedLabel s ∷ []) [] (h.0, tt) tt) (in_type_faults Q bs t h.1))
+      every_append (InFault Q) (label_fault (word l s) earlier ++ type_faults bs t) (field_faults bs (joined_types earlier (type_field (word l s) t no_type_fields)) rest)
+      (every_append (InFault Q) (label_fault (word l s) earlier) (type_faults bs t) (in_either Q (has_label l earlier) (RepeatedLabel s ∷ []) [] (h.0, tt) tt) (in_type_faults Q bs t h.1))
       (in_field_faults Q bs (joined_types earlier (type_field (word l s) t no_type_fields)) rest h.2)
 
 abbrev pub InTypes : (Span → Type 0) → List TypeTree → Type 0
-InTypes Q [] = Unit {0}
-InTypes Q (u ∷ us) = InType Q u × InTypes Q us
-
-in_both_types : (Q : Span → Type 0) (xs ys : List TypeTree) → InTypes Q xs → InTypes Q ys → InTypes Q (xs ++ ys)
-in_both_types Q [] ys p q = q
-in_both_types Q (x ∷ xs) ys p q = (p.0, in_both_types Q xs ys p.1 q)
+InTypes Q = AllByRecursion (InType Q)
 
 mutual
   in_written : (Q : Span → Type 0) (t : TermTree) → InTerm Q t → InTypes Q (written_in t)
@@ -196,19 +189,19 @@ mutual
   in_written_node Q (numeral x) h = tt
   in_written_node Q (lambda b u t) h = (h.1, in_written Q t h.2)
   in_written_node Q (if_term c t u) h =
-      in_both_types Q (written_in c ++ written_in t) (written_in u)
-      (in_both_types Q (written_in c) (written_in t) (in_written Q c h.0) (in_written Q t h.1)) (in_written Q u h.2)
-  in_written_node Q (let_term b t u) h = in_both_types Q (written_in t) (written_in u) (in_written Q t h.1) (in_written Q u h.2)
-  in_written_node Q (letrec_term b w t u) h = (h.1, in_both_types Q (written_in t) (written_in u) (in_written Q t h.2) (in_written Q u h.3))
+      every_append (InType Q) (written_in c ++ written_in t) (written_in u)
+      (every_append (InType Q) (written_in c) (written_in t) (in_written Q c h.0) (in_written Q t h.1)) (in_written Q u h.2)
+  in_written_node Q (let_term b t u) h = every_append (InType Q) (written_in t) (written_in u) (in_written Q t h.1) (in_written Q u h.2)
+  in_written_node Q (letrec_term b w t u) h = (h.1, every_append (InType Q) (written_in t) (written_in u) (in_written Q t h.2) (in_written Q u h.3))
   in_written_node Q (prefixed p t) h = in_written Q t h
-  in_written_node Q (apply t u) h = in_both_types Q (written_in t) (written_in u) (in_written Q t h.0) (in_written Q u h.1)
+  in_written_node Q (apply t u) h = every_append (InType Q) (written_in t) (written_in u) (in_written Q t h.0) (in_written Q u h.1)
   in_written_node Q (project t l) h = in_written Q t h.0
-  in_written_node Q (ascribe t u) h = in_both_types Q (written_in t) (u ∷ []) (in_written Q t h.0) (h.1, tt)
+  in_written_node Q (ascribe t u) h = every_append (InType Q) (written_in t) (u ∷ []) (in_written Q t h.0) (h.1, tt)
   in_written_node Q (record_term fs) h = in_written_fields Q fs h
 
   in_written_fields : (Q : Span → Type 0) (fs : TermFields) → InFields Q fs → InTypes Q (written_in_fields fs)
   in_written_fields Q no_fields h = tt
-  in_written_fields Q (field l t fs) h = in_both_types Q (written_in t) (written_in_fields fs) (in_written Q t h.1) (in_written_fields Q fs h.2)
+  in_written_fields Q (field l t fs) h = every_append (InType Q) (written_in t) (written_in_fields fs) (in_written Q t h.1) (in_written_fields Q fs h.2)
 
 in_written_command : (Q : Span → Type 0) (c : CommandTree) → InCommand Q c → InTypes Q (written_in_command c)
 in_written_command Q (definition x t) h = in_written Q t h.1
@@ -218,12 +211,12 @@ in_written_command Q (evaluation t) h = in_written Q t h
 
 in_faults_in : (Q : Span → Type 0) (bs : List Abbreviation) (us : List TypeTree) → InTypes Q us → InFaults Q (faults_in bs us)
 in_faults_in Q bs [] h = tt
-in_faults_in Q bs (u ∷ us) h = in_both_faults Q (type_faults bs u) (faults_in bs us) (in_type_faults Q bs u h.0) (in_faults_in Q bs us h.1)
+in_faults_in Q bs (u ∷ us) h = every_append (InFault Q) (type_faults bs u) (faults_in bs us) (in_type_faults Q bs u h.0) (in_faults_in Q bs us h.1)
 
 pub in_faults : (Q : Span → Type 0) (bs : List Abbreviation) (cs : List CommandTree) → InCommands Q cs → InFaults Q (faults bs cs)
 in_faults Q bs [] h = tt
 in_faults Q bs (c ∷ cs) h =
-    in_both_faults Q (faults_in bs (written_in_command c)) (faults (abbreviations_after bs c) cs)
+    every_append (InFault Q) (faults_in bs (written_in_command c)) (faults (abbreviations_after bs c) cs)
     (in_faults_in Q bs (written_in_command c) (in_written_command Q c h.0)) (in_faults Q (abbreviations_after bs c) cs h.1)
 
 -- the first written type that is too large

@@ -18,19 +18,19 @@ use Rattle.lam_rules.proofs.ByShape.{Under, under_bool, under_nat, under_unit, u
 use Rattle.lam_rules.proofs.Permutations.{absent_not}
 
 -- the first label stands before the second in byte order
-abbrev Before : Label → Label → Type 0
+abbrev pub Before : Label → Label → Type 0
 Before k l = slice_cmp nat_cmp k l ≡ Less
 
-before_not_itself : (k : Label) → Before k k → ⊥
+pub before_not_itself : (k : Label) → Before k k → ⊥
 before_not_itself k h = cc (tied_itself nat_list_cmp_total k)
 
 before_trans : (j k l : Label) → Before j k → Before k l → Before j l
 before_trans j k l = nat_list_cmp_total.trans j k l
 
-before_turned : (k l : Label) → slice_cmp nat_cmp k l ≡ Greater → Before l k
+pub before_turned : (k l : Label) → slice_cmp nat_cmp k l ≡ Greater → Before l k
 before_turned k l h = nat_list_cmp_total.antisymm l k ∙ ap ordering_reverse h
 
-tied_same : (k l : Label) → slice_cmp nat_cmp k l ≡ Equal → k ≡ l
+pub tied_same : (k l : Label) → slice_cmp nat_cmp k l ≡ Equal → k ≡ l
 tied_same k l h = (bytes_eq-Decides k l).0 (texts_ties k l ∙ ap is_eq h)
 
 -- each label stands before those that follow

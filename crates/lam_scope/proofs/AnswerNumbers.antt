@@ -1,5 +1,5 @@
 -- The binder given as the answer for a binder is one of the same table.
-use Rattle.std.proofs.Common.{◌≡◌, ℕ, ◌+◌, ◌<◌, List, [], ◌∷◌, ◌++◌, length, zero, suc, refl, subst, arith, true, false, Option, Some}
+use Rattle.std.proofs.Common.{◌≡◌, ℕ, ◌+◌, ◌<◌, List, [], ◌∷◌, length, zero, suc, refl, subst, arith, true, false, Option, Some}
 use Rattle.std.specs.List.{AllByRecursion}
 use Rattle.std.proofs.lemmas.List.{get_or_default}
 use Rattle.lam_token.specs.declared.span.Span.{Span}
@@ -10,12 +10,8 @@ use Rattle.lam_scope.specs.declared.numbers.Origin.TheVariants.{Declaration, Typ
 use Rattle.lam_scope.specs.Names.{Name}
 use Rattle.lam_scope.specs.Sights.{lambda_at, term_at}
 use Rattle.lam_scope.specs.Tables.{TextBinder, Table, ◌⊕◌, Entry, entry, binder_row, place_row, root, behind, roots, below, binders_in, type_uses, term_table, node_table, fields_table, letrec_rows, commands_table, table, binder_in, binder_numbered}
+use Rattle.lam_scope.proofs.EveryElement.{every_append}
 use Rattle.lam_scope.proofs.BinderRows.{plus, type_binders, letrec_binders, term_binders, BindersStand, all_stand, rows_left, rows_right, letrec_first}
-
--- what holds of each element of two lists
-pub every_append : {A : Type 0} (P : A → Type 0) (xs ys : List A) → AllByRecursion P xs → AllByRecursion P ys → AllByRecursion P (xs ++ ys)
-every_append P [] ys h k = k
-every_append P (x ∷ xs) ys h k = (h.0, every_append P xs ys h.1 k)
 
 module _ (bs : List TextBinder) where
   abbrev IsWithin : TextBinder → Type 0

@@ -11,7 +11,7 @@ use Rattle.lam_token.specs.declared.span.Span.{Span}
 use Rattle.lam_token.specs.Edits.{is_span}
 use Rattle.lam_scope.specs.Names.{Name, binds}
 use Rattle.lam_scope.specs.Mentions.{Binder, binder, seen_of, bound_to, Mention, binds_at, uses_at, labels_at, token_of, mention_of, mentions_of_type, mentions_of_type_node, mentions_of_type_fields, mentions_of, mentions_of_node, mentions_of_fields, mentions_of_command, types_behind, names_behind, mentions_from, mentions, bound_at, uses_of, Ascend, IsBehindBinder}
-use Rattle.lam_scope.proofs.AnswerNumbers.{every_append}
+use Rattle.lam_scope.proofs.EveryElement.{every_append}
 use Rattle.lam_scope.proofs.BoundMentions.{binder_holds}
 
 -- parts of mentions that ascend

@@ -37,3 +37,7 @@ pub mod BoundMentions
 pub mod PlacelessForms
 pub mod TokenRenames
 pub mod BindersBefore
+pub mod FreeLabels
+pub mod EveryElement
+pub mod OwnWords
+pub mod RenameAnswers

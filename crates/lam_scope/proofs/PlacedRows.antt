@@ -6,14 +6,17 @@ use Rattle.lam_syntax.specs.Trees as tree
 use Rattle.lam_syntax.specs.Trees.{word, bound, TypeTree, TermTree, term_tree, TermNode, CommandTree, definition, declaration, evaluation, term_span}
 use Rattle.lam_token.specs.declared.span.Span.{Span}
 use Rattle.lam_scope.specs.declared.numbers.Origin.TheVariants.{Declaration, TypeName}
+use Rattle.lam_scope.specs.declared.rows.Rows.{Rows}
 use Rattle.lam_scope.specs.Names.{Name}
 use Rattle.lam_scope.specs.Expansions.{Abbreviation, expansion}
 use Rattle.lam_scope.specs.Nameless.{nameless, nameless_node, abbreviations_after}
 use Rattle.lam_scope.specs.Places.{written, of_term, Scope}
 use Rattle.lam_scope.specs.Sights.{lambda_at, term_at}
 use Rattle.lam_scope.specs.Tables.{TextBinder, TextPlace, Table, ◌⊕◌, Entry, entry, innermost, binder_row, place_row, root, behind, roots, roots_of_fields, below, below_node, below_fields, binders_in, type_uses, term_table, node_table, fields_table, letrec_rows, commands_table, table, place_in}
-use Rattle.lam_scope.specs.PlacedTerms.{PlacedTree, PlacedTrees, no_parts, part_first, one_part, two_parts, placed_at, letrec_function, letrec_fix, placed_term, placed_parts, placed_fields, terms_in, terms_in_each, commands_terms, document_terms, tree_in, trees_in}
+use Rattle.lam_scope.specs.PlacedTerms.{OwnWord, no_word, PlacedTree, PlacedTrees, no_parts, part_first, one_part, two_parts, placed_at, letrec_function, letrec_fix, placed_term, placed_parts, placed_fields, terms_in, terms_in_each, commands_terms, document_terms, tree_in, trees_in}
 use Rattle.lam_scope.specs.PlacedRows.{IsRowOf}
+use Rattle.lam_scope.specs.TableViews.{rows_of, terms_start, text_place}
+use Rattle.lam_scope.proofs.Slices.{sliced-length}
 use Rattle.lam_scope.proofs.PlaceCounts.{type_places, places-plus, length-joined}
 use Rattle.lam_scope.proofs.BinderRows.{Along, both, front_alone, back_alone, plus, type_binders, letrec_binders, term_binders, StandAt, stand_left, stand_right, stand_all, BindersStand, all_stand, rows_left, rows_right, AreUnder, under_more, AreSeen, one_more, read_seen, letrec_first}
 
@@ -31,7 +34,7 @@ own_counted t ps n e = length-joined (terms_in_each ps) (t ∷ []) n 1 e refl
 letrec_counted : (bs : List Abbreviation) (xs : List (Option Name)) (s : Scope) (w : TypeTree) (r : Span) (e : Term) (first : PlacedTree) (n : ℕ)
     → length (terms_in first) ≡ n → length (terms_in (letrec_fix bs xs s w r e first)) ≡ n + 1 + 1
 letrec_counted bs xs s w r e first n h =
-    let function = placed_at r false xs s (letrec_function bs w e) (one_part first) in
+    let function = placed_at r no_word false xs s (letrec_function bs w e) (one_part first) in
     let inner = own_counted function (one_part first) n (one_counted first n h) in
     own_counted (letrec_fix bs xs s w r e first) (one_part function) (n + 1) (one_counted function (n + 1) inner)
 
@@ -118,11 +121,11 @@ module _ (all : List PlacedTree) where
   -- a letrec's function and fix, and its first term
   letrec_stands : (bs : List Abbreviation) (xs ys : List (Option Name)) (s inner : Scope) (w : TypeTree) (r : Span) (e : Term) (k : ℕ) (t : TermTree)
       → TreesStand k (terms_in (letrec_fix bs xs s w r e (placed_term bs ys inner t)))
-      → TreesStand k (terms_in (placed_term bs ys inner t)) × (tree_in all (root k t + 1) ≡ placed_at r false xs s (letrec_function bs w e) (one_part (placed_term bs ys inner t)))
+      → TreesStand k (terms_in (placed_term bs ys inner t)) × (tree_in all (root k t + 1) ≡ placed_at r no_word false xs s (letrec_function bs w e) (one_part (placed_term bs ys inner t)))
       × (tree_in all (root k t + 2) ≡ letrec_fix bs xs s w r e (placed_term bs ys inner t))
   letrec_stands bs xs ys s inner w r e k t h =
       let first = placed_term bs ys inner t in
-      let function = placed_at r false xs s (letrec_function bs w e) (one_part first) in
+      let function = placed_at r no_word false xs s (letrec_function bs w e) (one_part first) in
       let whole = letrec_fix bs xs s w r e first in
       let count = one_counted first (below t + 1) (terms_counted bs ys inner t) in
       let more = one_counted function (below t + 1 + 1) (own_counted function (one_part first) (below t + 1) count) in
@@ -207,7 +210,7 @@ three_rows R a b c p q r f g h =
 
 letrec_told : (R : TextPlace → PlacedTree → Type 0) (x : Option Name) (q r : Span) (names : List Entry) (n p : ℕ) (u t : Table) (bs : List Abbreviation) (xs : List (Option Name)) (s : Scope) (w : TypeTree) (e : Term) (first : PlacedTree)
     → length u.places ≡ 0 → Along R t.places (terms_in first)
-    → Along R (place_row r true (p ∷ []) names).places (placed_at r false xs s (letrec_function bs w e) (one_part first) ∷ [])
+    → Along R (place_row r true (p ∷ []) names).places (placed_at r no_word false xs s (letrec_function bs w e) (one_part first) ∷ [])
     → Along R (place_row r true ((p + 1) ∷ []) names).places (letrec_fix bs xs s w r e first ∷ [])
     → Along R (letrec_rows x q names n p r u t).places (terms_in (letrec_fix bs xs s w r e first))
 letrec_told R x q r names n p u t bs xs s w e first none inner own whole =
@@ -215,7 +218,7 @@ letrec_told R x q r names n p u t bs xs s w e first none inner own whole =
     let two = binder_row x q names (n + 1) (term_at (p + 2)) in
     let function_row = place_row r true (p ∷ []) names in
     let fix_row = place_row r true ((p + 1) ∷ []) names in
-    let function = placed_at r false xs s (letrec_function bs w e) (one_part first) in
+    let function = placed_at r no_word false xs s (letrec_function bs w e) (one_part first) in
     let before = one_row R (one ⊕ two ⊕ u ⊕ t).places first (back_alone R (one ⊕ two ⊕ u) t (terms_in first) (places-plus (one ⊕ two) u 0 0 (places-plus one two 0 0 refl refl) none) inner) in
     both R (one ⊕ two ⊕ u ⊕ t ⊕ function_row) fix_row (terms_in_each (one_part function)) (letrec_fix bs xs s w r e first ∷ [])
     (one_row R (one ⊕ two ⊕ u ⊕ t ⊕ function_row).places function (both R (one ⊕ two ⊕ u ⊕ t) function_row (terms_in_each (one_part first)) (function ∷ []) before own)) whole
@@ -230,12 +233,12 @@ module _ (whole : Table) (all : List PlacedTree) where
   abbrev See : List Entry → List (Option Name) → Type 0
   See = AreSeen name whole.binders
 
-  own_row : (r : Span) (names : List Entry) (xs : List (Option Name)) (s : Scope) (e : Term) (written_here : PlacedTrees) (numbers : List ℕ)
-      → See names xs → trees_in all numbers ≡ written_here → Told (record { span = r; derived = false; terms = numbers; inner = innermost names }) (placed_at r true xs s e written_here)
+  own_row : {o : OwnWord} (r : Span) (names : List Entry) (xs : List (Option Name)) (s : Scope) (e : Term) (written_here : PlacedTrees) (numbers : List ℕ)
+      → See names xs → trees_in all numbers ≡ written_here → Told (record { span = r; derived = false; terms = numbers; inner = innermost names }) (placed_at r o true xs s e written_here)
   own_row r names xs s e ps numbers seen there = record { span = refl; derived = refl; names = read_seen name whole.binders names xs seen; parts = there }
 
   derived_row : (r : Span) (names : List Entry) (xs : List (Option Name)) (s : Scope) (e : Term) (p : PlacedTree) (number : ℕ)
-      → See names xs → tree_in all number ≡ p → Told (record { span = r; derived = true; terms = number ∷ []; inner = innermost names }) (placed_at r false xs s e (one_part p))
+      → See names xs → tree_in all number ≡ p → Told (record { span = r; derived = true; terms = number ∷ []; inner = innermost names }) (placed_at r no_word false xs s e (one_part p))
   derived_row r names xs s e p number seen there = record { span = refl; derived = refl; names = read_seen name whole.binders names xs seen; parts = ap one_part there }
 
   mutual
@@ -319,7 +322,7 @@ module _ (whole : Table) (all : List PlacedTree) where
         let inner = written (expansion bs w) ∷ s in
         let scope = of_term (fix (letrec_function bs w e)) ∷ s in
         let at_first = placed_term bs (b ∷ xs) inner t in
-        let function = placed_at (term_span t) false xs s (letrec_function bs w e) (one_part at_first) in
+        let function = placed_at (term_span t) no_word false xs s (letrec_function bs w e) (one_part at_first) in
         let at_one = letrec_fix bs xs s w (term_span t) e at_first in
         let at_two = placed_term bs (b ∷ xs) scope u in
         let size = letrec_counted bs xs s w (term_span t) e at_first (below t + 1) (terms_counted bs (b ∷ xs) inner t) in
@@ -452,3 +455,6 @@ row_told cs n = told_numbered (table cs) (document_terms cs) (table cs).places (
 
 pub as_many_rows : (cs : List CommandTree) → length (table cs).places ≡ length (document_terms cs)
 as_many_rows cs = as_long (IsRowOf (table cs) (document_terms cs)) (table cs).places (document_terms cs) (document_rows cs)
+
+pub as_many_terms : (r : Rows) (cs : List CommandTree) → rows_of r ≡ table cs → length r.places.items ≡ length (document_terms cs)
+as_many_terms r cs same = sym (sliced-length terms_start text_place r.terms.items r.places.items) ∙ ap (λ t. length t.places) same ∙ as_many_rows cs

@@ -20,6 +20,7 @@ pub mod Expanded
 pub mod Forms
 pub mod Renames
 pub mod Bearers
+pub mod Labels
 pub mod Mentions
 pub mod PlacedTerms
 pub mod PlacedRows
@@ -29,3 +30,4 @@ pub mod StatementViews
 pub mod Views
 pub mod Formed
 pub mod Walked
+pub mod OwnWords

@@ -1,6 +1,7 @@
 -- Places that nest: each part of a term stands within it, and behind the parts before it.
 use Rattle.std.specs.Prelude.{ℕ, ◌<◌, ◌≤◌, ◌≡◌, ◌⊎◌, true, List, [], ◌∷◌}
 use Rattle.lam_token.specs.declared.span.Span.{Span}
+use Rattle.lam_token.specs.declared.kind.Kind.TheVariants as kind
 use Rattle.lam_token.specs.Lexeme.{Lexeme, lexeme}
 use Rattle.lam_syntax.specs.Grammar.{Spells}
 use Rattle.lam_syntax.specs.Trees.{CommandTree}
@@ -37,3 +38,15 @@ TokensStand low (lexeme k x s ∷ ts) high = (low ≤ s.start) × (s.start < s.e
 abbrev pub AreSpelledFrom : (low : ℕ) → List CommandTree → Type 0
 AreSpelledFrom low [] = Unit {0}
 AreSpelledFrom low (c ∷ cs) = (ts : List Lexeme) × (high : ℕ) × Spells ts c × TokensStand low ts high × AreSpelledFrom high cs
+
+-- tokens of which the names and type names stand so; the others may be anywhere
+abbrev pub NamesStand : (low : ℕ) → List Lexeme → (high : ℕ) → Type 0
+NamesStand low [] high = low ≤ high
+NamesStand low (lexeme kind.Name x s ∷ ts) high = (low ≤ s.start) × (s.start < s.end) × NamesStand s.end ts high
+NamesStand low (lexeme kind.TypeName x s ∷ ts) high = (low ≤ s.start) × (s.start < s.end) × NamesStand s.end ts high
+NamesStand low (t ∷ ts) high = NamesStand low ts high
+
+-- commands that such tokens spell, the names of each behind those of the commands before it
+abbrev pub AreNamedFrom : (low : ℕ) → List CommandTree → Type 0
+AreNamedFrom low [] = Unit {0}
+AreNamedFrom low (c ∷ cs) = (ts : List Lexeme) × (high : ℕ) × Spells ts c × NamesStand low ts high × AreNamedFrom high cs

@@ -1,17 +1,30 @@
 -- The terms of commands as they stand in the text: where each is, what it sees, what it says without names, and its parts.
-use Rattle.std.specs.Prelude.{ℕ, List, [], ◌∷◌, ◌++◌, Bool, true, false, Option, get_or}
+use Rattle.std.specs.Prelude.{◌==◌, ℕ, List, [], ◌∷◌, ◌++◌, Bool, true, false, Option, get_or, position}
 use Rattle.lam_token.specs.declared.span.Span.{Span}
 use Rattle.lam_rules.specs.Terms.{Term, unit_term, lambda, fix}
 use Rattle.lam_syntax.specs.Trees as tree
-use Rattle.lam_syntax.specs.Trees.{bound, TypeTree, TermTree, term_tree, TermNode, CommandTree, definition, declaration, evaluation, term_span}
+use Rattle.lam_syntax.specs.Trees.{word, bound, TypeTree, TermTree, term_tree, TermNode, CommandTree, definition, declaration, evaluation, term_span}
 use Rattle.lam_scope.specs.Names.{Name}
 use Rattle.lam_scope.specs.Expansions.{Abbreviation, expansion}
 use Rattle.lam_scope.specs.Nameless.{nameless, nameless_node, abbreviations_after, names_after}
 use Rattle.lam_scope.specs.Places.{written, of_term, Scope, Place}
 
+-- the word that makes a term what it is, by its token: the name of a variable, or the label that a projection asks for; other terms have none
+pub data OwnWord : Type 0 where
+  no_word : OwnWord
+  name_at : (token : Span) → OwnWord
+  label_at : (token : Span) → OwnWord
+
+-- that of a term of this form
+abbrev pub own_word : TermNode → OwnWord
+own_word (tree.variable (word x s)) = name_at s
+own_word (tree.project t (word l s)) = label_at s
+own_word n = no_word
+
 -- a term by itself
 pub record PlacedTerm : Type 0 where
   pub span : Span
+  pub own : OwnWord
   -- whether it is written, or else a lambda or a fix that a letrec stands for
   pub is_written : Bool
   -- the names of the binders that it sees, the innermost first; an underscore has none
@@ -46,8 +59,8 @@ abbrev pub two_parts : PlacedTree → PlacedTree → PlacedTrees
 two_parts p q = part_first p (one_part q)
 
 -- a term at this span
-abbrev pub placed_at : Span → (is_written : Bool) → List (Option Name) → Scope → Term → PlacedTrees → PlacedTree
-placed_at r w xs s e ps = placed (record { span = r; is_written = w; names = xs; place = record { scope = s; here = e } }) ps
+abbrev pub placed_at : Span → OwnWord → (is_written : Bool) → List (Option Name) → Scope → Term → PlacedTrees → PlacedTree
+placed_at r o w xs s e ps = placed (record { span = r; own = o; is_written = w; names = xs; place = record { scope = s; here = e } }) ps
 
 -- the function that a letrec makes, from its type and its nameless first term
 abbrev pub letrec_function : List Abbreviation → TypeTree → Term → Term
@@ -56,13 +69,13 @@ letrec_function bs w e = lambda (expansion bs w) e
 -- the fix of that function, at the first term's span: its part is the function, and the function's is the first term
 abbrev pub letrec_fix : List Abbreviation → List (Option Name) → Scope → TypeTree → Span → Term → (first : PlacedTree) → PlacedTree
 letrec_fix bs xs s w r e first =
-    placed_at r false xs s (fix (letrec_function bs w e)) (one_part (placed_at r false xs s (letrec_function bs w e) (one_part first)))
+    placed_at r no_word false xs s (fix (letrec_function bs w e)) (one_part (placed_at r no_word false xs s (letrec_function bs w e) (one_part first)))
 
 -- A term with its parts, where it sees these abbreviations and these binders: their names, and what they take their types from. A letrec is the let of a fix that
 -- it stands for.
 abbrev mutual
   pub placed_term : List Abbreviation → List (Option Name) → Scope → TermTree → PlacedTree
-  placed_term bs xs s (term_tree r n) = placed_at r true xs s (nameless_node bs xs n) (placed_parts bs xs s n)
+  placed_term bs xs s (term_tree r n) = placed_at r (own_word n) true xs s (nameless_node bs xs n) (placed_parts bs xs s n)
 
   -- the parts of a term of this form
   pub placed_parts : List Abbreviation → List (Option Name) → Scope → TermNode → PlacedTrees
@@ -119,9 +132,27 @@ document_terms cs = commands_terms [] [] [] cs
 
 -- the term of a number, counted from 0; past the last one, a term that stands nowhere
 abbrev pub tree_in : List PlacedTree → ℕ → PlacedTree
-tree_in ts n = get_or ts n (placed_at (record { start = 0; end = 0 }) false [] [] unit_term no_parts)
+tree_in ts n = get_or ts n (placed_at (record { start = 0; end = 0 }) no_word false [] [] unit_term no_parts)
 
 -- the terms of these numbers
 abbrev pub trees_in : List PlacedTree → List ℕ → PlacedTrees
 trees_in ts [] = no_parts
 trees_in ts (n ∷ ns) = part_first (tree_in ts n) (trees_in ts ns)
+
+-- whether a term is a variable whose token begins at byte o
+abbrev pub is_variable_at : ℕ → OwnWord → Bool
+is_variable_at o (name_at s) = s.start == o
+is_variable_at o w = false
+
+-- whether a term is a projection whose label's token begins at byte o
+abbrev pub is_projection_at : ℕ → OwnWord → Bool
+is_projection_at o (label_at s) = s.start == o
+is_projection_at o w = false
+
+-- the number of the variable whose token begins at byte o, if there is one
+abbrev pub variable_at : ℕ → List CommandTree → Option ℕ
+variable_at o cs = position (λ t. is_variable_at o (term_of t).own) (document_terms cs)
+
+-- the number of the projection whose label's token begins at byte o, if there is one
+abbrev pub projection_at : ℕ → List CommandTree → Option ℕ
+projection_at o cs = position (λ t. is_projection_at o (term_of t).own) (document_terms cs)

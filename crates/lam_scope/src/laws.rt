@@ -1,23 +1,28 @@
 //! What holds of the table and the nameless form of any commands.
 //! Each law is the contract of a function that does nothing.
-ghost use Rattle.std.specs.Prelude.{◌≡◌, ◌↔◌, ℕ, [], ◌∷◌, List, None, Some, map, length, get_or, reverse};
+ghost use Rattle.std.specs.Prelude.{◌≡◌, ◌≢◌, ◌⊎◌, ◌↔◌, ℕ, [], ◌∷◌, List, None, Some, map, length, get_or, reverse};
 ghost use Rattle.std.specs.Option.{option_map};
 ghost use Rattle.std.specs.List.{AllByRecursion};
+ghost use Rattle.lam_token.specs.declared.span.Span.{Span};
 ghost use Rattle.lam_token.specs.Edits.{renaming};
+ghost use Rattle.lam_rules.specs.Types.{Label};
 ghost use Rattle.lam_syntax.specs.Trees.{CommandTree};
 ghost use Rattle.lam_syntax.specs.Respelled.{Letters, respelled_command};
+ghost use Rattle.lam_scope.specs.declared.rename_fault.RenameFault.{RenameFault};
+ghost use Rattle.lam_scope.specs.declared.rename_fault.RenameFault.TheVariants.{Memory};
 ghost use Rattle.lam_scope.specs.Counted.{statements_counted, past_commands};
 ghost use Rattle.lam_scope.specs.Names.{Name, count};
 ghost use Rattle.lam_scope.specs.Forms.{forms};
 ghost use Rattle.lam_scope.specs.Nameless.{statements, faults};
 ghost use Rattle.lam_scope.specs.Expanded.{IsExpanded};
-ghost use Rattle.lam_scope.specs.PlacedTerms.{document_terms, term_of, tree_in};
+ghost use Rattle.lam_scope.specs.PlacedTerms.{document_terms, term_of, tree_in, projection_at};
+ghost use Rattle.lam_scope.specs.Labels.{labelled, AreLabelled};
 ghost use Rattle.lam_scope.specs.PlacedRows.{IsRowOf};
 ghost use Rattle.lam_scope.specs.Places.{places_of};
 ghost use Rattle.lam_scope.specs.Sights.{sight_numbered};
 ghost use Rattle.lam_scope.specs.Mentions.{binder_of, kind_of, mentions, bound_at, uses_of, Ascend, IsBehindBinder};
-ghost use Rattle.lam_scope.specs.Renames.{HasName, answer_for, kind_of_binder, renamed};
-ghost use Rattle.lam_scope.specs.Nesting.{AreNested, AreSpelledFrom, IsInnermost};
+ghost use Rattle.lam_scope.specs.Renames.{HasName, AreRenamed, IsRefused, answer_for, kind_of_binder, renamed};
+ghost use Rattle.lam_scope.specs.Nesting.{AreNested, AreSpelledFrom, AreNamedFrom, IsInnermost};
 ghost use Rattle.lam_scope.specs.Tables.{Table, table, Entry, entry_names, bound_to, binder_numbered, place_row_numbered, visible_at, place_at, binder_at, tokens_of};
 
 /// The table of commands and their nameless form have as many places, and the binders that a place sees in the table take
@@ -63,9 +68,11 @@ pub fn faultless_is_expanded()
 {}
 
 /// The names, type names and labels of a text come one behind the other, each with a byte: so at most one begins at a byte,
-/// and each use stands behind its binder. That is so of commands that are spelled by tokens one behind the other.
+/// and each use stands behind its binder. That is so of commands that are spelled by tokens of which the names stand one
+/// behind the other, as they do where all tokens do.
 pub fn mentions_ascend()
-    ensures ascend { (cs : List CommandTree) → AreSpelledFrom 0 cs → (high : ℕ) × Ascend 0 (mentions cs) high }
+    ensures spelled { (cs : List CommandTree) → AreSpelledFrom 0 cs → AreNamedFrom 0 cs }
+    ensures ascend { (cs : List CommandTree) → AreNamedFrom 0 cs → (high : ℕ) × Ascend 0 (mentions cs) high }
     ensures behind { (cs : List CommandTree) (high : ℕ) → Ascend 0 (mentions cs) high → AllByRecursion IsBehindBinder (mentions cs) }
 {}
 
@@ -88,4 +95,20 @@ pub fn forms_have_no_places()
 /// To give a binder of a text and its uses a new name is to put it at their tokens: at these alone, so that no label changes.
 pub fn renamed_at_tokens()
     ensures { (cs : List CommandTree) (o n : ℕ) (new : Name) → AreSpelledFrom 0 cs → binder_at (table cs) o ≡ Some n → map (respelled_command (λ o. o) (renaming ((binder_numbered (table cs) n).token ∷ tokens_of n (table cs).uses) new)) cs ≡ renamed n new cs }
+{}
+
+/// To a new name for a binder there is just one answer: the tokens that get it, or one of the three refusals. A refusal for
+/// want of memory says nothing of the new name.
+pub fn one_answer_to_a_rename()
+    ensures some { (cs : List CommandTree) (n : ℕ) (new : Name) → ((spans : List Span) × AreRenamed cs n new spans) ⊎ ((fault : RenameFault) × (fault ≢ Memory) × IsRefused cs n new fault) }
+    ensures tokens { (cs : List CommandTree) (n : ℕ) (new : Name) (spans others : List Span) → AreRenamed cs n new spans → AreRenamed cs n new others → spans ≡ others }
+    ensures fault { (cs : List CommandTree) (n : ℕ) (new : Name) (fault other : RenameFault) → fault ≢ Memory → other ≢ Memory → IsRefused cs n new fault → IsRefused cs n new other → fault ≡ other }
+    ensures apart { (cs : List CommandTree) (n : ℕ) (new : Name) (spans : List Span) (fault : RenameFault) → AreRenamed cs n new spans → IsRefused cs n new fault → fault ≡ Memory }
+{}
+
+/// Another label in the place of one that a projection asks for, which stands nowhere else: this projection asks for it, of
+/// the same term, and all terms in front of it stay as they were, and so does the first written type that is too large.
+pub fn a_label_is_free()
+    ensures number { (cs : List CommandTree) (o : ℕ) (l : Label) → projection_at o (labelled o l cs) ≡ projection_at o cs }
+    ensures labelled { (cs : List CommandTree) (high o n : ℕ) (l : Label) → Ascend 0 (mentions cs) high → projection_at o cs ≡ Some n → AreLabelled cs (labelled o l cs) n l }
 {}

@@ -5,8 +5,8 @@
 //!
 //! Binding: `walk` fills the tables of `rows`, with the binders in sight on a stack (`seen`, over `names` and
 //! `name_stack`); `room` counts the rows first. `use_chains` and `token_lists` give each binder its uses, `stretches`
-//! and `row_stretches` the search by a byte; `scopes` reads the tables, and
-//! `renaming` tells from them whether a binder and its uses can have another name.
+//! and `row_stretches` the search by a byte; `scopes` reads the tables, `own_words` finds the place of a variable or of a
+//! projection by its token, and `renaming` tells whether a binder and its uses can have another name.
 //!
 //! Resolving: `resolver` takes command by command, `nameless` makes a term's form, `expansion` a written type's over
 //! the `abbreviations` in sight, `uses_left` hands on the counts. `resolved` keeps the result, `search` finds a place's
@@ -24,6 +24,7 @@ mod name_stack;
 mod nameless;
 mod names;
 mod numbers;
+mod own_words;
 mod rename_fault;
 mod renaming;
 mod resolved;
@@ -48,8 +49,9 @@ pub use binding::bind;
 pub use document::resolve;
 pub use expansion::NODE_LIMIT;
 pub use laws::{
-    faultless_is_expanded, forms_have_no_places, innermost_place, mentions_are_rows,
-    mentions_ascend, one_binder, one_count, one_sight, one_term, renamed_at_tokens,
+    a_label_is_free, faultless_is_expanded, forms_have_no_places, innermost_place,
+    mentions_are_rows, mentions_ascend, one_answer_to_a_rename, one_binder, one_count, one_sight,
+    one_term, renamed_at_tokens,
 };
 pub use numbers::{Binder, Origin, Place};
 pub use rename_fault::RenameFault;

@@ -1,6 +1,7 @@
 //! The binders of a document, the uses of each, and what each place sees.
-ghost use Rattle.std.specs.Prelude.{◌≡◌, [], length, slice_index_or, map, IfOk};
+ghost use Rattle.std.specs.Prelude.{◌≡◌, [], length, slice_index_or, map, position, IfOk};
 ghost use Rattle.lam_syntax.specs.Letters.{letters};
+ghost use Rattle.lam_syntax.specs.Views.{command_of};
 ghost use Rattle.std.specs.Option.{option_map};
 ghost use Rattle.lam_scope.specs.Tables.{binder_numbered, place_row_numbered, binder_at, binder_token_at, binder_used_at, visible_at, seen_in, binder_in, place_at};
 ghost use Rattle.lam_scope.specs.Names.{shown_name};
@@ -9,10 +10,11 @@ ghost use Rattle.lam_scope.specs.Stretches.{AreRuns, AreRuns-prop};
 ghost use Rattle.lam_scope.specs.RowStretches.{place_stretch, binder_stretch, use_stretch, answer_at, used_at};
 
 use crate::numbers::{Binder, Place};
+use crate::own_words::{Target, find_number};
 use crate::rows::{BinderRow, Rows, UseRow};
 use crate::stretches::{Stretch, first_with, runs_of};
 use crate::token_lists::TokenLists;
-use lam_syntax::Text;
+use lam_syntax::{Command, Text};
 use lam_token::Span;
 use std::alloc::{AllocError, Global};
 
@@ -32,7 +34,9 @@ pub struct Scopes {
 }
 
 impl Scopes {
-    ghost use Rattle.lam_scope.specs.Views.{table_of, uses_in};
+    ghost use Rattle.lam_scope.specs.Views.{table_of, uses_in, AreScopesOf};
+    ghost use Rattle.lam_scope.specs.PlacedTerms.{variable_at, projection_at, document_terms, term_of};
+    ghost use Rattle.lam_scope.specs.OwnWords.{is_target};
 
     /// The scopes of these rows, whose binders have those uses.
     pub(crate) fn new(alloc: Global, rows: Rows, tokens: TokenLists) -> Result<Scopes, AllocError>
@@ -114,6 +118,33 @@ impl Scopes {
         self.rows.terms_of(place)
     }
 
+    /// The place of the variable whose token begins at that byte, in these commands, of which the scopes are; none where
+    /// none begins there. The search for it goes over the terms before it.
+    pub fn variable_at(&self, commands: &[Command], offset: usize) -> Option<Place>
+        requires { AreScopesOf self.now (map command_of commands.now) }
+        ensures { option_map place_number result ≡ variable_at offset (map command_of commands.now) }
+    {
+        self.place_of(commands, Target::Variable(offset))
+    }
+
+    /// The place of the projection whose label's token begins at that byte; none where none begins there. The search
+    /// for it goes over the terms before it.
+    pub fn projection_at(&self, commands: &[Command], offset: usize) -> Option<Place>
+        requires { AreScopesOf self.now (map command_of commands.now) }
+        ensures { option_map place_number result ≡ projection_at offset (map command_of commands.now) }
+    {
+        self.place_of(commands, Target::Projection(offset))
+    }
+
+    /// The place that is sought in these commands, of which the scopes are.
+    fn place_of(&self, commands: &[Command], target: Target) -> Option<Place>
+        requires { AreScopesOf self.now (map command_of commands.now) }
+        ensures { option_map place_number result ≡ position (λ t. is_target target (term_of t).own) (document_terms (map command_of commands.now)) }
+    {
+        let number = find_number(target, commands, self.rows.place_count())?;
+        Some(Place(number))
+    }
+
     /// The name of a binder; `_` where it is an underscore, and for a number that no binder has.
     #[tactic(auto, using(crate::proofs::Reading::reading))]
     pub fn name_of(&self, binder: Binder) -> &str
@@ -122,6 +153,17 @@ impl Scopes {
         match self.rows.binders.get(binder.0) {
             Some(row) => shown_name(&row.name),
             None => "_",
+        }
+    }
+
+    /// The name of a binder; none where it is an underscore, and for a number that no binder has.
+    #[tactic(auto, using(crate::proofs::Reading::reading))]
+    pub fn bound_name(&self, binder: Binder) -> Option<&str>
+        ensures { option_map (λ s. s.now) result ≡ (binder_numbered (table_of self.now) binder.0).name }
+    {
+        match self.rows.binders.get(binder.0) {
+            Some(row) => written_name(&row.name),
+            None => None,
         }
     }
 
@@ -146,6 +188,15 @@ fn shown_name(name: &Option<Text>) -> &str
     match name {
         Some(text) => text.as_str(),
         None => "_",
+    }
+}
+
+fn written_name(name: &Option<Text>) -> Option<&str>
+    ensures { option_map (λ s. s.now) result ≡ option_map (λ s. letters s) name.now }
+{
+    match name {
+        Some(text) => Some(text.as_str()),
+        None => None,
     }
 }
 

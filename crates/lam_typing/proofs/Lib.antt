@@ -26,3 +26,4 @@ pub mod BuiltProofs
 pub mod BuiltSteps
 pub mod PlaceProofs
 pub mod JustBlames
+pub mod Projections

@@ -7,6 +7,7 @@ use Rattle.lam_scope.specs.Places.{written, of_term, Scope, Place, places, place
 use Rattle.lam_scope.specs.WellFormed.{IsWellFormedTerm, AreWellFormedTerms, IsWellFormedScope, AreWellFormedStatements}
 use Rattle.lam_scope.specs.declared.numbers.Origin.{Origin}
 use Rattle.lam_scope.specs.declared.numbers.Origin.TheVariants.{Lambda, Term as TermAt, Declaration, TypeName}
+use Rattle.lam_scope.proofs.EveryElement.{every_append}
 use Rattle.lam_typing.specs.Entries.{written_in, declared_in, entry_from}
 
 -- the types written in the term of a place and in its scope have distinct labels
@@ -16,27 +17,23 @@ IsWellFormedPlace p = IsWellFormedScope p.scope × IsWellFormedTerm p.here
 abbrev pub AreWellFormedPlaces : List Place → Type 0
 AreWellFormedPlaces = AllByRecursion IsWellFormedPlace
 
-joined : (ps qs : List Place) → AreWellFormedPlaces ps → AreWellFormedPlaces qs → AreWellFormedPlaces (ps ++ qs)
-joined [] qs h k = k
-joined (p ∷ ps) qs h k = (h.0, joined ps qs h.1 k)
-
 mutual
   places_wf : (s : Scope) (e : Term) → IsWellFormedScope s → IsWellFormedTerm e → AreWellFormedPlaces (places s e)
   places_wf s (if_then_else c a b) ws we =
-      joined ((places s c ++ places s a) ++ places s b) _
-      (joined (places s c ++ places s a) (places s b) (joined (places s c) (places s a) (places_wf s c ws we.0) (places_wf s a ws we.1)) (places_wf s b ws we.2)) ((ws, we), tt)
-  places_wf s (succ e) ws we = joined (places s e) _ (places_wf s e ws we) ((ws, we), tt)
-  places_wf s (pred e) ws we = joined (places s e) _ (places_wf s e ws we) ((ws, we), tt)
-  places_wf s (is_zero e) ws we = joined (places s e) _ (places_wf s e ws we) ((ws, we), tt)
-  places_wf s (lambda w e) ws we = joined (places (written w ∷ s) e) _ (places_wf (written w ∷ s) e (we.0, ws) we.1) ((ws, we), tt)
-  places_wf s (apply f a) ws we = joined (places s f ++ places s a) _ (joined (places s f) (places s a) (places_wf s f ws we.0) (places_wf s a ws we.1)) ((ws, we), tt)
-  places_wf s (ascribe e w) ws we = joined (places s e) _ (places_wf s e ws we.0) ((ws, we), tt)
+      every_append IsWellFormedPlace ((places s c ++ places s a) ++ places s b) _
+      (every_append IsWellFormedPlace (places s c ++ places s a) (places s b) (every_append IsWellFormedPlace (places s c) (places s a) (places_wf s c ws we.0) (places_wf s a ws we.1)) (places_wf s b ws we.2)) ((ws, we), tt)
+  places_wf s (succ e) ws we = every_append IsWellFormedPlace (places s e) _ (places_wf s e ws we) ((ws, we), tt)
+  places_wf s (pred e) ws we = every_append IsWellFormedPlace (places s e) _ (places_wf s e ws we) ((ws, we), tt)
+  places_wf s (is_zero e) ws we = every_append IsWellFormedPlace (places s e) _ (places_wf s e ws we) ((ws, we), tt)
+  places_wf s (lambda w e) ws we = every_append IsWellFormedPlace (places (written w ∷ s) e) _ (places_wf (written w ∷ s) e (we.0, ws) we.1) ((ws, we), tt)
+  places_wf s (apply f a) ws we = every_append IsWellFormedPlace (places s f ++ places s a) _ (every_append IsWellFormedPlace (places s f) (places s a) (places_wf s f ws we.0) (places_wf s a ws we.1)) ((ws, we), tt)
+  places_wf s (ascribe e w) ws we = every_append IsWellFormedPlace (places s e) _ (places_wf s e ws we.0) ((ws, we), tt)
   places_wf s (let_in a b) ws we =
-      joined (places s a ++ places (of_term a ∷ s) b) _
-      (joined (places s a) (places (of_term a ∷ s) b) (places_wf s a ws we.0) (places_wf (of_term a ∷ s) b (we.0, ws) we.1)) ((ws, we), tt)
-  places_wf s (record_term es) ws we = joined (places_in s es) _ (places_in_wf s es ws we) ((ws, we), tt)
-  places_wf s (project e l) ws we = joined (places s e) _ (places_wf s e ws we) ((ws, we), tt)
-  places_wf s (fix e) ws we = joined (places s e) _ (places_wf s e ws we) ((ws, we), tt)
+      every_append IsWellFormedPlace (places s a ++ places (of_term a ∷ s) b) _
+      (every_append IsWellFormedPlace (places s a) (places (of_term a ∷ s) b) (places_wf s a ws we.0) (places_wf (of_term a ∷ s) b (we.0, ws) we.1)) ((ws, we), tt)
+  places_wf s (record_term es) ws we = every_append IsWellFormedPlace (places_in s es) _ (places_in_wf s es ws we) ((ws, we), tt)
+  places_wf s (project e l) ws we = every_append IsWellFormedPlace (places s e) _ (places_wf s e ws we) ((ws, we), tt)
+  places_wf s (fix e) ws we = every_append IsWellFormedPlace (places s e) _ (places_wf s e ws we) ((ws, we), tt)
   places_wf s true_term ws we = ((ws, we), tt)
   places_wf s false_term ws we = ((ws, we), tt)
   places_wf s unit_term ws we = ((ws, we), tt)
@@ -46,14 +43,14 @@ mutual
 
   places_in_wf : (s : Scope) (es : TermFields) → IsWellFormedScope s → AreWellFormedTerms es → AreWellFormedPlaces (places_in s es)
   places_in_wf s no_terms ws we = tt
-  places_in_wf s (term_field l e es) ws we = joined (places s e) (places_in s es) (places_wf s e ws we.0) (places_in_wf s es ws we.1)
+  places_in_wf s (term_field l e es) ws we = every_append IsWellFormedPlace (places s e) (places_in s es) (places_wf s e ws we.0) (places_in_wf s es ws we.1)
 
 pub places_of_wf : (s : Scope) (ss : List Statement) → IsWellFormedScope s → AreWellFormedStatements ss → AreWellFormedPlaces (places_of s ss)
 places_of_wf s [] ws wss = tt
-places_of_wf s (defines e ∷ rest) ws wss = joined (places s e) (places_of (of_term e ∷ s) rest) (places_wf s e ws wss.0) (places_of_wf (of_term e ∷ s) rest (wss.0, ws) wss.1)
+places_of_wf s (defines e ∷ rest) ws wss = every_append IsWellFormedPlace (places s e) (places_of (of_term e ∷ s) rest) (places_wf s e ws wss.0) (places_of_wf (of_term e ∷ s) rest (wss.0, ws) wss.1)
 places_of_wf s (declares w ∷ rest) ws wss = places_of_wf (written w ∷ s) rest (wss.0, ws) wss.1
 places_of_wf s (abbreviates w ∷ rest) ws wss = places_of_wf s rest ws wss.1
-places_of_wf s (states e ∷ rest) ws wss = joined (places s e) (places_of s rest) (places_wf s e ws wss.0) (places_of_wf s rest ws wss.1)
+places_of_wf s (states e ∷ rest) ws wss = every_append IsWellFormedPlace (places s e) (places_of s rest) (places_wf s e ws wss.0) (places_of_wf s rest ws wss.1)
 
 -- a place by its number
 pub wf_at : (ps : List Place) (n : ℕ) → AreWellFormedPlaces ps → IsWellFormedPlace (get_or ps n (record { scope = []; here = unit_term }))

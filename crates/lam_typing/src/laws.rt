@@ -5,7 +5,7 @@ ghost use Rattle.lam_rules.specs.Types.{Label, Typ, bool, nat, arrow, record_of,
 ghost use Rattle.lam_rules.specs.Terms.{Term, true_term, false_term, unit_term, numeral, lambda, let_in, if_then_else, variable, succ, pred, is_zero, apply, ascribe, project, fix, record_term, TermFields};
 ghost use Rattle.lam_rules.specs.Subtyping.{IsBelow};
 ghost use Rattle.lam_rules.specs.Texts.{text};
-ghost use Rattle.lam_rules.specs.Typing.{Context};
+ghost use Rattle.lam_rules.specs.Typing.{Context, HasField};
 ghost use Rattle.lam_rules.specs.declared.rules.Dialect.{Dialect};
 ghost use Rattle.lam_scope.specs.Places.{Scope, Statement};
 ghost use Rattle.lam_typing.specs.LeastTypes.{IsTypeAt, IsLeastAt};
@@ -68,4 +68,12 @@ pub fn blame_is_just()
     ensures a_field { (s : Scope) (e : Term) (l : Label) (fs : Fields) (t : Typ) (d : Dialect) → IsWellFormedScope s → IsBlamed s (project e l) d → IsLeastAt s e (Some (record_of fs)) d → Has l t fs → ⊥ }
     ensures a_fix { (s : Scope) (e : Term) (p r : Typ) (d : Dialect) → IsWellFormedScope s → IsBlamed s (fix e) d → IsLeastAt s e (Some (arrow p r)) d → IsBelow r p d → ⊥ }
     ensures a_record { (s : Scope) (es : TermFields) (d : Dialect) → IsWellFormedScope s → DifferInLabels es → IsBlamed s (record_term es) d → ⊥ }
+{}
+
+/// A projection has a type just where the least type of the term before the dot is a record type with that label; the
+/// field's type is then the least of the projection (TAPL 16.2).
+pub fn projections_are_fields()
+    ensures field { (s : Scope) (e : Term) (l : Label) (fs : Fields) (t : Typ) (d : Dialect) → IsLeastAt s e (Some (record_of fs)) d → Has l t fs → IsLeastAt s (project e l) (Some t) d }
+    ensures of_record { (s : Scope) (e : Term) (l : Label) (u t : Typ) (d : Dialect) → IsLeastAt s e (Some u) d → IsTypeAt s (project e l) t d → (v : Typ) × HasField u l v }
+    ensures of_typed { (s : Scope) (e : Term) (l : Label) (t : Typ) (d : Dialect) → IsLeastAt s e None d → IsTypeAt s (project e l) t d → ⊥ }
 {}

@@ -26,6 +26,6 @@ pub use blame::Blame;
 pub use fault::TypingFault;
 pub use laws::{
     blame_is_just, least_types_exist, least_types_have_one_text, narrowing, never_blamed,
-    scopes_have_contexts, typed_where_unblamed,
+    projections_are_fields, scopes_have_contexts, typed_where_unblamed,
 };
 pub use typing::Typing;

@@ -1,0 +1,8 @@
+-- What holds of each element of lists.
+use Rattle.std.proofs.Common.{List, [], ◌∷◌, ◌++◌}
+use Rattle.std.specs.List.{AllByRecursion}
+
+-- of two lists it holds of both together
+pub every_append : {A : Type 0} (P : A → Type 0) (xs ys : List A) → AllByRecursion P xs → AllByRecursion P ys → AllByRecursion P (xs ++ ys)
+every_append P [] ys h k = k
+every_append P (x ∷ xs) ys h k = (h.0, every_append P xs ys h.1 k)
