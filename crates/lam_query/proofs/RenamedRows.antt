@@ -11,6 +11,7 @@ use Rattle.lam_token.specs.declared.span.Span.{Span}
 use Rattle.lam_token.specs.Edits.{IsOne, AreSpansOf}
 use Rattle.lam_token.specs.Lexeme.{Lexeme, kind_of, start_of}
 use Rattle.lam_token.specs.Cut.{AreTokensOf}
+use Rattle.lam_token.proofs.NamePlaces.{AreNamePlaces, name_places}
 use Rattle.lam_syntax.specs.Trees.{CommandTree}
 use Rattle.lam_scope.specs.Tables.{table, binder_numbered, binder_at, tokens_of}
 use Rattle.lam_scope.specs.Mentions.{mentions, bound_at}
@@ -29,7 +30,8 @@ use Rattle.lam_query.specs.Renames.{IsAnyName, IsUnparsed, IsParsed, IsBound, Is
 use Rattle.lam_query.specs.Within.{StandsIn}
 use Rattle.lam_query.proofs.Defining.{IsTouched, text_ascends, commands_read, bound_nowhere, bound_there}
 use Rattle.lam_query.proofs.ParsedPieces.{all_commands, some_none}
-use Rattle.lam_query.proofs.RenamedTexts.{row_of_bound, bound_commands, spans_are_told, spans_stand, kind_told, form_is_told, text_renamed, text_changed}
+use Rattle.lam_query.proofs.RenameLaws.{is_name}
+use Rattle.lam_query.proofs.RenamedTexts.{name_bound_as, row_of_bound, bound_commands, spans_are_told, spans_stand, kind_told, form_is_told, text_renamed, text_changed}
 
 -- no fault was read
 abbrev pub NoFaults : Parsed → Type 0
@@ -164,6 +166,14 @@ module _ (text : List ℕ) (o : ℕ) (new : List ℕ) (parsed : Parsed) (scopes 
       (subst (AllByRecursion (StandsIn text)) (sym (are_spans spans renamed)) (spans_whole text read.tokens (kind_of touches.0) 0 (spans_bound bound) read.whole (spans_stand text o bound n here)))
 
 -- ---- what a rename does to the text
+
+-- the new name comes where names stand, one behind the other
+pub renamed_places : (text : List ℕ) (o : ℕ) (new : List ℕ) (spans : List Span) → IsUtf8 text → IsRenamed text o new spans → AreNamePlaces text 0 spans
+renamed_places text o new spans is_text h =
+    let row = row_of_bound text o h.bound in
+    let kind = kind_of h.bound.name in
+    subst (AreNamePlaces text 0) (sym h.are_all)
+    (name_places kind text h.bound.parsed.tokens 0 (spans_bound h.bound) is_text (name_bound_as kind (is_name text o h.bound)) h.bound.parsed.are_tokens (spans_stand text o h.bound row.0 row.1))
 
 pub renamed_text : (text : List ℕ) (o : ℕ) (new : List ℕ) (spans : List Span) → IsUtf8 text → IsUtf8 new → IsRenamed text o new spans → IsRenamedText text spans new
 renamed_text text o new spans is_text is_new h =

@@ -4,6 +4,7 @@ pub mod DerivationLaws
 pub mod DefinitionLaws
 pub mod ReferencesLaws
 pub mod RenameLaws
+pub mod RenamedDocuments
 pub mod QuestionLaws
 pub mod MethodLemmas
 pub mod Plain

@@ -4,6 +4,7 @@ use Rattle.serde_json.specs.Data.{Data, number, unsigned, string, object, member
 use Rattle.lam_token.specs.declared.span.Span.{Span}
 use Rattle.lam_text.specs.declared.units.Encoding.{Encoding}
 use Rattle.lam_text.specs.declared.places.Position.{Position}
+use Rattle.lam_text.specs.declared.places.Range.{Range}
 use Rattle.lam_text.specs.Positions.{position_of}
 
 -- a line and a column, both counted from 0
@@ -12,10 +13,18 @@ position_value p =
     object (member (codes "character") (number (unsigned p.character)) (member (codes "line") (number (unsigned p.line)) no_members))
 
 -- the range of a span of that text, in the client's columns
+abbrev pub range_of : Encoding → List ℕ → Span → Range
+range_of encoding text span = record { start = position_of encoding text span.start; end = position_of encoding text span.end }
+
+-- a range as it is written
+abbrev pub written_range : Range → Data
+written_range range =
+    object (member (codes "end") (position_value range.end)
+    (member (codes "start") (position_value range.start) no_members))
+
+-- the range of that span, as it is written
 abbrev pub range_value : Encoding → List ℕ → Span → Data
-range_value encoding text span =
-    object (member (codes "end") (position_value (position_of encoding text span.end))
-    (member (codes "start") (position_value (position_of encoding text span.start)) no_members))
+range_value encoding text span = written_range (range_of encoding text span)
 
 -- that range in the document of this uri
 abbrev pub location_value : Encoding → List ℕ → (uri : List ℕ) → Span → Data

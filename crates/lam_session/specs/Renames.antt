@@ -1,17 +1,20 @@
 -- What a rename is answered with (LSP 3.17, "Rename Request").
-use Rattle.std.specs.Prelude.{◌≡◌, ℕ, List, [], map, codes, Option, None, Some, option_map, unwrap_or, Result, Ok, Err}
+use Rattle.std.specs.Prelude.{◌≡◌, ℕ, List, [], map, codes, Option, None, Some, option_map, option_and_then, unwrap_or, Result, Ok, Err}
 use Rattle.serde_json.specs.Data.{Data, string, array, object, member, no_members}
+use Rattle.serde_json.specs.Find.{get}
 use Rattle.serde_json.specs.View.{items_of}
+use Rattle.lam_rpc.specs.Fields.{text_at, range_of as given_range}
 use Rattle.lam_rpc.specs.Reply.{result_reply}
 use Rattle.lam_token.specs.declared.span.Span.{Span}
 use Rattle.lam_text.specs.declared.units.Encoding.{Encoding}
+use Rattle.lam_text.specs.Edits.{Edit}
 use Rattle.lam_query.specs.declared.renames.RenameFault.{RenameFault}
 use Rattle.lam_query.specs.declared.renames.RenameFault.TheVariants as fault
 use Rattle.lam_query.specs.Renames.{IsRenameIn}
 use Rattle.lam_session.specs.declared.refusals.Refusal.{Refusal}
 use Rattle.lam_session.specs.declared.refusals.Refusal.TheVariants as refusal
 use Rattle.lam_session.specs.Asked.{given_name}
-use Rattle.lam_session.specs.Ranges.{range_value}
+use Rattle.lam_session.specs.Ranges.{range_of, range_value}
 use Rattle.lam_session.specs.Refusals.{refused}
 
 -- the new name; where the params give none, which is refused before, it is an empty text
@@ -21,6 +24,16 @@ new_name params = unwrap_or (given_name params) []
 -- a span of the text gets the new name (LSP 3.17, "TextEdit")
 abbrev pub edit_value : Encoding → List ℕ → (new : List ℕ) → Span → Data
 edit_value encoding text new span = object (member (codes "newText") (string new) (member (codes "range") (range_value encoding text span) no_members))
+
+-- the change that a client makes of a span's edit: the edit's range gets the new name
+abbrev pub change_of : Encoding → List ℕ → (new : List ℕ) → Span → Edit
+change_of encoding text new span = record { range = Some (range_of encoding text span); text = new }
+
+-- the change that such an edit of a reply tells, read by its members
+abbrev pub change_in : Data → Option Edit
+change_in edit =
+    option_and_then (λ new. option_map (λ range. record { range = Some range; text = new }) (option_and_then given_range (get (codes "range") edit)))
+    (text_at (codes "newText") edit)
 
 -- the edits of the document of this uri, one for each span, in their order (LSP 3.17, "WorkspaceEdit")
 abbrev pub rename_value : Encoding → List ℕ → (uri new : List ℕ) → List Span → Data

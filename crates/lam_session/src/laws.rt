@@ -1,12 +1,19 @@
 //! What holds of all runs of a session.
 //! Each law is the contract of a function that does nothing.
-ghost use Rattle.std.specs.Prelude.{◌≡◌, ◌≢◌, ℕ, List, [], map, false, All};
+ghost use Rattle.std.specs.Prelude.{◌≡◌, ◌≢◌, ℕ, List, [], map, reverse, false, All, Some, Ok};
+ghost use Rattle.std.specs.Str.{IsUtf8};
 ghost use Rattle.serde_json.specs.Data.{Data};
 ghost use Rattle.lam_rpc.specs.Kind.{Message};
+ghost use Rattle.lam_text.specs.declared.units.Encoding.{Encoding};
+ghost use Rattle.lam_text.specs.Edits.{text_after};
+ghost use Rattle.lam_token.specs.declared.span.Span.{Span};
+ghost use Rattle.lam_token.specs.Edits.{edited};
 ghost use Rattle.lam_rules.specs.declared.rules.Dialect.{Dialect};
 ghost use Rattle.lam_query.specs.Faults.{Fault};
 ghost use Rattle.lam_query.specs.TextFaults.{AreFaults};
+ghost use Rattle.lam_query.specs.Renames.{IsRenameIn};
 ghost use Rattle.lam_session.specs.Diagnostics.{message_of};
+ghost use Rattle.lam_session.specs.Renames.{edit_value, change_of, change_in};
 ghost use Rattle.lam_session.specs.Runs.{Exchange, Runs, AnswerAlike, concerns, IsAlone, SaysNothing};
 ghost use Rattle.lam_session.specs.State.{State, fresh};
 ghost use Rattle.lam_session.specs.Step.{Steps};
@@ -32,4 +39,12 @@ pub fn one_run()
 /// Each fault that a text can have is told with a message.
 pub fn each_fault_has_a_message()
     ensures { (text : List ℕ) (found : List Fault) (d : Dialect) → AreFaults text found d → All (λ (f : Fault). message_of f.code ≢ []) found }
+{}
+
+/// A client that makes the edits of a rename, from the last to the first, has the text in which the new name stands in the
+/// place of the old one: the ranges that it is told are those of the names, also where the edits behind them are made.
+pub fn rename_edits_apply()
+    ensures made { (encoding : Encoding) (text new : List ℕ) (offset : ℕ) (spans : List Span) → IsUtf8 text → IsRenameIn text offset new (Ok spans)
+        → text_after encoding text (reverse (map (change_of encoding text new) spans)) ≡ edited text spans new }
+    ensures told { (encoding : Encoding) (text new : List ℕ) (span : Span) → change_in (edit_value encoding text new span) ≡ Some (change_of encoding text new span) }
 {}

@@ -24,6 +24,6 @@ mod session;
 mod states;
 mod sync;
 
-pub use laws::{each_fault_has_a_message, isolation, one_run};
+pub use laws::{each_fault_has_a_message, isolation, one_run, rename_edits_apply};
 pub use session::Session;
 pub use states::Config;

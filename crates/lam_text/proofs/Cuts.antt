@@ -29,7 +29,7 @@ lines_of-begins_with_lf (b ∷ bytes) lf = lines_of-lf b bytes lf
 
 -- ---- each text is cut into its lines
 
-EndStands-from : (bytes : List ℕ) → begins_with_lf bytes ≡ false → EndStands Cr bytes
+pub EndStands-from : (bytes : List ℕ) → begins_with_lf bytes ≡ false → EndStands Cr bytes
 EndStands-from [] no_lf = tt
 EndStands-from (b ∷ bytes) no_lf = eqb-false b 10 no_lf
 

@@ -51,7 +51,7 @@ module _ (encoding : Encoding) where
 -- ---- back from a position
 
 -- with the units of a front as room, that front is the longest
-front_within-units : (encoding : Encoding) (xs ys : List ℕ) → front_within encoding (units encoding xs) (xs ++ ys) ≡ xs
+pub front_within-units : (encoding : Encoding) (xs ys : List ℕ) → front_within encoding (units encoding xs) (xs ++ ys) ≡ xs
 front_within-units encoding [] [] = refl
 front_within-units encoding [] (y ∷ ys) = rw (lt-leb (units_of encoding y) 0 (omega (arith, (units_of-bounds encoding y).0))) refl
 front_within-units encoding (x ∷ xs) ys =

@@ -7,3 +7,4 @@ pub mod Walks
 pub mod RowLemmas
 pub mod Lookups
 pub mod LawLemmas
+pub mod Fronts

@@ -16,7 +16,7 @@ use Rattle.lam_text.specs.Rows.{line_start, line_content}
 use Rattle.lam_text.proofs.Splices.{IsAscii-from_all_ascii}
 use Rattle.lam_text.proofs.RowLemmas.{Row, EndedRow, get_or-index, row_at, ended_row_at, last_row, before_end-is, Row-inner_boundary, offset_of-row, offset_of-past, position_of-row}
 
-some_end : (ending : LineEnd) → 1 ≤ length (end_bytes ending)
+pub some_end : (ending : LineEnd) → 1 ≤ length (end_bytes ending)
 some_end CrLf = omega arith
 some_end Lf = omega arith
 some_end Cr = omega arith
