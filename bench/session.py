@@ -86,10 +86,10 @@ class Client:
         return taken
 
     def question(self, method, line, column, **more):
-        """Milliseconds from the frame to the answer, which must be neither null nor a refusal."""
+        """Milliseconds from the frame to the answer, which must be neither null, nor an empty list, nor a refusal."""
         where = {"textDocument": {"uri": URI}, "position": {"line": line, "character": column}, **more}
         taken, body = self.timed(self.request(f"textDocument/{method}", where))
-        if json.loads(body).get("result") is None:
+        if json.loads(body).get("result") in (None, []):
             sys.exit(f"{method}: nothing is answered in line {line}, column {column}")
         return taken
 
@@ -169,11 +169,21 @@ def main():
     row("a rename in the middle", spread([client.question("rename", middle, 0, newName="fresh") for _ in range(20)]))
     row("a rename of the first name", spread([client.question("rename", 0, 0, newName="fresh") for _ in range(20)]))
     row("peak of memory with all three", f"{client.peak() / len(text):.1f} times the text")
+    line = next(at for at, it in enumerate(text.splitlines()) if at > 9_900 and ".a" in it)
+    dot = text.splitlines()[line].index(".a") + 1
+    row("what is listed behind a dot near the end", spread([client.question("completion", line, dot) for _ in range(20)]))
+    row("peak of memory with that too", f"{client.peak() / len(text):.1f} times the text")
     row("the program's status", client.close())
 
     client = Client(program)
     client.open("x = 0;\n" + 10_000 * "x;\n")
     row("a rename of a name that is used 10,000 times", spread([client.question("rename", 0, 0, newName="fresh") for _ in range(20)]))
+    client.close()
+
+    client = Client(program)
+    names = [f"x{number} = {number};\n" for number in range(10_000)]
+    client.open("".join(names) + "x0")
+    row("10,000 names that are listed on a variable", spread([client.question("completion", 10_000, 0) for _ in range(20)]))
     client.close()
 
     text = make_document.document(22_950)

@@ -50,6 +50,9 @@ SIGNS = {
     "definition": r"\^",
     "references": r"\^",
     "rename": r"\^",
+    "labels": r"\^",
+    "names": r"\^",
+    "lists": r"\^",
 }
 CUT_SHORT = "lam_server: F5 Truncated"
 
@@ -138,6 +141,12 @@ def entry(text):
     """An entry of a context, written NAME:TYPE, or NAME:none."""
     name, _, ty = text.partition(":")
     return {"name": name, "type": None if ty == "none" else ty}
+
+
+def item(text, kind):
+    """An entry of a list of completions, written NAME:TYPE, or NAME where no type is told."""
+    name, _, ty = text.partition(":")
+    return {**({"detail": ty} if ty else {}), "kind": kind, "label": name}
 
 
 class Script:
@@ -260,6 +269,8 @@ class Script:
                 self.references(mark, block.uri, cursor, called)
             elif mark.verb == "rename":
                 self.rename(mark, block.uri, cursor, called)
+            elif mark.verb in ("labels", "names", "lists"):
+                self.complete(mark, block.uri, cursor)
             elif mark.verb != "as":
                 self.change(block.uri, start, start if mark.verb == "inserts" else end, quoted(mark.rest))
 
@@ -303,6 +314,14 @@ class Script:
         self.edits = [{"newText": new, "range": location(mark, uri, called, it)["range"]} for it in rest.split()]
         self.ask(mark.line, "textDocument/rename", cursor, uri, {"changes": {uri: self.edits}}, newName=new)
 
+    def complete(self, mark, uri, cursor):
+        """Asks what can stand there: labels behind a dot, names in sight, or nothing."""
+        if mark.verb == "lists" and mark.rest != "nothing":
+            raise Mistake(f"line {mark.line}: what is listed is 'labels' or 'names', or 'lists nothing'")
+        listed = [] if mark.verb == "lists" else parted(expanded(mark.rest))
+        kind = 5 if mark.verb == "labels" else 6
+        self.ask(mark.line, "textDocument/completion", cursor, uri, [item(it, kind) for it in listed])
+
     def apply_edits(self, uri):
         """Changes the text by the edits of the last rename, from the last to the first, so that each finds its place as it was told."""
         for edit in reversed(self.edits):
@@ -331,6 +350,7 @@ class Script:
     def do_initialize(self, line, rest):
         params = {"capabilities": {"general": {"positionEncodings": [self.encoding]}}}
         told = {
+            "completionProvider": {"triggerCharacters": ["."]},
             "definitionProvider": True,
             "hoverProvider": True,
             "positionEncoding": self.encoding,

@@ -9,6 +9,9 @@ ENCODINGS = ("utf-8", "utf-16", "utf-32")
 # <<40*text>>, <<1..40*text with {n} and {n-1}>>, and before the star `sorted` or `by ", "`.
 REPETITION = re.compile(r'<<(\d+)(?:\.\.(\d+))?( sorted)?(?: by ("[^"]*"))?\*(.*?)>>')
 
+# <<3 from Nat*{a:{}, b:{}}>>: three times, {} being what came before.
+NESTING = re.compile(r"<<(\d+) from ([^*<>]*)\*(.*?)>>")
+
 LINE_END = re.compile(r"\r\n|\n|\r")
 
 
@@ -25,9 +28,17 @@ def repeated(found):
     return json.loads(between or '""').join(parts)
 
 
+def nested(found):
+    """The text that a nesting stands for."""
+    text = found[2]
+    for _ in range(int(found[1])):
+        text = found[3].replace("{}", text)
+    return text
+
+
 def expanded(source):
-    """The source with each repetition written out."""
-    return REPETITION.sub(repeated, source)
+    """The source with each repetition and each nesting written out."""
+    return NESTING.sub(nested, REPETITION.sub(repeated, source))
 
 
 def width(character):

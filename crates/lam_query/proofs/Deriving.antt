@@ -65,7 +65,7 @@ types_told t f types (b ∷ bs) none are =
     λ i. one i ∷ rest i
 
 -- the entries of a place are those of the binders that it sees, the outermost first
-entries_told : (cs : List CommandTree) (resolved : Resolved) (typing : Typing) (d : Dialect) (n : ℕ) → AreFoundOf cs resolved typing d
+pub entries_told : (cs : List CommandTree) (resolved : Resolved) (typing : Typing) (d : Dialect) (n : ℕ) → AreFoundOf cs resolved typing d
     → map (λ e. e.type) (map (entry_shown (table cs) (entries_in typing)) (visible_at (table cs) n)) ≡ reverse (context_at (statements_in cs) typing n)
 entries_told cs resolved typing d n h =
     let f = entry_from (statements_in cs) (found_of typing) in

@@ -9,7 +9,7 @@ use Rattle.lam_token.specs.declared.segment.Segment.{Segment}
 use Rattle.lam_token.specs.declared.segment.Segment.TheVariants.{Blank, Comment, Token}
 use Rattle.lam_token.specs.declared.span.Span.{Span}
 use Rattle.lam_token.specs.Lexeme.{Lexeme, lexeme}
-use Rattle.lam_token.specs.Cut.{Part, IsCut, with_token, tokens_of, AreTokensOf}
+use Rattle.lam_token.specs.Cut.{Part, IsCut, with_token, tokens_of, AreTokensFrom, AreTokensOf}
 use Rattle.lam_token.proofs.Cuts.{some_characters}
 use Rattle.lam_syntax.specs.Trees.{CommandTree}
 use Rattle.lam_syntax.specs.Answers.{is_semicolon, onto_first, runs_of, has_tokens, pieces_of}
@@ -26,7 +26,7 @@ use Rattle.lam_query.specs.Commands.{AreCommandsOf, AreCommandsOfText}
 
 -- tokens
 
-tokens_from_lower : (low next high : ℕ) (ts : List Lexeme) → low ≤ next → TokensStand next ts high → TokensStand low ts high
+pub tokens_from_lower : (low next high : ℕ) (ts : List Lexeme) → low ≤ next → TokensStand next ts high → TokensStand low ts high
 tokens_from_lower low next high [] le h = omega (arith, le, h)
 tokens_from_lower low next high (lexeme k x s ∷ ts) le h = (omega (arith, le, h.0), h.1, h.2)
 
@@ -45,8 +45,11 @@ parts_stand start left (p ∷ ps) cut =
     let rest = parts_stand (start + length bytes) cut.0 ps cut.3 in
     (rest.0, with_token_stands p.sort bytes start rest.0 (tokens_of (start + length bytes) ps) some rest.1)
 
+pub tokens_stand_from : (start : ℕ) (text : List ℕ) (ts : List Lexeme) → AreTokensFrom start text ts → (high : ℕ) × TokensStand start ts high
+tokens_stand_from start text ts are = subst (λ us. (high : ℕ) × TokensStand start us high) (sym are.tokens_are) (parts_stand start (chars text) are.parts are.cut)
+
 pub text_stands : (text : List ℕ) (ts : List Lexeme) → AreTokensOf text ts → (high : ℕ) × TokensStand 0 ts high
-text_stands text ts are = subst (λ us. (high : ℕ) × TokensStand 0 us high) (sym are.tokens_are) (parts_stand 0 (chars text) are.parts are.cut)
+text_stands text ts are = tokens_stand_from 0 text ts are
 
 -- pieces, those of each behind those of the pieces before it
 

@@ -36,3 +36,16 @@ pub mod SharedDefinitions
 pub mod RenamedTexts
 pub mod RenamedRows
 pub mod RenameLaws
+pub mod Ascending
+pub mod NamesInSight
+pub mod SightEntries
+pub mod SightNames
+pub mod SortedLabels
+pub mod FoundFields
+pub mod StandingTokens
+pub mod CursorTokens
+pub mod LabelledTokens
+pub mod ReadAround
+pub mod Projected
+pub mod CompletionLaws
+pub mod Completing

@@ -13,7 +13,7 @@ use Rattle.lam_query.specs.Commands.{AreCommandsOf, AreCommandsOfText}
 use Rattle.lam_scope.specs.PlacedTerms.{PlacedTree, term_of}
 use Rattle.lam_query.specs.Hovers.{IsTypedAround, Shown, IsHover, IsShownIn}
 
-one_commands : (ps : List (List Lexeme)) (cs ds : List CommandTree) → AreCommandsOf ps cs → AreCommandsOf ps ds → cs ≡ ds
+pub one_commands : (ps : List (List Lexeme)) (cs ds : List CommandTree) → AreCommandsOf ps cs → AreCommandsOf ps ds → cs ≡ ds
 one_commands [] cs ds h k = h ∙ sym k
 one_commands (p ∷ ps) cs ds (inl h) (inl k) =
     let first = one_tree h.3.spelled k.3.spelled in

@@ -1,5 +1,5 @@
--- Whether a document has a size fault is decided, and it has no two.
-use Rattle.std.proofs.Common.{◌≡◌, ◌⊎◌, ℕ, zero, suc, ◌<◌, ◌≤◌, List, [], ◌∷◌, Option, Some, None, refl, sym, ap, subst, ◌∙◌, inl, inr, arith}
+-- Whether a document has a size fault is decided, as for the places in front of a term, and it has no two.
+use Rattle.std.proofs.Common.{◌≡◌, ◌⊎◌, ℕ, zero, suc, ◌<◌, ◌≤◌, List, [], ◌∷◌, take, Option, Some, None, refl, sym, ap, subst, ◌∙◌, inl, inr, arith}
 use Rattle.std.proofs.lemmas.Bool.{cases_lt}
 use Rattle.lam_rules.specs.Types.{Typ, nodes}
 use Rattle.lam_rules.specs.declared.rules.Dialect.{Dialect}
@@ -16,7 +16,8 @@ use Rattle.lam_query.specs.Sizes.{IsSizeFault, of_written_type, of_term, IsSmall
 use Rattle.lam_typing.proofs.WellFormedPlaces.{AreWellFormedPlaces, places_of_wf}
 use Rattle.lam_scope.proofs.PlacedPlaces.{same_places}
 use Rattle.lam_query.specs.WellTypedDocuments.{statements_in}
-use Rattle.lam_query.proofs.Small.{is_small}
+use Rattle.lam_query.specs.Completions.{IsSmallUpTo}
+use Rattle.lam_query.proofs.Small.{is_small, none_too_large}
 
 pub document_places_wf : (commands : List CommandTree) → AreWellFormedPlaces (places_in commands)
 document_places_wf commands = subst AreWellFormedPlaces (same_places commands) (places_of_wf [] (statements_in commands) tt (document-wf commands))
@@ -86,3 +87,37 @@ module _ (d : Dialect) where
   one_size_fault commands s _ (of_written_type a) (of_term n none large) = let clash : Some s ≡ None = sym a ∙ none in absurd cc
   one_size_fault commands _ r (of_term n none large) (of_written_type b) = let clash : Some r ≡ None = sym b ∙ none in absurd cc
   one_size_fault commands _ _ (of_term m none large) (of_term n none' large') = ap (span_numbered commands) (one_first (places_in commands) m n large large')
+
+-- ---- of any places, of a document, and in front of a term
+
+pub large_or_none : (ps : List Place) (d : Dialect) → AreWellFormedPlaces ps → ((n : ℕ) × IsFirstTooLarge ps n d) ⊎ ((n : ℕ) → IsFirstTooLarge ps n d → ⊥)
+large_or_none ps d wf = by (first_or_none d ps wf)
+  where
+    by : FirstOrNone d ps → ((n : ℕ) × IsFirstTooLarge ps n d) ⊎ ((n : ℕ) → IsFirstTooLarge ps n d → ⊥)
+    by (inl first) = inl first
+    by (inr none) = inr (λ n large. none_too_large ps none.0 n d none.1 none.2 large)
+
+pub small_or_not : (commands : List CommandTree) (d : Dialect) → IsSmall commands d ⊎ (IsSmall commands d → ⊥)
+small_or_not commands d = by (fault_or_small d commands)
+  where
+    by : ((s : Span) × IsSizeFault commands s d) ⊎ IsSmall commands d → IsSmall commands d ⊎ (IsSmall commands d → ⊥)
+    by (inl fault) = inr (λ small. small fault.0 fault.1)
+    by (inr small) = inl small
+
+taken_wf : (n : ℕ) (ps : List Place) → AreWellFormedPlaces ps → AreWellFormedPlaces (take n ps)
+taken_wf zero [] wf = tt
+taken_wf zero (p ∷ ps) wf = tt
+taken_wf (suc n) [] wf = tt
+taken_wf (suc n) (p ∷ ps) wf = (wf.0, taken_wf n ps wf.1)
+
+pub small_up_to_or_not : (commands : List CommandTree) (number : ℕ) (d : Dialect) → IsSmallUpTo commands number d ⊎ (IsSmallUpTo commands number d → ⊥)
+small_up_to_or_not commands number d = by (first_too_large [] commands) refl
+  where
+    by : (found : Option Span) → first_too_large [] commands ≡ found → IsSmallUpTo commands number d ⊎ (IsSmallUpTo commands number d → ⊥)
+    by (Some s) is = inr (λ small. let clash : Some s ≡ None = sym is ∙ small.written in cc)
+    by None is = placed (large_or_none (take number (places_in commands)) d (taken_wf number (places_in commands) (document_places_wf commands)))
+      where
+        placed : ((k : ℕ) × IsFirstTooLarge (take number (places_in commands)) k d) ⊎ ((k : ℕ) → IsFirstTooLarge (take number (places_in commands)) k d → ⊥)
+            → IsSmallUpTo commands number d ⊎ (IsSmallUpTo commands number d → ⊥)
+        placed (inl first) = inr (λ small. small.terms first.0 first.1)
+        placed (inr none) = inl (record { written = is; terms = none })

@@ -114,7 +114,7 @@ one_faults text a b d x y =
 
 -- what is shown
 
-number_wf : (commands : List CommandTree) (n : ℕ) → IsWellFormedPlace (term_of (tree_in (document_terms commands) n)).place
+pub number_wf : (commands : List CommandTree) (n : ℕ) → IsWellFormedPlace (term_of (tree_in (document_terms commands) n)).place
 number_wf commands n = subst IsWellFormedPlace (place_told commands n) (wf_at (places_in commands) n (document_places_wf commands))
 
 term_wf : (commands : List CommandTree) (offset : ℕ) (term : PlacedTree) → innermost_at offset (document_terms commands) ≡ Some term → IsWellFormedPlace (term_of term).place
@@ -170,7 +170,7 @@ least_entry : (b : Binding) (outside : Scope) (g : Context) (entry : Option Typ)
 least_entry (written w) outside g entry d wf least h = h.0
 least_entry (of_term e) outside g entry d wf least h = least_at outside g e entry d (lowest outside g d wf least) h.0
 
-least_entries : (s : Scope) (g : Context) (d : Dialect) → IsWellFormedScope s → LeastContext s g d → AreLeastEntries s g d
+pub least_entries : (s : Scope) (g : Context) (d : Dialect) → IsWellFormedScope s → LeastContext s g d → AreLeastEntries s g d
 least_entries [] [] d wf least = tt
 least_entries (b ∷ outside) (entry ∷ g) d wf least = (least_entry b outside g entry d wf.1 least.1 least, least_entries outside g d wf.1 least.1)
 least_entries [] (entry ∷ g) d wf least = absurd least

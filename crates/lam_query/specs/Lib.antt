@@ -14,7 +14,11 @@ pub mod RowSteps
 pub mod Derivations
 pub mod Views
 pub mod Listing
+pub mod Completions
 pub mod Contexts
+pub mod Listed
+pub mod FieldItems
+pub mod Sight
 pub mod Reading
 pub mod WellTypedDocuments
 pub mod Analyses

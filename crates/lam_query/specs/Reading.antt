@@ -1,8 +1,9 @@
 -- What the tokens of a text are read as, one after another. For private functions alone.
-use Rattle.std.specs.Prelude.{◌≡◌, false, List, [], ◌++◌, ℕ, map, All, Option, Some, None}
+use Rattle.std.specs.Prelude.{◌≡◌, Bool, true, false, List, [], ◌∷◌, ◌++◌, ℕ, map, filter, codes, All, Option, Some, None}
 use Rattle.std.specs.Option.{option_to_list}
 use Rattle.std.specs.List.{filter_map}
-use Rattle.lam_token.specs.Lexeme.{Lexeme}
+use Rattle.lam_token.specs.declared.kind.Kind.TheVariants as kind
+use Rattle.lam_token.specs.Lexeme.{Lexeme, lexeme_at}
 use Rattle.lam_token.specs.Cut.{AreTokensOf, StandsIn}
 use Rattle.lam_syntax.specs.Trees.{CommandTree}
 use Rattle.lam_syntax.specs.Answers.{is_semicolon, pieces_of}
@@ -15,6 +16,7 @@ use Rattle.lam_query.specs.declared.reading.Piece.TheVariants as piece
 use Rattle.lam_query.specs.declared.reading.Parsed.{Parsed}
 use Rattle.lam_query.specs.declared.reading.Reader.{Reader}
 use Rattle.lam_query.specs.Commands.{IsCommandOf, AreCommandsOf}
+use Rattle.lam_query.specs.Completions.{is_in_front, is_behind}
 use Rattle.lam_query.specs.Faults.{Fault}
 use Rattle.lam_query.specs.SyntaxFaults.{fault_of_token, PieceFaults, AreSyntaxFaults}
 use Rattle.lam_query.specs.Views.{fault_of}
@@ -61,6 +63,17 @@ pub record IsPieceRead (before now : Reader) : Type 0 where
   pub commands : (all left : List (List Lexeme)) → AreFound all before.commands.items (with_piece before.piece.items left) → AreFound all now.commands.items left
   pub piece_faults : (all left : List (List Lexeme)) → AreFaultsFound all before.piece_faults.items (with_piece before.piece.items left) → AreFaultsFound all now.piece_faults.items left
   pub token_faults : now.token_faults ≡ before.token_faults
+
+-- the name that stands for a label, at the byte of the dot, in front of these tokens, unless it was taken
+abbrev pub with_name_unless : (taken : Bool) → (dot : ℕ) → List Lexeme → List Lexeme
+with_name_unless true dot left = left
+with_name_unless false dot left = lexeme_at kind.Name (codes "a") dot ∷ left
+
+-- What is known of all tokens with the name among them, where these of the text are left: those in front of the cursor and those behind it, with the name between
+-- them unless it was taken. Where it was, none in front is left.
+pub record AreReadAround (all : List Lexeme) (offset dot : ℕ) (taken : Bool) (reader : Reader) (left : List Lexeme) : Type 0 where
+  pub read : AreRead all reader (filter (is_in_front offset) left ++ with_name_unless taken dot (filter (is_behind offset) left))
+  pub none_in_front : taken ≡ true → filter (is_in_front offset) left ≡ []
 
 -- the commands are those of the text's tokens, which begin and end between characters, and the faults are theirs
 pub record IsRead (text : List ℕ) (parsed : Parsed) : Type 0 where

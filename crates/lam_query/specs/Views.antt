@@ -1,11 +1,12 @@
 -- What the answers stand for.
-use Rattle.std.specs.Prelude.{ℕ, List, map, Option, String, string_bytes}
+use Rattle.std.specs.Prelude.{ℕ, List, map, Option, String, string_bytes, option_map}
 use Rattle.std.specs.declared.alloc.Global.{Global}
 use Rattle.lam_rules.specs.TypeViews.{typ_of}
 use Rattle.lam_rules.specs.TermViews.{written_of}
 use Rattle.lam_rules.specs.declared.types.Ty.{Ty}
 use Rattle.lam_query.specs.declared.answers.Fault.{Fault as RustFault}
 use Rattle.lam_query.specs.declared.answers.Hover.{Hover}
+use Rattle.lam_query.specs.declared.answers.Item.{Item as RustItem}
 use Rattle.lam_query.specs.declared.answers.Derivation.{Derivation as RustDerivation}
 use Rattle.lam_query.specs.declared.answers.Step.{Step as RustStep}
 use Rattle.lam_query.specs.declared.answers.Step.TheVariants as rust
@@ -13,6 +14,7 @@ use Rattle.lam_query.specs.Faults.{Fault}
 use Rattle.lam_query.specs.Within.{StandsIn}
 use Rattle.lam_query.specs.Steps.{Step, typing, subtyping}
 use Rattle.lam_query.specs.Hovers.{Shown}
+use Rattle.lam_query.specs.Completions.{Item}
 use Rattle.lam_query.specs.Derivations.{Entry, Derivation}
 
 -- the code and the span of a `Fault`
@@ -22,6 +24,10 @@ fault_of f = record { code = f.code.now; span = f.span }
 -- the text and the span of a `Hover`
 abbrev pub shown_of : Hover → Shown
 shown_of h = record { text = string_bytes h.text; span = h.span }
+
+-- what an `Item` says
+abbrev pub item_of : RustItem → Item
+item_of i = record { label = string_bytes i.label; detail = option_map (λ d. string_bytes d) i.detail; is_field = i.field }
 
 -- what a `Step` concludes, and from which steps
 abbrev pub step_of : RustStep → Step

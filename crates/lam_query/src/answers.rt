@@ -17,6 +17,17 @@ pub struct Hover {
     pub span: Span,
 }
 
+/// An entry of a list of completions.
+#[derive(Drop, Debug)]
+pub struct Item {
+    /// The label of a field, or a name.
+    pub label: String,
+    /// The text of its type. A name may have none.
+    pub detail: Option<String>,
+    /// Whether it is a label, behind a dot, and not a name.
+    pub field: bool,
+}
+
 /// A proof that a term has a type.
 #[derive(Drop)]
 pub struct Derivation {

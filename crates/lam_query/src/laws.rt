@@ -15,13 +15,14 @@ ghost use Rattle.lam_query.specs.Hovers.{Shown, innermost_at, IsShownIn};
 ghost use Rattle.lam_query.specs.Innermost.{IsInnermost};
 ghost use Rattle.lam_query.specs.Derivations.{Derivation, IsDerivedIn};
 ghost use Rattle.lam_query.specs.Touched.{touched};
+ghost use Rattle.lam_query.specs.Completions.{Item, AreCompletions};
 ghost use Rattle.lam_query.specs.Definitions.{IsDefinitionIn, AreReferencesIn, AreApart};
 ghost use Rattle.lam_query.specs.declared.renames.RenameFault.{RenameFault};
 ghost use Rattle.lam_query.specs.declared.renames.RenameFault.TheVariants.{ChangesBinding};
 ghost use Rattle.lam_query.specs.Renames.{IsRenameIn, IsRenamedText, IsOtherText};
 
 /// A text has one list of commands and one list of faults, and there is one answer to what is shown of an offset in it, to
-/// where the name there comes from, to where that is used, and to a new name for it.
+/// where the name there comes from, to where that is used, to a new name for it, and to what can stand there.
 pub fn one_answer()
     ensures commands { (text : List ℕ) (commands others : List CommandTree) → AreCommandsOfText text commands → AreCommandsOfText text others → commands ≡ others }
     ensures faults { (text : List ℕ) (faults others : List Fault) (d : Dialect) → AreFaults text faults d → AreFaults text others d → faults ≡ others }
@@ -29,6 +30,7 @@ pub fn one_answer()
     ensures definition { (text : List ℕ) (offset : ℕ) (found other : Option Span) → IsDefinitionIn text offset found → IsDefinitionIn text offset other → found ≡ other }
     ensures references { (text : List ℕ) (offset : ℕ) (declared : Bool) (found others : Option (List Span)) → AreReferencesIn text offset declared found → AreReferencesIn text offset declared others → found ≡ others }
     ensures rename { (text : List ℕ) (offset : ℕ) (new : List ℕ) (found other : Result (List Span) RenameFault) → IsRenameIn text offset new found → IsRenameIn text offset new other → found ≡ other }
+    ensures completions { (text : List ℕ) (offset : ℕ) (items others : List Item) (d : Dialect) → AreCompletions text offset items d → AreCompletions text offset others d → items ≡ others }
 {}
 
 /// The term that is shown is the innermost one: each term of the text that has the byte is around it.
@@ -38,7 +40,8 @@ pub fn shown_is_innermost()
 
 /// Every text has a list of faults. At every offset a type is shown or none is, and where one is there is a derivation, and
 /// only there. At every offset there is a definition with its references, or there is none. To each new name for what is
-/// at an offset there is an answer: the spans that get it, or one of the five refusals.
+/// at an offset there is an answer: the spans that get it, or one of the five refusals. At every offset there is a list of
+/// what can stand there, which may be empty.
 pub fn some_answer()
     ensures faults { (text : List ℕ) (d : Dialect) → (faults : List Fault) × AreFaults text faults d }
     ensures shown { (text : List ℕ) (offset : ℕ) (d : Dialect) → (shown : Option Shown) × IsShownIn text offset shown d }
@@ -47,6 +50,7 @@ pub fn some_answer()
     ensures definition { (text : List ℕ) (offset : ℕ) → (found : Option Span) × IsDefinitionIn text offset found }
     ensures references { (text : List ℕ) (offset : ℕ) (declared : Bool) → (found : Option (List Span)) × AreReferencesIn text offset declared found }
     ensures rename { (text : List ℕ) (offset : ℕ) (new : List ℕ) → (found : Result (List Span) RenameFault) × IsRenameIn text offset new found }
+    ensures completions { (text : List ℕ) (offset : ℕ) (d : Dialect) → (items : List Item) × AreCompletions text offset items d }
 {}
 
 /// Where there are references there is a definition, and it is that of each of them too: asked for at their first bytes, it

@@ -1,5 +1,5 @@
 //! The answers about a text: its faults; the type at an offset, and a derivation of it; where the name there comes from,
-//! who uses it, and whether and where it can have another.
+//! who uses it, and whether and where it can have another; and what can stand at an offset.
 //!
 //! Each answer is a function of the text, an offset and the dialect, but for the derivation, which may be any that the
 //! rules accept. Offsets and spans are bytes of the text's UTF-8.
@@ -7,18 +7,23 @@
 
 mod analyses;
 pub mod answers;
+mod completions;
 mod contexts;
+mod cursor;
 mod definitions;
 mod derivations;
+mod fields;
 mod hovers;
 mod laws;
 mod reading;
 mod renames;
+mod sight;
 mod steps;
 mod text_faults;
 mod touched;
 
 pub use analyses::Analysis;
+pub use completions::complete;
 pub use definitions::{definition, references};
 pub use derivations::derivation;
 pub use hovers::hover;

@@ -25,8 +25,8 @@ const WHOLE: &str =
     Content-Length: 33\r\n\r\n{\"jsonrpc\":\"2.0\",\"method\":\"exit\"}";
 
 /// What is answered to them.
-const ANSWERS: &str = "Content-Length: 224\r\n\r\n\
-    {\"id\":0,\"jsonrpc\":\"2.0\",\"result\":{\"capabilities\":{\"definitionProvider\":true,\"hoverProvider\":true,\"positionEncoding\":\"utf-16\",\"referencesProvider\":true,\"renameProvider\":true,\"textDocumentSync\":{\"change\":2,\"openClose\":true}}}}\
+const ANSWERS: &str = "Content-Length: 273\r\n\r\n\
+    {\"id\":0,\"jsonrpc\":\"2.0\",\"result\":{\"capabilities\":{\"completionProvider\":{\"triggerCharacters\":[\".\"]},\"definitionProvider\":true,\"hoverProvider\":true,\"positionEncoding\":\"utf-16\",\"referencesProvider\":true,\"renameProvider\":true,\"textDocumentSync\":{\"change\":2,\"openClose\":true}}}}\
     Content-Length: 38\r\n\r\n{\"id\":2,\"jsonrpc\":\"2.0\",\"result\":null}";
 
 /// How many turns go on, and the status of the one that ends.

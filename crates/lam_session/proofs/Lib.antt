@@ -1,6 +1,7 @@
 pub mod ReplyLemmas
 pub mod HoverLaws
 pub mod DerivationLaws
+pub mod CompletionLaws
 pub mod DefinitionLaws
 pub mod ReferencesLaws
 pub mod RenameLaws

@@ -5,9 +5,10 @@ use Rattle.serde_json.specs.Written.{has_float}
 use Rattle.lam_session.specs.Asked.{Asked}
 use Rattle.lam_session.specs.Questions.{IsAnswerTo, MayVary}
 use Rattle.lam_session.specs.declared.questions.Question.{Question}
-use Rattle.lam_session.specs.declared.questions.Question.TheVariants.{Hover, Derivation, Definition, References, Rename}
+use Rattle.lam_session.specs.declared.questions.Question.TheVariants.{Hover, Derivation, Completion, Definition, References, Rename}
 use Rattle.lam_session.specs.References.{is_declared}
 use Rattle.lam_session.specs.Renames.{new_name}
+use Rattle.lam_session.proofs.CompletionLaws as completion
 use Rattle.lam_session.proofs.DefinitionLaws as definition
 use Rattle.lam_session.proofs.DerivationLaws as derivation
 use Rattle.lam_session.proofs.HoverLaws as hover
@@ -34,6 +35,12 @@ laws Derivation = record {
   alike = λ a id. derivation.alike_replies a.encoding a.dialect a.text a.offset id;
   plain = λ a id. derivation.plain a.encoding a.dialect a.text a.offset id;
   no_method = λ a id. derivation.no_method a.encoding a.dialect a.text a.offset id;
+}
+laws Completion = record {
+  some = λ a id. completion.some_reply a.dialect a.text a.offset id;
+  alike = λ a id one other h k. inl (completion.one_reply a.dialect a.text a.offset id one other h k);
+  plain = λ a id. completion.plain a.dialect a.text a.offset id;
+  no_method = λ a id. completion.no_method a.dialect a.text a.offset id;
 }
 laws Definition = record {
   some = λ a id. definition.some_reply a.encoding a.uri a.text a.offset id;

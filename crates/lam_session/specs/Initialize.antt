@@ -2,7 +2,7 @@
 use Rattle.std.specs.Prelude.{ℕ, List, codes, true, if◌then◌else◌, Option, Some, None, option_and_then, unwrap_or}
 use Rattle.std.specs.Option.{option_or}
 use Rattle.std.specs.Str.{bytes_eq}
-use Rattle.serde_json.specs.Data.{Data, boolean, number, unsigned, string, object, Items, no_items, item, member, no_members}
+use Rattle.serde_json.specs.Data.{Data, boolean, number, unsigned, string, array, object, Items, no_items, item, member, no_members}
 use Rattle.serde_json.specs.Find.{get, as_array, as_str}
 use Rattle.lam_text.specs.declared.units.Encoding.{Encoding}
 use Rattle.lam_text.specs.declared.units.Encoding.TheVariants.{Utf8, Utf16, Utf32}
@@ -45,15 +45,20 @@ chosen params = unwrap_or (option_and_then first_known (offered params)) Utf16
 abbrev pub document_sync : Data
 document_sync = object (member (codes "change") (number (unsigned 2)) (member (codes "openClose") (boolean true) no_members))
 
+-- when a client asks for completion by itself: as soon as a dot is typed
+abbrev pub completion_options : Data
+completion_options = object (member (codes "triggerCharacters") (array (item (string (codes ".")) no_items)) no_members)
+
 -- what the server can do, with the unit that it has chosen
 abbrev pub capabilities : Encoding → Data
 capabilities encoding =
-    object (member (codes "definitionProvider") (boolean true)
+    object (member (codes "completionProvider") completion_options
+    (member (codes "definitionProvider") (boolean true)
     (member (codes "hoverProvider") (boolean true)
     (member (codes "positionEncoding") (string (encoding_name encoding))
     (member (codes "referencesProvider") (boolean true)
     (member (codes "renameProvider") (boolean true)
-    (member (codes "textDocumentSync") document_sync no_members))))))
+    (member (codes "textDocumentSync") document_sync no_members)))))))
 
 -- the answer to `initialize`
 abbrev pub initialize_answer : Encoding → Data

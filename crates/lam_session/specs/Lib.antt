@@ -14,6 +14,7 @@ pub mod Told
 pub mod Asked
 pub mod Hovers
 pub mod Derivations
+pub mod Completions
 pub mod Definitions
 pub mod References
 pub mod Renames

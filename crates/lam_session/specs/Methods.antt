@@ -19,6 +19,7 @@ requests =
     ∷ (codes "shutdown", request.Shutdown)
     ∷ (codes "textDocument/hover", request.Ask question.Hover)
     ∷ (codes "fullsub/derivation", request.Ask question.Derivation)
+    ∷ (codes "textDocument/completion", request.Ask question.Completion)
     ∷ (codes "textDocument/definition", request.Ask question.Definition)
     ∷ (codes "textDocument/references", request.Ask question.References)
     ∷ (codes "textDocument/rename", request.Ask question.Rename)

@@ -3,6 +3,7 @@
 use Rattle.std.specs.Prelude.{◌≡◌, ℕ, List, [], ◌∷◌, Option, None, Some}
 use Rattle.serde_json.specs.Data.{Data}
 use Rattle.lam_session.specs.Asked.{Place, asked_place, Asked, asked_at}
+use Rattle.lam_session.specs.Completions.{IsCompletionReply}
 use Rattle.lam_session.specs.Derivations.{IsDerivationReply, GivesDerivation}
 use Rattle.lam_session.specs.Definitions.{IsDefinitionReply}
 use Rattle.lam_session.specs.Documents.{OpenDocuments, open_text}
@@ -13,13 +14,14 @@ use Rattle.lam_session.specs.Refusals.{refused}
 use Rattle.lam_session.specs.Renames.{new_name, IsRenameReply}
 use Rattle.lam_session.specs.State.{State, open_in}
 use Rattle.lam_session.specs.declared.questions.Question.{Question}
-use Rattle.lam_session.specs.declared.questions.Question.TheVariants.{Hover, Derivation, Definition, References, Rename}
+use Rattle.lam_session.specs.declared.questions.Question.TheVariants.{Hover, Derivation, Completion, Definition, References, Rename}
 use Rattle.lam_session.specs.declared.refusals.Refusal.TheVariants.{InvalidParams, DocumentNotOpen}
 
 -- the reply to the request with this id answers the question
 abbrev pub IsAnswerTo : Question → Asked → Data → Data → Type 0
 IsAnswerTo Hover a id reply = IsHoverReply a.encoding a.dialect a.text a.offset id reply
 IsAnswerTo Derivation a id reply = IsDerivationReply a.encoding a.dialect a.text a.offset id reply
+IsAnswerTo Completion a id reply = IsCompletionReply a.dialect a.text a.offset id reply
 IsAnswerTo Definition a id reply = IsDefinitionReply a.encoding a.uri a.text a.offset id reply
 IsAnswerTo References a id reply = IsReferencesReply a.encoding a.uri a.text a.offset (is_declared a.params) id reply
 IsAnswerTo Rename a id reply = IsRenameReply a.encoding a.uri a.text a.offset (new_name a.params) id reply

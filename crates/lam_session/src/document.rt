@@ -3,15 +3,16 @@ ghost use Rattle.std.specs.Prelude.{◌≡◌, ◌≢◌, true, map, option_map,
 ghost use Rattle.lam_query.specs.Derivations.{IsDerivedIn};
 ghost use Rattle.lam_query.specs.Hovers.{IsShownIn};
 ghost use Rattle.lam_query.specs.Analyses.{IsAnalysisOf, dialect_of};
+ghost use Rattle.lam_query.specs.Completions.{AreCompletions};
 ghost use Rattle.lam_query.specs.Definitions.{IsDefinitionIn, AreReferencesIn};
 ghost use Rattle.lam_query.specs.Renames.{IsRenameIn};
 ghost use Rattle.lam_query.specs.TextFaults.{AreFaults};
-ghost use Rattle.lam_query.specs.Views.{fault_of, shown_of, derivation_of, StepStandsIn};
+ghost use Rattle.lam_query.specs.Views.{fault_of, shown_of, item_of, derivation_of, StepStandsIn};
 ghost use Rattle.lam_query.specs.Within.{StandsIn};
 ghost use Rattle.lam_text.specs.Edits.{text_after};
 ghost use Rattle.lam_text.specs.Positions.{offset_of};
 
-use lam_query::answers::{Derivation, Fault, Hover};
+use lam_query::answers::{Derivation, Fault, Hover, Item};
 use lam_query::{Analysis, RenameFault};
 use lam_rules::Dialect;
 use lam_text::{Change, Doc, Encoding, Position};
@@ -145,6 +146,15 @@ impl Document {
     {
         let offset = self.doc.offset_of(position);
         self.analysis().derivation(alloc, self.doc.text(), offset)
+    }
+
+    /// What can stand at a position.
+    pub fn complete(&self, alloc: Global, position: Position) -> Result<Vec<Item>, AllocError>
+        requires { self.now.analysed ≡ true }
+        ensures { IfOk result (λ items. AreCompletions self.now.text (offset_of self.now.encoding self.now.text position) (map item_of items.items) self.now.dialect) }
+    {
+        let offset = self.doc.offset_of(position);
+        self.analysis().complete(alloc, self.doc.text(), offset)
     }
 
     /// Where the name at a position comes from.

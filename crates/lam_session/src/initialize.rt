@@ -1,7 +1,7 @@
 //! What `initialize` settles.
 ghost use Rattle.std.specs.Prelude.{◌≡◌, IfOk, option_map};
 ghost use Rattle.serde_json.specs.View.{view, items_view};
-ghost use Rattle.lam_session.specs.Initialize.{encoding_name, encoding_named, encoding_of, offered, first_known, chosen, document_sync, capabilities, initialize_answer};
+ghost use Rattle.lam_session.specs.Initialize.{encoding_name, encoding_named, encoding_of, offered, first_known, chosen, completion_options, document_sync, capabilities, initialize_answer};
 
 use crate::objects::Object;
 use lam_text::Encoding;
@@ -82,12 +82,23 @@ fn capabilities(alloc: Global, encoding: Encoding) -> Result<Value, AllocError>
     ensures { IfOk result (λ value. view value ≡ capabilities encoding) }
 {
     Object::new(alloc)
+        .value("completionProvider", completion_options(alloc))
         .value("definitionProvider", Ok(Value::from(true)))
         .value("hoverProvider", Ok(Value::from(true)))
         .text("positionEncoding", encoding_name(encoding))
         .value("referencesProvider", Ok(Value::from(true)))
         .value("renameProvider", Ok(Value::from(true)))
         .value("textDocumentSync", document_sync(alloc))
+        .finish()
+}
+
+fn completion_options(alloc: Global) -> Result<Value, AllocError>
+    ensures { IfOk result (λ value. view value ≡ completion_options) }
+{
+    let mut characters = Vec::new(alloc);
+    characters.push(Value::try_from_str(alloc, ".")?)?;
+    Object::new(alloc)
+        .value("triggerCharacters", Ok(Value::Array(characters)))
         .finish()
 }
 

@@ -4,6 +4,7 @@
 //! it in which state, and which state follows. Nothing here knows frames, bytes or devices.
 #![tactic(auto)]
 
+mod completion;
 mod conversation;
 mod definition;
 mod derivation;

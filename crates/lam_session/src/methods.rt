@@ -23,13 +23,17 @@ pub enum NoticeMethod {
 }
 
 /// The requests by their names.
-static REQUESTS: [(&str, RequestMethod); 7] = [
+static REQUESTS: [(&str, RequestMethod); 8] = [
     ("initialize", RequestMethod::Initialize),
     ("shutdown", RequestMethod::Shutdown),
     ("textDocument/hover", RequestMethod::Ask(Question::Hover)),
     (
         "fullsub/derivation",
         RequestMethod::Ask(Question::Derivation),
+    ),
+    (
+        "textDocument/completion",
+        RequestMethod::Ask(Question::Completion),
     ),
     (
         "textDocument/definition",

@@ -4,6 +4,7 @@ ghost use Rattle.serde_json.specs.View.{view};
 ghost use Rattle.lam_session.specs.Asked.{has_rest};
 ghost use Rattle.lam_session.specs.Questions.{Replies};
 
+use crate::completion::completion_reply;
 use crate::definition::definition_reply;
 use crate::derivation::derivation_reply;
 use crate::documents::Documents;
@@ -22,6 +23,8 @@ pub enum Question {
     Hover,
     /// Why it has that type.
     Derivation,
+    /// What can stand there.
+    Completion,
     /// Where the name comes from.
     Definition,
     /// Who uses it.
@@ -55,6 +58,7 @@ pub fn reply_to(
     match question {
         Question::Hover => hover_reply(alloc, id, document, position),
         Question::Derivation => derivation_reply(alloc, id, document, position),
+        Question::Completion => completion_reply(alloc, id, document, position),
         Question::Definition => definition_reply(alloc, id, uri, document, position),
         Question::References => references_reply(alloc, id, params, uri, document, position),
         Question::Rename => rename_reply(alloc, id, params, uri, document, position),

@@ -1,3 +1,4 @@
+use Rattle.lam_query.proofs.CompletionLaws.{one_list_of_completions}
 use Rattle.lam_query.proofs.SomeAnswers.{one_faults}
 use Rattle.lam_query.proofs.OneAnswer.{one_document, one_hover}
 use Rattle.lam_query.proofs.DefinitionLaws.{one_definition, one_list_of_references}
@@ -21,3 +22,6 @@ returns-clause-references c = one_list_of_references
 
 pub returns-clause-rename : goal.returns-clause-rename
 returns-clause-rename c = one_rename
+
+pub returns-clause-completions : goal.returns-clause-completions
+returns-clause-completions c = λ text offset items others d h k. one_list_of_completions text offset items others d h k

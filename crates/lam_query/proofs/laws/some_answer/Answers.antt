@@ -1,3 +1,4 @@
+use Rattle.lam_query.proofs.CompletionLaws.{some_completions}
 use Rattle.lam_query.proofs.SomeAnswers.{some_faults, some_hover, some_derivation, shown_of_derived}
 use Rattle.lam_query.proofs.DefinitionLaws.{some_definition, some_references}
 use Rattle.lam_query.proofs.RenameLaws.{some_rename}
@@ -23,3 +24,6 @@ returns-clause-references c = some_references
 
 pub returns-clause-rename : goal.returns-clause-rename
 returns-clause-rename c = some_rename
+
+pub returns-clause-completions : goal.returns-clause-completions
+returns-clause-completions c = λ text offset d. some_completions text offset d

@@ -5,6 +5,9 @@ use Rattle.lam_query.specs.Reading.{AreRead}
 use Rattle.lam_query.proofs.PiecesRead.{commands_read, faults_read}
 use Rattle.lam_query.proofs.reading.read.Goals as goal
 
+pub loop-token-init : goal.loop-token-init
+loop-token-init c = record { is_text = c.utf8.text; place = omega arith; read = c.new-reader.ensures (tokens_at 0 c.args.text.now) }
+
 pub loop-token-preserved : goal.loop-token-preserved
 loop-token-preserved c =
     let told = first_told _ _ _ _ c.in-Some.ensures.first in

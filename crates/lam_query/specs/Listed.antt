@@ -1,0 +1,42 @@
+-- What is listed behind a dot, read off commands in which one label stands there. For private functions alone.
+use Rattle.std.specs.Prelude.{◌≡◌, ℕ, suc, List, [], map, true, Some, All, Contains}
+use Rattle.lam_token.specs.declared.span.Span.{Span}
+use Rattle.lam_rules.specs.Types.{Label, Typ}
+use Rattle.lam_rules.specs.Terms.{Term, project}
+use Rattle.lam_rules.specs.Texts.{text}
+use Rattle.lam_rules.specs.declared.rules.Dialect.{Dialect}
+use Rattle.lam_syntax.specs.Trees.{CommandTree}
+use Rattle.lam_scope.specs.Labels.{place_in}
+use Rattle.lam_typing.specs.LeastTypes.{IsLeastAt}
+use Rattle.lam_query.specs.Completions.{Item, AreAscending, IsSmallUpTo}
+use Rattle.lam_query.specs.Sizes.{IsSizeFault, IsSmall}
+
+-- the term of this number is a projection, and the one before it is that of which it asks
+pub record IsProjection (commands : List CommandTree) (number : ℕ) : Type 0 where
+  pub operand : Term
+  pub label : Label
+  pub asks : (place_in commands number).here ≡ project operand label
+  pub before : ℕ
+  pub is_next : number ≡ suc before
+  pub operand_there : place_in commands before ≡ record { scope = (place_in commands number).scope; here = operand }
+
+-- the projection of this number, if it asked for this label, had this least type
+abbrev pub HasLeast : {commands : List CommandTree} {number : ℕ} → IsProjection commands number → Label → Typ → Dialect → Type 0
+HasLeast {commands} {number} p l t d = IsLeastAt (place_in commands number).scope (project p.operand l) (Some t) d
+
+-- just the labels with which it has a type, each with the text of the least
+pub record AreFields {commands : List CommandTree} {number : ℕ} (p : IsProjection commands number) (items : List Item) (d : Dialect) : Type 0 where
+  pub ascending : AreAscending items
+  pub each : All (λ i. (t : Typ) × HasLeast p i.label t d × (i ≡ record { label = i.label; detail = Some (text t); is_field = true })) items
+  pub every : (l : Label) (t : Typ) → HasLeast p l t d → Contains (map (λ i. i.label) items) l
+
+-- these, or none where something in front of the projection is too large
+pub data AreListed : (commands : List CommandTree) (number : ℕ) → List Item → Dialect → Type 0 where
+  fields : {commands : List CommandTree} {number : ℕ} {items : List Item} {d : Dialect} (p : IsProjection commands number)
+      → IsSmallUpTo commands number d → AreFields p items d → AreListed commands number items d
+  too_large : {commands : List CommandTree} {number : ℕ} {d : Dialect} → (IsSmallUpTo commands number d → ⊥) → AreListed commands number [] d
+
+-- Those of commands that have no such label yet; none where they have a size fault.
+pub data AreListedFor : (commands others : List CommandTree) (number : ℕ) → List Item → Dialect → Type 0 where
+  small : {commands others : List CommandTree} {number : ℕ} {items : List Item} {d : Dialect} → IsSmall commands d → AreListed others number items d → AreListedFor commands others number items d
+  large : {commands others : List CommandTree} {number : ℕ} {d : Dialect} (s : Span) → IsSizeFault commands s d → AreListedFor commands others number [] d

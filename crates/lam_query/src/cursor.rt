@@ -1,0 +1,132 @@
+//! What stands before the cursor: a dot, a word that it touches.
+ghost use Rattle.std.specs.Prelude.{◌≡◌, ◌+◌, ◌<◌, ◌^◌, List, Some, None, IfSome};
+ghost use Rattle.std.specs.Option.{option_map};
+ghost use Rattle.lam_token.specs.Lexeme.{Lexeme, start_of};
+ghost use Rattle.lam_token.specs.Cut.{AreTokensOf};
+ghost use Rattle.lam_query.specs.Completions.{is_word_kind, reaches, is_touched, is_around, is_in_front, is_behind, touched_word, if_dot, dot_before};
+
+use lam_token::{Kind, Token, first_token};
+
+/// The first byte of the dot that stands before the cursor, and before the word that it touches; none where another token
+/// is there, or around the cursor. The byte behind the dot has an offset too.
+pub(crate) fn dot_before(text: &str, offset: usize) -> Option<usize>
+    ensures dot { (tokens : List Lexeme) → AreTokensOf text.now tokens → result ≡ option_map start_of (dot_before offset tokens) }
+    ensures fits { IfSome result (λ start. start + 1 < 2 ^ 64) }
+{
+    let mut dot = None;
+    let mut rest = text;
+    let mut start = 0;
+    while let Some((token, after)) = first_token(rest, start) {
+        if is_around(&token, offset) {
+            return None;
+        }
+        if is_in_front(&token, offset) {
+            dot = start_of_dot(&token);
+        }
+        rest = after;
+        start = token.end();
+    }
+    dot
+}
+
+/// The byte at which the word that the cursor touches begins, if it touches one.
+pub(crate) fn touched_word(text: &str, offset: usize) -> Option<usize>
+    ensures { (tokens : List Lexeme) → AreTokensOf text.now tokens → result ≡ option_map start_of (touched_word offset tokens) }
+{
+    let mut rest = text;
+    let mut start = 0;
+    while let Some((token, after)) = first_token(rest, start) {
+        if is_touched(&token, offset) {
+            return Some(token.start());
+        }
+        rest = after;
+        start = token.end();
+    }
+    None
+}
+
+/// Whether the token is no word that the cursor touches, and ends in front of the cursor or at it.
+pub(crate) fn is_in_front(token: &Token<'_>, offset: usize) -> bool
+    ensures { result ≡ is_in_front offset token.now }
+{
+    if is_touched(token, offset) {
+        return false;
+    }
+    token.end() <= offset
+}
+
+/// Whether the token is no word that the cursor touches, and begins behind the cursor or at it.
+pub(crate) fn is_behind(token: &Token<'_>, offset: usize) -> bool
+    ensures { result ≡ is_behind offset token.now }
+{
+    if is_touched(token, offset) {
+        return false;
+    }
+    offset <= token.start()
+}
+
+/// Whether the token is no word that the cursor touches, and has the cursor strictly inside of it.
+fn is_around(token: &Token<'_>, offset: usize) -> bool
+    ensures { result ≡ is_around offset token.now }
+{
+    if is_touched(token, offset) {
+        return false;
+    }
+    if offset <= token.start() {
+        return false;
+    }
+    offset < token.end()
+}
+
+/// Whether the token is a word that has the cursor in it, or at its start or its end.
+fn is_touched(token: &Token<'_>, offset: usize) -> bool
+    ensures { result ≡ is_touched offset token.now }
+{
+    if !is_word(token.kind()) {
+        return false;
+    }
+    reaches(token, offset)
+}
+
+/// Whether the offset is in the token, or just behind it.
+fn reaches(token: &Token<'_>, offset: usize) -> bool
+    ensures { result ≡ reaches offset token.now }
+{
+    if offset < token.start() {
+        return false;
+    }
+    offset <= token.end()
+}
+
+/// The first byte of the token, if it is a dot.
+fn start_of_dot(token: &Token<'_>) -> Option<usize>
+    ensures { result ≡ option_map start_of (if_dot token.now) }
+{
+    match token.kind() {
+        Kind::Dot => Some(token.start()),
+        _ => None,
+    }
+}
+
+/// Whether tokens of this kind are words: names, type names and the words of the language.
+fn is_word(kind: Kind) -> bool
+    ensures { result ≡ is_word_kind kind }
+{
+    match kind {
+        Kind::Numeral => false,
+        Kind::Semicolon => false,
+        Kind::Equals => false,
+        Kind::Colon => false,
+        Kind::Dot => false,
+        Kind::Comma => false,
+        Kind::OpenParen => false,
+        Kind::CloseParen => false,
+        Kind::OpenBrace => false,
+        Kind::CloseBrace => false,
+        Kind::Arrow => false,
+        Kind::Underscore => false,
+        Kind::BadCharacter => false,
+        Kind::BadComment => false,
+        _ => true,
+    }
+}
