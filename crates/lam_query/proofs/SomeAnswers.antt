@@ -247,7 +247,7 @@ some_derived commands offset d = by (typed_or_none commands offset d)
             types = types_named names (reverse context.0) as_many;
             tree = proof.0;
             proof = proof.1.0;
-            concluded = ap text_of_type proof.1.1;
+            concluded = proof.1.1;
             steps = refl;
           },
         )

@@ -1,7 +1,7 @@
 -- Why a term has the type that is shown of it.
 use Rattle.std.specs.Prelude.{◌≡◌, ℕ, List, map, reverse, Option, Some, None}
 use Rattle.lam_rules.specs.Types.{Typ}
-use Rattle.lam_rules.specs.Texts.{Text, text}
+use Rattle.lam_rules.specs.Texts.{Text}
 use Rattle.lam_rules.specs.Typing.{Context, TypingTree, type_in, IsTyping}
 use Rattle.lam_rules.specs.declared.rules.Dialect.{Dialect}
 use Rattle.lam_syntax.specs.Trees.{CommandTree}
@@ -28,7 +28,7 @@ abbrev pub names_seen : PlacedTree → List Text
 names_seen t = map shown_name (reverse (term_of t).names)
 
 -- The context has the names and the least entries of the binders that the innermost term round the offset sees. The steps are those of a proof by the rules, in that
--- context, that the term has a type with the text that is shown of it.
+-- context, that the term has the type that is shown of it.
 pub record IsDerivationAround (commands : List CommandTree) (offset : ℕ) (derivation : Derivation) (d : Dialect) : Type 0 where
   pub term : PlacedTree
   pub type : Typ
@@ -39,7 +39,7 @@ pub record IsDerivationAround (commands : List CommandTree) (offset : ℕ) (deri
   pub types : map (λ e. e.type) derivation.context ≡ reverse entries
   pub tree : TypingTree
   pub proof : IsTyping entries (term_of term).place.here tree d
-  pub concluded : text (type_in tree) ≡ text type
+  pub concluded : type_in tree ≡ type
   pub steps : derivation.steps ≡ steps_of 0 (typing_proof term tree)
 
 -- a derivation, or none where nothing is shown
