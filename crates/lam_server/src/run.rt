@@ -13,14 +13,14 @@ use std::alloc::Global;
 
 /// Answers all that the reader brings, and says with which status the program ends.
 ///
-/// What goes out are the session's answers about the texts as the client's edits left them, in the dialect of `config`: a
-/// hover shows the least type that the declarative rules give the innermost term, and a derivation of it is handed out; a
-/// fault of types is told only where they give none, and one in each text whose definitions or evaluations lack one; the
-/// edits of a rename leave binding as it was; behind a dot exactly those labels are listed with which the projection has a
-/// type. This is said of terms in pieces that are commands (behind a dot, with the label put in) and of texts without a type
-/// of more than 4,096 nodes; what is answered otherwise is in the clauses too. `told` says it of devices that tell their
-/// bytes, `runs` of the others by their counts; after a device's fault or want of memory it is said of a front of the
-/// answers.
+/// What goes out are the session's answers about the texts as the client's edits left them, in the dialect of `config`:
+/// a hover shows the least type that the declarative rules give the innermost term, and a derivation of it is handed
+/// out; a term is blamed only where they give it none, and faults of types are told in just those texts in which a
+/// written type stands for none, or a definition or an evaluation has no type; the edits of a rename leave binding as
+/// it was; behind a dot exactly those labels are listed with which the projection has a type. This is said of terms in
+/// pieces that are commands (behind a dot, with the label put in) and of texts without a type of more than 4,096 nodes;
+/// what is answered otherwise is in the clauses too. `told` says it of devices that tell their bytes, `runs` of the
+/// others by their counts; after a device's fault or want of memory it is said of a front of the answers.
 ///
 /// What is answered depends on the bytes alone: every input has one output that is allowed for it,
 /// and what begins the output for some bytes begins it for any more of them.
