@@ -9,3 +9,5 @@ pub mod Steps
 pub mod AnswerLaws
 pub mod RespelledTrees
 pub mod RespelledPieces
+pub mod SameKinds
+pub mod ContinuedTexts

@@ -6,3 +6,4 @@ pub mod Respelled
 pub mod Answers
 pub mod Run
 pub mod Reads
+pub mod Continued

@@ -23,7 +23,7 @@ mod types;
 
 pub use fault::ParseFault;
 pub use identifier::{Binder, Identifier};
-pub use laws::{letters_and_places_are_free, one_answer};
+pub use laws::{letters_and_places_are_free, one_answer, some_text_goes_on};
 pub use parser::parse;
 pub use splitting::{is_semicolon, pieces};
 pub use terms::{

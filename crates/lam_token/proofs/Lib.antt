@@ -11,3 +11,6 @@ pub mod Places
 pub mod Moved
 pub mod EditedTexts
 pub mod NamePlaces
+pub mod BlankEnds
+pub mod SimpleTexts
+pub mod LongerTexts
