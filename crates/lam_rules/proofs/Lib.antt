@@ -12,8 +12,10 @@ pub mod LabelOrder
 pub mod SharedTexts
 pub mod Composing
 pub mod SortedBelow
+pub mod ReadTexts
 pub mod SortedSizes
 pub mod Tables
 pub mod TableEntries
 pub mod TableFields
+pub mod FirstFields
 pub mod ShapeKeys

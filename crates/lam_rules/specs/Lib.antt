@@ -10,6 +10,7 @@ pub mod Typing
 pub mod TypingViews
 pub mod Sorting
 pub mod SharedTexts
+pub mod ReadableLabels
 pub mod TypeCodes
 pub mod Numbers
 pub mod Entries

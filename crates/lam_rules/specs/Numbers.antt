@@ -1,6 +1,7 @@
 -- Numbers that stand for types. A table of types is seen as the list of the types of its numbers, from number 0 on.
-use Rattle.std.specs.Prelude.{◌≡◌, ℕ, ◌<◌, List, [], ◌∷◌, ◌++◌, length, String, string_bytes}
-use Rattle.std.specs.List.{slice_index_or}
+use Rattle.std.specs.Prelude.{◌≡◌, ℕ, ◌<◌, List, [], ◌∷◌, ◌++◌, length, String, string_bytes, Option, option_map}
+use Rattle.std.specs.List.{slice_index_or, find}
+use Rattle.std.specs.Str.{bytes_eq}
 use Rattle.std.specs.declared.alloc.Global.{Global}
 use denote.Ref.{Bor}
 use Rattle.lam_rules.specs.Types.{Label, Typ, bool, nat, unit, top, arrow, record_of, Fields, no_fields, field}
@@ -71,6 +72,10 @@ HaveDistinctLabels (f ∷ fs) = IsNotAmong (string_bytes f.0) fs × HaveDistinct
 abbrev pub HasDistinctLabels : Shape → Type 0
 HasDistinctLabels (Shape.Record fields) = HaveDistinctLabels fields.items
 HasDistinctLabels _ = Unit {0}
+
+-- what stands under a label: the value of the first field that has it
+abbrev pub first_under : {X : Type 0} → Label → List (String Global × X) → Option X
+first_under l fs = option_map (λ f. f.1) (find (λ f. bytes_eq (string_bytes f.0) l) fs)
 
 -- Labelled numbers that a caller gives, whose labels are borrowed.
 

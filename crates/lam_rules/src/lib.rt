@@ -20,7 +20,7 @@ mod texts;
 mod types;
 mod typing;
 
-pub use laws::types_below_each_other_have_one_size;
+pub use laws::{one_text, types_below_each_other_have_one_size};
 pub use numbers::{Shape, TyNo, labels_differ, number_under};
 pub use rules::{Dialect, SubRule, TypeRule};
 pub use subtyping::{SubProof, check_sub};

@@ -1,8 +1,8 @@
 //! Numbers that stand for types, and shapes over them, without the table that tells which types they are.
 
-ghost use Rattle.std.specs.Prelude.{◌↔◌, ◌<◌, ℕ, List, IsTrue, IfOk, IfSome, IfNone};
+ghost use Rattle.std.specs.Prelude.{◌≡◌, ◌↔◌, ◌<◌, ℕ, List, IsTrue, IfOk, IfSome, IfNone};
 ghost use Rattle.lam_rules.specs.Types.{Typ, Has, IsAbsent};
-ghost use Rattle.lam_rules.specs.Numbers.{type_of, fields_over, AreEarlier, IsNotAmong, HaveDistinctLabels};
+ghost use Rattle.lam_rules.specs.Numbers.{type_of, fields_over, AreEarlier, IsNotAmong, HaveDistinctLabels, first_under};
 ghost use Rattle.lam_rules.specs.Entries.{AreSame, IsSame, AreCopies};
 
 use std::alloc::{AllocError, Global};
@@ -25,11 +25,12 @@ pub enum Shape {
     Record(Vec<(String, TyNo)>),
 }
 
-/// The number under a label.
+/// The number under a label, that of the first field where several have the label.
 pub fn number_under(label: &str, fields: &[(String, TyNo)]) -> Option<TyNo>
     ensures below { IfSome result (λ number. (n : ℕ) → AreEarlier n fields.now → number.index < n) }
     ensures some { IfSome result (λ number. (ts : List Typ) → Has label.now (type_of ts number) (fields_over ts fields.now)) }
     ensures none { IfNone result ((ts : List Typ) → IsAbsent label.now (fields_over ts fields.now)) }
+    ensures first { result ≡ first_under label.now fields.now }
 {
     for field in fields {
         if field.0.as_str() == label {

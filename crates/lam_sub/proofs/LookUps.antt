@@ -1,12 +1,16 @@
 -- Fields found by their labels, and lists of fields put together.
-use Rattle.std.proofs.Common.{◌≡◌, ◌⊎◌, ◌++◌, ℕ, List, [], ◌∷◌, String, Bool, true, false, if◌then◌else◌, ap, sym, ◌∙◌, refl, inl, inr, subst, take, drop, string_bytes, ◌+◌, ◌<◌, length, get_or, Option, Some, None, is_some, IfSome, IfNone}
+use Rattle.std.proofs.Common.{◌≡◌, ◌⊎◌, ◌++◌, ℕ, List, [], ◌∷◌, String, Bool, true, false, if◌then◌else◌, ap, sym, ◌∙◌, refl, inl, inr, subst, take, drop, string_bytes, ◌+◌, ◌<◌, length, get_or, Option, Some, None, is_some, IfSome, IfNone, min}
+use Rattle.std.specs.Option.{option_map, option_or}
+use Rattle.std.specs.List.{find}
 use Rattle.std.specs.Str.{bytes_eq}
 use Rattle.std.specs.declared.alloc.Global.{Global}
-use Rattle.std.proofs.lemmas.List.{take-append-drop}
+use Rattle.std.proofs.lemmas.List.{take-append-drop, drop_min, take_min}
+use Rattle.std.proofs.lemmas.List.Folds.{find-append}
 use Rattle.std.proofs.lemmas.Slice.Eq.{bytes_eq-Decides}
 use Rattle.std.proofs.lemmas.Bool.Decides.{not_from_Decides}
 use Rattle.lam_rules.specs.Types.{Label, Typ, Fields, no_fields, field, joined, Has, IsAbsent, AreWellFormed}
 use Rattle.lam_rules.specs.TypeViews.{typ_of, fields_of}
+use Rattle.lam_rules.specs.Numbers.{first_under}
 use Rattle.lam_rules.specs.Subtyping.{BeginsWith}
 use Rattle.lam_rules.specs.declared.types.Ty.{Ty}
 use Rattle.lam_rules.proofs.Permutations.{absent_not}
@@ -157,6 +161,36 @@ pub absent_cut : (fs : List (String Global × Ty)) (n : ℕ) (l : Label) → IsA
 absent_cut fs n l a b =
     subst (λ gs. IsAbsent l (fields_of gs)) (take-append-drop n fs)
     (subst (λ r. IsAbsent l r) (sym (fields_of-append (take n fs) (drop n fs))) (absent_in_both (fields_of (take n fs)) (fields_of (drop n fs)) l a b))
+
+-- the first that is met from a place on, and then from the front
+
+either_mapped : {X Y : Type 0} (v : X → Y) (o p : Option X) → option_map v (option_or o p) ≡ option_or (option_map v o) (option_map v p)
+either_mapped v None p = refl
+either_mapped v (Some x) p = refl
+
+pub first_of_two : {X : Type 0} (l : Label) (fs front back : List (String Global × X)) (near n : ℕ) → n ≡ min near (length fs) → front ≡ take n fs → back ≡ drop n fs
+    → first_under l (drop near fs ++ take near fs) ≡ option_or (first_under l back) (first_under l front)
+first_of_two l fs front back near n is in_front behind =
+    ap (option_map (λ f. f.1)) (find-append (λ f. bytes_eq (string_bytes f.0) l) (drop near fs) (take near fs))
+    ∙ either_mapped (λ f. f.1) (find (λ f. bytes_eq (string_bytes f.0) l) (drop near fs)) (find (λ f. bytes_eq (string_bytes f.0) l) (take near fs))
+    ∙ ap (λ gs. option_or (first_under l gs) (first_under l (take near fs))) (sym (behind ∙ ap (λ m. drop m fs) is ∙ drop_min near fs))
+    ∙ ap (λ gs. option_or (first_under l back) (first_under l gs)) (sym (in_front ∙ ap (λ m. take m fs) is ∙ take_min near fs))
+
+-- it is met in the one part, or in the other
+
+pub met_in_one : {X : Type 0} (o p q : Option X) (x : X) → q ≡ option_or o p → Some x ≡ o → Some x ≡ q
+met_in_one o p q x whole e = sym (whole ∙ ap (λ a. option_or a p) (sym e))
+
+pub met_in_other : {X : Type 0} (o p q r : Option X) → q ≡ option_or o p → None ≡ o → r ≡ p → r ≡ q
+met_in_other o p q r whole none e = e ∙ sym (whole ∙ ap (λ a. option_or a p) (sym none))
+
+pub seen_in_one : {X Y : Type 0} (v : X → Y) (o p q : Option X) (y : Y) → q ≡ option_or o p → Some y ≡ option_map v o → Some y ≡ option_map v q
+seen_in_one v None p q y whole e = cc
+seen_in_one v (Some x) p q y whole e = e ∙ ap (option_map v) (sym whole)
+
+pub seen_in_other : {X Y : Type 0} (v : X → Y) (o p q : Option X) (r : Option Y) → q ≡ option_or o p → None ≡ option_map v o → r ≡ option_map v p → r ≡ option_map v q
+seen_in_other v None p q r whole none e = e ∙ ap (option_map v) (sym whole)
+seen_in_other v (Some x) p q r whole none e = cc
 
 -- a field at a place is one of the fields
 pub item_has : (fs : List (String Global × Ty)) (i : ℕ) (f : String Global × Ty) → i < length fs → f ≡ get_or fs i f → Has (string_bytes f.0) (typ_of f.1) (fields_of fs)

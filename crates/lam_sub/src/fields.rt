@@ -1,7 +1,8 @@
 //! Fields looked up by their labels.
 
-ghost use Rattle.std.specs.Prelude.{◌≡◌, IfSome, IfNone, OnOk};
+ghost use Rattle.std.specs.Prelude.{◌≡◌, ◌++◌, take, drop, option_map, IfSome, IfNone, OnOk};
 ghost use Rattle.lam_rules.specs.Types.{Has, IsAbsent, joined};
+ghost use Rattle.lam_rules.specs.Numbers.{first_under};
 ghost use Rattle.lam_rules.specs.TypeViews.{typ_of, fields_of};
 ghost use Rattle.lam_sub.specs.OtherFields.{other_fields};
 
@@ -9,10 +10,12 @@ use lam_rules::{Ty, copy_of};
 use std::alloc::{AllocError, Global};
 
 /// The type at a label. The look-up begins at the place `near`, so it is quick where the label is
-/// thought to stand there, and goes on from the front.
+/// thought to stand there, and goes on from the front. Where several fields have the label, it is
+/// the type of the first that is met on this way.
 pub fn field_type<'a>(label: &str, fields: &'a [(String, Ty)], near: usize) -> Option<&'a Ty>
     ensures found { IfSome result (λ ty. Has label.now (typ_of ty.now) (fields_of fields.now)) }
     ensures absent { IfNone result (IsAbsent label.now (fields_of fields.now)) }
+    ensures first { option_map (λ ty. typ_of ty.now) result ≡ option_map typ_of (first_under label.now (drop near fields.now ++ take near fields.now)) }
 {
     let (front, back) = fields.split_at(near.min(fields.len()));
     if let Some(ty) = first_type(label, back) {
@@ -24,6 +27,7 @@ pub fn field_type<'a>(label: &str, fields: &'a [(String, Ty)], near: usize) -> O
 fn first_type<'a>(label: &str, fields: &'a [(String, Ty)]) -> Option<&'a Ty>
     ensures found { IfSome result (λ ty. Has label.now (typ_of ty.now) (fields_of fields.now)) }
     ensures absent { IfNone result (IsAbsent label.now (fields_of fields.now)) }
+    ensures first { option_map (λ ty. typ_of ty.now) result ≡ option_map typ_of (first_under label.now fields.now) }
 {
     for field in fields {
         if field.0.as_str() == label {

@@ -1,9 +1,9 @@
 //! Subtyping of types in a table, with what was found once kept for the next time.
 
-ghost use Rattle.std.specs.Prelude.{◌≡◌, ◌↔◌, ◌<◌, ℕ, List, length, IsTrue, IfOk, IfSome, IfNone};
+ghost use Rattle.std.specs.Prelude.{◌≡◌, ◌↔◌, ◌<◌, ◌++◌, ℕ, List, length, take, drop, IsTrue, IfOk, IfSome, IfNone};
 ghost use Rattle.lam_rules.specs.Types.{Typ, IsWellFormed, AreWellFormed, Has, IsAbsent};
 ghost use Rattle.lam_rules.specs.Subtyping.{IsBelow};
-ghost use Rattle.lam_rules.specs.Numbers.{type_of, Stands, fields_over, shaped, AreEarlier};
+ghost use Rattle.lam_rules.specs.Numbers.{type_of, Stands, fields_over, shaped, AreEarlier, first_under};
 ghost use Rattle.lam_rules.specs.declared.rules.Dialect.{Dialect};
 ghost use Rattle.lam_sub.specs.FieldsBelow.{AreBelow};
 ghost use Rattle.lam_sub.specs.Remembered.{AreRight, IsConstant};
@@ -133,11 +133,13 @@ fn is_below_constant(lower: &Shape, upper: &Shape, dialect: Dialect) -> bool
     }
 }
 
-/// The number at a label. The look-up begins at the place `near` and goes on from the front.
+/// The number at a label. The look-up begins at the place `near` and goes on from the front, and
+/// where several fields have the label it is that of the first that is met on this way.
 pub fn field_number(label: &str, fields: &[(String, TyNo)], near: usize) -> Option<TyNo>
     ensures below { IfSome result (λ number. (n : ℕ) → AreEarlier n fields.now → number.index < n) }
     ensures found { IfSome result (λ number. (ts : List Typ) → Has label.now (type_of ts number) (fields_over ts fields.now)) }
     ensures absent { IfNone result ((ts : List Typ) → IsAbsent label.now (fields_over ts fields.now)) }
+    ensures first { result ≡ first_under label.now (drop near fields.now ++ take near fields.now) }
 {
     let (front, back) = fields.split_at(near.min(fields.len()));
     if let Some(number) = number_under(label, back) {
