@@ -1,5 +1,6 @@
 pub mod Bytes
 pub mod Device
+pub mod FailAt
 pub mod Frame
 pub mod Header
 pub mod Laws

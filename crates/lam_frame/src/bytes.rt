@@ -87,7 +87,7 @@ impl BytesOut {
 impl Sink for BytesOut {
     ghost taken = { λ s. Some s.bytes };
 
-    ghost flushed = { λ s. s.flushed };
+    ghost flushed = { λ s. Some s.flushed };
 
     ghost failed = { λ s. s.failures };
 

@@ -24,18 +24,18 @@ pub trait Source {
     fn failures(&self) -> u64
         ensures { result ≡ failed self.now };
 
-    /// Puts bytes at the front of `into` and says how many: none only at the end. Of an empty
-    /// `into` nothing is said.
+    /// Puts bytes at the front of `into` and says how many: none only at the end. Of an `Ok`
+    /// with an empty `into` nothing is said.
     fn pull(&mut self, into: &mut [u8]) -> Result<usize, DeviceFault>
         requires { failed self.old < 2 ^ 64 - 1 }
         ensures { Pulls coming failed gave self.old result into.new self.new };
 }
 
-/// Takes bytes. A sink that tells its bytes has `taken`, and how many of those are `flushed`.
+/// Takes bytes. A sink that tells its bytes has `taken`, and `flushed` where it tells how many of those are flushed.
 pub trait Sink {
     ghost taken: { Self → Option (List ℕ) } = { λ _. None };
 
-    ghost flushed: { Self → ℕ } = { λ _. 0 };
+    ghost flushed: { Self → Option ℕ } = { λ _. None };
 
     // How many calls failed so far.
     ghost failed: { Self → ℕ };

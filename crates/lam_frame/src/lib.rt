@@ -10,6 +10,7 @@
 
 mod bytes;
 mod device;
+mod fail_at;
 mod fault;
 mod header;
 mod held;
@@ -20,6 +21,7 @@ mod writer;
 
 pub use bytes::{BytesIn, BytesOut};
 pub use device::{DeviceFault, Sink, Source};
+pub use fail_at::FailAt;
 pub use fault::FrameFault;
 pub use laws::{one_reading, open_settles_nothing, some_reading, written_is_read};
 pub use reader::{FrameReader, State};

@@ -1,9 +1,9 @@
-//! Devices over the readers and writers of `std`. A source tells its bytes where its reader does; a sink tells
-//! counts alone, since a writer does not say what it has flushed.
+//! Devices over the readers and writers of `std`. A source tells its bytes where its reader does, and a sink where its
+//! writer does; how many of them are flushed it never tells, since a writer does not say that.
 
 ghost use Rattle.std.specs.Prelude.{◌≡◌, ◌↔◌, ◌-◌, ◌<◌, ◌≤◌, IfOk, IsOk, length, ⊤};
 ghost use Rattle.std.specs.IoError.{error_kind};
-ghost use Rattle.std.specs.Io.KnownBytes.{ReadConsumes};
+ghost use Rattle.std.specs.Io.KnownBytes.{Keeps, ReadConsumes, WriteAppends};
 
 use crate::device::{DeviceFault, Sink, Source};
 use std::io;
@@ -60,13 +60,16 @@ pub struct ToWrite<W> {
 impl<W: Write> ToWrite<W> {
     /// A sink whose pushes write to `inner`.
     pub fn new(inner: W) -> ToWrite<W>
-        ensures { ⟦<ToWrite<W> as Sink>⟧.failed result ≡ 0 }
+        ensures taken { ⟦<ToWrite<W> as Sink>⟧.taken result ≡ W.contents inner }
+        ensures failures { ⟦<ToWrite<W> as Sink>⟧.failed result ≡ 0 }
     {
         ToWrite { inner, failures: 0 }
     }
 }
 
 impl<W: Write> Sink for ToWrite<W> {
+    ghost taken = { λ s. W.contents s.inner };
+
     ghost failed = { λ s. s.failures };
 
     fn failures(&self) -> u64 {
@@ -107,6 +110,7 @@ fn read_through<R: Read>(reader: &mut R, into: &mut [u8]) -> Result<usize, Devic
 fn write_through<W: Write>(writer: &mut W, from: &[u8]) -> Result<usize, DeviceFault>
     ensures within { IfOk result (λ n. n ≤ length from.now) }
     ensures some { IfOk result (λ n. 0 < length from.now → 0 < n) }
+    ensures bytes { WriteAppends (W.contents writer.old) (W.contents writer.new) result from.now }
 {
     for _ in 0..TRIES {
         match writer.write(from) {
@@ -118,7 +122,9 @@ fn write_through<W: Write>(writer: &mut W, from: &[u8]) -> Result<usize, DeviceF
     Err(DeviceFault)
 }
 
-fn flush_through<W: Write>(writer: &mut W) -> Result<(), DeviceFault> {
+fn flush_through<W: Write>(writer: &mut W) -> Result<(), DeviceFault>
+    ensures { Keeps (W.contents writer.old) (W.contents writer.new) }
+{
     for _ in 0..TRIES {
         match writer.flush() {
             Ok(()) => return Ok(()),

@@ -24,7 +24,7 @@ use Rattle.lam_server.specs.declared.server.Turn.{Turn}
 use Rattle.lam_server.specs.declared.server.Turn.TheVariants.{More, End}
 
 -- the session took the message, and its values were written or not
-pub answers_body : {W : Type 0} (taken : W → Option (List ℕ)) (flushed failed : W → ℕ) (old new : Snapshot) (body : List ℕ) (message : Message) (values : List Data) (sink sink_after : W) (answer : Result (Unit {0}) RunFault)
+pub answers_body : {W : Type 0} (taken : W → Option (List ℕ)) (flushed : W → Option ℕ) (failed : W → ℕ) (old new : Snapshot) (body : List ℕ) (message : Message) (values : List Data) (sink sink_after : W) (answer : Result (Unit {0}) RunFault)
     → IsKindOf body message → Answers old message values new → WritesValues taken flushed failed values sink answer sink_after → AnswersBody taken flushed failed old body sink answer new sink_after
 answers_body taken flushed failed old new body message values sink sink_after (Ok done) k a w = (values, record { message = message; kind = k; answers = a }, w)
 answers_body taken flushed failed old new body message values sink sink_after (Err DeviceRun) k a w = (values, record { message = message; kind = k; answers = a }, w)
@@ -35,7 +35,7 @@ answers_body taken flushed failed old new body message values sink sink_after (E
 abbrev pub waiting : List ℕ → ℕ → Snapshot → Waiting
 waiting held pulls s = record { held = held; pulls = pulls; state = s.state }
 
-takes_body : (old new : Snapshot) (heard body left : List ℕ) (values : List Data) → HasFrame heard body left → StepsBody old body values new → Takes old.state heard (frames_of values) new.state left
+abbrev takes_body : (old new : Snapshot) (heard body left : List ℕ) (values : List Data) → HasFrame heard body left → StepsBody old body values new → Takes old.state heard (frames_of values) new.state left
 takes_body old new heard body left values f s = record {
   body = body;
   message = s.message;
@@ -46,7 +46,7 @@ takes_body old new heard body left values f s = record {
   frames = refl;
 }
 
-module _ {S V W : Type 0} (items : V → List ℕ) (coming : S → Option (List ℕ)) (failed : S → ℕ) (gave : S → List ℕ → S → Type 0) (taken : W → Option (List ℕ)) (flushed sink_failed : W → ℕ) where
+module _ {S V W : Type 0} (items : V → List ℕ) (coming : S → Option (List ℕ)) (failed : S → ℕ) (gave : S → List ℕ → S → Type 0) (taken : W → Option (List ℕ)) (flushed : W → Option ℕ) (sink_failed : W → ℕ) where
   -- the chain of pulls is the reader's
   turn : (held : List ℕ) (pulls : ℕ) (old : Snapshot) (source : S) (sink : W) (read : Result (Option V) FrameFault) (held_after : List ℕ) (pulls_after : ℕ) (source_after : S) (sink_after : W) (answer : Result Turn RunFault)
       → (r : Reads coming failed gave IsOpen (Says items) held pulls source read held_after pulls_after source_after)
@@ -126,5 +126,5 @@ module _ {S V W : Type 0} (items : V → List ℕ) (coming : S → Option (List 
       turn held pulls old source sink (Ok (Some body)) held_after pulls_after source_after sink_after (Err MemoryRun) r (before_sending same, r.after)
   turn_unanswered held pulls old source sink body held_after pulls_after new source_after sink_after MemoryRun r (part_sent values s stops) =
       turn held pulls old source sink (Ok (Some body)) held_after pulls_after source_after sink_after (Err MemoryRun) r
-      (while_sending values new.state held_after (takes_body old new (held ++ concat r.pieces) (items body) held_after values r.says s) stops, r.after)
+      (while_sending (frames_of values) new.state held_after (takes_body old new (held ++ concat r.pieces) (items body) held_after values r.says s) stops, r.after)
   turn_unanswered held pulls old source sink body held_after pulls_after new source_after sink_after (Header fault) r a = absurd a

@@ -5,3 +5,4 @@ pub mod OneOutput
 pub mod Walking
 pub mod Telling
 pub mod ReadWords
+pub mod FailedPulls

@@ -33,7 +33,7 @@ text_at values i value text below at plain is = is (subst (λ (v : Value). has_f
 pub counts_failure : (V : Type 0) (fault : FrameFault) (n m : ℕ) → fault ≡ Device → n ≡ failures_after {V = V} (Err fault) m → n ≡ m + 1
 counts_failure V fault n m is e = e ∙ ap (λ (f : FrameFault). failures_after {V = V} (Err f) m) is
 
-module _ {W : Type 0} (taken : W → Option (List ℕ)) (flushed failed : W → ℕ) where
+module _ {W : Type 0} (taken : W → Option (List ℕ)) (flushed : W → Option ℕ) (failed : W → ℕ) where
   pub Sends-nothing : (sink : W) → Sends taken flushed failed sink [] sink
   Sends-nothing sink = record { appended = Appends-nil (taken sink); flushed_all = refl; unfailed = refl }
 

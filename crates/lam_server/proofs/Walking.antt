@@ -1,22 +1,22 @@
 -- A run, as far as it has come: turn after turn, and then how it ends.
 use Rattle.std.proofs.Common.{◌≡◌, ◌≢◌, ◌≤◌, ℕ, ◌+◌, ◌^◌, List, [], ◌∷◌, ◌++◌, length, Option, Some, None, Result, Ok, Err, refl, sym, ap, ◌∙◌, subst, arith, append_assoc, append-nil, length-append}
 use Rattle.std.specs.List.{concat}
-use Rattle.serde_json.specs.Data.{Data}
 use Rattle.std.proofs.KnownBytes.{Appends-trans}
 use Rattle.std.proofs.lemmas.List.Folds.{concat-append}
 use Rattle.lam_frame.specs.Frame.{HasFrame, IsOpen, IsRest}
 use Rattle.lam_frame.specs.Next.{OnlyLastEmpty, PulledWhile}
 use Rattle.lam_frame.specs.Steps.{NoneEmpty}
-use Rattle.lam_frame.proofs.Pulls.{NoneEmpty-append, PulledWhile-append, PulledWhile-failed, EndsEmpty-behind, not_ended_behind, stopped_behind}
+use Rattle.lam_frame.proofs.Pulls.{NoneEmpty-append, PulledWhile-append, PulledWhile-failed, PulledWhile-front, EndsEmpty-behind, not_ended_behind, stopped_behind}
 use Rattle.lam_frame.proofs.Readings.{open_no_frame}
 use Rattle.lam_frame.proofs.Told.{HasFault-more}
 use Rattle.lam_frame.specs.declared.fault.FrameFault.{FrameFault}
 use Rattle.lam_frame.specs.declared.fault.FrameFault.TheVariants.{NoLength, BadLength, TooLong, BadHeader, Truncated, Device as DeviceFrame, Memory as MemoryFrame, TooManyTurns, Spent}
 use Rattle.lam_session.specs.State.{State, ended_status}
 use Rattle.lam_server.specs.Device.{Sends}
-use Rattle.lam_server.specs.Output.{Takes, Turns, IsLive, Outcome, ComesTo, IsFront, frames_of}
+use Rattle.lam_server.specs.Output.{Takes, Turns, IsLive, Outcome, ComesTo, IsFront, IsAnsweredIn, frames_of}
+use Rattle.lam_server.specs.Output.EndsInFrames.{behind_message, behind_value}
 use Rattle.lam_server.specs.Output.Turns.{no_turn, next_turn}
-use Rattle.lam_server.specs.Run.{Runs, RunSays, MayFollow, IsSettled, DecidesNothing, AwaitsMore}
+use Rattle.lam_server.specs.Run.{Runs, RunSays, MayFollow, IsSettled, AwaitsMore}
 use Rattle.lam_server.specs.Run.DeviceEnds.{at_pull, at_limit, at_sink}
 use Rattle.lam_server.specs.Turn.{WantsMore, IsBroken, TakesTurn, Ends, DeviceStops, MemoryStops}
 use Rattle.lam_server.specs.Turn.Ends.{by_message as turn_by_message, by_silence as turn_by_silence}
@@ -29,25 +29,25 @@ use Rattle.lam_server.specs.declared.server.Turn.TheVariants.{More, End}
 use Rattle.lam_server.proofs.Growing.{Turns-more, part_front, whole_front}
 use Rattle.lam_server.proofs.Sending.{Sends-nothing, Sends-both, frames-append}
 
--- ---- frames
-
--- what turns sent are whole frames
-turned_frames : {start : State} {bytes out : List ℕ} {s : State} {left : List ℕ} → Turns start bytes out s left → (values : List Data) × (out ≡ frames_of values)
-turned_frames no_turn = ([], refl)
-turned_frames (next_turn {done} {first} turns live takes) =
-    let before = turned_frames turns in
-    (before.0 ++ takes.values, ap (λ (l : List ℕ). l ++ first) before.1 ∙ ap (λ (l : List ℕ). frames_of before.0 ++ l) takes.frames ∙ sym (frames-append before.0 takes.values))
-
 -- ---- pulls
 
--- pulls that a turn needs are pulls that the run needs
-pub PulledWhile-run : {S : Type 0} (coming : S → Option (List ℕ)) (failed : S → ℕ) (gave : S → List ℕ → S → Type 0) (start s : State) (read out held : List ℕ) (source last : S) (pieces : List (List ℕ))
-    → Turns start read out s held → IsLive s → PulledWhile coming failed gave IsOpen held source pieces last → PulledWhile coming failed gave (DecidesNothing start) read source pieces last
-PulledWhile-run coming failed gave start s read out held source last [] turns live p = p
-PulledWhile-run coming failed gave start s read out held source last (piece ∷ pieces) turns live p = (
-  (out, record { state = s; left = held; turns = turns; live = live; undecided = p.0 }),
+-- what is answered stays so, whatever goes out behind it
+answered_more : (start : State) (out more read : List ℕ) → IsAnsweredIn start out read → IsAnsweredIn start (out ++ more) read
+answered_more start out more read a = record {
+  done = a.done;
+  more = a.more ++ more;
+  awaiting = a.awaiting;
+  begins = ap (λ (l : List ℕ). l ++ more) a.begins ∙ append_assoc a.done a.more more;
+}
+
+-- pulls that a turn needs are pulls that the run needs: what was whole before is answered
+PulledWhile-run : {S : Type 0} (coming : S → Option (List ℕ)) (failed : S → ℕ) (gave : S → List ℕ → S → Type 0) (start s : State) (read out more held : List ℕ) (source last : S) (pieces : List (List ℕ))
+    → Turns start read out s held → IsLive s → PulledWhile coming failed gave IsOpen held source pieces last → PulledWhile coming failed gave (IsAnsweredIn start (out ++ more)) read source pieces last
+PulledWhile-run coming failed gave start s read out more held source last [] turns live p = p
+PulledWhile-run coming failed gave start s read out more held source last (piece ∷ pieces) turns live p = (
+  record { done = out; more = more; awaiting = record { state = s; left = held; turns = turns; live = live; undecided = p.0 }; begins = refl },
   p.1,
-  (p.2.0, p.2.1, PulledWhile-run coming failed gave start s (read ++ piece) out (held ++ piece) p.2.0 last pieces (Turns-more start read piece out s held turns) live p.2.2),
+  (p.2.0, p.2.1, PulledWhile-run coming failed gave start s (read ++ piece) out more (held ++ piece) p.2.0 last pieces (Turns-more start read piece out s held turns) live p.2.2),
 )
 
 -- where a frame was found, no piece was empty: before the last one the bytes were open
@@ -102,12 +102,12 @@ broken_rest left more front back Spent b may = absurd b
 
 -- ---- turn after turn
 
-module _ {S W : Type 0} (coming : S → Option (List ℕ)) (failed : S → ℕ) (gave : S → List ℕ → S → Type 0) (taken : W → Option (List ℕ)) (flushed sink_failed : W → ℕ) where
+module _ {S W : Type 0} (coming : S → Option (List ℕ)) (failed : S → ℕ) (gave : S → List ℕ → S → Type 0) (taken : W → Option (List ℕ)) (flushed : W → Option ℕ) (sink_failed : W → ℕ) where
   -- some turns, each to a server that goes on
   pub record Walked (start : State) (source : S) (sink : W) (server : Waiting) (source_now : S) (sink_now : W) : Type 0 where
     pub pieces : List (List ℕ)
     pub out : List ℕ
-    pub needed : PulledWhile coming failed gave (DecidesNothing start) [] source pieces source_now
+    pub needed : PulledWhile coming failed gave (IsAnsweredIn start out) [] source pieces source_now
     pub some : NoneEmpty pieces
     pub turns : Turns start (concat pieces) out server.state server.held
     pub live : IsLive server.state
@@ -136,10 +136,12 @@ module _ {S W : Type 0} (coming : S → Option (List ℕ)) (failed : S → ℕ) 
         subst (λ (l : List ℕ). Turns start l w.out server.state (server.held ++ concat pieces)) (sym (concat-append w.pieces pieces))
         (Turns-more start (concat w.pieces) (concat pieces) w.out server.state server.held w.turns)
 
-    heard_needed : (pieces : List (List ℕ)) (last : S) → PulledWhile coming failed gave IsOpen server.held source_now pieces last → PulledWhile coming failed gave (DecidesNothing start) [] source (w.pieces ++ pieces) last
-    heard_needed pieces last p =
-        PulledWhile-append coming failed gave (DecidesNothing start) [] source source_now last w.pieces pieces w.needed
-        (PulledWhile-run coming failed gave start server.state (concat w.pieces) w.out server.held source_now last pieces w.turns w.live p)
+    heard_needed : (pieces : List (List ℕ)) (last : S) (more : List ℕ) → PulledWhile coming failed gave IsOpen server.held source_now pieces last
+        → PulledWhile coming failed gave (IsAnsweredIn start (w.out ++ more)) [] source (w.pieces ++ pieces) last
+    heard_needed pieces last more p =
+        PulledWhile-append coming failed gave (IsAnsweredIn start (w.out ++ more)) [] source source_now last w.pieces pieces
+        (PulledWhile-front coming failed gave (IsAnsweredIn start w.out) (IsAnsweredIn start (w.out ++ more)) [] [] source source_now w.pieces (answered_more start w.out more) w.needed)
+        (PulledWhile-run coming failed gave start server.state (concat w.pieces) w.out more server.held source_now last pieces w.turns w.live p)
 
     heard_count : (pieces : List (List ℕ)) (n : ℕ) → n ≡ server.pulls + length pieces → n ≡ length (w.pieces ++ pieces)
     heard_count pieces n e = omega (arith, e, w.counted, length-append w.pieces pieces)
@@ -155,7 +157,8 @@ module _ {S W : Type 0} (coming : S → Option (List ℕ)) (failed : S → ℕ) 
         record {
           pieces = w.pieces ++ t.pieces;
           out = w.out ++ answers.out;
-          needed = subst (λ (s : S). PulledWhile coming failed gave (DecidesNothing start) [] source (w.pieces ++ t.pieces) s) t.says.1 (heard_needed t.pieces t.last t.needed);
+          needed = subst (λ (s : S). PulledWhile coming failed gave (IsAnsweredIn start (w.out ++ answers.out)) [] source (w.pieces ++ t.pieces) s) t.says.1
+              (heard_needed t.pieces t.last answers.out t.needed);
           some = NoneEmpty-append w.pieces t.pieces w.some
               (found_pieces coming failed gave server.held answers.takes.body next.held source_now t.last t.pieces t.needed t.stopped answers.takes.frame);
           turns = next_turn (heard_turns t.pieces) w.live answers.takes;
@@ -165,16 +168,16 @@ module _ {S W : Type 0} (coming : S → Option (List ℕ)) (failed : S → ℕ) 
           unfailed = ap failed (sym t.says.1) ∙ (PulledWhile-failed coming failed gave IsOpen server.held source_now t.last t.pieces t.needed ∙ w.unfailed);
         }
 
-    -- the run ends, with these bytes sent
-    ends : (pieces : List (List ℕ)) (last : S) (out : List ℕ) (answer : Result ℕ RunFault) (source_after : S) (sink_after : W) → PulledWhile coming failed gave IsOpen server.held source_now pieces last
+    -- the run ends, with these bytes sent by its last turn
+    ends : (pieces : List (List ℕ)) (last : S) (more : List ℕ) (answer : Result ℕ RunFault) (source_after : S) (sink_after : W) → PulledWhile coming failed gave IsOpen server.held source_now pieces last
         → OnlyLastEmpty pieces → server.pulls + length pieces ≤ 2 ^ 48
-        → RunSays coming failed taken flushed sink_failed start (w.pieces ++ pieces) last sink out answer source_after sink_after
+        → RunSays coming failed taken flushed sink_failed start (w.pieces ++ pieces) last sink (w.out ++ more) answer source_after sink_after
         → Runs coming failed gave taken flushed sink_failed start source sink answer source_after sink_after
-    ends pieces last out answer source_after sink_after needed stopped few says = record {
+    ends pieces last more answer source_after sink_after needed stopped few says = record {
       pieces = w.pieces ++ pieces;
       last = last;
-      out = out;
-      needed = heard_needed pieces last needed;
+      out = w.out ++ more;
+      needed = heard_needed pieces last more needed;
       stopped = stopped_behind w.pieces pieces w.some stopped;
       few = heard_few pieces few;
       says = says;
@@ -184,23 +187,28 @@ module _ {S W : Type 0} (coming : S → Option (List ℕ)) (failed : S → ℕ) 
     still : (sink_after : W) → sink_now ≡ sink_after → Sends taken flushed sink_failed sink w.out sink_after
     still sink_after same = subst (λ (s : W). Sends taken flushed sink_failed sink w.out s) same w.sends
 
+    -- its last turn sent nothing
+    sends_nothing : (pieces : List (List ℕ)) (last : S) (answer : Result ℕ RunFault) (source_after : S) (sink_after : W)
+        → RunSays coming failed taken flushed sink_failed start (w.pieces ++ pieces) last sink w.out answer source_after sink_after
+        → (more : List ℕ) × RunSays coming failed taken flushed sink_failed start (w.pieces ++ pieces) last sink (w.out ++ more) answer source_after sink_after
+    sends_nothing pieces last answer source_after sink_after says =
+        ([], subst (λ (l : List ℕ). RunSays coming failed taken flushed sink_failed start (w.pieces ++ pieces) last sink l answer source_after sink_after) (sym (append-nil w.out)) says)
+
     says_status : (status : ℕ) (pieces : List (List ℕ)) (last source_after : S) (sink_after : W) → last ≡ source_after → Ends taken flushed sink_failed server.state (server.held ++ concat pieces) pieces sink_now status sink_after
-        → (out : List ℕ) × RunSays coming failed taken flushed sink_failed start (w.pieces ++ pieces) last sink out (Ok status) source_after sink_after
+        → (more : List ℕ) × RunSays coming failed taken flushed sink_failed start (w.pieces ++ pieces) last sink (w.out ++ more) (Ok status) source_after sink_after
     says_status status pieces last source_after sink_after same (turn_by_message next left answers over) = (
-      w.out ++ answers.out,
+      answers.out,
       (
         settled_status start next (w.pieces ++ pieces) (w.out ++ answers.out) left status (next_turn (heard_turns pieces) w.live answers.takes) over,
         (Sends-both taken flushed sink_failed sink sink_now sink_after w.out answers.out w.sends answers.sends, same),
       ),
     )
-    says_status status pieces last source_after sink_after same (turn_by_silence nothing end one unsent) = (
-      w.out,
+    says_status status pieces last source_after sink_after same (turn_by_silence nothing end one unsent) = sends_nothing pieces last (Ok status) source_after sink_after
       (
         settled_rest start server.state (w.pieces ++ pieces) w.out (server.held ++ concat pieces) (Ok status) (heard_turns pieces) w.live
             (λ more may. silent_rest (server.held ++ concat pieces) more status nothing (may (EndsEmpty-behind w.pieces pieces end)) one),
         (still sink_after unsent, same),
-      ),
-    )
+      )
 
     pub walk_to_end : (status : ℕ) (source_after : S) (sink_after : W) → TakesTurn coming failed gave taken flushed sink_failed server source_now sink_now (Ok (End status)) source_after sink_after
         → Runs coming failed gave taken flushed sink_failed start source sink (Ok status) source_after sink_after
@@ -222,51 +230,66 @@ module _ {S W : Type 0} (coming : S → Option (List ℕ)) (failed : S → ℕ) 
     )
 
     says_device : (pieces : List (List ℕ)) (last source_after : S) (sink_after : W) → DeviceStops coming failed taken sink_failed server (server.held ++ concat pieces) pieces last sink_now source_after sink_after
-        → (out : List ℕ) × RunSays coming failed taken flushed sink_failed start (w.pieces ++ pieces) last sink out (Err Device) source_after sink_after
-    says_device pieces last source_after sink_after (turn_at_pull wants failure unsent) = (w.out, at_pull (awaits_more pieces wants) failure (still sink_after unsent))
+        → (more : List ℕ) × RunSays coming failed taken flushed sink_failed start (w.pieces ++ pieces) last sink (w.out ++ more) (Err Device) source_after sink_after
+    says_device pieces last source_after sink_after (turn_at_pull wants failure unsent) =
+        sends_nothing pieces last (Err Device) source_after sink_after
+        (at_pull (awaits_more pieces wants) failure (still sink_after unsent))
     says_device pieces last source_after sink_after (turn_at_limit wants limit same unsent) =
-        (w.out, at_limit (awaits_more pieces wants) (sym (heard_count pieces (2 ^ 48) (sym limit))) same (still sink_after unsent))
+        sends_nothing pieces last (Err Device) source_after sink_after
+        (at_limit (awaits_more pieces wants) (sym (heard_count pieces (2 ^ 48) (sym limit))) same (still sink_after unsent))
     says_device pieces last source_after sink_after (turn_at_sink whole next left takes same failure) = (
-      w.out ++ failure.front.front,
+      failure.front.front,
       at_sink (front_of_part pieces whole failure.front.front failure.front.rest left next takes failure.front.split)
+          (record {
+            done = w.out;
+            state = server.state;
+            left = server.held ++ concat pieces;
+            turns = heard_turns pieces;
+            live = w.live;
+            answer = whole;
+            next = next;
+            after = left;
+            takes = takes;
+            front = failure.front.front;
+            rest = failure.front.rest;
+            split = failure.front.split;
+            begins = refl;
+          })
           (Appends-trans (taken sink) (taken sink_now) (taken sink_after) w.out failure.front.front w.sends.appended failure.front.appended)
           (failure.counted ∙ ap (λ (n : ℕ). n + 1) w.sends.unfailed) same,
     )
 
     says_memory : (pieces : List (List ℕ)) (last source_after : S) (sink_after : W) → last ≡ source_after → MemoryStops taken flushed sink_failed server.state (server.held ++ concat pieces) sink_now sink_after
-        → (out : List ℕ) × RunSays coming failed taken flushed sink_failed start (w.pieces ++ pieces) last sink out (Err Memory) source_after sink_after
+        → (more : List ℕ) × RunSays coming failed taken flushed sink_failed start (w.pieces ++ pieces) last sink (w.out ++ more) (Err Memory) source_after sink_after
     says_memory pieces last source_after sink_after same (before_sending unsent) =
-        let out = turned_frames (heard_turns pieces) in (
-          w.out,
-          record {
-            values = out.0;
-            whole = out.1;
-            front = whole_front start (concat (w.pieces ++ pieces)) w.out (server.held ++ concat pieces) server.state (heard_turns pieces);
-            sends = still sink_after unsent;
-            same = same;
-          },
-        )
-    says_memory pieces last source_after sink_after same (while_sending values next left takes stops) =
-        let out = turned_frames (heard_turns pieces) in (
-          w.out ++ frames_of stops.done,
-          record {
-            values = out.0 ++ stops.done;
-            whole = ap (λ (l : List ℕ). l ++ frames_of stops.done) out.1 ∙ sym (frames-append out.0 stops.done);
-            front = front_of_part pieces (frames_of values) (frames_of stops.done) (frames_of stops.others) left next takes
-                (ap frames_of stops.split ∙ frames-append stops.done stops.others);
-            sends = Sends-both taken flushed sink_failed sink sink_now sink_after w.out (frames_of stops.done) w.sends stops.sends;
-            same = same;
-          },
-        )
+        sends_nothing pieces last (Err Memory) source_after sink_after
+        (record {
+          front = whole_front start (concat (w.pieces ++ pieces)) w.out (server.held ++ concat pieces) server.state (heard_turns pieces);
+          frames = behind_message (heard_turns pieces) w.live;
+          sends = still sink_after unsent;
+          same = same;
+        })
+    says_memory pieces last source_after sink_after same (while_sending whole next left takes stops) = (
+      frames_of stops.done,
+      record {
+        front = front_of_part pieces whole (frames_of stops.done) (frames_of stops.others) left next takes
+            (takes.frames ∙ ap frames_of stops.split ∙ frames-append stops.done stops.others);
+        frames = behind_value (heard_turns pieces) w.live takes stops.done stops.others stops.split refl;
+        sends = Sends-both taken flushed sink_failed sink sink_now sink_after w.out (frames_of stops.done) w.sends stops.sends;
+        same = same;
+      },
+    )
 
     pub walk_to_fault : (fault : RunFault) (source_after : S) (sink_after : W) → TakesTurn coming failed gave taken flushed sink_failed server source_now sink_now (Err fault) source_after sink_after
         → Runs coming failed gave taken flushed sink_failed start source sink (Err fault) source_after sink_after
     walk_to_fault (Header fault) source_after sink_after t =
-        ends t.pieces t.last w.out (Err (Header fault)) source_after sink_after t.needed t.stopped t.few (
+        let says =
+        sends_nothing t.pieces t.last (Err (Header fault)) source_after sink_after (
           settled_rest start server.state (w.pieces ++ t.pieces) w.out (server.held ++ concat t.pieces) (Err fault) (heard_turns t.pieces) w.live
               (λ more may. broken_rest (server.held ++ concat t.pieces) more w.pieces t.pieces fault t.says.0 may),
           (still sink_after t.says.1.1, t.says.1.0),
-        )
+        ) in
+        ends t.pieces t.last says.0 (Err (Header fault)) source_after sink_after t.needed t.stopped t.few says.1
     walk_to_fault Device source_after sink_after t =
         let says = says_device t.pieces t.last source_after sink_after t.says in
         ends t.pieces t.last says.0 (Err Device) source_after sink_after t.needed t.stopped t.few says.1
@@ -275,13 +298,13 @@ module _ {S W : Type 0} (coming : S → Option (List ℕ)) (failed : S → ℕ) 
         ends t.pieces t.last says.0 (Err Memory) source_after sink_after t.needed t.stopped t.few says.1
 
   -- no server came to be
-  pub no_run : (start : State) (source : S) (sink : W) → Runs coming failed gave taken flushed sink_failed start source sink (Err Memory) source sink
-  no_run start source sink = record {
+  pub no_run : (start : State) (source : S) (sink : W) → IsLive start → Runs coming failed gave taken flushed sink_failed start source sink (Err Memory) source sink
+  no_run start source sink live = record {
     pieces = [];
     last = source;
     out = [];
     needed = refl;
     stopped = tt;
     few = omega arith;
-    says = record { values = []; whole = refl; front = whole_front start [] [] [] start no_turn; sends = Sends-nothing taken flushed sink_failed sink; same = refl };
+    says = record { front = whole_front start [] [] [] start no_turn; frames = behind_message no_turn live; sends = Sends-nothing taken flushed sink_failed sink; same = refl };
   }

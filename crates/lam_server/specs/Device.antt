@@ -6,12 +6,12 @@ use Rattle.lam_frame.specs.Device.{AppendsFront, IsFlushed}
 use Rattle.lam_server.specs.Output.{frames_of}
 
 -- after these bytes all is flushed; without a byte the sink is as it was
-abbrev pub IsFlushedAfter : {W : Type 0} → (W → Option (List ℕ)) → (W → ℕ) → W → List ℕ → W → Type 0
+abbrev pub IsFlushedAfter : {W : Type 0} → (W → Option (List ℕ)) → (W → Option ℕ) → W → List ℕ → W → Type 0
 IsFlushedAfter taken flushed old [] new = old ≡ new
 IsFlushedAfter taken flushed old (_ ∷ _) new = IsFlushed (taken new) (flushed new)
 
 -- the sink took exactly these bytes, all are flushed, and no call failed
-pub record Sends {W : Type 0} (taken : W → Option (List ℕ)) (flushed failed : W → ℕ) (old : W) (out : List ℕ) (new : W) : Type 0 where
+pub record Sends {W : Type 0} (taken : W → Option (List ℕ)) (flushed : W → Option ℕ) (failed : W → ℕ) (old : W) (out : List ℕ) (new : W) : Type 0 where
   pub appended : Appends (taken old) (taken new) out
   pub flushed_all : IsFlushedAfter taken flushed old out new
   pub unfailed : failed new ≡ failed old
@@ -22,7 +22,7 @@ pub record FailsToSend {W : Type 0} (taken : W → Option (List ℕ)) (failed : 
   pub counted : failed new ≡ failed old + 1
 
 -- the frames of the first of these values are sent, and nothing of the others
-pub record StopsSending {W : Type 0} (taken : W → Option (List ℕ)) (flushed failed : W → ℕ) (old : W) (values : List Data) (new : W) : Type 0 where
+pub record StopsSending {W : Type 0} (taken : W → Option (List ℕ)) (flushed : W → Option ℕ) (failed : W → ℕ) (old : W) (values : List Data) (new : W) : Type 0 where
   pub done : List Data
   pub others : List Data
   pub split : values ≡ done ++ others

@@ -1,12 +1,19 @@
--- Laws of outputs: every input has one, and one alone, but for which derivation is given; and it grows with the input.
-use Rattle.std.specs.Prelude.{◌≡◌, List, [], ℕ, ◌++◌}
+-- Laws of outputs: every input has one, and one alone, but for which derivation is given; and it grows with the input. And a law of
+-- runs: a pull that fails finds all answered.
+use Rattle.std.specs.Prelude.{◌≡◌, ◌<◌, List, [], ℕ, ◌++◌, Option, Result, Err}
+use Rattle.std.specs.List.{concat}
 use Rattle.serde_json.specs.Data.{Data}
+use Rattle.lam_frame.specs.Device.{FailedPull}
 use Rattle.lam_frame.specs.Frame.{HasFrame}
+use Rattle.lam_frame.specs.Next.{PulledWhile}
 use Rattle.lam_rpc.specs.Kind.{Message, IsKindOf}
 use Rattle.lam_session.specs.OneAnswer.{AreAlike}
 use Rattle.lam_session.specs.Step.{Steps}
 use Rattle.lam_session.specs.State.{State}
-use Rattle.lam_server.specs.Output.{Outcome, IsAllowed, IsFront, frames_of}
+use Rattle.lam_server.specs.Device.{Sends}
+use Rattle.lam_server.specs.Output.{Outcome, IsAllowed, IsAnsweredIn, IsAwaiting, IsFront, frames_of}
+use Rattle.lam_server.specs.declared.faults.RunFault.{RunFault}
+use Rattle.lam_server.specs.declared.faults.RunFault.TheVariants.{Device}
 
 -- two outputs for the same bytes, message after message alike
 pub data AreAlikeOutputs : State → List ℕ → List ℕ → List ℕ → Type 0 where
@@ -27,3 +34,24 @@ pub record HasOneOutput (start : State) (input : List ℕ) : Type 0 where
 -- what begins an output for these bytes begins one for any more of them
 pub record OutputGrows (start : State) (bytes : List ℕ) : Type 0 where
   pub grows : (more out : List ℕ) → IsFront start bytes out → IsFront start (bytes ++ more) out
+
+-- behind these pieces a pull failed: all that was owed for them is taken and flushed, and the sink has not failed
+pub record FindsAllAnswered {S W : Type 0} (coming : S → Option (List ℕ)) (source_failed : S → ℕ) (gave : S → List ℕ → S → Type 0)
+    (taken : W → Option (List ℕ)) (flushed : W → Option ℕ) (sink_failed : W → ℕ)
+    (start : State) (source : S) (sink : W) (answer : Result ℕ RunFault) (source_after : S) (sink_after : W) : Type 0 where
+  pub pieces : List (List ℕ)
+  pub last : S
+  pub out : List ℕ
+  pub pulled : PulledWhile coming source_failed gave (IsAnsweredIn start out) [] source pieces last
+  pub failed : FailedPull coming source_failed last source_after
+  pub owed : IsAwaiting start (concat pieces) out
+  pub sent : Sends taken flushed sink_failed sink out sink_after
+  pub faulted : answer ≡ Err Device
+
+-- Where a pull failed in a run, it found all answered. A run that gathers its answers breaks this over a source that fails once and a
+-- sink that fails from then on.
+abbrev pub FailedPullFindsAllAnswered : {S W : Type 0} → (S → Option (List ℕ)) → (S → ℕ) → (S → List ℕ → S → Type 0) → (W → Option (List ℕ)) → (W → Option ℕ) → (W → ℕ)
+    → State → S → W → Result ℕ RunFault → S → W → Type 0
+FailedPullFindsAllAnswered coming source_failed gave taken flushed sink_failed start source sink answer source_after sink_after =
+    source_failed source < source_failed source_after
+    → FindsAllAnswered coming source_failed gave taken flushed sink_failed start source sink answer source_after sink_after

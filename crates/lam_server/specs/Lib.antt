@@ -8,3 +8,4 @@ pub mod Program
 pub mod CommandLine
 pub mod Words
 pub mod Laws
+pub mod Ending

@@ -72,3 +72,33 @@ pub record IsAwaiting (start : State) (bytes out : List ℕ) : Type 0 where
   pub turns : Turns start bytes out state left
   pub live : IsLive state
   pub undecided : IsOpen left
+
+-- all that is whole among the bytes is answered at the front of the output, the session lives, and what is left decides nothing yet
+pub record IsAnsweredIn (start : State) (out bytes : List ℕ) : Type 0 where
+  pub done : List ℕ
+  pub more : List ℕ
+  pub awaiting : IsAwaiting start bytes done
+  pub begins : out ≡ done ++ more
+
+-- the first so many messages are answered whole, and behind them is a front of what answers the next one
+pub record EndsInAnswer (start : State) (bytes out : List ℕ) : Type 0 where
+  pub done : List ℕ
+  pub state : State
+  pub left : List ℕ
+  pub turns : Turns start bytes done state left
+  pub live : IsLive state
+  pub answer : List ℕ
+  pub next : State
+  pub after : List ℕ
+  pub takes : Takes state left answer next after
+  pub front : List ℕ
+  pub rest : List ℕ
+  pub split : answer ≡ front ++ rest
+  pub begins : out ≡ done ++ front
+
+-- the first so many messages are answered whole; of what the next one asks to be sent, the first so many values may be behind them
+pub data EndsInFrames (start : State) (bytes out : List ℕ) : Type 0 where
+  behind_message : {state : State} {left : List ℕ} → Turns start bytes out state left → IsLive state → EndsInFrames start bytes out
+  behind_value : {done answer : List ℕ} {state next : State} {left after : List ℕ} → Turns start bytes done state left → IsLive state
+      → (takes : Takes state left answer next after) → (front others : List Data) → takes.values ≡ front ++ others → out ≡ done ++ frames_of front
+      → EndsInFrames start bytes out

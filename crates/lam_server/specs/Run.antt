@@ -2,12 +2,11 @@
 use Rattle.std.specs.Prelude.{◌≡◌, ℕ, ◌+◌, ◌^◌, ◌≤◌, List, [], ◌++◌, length, Option, Some, None, Result, Ok, Err}
 use Rattle.std.specs.List.{concat}
 use Rattle.std.specs.Io.KnownBytes.{Appends}
-use Rattle.serde_json.specs.Data.{Data}
 use Rattle.lam_frame.specs.Device.{FailedPull}
 use Rattle.lam_frame.specs.Next.{EndsEmpty, OnlyLastEmpty, PulledWhile}
 use Rattle.lam_session.specs.State.{State}
 use Rattle.lam_server.specs.Device.{Sends}
-use Rattle.lam_server.specs.Output.{Outcome, IsAllowed, IsFront, IsAwaiting, frames_of}
+use Rattle.lam_server.specs.Output.{Outcome, IsAllowed, IsFront, IsAwaiting, IsAnsweredIn, EndsInAnswer, EndsInFrames}
 use Rattle.lam_server.specs.declared.faults.RunFault.{RunFault}
 use Rattle.lam_server.specs.declared.faults.RunFault.TheVariants.{Header, Device, Memory}
 
@@ -21,35 +20,30 @@ MayFollow pieces more = EndsEmpty pieces → more ≡ []
 abbrev pub IsSettled : State → List (List ℕ) → List ℕ → Outcome → Type 0
 IsSettled start pieces out outcome = (more : List ℕ) → MayFollow pieces more → IsAllowed start (concat pieces ++ more) out outcome
 
--- the messages that are whole among the bytes leave the session alive, and the rest decides nothing
-abbrev pub DecidesNothing : State → List ℕ → Type 0
-DecidesNothing start read = (out : List ℕ) × IsAwaiting start read out
-
 -- one more pull is due: all that was whole is answered, and no empty piece told the end
 abbrev pub AwaitsMore : State → List (List ℕ) → List ℕ → Type 0
 AwaitsMore start pieces out = IsAwaiting start (concat pieces) out × (EndsEmpty pieces → ⊥)
 
--- a pull that was due failed; or it was one too many; or the sink failed, somewhere in an answer
-pub data DeviceEnds {S W : Type 0} (coming : S → Option (List ℕ)) (source_failed : S → ℕ) (taken : W → Option (List ℕ)) (flushed sink_failed : W → ℕ)
+-- a pull that was due failed; or it was one too many; or the sink failed, somewhere in the answer to one message
+pub data DeviceEnds {S W : Type 0} (coming : S → Option (List ℕ)) (source_failed : S → ℕ) (taken : W → Option (List ℕ)) (flushed : W → Option ℕ) (sink_failed : W → ℕ)
     (start : State) (pieces : List (List ℕ)) (last : S) (sink : W) (out : List ℕ) (source_after : S) (sink_after : W) : Type 0 where
   at_pull : AwaitsMore start pieces out → FailedPull coming source_failed last source_after → Sends taken flushed sink_failed sink out sink_after
       → DeviceEnds coming source_failed taken flushed sink_failed start pieces last sink out source_after sink_after
   at_limit : AwaitsMore start pieces out → length pieces ≡ 2 ^ 48 → last ≡ source_after → Sends taken flushed sink_failed sink out sink_after
       → DeviceEnds coming source_failed taken flushed sink_failed start pieces last sink out source_after sink_after
-  at_sink : IsFront start (concat pieces) out → Appends (taken sink) (taken sink_after) out → sink_failed sink_after ≡ sink_failed sink + 1 → last ≡ source_after
+  at_sink : IsFront start (concat pieces) out → EndsInAnswer start (concat pieces) out → Appends (taken sink) (taken sink_after) out → sink_failed sink_after ≡ sink_failed sink + 1 → last ≡ source_after
       → DeviceEnds coming source_failed taken flushed sink_failed start pieces last sink out source_after sink_after
 
--- memory was wanting, somewhere: what is out are whole frames, all flushed
-pub record MemoryEnds {S W : Type 0} (taken : W → Option (List ℕ)) (flushed sink_failed : W → ℕ)
+-- memory was wanting, somewhere: what is out are whole answers and whole frames of the next one, all flushed
+pub record MemoryEnds {S W : Type 0} (taken : W → Option (List ℕ)) (flushed : W → Option ℕ) (sink_failed : W → ℕ)
     (start : State) (pieces : List (List ℕ)) (last : S) (sink : W) (out : List ℕ) (source_after : S) (sink_after : W) : Type 0 where
-  pub values : List Data
-  pub whole : out ≡ frames_of values
   pub front : IsFront start (concat pieces) out
+  pub frames : EndsInFrames start (concat pieces) out
   pub sends : Sends taken flushed sink_failed sink out sink_after
   pub same : last ≡ source_after
 
 -- what the answer of a run says of the pieces and of the bytes sent
-abbrev pub RunSays : {S W : Type 0} → (S → Option (List ℕ)) → (S → ℕ) → (W → Option (List ℕ)) → (W → ℕ) → (W → ℕ)
+abbrev pub RunSays : {S W : Type 0} → (S → Option (List ℕ)) → (S → ℕ) → (W → Option (List ℕ)) → (W → Option ℕ) → (W → ℕ)
     → State → List (List ℕ) → S → W → List ℕ → Result ℕ RunFault → S → W → Type 0
 RunSays coming source_failed taken flushed sink_failed start pieces last sink out (Ok status) source_after sink_after =
     IsSettled start pieces out (Ok status) × (Sends taken flushed sink_failed sink out sink_after × (last ≡ source_after))
@@ -60,14 +54,14 @@ RunSays coming source_failed taken flushed sink_failed start pieces last sink ou
 RunSays coming source_failed taken flushed sink_failed start pieces last sink out (Err Memory) source_after sink_after =
     MemoryEnds taken flushed sink_failed start pieces last sink out source_after sink_after
 
--- a run: the pieces pulled, each while nothing was decided and no end told, the bytes sent, and what its answer says of both
+-- a run: the pieces pulled, each when all that was whole before it was answered and no end told, the bytes sent, and what its answer says of both
 pub record Runs {S W : Type 0} (coming : S → Option (List ℕ)) (source_failed : S → ℕ) (gave : S → List ℕ → S → Type 0)
-    (taken : W → Option (List ℕ)) (flushed sink_failed : W → ℕ)
+    (taken : W → Option (List ℕ)) (flushed : W → Option ℕ) (sink_failed : W → ℕ)
     (start : State) (source : S) (sink : W) (answer : Result ℕ RunFault) (source_after : S) (sink_after : W) : Type 0 where
   pub pieces : List (List ℕ)
   pub last : S
   pub out : List ℕ
-  pub needed : PulledWhile coming source_failed gave (DecidesNothing start) [] source pieces last
+  pub needed : PulledWhile coming source_failed gave (IsAnsweredIn start out) [] source pieces last
   pub stopped : OnlyLastEmpty pieces
   pub few : length pieces ≤ 2 ^ 48
   pub says : RunSays coming source_failed taken flushed sink_failed start pieces last sink out answer source_after sink_after
@@ -80,12 +74,21 @@ pub record AnswersInput (start : State) (input : List ℕ) (outcome : Outcome) (
   pub allowed : IsAllowed start input out outcome
   pub appended : Appends taken taken_after out
 
--- the sink took a front of an output that is allowed for the bytes read
+-- all is answered that was whole before the last piece of these bytes, and no piece has more than 65,536
+pub record AnswersAllButOnePiece (start : State) (read out : List ℕ) : Type 0 where
+  pub earlier : List ℕ
+  pub piece : List ℕ
+  pub split : read ≡ earlier ++ piece
+  pub small : length piece ≤ 65536
+  pub answered : IsAnsweredIn start out earlier
+
+-- the sink took a front of an output that is allowed for the bytes read, with the answers to all that was whole before the last piece
 pub record AnswersFront (start : State) (input left : List ℕ) (taken taken_after : Option (List ℕ)) : Type 0 where
   pub read : List ℕ
   pub out : List ℕ
   pub split : input ≡ read ++ left
   pub front : IsFront start read out
+  pub answered : AnswersAllButOnePiece start read out
   pub appended : Appends taken taken_after out
 
 -- what the sink took, by the answer of a run over this input: a whole output, or a front of one where a device failed or memory was wanting

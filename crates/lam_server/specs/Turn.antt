@@ -1,7 +1,6 @@
 -- What a turn does: with the bytes held and pulled, with the session, and with the sink.
 use Rattle.std.specs.Prelude.{◌≡◌, ◌≢◌, ℕ, ◌+◌, ◌^◌, ◌≤◌, List, [], ◌++◌, length, Option, Some, Result, Ok, Err}
 use Rattle.std.specs.List.{concat}
-use Rattle.serde_json.specs.Data.{Data}
 use Rattle.lam_frame.specs.Device.{FailedPull}
 use Rattle.lam_frame.specs.Frame.{HasFault, IsOpen}
 use Rattle.lam_frame.specs.Next.{EndsEmpty, OnlyLastEmpty, PulledWhile}
@@ -9,7 +8,7 @@ use Rattle.lam_frame.specs.declared.fault.FrameFault.{FrameFault}
 use Rattle.lam_frame.specs.declared.fault.FrameFault.TheVariants.{NoLength, BadLength, TooLong, BadHeader, Truncated}
 use Rattle.lam_session.specs.State.{State, ended_status}
 use Rattle.lam_server.specs.Device.{Sends, FailsToSend, StopsSending}
-use Rattle.lam_server.specs.Output.{Takes, IsLive, frames_of}
+use Rattle.lam_server.specs.Output.{Takes, IsLive}
 use Rattle.lam_server.specs.Waiting.{Waiting, HasLessWork}
 use Rattle.lam_server.specs.declared.faults.RunFault.{RunFault}
 use Rattle.lam_server.specs.declared.faults.RunFault.TheVariants.{Header, Device, Memory}
@@ -30,21 +29,21 @@ IsBroken bytes pieces Truncated = IsOpen bytes × ((bytes ≢ []) × EndsEmpty p
 IsBroken bytes pieces _ = ⊥
 
 -- one message is taken from these bytes and answered in full
-pub record AnswersOne {W : Type 0} (taken : W → Option (List ℕ)) (flushed failed : W → ℕ)
+pub record AnswersOne {W : Type 0} (taken : W → Option (List ℕ)) (flushed : W → Option ℕ) (failed : W → ℕ)
     (s : State) (heard : List ℕ) (sink : W) (next : State) (left : List ℕ) (sink_after : W) : Type 0 where
   pub out : List ℕ
   pub takes : Takes s heard out next left
   pub sends : Sends taken flushed failed sink out sink_after
 
 -- the session goes on behind that message
-pub record GoesOn {W : Type 0} (taken : W → Option (List ℕ)) (flushed failed : W → ℕ)
+pub record GoesOn {W : Type 0} (taken : W → Option (List ℕ)) (flushed : W → Option ℕ) (failed : W → ℕ)
     (old : Waiting) (heard : List ℕ) (pieces : List (List ℕ)) (sink : W) (new : Waiting) (sink_after : W) : Type 0 where
   pub answers : AnswersOne taken flushed failed old.state heard sink new.state new.held sink_after
   pub live : IsLive new.state
   pub counted : new.pulls ≡ old.pulls + length pieces
 
 -- the session ends with that message, or nothing is left to hear
-pub data Ends {W : Type 0} (taken : W → Option (List ℕ)) (flushed failed : W → ℕ)
+pub data Ends {W : Type 0} (taken : W → Option (List ℕ)) (flushed : W → Option ℕ) (failed : W → ℕ)
     (s : State) (heard : List ℕ) (pieces : List (List ℕ)) (sink : W) (status : ℕ) (sink_after : W) : Type 0 where
   by_message : (next : State) (left : List ℕ) → AnswersOne taken flushed failed s heard sink next left sink_after
       → ended_status next.life ≡ Some status → Ends taken flushed failed s heard pieces sink status sink_after
@@ -61,14 +60,14 @@ pub data DeviceStops {S W : Type 0} (coming : S → Option (List ℕ)) (source_f
       → DeviceStops coming source_failed taken sink_failed old heard pieces last sink source_after sink_after
 
 -- nothing was sent; or the memory for the text of a value of the answer was wanting
-pub data MemoryStops {W : Type 0} (taken : W → Option (List ℕ)) (flushed failed : W → ℕ)
+pub data MemoryStops {W : Type 0} (taken : W → Option (List ℕ)) (flushed : W → Option ℕ) (failed : W → ℕ)
     (s : State) (heard : List ℕ) (sink sink_after : W) : Type 0 where
   before_sending : sink ≡ sink_after → MemoryStops taken flushed failed s heard sink sink_after
-  while_sending : (values : List Data) (next : State) (left : List ℕ) → Takes s heard (frames_of values) next left
-      → StopsSending taken flushed failed sink values sink_after → MemoryStops taken flushed failed s heard sink sink_after
+  while_sending : (out : List ℕ) (next : State) (left : List ℕ) → (takes : Takes s heard out next left)
+      → StopsSending taken flushed failed sink takes.values sink_after → MemoryStops taken flushed failed s heard sink sink_after
 
 -- what the answer of a turn says of the bytes heard
-abbrev pub TurnSays : {S W : Type 0} → (S → Option (List ℕ)) → (S → ℕ) → (W → Option (List ℕ)) → (W → ℕ) → (W → ℕ)
+abbrev pub TurnSays : {S W : Type 0} → (S → Option (List ℕ)) → (S → ℕ) → (W → Option (List ℕ)) → (W → Option ℕ) → (W → ℕ)
     → Waiting → List ℕ → List (List ℕ) → S → W → Result Turn RunFault → S → W → Type 0
 TurnSays coming source_failed taken flushed sink_failed old heard pieces last sink (Ok (More server)) source_after sink_after =
     GoesOn taken flushed sink_failed old heard pieces sink server sink_after × (last ≡ source_after)
@@ -83,7 +82,7 @@ TurnSays coming source_failed taken flushed sink_failed old heard pieces last si
 
 -- a turn: pulls while the bytes there decide nothing and no empty piece told the end, and then what the answer says
 pub record TakesTurn {S W : Type 0} (coming : S → Option (List ℕ)) (source_failed : S → ℕ) (gave : S → List ℕ → S → Type 0)
-    (taken : W → Option (List ℕ)) (flushed sink_failed : W → ℕ)
+    (taken : W → Option (List ℕ)) (flushed : W → Option ℕ) (sink_failed : W → ℕ)
     (old : Waiting) (source : S) (sink : W) (answer : Result Turn RunFault) (source_after : S) (sink_after : W) : Type 0 where
   pub pieces : List (List ℕ)
   pub last : S

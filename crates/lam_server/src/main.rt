@@ -5,7 +5,10 @@
 //! with which, whatever comes and in whatever pieces. Nothing here knows what a message means.
 #![tactic(auto)]
 
-ghost use Rattle.std.specs.Prelude.{◌≡◌, map, string_bytes};
+ghost use Rattle.std.specs.Prelude.{◌≡◌, ◌≢◌, ◌-◌, ◌^◌, ◌<◌, map, string_bytes};
+ghost use Rattle.std.specs.IoError.{error_kind};
+ghost use Rattle.lam_session.specs.State.{dialect_of, fresh};
+ghost use Rattle.lam_server.specs.Ending.{EndsAsRun, EndsAsSomeRun, EndsByWords};
 ghost use Rattle.lam_server.specs.Program.{status_of};
 ghost use Rattle.lam_server.specs.Words.{ReadsWords};
 
@@ -19,12 +22,12 @@ mod tests;
 
 use args::{ArgsFault, read_args};
 use faults::{RunFault, line_of, status_of};
-use lam_frame::{FromRead, ToWrite};
+use lam_frame::{FromRead, Sink, Source, ToWrite};
 use lam_session::Config;
 use run::run;
 use std::alloc::{AllocError, Global};
 use std::env::{self, Env};
-use std::io;
+use std::io::{self, ErrorKind, Printer};
 use std::process::ExitCode;
 
 /// The status after words that start no run.
@@ -43,8 +46,11 @@ fn words<R: AllocGlobal + Env>(rt: &R) -> io::Result<Vec<String>> {
 }
 
 /// Says why the words could not be read. The status to end with.
-fn refuse<R: Eprint>(rt: &R, error: &io::Error) -> u8 {
-    if error.kind() == io::ErrorKind::OutOfMemory {
+fn refuse<R: Eprint>(rt: &R, error: &io::Error) -> u8
+    ensures memory { error_kind error.now ≡ ErrorKind.OutOfMemory → result ≡ 5 }
+    ensures usage { error_kind error.now ≢ ErrorKind.OutOfMemory → result ≡ 2 }
+{
+    if error.kind() == ErrorKind::OutOfMemory {
         return report(rt, RunFault::Memory);
     }
     let _ = eprintln!(rt; "lam_server: the words cannot be read: {error}");
@@ -52,7 +58,12 @@ fn refuse<R: Eprint>(rt: &R, error: &io::Error) -> u8 {
 }
 
 /// Reads the words, and then runs or says why not. The status to end with.
-fn start<R: AllocGlobal + Input + Print + Eprint>(rt: &R, words: &[String]) -> u8 {
+fn start<R: AllocGlobal + Input + Print + Eprint>(rt: &R, words: &[String]) -> u8
+    ensures {
+        let source = ⟦<FromRead<R::Reader> as Source>⟧ in let sink = ⟦<ToWrite<Printer<'static, R>> as Sink>⟧ in
+        EndsByWords (EndsAsSomeRun source.coming source.failed source.gave sink.taken sink.flushed sink.failed) (map string_bytes words.now) result
+    }
+{
     match read_words(rt.alloc(), words) {
         Ok(config) => serve(rt, config),
         Err(ArgsFault::Help(text)) => {
@@ -78,10 +89,29 @@ fn read_words(alloc: Global, words: &[String]) -> Result<Config, ArgsFault>
 }
 
 /// Serves standard input and output. The status to end with.
-fn serve<R: AllocGlobal + Input + Print + Eprint>(rt: &R, config: Config) -> u8 {
+fn serve<R: AllocGlobal + Input + Print + Eprint>(rt: &R, config: Config) -> u8
+    ensures {
+        let source = ⟦<FromRead<R::Reader> as Source>⟧ in let sink = ⟦<ToWrite<Printer<'static, R>> as Sink>⟧ in
+        EndsAsSomeRun source.coming source.failed source.gave sink.taken sink.flushed sink.failed (fresh (dialect_of config)) result
+    }
+{
     let mut reader = FromRead::new(rt.reader());
     let mut writer = ToWrite::new(io::writer(rt));
-    match run(rt.alloc(), &mut reader, &mut writer, config) {
+    served(rt, &mut reader, &mut writer, config)
+}
+
+/// Serves a source and a sink. The status to end with.
+fn served<R: AllocGlobal + Eprint, S: Source, W: Sink>(
+    rt: &R,
+    reader: &mut S,
+    writer: &mut W,
+    config: Config,
+) -> u8
+    requires source { S.failed reader.old < 2 ^ 64 - 1 }
+    requires sink { W.failed writer.old < 2 ^ 64 - 1 }
+    ensures { EndsAsRun S.coming S.failed S.gave W.taken W.flushed W.failed (fresh (dialect_of config)) reader.old writer.old result reader.new writer.new }
+{
+    match run(rt.alloc(), reader, writer, config) {
         Ok(status) => status,
         Err(fault) => report(rt, fault),
     }

@@ -112,7 +112,7 @@ struct Hearer<'a> {
 impl Sink for Hearer<'_> {
     ghost taken = { λ s. Some s.inner.bytes };
 
-    ghost flushed = { λ s. s.inner.flushed };
+    ghost flushed = { λ s. Some s.inner.flushed };
 
     ghost failed = { λ s. s.inner.failures };
 

@@ -1,0 +1,52 @@
+-- With which status the program ends: by the answer of its run, and by the words of its command line.
+use Rattle.std.specs.Prelude.{◌≡◌, ℕ, List, Option, Result, Ok, Err}
+use Rattle.lam_session.specs.State.{State, dialect_of, fresh}
+use Rattle.lam_session.specs.declared.states.Config.{Config}
+use Rattle.lam_server.specs.Program.{status_of}
+use Rattle.lam_server.specs.Run.{AnswersWhereTold, Runs}
+use Rattle.lam_server.specs.Words.{ReadsWords}
+use Rattle.lam_server.specs.declared.args.ArgsFault.{ArgsFault}
+use Rattle.lam_server.specs.declared.args.ArgsFault.TheVariants.{Help, Usage, Memory}
+use Rattle.lam_server.specs.declared.faults.RunFault.{RunFault}
+
+-- ---- a run
+
+-- the status that a run answered, or that of its fault
+abbrev pub status_after : Result ℕ RunFault → ℕ
+status_after (Ok status) = status
+status_after (Err fault) = status_of fault
+
+-- the status is that of a run from this state over this source and this sink
+pub record EndsAsRun {S W : Type 0} (coming : S → Option (List ℕ)) (source_failed : S → ℕ) (gave : S → List ℕ → S → Type 0)
+    (taken : W → Option (List ℕ)) (flushed : W → Option ℕ) (sink_failed : W → ℕ)
+    (start : State) (source : S) (sink : W) (status : ℕ) (source_after : S) (sink_after : W) : Type 0 where
+  pub answer : Result ℕ RunFault
+  pub told : AnswersWhereTold start (coming source) (coming source_after) answer (taken sink) (taken sink_after)
+  pub runs : Runs coming source_failed gave taken flushed sink_failed start source sink answer source_after sink_after
+  pub ends : status ≡ status_after answer
+
+-- the status is that of a run from this state over some source and some sink, neither of which had failed before
+pub record EndsAsSomeRun {S W : Type 0} (coming : S → Option (List ℕ)) (source_failed : S → ℕ) (gave : S → List ℕ → S → Type 0)
+    (taken : W → Option (List ℕ)) (flushed : W → Option ℕ) (sink_failed : W → ℕ) (start : State) (status : ℕ) : Type 0 where
+  pub source : S
+  pub sink : W
+  pub source_after : S
+  pub sink_after : W
+  pub source_new : source_failed source ≡ 0
+  pub sink_new : sink_failed sink ≡ 0
+  pub run : EndsAsRun coming source_failed gave taken flushed sink_failed start source sink status source_after sink_after
+
+-- ---- by the words
+
+-- by what the words are read as: a run in their dialect ends so; 0 behind the help, 2 where they are wrong, 5 for want of memory
+abbrev pub EndsAsRead : (State → ℕ → Type 0) → Result Config ArgsFault → ℕ → Type 0
+EndsAsRead Run (Ok config) status = Run (fresh (dialect_of config)) status
+EndsAsRead Run (Err (Help text)) status = status ≡ 0
+EndsAsRead Run (Err (Usage text)) status = status ≡ 2
+EndsAsRead Run (Err Memory) status = status ≡ 5
+
+-- the status is that of the words as they are read
+pub record EndsByWords (Run : State → ℕ → Type 0) (words : List (List ℕ)) (status : ℕ) : Type 0 where
+  pub read : Result Config ArgsFault
+  pub reads : ReadsWords words read
+  pub ends : EndsAsRead Run read status
