@@ -24,6 +24,7 @@ pub mod Reading
 pub mod PlaceCounts
 pub mod BinderRows
 pub mod SeenOrigins
+pub mod ScopeBindings
 pub mod SpelledTerms
 pub mod SpelledMentions
 pub mod NestedRows
@@ -34,6 +35,9 @@ pub mod StretchRuns
 pub mod StretchedRows
 pub mod MentionRows
 pub mod BoundMentions
+pub mod Contained
+pub mod ToldAbbreviations
+pub mod UnboundTypeNames
 pub mod PlacelessForms
 pub mod TokenRenames
 pub mod BindersBefore

@@ -144,7 +144,7 @@ pub length-joined : {X : Type 0} (xs ys : List X) (a b : ℕ) → length xs ≡ 
 length-joined xs ys a b e f = length-append xs ys ∙ (λ i. e i + f i)
 
 mutual
-  places-length : (s : Scope) (e : Term) → length (places s e) ≡ inside e + 1
+  pub places-length : (s : Scope) (e : Term) → length (places s e) ≡ inside e + 1
   places-length s (if_then_else c a b) =
       let whole = length-joined (places s c ++ places s a ++ places s b) (record { scope = s; here = if_then_else c a b } ∷ []) (inside c + 1 + (inside a + 1) + (inside b + 1)) 1
       (length-joined (places s c ++ places s a) (places s b) (inside c + 1 + (inside a + 1)) (inside b + 1) (length-joined (places s c) (places s a) (inside c + 1) (inside a + 1) (places-length s c) (places-length s a)) (places-length s b)) refl in

@@ -1,5 +1,6 @@
 pub mod Places
 pub mod Sights
+pub mod Bindings
 pub mod Names
 pub mod Stacks
 pub mod NameStacks
@@ -22,6 +23,7 @@ pub mod Renames
 pub mod Bearers
 pub mod Labels
 pub mod Mentions
+pub mod TypeNames
 pub mod PlacedTerms
 pub mod PlacedRows
 pub mod Stretches
@@ -31,3 +33,4 @@ pub mod Views
 pub mod Formed
 pub mod Walked
 pub mod OwnWords
+pub use Rattle.lam_syntax.specs.Trees

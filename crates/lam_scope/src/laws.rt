@@ -1,6 +1,6 @@
 //! What holds of the table and the nameless form of any commands.
 //! Each law is the contract of a function that does nothing.
-ghost use Rattle.std.specs.Prelude.{◌≡◌, ◌≢◌, ◌⊎◌, ◌↔◌, ℕ, [], ◌∷◌, List, None, Some, map, length, get_or, reverse};
+ghost use Rattle.std.specs.Prelude.{◌≡◌, ◌≢◌, ◌⊎◌, ◌↔◌, ℕ, [], ◌∷◌, ◌++◌, List, None, Some, map, length, get_or, reverse, Contains};
 ghost use Rattle.std.specs.Option.{option_map};
 ghost use Rattle.std.specs.List.{AllByRecursion};
 ghost use Rattle.lam_token.specs.declared.span.Span.{Span};
@@ -10,15 +10,18 @@ ghost use Rattle.lam_syntax.specs.Trees.{CommandTree};
 ghost use Rattle.lam_syntax.specs.Respelled.{Letters, respelled_command};
 ghost use Rattle.lam_scope.specs.declared.rename_fault.RenameFault.{RenameFault};
 ghost use Rattle.lam_scope.specs.declared.rename_fault.RenameFault.TheVariants.{Memory};
+ghost use Rattle.lam_scope.specs.declared.type_fault.TypeFault.TheVariants.{UnboundTypeName};
 ghost use Rattle.lam_scope.specs.Counted.{statements_counted, past_commands};
 ghost use Rattle.lam_scope.specs.Names.{Name, count};
 ghost use Rattle.lam_scope.specs.Forms.{forms};
-ghost use Rattle.lam_scope.specs.Nameless.{statements, faults};
+ghost use Rattle.lam_scope.specs.Nameless.{statement, statements, faults};
+ghost use Rattle.lam_scope.specs.Bindings.{binding_from, AreOriginsOf};
+ghost use Rattle.lam_scope.specs.TypeNames.{IsTypeNameIn, abbreviations_seen_after, meant_after, binders_seen_after, IsLastAbbreviation, IsNotAbbreviated};
 ghost use Rattle.lam_scope.specs.Expanded.{IsExpanded};
 ghost use Rattle.lam_scope.specs.PlacedTerms.{document_terms, term_of, tree_in, projection_at};
 ghost use Rattle.lam_scope.specs.Labels.{labelled, AreLabelled};
 ghost use Rattle.lam_scope.specs.PlacedRows.{IsRowOf};
-ghost use Rattle.lam_scope.specs.Places.{places_of};
+ghost use Rattle.lam_scope.specs.Places.{places_of, place_numbered, statement_numbered};
 ghost use Rattle.lam_scope.specs.Sights.{sight_numbered};
 ghost use Rattle.lam_scope.specs.Mentions.{binder_of, kind_of, mentions, bound_at, uses_of, Ascend, IsBehindBinder};
 ghost use Rattle.lam_scope.specs.Renames.{HasName, AreRenamed, IsRefused, answer_for, kind_of_binder, renamed};
@@ -30,6 +33,15 @@ ghost use Rattle.lam_scope.specs.Tables.{Table, table, Entry, entry_names, bound
 pub fn one_sight()
     ensures places { (cs : List CommandTree) → length (table cs).places ≡ length (places_of [] (statements [] [] cs)) }
     ensures sights { (cs : List CommandTree) (n : ℕ) → map (λ b. (binder_numbered (table cs) b).origin) (visible_at (table cs) n) ≡ reverse (sight_numbered (statements [] [] cs) n) }
+{}
+
+/// The names and the types of what a term sees belong together. Of the binders that the table tells of a place, the outermost
+/// first, the names are those that its term sees, and what they take their types from is what its scope says, one by one. The
+/// lambda or the term that a binder takes its type from sees just the binders outside of it.
+pub fn one_scope()
+    ensures names { (cs : List CommandTree) (n : ℕ) → map (λ b. (binder_numbered (table cs) b).name) (visible_at (table cs) n) ≡ reverse (term_of (tree_in (document_terms cs) n)).names }
+    ensures bindings { (cs : List CommandTree) (n : ℕ) → map (λ b. binding_from (statements [] [] cs) (binder_numbered (table cs) b).origin) (visible_at (table cs) n) ≡ reverse (place_numbered (statements [] [] cs) n).scope }
+    ensures origins { (cs : List CommandTree) (n : ℕ) → AreOriginsOf (statements [] [] cs) (sight_numbered (statements [] [] cs) n) (place_numbered (statements [] [] cs) n).scope }
 {}
 
 /// The first place that has a byte is the innermost: each other place that has it is around it. That is so where of two
@@ -53,6 +65,16 @@ pub fn one_term()
 pub fn one_binder()
     ensures bound { (x : Name) (seen : List Entry) (n : ℕ) (e : Entry) → count x (entry_names seen) ≡ Some n → get_or seen n e ≡ e → bound_to x seen ≡ Some e.answer }
     ensures unbound { (x : Name) (seen : List Entry) → count x (entry_names seen) ≡ None → bound_to x seen ≡ None }
+{}
+
+/// A type name stands for the abbreviation that it is told to be bound to: the last one of the name in the commands before,
+/// expanded over the abbreviations before that one. Where it is told to be unbound, it is at fault and stands for no type.
+/// What a command states, it states with the abbreviations in the commands before it.
+pub fn one_abbreviation()
+    ensures stated { (before after : List CommandTree) (c : CommandTree) → statement_numbered (statements [] [] (before ++ c ∷ after)) (length before) ≡ statement (abbreviations_seen_after before) (binders_seen_after before) c }
+    ensures bound { (cs before : List CommandTree) (x : Name) (s : Span) (high n : ℕ) → Ascend 0 (mentions cs) high → IsTypeNameIn cs before x s → binder_at (table cs) s.start ≡ Some n → IsLastAbbreviation before x (binder_numbered (table cs) n).token (meant_after before x s) }
+    ensures unbound { (cs before : List CommandTree) (x : Name) (s : Span) (high : ℕ) → Ascend 0 (mentions cs) high → IsTypeNameIn cs before x s → binder_at (table cs) s.start ≡ None → IsNotAbbreviated before x (meant_after before x s) }
+    ensures faults { (cs before : List CommandTree) (x : Name) (s : Span) (high : ℕ) → Ascend 0 (mentions cs) high → IsTypeNameIn cs before x s → (Contains (faults [] cs) (UnboundTypeName s) ↔ (binder_at (table cs) s.start ≡ None)) }
 {}
 
 /// The uses of a table tell the counts of the nameless form, one after the other in the order of the text, and none is left
