@@ -83,7 +83,7 @@ entry_beyond n [] le = refl
 entry_beyond zero (entry ∷ g) le = absurd (omega arith)
 entry_beyond (suc n) (entry ∷ g) le = entry_beyond n g (omega arith)
 
-has_no_type_within : (n : ℕ) (g : Context) → HasNoType n g → n < length g
+pub has_no_type_within : (n : ℕ) (g : Context) → HasNoType n g → n < length g
 has_no_type_within n [] h = absurd h
 has_no_type_within zero (entry ∷ g) h = omega arith
 has_no_type_within (suc n) (entry ∷ g) h = let lt = has_no_type_within n g h in omega arith

@@ -27,3 +27,5 @@ pub mod BuiltSteps
 pub mod PlaceProofs
 pub mod JustBlames
 pub mod Projections
+pub mod Causes
+pub mod LeastContexts

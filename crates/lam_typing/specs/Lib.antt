@@ -15,3 +15,4 @@ pub mod Typings
 pub mod Ends
 pub mod Grounds
 pub mod Proving
+pub mod Causes

@@ -1,15 +1,19 @@
 //! What holds of all terms and documents: the contracts of functions that do nothing.
 
-ghost use Rattle.std.specs.Prelude.{◌≡◌, ℕ, ◌<◌, length, List, Option, Some};
+ghost use Rattle.std.specs.Prelude.{◌≡◌, ℕ, ◌<◌, length, List, Option, Some, codes};
 ghost use Rattle.lam_rules.specs.Types.{Label, Typ, bool, nat, arrow, record_of, Fields, Has};
 ghost use Rattle.lam_rules.specs.Terms.{Term, true_term, false_term, unit_term, numeral, lambda, let_in, if_then_else, variable, succ, pred, is_zero, apply, ascribe, project, fix, record_term, TermFields};
 ghost use Rattle.lam_rules.specs.Subtyping.{IsBelow};
 ghost use Rattle.lam_rules.specs.Texts.{text};
 ghost use Rattle.lam_rules.specs.Typing.{Context, HasField};
 ghost use Rattle.lam_rules.specs.declared.rules.Dialect.{Dialect};
-ghost use Rattle.lam_scope.specs.Places.{Scope, Statement};
-ghost use Rattle.lam_typing.specs.LeastTypes.{IsTypeAt, IsLeastAt};
-ghost use Rattle.lam_typing.specs.Blaming.{IsBlamed, DifferInLabels};
+ghost use Rattle.lam_scope.specs.Trees.{CommandTree};
+ghost use Rattle.lam_scope.specs.Labels.{place_in};
+ghost use Rattle.lam_scope.specs.Places.{Scope, Statement, places};
+ghost use Rattle.lam_typing.specs.LeastTypes.{IsTypeAt, IsTyped, IsLeastAt};
+ghost use Rattle.lam_typing.specs.Entries.{AreLeastEntries};
+ghost use Rattle.lam_typing.specs.Blaming.{IsBlamed, IsBlamedFor, DifferInLabels};
+ghost use Rattle.lam_typing.specs.Causes.{HasCause};
 ghost use Rattle.lam_typing.specs.Contexts.{IsContext};
 ghost use Rattle.lam_typing.specs.Narrowing.{Narrows};
 ghost use Rattle.lam_scope.specs.WellFormed.{IsWellFormedScope, IsWellFormedTerm, AreWellFormedStatements};
@@ -54,9 +58,28 @@ pub fn scopes_have_contexts()
     ensures { (s : Scope) (d : Dialect) → IsWellFormedScope s → (g : Context) × IsContext s g d }
 {}
 
+/// The least entries of a scope are a context of it, and each scope has them; so has each place of each document, whatever
+/// stands in it, and a least type or none. So nothing that is said of the least entries and types of a place is said of
+/// nothing.
+pub fn least_entries_are_a_context()
+    ensures context { (s : Scope) (g : Context) (d : Dialect) → IsWellFormedScope s → AreLeastEntries s g d → IsContext s g d }
+    ensures least { (s : Scope) (d : Dialect) → IsWellFormedScope s → (g : Context) × AreLeastEntries s g d }
+    ensures document { (cs : List CommandTree) (n : ℕ) (d : Dialect) → (g : Context) × AreLeastEntries (place_in cs n).scope g d × IsContext (place_in cs n).scope g d }
+    ensures types { (cs : List CommandTree) (n : ℕ) (d : Dialect) → (o : Option Typ) × IsLeastAt (place_in cs n).scope (place_in cs n).here o d }
+{}
+
+/// A term without a type has a cause: it or a term in it has none, and is to blame or has its fault elsewhere, as a use of
+/// a binder without a type has. So a faulty written type silences no other place.
+pub fn untyped_has_a_cause()
+    ensures term { (s : Scope) (e : Term) (d : Dialect) → IsWellFormedScope s → IsWellFormedTerm e → (IsTyped s e d → ⊥) → HasCause (places s e) d }
+    ensures document { (cs : List CommandTree) (n : ℕ) (d : Dialect) → (IsTyped (place_in cs n).scope (place_in cs n).here d → ⊥) → HasCause (places (place_in cs n).scope (place_in cs n).here) d }
+{}
+
 /// What is said of a place that is to blame is so: a name has no binder, a condition is not below Bool, an operand not
 /// below Nat, an argument not below the parameter, a term not below what is ascribed, a field not there, the outcome of
-/// a fix's function not below its parameter, a label of a record there twice.
+/// a fix's function not below its parameter, a label of a record there twice. The least types of its parts tell this,
+/// and so do all others: what is told to be no function has no arrow among its types, one that is told to be a function
+/// has, and no types of the parts make an application, a projection or a fix to which the rules give a type.
 pub fn blame_is_just()
     ensures a_name { (s : Scope) (n : ℕ) (d : Dialect) → IsWellFormedScope s → n < length s → IsBlamed s (variable n) d → ⊥ }
     ensures a_condition { (s : Scope) (c a b : Term) (t : Typ) (d : Dialect) → IsWellFormedScope s → IsBlamed s (if_then_else c a b) d → IsLeastAt s c (Some t) d → IsBelow t bool d → ⊥ }
@@ -68,6 +91,11 @@ pub fn blame_is_just()
     ensures a_field { (s : Scope) (e : Term) (l : Label) (fs : Fields) (t : Typ) (d : Dialect) → IsWellFormedScope s → IsBlamed s (project e l) d → IsLeastAt s e (Some (record_of fs)) d → Has l t fs → ⊥ }
     ensures a_fix { (s : Scope) (e : Term) (p r : Typ) (d : Dialect) → IsWellFormedScope s → IsBlamed s (fix e) d → IsLeastAt s e (Some (arrow p r)) d → IsBelow r p d → ⊥ }
     ensures a_record { (s : Scope) (es : TermFields) (d : Dialect) → IsWellFormedScope s → DifferInLabels es → IsBlamed s (record_term es) d → ⊥ }
+    ensures no_function { (s : Scope) (f a : Term) (p r : Typ) (d : Dialect) → IsBlamedFor s (apply f a) (codes "E2") d → IsTypeAt s f (arrow p r) d → ⊥ }
+    ensures a_function { (s : Scope) (f a : Term) (d : Dialect) → IsBlamedFor s (apply f a) (codes "E3") d → (p : Typ) × (r : Typ) × IsTypeAt s f (arrow p r) d }
+    ensures an_application { (s : Scope) (f a : Term) (p r : Typ) (d : Dialect) → IsWellFormedScope s → IsBlamed s (apply f a) d → IsTypeAt s f (arrow p r) d → IsTypeAt s a p d → ⊥ }
+    ensures a_projection { (s : Scope) (e : Term) (l : Label) (fs : Fields) (t : Typ) (d : Dialect) → IsBlamed s (project e l) d → IsTypeAt s e (record_of fs) d → Has l t fs → ⊥ }
+    ensures a_fixed_point { (s : Scope) (e : Term) (p : Typ) (d : Dialect) → IsBlamed s (fix e) d → IsTypeAt s e (arrow p p) d → ⊥ }
 {}
 
 /// A projection has a type just where the least type of the term before the dot is a record type with that label; the

@@ -1,4 +1,4 @@
-use Rattle.lam_typing.proofs.JustBlames.{bound_unblamed, condition_reason, succ_reason, pred_reason, is_zero_reason, apply_reason, ascribe_reason, project_reason, fix_reason, record_reason}
+use Rattle.lam_typing.proofs.JustBlames.{no_function_reason, function_reason, bound_unblamed, condition_reason, succ_reason, pred_reason, is_zero_reason, apply_reason, ascribe_reason, project_reason, fix_reason, application_reason, projection_reason, fixed_point_reason, record_reason}
 use Rattle.lam_typing.proofs.laws.blame_is_just.Goals as goal
 
 pub returns-clause-a_name : goal.returns-clause-a_name
@@ -30,3 +30,18 @@ returns-clause-a_fix c = λ s e p r d ws. fix_reason d s e p r ws
 
 pub returns-clause-a_record : goal.returns-clause-a_record
 returns-clause-a_record c = λ s es d ws. record_reason d s es ws
+
+pub returns-clause-no_function : goal.returns-clause-no_function
+returns-clause-no_function c = no_function_reason
+
+pub returns-clause-a_function : goal.returns-clause-a_function
+returns-clause-a_function c = function_reason
+
+pub returns-clause-an_application : goal.returns-clause-an_application
+returns-clause-an_application c = λ s f a p r d ws. application_reason d s f a p r ws
+
+pub returns-clause-a_projection : goal.returns-clause-a_projection
+returns-clause-a_projection c = λ s e l fs t d. projection_reason d s e l fs t
+
+pub returns-clause-a_fixed_point : goal.returns-clause-a_fixed_point
+returns-clause-a_fixed_point c = λ s e p d. fixed_point_reason d s e p
