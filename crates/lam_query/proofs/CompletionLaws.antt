@@ -22,14 +22,23 @@ use Rattle.lam_query.proofs.LabelledTokens.{label_changed}
 use Rattle.lam_query.proofs.NamesInSight.{one_list_of_names, one_list_of_labels, some_names}
 use Rattle.lam_query.proofs.OneAnswer.{one_document}
 use Rattle.lam_query.proofs.PieceLaws.{some_commands}
-use Rattle.lam_query.proofs.Projected.{one_label, none_projected, small_in, small_out, projection, items_listed, none_listed}
+use Rattle.lam_query.proofs.Projected.{one_label, none_projected, small_in, small_out, projected, projection, items_listed, none_listed}
 use Rattle.lam_query.proofs.SizeLaws.{small_or_not, small_up_to_or_not}
 use Rattle.lam_query.proofs.SomeAnswers.{number_wf}
 
 -- ---- one
 
+-- a projection's dot with one label is one with any other
+pub projected_with_other : (text : List ℕ) (tokens : List Lexeme) (o : ℕ) (l m : Label) → AreTokensOf text tokens → IsProjected tokens o l → IsProjected tokens o m
+projected_with_other text tokens o l m are h =
+    let t = h.dot in
+    let cs = labelled (start_of t) one_label h.commands in
+    let reading = label_changed text tokens o t l one_label h.commands are h.is_before h.are_commands in
+    let there : projection_at (start_of t) cs ≡ Some h.number = same_number h.commands (start_of t) one_label ∙ h.there in
+    projected text tokens o t are h.is_before cs reading h.number there m
+
 -- what is small up to the projection with one label is so with any other
-small_with_other : (text : List ℕ) (tokens : List Lexeme) (o : ℕ) (l m : Label) (h : IsProjected tokens o l) (k : IsProjected tokens o m) (d : Dialect) → AreTokensOf text tokens
+pub small_with_other : (text : List ℕ) (tokens : List Lexeme) (o : ℕ) (l m : Label) (h : IsProjected tokens o l) (k : IsProjected tokens o m) (d : Dialect) → AreTokensOf text tokens
     → IsSmallUpTo h.commands h.number d → IsSmallUpTo k.commands k.number d
 small_with_other text tokens o l m h k d are small =
     let t = h.dot in

@@ -1,5 +1,9 @@
 pub mod CommandLists
 pub mod Flat
+pub mod OneProof
+pub mod ReadTrees
+pub mod RebuiltTrees
+pub mod RebuiltPremises
 pub mod Ordered
 pub mod Small
 pub mod RowsAndTerms

@@ -11,6 +11,8 @@ pub mod Hovers
 pub mod Innermost
 pub mod Steps
 pub mod RowSteps
+pub mod ProofTrees
+pub mod Rebuilding
 pub mod Derivations
 pub mod Views
 pub mod Listing

@@ -4,6 +4,8 @@ ghost use Rattle.std.specs.Str.{IsUtf8};
 ghost use Rattle.lam_token.specs.declared.span.Span.{Span};
 ghost use Rattle.lam_token.specs.Lexeme.{Lexeme, span_of};
 ghost use Rattle.lam_token.specs.Cut.{AreTokensOf};
+ghost use Rattle.lam_rules.specs.Types.{Label};
+ghost use Rattle.lam_rules.specs.Typing.{TypingTree};
 ghost use Rattle.lam_rules.specs.declared.rules.Dialect.{Dialect};
 ghost use Rattle.lam_syntax.specs.Trees.{CommandTree};
 ghost use Rattle.lam_scope.specs.PlacedTerms.{PlacedTree, document_terms};
@@ -14,8 +16,10 @@ ghost use Rattle.lam_query.specs.WellTypedDocuments.{IsWellTyped};
 ghost use Rattle.lam_query.specs.Hovers.{Shown, innermost_at, IsShownIn};
 ghost use Rattle.lam_query.specs.Innermost.{IsInnermost};
 ghost use Rattle.lam_query.specs.Derivations.{Derivation, IsDerivedIn};
+ghost use Rattle.lam_query.specs.Steps.{Proof, steps_of, typing_proof};
+ghost use Rattle.lam_query.specs.ProofTrees.{typing_tree_in};
 ghost use Rattle.lam_query.specs.Touched.{touched};
-ghost use Rattle.lam_query.specs.Completions.{Item, AreCompletions};
+ghost use Rattle.lam_query.specs.Completions.{IsProjected, IsSmallUpTo, Item, AreCompletions};
 ghost use Rattle.lam_query.specs.Definitions.{IsDefinitionIn, AreReferencesIn, AreApart};
 ghost use Rattle.lam_query.specs.declared.renames.RenameFault.{RenameFault};
 ghost use Rattle.lam_query.specs.declared.renames.RenameFault.TheVariants.{ChangesBinding};
@@ -31,6 +35,14 @@ pub fn one_answer()
     ensures references { (text : List ℕ) (offset : ℕ) (declared : Bool) (found others : Option (List Span)) → AreReferencesIn text offset declared found → AreReferencesIn text offset declared others → found ≡ others }
     ensures rename { (text : List ℕ) (offset : ℕ) (new : List ℕ) (found other : Result (List Span) RenameFault) → IsRenameIn text offset new found → IsRenameIn text offset new other → found ≡ other }
     ensures completions { (text : List ℕ) (offset : ℕ) (items others : List Item) (d : Dialect) → AreCompletions text offset items d → AreCompletions text offset others d → items ≡ others }
+{}
+
+/// One label behind a dot stands for all: where with one the dot is a projection's, it is so with any other, and where with
+/// one no type up to the projection is too large, none is with any other.
+pub fn one_label_stands_for_all()
+    ensures projected { (text : List ℕ) (tokens : List Lexeme) (offset : ℕ) (l m : Label) → AreTokensOf text tokens → IsProjected tokens offset l → IsProjected tokens offset m }
+    ensures small { (text : List ℕ) (tokens : List Lexeme) (offset : ℕ) (l m : Label) (h : IsProjected tokens offset l) (k : IsProjected tokens offset m) (d : Dialect) → AreTokensOf text tokens
+        → IsSmallUpTo h.commands h.number d → IsSmallUpTo k.commands k.number d }
 {}
 
 /// The term that is shown is the innermost one: each term of the text that has the byte is around it.
@@ -80,4 +92,12 @@ pub fn no_fault_is_well_typed()
 /// Each fault of a text has one of seventeen codes.
 pub fn known_codes()
     ensures { (text : List ℕ) (found : List Fault) (d : Dialect) → AreFaults text found d → All HasKnownCode found }
+{}
+
+/// Steps tell the proof that they are of, and those of a proof of typing tell its tree, whatever terms it is about. The tree
+/// of a proof of typing is the one that it was made from.
+pub fn steps_tell_the_proof()
+    ensures proof { (p q : Proof) → steps_of 0 p ≡ steps_of 0 q → p ≡ q }
+    ensures tree { (term other : PlacedTree) (tree also : TypingTree) → steps_of 0 (typing_proof term tree) ≡ steps_of 0 (typing_proof other also) → tree ≡ also }
+    ensures read { (term : PlacedTree) (tree : TypingTree) → typing_tree_in (typing_proof term tree) ≡ Some tree }
 {}

@@ -16,6 +16,7 @@ mod fields;
 mod hovers;
 mod laws;
 mod reading;
+mod rebuilding;
 mod renames;
 mod sight;
 mod steps;
@@ -28,8 +29,10 @@ pub use definitions::{definition, references};
 pub use derivations::derivation;
 pub use hovers::hover;
 pub use laws::{
-    known_codes, no_fault_is_well_typed, one_answer, references_share_a_definition,
-    renames_keep_binding, shown_is_innermost, some_answer,
+    known_codes, no_fault_is_well_typed, one_answer, one_label_stands_for_all,
+    references_share_a_definition, renames_keep_binding, shown_is_innermost, some_answer,
+    steps_tell_the_proof,
 };
+pub use rebuilding::proof_of_steps;
 pub use renames::{RenameFault, rename};
 pub use text_faults::faults;
