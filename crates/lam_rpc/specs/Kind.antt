@@ -50,7 +50,7 @@ kind_of d =
     else (if is_reply d then reply
     else with_method (option_and_then as_str (get (codes "method") d)) d)
 
--- the body is the text of this value
+-- the body is UTF-8, and reading it gives this value: of several members of one name the last
 pub record IsTextOf (body : List ℕ) (d : Data) : Type 0 where
   pub utf8 : IsUtf8 body
   pub reads : read body ≡ Some d

@@ -1,5 +1,5 @@
 -- What comes between does not change the answers about a document.
-use Rattle.std.proofs.Common.{not, option_and_then, ◌≡◌, ℕ, ℤ, List, [], ◌∷◌, filter, codes, Bool, true, false, cond, ◌||◌, Option, None, Some, refl, sym, ap, ◌∙◌, subst, true≢false}
+use Rattle.std.proofs.Common.{not, option_and_then, ◌≡◌, ℕ, ℤ, List, [], ◌∷◌, codes, Bool, true, false, cond, ◌||◌, Option, None, Some, option_map, refl, sym, ap, ◌∙◌, subst, true≢false}
 use Rattle.std.proofs.lemmas.Bool.{or_parts}
 use Rattle.std.proofs.lemmas.Slice.Eq.{bytes_eq-Decides}
 use Rattle.std.specs.Str.{bytes_eq}
@@ -27,59 +27,78 @@ use Rattle.lam_session.specs.Questions.{RepliesOpen, RepliesAt, Asks}
 use Rattle.lam_session.specs.declared.questions.Question.{Question}
 use Rattle.lam_session.specs.Refusals.{refused}
 use Rattle.lam_session.specs.Methods.{request_method, notice_method}
-use Rattle.lam_session.specs.Runs.{Exchange, Runs, is_lifecycle, is_named, concerns, IsAlone, SaysNothing}
+use Rattle.lam_session.specs.Runs.{Exchange, Runs, is_lifecycle, is_named, concerns, concerning, document_named, IsAlone, SaysNothing}
 use Rattle.lam_session.specs.State.{State, open_in, fresh}
 use Rattle.lam_session.specs.Step.{exit_status, Serves, Awaits, Requested, Heeds, Passes, Noticed, Receives, ReceivesIn, Steps}
 use Rattle.lam_session.specs.Sync.{published, opened_text, given_version, Holds, OpensAs, ChangesText, ChangesAs, ClosesOpen, ClosesAs}
 use Rattle.lam_session.specs.Diagnostics.{diagnostics}
-use Rattle.lam_session.proofs.EntryLemmas.{same_text, found_set}
+use Rattle.lam_session.proofs.EntryLemmas.{same_text}
 use Rattle.lam_session.proofs.MethodLemmas.{fits_request, request_fits, fits_notice, notice_fits}
 use Rattle.lam_session.proofs.QuestionLaws.{laws}
 use Rattle.lam_session.proofs.ReplyLemmas.{HasNoMethod, refusal_has_no_method}
 
 -- ---- the documents
 
+text_at : (uri : List ℕ) (b : Bool) (d : OpenDocument) (text : Option (List ℕ)) (named : Option OpenDocument) → text ≡ option_map (λ n. n.text) named
+    → cond b (Some d.text) text ≡ option_map (λ n. n.text) (cond b (Some d) named)
+text_at uri true d text named later = refl
+text_at uri false d text named later = later
+
+-- the open text is that of the open document
+text_named : (uri : List ℕ) (ds : List OpenDocument) → open_text uri ds ≡ option_map (λ n. n.text) (document_named uri ds)
+text_named uri [] = refl
+text_named uri (d ∷ ds) = text_at uri (bytes_eq uri d.uri) d (open_text uri ds) (document_named uri ds) (text_named uri ds)
+
+set_at : (b : Bool) (d e : OpenDocument) (ds es : List OpenDocument) → bytes_eq d.uri e.uri ≡ b → document_named d.uri es ≡ Some d → document_named d.uri (cond b (d ∷ ds) (e ∷ es)) ≡ Some d
+set_at true d e ds es is later = rw same_text refl
+set_at false d e ds es is later = rw is later
+
+-- a document that is set is found
+set_named : (d : OpenDocument) (ds : List OpenDocument) → document_named d.uri (with_document d ds) ≡ Some d
+set_named d [] = rw same_text refl
+set_named d (e ∷ es) = set_at (bytes_eq d.uri e.uri) d e es (with_document d es) refl (set_named d es)
+
 -- another document stays
-other_set : (uri : List ℕ) (b : Bool) (d e : OpenDocument) (es rest : List OpenDocument) → bytes_eq uri d.uri ≡ false → bytes_eq d.uri e.uri ≡ b → open_text uri rest ≡ open_text uri es
-    → open_text uri (cond b (d ∷ es) (e ∷ rest)) ≡ open_text uri (e ∷ es)
+other_set : (uri : List ℕ) (b : Bool) (d e : OpenDocument) (es rest : List OpenDocument) → bytes_eq uri d.uri ≡ false → bytes_eq d.uri e.uri ≡ b → document_named uri rest ≡ document_named uri es
+    → document_named uri (cond b (d ∷ es) (e ∷ rest)) ≡ document_named uri (e ∷ es)
 other_set uri true d e es rest apart is later =
     let same : d.uri ≡ e.uri = (bytes_eq-Decides d.uri e.uri).0 is in
     let apart_too : bytes_eq uri e.uri ≡ false = rw (← same) apart in
     rw (apart, apart_too) refl
-other_set uri false d e es rest apart is later = ap (λ r. cond (bytes_eq uri e.uri) (Some e.text) r) later
+other_set uri false d e es rest apart is later = ap (λ r. cond (bytes_eq uri e.uri) (Some e) r) later
 
-kept_set : (uri : List ℕ) (d : OpenDocument) (ds : List OpenDocument) → bytes_eq uri d.uri ≡ false → open_text uri (with_document d ds) ≡ open_text uri ds
+kept_set : (uri : List ℕ) (d : OpenDocument) (ds : List OpenDocument) → bytes_eq uri d.uri ≡ false → document_named uri (with_document d ds) ≡ document_named uri ds
 kept_set uri d [] apart = rw apart refl
 kept_set uri d (e ∷ es) apart = other_set uri (bytes_eq d.uri e.uri) d e es (with_document d es) apart refl (kept_set uri d es apart)
 
 -- setting a document keeps agreement
-agree_at : (uri : List ℕ) (b : Bool) (d : OpenDocument) (ds es : List OpenDocument) → bytes_eq uri d.uri ≡ b → open_text uri ds ≡ open_text uri es → open_text uri (with_document d ds) ≡ open_text uri (with_document d es)
+agree_at : (uri : List ℕ) (b : Bool) (d : OpenDocument) (ds es : List OpenDocument) → bytes_eq uri d.uri ≡ b → document_named uri ds ≡ document_named uri es → document_named uri (with_document d ds) ≡ document_named uri (with_document d es)
 agree_at uri true d ds es is agree =
     let same : uri ≡ d.uri = (bytes_eq-Decides uri d.uri).0 is in
-    rw same (found_set d ds ∙ sym (found_set d es))
+    rw same (set_named d ds ∙ sym (set_named d es))
 agree_at uri false d ds es is agree = kept_set uri d ds is ∙ (agree ∙ sym (kept_set uri d es is))
 
-agree_set : (uri : List ℕ) (d : OpenDocument) (ds es : List OpenDocument) → open_text uri ds ≡ open_text uri es → open_text uri (with_document d ds) ≡ open_text uri (with_document d es)
+agree_set : (uri : List ℕ) (d : OpenDocument) (ds es : List OpenDocument) → document_named uri ds ≡ document_named uri es → document_named uri (with_document d ds) ≡ document_named uri (with_document d es)
 agree_set uri d ds es agree = agree_at uri (bytes_eq uri d.uri) d ds es refl agree
 
-gone_at : (uri : List ℕ) (b : Bool) (d : OpenDocument) (rest : List OpenDocument) → bytes_eq uri d.uri ≡ b → open_text uri rest ≡ None → open_text uri (cond (not b) (d ∷ rest) rest) ≡ None
+gone_at : (uri : List ℕ) (b : Bool) (d : OpenDocument) (rest : List OpenDocument) → bytes_eq uri d.uri ≡ b → document_named uri rest ≡ None → document_named uri (cond (not b) (d ∷ rest) rest) ≡ None
 gone_at uri true d rest is later = later
 gone_at uri false d rest is later = rw is later
 
 -- a closed document is not found
-gone : (uri : List ℕ) (ds : List OpenDocument) → open_text uri (without_document uri ds) ≡ None
+gone : (uri : List ℕ) (ds : List OpenDocument) → document_named uri (without_document uri ds) ≡ None
 gone uri [] = refl
 gone uri (d ∷ ds) = gone_at uri (bytes_eq uri d.uri) d (without_document uri ds) refl (gone uri ds)
 
-other_closed : (uri other : List ℕ) (b : Bool) (d : OpenDocument) (ds rest : List OpenDocument) → bytes_eq uri other ≡ false → bytes_eq other d.uri ≡ b → open_text uri rest ≡ open_text uri ds
-    → open_text uri (cond (not b) (d ∷ rest) rest) ≡ open_text uri (d ∷ ds)
+other_closed : (uri other : List ℕ) (b : Bool) (d : OpenDocument) (ds rest : List OpenDocument) → bytes_eq uri other ≡ false → bytes_eq other d.uri ≡ b → document_named uri rest ≡ document_named uri ds
+    → document_named uri (cond (not b) (d ∷ rest) rest) ≡ document_named uri (d ∷ ds)
 other_closed uri other true d ds rest apart is later =
     let same : other ≡ d.uri = (bytes_eq-Decides other d.uri).0 is in
     let apart_too : bytes_eq uri d.uri ≡ false = rw (← same) apart in
     rw apart_too later
-other_closed uri other false d ds rest apart is later = ap (λ r. cond (bytes_eq uri d.uri) (Some d.text) r) later
+other_closed uri other false d ds rest apart is later = ap (λ r. cond (bytes_eq uri d.uri) (Some d) r) later
 
-kept_close : (uri other : List ℕ) (ds : List OpenDocument) → bytes_eq uri other ≡ false → open_text uri (without_document other ds) ≡ open_text uri ds
+kept_close : (uri other : List ℕ) (ds : List OpenDocument) → bytes_eq uri other ≡ false → document_named uri (without_document other ds) ≡ document_named uri ds
 kept_close uri other [] apart = refl
 kept_close uri other (d ∷ ds) apart = other_closed uri other (bytes_eq other d.uri) d ds (without_document other ds) apart refl (kept_close uri other ds apart)
 
@@ -91,16 +110,20 @@ beside s docs = record s { documents = docs }
 
 -- the same step with other documents, and agreement after it
 abbrev Goes : List ℕ → (List Data → State → Type 0) → List Data → State → Type 0
-Goes uri Step sent next = (docs : List OpenDocument) × Step sent (beside next docs) × (open_text uri next.documents ≡ open_text uri docs)
+Goes uri Step sent next = (docs : List OpenDocument) × Step sent (beside next docs) × (document_named uri next.documents ≡ document_named uri docs)
 
 does_same : (uri : List ℕ) (values : List Data) (after : State) (docs : List OpenDocument) (sent : List Data) (next : State)
-    → open_text uri after.documents ≡ open_text uri docs → Does values after sent next → Goes uri (Does values (beside after docs)) sent next
+    → document_named uri after.documents ≡ document_named uri docs → Does values after sent next → Goes uri (Does values (beside after docs)) sent next
 does_same uri values after docs sent next agree d =
-    (docs, (d.0, ap (λ (x : State). beside x docs) d.1), ap (λ (x : State). open_text uri x.documents) d.1 ∙ agree)
+    (docs, (d.0, ap (λ (x : State). beside x docs) d.1), ap (λ (x : State). document_named uri x.documents) d.1 ∙ agree)
 
--- agreement about a uri is agreement about an equal one
-agree_named : (uri other : List ℕ) (ds es : List OpenDocument) → bytes_eq uri other ≡ true → open_text uri ds ≡ open_text uri es → open_text other ds ≡ open_text other es
-agree_named uri other ds es is agree = subst (λ (u : List ℕ). open_text u ds ≡ open_text u es) ((bytes_eq-Decides uri other).0 is) agree
+-- who agrees about a document agrees about its text
+agree_text : (uri : List ℕ) (ds es : List OpenDocument) → document_named uri ds ≡ document_named uri es → open_text uri ds ≡ open_text uri es
+agree_text uri ds es agree = text_named uri ds ∙ ap (option_map (λ n. n.text)) agree ∙ sym (text_named uri es)
+
+-- agreement about a uri is agreement about the text of an equal one
+agree_named : (uri other : List ℕ) (ds es : List OpenDocument) → bytes_eq uri other ≡ true → document_named uri ds ≡ document_named uri es → open_text other ds ≡ open_text other es
+agree_named uri other ds es is agree = subst (λ (u : List ℕ). open_text u ds ≡ open_text u es) ((bytes_eq-Decides uri other).0 is) (agree_text uri ds es agree)
 
 -- ---- questions
 
@@ -117,7 +140,7 @@ replies_open_same question s docs id params place None answer r = r
 replies_open_same question s docs id params place (Some text) answer r = r
 
 replies_same : (uri : List ℕ) (question : Question) (s : State) (docs : List OpenDocument) (id params : Data) (place : Option Place) (answer : Data)
-    → open_text uri s.documents ≡ open_text uri docs → is_named uri (named_uri params) ≡ true → asked_place question params ≡ place
+    → document_named uri s.documents ≡ document_named uri docs → is_named uri (named_uri params) ≡ true → asked_place question params ≡ place
     → RepliesAt question (open_in s) id params place answer → RepliesAt question (open_in (beside s docs)) id params place answer
 replies_same uri question s docs id params None answer agree is asked r = r
 replies_same uri question s docs id params (Some place) answer agree is asked r =
@@ -128,7 +151,7 @@ replies_same uri question s docs id params (Some place) answer agree is asked r 
     (replies_open_same question s docs id params place (open_text place.uri s.documents) answer r)
 
 asks_same : (uri : List ℕ) (question : Question) (s : State) (docs : List OpenDocument) (id params : Data) (sent : List Data) (next : State)
-    → open_text uri s.documents ≡ open_text uri docs → is_named uri (named_uri params) ≡ true → Asks question s id params sent next → Goes uri (Asks question (beside s docs) id params) sent next
+    → document_named uri s.documents ≡ document_named uri docs → is_named uri (named_uri params) ≡ true → Asks question s id params sent next → Goes uri (Asks question (beside s docs) id params) sent next
 asks_same uri question s docs id params sent next agree is d =
     let does = does_same uri (d.reply ∷ []) s docs sent next agree d.does in
     (does.0, record { reply = d.reply; replies = replies_same uri question s docs id params (asked_place question params) d.reply agree is refl d.replies; does = does.1 }, does.2)
@@ -141,45 +164,45 @@ IfAsks (Ask question) P = P
 IfAsks _ P = Unit {0}
 
 serves_same : (uri : List ℕ) (s : State) (docs : List OpenDocument) (id : Data) (method : RequestMethod) (params : Data) (sent : List Data) (next : State)
-    → open_text uri s.documents ≡ open_text uri docs → IfAsks method (is_named uri (named_uri params) ≡ true) → Serves s id method params sent next → Goes uri (Serves (beside s docs) id method params) sent next
+    → document_named uri s.documents ≡ document_named uri docs → IfAsks method (is_named uri (named_uri params) ≡ true) → Serves s id method params sent next → Goes uri (Serves (beside s docs) id method params) sent next
 serves_same uri s docs id Initialize params sent next agree is d = does_same uri (refused id AlreadyInitialized ∷ []) s docs sent next agree d
 serves_same uri s docs id Shutdown params sent next agree is d = does_same uri (result_reply id null ∷ []) (record s { life = Down }) docs sent next agree d
 serves_same uri s docs id (Ask question) params sent next agree is d = asks_same uri question s docs id params sent next agree is d
 serves_same uri s docs id UnknownRequest params sent next agree is d = does_same uri (refused id MethodNotFound ∷ []) s docs sent next agree d
 
 awaits_same : (uri : List ℕ) (s : State) (docs : List OpenDocument) (id : Data) (method : RequestMethod) (params : Data) (sent : List Data) (next : State)
-    → open_text uri s.documents ≡ open_text uri docs → Awaits s id method params sent next → Goes uri (Awaits (beside s docs) id method params) sent next
+    → document_named uri s.documents ≡ document_named uri docs → Awaits s id method params sent next → Goes uri (Awaits (beside s docs) id method params) sent next
 awaits_same uri s docs id Initialize params sent next agree d =
     does_same uri (result_reply id (initialize_answer (chosen params)) ∷ []) (record s { life = Running; encoding = chosen params; documents = [] }) [] sent next refl d
 awaits_same uri s docs id _ params sent next agree d = does_same uri (refused id NotInitialized ∷ []) s docs sent next agree d
 
 requested_same : (uri : List ℕ) (life : Life) (s : State) (docs : List OpenDocument) (id : Data) (method : RequestMethod) (params : Data) (sent : List Data) (next : State)
-    → open_text uri s.documents ≡ open_text uri docs → IfAsks method (is_named uri (named_uri params) ≡ true) → Requested life s id method params sent next → Goes uri (Requested life (beside s docs) id method params) sent next
+    → document_named uri s.documents ≡ document_named uri docs → IfAsks method (is_named uri (named_uri params) ≡ true) → Requested life s id method params sent next → Goes uri (Requested life (beside s docs) id method params) sent next
 requested_same uri Fresh s docs id method params sent next agree is d = awaits_same uri s docs id method params sent next agree d
 requested_same uri Running s docs id method params sent next agree is d = serves_same uri s docs id method params sent next agree is d
 requested_same uri Down s docs id method params sent next agree is d = does_same uri (refused id ShutDown ∷ []) s docs sent next agree d
 requested_same uri (Over status) s docs id method params sent next agree is d = does_same uri [] s docs sent next agree d
 
 holds_same : (uri : List ℕ) (s : State) (docs : List OpenDocument) (document : OpenDocument) (sent : List Data) (next : State)
-    → open_text uri s.documents ≡ open_text uri docs → Holds s document sent next → Goes uri (Holds (beside s docs) document) sent next
+    → document_named uri s.documents ≡ document_named uri docs → Holds s document sent next → Goes uri (Holds (beside s docs) document) sent next
 holds_same uri s docs document sent next agree d =
     let does = does_same uri sent (beside s (with_document document s.documents)) (with_document document docs) sent next (agree_set uri document s.documents docs agree) (refl, d.1) in
     (does.0, (d.0, does.1.1), does.2)
 
 opens_same : (uri : List ℕ) (s : State) (docs : List OpenDocument) (named text : Option (List ℕ)) (version : Option ℤ) (sent : List Data) (next : State)
-    → open_text uri s.documents ≡ open_text uri docs → OpensAs s named text version sent next → Goes uri (OpensAs (beside s docs) named text version) sent next
+    → document_named uri s.documents ≡ document_named uri docs → OpensAs s named text version sent next → Goes uri (OpensAs (beside s docs) named text version) sent next
 opens_same uri s docs None text version sent next agree d = does_same uri [] s docs sent next agree d
 opens_same uri s docs (Some other) None version sent next agree d = does_same uri [] s docs sent next agree d
 opens_same uri s docs (Some other) (Some text) version sent next agree d = holds_same uri s docs (record { uri = other; text = text; version = version }) sent next agree d
 
 changes_text_same : (uri : List ℕ) (s : State) (docs : List OpenDocument) (other : List ℕ) (found : Option (List ℕ)) (edits : List Edit) (version : Option ℤ) (sent : List Data) (next : State)
-    → open_text uri s.documents ≡ open_text uri docs → ChangesText s other found edits version sent next → Goes uri (ChangesText (beside s docs) other found edits version) sent next
+    → document_named uri s.documents ≡ document_named uri docs → ChangesText s other found edits version sent next → Goes uri (ChangesText (beside s docs) other found edits version) sent next
 changes_text_same uri s docs other None edits version sent next agree d = does_same uri [] s docs sent next agree d
 changes_text_same uri s docs other (Some text) edits version sent next agree d =
     holds_same uri s docs (record { uri = other; text = text_after s.encoding text edits; version = version }) sent next agree d
 
 changes_same : (uri : List ℕ) (s : State) (docs : List OpenDocument) (named : Option (List ℕ)) (edits : Option (List Edit)) (version : Option ℤ) (sent : List Data) (next : State)
-    → open_text uri s.documents ≡ open_text uri docs → is_named uri named ≡ true → ChangesAs s named edits version sent next → Goes uri (ChangesAs (beside s docs) named edits version) sent next
+    → document_named uri s.documents ≡ document_named uri docs → is_named uri named ≡ true → ChangesAs s named edits version sent next → Goes uri (ChangesAs (beside s docs) named edits version) sent next
 changes_same uri s docs None edits version sent next agree is d = does_same uri [] s docs sent next agree d
 changes_same uri s docs (Some other) None version sent next agree is d = does_same uri [] s docs sent next agree d
 changes_same uri s docs (Some other) (Some edits) version sent next agree is d =
@@ -187,19 +210,19 @@ changes_same uri s docs (Some other) (Some edits) version sent next agree is d =
     (agree_named uri other s.documents docs is agree)
     (changes_text_same uri s docs other (open_text other s.documents) edits version sent next agree d)
 
-closed_agree : (uri other : List ℕ) (ds es : List OpenDocument) → bytes_eq uri other ≡ true → open_text uri (without_document other ds) ≡ open_text uri (without_document other es)
+closed_agree : (uri other : List ℕ) (ds es : List OpenDocument) → bytes_eq uri other ≡ true → document_named uri (without_document other ds) ≡ document_named uri (without_document other es)
 closed_agree uri other ds es is =
-    subst (λ (u : List ℕ). open_text uri (without_document u ds) ≡ open_text uri (without_document u es)) ((bytes_eq-Decides uri other).0 is) (gone uri ds ∙ sym (gone uri es))
+    subst (λ (u : List ℕ). document_named uri (without_document u ds) ≡ document_named uri (without_document u es)) ((bytes_eq-Decides uri other).0 is) (gone uri ds ∙ sym (gone uri es))
 
 closes_open_same : (uri : List ℕ) (s : State) (docs : List OpenDocument) (other : List ℕ) (found : Option (List ℕ)) (sent : List Data) (next : State)
-    → open_text uri s.documents ≡ open_text uri docs → bytes_eq uri other ≡ true → ClosesOpen s other found sent next → Goes uri (ClosesOpen (beside s docs) other found) sent next
+    → document_named uri s.documents ≡ document_named uri docs → bytes_eq uri other ≡ true → ClosesOpen s other found sent next → Goes uri (ClosesOpen (beside s docs) other found) sent next
 closes_open_same uri s docs other None sent next agree is d = does_same uri [] s docs sent next agree d
 closes_open_same uri s docs other (Some text) sent next agree is d =
     does_same uri (published other None no_items ∷ []) (beside s (without_document other s.documents)) (without_document other docs) sent next
     (closed_agree uri other s.documents docs is) d
 
 closes_same : (uri : List ℕ) (s : State) (docs : List OpenDocument) (named : Option (List ℕ)) (sent : List Data) (next : State)
-    → open_text uri s.documents ≡ open_text uri docs → is_named uri named ≡ true → ClosesAs s named sent next → Goes uri (ClosesAs (beside s docs) named) sent next
+    → document_named uri s.documents ≡ document_named uri docs → is_named uri named ≡ true → ClosesAs s named sent next → Goes uri (ClosesAs (beside s docs) named) sent next
 closes_same uri s docs None sent next agree is d = does_same uri [] s docs sent next agree d
 closes_same uri s docs (Some other) sent next agree is d =
     subst (λ (found : Option (List ℕ)). Goes uri (ClosesOpen (beside s docs) other found) sent next)
@@ -213,7 +236,7 @@ IfNamed DidClose P = P
 IfNamed _ P = Unit {0}
 
 heeds_same : (uri : List ℕ) (s : State) (docs : List OpenDocument) (method : NoticeMethod) (params : Data) (sent : List Data) (next : State)
-    → open_text uri s.documents ≡ open_text uri docs → IfNamed method (is_named uri (named_uri params) ≡ true) → Heeds s method params sent next → Goes uri (Heeds (beside s docs) method params) sent next
+    → document_named uri s.documents ≡ document_named uri docs → IfNamed method (is_named uri (named_uri params) ≡ true) → Heeds s method params sent next → Goes uri (Heeds (beside s docs) method params) sent next
 heeds_same uri s docs Exit params sent next agree is d = does_same uri [] (record s { life = Over (exit_status s.life) }) docs sent next agree d
 heeds_same uri s docs DidOpen params sent next agree is d = opens_same uri s docs (named_uri params) (opened_text params) (given_version params) sent next agree d
 heeds_same uri s docs DidChange params sent next agree is d = changes_same uri s docs (named_uri params) (listed_changes params) (given_version params) sent next agree is d
@@ -221,12 +244,12 @@ heeds_same uri s docs DidClose params sent next agree is d = closes_same uri s d
 heeds_same uri s docs UnknownNotice params sent next agree is d = does_same uri [] s docs sent next agree d
 
 passes_same : (uri : List ℕ) (s : State) (docs : List OpenDocument) (method : NoticeMethod) (sent : List Data) (next : State)
-    → open_text uri s.documents ≡ open_text uri docs → Passes s method sent next → Goes uri (Passes (beside s docs) method) sent next
+    → document_named uri s.documents ≡ document_named uri docs → Passes s method sent next → Goes uri (Passes (beside s docs) method) sent next
 passes_same uri s docs Exit sent next agree d = does_same uri [] (record s { life = Over (exit_status s.life) }) docs sent next agree d
 passes_same uri s docs _ sent next agree d = does_same uri [] s docs sent next agree d
 
 noticed_same : (uri : List ℕ) (life : Life) (s : State) (docs : List OpenDocument) (method : NoticeMethod) (params : Data) (sent : List Data) (next : State)
-    → open_text uri s.documents ≡ open_text uri docs → IfNamed method (is_named uri (named_uri params) ≡ true) → Noticed life s method params sent next → Goes uri (Noticed life (beside s docs) method params) sent next
+    → document_named uri s.documents ≡ document_named uri docs → IfNamed method (is_named uri (named_uri params) ≡ true) → Noticed life s method params sent next → Goes uri (Noticed life (beside s docs) method params) sent next
 noticed_same uri Running s docs method params sent next agree is d = heeds_same uri s docs method params sent next agree is d
 noticed_same uri (Over status) s docs method params sent next agree is d = does_same uri [] s docs sent next agree d
 noticed_same uri _ s docs method params sent next agree is d = passes_same uri s docs method sent next agree d
@@ -257,7 +280,7 @@ asks_concerned : (name : List ℕ) (b : Bool) → (is_lifecycle name || b) ≡ t
 asks_concerned name b h = if_asks name (request_method name) b (request_fits name) h
 
 receives_same : (uri : List ℕ) (s : State) (docs : List OpenDocument) (m : Message) (sent : List Data) (next : State)
-    → open_text uri s.documents ≡ open_text uri docs → concerns uri m ≡ true → Receives s m sent next → Goes uri (Receives (beside s docs) m) sent next
+    → document_named uri s.documents ≡ document_named uri docs → concerns uri m ≡ true → Receives s m sent next → Goes uri (Receives (beside s docs) m) sent next
 receives_same uri s docs (request id method params) sent next agree is d =
     requested_same uri s.life s docs id (request_method method) params sent next agree (asks_concerned method (is_named uri (named_uri params)) is) d
 receives_same uri s docs (notice method params) sent next agree is d =
@@ -267,7 +290,7 @@ receives_same uri s docs unreadable sent next agree is d = does_same uri (refuse
 receives_same uri s docs invalid sent next agree is d = does_same uri (refused null InvalidMessage ∷ []) s docs sent next agree d
 
 lives_same : (uri : List ℕ) (life : Life) (s : State) (docs : List OpenDocument) (m : Message) (sent : List Data) (next : State)
-    → open_text uri s.documents ≡ open_text uri docs → concerns uri m ≡ true → ReceivesIn life s m sent next → Goes uri (ReceivesIn life (beside s docs) m) sent next
+    → document_named uri s.documents ≡ document_named uri docs → concerns uri m ≡ true → ReceivesIn life s m sent next → Goes uri (ReceivesIn life (beside s docs) m) sent next
 lives_same uri (Over status) s docs m sent next agree is d = does_same uri [] s docs sent next agree d
 lives_same uri _ s docs m sent next agree is d = receives_same uri s docs m sent next agree is d
 
@@ -275,10 +298,10 @@ lives_same uri _ s docs m sent next agree is d = receives_same uri s docs m sent
 
 -- nothing but other documents changes, and nothing is told of this one
 abbrev Quiet : List ℕ → State → List Data → State → Type 0
-Quiet uri s sent next = (next ≡ beside s next.documents) × (open_text uri next.documents ≡ open_text uri s.documents) × SaysNothing uri sent
+Quiet uri s sent next = (next ≡ beside s next.documents) × (document_named uri next.documents ≡ document_named uri s.documents) × SaysNothing uri sent
 
 does_quiet : (uri : List ℕ) (s : State) (values : List Data) (docs : List OpenDocument) (sent : List Data) (next : State)
-    → open_text uri docs ≡ open_text uri s.documents → SaysNothing uri values → Does values (beside s docs) sent next → Quiet uri s sent next
+    → document_named uri docs ≡ document_named uri s.documents → SaysNothing uri values → Does values (beside s docs) sent next → Quiet uri s sent next
 does_quiet uri s values docs sent next agree says d =
     subst (λ (x : State). Quiet uri s sent x) (sym d.1) (refl, agree, subst (λ (v : List Data). SaysNothing uri v) (sym d.0) says)
 
@@ -415,12 +438,12 @@ untold uri s m sent next d apart = (lives_quiet uri s.life s m sent next apart d
 
 -- the rest of a run, beside its part that concerns a document
 abbrev Rest : List ℕ → State → List OpenDocument → List Exchange → State → Type 0
-Rest uri s docs es end = (ds : List OpenDocument) × Runs (beside s docs) (filter (λ (e : Exchange). concerns uri e.message) es) (beside end ds) × (open_text uri end.documents ≡ open_text uri ds)
+Rest uri s docs es end = (ds : List OpenDocument) × Runs (beside s docs) (concerning uri es) (beside end ds) × (document_named uri end.documents ≡ document_named uri ds)
 
 run_more : (uri : List ℕ) (b : Bool) (s next end : State) (docs : List OpenDocument) (e : Exchange) (es : List Exchange)
-    → concerns uri e.message ≡ b → open_text uri s.documents ≡ open_text uri docs → Steps s e.message e.sent next
-    → ((ds : List OpenDocument) → open_text uri next.documents ≡ open_text uri ds → Rest uri next ds es end)
-    → (ds : List OpenDocument) × Runs (beside s docs) (cond b (e ∷ filter (λ (x : Exchange). concerns uri x.message) es) (filter (λ (x : Exchange). concerns uri x.message) es)) (beside end ds) × (open_text uri end.documents ≡ open_text uri ds)
+    → concerns uri e.message ≡ b → document_named uri s.documents ≡ document_named uri docs → Steps s e.message e.sent next
+    → ((ds : List OpenDocument) → document_named uri next.documents ≡ document_named uri ds → Rest uri next ds es end)
+    → (ds : List OpenDocument) × Runs (beside s docs) (cond b (e ∷ concerning uri es) (concerning uri es)) (beside end ds) × (document_named uri end.documents ≡ document_named uri ds)
 run_more uri true s next end docs e es is agree step later =
     let here = lives_same uri s.life s docs e.message e.sent next agree is step in
     let rest = later here.0 here.2 in
@@ -429,14 +452,14 @@ run_more uri false s next end docs e es is agree step later =
     let quiet = lives_quiet uri s.life s e.message e.sent next is step in
     let rest = later docs (quiet.1 ∙ agree) in
     let same : beside next docs ≡ beside s docs = ap (λ (x : State). beside x docs) quiet.0 in
-    (rest.0, subst (λ (x : State). Runs x (filter (λ (y : Exchange). concerns uri y.message) es) (beside end rest.0)) same rest.1, rest.2)
+    (rest.0, subst (λ (x : State). Runs x (concerning uri es) (beside end rest.0)) same rest.1, rest.2)
 
-runs_same : (uri : List ℕ) (es : List Exchange) (s end : State) (docs : List OpenDocument) → open_text uri s.documents ≡ open_text uri docs → Runs s es end → Rest uri s docs es end
-runs_same uri [] s end docs agree r = (docs, ap (λ (x : State). beside x docs) r, ap (λ (x : State). open_text uri x.documents) r ∙ agree)
+runs_same : (uri : List ℕ) (es : List Exchange) (s end : State) (docs : List OpenDocument) → document_named uri s.documents ≡ document_named uri docs → Runs s es end → Rest uri s docs es end
+runs_same uri [] s end docs agree r = (docs, ap (λ (x : State). beside x docs) r, ap (λ (x : State). document_named uri x.documents) r ∙ agree)
 runs_same uri (e ∷ es) s end docs agree r =
     run_more uri (concerns uri e.message) s r.0 end docs e es refl agree r.1 (λ ds next_agree. runs_same uri es r.0 end ds next_agree r.2)
 
 pub isolated : (dialect : Dialect) (uri : List ℕ) (exchanges : List Exchange) (end : State) → Runs (fresh dialect) exchanges end → IsAlone dialect uri exchanges end
 isolated dialect uri exchanges end r =
     let part = runs_same uri exchanges (fresh dialect) end [] refl r in
-    record { alone = beside end part.0; run = part.1; same = record { life = refl; encoding = refl; dialect = refl; text = part.2 } }
+    record { alone = beside end part.0; run = part.1; same = record { life = refl; encoding = refl; dialect = refl; document = part.2 } }

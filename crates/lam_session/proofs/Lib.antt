@@ -9,10 +9,12 @@ pub mod RenamedDocuments
 pub mod QuestionLaws
 pub mod MethodLemmas
 pub mod Plain
+pub mod PlainIds
 pub mod EntryLemmas
 pub mod ChangeSteps
 pub mod AloneRuns
 pub mod OneAnswer
+pub mod TwoRuns
 pub mod Values
 pub mod Messages
 pub mod FaultMessages

@@ -1,6 +1,7 @@
 -- What a step sends holds no float where the request's id holds none: so its text is known.
 use Rattle.std.proofs.Common.{ℕ, ℤ, pos, negsuc, Option, None, Some, ◌≡◌, zero, suc, List, [], ◌∷◌, map, false, refl, subst, sym, arith}
-use Rattle.std.specs.List.{All}
+use Rattle.std.specs.List.{All, AllByRecursion}
+use Rattle.std.proofs.lemmas.List.Elements.{All-from_recursion}
 use Rattle.serde_json.specs.Data.{Data, Items, null, no_items}
 use Rattle.serde_json.specs.View.{view}
 use Rattle.serde_json.specs.Written.{has_float, items_have_float}
@@ -37,8 +38,7 @@ use Rattle.lam_session.specs.Step.{Heeds, Passes, Serves, Awaits, Requested, Not
 
 -- no value of the list holds a float
 abbrev pub NoFloats : List Data → Type 0
-NoFloats [] = Unit {0}
-NoFloats (d ∷ ds) = (has_float d ≡ false) × NoFloats ds
+NoFloats values = AllByRecursion (λ d. has_float d ≡ false) values
 
 refused_plain : (id : Data) (refusal : Refusal) → has_float id ≡ false → NoFloats (refused id refusal ∷ [])
 refused_plain id refusal h = (refusal_plain id refusal h, tt)
@@ -146,7 +146,11 @@ lives_plain _ s m sent next h d = receives_plain s m sent next h d
 pub steps_plain : (s : State) (m : Message) (sent : List Data) (next : State) → HasPlainId m → Steps s m sent next → NoFloats sent
 steps_plain s m sent next h d = lives_plain s.life s m sent next h d
 
--- the same of each value that the list is seen of
+-- the same of each value that is sent
+pub sent_plain : (s : State) (m : Message) (sent : List Data) (next : State) → HasPlainId m → Steps s m sent next → All (λ (d : Data). has_float d ≡ false) sent
+sent_plain s m sent next h d = All-from_recursion (λ (x : Data). has_float x ≡ false) sent (steps_plain s m sent next h d)
+
+-- and of each value that the list is seen of
 pub each_plain : (values : List Value) → NoFloats (map view values) → All (λ v. has_float (view v) ≡ false) values
 each_plain [] h k d l = absurd (omega arith)
 each_plain (v ∷ vs) h zero d l = h.0

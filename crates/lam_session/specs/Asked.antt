@@ -24,7 +24,7 @@ place_of _ _ = None
 abbrev pub given_name : Data → Option (List ℕ)
 given_name params = text_at (codes "newName") params
 
--- the params have what the question needs beside a position and a uri: a rename needs a new name
+-- the params have what the question needs besides a position and a uri: a rename needs a new name
 abbrev pub has_rest : Question → Data → Bool
 has_rest Rename params = is_some (given_name params)
 has_rest _ params = true

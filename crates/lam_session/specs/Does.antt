@@ -13,6 +13,6 @@ Does values after sent next = (sent ≡ values) × (next ≡ after)
 abbrev pub Ignores : State → List Data → State → Type 0
 Ignores s = Does [] s
 
--- the request is refused and nothing changes
+-- the message is refused, in a reply with this id, and nothing changes
 abbrev pub Refuses : State → Data → Refusal → List Data → State → Type 0
 Refuses s id refusal = Does (refused id refusal ∷ []) s

@@ -1,12 +1,12 @@
 -- Runs of a session, and what they say of one document.
-use Rattle.std.specs.Prelude.{◌≡◌, ℕ, ℤ, List, [], ◌∷◌, filter, codes, Bool, false, ◌||◌, Option, None, Some}
+use Rattle.std.specs.Prelude.{◌≡◌, ℕ, ℤ, List, [], ◌∷◌, filter, map, codes, Bool, false, ◌||◌, if◌then◌else◌, Option, None, Some}
 use Rattle.std.specs.Str.{bytes_eq}
 use Rattle.std.specs.List.{AllByRecursion}
 use Rattle.serde_json.specs.Data.{Data, Items}
 use Rattle.lam_rpc.specs.Fields.{named_uri}
 use Rattle.lam_rpc.specs.Kind.{Message, request, notice, reply, unreadable, invalid}
 use Rattle.lam_rules.specs.declared.rules.Dialect.{Dialect}
-use Rattle.lam_session.specs.Documents.{open_text}
+use Rattle.lam_session.specs.Documents.{OpenDocument}
 use Rattle.lam_session.specs.State.{State, fresh}
 use Rattle.lam_session.specs.Step.{Steps}
 use Rattle.lam_session.specs.OneAnswer.{AreAlike}
@@ -16,6 +16,10 @@ use Rattle.lam_session.specs.Sync.{published}
 pub record Exchange : Type 0 where
   pub message : Message
   pub sent : List Data
+
+-- the messages, in their order
+abbrev pub messages_of : List Exchange → List Message
+messages_of exchanges = map (λ e. e.message) exchanges
 
 -- these exchanges lead from the one state to the other
 abbrev pub Runs : State → List Exchange → State → Type 0
@@ -39,17 +43,26 @@ concerns uri reply = false
 concerns uri unreadable = false
 concerns uri invalid = false
 
--- two states that are one to whoever asks about this document
+-- the exchanges that concern the document of this uri, in their order
+abbrev pub concerning : List ℕ → List Exchange → List Exchange
+concerning uri exchanges = filter (λ e. concerns uri e.message) exchanges
+
+-- the open document with this uri
+abbrev pub document_named : List ℕ → List OpenDocument → Option OpenDocument
+document_named uri [] = None
+document_named uri (d ∷ ds) = if bytes_eq uri d.uri then Some d else document_named uri ds
+
+-- two states that are one to whoever asks about this document: it has one text and one version in both, or is open in neither
 pub record SameFor (uri : List ℕ) (s t : State) : Type 0 where
   pub life : s.life ≡ t.life
   pub encoding : s.encoding ≡ t.encoding
   pub dialect : s.dialect ≡ t.dialect
-  pub text : open_text uri s.documents ≡ open_text uri t.documents
+  pub document : document_named uri s.documents ≡ document_named uri t.documents
 
--- the exchanges that concern a document are a run by themselves, which leaves that document with the text that the whole run does
+-- the exchanges that concern a document are a run by themselves, which leaves that document as the whole run does
 pub record IsAlone (dialect : Dialect) (uri : List ℕ) (exchanges : List Exchange) (end : State) : Type 0 where
   pub alone : State
-  pub run : Runs (fresh dialect) (filter (λ e. concerns uri e.message) exchanges) alone
+  pub run : Runs (fresh dialect) (concerning uri exchanges) alone
   pub same : SameFor uri end alone
 
 -- the same messages, each answered alike in both
@@ -58,6 +71,11 @@ pub data AnswerAlike : State → List Exchange → List Exchange → Type 0 wher
   both_go_on : {s next : State} {one other : Exchange} {exchanges others : List Exchange}
       → one.message ≡ other.message → Steps s one.message one.sent next → AreAlike s one.message one.sent other.sent → AnswerAlike next exchanges others
       → AnswerAlike s (one ∷ exchanges) (other ∷ others)
+
+-- two runs agree about a document: what concerns it is answered alike in both, and they end in states that are one to whoever asks about it
+pub record AgreeAbout (dialect : Dialect) (uri : List ℕ) (exchanges others : List Exchange) (end later : State) : Type 0 where
+  pub answers : AnswerAlike (fresh dialect) (concerning uri exchanges) (concerning uri others)
+  pub same : SameFor uri end later
 
 -- the value publishes faults of the document of this uri
 abbrev pub IsAbout : List ℕ → Data → Type 0

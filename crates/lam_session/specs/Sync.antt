@@ -1,5 +1,5 @@
--- What the notices about documents do (LSP 3.17, "Text Document Synchronization"): each that has its shape and means
--- a document is followed by one notice with the faults of that document's text as it then is.
+-- What the notices about documents do (LSP 3.17, "Text Document Synchronization"): an open and a change that count are
+-- followed by one notice with the faults of the document's text as it then is, a close by one without faults.
 use Rattle.std.specs.Prelude.{◌≡◌, ℕ, ℤ, List, [], ◌∷◌, codes, Option, None, Some, option_and_then}
 use Rattle.serde_json.specs.Data.{Data, number, string, array, object, Items, no_items, Members, member, no_members}
 use Rattle.serde_json.specs.Find.{get, as_number, as_i64, of_integer}
@@ -47,7 +47,7 @@ abbrev pub Holds : State → OpenDocument → List Data → State → Type 0
 Holds s document sent next =
     Tells s.encoding s.dialect document sent × (next ≡ record s { documents = with_document document s.documents })
 
--- a document is opened with this uri and this text, anew where one of that uri is open; a notice without either is ignored
+-- a document is opened with this uri and this text, anew where one of that uri is open; a notice that lacks one of them is ignored
 abbrev pub OpensAs : State → Option (List ℕ) → Option (List ℕ) → Option ℤ → List Data → State → Type 0
 OpensAs s (Some uri) (Some text) version = Holds s (record { uri = uri; text = text; version = version })
 OpensAs s _ _ version = Ignores s
@@ -62,7 +62,7 @@ ChangesText s uri None edits version = Ignores s
 ChangesText s uri (Some text) edits version =
     Holds s (record { uri = uri; text = text_after s.encoding text edits; version = version })
 
--- the document of this uri is changed so; a notice without uri or without a list of changes is ignored
+-- the document of this uri is changed so; a notice without a uri or without a list of changes is ignored
 abbrev pub ChangesAs : State → Option (List ℕ) → Option (List Edit) → Option ℤ → List Data → State → Type 0
 ChangesAs s (Some uri) (Some edits) version = ChangesText s uri (open_text uri s.documents) edits version
 ChangesAs s _ _ version = Ignores s
@@ -77,7 +77,7 @@ ClosesOpen s uri None = Ignores s
 ClosesOpen s uri (Some text) =
     Does (published uri None no_items ∷ []) (record s { documents = without_document uri s.documents })
 
--- the document of this uri is closed; a notice without one is ignored
+-- the document of this uri is closed; a notice without a uri is ignored
 abbrev pub ClosesAs : State → Option (List ℕ) → List Data → State → Type 0
 ClosesAs s None = Ignores s
 ClosesAs s (Some uri) = ClosesOpen s uri (open_text uri s.documents)

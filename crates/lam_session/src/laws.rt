@@ -3,7 +3,8 @@
 ghost use Rattle.std.specs.Prelude.{◌≡◌, ◌≢◌, ℕ, List, [], map, reverse, false, All, Some, Ok};
 ghost use Rattle.std.specs.Str.{IsUtf8};
 ghost use Rattle.serde_json.specs.Data.{Data};
-ghost use Rattle.lam_rpc.specs.Kind.{Message};
+ghost use Rattle.serde_json.specs.Written.{has_float};
+ghost use Rattle.lam_rpc.specs.Kind.{Message, IsKindOf, HasPlainId};
 ghost use Rattle.lam_text.specs.declared.units.Encoding.{Encoding};
 ghost use Rattle.lam_text.specs.Edits.{text_after};
 ghost use Rattle.lam_token.specs.declared.span.Span.{Span};
@@ -14,26 +15,40 @@ ghost use Rattle.lam_query.specs.TextFaults.{AreFaults};
 ghost use Rattle.lam_query.specs.Renames.{IsRenameIn};
 ghost use Rattle.lam_session.specs.Diagnostics.{message_of};
 ghost use Rattle.lam_session.specs.Renames.{edit_value, change_of, change_in};
-ghost use Rattle.lam_session.specs.Runs.{Exchange, Runs, AnswerAlike, concerns, IsAlone, SaysNothing};
+ghost use Rattle.lam_session.specs.Runs.{Exchange, messages_of, Runs, concerns, concerning, IsAlone, AnswerAlike, AgreeAbout, SaysNothing};
 ghost use Rattle.lam_session.specs.State.{State, fresh};
 ghost use Rattle.lam_session.specs.Step.{Steps};
 
 /// What comes between does not change the answers about a document: the messages that shape the
 /// session or name the document, taken by themselves, are a run with the very values sent, which
-/// leaves the document with the same text; and no other message publishes anything about it.
+/// leaves the document with the same text and version; and no other message publishes anything
+/// about it. So two sessions in which these messages are the same answer them alike, whatever else
+/// each was told, and leave the document with one text and one version.
 pub fn isolation()
     ensures alone { (dialect : Dialect) (uri : List ℕ) (exchanges : List Exchange) (end : State)
         → Runs (fresh dialect) exchanges end → IsAlone dialect uri exchanges end }
     ensures untold { (uri : List ℕ) (s : State) (m : Message) (sent : List Data) (next : State)
         → Steps s m sent next → concerns uri m ≡ false → SaysNothing uri sent }
+    ensures both { (dialect : Dialect) (uri : List ℕ) (exchanges others : List Exchange) (end later : State)
+        → messages_of (concerning uri others) ≡ messages_of (concerning uri exchanges) → Runs (fresh dialect) exchanges end → Runs (fresh dialect) others later
+        → AgreeAbout dialect uri exchanges others end later }
 {}
 
 /// Two sessions that are told the same are in one state and have answered alike: with the same values, but for which
 /// derivation of a shown type was given.
 pub fn one_run()
     ensures { (s end later : State) (exchanges others : List Exchange)
-        → map (λ (e : Exchange). e.message) others ≡ map (λ (e : Exchange). e.message) exchanges → Runs s exchanges end → Runs s others later
+        → messages_of others ≡ messages_of exchanges → Runs s exchanges end → Runs s others later
         → AnswerAlike s exchanges others × (end ≡ later) }
+{}
+
+/// No value that is sent holds a float. A float has no text in the definition of compact JSON, so without this a frame could
+/// be allowed with a hole in it. The one value of a client that goes back as it came is the id of a request, and a request
+/// that is read from a body has no float in its id.
+pub fn answers_have_no_floats()
+    ensures sent { (s : State) (m : Message) (values : List Data) (next : State)
+        → HasPlainId m → Steps s m values next → All (λ (d : Data). has_float d ≡ false) values }
+    ensures ids { (body : List ℕ) (m : Message) → IsKindOf body m → HasPlainId m }
 {}
 
 /// Each fault that a text can have is told with a message.

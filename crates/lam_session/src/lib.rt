@@ -25,6 +25,8 @@ mod session;
 mod states;
 mod sync;
 
-pub use laws::{each_fault_has_a_message, isolation, one_run, rename_edits_apply};
+pub use laws::{
+    answers_have_no_floats, each_fault_has_a_message, isolation, one_run, rename_edits_apply,
+};
 pub use session::Session;
 pub use states::Config;

@@ -6,7 +6,7 @@ use Rattle.std.specs.Str.{chars, encode_utf8_all}
 use Rattle.lam_text.specs.declared.units.Encoding.{Encoding}
 use Rattle.lam_text.specs.declared.units.Encoding.TheVariants.{Utf8, Utf16, Utf32}
 
--- the units of one character: its bytes, its surrogates, or itself
+-- the units of one character: its bytes, its 16-bit units, or itself
 abbrev pub units_of : Encoding → ℕ → ℕ
 units_of Utf8 c = len_utf8 c
 units_of Utf16 c = if nat_lt c 0x1_0000 then 1 else 2
