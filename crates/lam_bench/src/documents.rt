@@ -57,7 +57,7 @@ fn command(alloc: Global, uses: Uses, number: usize) -> Result<String, AllocErro
 }
 
 /// The text of a document of so many commands.
-fn document(alloc: Global, uses: Uses, size: usize) -> Result<String, AllocError> {
+pub fn document(alloc: Global, uses: Uses, size: usize) -> Result<String, AllocError> {
     let mut text = String::from_str(alloc, head(uses))?;
     for number in 0..size {
         text.push_str(command(alloc, uses, number)?.as_str())?;

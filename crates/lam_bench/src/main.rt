@@ -6,6 +6,7 @@
 mod documents;
 mod fault;
 mod frames;
+mod lists;
 mod measure;
 mod texts;
 mod types;

@@ -3,6 +3,7 @@
 use crate::documents::{Stage, Uses, staging};
 use crate::fault::BenchFault;
 use crate::frames::reading;
+use crate::lists::{Asked, Cursor, listing};
 use crate::texts::{ASCII, UMLAUTS, Work, working};
 use crate::types::{adding, bounding};
 use std::alloc::Global;
@@ -29,10 +30,12 @@ pub enum Measure {
     Bounds,
     /// A document of SIZE commands.
     Document(Stage, Uses),
+    /// What can stand in a document of SIZE commands.
+    List(Cursor, Asked),
 }
 
 /// All measures, by their names on the command line.
-pub static MEASURES: [(&str, Measure); 22] = [
+pub static MEASURES: [(&str, Measure); 26] = [
     ("whole-body", Measure::OneFrame(WHOLE)),
     ("body-by-bytes", Measure::OneFrame(1)),
     ("small-frames", Measure::SmallFrames),
@@ -73,6 +76,22 @@ pub static MEASURES: [(&str, Measure); 22] = [
         "analyse-doubled",
         Measure::Document(Stage::Analyse, Uses::Doubled),
     ),
+    (
+        "list-labels",
+        Measure::List(Cursor::Dot, Asked::Analysis),
+    ),
+    (
+        "list-labels-anew",
+        Measure::List(Cursor::Dot, Asked::Text),
+    ),
+    (
+        "list-names",
+        Measure::List(Cursor::Variable, Asked::Analysis),
+    ),
+    (
+        "list-names-anew",
+        Measure::List(Cursor::Variable, Asked::Text),
+    ),
 ];
 
 /// The measure that is called so.
@@ -100,6 +119,7 @@ impl Measure {
             Measure::AddType => adding(alloc, clock, size),
             Measure::Bounds => bounding(alloc, clock, size),
             Measure::Document(stage, uses) => staging(alloc, clock, stage, uses, size),
+            Measure::List(cursor, asked) => listing(alloc, clock, cursor, asked, size),
         }
     }
 }

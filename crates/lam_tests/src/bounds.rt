@@ -165,6 +165,29 @@ fn records_of_a_thousand_fields(rt: HostRuntime) -> Result<(), Fail> {
     Ok(())
 }
 
+/// Two records of five thousand fields, more nodes than a type of a document may have.
+fn bounds_of_large(alloc: Global) -> Result<String, Fail> {
+    let left = well_formed(make_record(fields(alloc, 0, 5_000, &Ty::Nat)?))?;
+    let right = well_formed(make_record(fields(alloc, 0, 5_000, &Ty::Bool)?))?;
+    Ok(both_bounds(alloc, &left, &right, Two)?)
+}
+
+fn wanted_of_large(alloc: Global) -> Result<String, AllocError> {
+    let greater = labelled(alloc, 0, 5_000, ":Nat")?;
+    let lesser = labelled(alloc, 0, 5_000, ":Bool")?;
+    format!(in alloc; "{{{greater}}}->{{{lesser}}}")
+}
+
+#[test]
+fn records_of_five_thousand_fields(rt: HostRuntime) -> Result<(), Fail> {
+    equal(
+        &rt,
+        &bounds_of_large(rt.alloc())?,
+        &wanted_of_large(rt.alloc())?,
+    );
+    Ok(())
+}
+
 /// Two types of a trillion nodes each, neither of which is below the other.
 #[tactic(auto, using(lam_rules::proofs::Tables::numbers))]
 fn sides(table: &mut TyTable) -> Result<(TyNo, TyNo), AllocError>

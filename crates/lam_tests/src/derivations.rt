@@ -2,99 +2,12 @@
 
 use crate::written::{check_rows, commands_of, equal, labelled};
 use Dialect::{One, Two};
-use lam_query::answers::{Derivation, Step};
-use lam_query::derivation;
-use lam_rules::{
-    Dialect, SubProof, SubRule, Ty, TypeProof, TypeRule, check_type, plain_text_of, text_of,
-};
+use lam_query::answers::Derivation;
+use lam_query::{derivation, proof_of_steps};
+use lam_rules::{Dialect, Ty, TypeProof, check_type, plain_text_of, text_of};
 use lam_scope::{bind, resolve};
 use std::alloc::{AllocError, Global};
 use std::test::Fail;
-
-/// The proofs of one kind that stand at these numbers. They are taken away, since a proof is a premise of one step.
-fn taken<T: Drop>(
-    alloc: Global,
-    made: &mut [Option<T>],
-    numbers: &[usize],
-) -> Result<Vec<T>, AllocError> {
-    let mut premises = Vec::new(alloc);
-    for number in numbers {
-        if let Some(proof) = made.get_mut(*number).and_then(Option::take) {
-            premises.push(proof)?;
-        }
-    }
-    Ok(premises)
-}
-
-fn type_proof(
-    alloc: Global,
-    typings: &mut [Option<TypeProof>],
-    subs: &mut [Option<SubProof>],
-    (rule, ty): (TypeRule, Ty),
-    premises: &[usize],
-) -> Result<TypeProof, AllocError> {
-    let typing = taken(alloc, typings, premises)?;
-    let sub = match taken(alloc, subs, premises)?.pop() {
-        Some(proof) => Some(Box::new(alloc, proof)?),
-        None => None,
-    };
-    Ok(TypeProof {
-        rule,
-        ty,
-        typing,
-        sub,
-    })
-}
-
-/// Puts the proof that a step stands for into the one list, and none into the other.
-fn add_step(
-    alloc: Global,
-    typings: &mut Vec<Option<TypeProof>>,
-    subs: &mut Vec<Option<SubProof>>,
-    step: Step,
-) -> Result<(), AllocError> {
-    match step {
-        Step::Typing {
-            rule,
-            ty,
-            premises,
-            ..
-        } => {
-            let proof = type_proof(alloc, typings, subs, (rule, ty), &premises)?;
-            typings.push(Some(proof))?;
-            subs.push(None)?;
-        }
-        Step::Sub {
-            rule,
-            lower,
-            upper,
-            premises,
-        } => {
-            let premises = taken(alloc, subs, &premises)?;
-            typings.push(None)?;
-            subs.push(Some(SubProof {
-                rule,
-                lower,
-                upper,
-                premises,
-            }))?;
-        }
-    }
-    Ok(())
-}
-
-/// The proof that the steps are.
-fn proof_of(alloc: Global, steps: Vec<Step>) -> Result<TypeProof, Fail> {
-    let mut typings = Vec::new(alloc);
-    let mut subs = Vec::new(alloc);
-    for step in steps {
-        add_step(alloc, &mut typings, &mut subs, step)?;
-    }
-    match typings.pop() {
-        Some(Some(proof)) => Ok(proof),
-        _ => Err(Fail::new("no typing is the last step")),
-    }
-}
 
 /// Whether the checker accepts the proof for the term at the offset.
 fn is_accepted(
@@ -149,7 +62,9 @@ fn derived(alloc: Global, (text, offset, dialect): (&str, usize, Dialect)) -> Re
     let Derivation { context, steps } = found;
     let shown = context_shown(alloc, &context)?;
     let entries = entries_of(alloc, context)?;
-    let proof = proof_of(alloc, steps)?;
+    let Some(proof) = proof_of_steps(alloc, &steps)? else {
+        return Err(Fail::new("the steps are no proof of a typing"));
+    };
     let accepted = is_accepted(alloc, text, offset, &entries, &proof, dialect)?;
     Ok(format!(in alloc; "{shown}|- {}, {accepted}", text_of(alloc, &proof.ty)?)?)
 }

@@ -4,8 +4,8 @@ ghost use Rattle.std.specs.Prelude.{◌-◌, ◌^◌, ◌<◌, ⊤};
 
 use crate::written::{check_rows, equal};
 use lam_frame::{
-    BytesIn, BytesOut, DeviceFault, FrameFault, FrameReader, FromRead, Sink, Source, ToWrite,
-    write_frame,
+    BytesIn, BytesOut, DeviceFault, FailAt, FrameFault, FrameReader, FromRead, Sink, Source,
+    ToWrite, write_frame,
 };
 use std::alloc::{AllocError, Global};
 use std::io;
@@ -283,6 +283,82 @@ fn a_slow_writer_gets_all_and_a_full_or_broken_one_is_told(
     rt: HostRuntime,
 ) -> Result<(), AllocError> {
     check_rows(&rt, rt.alloc(), slowly, &SLOW)
+}
+
+#[test]
+fn a_long_frame_reaches_a_writer_in_memory_whole(rt: HostRuntime) -> Result<(), AllocError> {
+    let body = "0123456789".repeat(rt.alloc(), 10_000)?;
+    let mut written = Vec::new(rt.alloc());
+    let answer = write_frame(&mut ToWrite::new(&mut written), body.as_bytes());
+    assert_eq!(rt; answer, Ok(()));
+    let expected = format!(in rt.alloc(); "Content-Length: 100000\r\n\r\n{body}")?;
+    assert!(rt; written.as_slice() == expected.as_bytes());
+    Ok(())
+}
+
+/// The answers to a frame whose pull of this number fails, and how many pulls have failed.
+fn answers_with_a_failed_pull(alloc: Global, call: u64) -> Result<String, AllocError> {
+    let rest = b"Content-Length: 1\r\n\r\nx".as_slice();
+    let mut source = FailAt::new(Trickle { rest, step: 20 }, call);
+    let seen = answers(alloc, &mut source)?;
+    format!(in alloc; "{seen} {}", source.failures())
+}
+
+static FAILED_PULLS: [(u64, &str); 5] = [
+    (0, "x|.. 0"),
+    (1, "F6 Device;F9 Spent;F9 Spent; 1"),
+    (2, "F6 Device;F9 Spent;F9 Spent; 1"),
+    (3, "x|F6 Device;F9 Spent; 1"),
+    (4, "x|.. 0"),
+];
+
+#[test]
+fn one_pull_fails_and_no_other(rt: HostRuntime) -> Result<(), AllocError> {
+    check_rows(&rt, rt.alloc(), answers_with_a_failed_pull, &FAILED_PULLS)
+}
+
+/// Writes two frames to a sink whose call of this number fails: the answers, how many calls have failed, and what was taken.
+fn written_with_a_failed_call(alloc: Global, call: u64) -> Result<String, AllocError> {
+    let mut sink = FailAt::new(BytesOut::new(alloc), call);
+    let first = write_frame(&mut sink, b"1");
+    let second = write_frame(&mut sink, b"2");
+    let failures = sink.failures();
+    let taken = String::from_utf8_lossy(alloc, sink.inner().bytes())?;
+    format!(in alloc; "{first:?} {second:?} {failures} {taken}")
+}
+
+static FAILED_CALLS: [(u64, &str); 8] = [
+    (
+        0,
+        "Ok(()) Ok(()) 0 Content-Length: 1\r\n\r\n1Content-Length: 1\r\n\r\n2",
+    ),
+    (1, "Err(Device) Ok(()) 1 Content-Length: 1\r\n\r\n2"),
+    (
+        2,
+        "Err(Device) Ok(()) 1 Content-Length: 1\r\n\r\nContent-Length: 1\r\n\r\n2",
+    ),
+    (
+        3,
+        "Err(Device) Ok(()) 1 Content-Length: 1\r\n\r\n1Content-Length: 1\r\n\r\n2",
+    ),
+    (4, "Ok(()) Err(Device) 1 Content-Length: 1\r\n\r\n1"),
+    (
+        5,
+        "Ok(()) Err(Device) 1 Content-Length: 1\r\n\r\n1Content-Length: 1\r\n\r\n",
+    ),
+    (
+        6,
+        "Ok(()) Err(Device) 1 Content-Length: 1\r\n\r\n1Content-Length: 1\r\n\r\n2",
+    ),
+    (
+        7,
+        "Ok(()) Ok(()) 0 Content-Length: 1\r\n\r\n1Content-Length: 1\r\n\r\n2",
+    ),
+];
+
+#[test]
+fn one_push_or_flush_fails_and_no_other(rt: HostRuntime) -> Result<(), AllocError> {
+    check_rows(&rt, rt.alloc(), written_with_a_failed_call, &FAILED_CALLS)
 }
 
 fn printed(alloc: Global, fault: FrameFault) -> Result<String, AllocError> {
