@@ -87,7 +87,7 @@ SETTINGS = {
     "dialect": lambda row, rest: setattr(row, "dialects", chosen(rest, ("1", "2"))),
     "encoding": lambda row, rest: setattr(row, "encodings", chosen(rest, ENCODINGS)),
     "lines": lambda row, rest: setattr(row, "line_end", LINE_ENDS[chosen_one(rest, LINE_ENDS)]),
-    "arguments": lambda row, rest: setattr(row, "arguments", tuple(rest.split())),
+    "arguments": lambda row, rest: setattr(row, "arguments", tuple(quoted(it) for it in rest.split())),
     "status": lambda row, rest: setattr(row, "status", number(rest)),
     "cut": lambda row, rest: setattr(row, "is_cut", chosen_one(rest, ("at each byte",)) != ""),
 }
