@@ -1,9 +1,10 @@
 # `make` proves and builds the program, `make test` is the merge gate with the rows of rows/ behind it, `make rows` plays these alone,
-# `make dear` tells what the proofs cost, `make attack` tries further wrong bodies, `make bench` prints figures.
+# `make hostile` plays sessions while memory is refused, `make trusted` prints what has to be believed, `make dear` tells what the proofs
+# cost, `make attack` tries further wrong bodies, `make bench` prints figures.
 PREFIX ?= $(HOME)/.local
 NAME ?=
 
-.PHONY: all test rows install dear attack bench
+.PHONY: all test rows hostile install trusted dear attack bench
 
 all:
 	python3 bench/build.py
@@ -14,9 +15,15 @@ test:
 rows:
 	python3 rows/play.py
 
+hostile:
+	python3 bench/memory.py
+
 install: all
 	install -D crates/lam_server/out/lam_server $(PREFIX)/bin/lam_server
 	python3 rows/play.py --show --program $(PREFIX)/bin/lam_server rows/example.rows
+
+trusted:
+	@python3 bench/trusted.py
 
 dear:
 	python3 bench/dear.py $(NAME)
@@ -40,8 +47,10 @@ bench: all
 	crates/lam_bench/out/lam_bench bounds 40
 	crates/lam_bench/out/lam_bench analyse-doubled 40
 	for measure in bind-chain bind-first resolve-chain resolve-first \
-	  analyse-chain analyse-first places; do \
+	  analyse-chain analyse-first places \
+	  list-labels list-labels-anew list-names list-names-anew; do \
 	  crates/lam_bench/out/lam_bench $$measure 10000; \
 	done
 	for count in 10 100 1000; do crates/lam_bench/out/lam_bench resolve-abbreviation $$count; done
 	python3 bench/session.py crates/lam_server/out/lam_server
+	python3 bench/corners.py crates/lam_server/out/lam_server

@@ -192,4 +192,5 @@ def main():
     row("for comparison, a million additions in Python", spread([additions() for _ in range(RUNS)]))
 
 
-main()
+if __name__ == "__main__":
+    main()

@@ -76,14 +76,8 @@ pub static MEASURES: [(&str, Measure); 26] = [
         "analyse-doubled",
         Measure::Document(Stage::Analyse, Uses::Doubled),
     ),
-    (
-        "list-labels",
-        Measure::List(Cursor::Dot, Asked::Analysis),
-    ),
-    (
-        "list-labels-anew",
-        Measure::List(Cursor::Dot, Asked::Text),
-    ),
+    ("list-labels", Measure::List(Cursor::Dot, Asked::Analysis)),
+    ("list-labels-anew", Measure::List(Cursor::Dot, Asked::Text)),
     (
         "list-names",
         Measure::List(Cursor::Variable, Asked::Analysis),

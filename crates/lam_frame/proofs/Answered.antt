@@ -4,7 +4,7 @@ use Rattle.lam_frame.specs.declared.fault.FrameFault.{FrameFault}
 use Rattle.lam_frame.specs.declared.fault.FrameFault.TheVariants.{NoLength, BadLength, TooLong, BadHeader, Truncated, Device, Memory, TooManyTurns, Spent}
 use Rattle.lam_frame.specs.Frame.{HasFault, IsOpen}
 use Rattle.lam_frame.specs.Next.{Reads, After, IsCutOff}
-use Rattle.lam_frame.specs.Steps.{IsByteFault, Moved, PulledPiece, PullsMore, SaysBody, SaysHeader, StartsBody, end_after}
+use Rattle.lam_frame.specs.inner.Steps.{IsByteFault, Moved, PulledPiece, PullsMore, SaysBody, SaysHeader, StartsBody, end_after}
 use Rattle.lam_frame.proofs.Pulls.{Ended, Pulling, not_ended, pulling_end, stopped_none}
 
 module _ {S V : Type 0} (coming : S → Option (List ℕ)) (failed : S → ℕ) (gave : S → List ℕ → S → Type 0) where

@@ -8,7 +8,7 @@ use Rattle.lam_frame.specs.Frame.{IsOpen}
 use Rattle.lam_frame.specs.Frame.IsOpen.{InBody}
 use Rattle.lam_frame.specs.Header.{ended_lines, header_text}
 use Rattle.lam_frame.specs.Next.{Reads, After, PulledWhile, Says, IsCutOff}
-use Rattle.lam_frame.specs.Steps.{HeaderIsRead, SaysBody, SaysHeader}
+use Rattle.lam_frame.specs.inner.Steps.{HeaderIsRead, SaysBody, SaysHeader}
 use Rattle.lam_frame.proofs.Pulls.{PulledWhile-append, PulledWhile-front, EndsEmpty-behind, not_ended_behind, stopped_behind}
 
 -- the header part that is read, and then any part of its body

@@ -9,7 +9,7 @@ use Rattle.std.proofs.lemmas.Int.Digits.{digits_value_more}
 use Rattle.std.proofs.lemmas.Str.{digit_value_digit}
 use Rattle.std.proofs.lemmas.Bool.Decides.{nat_tests}
 use Rattle.std.proofs.Math.Nat.{pow-le-pow_right}
-use Rattle.lam_frame.specs.Header.{is_plain, is_blank, is_colon, has_colon, is_number, trim_back, IsMisplaced}
+use Rattle.lam_frame.specs.Header.{is_header_byte, is_blank_byte, is_colon, has_colon, is_length, trim_back, IsMisplaced}
 
 -- ---- blanks behind a value
 
@@ -23,22 +23,22 @@ never true true xs ys = refl
 never true false xs ys = refl
 never false q xs ys = refl
 
-pub trim_back-blank : (xs : List ℕ) (b : ℕ) → is_blank b ≡ true → trim_back (xs ++ b ∷ []) ≡ trim_back xs
+pub trim_back-blank : (xs : List ℕ) (b : ℕ) → is_blank_byte b ≡ true → trim_back (xs ++ b ∷ []) ≡ trim_back xs
 trim_back-blank [] b e = rw e refl
-trim_back-blank (x ∷ xs) b e = rw (list_all-append is_blank xs (b ∷ []), trim_back-blank xs b e, e) (true_unit (is_blank x) (list_all is_blank xs) [] (x ∷ trim_back xs))
+trim_back-blank (x ∷ xs) b e = rw (list_all-append is_blank_byte xs (b ∷ []), trim_back-blank xs b e, e) (true_unit (is_blank_byte x) (list_all is_blank_byte xs) [] (x ∷ trim_back xs))
 
-pub trim_back-kept : (xs : List ℕ) (b : ℕ) → is_blank b ≡ false → trim_back (xs ++ b ∷ []) ≡ xs ++ b ∷ []
+pub trim_back-kept : (xs : List ℕ) (b : ℕ) → is_blank_byte b ≡ false → trim_back (xs ++ b ∷ []) ≡ xs ++ b ∷ []
 trim_back-kept [] b e = rw e refl
-trim_back-kept (x ∷ xs) b e = rw (list_all-append is_blank xs (b ∷ []), trim_back-kept xs b e, e) (never (is_blank x) (list_all is_blank xs) [] (x ∷ (xs ++ b ∷ [])))
+trim_back-kept (x ∷ xs) b e = rw (list_all-append is_blank_byte xs (b ∷ []), trim_back-kept xs b e, e) (never (is_blank_byte x) (list_all is_blank_byte xs) [] (x ∷ (xs ++ b ∷ [])))
 
 pub ruleset blanks = (trim_back-blank, trim_back-kept)
 
 -- ---- the byte at which a line stops
 
-unplain : (b : ℕ) → is_plain b ≡ false → b ≢ 13 → (128 ≤ b) ⊎ (b ≡ 10)
+unplain : (b : ℕ) → is_header_byte b ≡ false → b ≢ 13 → (128 ≤ b) ⊎ (b ≡ 10)
 unplain b e n = grind (arith, nat_tests)
 
-misplaced_by_first : (bs : List ℕ) → 0 < length bs → is_plain (get_or bs 0 0) ≡ false → get_or bs 0 0 ≢ 13 → IsMisplaced bs
+misplaced_by_first : (bs : List ℕ) → 0 < length bs → is_header_byte (get_or bs 0 0) ≡ false → get_or bs 0 0 ≢ 13 → IsMisplaced bs
 misplaced_by_first [] h e n = absurd (omega arith)
 misplaced_by_first (b ∷ []) h e n = unplain b e n
 misplaced_by_first (b ∷ c ∷ bs) h e n = inl (unplain b e n)
@@ -48,11 +48,11 @@ misplaced_by_second [] h e n = absurd (omega arith)
 misplaced_by_second (b ∷ []) h e n = absurd (omega arith)
 misplaced_by_second (b ∷ c ∷ bs) h e n = inr (e, n)
 
-pub misplaced_first : (bs : List ℕ) (k : ℕ) → k ≡ prefix_len is_plain bs → k < length bs → get_or bs k 0 ≢ 13 → IsMisplaced (drop k bs)
+pub misplaced_first : (bs : List ℕ) (k : ℕ) → k ≡ prefix_len is_header_byte bs → k < length bs → get_or bs k 0 ≢ 13 → IsMisplaced (drop k bs)
 misplaced_first bs k p h n =
     let at : get_or (drop k bs) 0 0 ≡ get_or bs k 0 = grind (arith, get_or-drop) in
-    let stops : is_plain (get_or bs k 0) ≡ false = subst (λ (i : ℕ). is_plain (get_or bs i 0) ≡ false) (sym p) (prefix_len_stops is_plain bs 0 (omega arith)) in
-    misplaced_by_first (drop k bs) (grind (arith, length-drop)) (ap is_plain at ∙ stops) (λ e. n (sym at ∙ e))
+    let stops : is_header_byte (get_or bs k 0) ≡ false = subst (λ (i : ℕ). is_header_byte (get_or bs i 0) ≡ false) (sym p) (prefix_len_stops is_header_byte bs 0 (omega arith)) in
+    misplaced_by_first (drop k bs) (grind (arith, length-drop)) (ap is_header_byte at ∙ stops) (λ e. n (sym at ∙ e))
 
 pub misplaced_second : (bs : List ℕ) (k : ℕ) → k + 1 < length bs → get_or bs k 0 ≡ 13 → get_or bs (k + 1) 0 ≢ 10 → IsMisplaced (drop k bs)
 misplaced_second bs k h e n =
@@ -64,19 +64,19 @@ pub ruleset misplaced = (misplaced_first, misplaced_second)
 
 -- ---- numerals
 
-numeral_parts : (ds : List ℕ) → is_number ds ≡ true → (length ds ≤ 19) × (list_all is_ascii_digit ds ≡ true)
+numeral_parts : (ds : List ℕ) → is_length ds ≡ true → (length ds ≤ 19) × (list_all is_ascii_digit ds ≡ true)
 numeral_parts ds n = grind (arith, nat_tests)
 
 digit_between : (c : ℕ) → is_ascii_digit c ≡ true → (48 ≤ c) × (c ≤ 57)
 digit_between c e = grind (arith, nat_tests)
 
-pub digit_in : (ds : List ℕ) (i : ℕ) → is_number ds ≡ true → i < length ds → (48 ≤ get_or ds i 0) × (get_or ds i 0 ≤ 57)
+pub digit_in : (ds : List ℕ) (i : ℕ) → is_length ds ≡ true → i < length ds → (48 ≤ get_or ds i 0) × (get_or ds i 0 ≤ 57)
 digit_in ds i n h = digit_between (get_or ds i 0) (AllPass-from_list_all is_ascii_digit ds (numeral_parts ds n).1 i 0 h)
 
-pub digit_value_in : (ds : List ℕ) (i : ℕ) → is_number ds ≡ true → i < length ds → digit_value (get_or ds i 0) ≡ get_or ds i 0 - 48
+pub digit_value_in : (ds : List ℕ) (i : ℕ) → is_length ds ≡ true → i < length ds → digit_value (get_or ds i 0) ≡ get_or ds i 0 - 48
 digit_value_in ds i n h = let within = digit_in ds i n h in omega (arith, digit_value_digit (get_or ds i 0) within)
 
-pub numeral_short : (ds : List ℕ) → is_number ds ≡ true → length ds ≤ 19
+pub numeral_short : (ds : List ℕ) → is_length ds ≡ true → length ds ≤ 19
 numeral_short ds n = (numeral_parts ds n).0
 
 pub pow_short : (i : ℕ) → i < 19 → 10 * 10 ^ i < 2 ^ 64

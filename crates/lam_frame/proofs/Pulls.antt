@@ -6,7 +6,7 @@ use Rattle.std.proofs.lemmas.List.{nil_from_length}
 use Rattle.std.proofs.KnownBytes.{Consumes-nil, Consumes-trans}
 use Rattle.std.proofs.lemmas.List.Folds.{concat-append}
 use Rattle.lam_frame.specs.Next.{EndsEmpty, OnlyLastEmpty, PulledWhile}
-use Rattle.lam_frame.specs.Steps.{NoneEmpty, PulledPiece}
+use Rattle.lam_frame.specs.inner.Steps.{NoneEmpty, PulledPiece}
 
 -- ---- which pieces are empty
 

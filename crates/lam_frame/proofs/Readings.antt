@@ -5,12 +5,12 @@ use Rattle.std.proofs.lemmas.List.{length-take}
 use Rattle.std.proofs.lemmas.List.Folds.{list_all-append}
 use Rattle.lam_frame.specs.declared.fault.FrameFault.{FrameFault}
 use Rattle.lam_frame.specs.declared.fault.FrameFault.TheVariants.{NoLength, BadLength, TooLong, BadHeader, Truncated, Device, Memory, TooManyTurns, Spent}
-use Rattle.lam_frame.specs.Header.{AreLines, IsBegunEnd, IsPlain, HasHeader, IsSpoiled, IsUnfinished, IsMisplaced, is_plain, ended_lines, header_text, body_length}
+use Rattle.lam_frame.specs.Header.{AreLines, IsBegunEnd, IsPlain, HasHeader, IsSpoiled, IsUnfinished, IsMisplaced, is_header_byte, ended_lines, header_text, body_length}
 use Rattle.lam_frame.specs.Frame.{HasFrame, HasFault, IsOpen, IsRest, IsReading}
 use Rattle.lam_frame.specs.Frame.HasFault.{Spoiled as SpoiledFault, Endless, BadFields}
 use Rattle.lam_frame.specs.Frame.IsOpen.{InHeader, InBody}
 use Rattle.lam_frame.specs.Laws.{HasReading, ReadsOneWay, Settles, OpenSettlesNothing}
-use Rattle.lam_frame.specs.Steps.{IsByteFault}
+use Rattle.lam_frame.specs.inner.Steps.{IsByteFault}
 use Rattle.lam_frame.proofs.Starts.Lines.{Whole}
 use Rattle.lam_frame.proofs.Starts.{HasFault-byte, kind-lines, headers_agree, header_not_unfinished, header_not_spoiled, unfinished_not_spoiled}
 use Rattle.lam_frame.proofs.Told.{HasFrame-more, HasFault-more}
@@ -30,10 +30,10 @@ data Kind (bytes : List ℕ) : Type 0 where
   Unfinished : IsUnfinished bytes → Kind bytes
   Spoiled : IsSpoiled bytes → Kind bytes
 
-plain_more : (part : List ℕ) (b : ℕ) → IsPlain part → is_plain b ≡ true → IsPlain (part ++ b ∷ [])
-plain_more part b p q = list_all-append is_plain part (b ∷ []) ∙ rw (p, q) refl
+plain_more : (part : List ℕ) (b : ℕ) → IsPlain part → is_header_byte b ≡ true → IsPlain (part ++ b ∷ [])
+plain_more part b p q = list_all-append is_header_byte part (b ∷ []) ∙ rw (p, q) refl
 
-odd_byte : (b : ℕ) → is_plain b ≡ false → (b == 13) ≡ false → (128 ≤ b) ⊎ (b ≡ 10)
+odd_byte : (b : ℕ) → is_header_byte b ≡ false → (b == 13) ≡ false → (128 ≤ b) ⊎ (b ≡ 10)
 odd_byte b p q = grind (arith, nat_tests)
 
 is_return : (b : ℕ) → (b == 13) ≡ true → b ≡ 13
@@ -73,7 +73,7 @@ module _ (bytes : List ℕ) where
   unfinished_at : (lines : List (List ℕ)) (part rest : List ℕ) → Before lines part rest → IsBegunEnd rest → Kind bytes
   unfinished_at lines part rest w b = Unfinished (record { lines = lines; part = part; begun_end = rest; are_lines = w.are_lines; plain = w.plain; begun = b; text = w.text })
 
-  plain_at : (lines : List (List ℕ)) (part : List ℕ) (b : ℕ) (rest : List ℕ) → Before lines part (b ∷ rest) → is_plain b ≡ true → Before lines (part ++ b ∷ []) rest
+  plain_at : (lines : List (List ℕ)) (part : List ℕ) (b : ℕ) (rest : List ℕ) → Before lines part (b ∷ rest) → is_header_byte b ≡ true → Before lines (part ++ b ∷ []) rest
   plain_at lines part b rest w p = record {
     are_lines = w.are_lines;
     plain = plain_more part b w.plain p;
@@ -81,12 +81,12 @@ module _ (bytes : List ℕ) where
   }
 
   -- one byte is left, and two or more
-  last_byte : (lines : List (List ℕ)) (part : List ℕ) (b : ℕ) (plain return : Bool) → is_plain b ≡ plain → (b == 13) ≡ return → Before lines part (b ∷ []) → Kind bytes
+  last_byte : (lines : List (List ℕ)) (part : List ℕ) (b : ℕ) (plain return : Bool) → is_header_byte b ≡ plain → (b == 13) ≡ return → Before lines part (b ∷ []) → Kind bytes
   last_byte lines part b true return p q w = unfinished_at lines (part ++ b ∷ []) [] (plain_at lines part b [] w p) tt
   last_byte lines part b false true p q w = unfinished_at lines part (b ∷ []) w (is_return b q)
   last_byte lines part b false false p q w = spoiled_at lines part (b ∷ []) w (odd_byte b p q)
 
-  two_bytes : (lines : List (List ℕ)) (part : List ℕ) (b c : ℕ) (rest : List ℕ) (plain return feed : Bool) → is_plain b ≡ plain → (b == 13) ≡ return → (c == 10) ≡ feed → Before lines part (b ∷ c ∷ rest)
+  two_bytes : (lines : List (List ℕ)) (part : List ℕ) (b c : ℕ) (rest : List ℕ) (plain return feed : Bool) → is_header_byte b ≡ plain → (b == 13) ≡ return → (c == 10) ≡ feed → Before lines part (b ∷ c ∷ rest)
       → (Before lines (part ++ b ∷ []) (c ∷ rest) → Kind bytes) → (Before (lines ++ part ∷ []) [] rest → Kind bytes) → Kind bytes
   two_bytes lines part b c rest true return feed p q r w onward line = onward (plain_at lines part b (c ∷ rest) w p)
   two_bytes lines part b c rest false true true p q r w onward line =
@@ -96,9 +96,9 @@ module _ (bytes : List ℕ) where
 
   kind_from : (rest : List ℕ) (lines : List (List ℕ)) (part : List ℕ) → Before lines part rest → Kind bytes
   kind_from [] lines part w = unfinished_at lines part [] w tt
-  kind_from (b ∷ []) lines part w = last_byte lines part b (is_plain b) (b == 13) refl refl w
+  kind_from (b ∷ []) lines part w = last_byte lines part b (is_header_byte b) (b == 13) refl refl w
   kind_from (b ∷ c ∷ rest) lines part w =
-      two_bytes lines part b c rest (is_plain b) (b == 13) (c == 10) refl refl refl w (kind_from (c ∷ rest) lines (part ++ b ∷ [])) (kind_from rest (lines ++ part ∷ []) [])
+      two_bytes lines part b c rest (is_header_byte b) (b == 13) (c == 10) refl refl refl w (kind_from (c ∷ rest) lines (part ++ b ∷ [])) (kind_from rest (lines ++ part ∷ []) [])
 
   kind_of : Kind bytes
   kind_of = kind_from bytes [] [] (record { are_lines = tt; plain = refl; text = refl })

@@ -6,11 +6,11 @@ use Rattle.std.proofs.lemmas.List.{drop-append-le}
 use Rattle.std.proofs.lemmas.Bool.{and_parts}
 use Rattle.lam_frame.specs.declared.fault.FrameFault.{FrameFault}
 use Rattle.lam_frame.specs.declared.fault.FrameFault.TheVariants.{NoLength, BadLength, TooLong, BadHeader}
-use Rattle.lam_frame.specs.Header.{AreLines, IsPlain, HasHeader, IsSpoiled, IsUnfinished, IsTooLong, IsMisplaced, IsBegunEnd, is_plain, ended_lines, header_text, body_length, one_length, has_colon, names_length}
+use Rattle.lam_frame.specs.Header.{AreLines, IsPlain, HasHeader, IsSpoiled, IsUnfinished, IsTooLong, IsMisplaced, IsBegunEnd, is_header_byte, ended_lines, header_text, body_length, one_length, has_colon, names_length}
 use Rattle.lam_frame.specs.Frame.{HasFault}
 use Rattle.lam_frame.specs.Frame.HasFault.{Spoiled as SpoiledFault, Endless, BadFields}
-use Rattle.lam_frame.specs.Scan.{HasLines}
-use Rattle.lam_frame.specs.Steps.{IsByteFault, StartsBody}
+use Rattle.lam_frame.specs.inner.Scan.{HasLines}
+use Rattle.lam_frame.specs.inner.Steps.{IsByteFault, StartsBody}
 
 -- ---- reading byte by byte
 
@@ -27,14 +27,14 @@ with_lines front Wrong = Wrong
 -- the lines, where `line` has come of the first, and then perhaps a CR
 abbrev read : Bool → List ℕ → List ℕ → Lines
 read return line [] = Open
-read false line (b ∷ bs) = if is_plain b then read false (line ++ b ∷ []) bs else (if b == 13 then read true line bs else Wrong)
+read false line (b ∷ bs) = if is_header_byte b then read false (line ++ b ∷ []) bs else (if b == 13 then read true line bs else Wrong)
 read true line (b ∷ bs) = if b == 10 then (if length line == 0 then Whole [] bs else with_lines (line ∷ []) (read false [] bs)) else Wrong
 
 read-plain : (line part rest : List ℕ) → IsPlain part → read false line (part ++ rest) ≡ read false (line ++ part) rest
 read-plain line [] rest p = ap (λ (l : List ℕ). read false l rest) (sym (append-nil line))
 read-plain line (b ∷ part) rest p =
-    rw (and_parts (is_plain b) (list_all is_plain part) p).0
-    (read-plain (line ++ b ∷ []) part rest (and_parts (is_plain b) (list_all is_plain part) p).1 ∙ ap (λ (l : List ℕ). read false l rest) (append_assoc line (b ∷ []) part))
+    rw (and_parts (is_header_byte b) (list_all is_header_byte part) p).0
+    (read-plain (line ++ b ∷ []) part rest (and_parts (is_header_byte b) (list_all is_header_byte part) p).1 ∙ ap (λ (l : List ℕ). read false l rest) (append_assoc line (b ∷ []) part))
 
 with_lines-cons : (line : List ℕ) (front : List (List ℕ)) (lines : Lines) → with_lines (line ∷ []) (with_lines front lines) ≡ with_lines (line ∷ front) lines
 with_lines-cons line front (Whole lines after) = refl
@@ -86,7 +86,7 @@ kind-unfinished bytes u =
 
 read-odd : (part : List ℕ) (b : ℕ) (bs : List ℕ) → (128 ≤ b) ⊎ (b ≡ 10) → read false part (b ∷ bs) ≡ Wrong
 read-odd part b bs (inl h) =
-    let odd : is_plain b ≡ false = grind (arith, nat_tests) in
+    let odd : is_header_byte b ≡ false = grind (arith, nat_tests) in
     let other : (b == 13) ≡ false = grind (arith, nat_tests) in
     rw (odd, other) refl
 read-odd part b bs (inr h) = ap (λ (d : ℕ). read false part (d ∷ bs)) h

@@ -8,7 +8,7 @@ use Rattle.lam_frame.specs.declared.fault.FrameFault.TheVariants.{NoLength, BadL
 use Rattle.lam_frame.specs.Frame.{HasFrame, HasFault, IsOpen}
 use Rattle.lam_frame.specs.Frame.HasFault.{Spoiled as SpoiledFault, Endless, BadFields}
 use Rattle.lam_frame.specs.Header.{HasHeader, IsTooLong, ended_lines, header_text}
-use Rattle.lam_frame.specs.Next.{Reads, After, EndsEmpty, PulledWhile, Says, Answers, AnswersWhereTold, failures_after, work_left}
+use Rattle.lam_frame.specs.Next.{Reads, After, EndsEmpty, PulledWhile, Says, Answers, ReadsWhereTold, failures_after, work_left}
 use Rattle.lam_frame.proofs.Pulls.{PulledWhile-bytes, PulledWhile-end, PulledWhile-failed, PulledWhile-short}
 use Rattle.lam_frame.proofs.Starts.{HasHeader-more, IsSpoiled-more, header_within}
 
@@ -62,7 +62,7 @@ module _ {V : Type 0} (items : V → List ℕ) where
   ends_where_told (Some xs) (Some ys) (Some zs) bs p k e = k ∙ e
 
   answers_told : (held : List ℕ) (pieces : List (List ℕ)) (answer : Result (Option V) FrameFault) (held_after : List ℕ) (coming left : Option (List ℕ))
-      → Says items (held ++ concat pieces) pieces answer held_after → Consumes coming left (concat pieces) → (EndsEmpty pieces → EndsWhereTold coming left) → AnswersWhereTold items held coming answer held_after left
+      → Says items (held ++ concat pieces) pieces answer held_after → Consumes coming left (concat pieces) → (EndsEmpty pieces → EndsWhereTold coming left) → ReadsWhereTold items held coming answer held_after left
   answers_told held pieces answer held_after None left s c end = tt
   answers_told held pieces answer held_after (Some xs) None s c end = c
   answers_told held pieces answer held_after (Some xs) (Some ys) s c end =
@@ -84,7 +84,7 @@ module _ {V : Type 0} (items : V → List ℕ) where
     kept_after (Err Spent) last left a = (subst (λ (s : S). Keeps (coming last) (coming s)) a (Keeps-refl (coming last)), ap failed (sym a))
 
     pub reads_told : (held : List ℕ) (pulls : ℕ) (source : S) (answer : Result (Option V) FrameFault) (held_after : List ℕ) (pulls_after : ℕ) (left : S)
-        → Reads coming failed gave IsOpen (Says items) held pulls source answer held_after pulls_after left → AnswersWhereTold items held (coming source) answer held_after (coming left)
+        → Reads coming failed gave IsOpen (Says items) held pulls source answer held_after pulls_after left → ReadsWhereTold items held (coming source) answer held_after (coming left)
     reads_told held pulls source answer held_after pulls_after left r =
         let kept = (kept_after answer r.last left r.after).0 in
         let bytes = PulledWhile-bytes coming failed gave IsOpen held source r.last r.pieces r.needed in

@@ -9,8 +9,8 @@ use Rattle.std.proofs.lemmas.List.{get_or-take, nil_from_length}
 use Rattle.std.proofs.Math.Seq.{drop-append_seam}
 use Rattle.lam_frame.specs.declared.fault.FrameFault.{FrameFault}
 use Rattle.lam_frame.specs.declared.fault.FrameFault.TheVariants.{BadLength, TooLong, BadHeader}
-use Rattle.lam_frame.specs.Header.{AreLines, IsPlain, IsSpoiled, IsUnfinished, IsMisplaced, IsBegunEnd, is_plain, is_colon, ended_lines, header_text, body_length, one_length, is_number, has_colon, names_length, trim}
-use Rattle.lam_frame.specs.Scan.{HasLines, plain_part, plain_rest, with_length_of, with_line_of}
+use Rattle.lam_frame.specs.Header.{AreLines, IsPlain, IsSpoiled, IsUnfinished, IsMisplaced, IsBegunEnd, is_header_byte, is_colon, ended_lines, header_text, body_length, one_length, is_length, has_colon, names_length, trim}
+use Rattle.lam_frame.specs.inner.Scan.{HasLines, plain_part, plain_rest, with_length_of, with_line_of}
 
 -- ---- one line more
 
@@ -25,9 +25,9 @@ AreLines-append (line ∷ front) back f b = (f.0, AreLines-append front back f.1
 
 pub plain_part_is_plain : (bytes : List ℕ) → IsPlain (plain_part bytes)
 plain_part_is_plain bytes =
-    list_all-from_AllPass is_plain (plain_part bytes)
-    (λ k d h. let below : k < prefix_len is_plain bytes = omega (arith, length-take (prefix_len is_plain bytes) bytes) in
-    ap is_plain (get_or-take _ _ _ _ below) ∙ prefix_len_passes is_plain bytes k d below)
+    list_all-from_AllPass is_header_byte (plain_part bytes)
+    (λ k d h. let below : k < prefix_len is_header_byte bytes = omega (arith, length-take (prefix_len is_header_byte bytes) bytes) in
+    ap is_header_byte (get_or-take _ _ _ _ below) ∙ prefix_len_passes is_header_byte bytes k d below)
 
 -- a length in digits is no fault of too few or too many lines
 second_length : (numeral long : Bool) (n : ℕ) (value : List ℕ) → with_length_of (cond numeral (cond long (Err TooLong) (Ok n)) (Err BadLength)) value ≡ Err BadLength
@@ -39,7 +39,7 @@ with_length-lines : (named : List (List ℕ)) (line : List ℕ) → one_length (
 with_length-lines [] line = refl
 with_length-lines (x ∷ []) line =
     let value = trim (after_first is_colon x) in
-    sym (second_length (is_number value) (nat_lt 67108864 (digits_value 10 value)) (digits_value 10 value) (after_first is_colon line))
+    sym (second_length (is_length value) (nat_lt 67108864 (digits_value 10 value)) (digits_value 10 value) (after_first is_colon line))
 with_length-lines (x ∷ y ∷ named) line = refl
 
 with_line-verdict : (bad colon names : Bool) (named : List (List ℕ)) (line : List ℕ)
@@ -67,7 +67,7 @@ pub record Walked (bytes rest : List ℕ) (body : Result ℕ FrameFault) : Type 
   pub says : body ≡ body_length lines
 
 line_and_rest : (rest line after : List ℕ) → line ≡ plain_part rest → plain_rest rest ≡ 13 ∷ 10 ∷ after → rest ≡ line ++ (13 ∷ 10 ∷ after)
-line_and_rest rest line after l a = sym (take-append-drop (prefix_len is_plain rest) rest) ∙ ap (λ (t : List ℕ). plain_part rest ++ t) a ∙ ap (λ (t : List ℕ). t ++ (13 ∷ 10 ∷ after)) (sym l)
+line_and_rest rest line after l a = sym (take-append-drop (prefix_len is_header_byte rest) rest) ∙ ap (λ (t : List ℕ). plain_part rest ++ t) a ∙ ap (λ (t : List ℕ). t ++ (13 ∷ 10 ∷ after)) (sym l)
 
 pub walked_more : (bytes rest line after : List ℕ) (body more : Result ℕ FrameFault) → Walked bytes rest body → line ≡ plain_part rest → plain_rest rest ≡ 13 ∷ 10 ∷ after
     → 0 < length line → more ≡ with_line_of body line → Walked bytes after more
@@ -89,7 +89,7 @@ walked_unfinished bytes rest body w b = record {
   are_lines = w.are_lines;
   plain = plain_part_is_plain rest;
   begun = b;
-  text = w.text ∙ ap (λ (t : List ℕ). ended_lines w.lines ++ t) (sym (take-append-drop (prefix_len is_plain rest) rest));
+  text = w.text ∙ ap (λ (t : List ℕ). ended_lines w.lines ++ t) (sym (take-append-drop (prefix_len is_header_byte rest) rest));
 }
 
 pub walked_spoiled : (bytes rest : List ℕ) (body : Result ℕ FrameFault) → Walked bytes rest body → IsMisplaced (plain_rest rest) → IsSpoiled bytes
@@ -100,7 +100,7 @@ walked_spoiled bytes rest body w m = record {
   are_lines = w.are_lines;
   plain = plain_part_is_plain rest;
   misplaced = m;
-  text = w.text ∙ ap (λ (t : List ℕ). ended_lines w.lines ++ t) (sym (take-append-drop (prefix_len is_plain rest) rest));
+  text = w.text ∙ ap (λ (t : List ℕ). ended_lines w.lines ++ t) (sym (take-append-drop (prefix_len is_header_byte rest) rest));
 }
 
 pub walked_whole : (bytes rest line after : List ℕ) (body : Result ℕ FrameFault) → Walked bytes rest body → line ≡ plain_part rest → plain_rest rest ≡ 13 ∷ 10 ∷ after
@@ -121,4 +121,4 @@ walked_whole bytes rest line after body w l a none =
     }
 
 pub walked_shorter : (rest after : List ℕ) → plain_rest rest ≡ 13 ∷ 10 ∷ after → length after < length rest
-walked_shorter rest after a = omega (arith, ap length a, length-drop (prefix_len is_plain rest) rest)
+walked_shorter rest after a = omega (arith, ap length a, length-drop (prefix_len is_header_byte rest) rest)

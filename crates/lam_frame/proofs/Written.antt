@@ -8,17 +8,17 @@ use Rattle.std.proofs.lemmas.Bool.Decides.{nat_tests}
 use Rattle.std.proofs.lemmas.Fmt.{decimal_is_IsNumeral, length-decimal-le}
 use Rattle.std.proofs.lemmas.List.Folds.{list_all-append}
 use Rattle.std.proofs.lemmas.Str.Parse.{digit_from_value}
-use Rattle.lam_frame.specs.Header.{IsPlain, body_length, ended_lines, header_text, is_blank, is_number, is_plain, length_in, trim, trim_back}
+use Rattle.lam_frame.specs.Header.{IsPlain, body_length, ended_lines, header_text, is_blank_byte, is_length, is_header_byte, length_in, trim, trim_back}
 use Rattle.lam_frame.specs.Frame.{frame_text, header_line}
 use Rattle.lam_frame.specs.Laws.{IsReadBack}
 
 -- ---- digits
 
-digits_plain : (ds : List ℕ) → AllDigits 10 ds → list_all is_plain ds ≡ true
+digits_plain : (ds : List ℕ) → AllDigits 10 ds → list_all is_header_byte ds ≡ true
 digits_plain [] a = refl
 digits_plain (d ∷ ds) a =
     let within = digit_from_value d a.0 in
-    let here : is_plain d ≡ true = grind (arith, nat_tests, within) in
+    let here : is_header_byte d ≡ true = grind (arith, nat_tests, within) in
     rw here (digits_plain ds a.1)
 
 digits_ascii : (ds : List ℕ) → AllDigits 10 ds → list_all is_ascii_digit ds ≡ true
@@ -28,7 +28,7 @@ digits_ascii (d ∷ ds) a =
     let here : is_ascii_digit d ≡ true = grind (arith, nat_tests, within) in
     rw here (digits_ascii ds a.1)
 
-digit_not_blank : (d : ℕ) → (48 ≤ d) × (d ≤ 57) → is_blank d ≡ false
+digit_not_blank : (d : ℕ) → (48 ≤ d) × (d ≤ 57) → is_blank_byte d ≡ false
 digit_not_blank d within = grind (arith, nat_tests, within)
 
 digits_untrimmed : (ds : List ℕ) → AllDigits 10 ds → trim_back ds ≡ ds
@@ -41,14 +41,14 @@ digits_trimmed (d ∷ ds) some a = rw (digit_not_blank d (digit_from_value d a.0
 
 length_in-digits : (ds : List ℕ) (n : ℕ) → 0 < length ds → length ds ≤ 19 → AllDigits 10 ds → digits_value 10 ds ≡ n → n ≤ 67108864 → length_in ds ≡ Ok n
 length_in-digits ds n some few a value small =
-    let numeral : is_number ds ≡ true = grind (arith, nat_tests, digits_ascii ds a) in
+    let numeral : is_length ds ≡ true = grind (arith, nat_tests, digits_ascii ds a) in
     let fits : nat_lt 67108864 (digits_value 10 ds) ≡ false = grind (arith, nat_tests, value) in
     rw (numeral, fits) (ap (λ (k : ℕ). Ok k) value)
 
 -- ---- the header part
 
 line_plain : (ds : List ℕ) → AllDigits 10 ds → IsPlain (codes "Content-Length: " ++ ds)
-line_plain ds a = list_all-append is_plain (codes "Content-Length: ") ds ∙ digits_plain ds a
+line_plain ds a = list_all-append is_header_byte (codes "Content-Length: ") ds ∙ digits_plain ds a
 
 line_length : (ds : List ℕ) → body_length ((codes "Content-Length: " ++ ds) ∷ []) ≡ length_in (trim (32 ∷ ds))
 line_length ds = refl

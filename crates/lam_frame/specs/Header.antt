@@ -18,12 +18,12 @@ body_limit = 67108864
 -- ---- the lines
 
 -- ASCII, and neither CR nor LF
-abbrev pub is_plain : ℕ → Bool
-is_plain b = nat_lt b 128 && not (b == 13 || b == 10)
+abbrev pub is_header_byte : ℕ → Bool
+is_header_byte b = nat_lt b 128 && not (b == 13 || b == 10)
 
 -- such bytes alone
 abbrev pub IsPlain : List ℕ → Type 0
-IsPlain bytes = list_all is_plain bytes ≡ true
+IsPlain bytes = list_all is_header_byte bytes ≡ true
 
 -- a line is not empty, since an empty one ends the header part
 abbrev pub IsLine : List ℕ → Type 0
@@ -103,31 +103,31 @@ abbrev pub names_length : List ℕ → Bool
 names_length line = bytes_eq (map to_ascii_lowercase (before_first is_colon line)) (codes "content-length")
 
 -- a space or a tab
-abbrev pub is_blank : ℕ → Bool
-is_blank b = b == 32 || b == 9
+abbrev pub is_blank_byte : ℕ → Bool
+is_blank_byte b = b == 32 || b == 9
 
 -- without the spaces and tabs in front
 abbrev pub trim_front : List ℕ → List ℕ
 trim_front [] = []
-trim_front (b ∷ bs) = if is_blank b then trim_front bs else b ∷ bs
+trim_front (b ∷ bs) = if is_blank_byte b then trim_front bs else b ∷ bs
 
 -- without those behind
 abbrev pub trim_back : List ℕ → List ℕ
 trim_back [] = []
-trim_back (b ∷ bs) = if is_blank b && list_all is_blank bs then [] else b ∷ trim_back bs
+trim_back (b ∷ bs) = if is_blank_byte b && list_all is_blank_byte bs then [] else b ∷ trim_back bs
 
 -- without both
 abbrev pub trim : List ℕ → List ℕ
 trim bs = trim_back (trim_front bs)
 
 -- 1 to 19 decimal digits
-abbrev pub is_number : List ℕ → Bool
-is_number ds = nat_lt 0 (length ds) && (nat_le (length ds) 19 && list_all is_ascii_digit ds)
+abbrev pub is_length : List ℕ → Bool
+is_length ds = nat_lt 0 (length ds) && (nat_le (length ds) 19 && list_all is_ascii_digit ds)
 
 -- the number that a value of `Content-Length` writes, at most 64 MiB
 abbrev pub length_in : List ℕ → Result ℕ FrameFault
 length_in value =
-    if is_number value then (if nat_lt body_limit (digits_value 10 value) then Err TooLong else Ok (digits_value 10 value)) else Err BadLength
+    if is_length value then (if nat_lt body_limit (digits_value 10 value) then Err TooLong else Ok (digits_value 10 value)) else Err BadLength
 
 -- the value of the one line that names the length
 abbrev pub one_length : List (List ℕ) → Result ℕ FrameFault

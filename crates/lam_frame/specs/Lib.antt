@@ -5,5 +5,4 @@ pub mod Frame
 pub mod Header
 pub mod Laws
 pub mod Next
-pub mod Scan
-pub mod Steps
+pub mod inner

@@ -83,10 +83,10 @@ Answers items bytes (Err Spent) left = ⊥
 Answers items bytes (Err fault) left = IsRest bytes (Some fault)
 
 -- the same, where the source tells what is to come
-abbrev pub AnswersWhereTold : {V : Type 0} → (V → List ℕ) → List ℕ → Option (List ℕ) → Result (Option V) FrameFault → List ℕ → Option (List ℕ) → Type 0
-AnswersWhereTold items held None answer held_after left = Unit {0}
-AnswersWhereTold items held (Some coming) answer held_after None = ⊥
-AnswersWhereTold items held (Some coming) answer held_after (Some left) = Answers items (held ++ coming) answer (held_after ++ left)
+abbrev pub ReadsWhereTold : {V : Type 0} → (V → List ℕ) → List ℕ → Option (List ℕ) → Result (Option V) FrameFault → List ℕ → Option (List ℕ) → Type 0
+ReadsWhereTold items held None answer held_after left = Unit {0}
+ReadsWhereTold items held (Some coming) answer held_after None = ⊥
+ReadsWhereTold items held (Some coming) answer held_after (Some left) = Answers items (held ++ coming) answer (held_after ++ left)
 
 -- one failure more where the device failed, else as many as before
 abbrev pub failures_after : {V : Type 0} → Result V FrameFault → ℕ → ℕ

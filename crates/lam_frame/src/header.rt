@@ -5,9 +5,9 @@ ghost use Rattle.std.specs.Char.{is_ascii_digit, to_ascii_lowercase};
 ghost use Rattle.std.specs.List.{after_first, before_first, list_all, position, prefix_len};
 ghost use Rattle.std.specs.Str.{bytes_eq};
 ghost use Rattle.std.specs.Str.Parse.{digits_value};
-ghost use Rattle.lam_frame.specs.Header.{has_colon, is_blank, is_colon, is_number, is_plain, length_in, trim_back, trim_front};
-ghost use Rattle.lam_frame.specs.Steps.{IsStart};
-ghost use Rattle.lam_frame.specs.Scan.{IsFirstLine, IsScan, with_length_of, with_line_of};
+ghost use Rattle.lam_frame.specs.Header.{has_colon, is_blank_byte, is_colon, is_length, is_header_byte, length_in, trim_back, trim_front};
+ghost use Rattle.lam_frame.specs.inner.Steps.{IsStart};
+ghost use Rattle.lam_frame.specs.inner.Scan.{IsFirstLine, IsScan, with_length_of, with_line_of};
 
 use crate::fault::FrameFault;
 
@@ -114,14 +114,14 @@ fn first_line(bytes: &[u8]) -> Line<'_>
 
 /// How many bytes stand before the first that is no byte of a line.
 fn plain_length(bytes: &[u8]) -> usize
-    ensures length { result ≡ prefix_len is_plain bytes.now }
+    ensures length { result ≡ prefix_len is_header_byte bytes.now }
     ensures within { result ≤ length bytes.now }
 {
     bytes.iter().take_while(|byte| is_plain(**byte)).count()
 }
 
 fn is_plain(byte: u8) -> bool
-    ensures { result ≡ is_plain byte }
+    ensures { result ≡ is_header_byte byte }
 {
     byte.is_ascii() && !matches!(byte, b'\r' | b'\n')
 }
@@ -207,7 +207,7 @@ fn without_blanks_behind(value: &[u8]) -> &[u8]
 }
 
 fn is_blank(byte: u8) -> bool
-    ensures { result ≡ is_blank byte }
+    ensures { result ≡ is_blank_byte byte }
 {
     matches!(byte, b' ' | b'\t')
 }
@@ -227,7 +227,7 @@ fn length_of(value: &[u8]) -> Result<u64, FrameFault>
 
 /// One digit or more, and too few to pass 2^64.
 fn is_number(value: &[u8]) -> bool
-    ensures { result ≡ is_number value.now }
+    ensures { result ≡ is_length value.now }
 {
     if value.is_empty() || value.len() > DIGITS_LIMIT {
         return false;
@@ -243,7 +243,7 @@ fn are_digits(value: &[u8]) -> bool
 
 #[tactic(auto, using(crate::proofs::Lines::numerals))]
 fn number(digits: &[u8]) -> u64
-    requires { is_number digits.now ≡ true }
+    requires { is_length digits.now ≡ true }
     ensures { result ≡ digits_value 10 digits.now }
 {
     let mut number = 0;

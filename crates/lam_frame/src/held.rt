@@ -1,7 +1,7 @@
 //! Bytes that were pulled and are not used yet.
 
 ghost use Rattle.std.specs.Prelude.{◌≡◌, ◌-◌, ◌^◌, ◌<◌, ◌≤◌, IfOk, List, ℕ, [], drop, length, take};
-ghost use Rattle.lam_frame.specs.Steps.{PullsBehind};
+ghost use Rattle.lam_frame.specs.inner.Steps.{PullsBehind};
 
 use crate::device::{DeviceFault, Source};
 use std::alloc::{AllocError, Global};

@@ -3,8 +3,8 @@
 ghost use Rattle.std.specs.Prelude.{◌≡◌, IfSome, OnOk, ◌+◌, ◌-◌, ◌^◌, ◌<◌, ◌≤◌, IfOk, [], length, Ok, Err, None, OnSome};
 ghost use Rattle.lam_frame.specs.Header.{body_limit};
 ghost use Rattle.lam_frame.specs.Frame.{IsOpen};
-ghost use Rattle.lam_frame.specs.Next.{AnswersWhereTold, Progress, Reads, Says, failures_after, state_after, work_left};
-ghost use Rattle.lam_frame.specs.Steps.{Moved, PullsMore, end_after, SaysBody, SaysHeader};
+ghost use Rattle.lam_frame.specs.Next.{ReadsWhereTold, Progress, Reads, Says, failures_after, state_after, work_left};
+ghost use Rattle.lam_frame.specs.inner.Steps.{Moved, PullsMore, end_after, SaysBody, SaysHeader};
 
 use crate::device::Source;
 use crate::fault::FrameFault;
@@ -72,7 +72,7 @@ impl FrameReader {
 
         ensures reads { self.old.state ≡ State.Reading → Reads S.coming S.failed S.gave IsOpen (Says (λ b. b.items))
             self.old.held self.old.pulls source.old result self.new.held self.new.pulls source.new }
-        ensures told { self.old.state ≡ State.Reading → AnswersWhereTold (λ b. b.items)
+        ensures told { self.old.state ≡ State.Reading → ReadsWhereTold (λ b. b.items)
             self.old.held (S.coming source.old) result self.new.held (S.coming source.new) }
         ensures state { self.old.state ≡ State.Reading → self.new.state ≡ state_after result }
         ensures failures { S.failed source.new ≡ failures_after result (S.failed source.old) }

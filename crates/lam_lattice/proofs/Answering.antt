@@ -6,7 +6,7 @@ use Rattle.lam_rules.specs.declared.rules.Dialect.{Dialect}
 use Rattle.lam_rules.specs.declared.numbers.TyNo.{TyNo}
 use Rattle.lam_sub.specs.Remembered.{IsJoinOf, IsMeetOf}
 use Rattle.lam_sub.proofs.Keeping.{both_kept, pair_kept}
-use Rattle.lam_lattice.specs.Bounds.{IsJoin, IsMeet, HaveNoMeet, JoinsInOrder, MeetsInOrder}
+use Rattle.lam_lattice.specs.inner.Bounds.{IsJoin, IsMeet, HaveNoMeet, JoinsInOrder, MeetsInOrder}
 
 pub join_found : (old now : List Typ) (left right number : TyNo) (d e : Dialect) → Keeps old now → left.index < length old → right.index < length old → e ≡ d → Stands now number
     → IsJoin (type_of old left) (type_of old right) (type_of now number) d → JoinsInOrder (type_of old left) (type_of old right) (type_of now number) → IsJoinOf now e (left, right) number

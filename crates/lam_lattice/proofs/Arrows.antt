@@ -6,7 +6,7 @@ use Rattle.lam_rules.specs.declared.rules.Dialect.{Dialect}
 use Rattle.lam_rules.proofs.ByShape.{below_wf}
 use Rattle.lam_rules.proofs.Composing.{below_refl, below_top, below_arrow}
 use Rattle.lam_sub.proofs.Below.{below_arrow_is, above_arrow_is, arrow_inside}
-use Rattle.lam_lattice.specs.Bounds.{IsJoin, IsMeet, HaveNoMeet}
+use Rattle.lam_lattice.specs.inner.Bounds.{IsJoin, IsMeet, HaveNoMeet}
 
 pub arrows_join : (s1 s2 t1 t2 m j : Typ) (d : Dialect) → IsMeet s1 t1 m d → IsJoin s2 t2 j d → IsJoin (arrow s1 s2) (arrow t1 t2) (arrow m j) d
 arrows_join s1 s2 t1 t2 m j d meet join = record {

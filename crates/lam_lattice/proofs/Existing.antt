@@ -8,8 +8,8 @@ use Rattle.lam_rules.proofs.Composing.{below_refl, below_top}
 use Rattle.lam_sub.specs.OtherFields.{other_fields}
 use Rattle.lam_sub.proofs.LookUps.{label_or}
 use Rattle.lam_sub.proofs.Below.{below_bool, below_nat, below_unit, bool_below_nat, below_arrow_is, below_record_is}
-use Rattle.lam_lattice.specs.Bounds.{IsJoin, IsMeet, HaveNoMeet}
-use Rattle.lam_lattice.specs.Records.{AreUnlike, AreJoined, joined_none, joined_both, joined_left_out, AreMet, met_none, met_both, met_alone}
+use Rattle.lam_lattice.specs.inner.Bounds.{IsJoin, IsMeet, HaveNoMeet}
+use Rattle.lam_lattice.specs.inner.Records.{AreUnlike, AreJoined, joined_none, joined_both, joined_left_out, AreMet, met_none, met_both, met_alone}
 use Rattle.lam_lattice.proofs.Unlike.{join_above, join_below, meet_above, meet_below, join_unlike_top, no_meet_unlike}
 use Rattle.lam_lattice.proofs.Arrows.{arrows_join, arrows_join_top, arrows_meet, arrows_no_meet}
 use Rattle.lam_lattice.proofs.FieldBounds.{Joins, Meets, records_join, records_meet, records_no_meet}

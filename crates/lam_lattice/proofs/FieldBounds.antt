@@ -11,13 +11,13 @@ use Rattle.lam_rules.proofs.ByShape.{below_wf}
 use Rattle.lam_rules.proofs.Permutations.{absent_not}
 use Rattle.lam_rules.proofs.SharedTexts.{one_type, has_wf}
 use Rattle.lam_rules.proofs.Composing.{below_refl, below_top}
-use Rattle.lam_sub.specs.FieldsBelow.{AreBelow}
+use Rattle.lam_sub.specs.inner.FieldsBelow.{AreBelow}
 use Rattle.lam_sub.specs.OtherFields.{other_fields}
 use Rattle.lam_sub.proofs.LookUps.{label_or, absent_from, others_are, others_have, others_wf, joined_has, has_in_first, has_in_second, joined_wf}
 use Rattle.lam_sub.proofs.Arranging.{field_below, fields_below, record_below}
 use Rattle.lam_sub.proofs.Below.{record_inside, below_record_is, above_record_is}
-use Rattle.lam_lattice.specs.Bounds.{IsJoin, IsMeet, HaveNoMeet}
-use Rattle.lam_lattice.specs.Records.{AreJoined, joined_none, joined_both, joined_left_out, AreMet, met_none, met_both, met_alone}
+use Rattle.lam_lattice.specs.inner.Bounds.{IsJoin, IsMeet, HaveNoMeet}
+use Rattle.lam_lattice.specs.inner.Records.{AreJoined, joined_none, joined_both, joined_left_out, AreMet, met_none, met_both, met_alone}
 
 -- the third type is a join of the first two
 abbrev pub Joins : Dialect → Typ → Typ → Typ → Type 0

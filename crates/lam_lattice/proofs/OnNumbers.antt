@@ -12,8 +12,8 @@ use Rattle.lam_rules.proofs.TableFields.{distinct_of}
 use Rattle.lam_sub.specs.OtherFields.{other_fields}
 use Rattle.lam_sub.specs.BoundOrder.{join_of_arrows, join_of_records, meet_of_arrows, meet_of_records}
 use Rattle.lam_sub.proofs.TableVerdicts.{fields_over-append}
-use Rattle.lam_lattice.specs.Bounds.{IsJoin, IsMeet, HaveNoMeet, JoinsInOrder, MeetsInOrder}
-use Rattle.lam_lattice.specs.Records.{OrderlyJoins, OrderlyMeets, AreJoined, AreMet}
+use Rattle.lam_lattice.specs.inner.Bounds.{IsJoin, IsMeet, HaveNoMeet, JoinsInOrder, MeetsInOrder}
+use Rattle.lam_lattice.specs.inner.Records.{OrderlyJoins, OrderlyMeets, AreJoined, AreMet}
 use Rattle.lam_lattice.proofs.Unlike.{join_seen, meet_seen, no_meet_seen}
 use Rattle.lam_lattice.proofs.Arrows.{arrows_join, arrows_join_top, arrows_meet, arrows_no_meet}
 use Rattle.lam_lattice.proofs.FieldBounds.{records_join, records_meet}

@@ -11,7 +11,7 @@ use Rattle.lam_sub.specs.BoundOrder.{HasNoParts, join_without_parts, join_of_arr
 use Rattle.lam_sub.proofs.LookUps.{has_in_first}
 use Rattle.lam_sub.proofs.Arranging.{field_below}
 use Rattle.lam_sub.proofs.Below.{arrow_inside, record_inside, below_bool, above_top}
-use Rattle.lam_lattice.specs.Bounds.{IsJoin, IsMeet, JoinsInOrder, MeetsInOrder}
+use Rattle.lam_lattice.specs.inner.Bounds.{IsJoin, IsMeet, JoinsInOrder, MeetsInOrder}
 
 -- a type without parts and one that is both above and below it
 

@@ -8,8 +8,8 @@ use Rattle.lam_rules.proofs.TypeShapes.{joined-none}
 use Rattle.lam_sub.specs.OtherFields.{other_fields}
 use Rattle.lam_sub.specs.BoundOrder.{join_without_parts, join_of_arrows, join_of_records, FieldsJoinInOrder, join_no_fields, join_common, join_leaves_out, meet_without_parts, meet_under_top, meet_of_top, meet_of_arrows, meet_of_records, FieldsMeetInOrder, meet_no_fields, meet_common, meet_alone}
 use Rattle.lam_sub.proofs.LookUps.{others_without}
-use Rattle.lam_lattice.specs.Bounds.{JoinsInOrder, MeetsInOrder}
-use Rattle.lam_lattice.specs.Records.{AreUnlike, OrderlyJoins, OrderlyMeets, AreJoined, joined_none, joined_both, joined_left_out, AreMet, met_none, met_both, met_alone}
+use Rattle.lam_lattice.specs.inner.Bounds.{JoinsInOrder, MeetsInOrder}
+use Rattle.lam_lattice.specs.inner.Records.{AreUnlike, OrderlyJoins, OrderlyMeets, AreJoined, joined_none, joined_both, joined_left_out, AreMet, met_none, met_both, met_alone}
 use Rattle.lam_lattice.proofs.FieldBounds.{Joins, Meets}
 
 -- a type beside itself

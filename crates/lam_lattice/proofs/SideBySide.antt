@@ -14,9 +14,9 @@ use Rattle.lam_rules.proofs.TableEntries.{fields_over-drop}
 use Rattle.lam_sub.specs.OtherFields.{other_fields}
 use Rattle.lam_sub.proofs.LookUps.{others_without, others_with}
 use Rattle.lam_sub.proofs.TableVerdicts.{number_in_back}
-use Rattle.lam_lattice.specs.Bounds.{HaveNoMeet}
-use Rattle.lam_lattice.specs.Matches.{IsMatch, AreMatches, AreMatchesBelow}
-use Rattle.lam_lattice.specs.Records.{AreJoined, joined_none, joined_both, joined_left_out, AreMet, met_none, met_both, met_alone}
+use Rattle.lam_lattice.specs.inner.Bounds.{HaveNoMeet}
+use Rattle.lam_lattice.specs.inner.Matches.{IsMatch, AreMatches, AreMatchesBelow}
+use Rattle.lam_lattice.specs.inner.Records.{AreJoined, joined_none, joined_both, joined_left_out, AreMet, met_none, met_both, met_alone}
 use Rattle.lam_lattice.specs.declared.matching.Match.{Match}
 use Rattle.lam_lattice.proofs.FieldBounds.{records_no_meet}
 

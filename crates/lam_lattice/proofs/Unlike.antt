@@ -6,8 +6,8 @@ use Rattle.lam_rules.specs.declared.rules.Dialect.{Dialect}
 use Rattle.lam_rules.proofs.ByShape.{Under, under_bool, under_nat, under_unit, under_top, under_arrow, under_record, under_bool_nat, below_under, below_wf}
 use Rattle.lam_rules.proofs.Composing.{below_refl, below_top}
 use Rattle.lam_sub.proofs.Below.{under_below}
-use Rattle.lam_lattice.specs.Bounds.{IsJoin, IsMeet, HaveNoMeet}
-use Rattle.lam_lattice.specs.Records.{AreUnlike}
+use Rattle.lam_lattice.specs.inner.Bounds.{IsJoin, IsMeet, HaveNoMeet}
+use Rattle.lam_lattice.specs.inner.Records.{AreUnlike}
 
 -- one type above another is their join, and the other their meet
 

@@ -1,3 +1,1 @@
-pub mod Bounds
-pub mod Matches
-pub mod Records
+pub mod inner

@@ -3,7 +3,7 @@
 ghost use Rattle.std.specs.Prelude.{IfOk, IfSome, IfNone};
 ghost use Rattle.lam_rules.specs.Types.{IsWellFormed};
 ghost use Rattle.lam_rules.specs.TypeViews.{typ_of};
-ghost use Rattle.lam_lattice.specs.Bounds.{IsJoin, IsMeet, HaveNoMeet, JoinsInOrder, MeetsInOrder};
+ghost use Rattle.lam_lattice.specs.inner.Bounds.{IsJoin, IsMeet, HaveNoMeet, JoinsInOrder, MeetsInOrder};
 
 use crate::numbers::{join_no, meet_no};
 use lam_rules::{Dialect, Ty, TyTable};

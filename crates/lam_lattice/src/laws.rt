@@ -4,7 +4,7 @@
 ghost use Rattle.std.specs.Prelude.{◌≡◌, ◌⊎◌};
 ghost use Rattle.lam_rules.specs.Types.{Typ, IsWellFormed};
 ghost use Rattle.lam_rules.specs.declared.rules.Dialect.{Dialect};
-ghost use Rattle.lam_lattice.specs.Bounds.{IsJoin, IsMeet, HaveNoMeet, JoinsInOrder, MeetsInOrder};
+ghost use Rattle.lam_lattice.specs.inner.Bounds.{IsJoin, IsMeet, HaveNoMeet, JoinsInOrder, MeetsInOrder};
 
 /// Two types have a join, whatever they are.
 pub fn every_pair_has_a_join()

@@ -4,7 +4,7 @@ ghost use Rattle.std.specs.Prelude.{◌≡◌, ℕ, List, IfOk};
 ghost use Rattle.lam_rules.specs.Types.{Typ};
 ghost use Rattle.lam_rules.specs.Numbers.{fields_over, AreEarlier};
 ghost use Rattle.lam_sub.specs.OtherFields.{other_fields};
-ghost use Rattle.lam_lattice.specs.Matches.{AreMatches};
+ghost use Rattle.lam_lattice.specs.inner.Matches.{AreMatches};
 
 use lam_rules::TyNo;
 use lam_sub::field_number;

@@ -7,9 +7,9 @@ ghost use Rattle.lam_rules.specs.Types.{record_of};
 ghost use Rattle.lam_rules.specs.Numbers.{type_of, Stands, Keeps, fields_over, AreEarlier};
 ghost use Rattle.lam_rules.specs.declared.numbers.TyNo.{TyNo};
 ghost use Rattle.lam_sub.specs.Remembered.{AreRight};
-ghost use Rattle.lam_lattice.specs.Bounds.{IsJoin, IsMeet, HaveNoMeet, JoinsInOrder, MeetsInOrder};
-ghost use Rattle.lam_lattice.specs.Matches.{AreMatches, AreMatchesBelow};
-ghost use Rattle.lam_lattice.specs.Records.{AreUnlike, OrderlyJoins, OrderlyMeets, AreJoined, AreMet};
+ghost use Rattle.lam_lattice.specs.inner.Bounds.{IsJoin, IsMeet, HaveNoMeet, JoinsInOrder, MeetsInOrder};
+ghost use Rattle.lam_lattice.specs.inner.Matches.{AreMatches, AreMatchesBelow};
+ghost use Rattle.lam_lattice.specs.inner.Records.{AreUnlike, OrderlyJoins, OrderlyMeets, AreJoined, AreMet};
 
 use crate::matching::{Match, matched, others};
 use lam_rules::{Shape, TyNo, TyTable};

@@ -30,7 +30,7 @@ use Rattle.lam_query.specs.SyntaxFaults.{fault_at}
 use Rattle.lam_query.specs.TextFaults.{written_fault, blame_fault, AreTypeFaults, small, AreFaults}
 use Rattle.lam_query.specs.Hovers.{Shown, IsTypedAround, IsShownIn}
 use Rattle.lam_query.specs.Views.{fault_of}
-use Rattle.lam_query.specs.Within.{StandsIn}
+use Rattle.lam_query.specs.Within.{IsSpanOfText}
 use Rattle.lam_query.specs.Analyses.{AreFoundOf, AreTypesOf, IsAnalysisOf, commands_in}
 use Rattle.lam_query.proofs.Within.{in_place}
 use Rattle.lam_query.proofs.TextPlaces.{commands_stand}
@@ -91,12 +91,12 @@ text_faults text a of_types all ordered h types joined order = record {
   in_order = rw (joined, map-append fault_of a.syntax.items of_types) at order;
 }
 
-pub starts_stand : (text : List ℕ) → IsUtf8 text → StandsIn text no_span
+pub starts_stand : (text : List ℕ) → IsUtf8 text → IsSpanOfText text no_span
 starts_stand text is_text = (IsCharBoundary-start text is_text, IsCharBoundary-start text is_text)
 
 pub whole_faults : (text : List ℕ) (a : Analysis) (of_types all ordered : List RustFault)
     → IsUtf8 text → (h : IsAnalysisOf text a) → AreTypeFaults (commands_in a) (map fault_of of_types) a.dialect
-    → all ≡ a.syntax.items ++ of_types → AreInOrder (map fault_of all) (map fault_of ordered) → All (λ f. StandsIn text f.span) ordered
+    → all ≡ a.syntax.items ++ of_types → AreInOrder (map fault_of all) (map fault_of ordered) → All (λ f. IsSpanOfText text f.span) ordered
 whole_faults text a of_types all ordered is_text h types joined order =
     faults_stand text (commands_in a) a.dialect h.are_commands.tokens a.syntax.items of_types all ordered (starts_stand text is_text) h.whole
     (commands_stand text h.are_commands.tokens (commands_in a) h.whole h.are_commands.are_commands) h.syntax types joined order
@@ -150,7 +150,7 @@ shown_type text a resolved typing o n t shown h is at found is_text is_span = re
 
 -- what is told of a place stands in the text
 
-pub place_stands : (text : List ℕ) (a : Analysis) (n : ℕ) (s : Span) → IsUtf8 text → IsAnalysisOf text a → s ≡ (place_row_numbered (table_of a.scopes) n).span → StandsIn text s
+pub place_stands : (text : List ℕ) (a : Analysis) (n : ℕ) (s : Span) → IsUtf8 text → IsAnalysisOf text a → s ≡ (place_row_numbered (table_of a.scopes) n).span → IsSpanOfText text s
 place_stands text a n s is_text h is =
     let same = subst (λ t. s ≡ (place_row_numbered t n).span) h.scopes.same_table is in
-    rw same (in_place (StandsIn text) (commands_in a) (starts_stand text is_text) (commands_stand text h.are_commands.tokens (commands_in a) h.whole h.are_commands.are_commands) n)
+    rw same (in_place (IsSpanOfText text) (commands_in a) (starts_stand text is_text) (commands_stand text h.are_commands.tokens (commands_in a) h.whole h.are_commands.are_commands) n)

@@ -6,7 +6,7 @@ use Rattle.lam_syntax.specs.Trees.{CommandTree}
 use Rattle.lam_syntax.specs.Views.{command_of}
 use Rattle.lam_syntax.specs.declared.terms.Command.{Command}
 use Rattle.lam_query.specs.Commands.{IsCommandOf, AreCommandsOf}
-use Rattle.lam_query.specs.Reading.{AreFound}
+use Rattle.lam_query.specs.inner.Reading.{AreFound}
 
 pub one_found : (all : List (List Lexeme)) (found now : List Command) (piece : List Lexeme) (whole left : List (List Lexeme)) (c : Command)
     → whole ≡ piece ∷ left → now ≡ found ++ c ∷ [] → IsCommandOf piece (command_of c) → AreFound all found whole → AreFound all now left

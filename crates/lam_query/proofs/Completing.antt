@@ -11,7 +11,7 @@ use Rattle.lam_syntax.specs.Answers.{pieces_of}
 use Rattle.lam_scope.specs.PlacedTerms.{variable_at, projection_at}
 use Rattle.lam_query.specs.Commands.{AreCommandsOf}
 use Rattle.lam_query.specs.Completions.{touched_word, dot_before, with_label, IsProjected, Item, AreNames, AreItems, names, nothing}
-use Rattle.lam_query.specs.Listed.{IsProjection, AreListedFor, small, large}
+use Rattle.lam_query.specs.inner.Listed.{IsProjection, AreListedFor, small, large}
 use Rattle.lam_query.proofs.Projected.{one_label, none_projected, projection, items_listed, none_listed}
 
 -- a token that begins at a byte

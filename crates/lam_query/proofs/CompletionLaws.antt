@@ -15,7 +15,7 @@ use Rattle.lam_typing.specs.LeastTypes.{IsLeastAt}
 use Rattle.lam_typing.proofs.Existing.{exists_at}
 use Rattle.lam_query.specs.Commands.{AreCommandsOf, AreCommandsOfText}
 use Rattle.lam_query.specs.Completions.{touched_word, dot_before, with_label, IsProjected, IsSmallUpTo, Item, IsOnVariable, AreNames, AreItems, labels, too_large, names, nothing, AreCompletions}
-use Rattle.lam_query.specs.Listed.{fields, too_large as listed_too_large}
+use Rattle.lam_query.specs.inner.Listed.{fields, too_large as listed_too_large}
 use Rattle.lam_query.specs.Sizes.{IsSmall}
 use Rattle.lam_query.proofs.FoundFields.{fields_found}
 use Rattle.lam_query.proofs.LabelledTokens.{label_changed}

@@ -11,7 +11,7 @@ use Rattle.lam_token.proofs.SomeCut.{tokens_at, are_tokens_at}
 use Rattle.lam_syntax.specs.Trees.{CommandTree}
 use Rattle.lam_syntax.specs.Views.{command_of}
 use Rattle.lam_syntax.specs.Answers.{pieces_of}
-use Rattle.lam_scope.specs.Tables.{Table, table, binder_numbered, binder_at, tokens_of, tokens_by}
+use Rattle.lam_scope.specs.Tables.{Table, table, binder_numbered, binder_at, use_tokens, tokens_by}
 use Rattle.lam_scope.specs.Mentions.{mentions, bound_at, uses_of, Ascend}
 use Rattle.lam_scope.specs.Views.{AreScopesOf, table_of, uses_in}
 use Rattle.lam_scope.specs.declared.scopes.Scopes.{Scopes}
@@ -23,8 +23,8 @@ use Rattle.lam_query.specs.declared.reading.Parsed.{Parsed}
 use Rattle.lam_query.specs.Commands.{AreCommandsOf}
 use Rattle.lam_query.specs.Touched.{touched}
 use Rattle.lam_query.specs.Definitions.{definition_in, references_to, IsDefinitionIn, AreReferencesIn}
-use Rattle.lam_query.specs.Reading.{IsRead}
-use Rattle.lam_query.specs.Within.{StandsIn}
+use Rattle.lam_query.specs.inner.Reading.{IsRead}
+use Rattle.lam_query.specs.Within.{IsSpanOfText}
 use Rattle.lam_query.proofs.TextPlaces.{commands_stand}
 use Rattle.lam_query.proofs.Innermost.{text_spelled}
 use Rattle.lam_query.proofs.PieceLaws.{some_commands}
@@ -110,7 +110,7 @@ used_in cs t lists high start n same listed ascend at =
     (λ i. slice_index_or (listed i) (binder_numbered (same i) n).answer [])
     ∙ ap (λ k. slice_index_or all k []) own.1
     ∙ tokens_by-at (table cs).uses 0 (length (table cs).binders) n own.0.inside
-    ∙ ap (λ k. tokens_of k (table cs).uses) first
+    ∙ ap (λ k. use_tokens k (table cs).uses) first
     ∙ uses_told cs high start n ascend here
     ∙ ap (λ (u : Table). uses_of (binder_numbered u n).token (mentions cs)) (sym same)
 
@@ -154,24 +154,24 @@ row_references text o start n declared front uses spans parsed scopes read of is
 -- their places
 
 pub row_stands : (text : List ℕ) (start n : ℕ) (b : Span) (parsed : Parsed) (scopes : Scopes) → IsRead text parsed → AreScopesOf scopes (commands_read parsed) → Some n ≡ binder_at (table_of scopes) start
-    → b ≡ token_in scopes n → StandsIn text b
+    → b ≡ token_in scopes n → IsSpanOfText text b
 row_stands text start n b parsed scopes read of at is =
     let cs = commands_read parsed in
     let stand = commands_stand text read.tokens cs read.whole read.commands in
     let bound : bound_at start (mentions cs) ≡ Some b = sym (row_bound text start parsed scopes read of) ∙ ap (option_map (token_in scopes)) (sym at) ∙ ap Some (sym is) in
-    binder_place (StandsIn text) cs stand start b bound
+    binder_place (IsSpanOfText text) cs stand start b bound
 
-front_stands : (text : List ℕ) (declared : Bool) (b : Span) → StandsIn text b → AllByRecursion (StandsIn text) (behind_token declared b)
+front_stands : (text : List ℕ) (declared : Bool) (b : Span) → IsSpanOfText text b → AllByRecursion (IsSpanOfText text) (behind_token declared b)
 front_stands text true b h = (h, tt)
 front_stands text false b h = tt
 
 pub rows_stand : (text : List ℕ) (start n : ℕ) (declared : Bool) (front uses spans : List Span) (parsed : Parsed) (scopes : Scopes) → IsRead text parsed
     → AreScopesOf scopes (commands_read parsed) → Some n ≡ binder_at (table_of scopes) start
-    → uses ≡ slice_index_or (uses_in scopes) (binder_numbered (table_of scopes) n).answer [] → front ≡ behind_token declared (token_in scopes n) → spans ≡ front ++ uses → All (StandsIn text) spans
+    → uses ≡ slice_index_or (uses_in scopes) (binder_numbered (table_of scopes) n).answer [] → front ≡ behind_token declared (token_in scopes n) → spans ≡ front ++ uses → All (IsSpanOfText text) spans
 rows_stand text start n declared front uses spans parsed scopes read of at are first joined =
     let cs = commands_read parsed in
     let stand = commands_stand text read.tokens cs read.whole read.commands in
     let of_binder = front_stands text declared (token_in scopes n) (row_stands text start n (token_in scopes n) parsed scopes read of at refl) in
-    let of_uses = uses_places (StandsIn text) cs stand (token_in scopes n) in
+    let of_uses = uses_places (IsSpanOfText text) cs stand (token_in scopes n) in
     let all : spans ≡ behind_token declared (token_in scopes n) ++ uses_of (token_in scopes n) (mentions cs) = joined ∙ (λ i. first i ++ (are ∙ row_used text start n parsed scopes read of at) i) in
-    All-from_recursion (StandsIn text) spans (subst (AllByRecursion (StandsIn text)) (sym all) (every_append (StandsIn text) _ _ of_binder of_uses))
+    All-from_recursion (IsSpanOfText text) spans (subst (AllByRecursion (IsSpanOfText text)) (sym all) (every_append (IsSpanOfText text) _ _ of_binder of_uses))

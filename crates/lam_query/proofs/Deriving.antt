@@ -19,7 +19,7 @@ use Rattle.lam_scope.specs.Views.{table_of, statements_of}
 use Rattle.lam_scope.proofs.SeenOrigins.{visible_origins}
 use Rattle.lam_scope.proofs.Reading.{map-reverse}
 use Rattle.lam_typing.specs.declared.typing.Typing.{Typing}
-use Rattle.lam_typing.specs.Entries.{AreLeastEntries, entry_from}
+use Rattle.lam_typing.specs.Entries.{entry_from}
 use Rattle.lam_typing.specs.Typings.{found_of, entries_in, context_at, IsProofAt}
 use Rattle.lam_query.specs.Hovers.{IsShownIn}
 use Rattle.lam_query.specs.declared.answers.Step.{Step as RustStep}
@@ -29,20 +29,21 @@ use Rattle.lam_scope.specs.Places.{Place, place_numbered}
 use Rattle.lam_scope.specs.PlacedTerms.{document_terms, tree_in}
 use Rattle.lam_query.specs.WellTypedDocuments.{statements_in}
 use Rattle.lam_query.specs.Steps.{steps_of}
-use Rattle.lam_query.specs.RowSteps.{row_proof}
-use Rattle.lam_query.specs.Derivations.{Entry, Derivation, IsDerivationAround, IsDerivedIn}
-use Rattle.lam_query.specs.Contexts.{entry_shown}
-use Rattle.lam_query.specs.Within.{StandsIn}
+use Rattle.lam_query.specs.inner.RowSteps.{row_proof}
+use Rattle.lam_query.specs.Derivations.{ContextEntry, Derivation, IsDerivationAround, IsDerivedIn}
+use Rattle.lam_query.specs.inner.Contexts.{entry_shown}
+use Rattle.lam_query.specs.Within.{IsSpanOfText}
 use Rattle.lam_query.specs.Views.{StepStandsIn}
 use Rattle.lam_query.specs.Analyses.{AreFoundOf, IsAnalysisOf, commands_in}
 use Rattle.lam_query.proofs.RowsAndTerms.{names_told, number_told, same_proof}
 use Rattle.lam_query.proofs.Hovering.{typed_around}
 use Rattle.lam_query.proofs.Answering.{types_held, place_stands}
+use Rattle.lam_typing.specs.LeastTypes.{AreLeastEntries}
 
 -- binders by their numbers
-pub by_number : (f : ℕ → Entry) (bs : List Binder) → map (λ b. f b.0) bs ≡ map f (map binder_number bs)
+pub by_number : (f : ℕ → ContextEntry) (bs : List Binder) → map (λ b. f b.0) bs ≡ map f (map binder_number bs)
 by_number f [] = refl
-by_number f (b ∷ bs) = ap (λ (es : List Entry). f b.0 ∷ es) (by_number f bs)
+by_number f (b ∷ bs) = ap (λ (es : List ContextEntry). f b.0 ∷ es) (by_number f bs)
 
 -- the names and the types of what is told of binders
 
@@ -116,5 +117,5 @@ derived_nothing text o d h = record { commands = h.commands; are_commands = h.ar
 
 -- the places of all steps begin and end between characters
 pub derived_stands : (text : List ℕ) (a : Analysis) (steps : List RustStep) → IsUtf8 text → IsAnalysisOf text a
-    → ((other : List ℕ) → ((n : ℕ) → StandsIn other (place_row_numbered (table_of a.scopes) n).span) → All (StepStandsIn other) steps) → All (StepStandsIn text) steps
+    → ((other : List ℕ) → ((n : ℕ) → IsSpanOfText other (place_row_numbered (table_of a.scopes) n).span) → All (StepStandsIn other) steps) → All (StepStandsIn text) steps
 derived_stands text a steps is_text h stand = stand text (λ n. place_stands text a n _ is_text h refl)

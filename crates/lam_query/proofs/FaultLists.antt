@@ -11,7 +11,7 @@ use Rattle.lam_syntax.specs.Answers.{token_limit, IsTaken, GoesWrongAt, EndsEarl
 use Rattle.lam_query.specs.declared.answers.Fault.{Fault as RustFault}
 use Rattle.lam_query.specs.Faults.{Fault}
 use Rattle.lam_query.specs.SyntaxFaults.{fault_at, fault_of_token, PieceFault, too_long, goes_wrong, ends_early, PieceFaults}
-use Rattle.lam_query.specs.Reading.{AreFaultsFound, AreTokenFaultsFound}
+use Rattle.lam_query.specs.inner.Reading.{AreFaultsFound, AreTokenFaultsFound}
 use Rattle.lam_query.specs.Views.{fault_of}
 
 -- one piece

@@ -25,7 +25,7 @@ use Rattle.lam_query.specs.Sizes.{IsSizeFault, of_written_type, of_term}
 use Rattle.lam_query.specs.SyntaxFaults.{fault_of_token, PieceFault, too_long, spoiled, a_command, goes_wrong, ends_early, PieceFaults, AreSyntaxFaults}
 use Rattle.lam_query.specs.TextFaults.{written_fault, blame_fault, AreTypeFaults, too_large, small}
 use Rattle.lam_query.specs.Views.{fault_of}
-use Rattle.lam_query.specs.Within.{StandsIn}
+use Rattle.lam_query.specs.Within.{IsSpanOfText}
 use Rattle.lam_query.proofs.RowsAndTerms.{span_told}
 use Rattle.lam_query.proofs.TreePlaces.{InCommands}
 use Rattle.lam_query.proofs.Spans.{AtPlace, InTokens, Spreads}
@@ -96,15 +96,15 @@ unviewed Q fs h = λ k default lt.
     rw (get_or-map fault_of fs k default (fault_of default) lt) at one
 
 pub faults_stand : (text : List ℕ) (cs : List CommandTree) (d : Dialect) (tokens : List Lexeme) (of_syntax types all ordered : List RustFault)
-    → StandsIn text no_span → All (token.StandsIn text) tokens → InCommands (StandsIn text) cs
+    → IsSpanOfText text no_span → All (token.StandsIn text) tokens → InCommands (IsSpanOfText text) cs
     → AreSyntaxFaults tokens (map fault_of of_syntax) → AreTypeFaults cs (map fault_of types) d
-    → all ≡ of_syntax ++ types → AreInOrder (map fault_of all) (map fault_of ordered) → All (λ f. StandsIn text f.span) ordered
+    → all ≡ of_syntax ++ types → AreInOrder (map fault_of all) (map fault_of ordered) → All (λ f. IsSpanOfText text f.span) ordered
 faults_stand text cs d tokens of_syntax types all ordered past h within syntax of_types joined order =
-    let first = in_syntax (StandsIn text) (stands_spread text) tokens (map fault_of of_syntax) (tokens_stand text tokens h) syntax in
-    let second = in_types (StandsIn text) cs (map fault_of types) d past within of_types in
-    let every = every_append (InFault (StandsIn text)) (map fault_of of_syntax) (map fault_of types) first second in
+    let first = in_syntax (IsSpanOfText text) (stands_spread text) tokens (map fault_of of_syntax) (tokens_stand text tokens h) syntax in
+    let second = in_types (IsSpanOfText text) cs (map fault_of types) d past within of_types in
+    let every = every_append (InFault (IsSpanOfText text)) (map fault_of of_syntax) (map fault_of types) first second in
     let whole : map fault_of all ≡ map fault_of of_syntax ++ map fault_of types = rw joined (map-append fault_of of_syntax types) in
     let same = rw whole at order.same in
-    unviewed (StandsIn text) ordered
-    (All-permutation (λ f. StandsIn text f.span) (map fault_of of_syntax ++ map fault_of types) (map fault_of ordered) same
-    (All-from_recursion (λ f. StandsIn text f.span) (map fault_of of_syntax ++ map fault_of types) every))
+    unviewed (IsSpanOfText text) ordered
+    (All-permutation (λ f. IsSpanOfText text f.span) (map fault_of of_syntax ++ map fault_of types) (map fault_of ordered) same
+    (All-from_recursion (λ f. IsSpanOfText text f.span) (map fault_of of_syntax ++ map fault_of types) every))

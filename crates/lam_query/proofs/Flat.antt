@@ -11,9 +11,9 @@ use Rattle.lam_scope.specs.TableViews.{place_number}
 use Rattle.lam_scope.specs.declared.numbers.Place.{Place}
 use Rattle.lam_query.specs.declared.answers.Step.{Step as RustStep}
 use Rattle.lam_query.specs.Steps.{Conclusion, Proof, concludes, Proofs, no_proofs, proof_first, steps_before, number_of_steps, last_steps, steps_of, steps_of_each, sub_proof, with_side}
-use Rattle.lam_query.specs.RowSteps.{row_proof, row_proofs}
+use Rattle.lam_query.specs.inner.RowSteps.{row_proof, row_proofs}
 use Rattle.lam_query.specs.Views.{step_of}
-use Rattle.lam_query.specs.Listing.{AreListed}
+use Rattle.lam_query.specs.inner.Listing.{AreListed}
 
 mutual
   pub length_of_steps : (n : ℕ) (p : Proof) → length (steps_of n p) ≡ steps_before p + 1

@@ -27,8 +27,8 @@ use Rattle.lam_typing.specs.declared.typing.Typing.{Typing}
 use Rattle.lam_typing.proofs.Derivations.{derives, derives_wf, has_type, t_sub}
 use Rattle.lam_typing.proofs.Projections.{field_is_least, field_of_least, untyped_operand}
 use Rattle.lam_query.specs.Completions.{Item, AreAscending, IsSmallUpTo}
-use Rattle.lam_query.specs.FieldItems.{field_item, field_items, items_in, items_found}
-use Rattle.lam_query.specs.Listed.{IsProjection, HasLeast, AreFields, AreListed, fields, too_large}
+use Rattle.lam_query.specs.inner.FieldItems.{field_item, field_items, items_in, items_found}
+use Rattle.lam_query.specs.inner.Listed.{IsProjection, HasLeast, AreFields, AreListed, fields, too_large}
 use Rattle.lam_query.specs.Sizes.{places_in}
 use Rattle.lam_query.specs.WellTypedDocuments.{statements_in}
 use Rattle.lam_query.proofs.RowsAndTerms.{place_told}

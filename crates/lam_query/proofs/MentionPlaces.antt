@@ -4,9 +4,9 @@ use Rattle.std.specs.Prelude.{◌==◌}
 use Rattle.std.specs.List.{AllByRecursion, cons_option}
 use Rattle.lam_token.specs.declared.span.Span.{Span}
 use Rattle.lam_token.specs.Edits.{is_span}
-use Rattle.lam_syntax.specs.Trees.{word, Bound, bound, TypeTree, type_tree, TypeNode, bool, nat, unit, top, named, arrow, record_type, TypeFields, no_type_fields, type_field, TermTree, term_tree, TermNode, true_term, false_term, unit_term, variable, numeral, lambda, if_term, let_term, letrec_term, prefixed, apply, project, ascribe, record_term, TermFields, no_fields, field, CommandTree, definition, declaration, abbreviation, evaluation}
+use Rattle.lam_syntax.specs.Trees.{word, Bound, bound, TypeTree, type_tree, TypeNode, bool, nat, unit, top, named, arrow, record_type, TypeFields, no_type_fields, type_field, TermTree, term_tree, TermNode, true_term, false_term, unit_term, variable, numeral, lambda, if_term, let_term, letrec_term, prefixed, apply, project, ascribe, record_term, FieldTrees, no_fields, field, CommandTree, definition, declaration, abbreviation, evaluation}
 use Rattle.lam_scope.specs.Names.{Name, binds}
-use Rattle.lam_scope.specs.Mentions.{Binder, seen_of, bound_to, Mention, uses_at, labels_at, token_of, binder_of, mention_of, mentions_of_type, mentions_of_type_node, mentions_of_type_fields, mentions_of, mentions_of_node, mentions_of_fields, mentions_of_command, types_behind, names_behind, mentions_from, mentions, bound_at, use_of, uses_of}
+use Rattle.lam_scope.specs.Mentions.{Binder, seen_of, token_bound_to, Mention, uses_at, labels_at, token_of, binder_of, mention_of, mentions_of_type, mentions_of_type_node, mentions_of_type_fields, mentions_of, mentions_of_node, mentions_of_fields, mentions_of_command, types_behind, names_behind, mentions_from, mentions, bound_at, use_bound_to, uses_of}
 use Rattle.lam_scope.proofs.EveryElement.{every_append}
 use Rattle.lam_query.proofs.TreePlaces.{InBound, InType, InTypeNode, InTypeFields, InTerm, InNode, InFields, InCommand, InCommands}
 
@@ -30,9 +30,9 @@ in_one_of : (Q : Span → Type 0) (b : Bool) (s t : Option Span) → InToken Q s
 in_one_of Q true s t h k = h
 in_one_of Q false s t h k = k
 
-in_bound_to : (Q : Span → Type 0) (x : Name) (bs : List Binder) → InBinders Q bs → InToken Q (bound_to x bs)
+in_bound_to : (Q : Span → Type 0) (x : Name) (bs : List Binder) → InBinders Q bs → InToken Q (token_bound_to x bs)
 in_bound_to Q x [] h = tt
-in_bound_to Q x (b ∷ bs) h = in_one_of Q (binds b.name x) (Some b.token) (bound_to x bs) h.0 (in_bound_to Q x bs h.1)
+in_bound_to Q x (b ∷ bs) h = in_one_of Q (binds b.name x) (Some b.token) (token_bound_to x bs) h.0 (in_bound_to Q x bs h.1)
 
 in_mention : (Q : Span → Type 0) (b : Bound) → InBound Q b → InMentions Q (mention_of b)
 in_mention Q (bound None s) h = tt
@@ -96,7 +96,7 @@ mutual
   in_node Q types names (ascribe t u) seen seen_names h = every_append (InMention Q) (mentions_of types names t) (mentions_of_type types u) (in_term Q types names t seen seen_names h.0) (in_type Q types u seen h.1)
   in_node Q types names (record_term fs) seen seen_names h = in_fields Q types names fs seen seen_names h
 
-  in_fields : (Q : Span → Type 0) (types names : List Binder) (fs : TermFields) → InBinders Q types → InBinders Q names → InFields Q fs → InMentions Q (mentions_of_fields types names fs)
+  in_fields : (Q : Span → Type 0) (types names : List Binder) (fs : FieldTrees) → InBinders Q types → InBinders Q names → InFields Q fs → InMentions Q (mentions_of_fields types names fs)
   in_fields Q types names no_fields seen seen_names h = tt
   in_fields Q types names (field (word l s) t fs) seen seen_names h =
       ((h.0, tt), every_append (InMention Q) (mentions_of types names t) (mentions_of_fields types names fs) (in_term Q types names t seen seen_names h.1) (in_fields Q types names fs seen seen_names h.2))
@@ -138,7 +138,7 @@ in_bound_at : (Q : Span → Type 0) (o : ℕ) (ms : List Mention) → InMentions
 in_bound_at Q o [] h = tt
 in_bound_at Q o (m ∷ ms) h = in_one_of Q ((token_of m).start == o) (binder_of m) (bound_at o ms) h.0.1 (in_bound_at Q o ms h.1)
 
-in_use : (Q : Span → Type 0) (b : Span) (m : Mention) → Q (token_of m) → InToken Q (use_of b m)
+in_use : (Q : Span → Type 0) (b : Span) (m : Mention) → Q (token_of m) → InToken Q (use_bound_to b m)
 in_use Q b (uses_at k s (Some c)) h = in_one_of Q (is_span b c) (Some s) None h tt
 in_use Q b m h = tt
 
@@ -148,7 +148,7 @@ in_kept Q (Some s) ss h k = (h, k)
 
 in_uses : (Q : Span → Type 0) (b : Span) (ms : List Mention) → InMentions Q ms → AllByRecursion Q (uses_of b ms)
 in_uses Q b [] h = tt
-in_uses Q b (m ∷ ms) h = in_kept Q (use_of b m) (uses_of b ms) (in_use Q b m h.0.0) (in_uses Q b ms h.1)
+in_uses Q b (m ∷ ms) h = in_kept Q (use_bound_to b m) (uses_of b ms) (in_use Q b m h.0.0) (in_uses Q b ms h.1)
 
 pub binder_in : (Q : Span → Type 0) (cs : List CommandTree) → InCommands Q cs → (o : ℕ) (s : Span) → bound_at o (mentions cs) ≡ Some s → Q s
 binder_in Q cs h o s e = in_told Q (bound_at o (mentions cs)) s (in_bound_at Q o (mentions cs) (in_mentions Q [] [] cs tt tt h)) e

@@ -6,7 +6,7 @@ use Rattle.lam_token.specs.declared.kind.Kind.TheVariants as kind
 use Rattle.lam_token.specs.declared.span.Span.{Span}
 use Rattle.lam_token.specs.Edits.{is_name_kind}
 use Rattle.lam_token.specs.Lexeme.{Lexeme, kind_of, span_of}
-use Rattle.lam_syntax.specs.Trees.{Bound, TypeTree, TypeFields, TermTree, TermFields, CommandTree, from_to}
+use Rattle.lam_syntax.specs.Trees.{Bound, TypeTree, TypeFields, TermTree, FieldTrees, CommandTree, from_to}
 use Rattle.lam_syntax.specs.Grammar.{BinderIs, name_binder, blank_binder, TypeIs, atype_type, arrow_type, ATypeIs, parens_atype, bool_atype, nat_atype, unit_atype, top_atype, name_atype, empty_atype, record_atype, TypeFieldsAre, last_type_field, more_type_fields, TermIs, lambda_is, if_is, let_is, letrec_is, app_is, AppIs, head_app, argument_app, HeadIs, path_head, fix_head, succ_head, pred_head, iszero_head, PathIs, asc_path, label_path, AscIs, atom_asc, typed_asc, AtomIs, parens_atom, true_atom, false_atom, unit_atom, name_atom, numeral_atom, empty_atom, record_atom, FieldsAre, last_field, more_fields, Spells, definition_command, declaration_command, abbreviation_command, evaluation_command}
 use Rattle.lam_syntax.specs.Answers.{pieces_of}
 use Rattle.lam_scope.specs.Mentions.{Binder, seen_of, Mention, labels_at, token_of, kind_of as kind_of_mention, mention_of, mentions_of_type, mentions_of_type_fields, mentions_of, mentions_of_fields, mentions_of_command, types_behind, names_behind, mentions_from, mentions}
@@ -138,7 +138,7 @@ mutual
   atom_passes Q types names empty_atom h = (tt, h.1.1)
   atom_passes Q types names (record_atom d) h = let fields = fields_pass Q types names d h.1 in (fields.0, fields.1.1)
 
-  fields_pass : (Q : Kind → Span → Type 0) (types names : List Binder) {ts rest : List Lexeme} {fs : TermFields} → FieldsAre ts fs rest → InNames Q ts → Passes Q (mentions_of_fields types names fs) rest
+  fields_pass : (Q : Kind → Span → Type 0) (types names : List Binder) {ts rest : List Lexeme} {fs : FieldTrees} → FieldsAre ts fs rest → InNames Q ts → Passes Q (mentions_of_fields types names fs) rest
   fields_pass Q types names (last_field {rest = rest} {t = t} {s = s} d) h =
       let own = term_passes Q types names d h.1.1 in
       labelled Q s (mentions_of types names t ++ []) rest (h.0 refl) (join Q (mentions_of types names t) [] rest own.0 (tt, own.1))

@@ -16,8 +16,7 @@ use Rattle.lam_scope.specs.Labels.{place_in}
 use Rattle.lam_scope.specs.Names.{Name, binds, count}
 use Rattle.lam_scope.specs.Places.{Binding, written, of_term, Scope, Place}
 use Rattle.lam_scope.specs.PlacedTerms.{projection_at}
-use Rattle.lam_typing.specs.Entries.{AreLeastEntries}
-use Rattle.lam_typing.specs.LeastTypes.{IsLeastAt, IsLeastEntry}
+use Rattle.lam_typing.specs.LeastTypes.{IsLeastAt, IsLeastEntry, AreLeastEntries}
 use Rattle.lam_typing.proofs.Existing.{context_exists}
 use Rattle.lam_query.specs.Commands.{AreCommandsOf}
 use Rattle.lam_query.specs.Sizes.{IsSizeFault, IsSmall}

@@ -10,13 +10,13 @@ use Rattle.lam_syntax.specs.Views.{command_of}
 use Rattle.lam_syntax.specs.Answers.{is_semicolon, pieces_of}
 use Rattle.lam_syntax.specs.declared.terms.Command.{Command}
 use Rattle.lam_syntax.proofs.Runs.{GoesOn, piece_ended, last_piece, some_piece, no_piece}
-use Rattle.lam_syntax.specs.Reads.{with_piece}
+use Rattle.lam_syntax.specs.inner.Reads.{with_piece}
 use Rattle.lam_query.specs.declared.answers.Fault.{Fault as RustFault}
 use Rattle.lam_query.specs.declared.reading.Reader.{Reader}
 use Rattle.lam_query.specs.Commands.{IsCommandOf, AreCommandsOf}
 use Rattle.lam_query.specs.SyntaxFaults.{PieceFault, PieceFaults, AreSyntaxFaults}
 use Rattle.lam_query.specs.Views.{fault_of}
-use Rattle.lam_query.specs.Reading.{AreFound, AreFaultsFound, AreRead, IsNoted, IsPieceRead}
+use Rattle.lam_query.specs.inner.Reading.{AreFound, AreFaultsFound, AreRead, IsNoted, IsPieceRead}
 use Rattle.lam_query.proofs.CommandLists.{one_found, none_found, all_found}
 use Rattle.lam_query.proofs.FaultLists.{piece_more, pieces_end, token_noted}
 

@@ -20,7 +20,7 @@ use Rattle.lam_typing.specs.Analysis.{IsFirstTooLarge}
 use Rattle.lam_typing.specs.LeastTypes.{IsLeastAt}
 use Rattle.lam_query.specs.Commands.{AreCommandsOf}
 use Rattle.lam_query.specs.Completions.{dot_before, with_label, IsProjected, IsSmallUpTo, IsTypable, Item, AreLabels, AreItems, labels, too_large as labels_too_large}
-use Rattle.lam_query.specs.Listed.{IsProjection, HasLeast, AreFields, AreListed, fields, too_large}
+use Rattle.lam_query.specs.inner.Listed.{IsProjection, HasLeast, AreFields, AreListed, fields, too_large}
 use Rattle.lam_query.specs.Sizes.{IsSmall}
 use Rattle.lam_query.proofs.LabelledTokens.{label_named, label_changed}
 use Rattle.lam_query.proofs.OneAnswer.{one_commands}

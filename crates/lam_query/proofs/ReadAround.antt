@@ -11,7 +11,7 @@ use Rattle.lam_scope.specs.Nesting.{TokensStand}
 use Rattle.lam_query.specs.Commands.{AreCommandsOf}
 use Rattle.lam_query.specs.Completions.{is_in_front, is_behind, with_label}
 use Rattle.lam_query.specs.declared.reading.Reader.{Reader}
-use Rattle.lam_query.specs.Reading.{AreRead, with_name_unless, AreReadAround}
+use Rattle.lam_query.specs.inner.Reading.{AreRead, with_name_unless, AreReadAround}
 use Rattle.lam_query.proofs.StandingTokens.{first_stands, stands_alone, ends_in_front, begins_behind, not_behind, none_in_front}
 
 -- all tokens around the cursor, and the name

@@ -24,7 +24,7 @@ use Rattle.lam_query.specs.declared.answers.Step.{Step as RustStep}
 use Rattle.lam_query.specs.Steps.{Step, typing, subtyping, Proof, steps_of}
 use Rattle.lam_query.specs.Views.{step_of}
 use Rattle.lam_query.specs.ProofTrees.{Tree, of_typing, of_subtyping, Premises, typing_premises, sub_premises, tree_from, typing_tree_in}
-use Rattle.lam_query.specs.Rebuilding.{Rebuilt, are_lasts, taken_off, with_premises, after_step, after_steps, only_typing, rebuilt_from, rebuilt_of, stack_of, premises_of}
+use Rattle.lam_query.specs.inner.Rebuilding.{Rebuilt, are_lasts, taken_off, with_premises, after_step, after_steps, only_typing, rebuilt_from, rebuilt_of, stack_of, premises_of}
 use Rattle.lam_query.proofs.RebuiltTrees.{proof_found, no_proof}
 
 -- a proof that is made is its tree from those of its premises

@@ -7,7 +7,7 @@ use Rattle.std.proofs.lemmas.List.{take-append-drop, take_at, drop_at, length-ma
 use Rattle.lam_rules.specs.Typing.{TypingTree}
 use Rattle.lam_query.specs.Steps.{Conclusion, Step, Proof, concludes, Proofs, no_proofs, proof_first, steps_before, number_of_steps, last_steps, steps_of, steps_of_each}
 use Rattle.lam_query.specs.ProofTrees.{Tree, tree_from, tree_in, trees_in, if_typing, typing_tree_in}
-use Rattle.lam_query.specs.Rebuilding.{Rebuilt, trees_of, lasts_of, are_lasts, taken_off, after_step, after_steps, only_typing, rebuilt_from}
+use Rattle.lam_query.specs.inner.Rebuilding.{Rebuilt, trees_of, lasts_of, are_lasts, taken_off, after_step, after_steps, only_typing, rebuilt_from}
 
 -- options that were found one after another
 

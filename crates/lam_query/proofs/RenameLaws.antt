@@ -19,10 +19,10 @@ use Rattle.lam_syntax.specs.Respelled.{respelled_command}
 use Rattle.lam_syntax.specs.Answers.{pieces_of}
 use Rattle.lam_scope.specs.Nesting.{AreSpelledFrom}
 use Rattle.lam_scope.specs.Forms.{forms}
-use Rattle.lam_scope.specs.Mentions.{mentions, bound_at, uses_of}
-use Rattle.lam_scope.specs.Tables.{table, binder_numbered, binder_at, tokens_of}
-use Rattle.lam_scope.specs.Renames.{other_kind, renamed}
-use Rattle.lam_scope.specs.Bearers.{all_keep}
+use Rattle.lam_scope.specs.Mentions.{mentions, bound_at, uses_of, other_kind}
+use Rattle.lam_scope.specs.Tables.{table, binder_numbered, binder_at, use_tokens}
+use Rattle.lam_scope.specs.Renames.{renamed}
+use Rattle.lam_scope.specs.inner.Bearers.{all_keep}
 use Rattle.lam_scope.proofs.SpelledMentions.{spelled_ascend}
 use Rattle.lam_scope.proofs.BoundMentions.{bound_told, uses_told}
 use Rattle.lam_scope.proofs.TokenRenames.{tokens_renamed}
@@ -140,7 +140,7 @@ module _ (text : List ℕ) (o : ℕ) where
 
 -- the tokens of the binder at a byte and of its uses are those that its row tells
 pub spans_told : (cs : List CommandTree) (o n : ℕ) (b : Span) → AreSpelledFrom 0 cs → binder_at (table cs) o ≡ Some n → (binder_numbered (table cs) n).token ≡ b
-    → references_to cs true b ≡ (binder_numbered (table cs) n).token ∷ tokens_of n (table cs).uses
+    → references_to cs true b ≡ (binder_numbered (table cs) n).token ∷ use_tokens n (table cs).uses
 spans_told cs o n b spelled at is =
     let ascend = spelled_ascend cs spelled in
     let uses = uses_told cs ascend.0 o n ascend.1 at ∙ ap (λ s. uses_of s (mentions cs)) is in

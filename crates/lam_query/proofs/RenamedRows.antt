@@ -13,9 +13,9 @@ use Rattle.lam_token.specs.Lexeme.{Lexeme, kind_of, start_of}
 use Rattle.lam_token.specs.Cut.{AreTokensOf}
 use Rattle.lam_token.proofs.NamePlaces.{AreNamePlaces, name_places}
 use Rattle.lam_syntax.specs.Trees.{CommandTree}
-use Rattle.lam_scope.specs.Tables.{table, binder_numbered, binder_at, tokens_of}
-use Rattle.lam_scope.specs.Mentions.{mentions, bound_at}
-use Rattle.lam_scope.specs.Renames.{HasName, KeepsBinding, answer_for, kind_of_binder, other_kind, AreRenamed, IsRefused}
+use Rattle.lam_scope.specs.Tables.{table, binder_numbered, binder_at, use_tokens}
+use Rattle.lam_scope.specs.Mentions.{mentions, bound_at, other_kind}
+use Rattle.lam_scope.specs.Renames.{HasName, KeepsBinding, answer_for, kind_of_binder, AreRenamed, IsRefused}
 use Rattle.lam_scope.specs.Views.{AreScopesOf, table_of}
 use Rattle.lam_scope.specs.declared.scopes.Scopes.{Scopes}
 use Rattle.lam_scope.specs.declared.rename_fault.RenameFault.{RenameFault as BinderFault}
@@ -24,10 +24,10 @@ use Rattle.lam_query.specs.declared.answers.Fault.{Fault as RustFault}
 use Rattle.lam_query.specs.declared.reading.Parsed.{Parsed}
 use Rattle.lam_query.specs.Touched.{touched}
 use Rattle.lam_query.specs.Definitions.{AreReferencesIn, references_to}
-use Rattle.lam_query.specs.Reading.{IsRead}
+use Rattle.lam_query.specs.inner.Reading.{IsRead}
 use Rattle.lam_query.specs.Views.{fault_of}
 use Rattle.lam_query.specs.Renames.{IsAnyName, IsUnparsed, IsParsed, IsBound, IsUnbound, spans_bound, KeepsForm, IsRenamed, IsOfWrongKind, IsChanged, IsRenamedText, IsOtherText}
-use Rattle.lam_query.specs.Within.{StandsIn}
+use Rattle.lam_query.specs.Within.{IsSpanOfText}
 use Rattle.lam_query.proofs.Defining.{IsTouched, text_ascends, commands_read, bound_nowhere, bound_there}
 use Rattle.lam_query.proofs.ParsedPieces.{all_commands, some_none}
 use Rattle.lam_query.proofs.RenameLaws.{is_name}
@@ -86,13 +86,13 @@ name_there start None is = absurd cc
 name_there start (Some t) is = (t, refl, cc)
 
 -- the spans of tokens begin and end between two characters, as the tokens do
-spans_whole : (text : List ℕ) (ts : List Lexeme) (k : Kind) (low : ℕ) (ss : List Span) → All (token.StandsIn text) ts → AreSpansOf k ts low ss → AllByRecursion (StandsIn text) ss
+spans_whole : (text : List ℕ) (ts : List Lexeme) (k : Kind) (low : ℕ) (ss : List Span) → All (token.StandsIn text) ts → AreSpansOf k ts low ss → AllByRecursion (IsSpanOfText text) ss
 spans_whole text ts k low [] whole h = tt
 spans_whole text ts k low (s ∷ ss) whole h =
     let t = h.1.0 in
     let at = h.1.1 in
     let stands : token.StandsIn text t = subst (token.StandsIn text) at.2 (whole at.0 t at.1) in
-    (subst (λ (r : Span). StandsIn text r) h.1.3 stands, spans_whole text ts k s.end ss whole h.2)
+    (subst (λ (r : Span). IsSpanOfText text r) h.1.3 stands, spans_whole text ts k s.end ss whole h.2)
 
 -- what is known of a text once the binder of the name at an offset is found among the rows
 pub record HasRow (text : List ℕ) (o : ℕ) (parsed : Parsed) (scopes : Scopes) (n : ℕ) : Type 0 where
@@ -137,7 +137,7 @@ module _ (text : List ℕ) (o : ℕ) (new : List ℕ) (parsed : Parsed) (scopes 
   kept_binding keeps = subst (λ m. KeepsBinding m new cs) (sym own.1) (sym (form_is_told text o bound n here new) ∙ keeps)
 
   are_spans : (spans : List Span) → AreRenamed cs n new spans → spans ≡ spans_bound bound
-  are_spans spans renamed = renamed.tokens ∙ ap (λ m. (binder_numbered (table cs) n).token ∷ tokens_of m (table cs).uses) own.1 ∙ sym (spans_are_told text o bound n here)
+  are_spans spans renamed = renamed.tokens ∙ ap (λ m. (binder_numbered (table cs) n).token ∷ use_tokens m (table cs).uses) own.1 ∙ sym (spans_are_told text o bound n here)
 
   -- what the scopes say, of all commands that they may be of, they say of those of the text
   pub renamed_here : (spans : List Span) → ((commands : List CommandTree) → AreScopesOf scopes commands → HasName commands n → AreRenamed commands n new spans) → AreRenamed cs n new spans
@@ -160,10 +160,10 @@ module _ (text : List ℕ) (o : ℕ) (new : List ℕ) (parsed : Parsed) (scopes 
   pub row_changed : IsOne (kind_of_binder cs n) new → (KeepsBinding (answer_for cs n) new cs → ⊥) → IsChanged text o new
   row_changed kind changes = record { bound = bound; kind = subst (λ k. IsOne k new) (sym kind_here) kind; changes = λ keeps. changes (kept_binding keeps) }
 
-  pub row_whole : (spans : List Span) → AreRenamed cs n new spans → All (StandsIn text) spans
+  pub row_whole : (spans : List Span) → AreRenamed cs n new spans → All (IsSpanOfText text) spans
   row_whole spans renamed =
-      All-from_recursion (StandsIn text) spans
-      (subst (AllByRecursion (StandsIn text)) (sym (are_spans spans renamed)) (spans_whole text read.tokens (kind_of touches.0) 0 (spans_bound bound) read.whole (spans_stand text o bound n here)))
+      All-from_recursion (IsSpanOfText text) spans
+      (subst (AllByRecursion (IsSpanOfText text)) (sym (are_spans spans renamed)) (spans_whole text read.tokens (kind_of touches.0) 0 (spans_bound bound) read.whole (spans_stand text o bound n here)))
 
 -- ---- what a rename does to the text
 

@@ -20,10 +20,10 @@ use Rattle.lam_syntax.specs.Answers.{pieces_of}
 use Rattle.lam_syntax.proofs.RespelledTrees.{command_is_respelled}
 use Rattle.lam_syntax.proofs.RespelledPieces.{pieces_respelled, taken_respelled}
 use Rattle.lam_scope.specs.Mentions as mention
-use Rattle.lam_scope.specs.Mentions.{Mention, binds_at, uses_at, labels_at, token_of, binder_of, mentions, bound_at, use_of, uses_of, Ascend}
+use Rattle.lam_scope.specs.Mentions.{Mention, binds_at, uses_at, labels_at, token_of, binder_of, mentions, bound_at, use_bound_to, uses_of, Ascend}
 use Rattle.lam_scope.specs.Nesting.{AreSpelledFrom}
 use Rattle.lam_scope.specs.Forms.{forms}
-use Rattle.lam_scope.specs.Tables.{table, binder_numbered, binder_at, tokens_of}
+use Rattle.lam_scope.specs.Tables.{table, binder_numbered, binder_at, use_tokens}
 use Rattle.lam_scope.specs.Renames.{kind_of_binder, renamed}
 use Rattle.lam_scope.proofs.BindersBefore.{AscendFrom, references_ascend}
 use Rattle.lam_scope.proofs.BoundMentions.{bound_told, kinds_told, binder_holds}
@@ -143,7 +143,7 @@ module _ (text : List ℕ) (offset : ℕ) (bound : IsBound text offset) where
     binder_is : (binder_numbered (table commands) n).token ≡ bound.binder
     binder_is = let both : Some (binder_numbered (table commands) n).token ≡ Some bound.binder = ap (option_map (λ m. (binder_numbered (table commands) m).token)) (sym is) ∙ bound_told commands ascends.0 start ascends.1 ∙ bound.is_bound in cc
 
-    pub spans_are_told : spans ≡ (binder_numbered (table commands) n).token ∷ tokens_of n (table commands).uses
+    pub spans_are_told : spans ≡ (binder_numbered (table commands) n).token ∷ use_tokens n (table commands).uses
     spans_are_told = spans_told commands start n bound.binder spelled is binder_is
 
     all_of_kind : AllByRecursion (IsOf tokens (kind_of_binder commands n) bound.binder) (mentions commands)

@@ -25,7 +25,7 @@ use Rattle.lam_query.specs.WellTypedDocuments.{statements_in}
 use Rattle.lam_query.specs.Hovers.{has_byte, innermost_at}
 use Rattle.lam_query.specs.Derivations.{names_seen}
 use Rattle.lam_query.specs.Steps.{proof_first, concludes, typing, with_side, premise_terms, typing_proof, typing_proofs}
-use Rattle.lam_query.specs.RowSteps.{premise_places, row_proof, row_proofs}
+use Rattle.lam_query.specs.inner.RowSteps.{premise_places, row_proof, row_proofs}
 
 -- spans and places
 

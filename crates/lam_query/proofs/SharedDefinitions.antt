@@ -13,7 +13,7 @@ use Rattle.lam_token.proofs.Cuts.{one_list}
 use Rattle.lam_syntax.specs.Trees.{CommandTree}
 use Rattle.lam_syntax.specs.Answers.{pieces_of}
 use Rattle.lam_scope.specs.Nesting.{TokensStand}
-use Rattle.lam_scope.specs.Mentions.{Mention, binds_at, uses_at, labels_at, token_of, binder_of, mentions, bound_at, use_of, uses_of, Ascend}
+use Rattle.lam_scope.specs.Mentions.{Mention, binds_at, uses_at, labels_at, token_of, binder_of, mentions, bound_at, use_bound_to, uses_of, Ascend}
 use Rattle.lam_scope.proofs.UseChains.{same_number, other_number}
 use Rattle.lam_scope.proofs.BoundMentions.{same_token, binder_holds}
 use Rattle.lam_query.specs.Commands.{AreCommandsOf}
@@ -163,7 +163,7 @@ still_in : (b s : Span) (kept : Option Span) (us : List Span) → IsIn s (b ∷ 
 still_in b s kept us (inl e) = inl e
 still_in b s kept us (inr h) = inr (kept_in kept s us h)
 
-mention_in : (b : Span) (m : Mention) (us : List Span) → binder_of m ≡ Some b → IsIn (token_of m) (b ∷ cons_option (use_of b m) us)
+mention_in : (b : Span) (m : Mention) (us : List Span) → binder_of m ≡ Some b → IsIn (token_of m) (b ∷ cons_option (use_bound_to b m) us)
 mention_in b (binds_at k s) us is = inl (let same : s ≡ b = cc in same)
 mention_in b (uses_at k s None) us is = absurd cc
 mention_in b (uses_at k s (Some c)) us is =
@@ -178,7 +178,7 @@ found_in o b (m ∷ ms) is = by (λ behind. found_in o b ms behind) ((token_of m
   where
     by : (bound_at o ms ≡ Some b → (s : Span) × (s.start ≡ o) × IsIn s (b ∷ uses_of b ms)) → (here : Bool) → ((token_of m).start == o) ≡ here → (if here then binder_of m else bound_at o ms) ≡ Some b → (s : Span) × (s.start ≡ o) × IsIn s (b ∷ uses_of b (m ∷ ms))
     by rest true e first = (token_of m, eqb-true (token_of m).start o e, mention_in b m (uses_of b ms) first)
-    by rest false e behind = let inner = rest behind in (inner.0, inner.1, still_in b inner.0 (use_of b m) (uses_of b ms) inner.2)
+    by rest false e behind = let inner = rest behind in (inner.0, inner.1, still_in b inner.0 (use_bound_to b m) (uses_of b ms) inner.2)
 
 -- a binder and its uses, in a text
 

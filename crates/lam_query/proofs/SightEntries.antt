@@ -18,19 +18,20 @@ use Rattle.lam_scope.proofs.Reading.{map-reverse}
 use Rattle.lam_scope.proofs.WellFormedForms.{document-wf}
 use Rattle.lam_typing.specs.declared.typing.Typing.{Typing}
 use Rattle.lam_typing.specs.Analysis.{AreLeast}
-use Rattle.lam_typing.specs.Entries.{AreLeastEntries, entry_from}
-use Rattle.lam_typing.specs.Notes.{notes_of}
+use Rattle.lam_typing.specs.Entries.{entry_from}
+use Rattle.lam_typing.specs.inner.Notes.{notes_of}
 use Rattle.lam_typing.specs.Typings.{found_of, entries_in, context_at, dialect_of, IsTypingOf}
 use Rattle.lam_typing.proofs.Completing.{least_among}
 use Rattle.lam_typing.proofs.Sighted.{place_seen}
 use Rattle.lam_typing.proofs.Together.{least_length}
 use Rattle.lam_query.specs.Analyses.{AreFoundOf}
 use Rattle.lam_query.specs.Completions.{IsEntryAt}
-use Rattle.lam_query.specs.Contexts.{entry_shown}
+use Rattle.lam_query.specs.inner.Contexts.{entry_shown}
 use Rattle.lam_query.specs.WellTypedDocuments.{statements_in}
 use Rattle.lam_query.proofs.Deriving.{entries_told}
 use Rattle.lam_query.proofs.RowsAndTerms.{number_told}
 use Rattle.lam_query.proofs.SightLengths.{sight_length}
+use Rattle.lam_typing.specs.LeastTypes.{AreLeastEntries}
 
 -- the binders that a place sees, the innermost first
 abbrev pub binders_seen : List CommandTree → ℕ → List ℕ

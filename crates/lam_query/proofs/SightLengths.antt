@@ -1,7 +1,7 @@
 -- A place sees as many binders by their origins as its scope has.
 use Rattle.std.proofs.Common.{◌≡◌, ℕ, zero, suc, ◌+◌, List, [], ◌∷◌, ◌++◌, length, get_or, refl, ap}
 use Rattle.lam_rules.specs.Terms.{Term, true_term, false_term, if_then_else, numeral, succ, pred, is_zero, variable, free, lambda, apply, unit_term, ascribe, let_in, record_term, project, fix, TermFields, no_terms, term_field}
-use Rattle.lam_scope.specs.Places.{Scope, Place, places, places_in, Statement, defines, declares, abbreviates, states, places_of, place_numbered}
+use Rattle.lam_scope.specs.Places.{Scope, Place, places, field_places, Statement, defines, declares, abbreviates, states, places_of, place_numbered}
 use Rattle.lam_scope.specs.Sights.{Sight, behind_term, sights, sights_in, sights_of, sight_numbered}
 
 abbrev SeeAlike : List Sight → List Place → Type 0
@@ -33,7 +33,7 @@ mutual
   in_term k t s (let_in a b) h =
       both (sights k t a ++ sights (behind_term k a) _ b) _ (places s a ++ places _ b) _
       (both (sights k t a) _ (places s a) _ (in_term k t s a h) (in_term (behind_term k a) _ _ b (ap suc h))) (h, tt)
-  in_term k t s (record_term es) h = both (sights_in k t es) _ (places_in s es) _ (in_fields k t s es h) (h, tt)
+  in_term k t s (record_term es) h = both (sights_in k t es) _ (field_places s es) _ (in_fields k t s es h) (h, tt)
   in_term k t s (project e l) h = both (sights k t e) _ (places s e) _ (in_term k t s e h) (h, tt)
   in_term k t s (fix e) h = both (sights k t e) _ (places s e) _ (in_term k t s e h) (h, tt)
   in_term k t s true_term h = (h, tt)
@@ -43,7 +43,7 @@ mutual
   in_term k t s (free x) h = (h, tt)
   in_term k t s unit_term h = (h, tt)
 
-  in_fields : (k : ℕ) (t : Sight) (s : Scope) (es : TermFields) → length t ≡ length s → SeeAlike (sights_in k t es) (places_in s es)
+  in_fields : (k : ℕ) (t : Sight) (s : Scope) (es : TermFields) → length t ≡ length s → SeeAlike (sights_in k t es) (field_places s es)
   in_fields k t s no_terms h = tt
   in_fields k t s (term_field l e es) h = both (sights k t e) _ (places s e) _ (in_term k t s e h) (in_fields (behind_term k e) t s es h)
 

@@ -25,7 +25,7 @@ use Rattle.lam_query.specs.declared.analyses.Types.{Types}
 use Rattle.lam_query.specs.declared.analyses.Types.TheVariants.{TooLarge, Found}
 use Rattle.lam_query.specs.Analyses.{AreTypesOf}
 use Rattle.lam_query.specs.Completions.{Item, AreAscending, names_in_sight, IsDetail, of_entry, untold, IsVisible, AreNames}
-use Rattle.lam_query.specs.Sight.{innermost_with, innermost_after, binder_for, detail_found, item_found}
+use Rattle.lam_query.specs.inner.Sight.{innermost_with, innermost_after, binder_for, detail_found, item_found}
 use Rattle.lam_query.proofs.SightEntries.{binders_seen, entry_at}
 use Rattle.lam_query.proofs.Small.{is_small}
 

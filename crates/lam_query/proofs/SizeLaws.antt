@@ -10,7 +10,7 @@ use Rattle.lam_scope.specs.Places.{Place}
 use Rattle.lam_scope.specs.Nameless.{first_too_large}
 use Rattle.lam_scope.proofs.WellFormedForms.{document-wf}
 use Rattle.lam_typing.specs.LeastTypes.{IsLeastAt}
-use Rattle.lam_typing.specs.Analysis.{AreLeast, IsSmall as IsSmallType, AreSmall, IsTooLarge, IsFirstTooLarge}
+use Rattle.lam_typing.specs.Analysis.{AreLeast, IsSmallType, AreSmall, IsTooLarge, IsFirstTooLarge}
 use Rattle.lam_typing.proofs.Existing.{exists_at}
 use Rattle.lam_query.specs.Sizes.{IsSizeFault, of_written_type, of_term, IsSmall, places_in, span_numbered}
 use Rattle.lam_typing.proofs.WellFormedPlaces.{AreWellFormedPlaces, places_of_wf}

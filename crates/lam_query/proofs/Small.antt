@@ -7,7 +7,7 @@ use Rattle.lam_syntax.specs.Trees.{CommandTree}
 use Rattle.lam_scope.specs.Places.{Place}
 use Rattle.lam_scope.specs.Nameless.{first_too_large}
 use Rattle.lam_typing.specs.LeastTypes.{IsLeastAt}
-use Rattle.lam_typing.specs.Analysis.{AreLeast, IsSmall as IsSmallType, AreSmall, IsTooLarge, IsFirstTooLarge}
+use Rattle.lam_typing.specs.Analysis.{AreLeast, IsSmallType, AreSmall, IsTooLarge, IsFirstTooLarge}
 use Rattle.lam_query.specs.Sizes.{of_written_type, of_term, IsSmall, places_in}
 
 -- what is found of places

@@ -23,8 +23,7 @@ use Rattle.lam_scope.proofs.SeenOrigins.{visible_origins}
 use Rattle.lam_scope.specs.Names.{shown_name}
 use Rattle.lam_scope.specs.Tables.{table, binder_numbered, visible_at}
 use Rattle.lam_scope.specs.PlacedTerms.{PlacedTree, term_of, document_terms, tree_in}
-use Rattle.lam_typing.specs.LeastTypes.{IsLeastAt, IsLeastEntry}
-use Rattle.lam_typing.specs.Entries.{AreLeastEntries}
+use Rattle.lam_typing.specs.LeastTypes.{IsLeastAt, IsLeastEntry, AreLeastEntries}
 use Rattle.lam_typing.proofs.Derivations.{has_type}
 use Rattle.lam_typing.proofs.LeastIn.{LeastContext, lowest, least_at, least_in}
 use Rattle.lam_typing.proofs.WellFormedPlaces.{IsWellFormedPlace, wf_at}
@@ -36,7 +35,7 @@ use Rattle.lam_query.specs.Commands.{AreCommandsOfText}
 use Rattle.lam_query.specs.Sizes.{IsSizeFault, IsSmall, places_in}
 use Rattle.lam_query.specs.WellTypedDocuments.{statements_in}
 use Rattle.lam_query.specs.Steps.{steps_of, typing_proof}
-use Rattle.lam_query.specs.Derivations.{Entry, Derivation, names_seen, IsDerivation, IsDerivedIn}
+use Rattle.lam_query.specs.Derivations.{ContextEntry, Derivation, names_seen, IsDerivation, IsDerivedIn}
 use Rattle.lam_query.proofs.SightLengths.{sight_length}
 use Rattle.lam_query.specs.Hovers.{Shown, innermost_at, IsTypedAround, IsHover, IsShownIn}
 use Rattle.lam_query.proofs.RowsAndTerms.{place_told, number_told, names_told, innermost_number}
@@ -184,7 +183,7 @@ context_length (b ∷ s) [] d h = absurd h
 
 -- names with their types
 
-abbrev named : List Text → List (Option Typ) → List Entry
+abbrev named : List Text → List (Option Typ) → List ContextEntry
 named [] types = []
 named (x ∷ names) [] = []
 named (x ∷ names) (t ∷ types) = record { name = x; type = t } ∷ named names types

@@ -15,7 +15,7 @@ use Rattle.lam_rules.specs.Sorting.{ComesFirst, IsAscending}
 use Rattle.lam_rules.proofs.SortedForms.{ascending_sorted}
 use Rattle.lam_rules.proofs.SortedBelow.{sorted_wf}
 use Rattle.lam_query.specs.Completions.{Item, AreAscending}
-use Rattle.lam_query.specs.FieldItems.{field_item, field_items, items_in}
+use Rattle.lam_query.specs.inner.FieldItems.{field_item, field_items, items_in}
 use Rattle.lam_query.proofs.Ascending.{none_ascend}
 
 -- the labels ascend

@@ -3,7 +3,7 @@ use Rattle.std.proofs.Common.{List}
 use Rattle.std.specs.List.{AllByRecursion}
 use Rattle.lam_token.specs.declared.span.Span.{Span}
 use Rattle.lam_token.specs.Lexeme.{Lexeme, span_of}
-use Rattle.lam_syntax.specs.Trees.{Bound, TypeTree, type_tree, TypeFields, TermTree, term_tree, TermFields, CommandTree, from_to, type_span, term_span, spanning_type, spanning_term}
+use Rattle.lam_syntax.specs.Trees.{Bound, TypeTree, type_tree, TypeFields, TermTree, term_tree, FieldTrees, CommandTree, from_to, type_span, term_span, spanning_type, spanning_term}
 use Rattle.lam_syntax.specs.Grammar.{BinderIs, name_binder, blank_binder, TypeIs, atype_type, arrow_type, ATypeIs, parens_atype, bool_atype, nat_atype, unit_atype, top_atype, name_atype, empty_atype, record_atype, TypeFieldsAre, last_type_field, more_type_fields, TermIs, lambda_is, if_is, let_is, letrec_is, app_is, AppIs, head_app, argument_app, HeadIs, path_head, fix_head, succ_head, pred_head, iszero_head, PathIs, asc_path, label_path, AscIs, atom_asc, typed_asc, AtomIs, parens_atom, true_atom, false_atom, unit_atom, name_atom, numeral_atom, empty_atom, record_atom, FieldsAre, last_field, more_fields, Spells, definition_command, declaration_command, abbreviation_command, evaluation_command}
 use Rattle.lam_query.proofs.TreePlaces.{InBound, InType, InTypeFields, InTerm, InFields, InCommand}
 
@@ -125,7 +125,7 @@ mutual
   in_atom Q w (empty_atom {s = s} {e = e}) h = ((w s e h.0 h.1.0, tt), h.1.1)
   in_atom Q w (record_atom {s = s} {e = e} k) h = let one = in_fields Q w k h.1 in ((w s e h.0 one.1.0, one.0), one.1.1)
 
-  in_fields : (Q : Span → Type 0) → Spreads Q → {ts rest : List Lexeme} {fs : TermFields} → FieldsAre ts fs rest → InTokens Q ts → InFields Q fs × InTokens Q rest
+  in_fields : (Q : Span → Type 0) → Spreads Q → {ts rest : List Lexeme} {fs : FieldTrees} → FieldsAre ts fs rest → InTokens Q ts → InFields Q fs × InTokens Q rest
   in_fields Q w (last_field k) h = let one = in_term Q w k h.1.1 in ((h.0, one.0, tt), one.1)
   in_fields Q w (more_fields k l) h =
       let one = in_term Q w k h.1.1 in

@@ -10,8 +10,8 @@ use Rattle.lam_scope.proofs.EveryElement.{every_append}
 use Rattle.lam_query.specs.declared.answers.Step.{Step as RustStep}
 use Rattle.lam_query.specs.declared.answers.Step.TheVariants as rust
 use Rattle.lam_query.specs.Steps.{Conclusion, typing, subtyping, Step, Proof, concludes, Proofs, no_proofs, proof_first, steps_before, last_steps, steps_of, steps_of_each, sub_proof, sub_proofs, with_side}
-use Rattle.lam_query.specs.RowSteps.{premise_places, row_proof, row_proofs}
-use Rattle.lam_query.specs.Within.{StandsIn}
+use Rattle.lam_query.specs.inner.RowSteps.{premise_places, row_proof, row_proofs}
+use Rattle.lam_query.specs.Within.{IsSpanOfText}
 use Rattle.lam_query.specs.Views.{step_of, StepStandsIn}
 
 abbrev pub InConclusion : (Span → Type 0) → Conclusion → Type 0
@@ -65,16 +65,16 @@ mutual
   in_steps_of_each Q n (proof_first p ps) h =
       every_append (InStep Q) (steps_of n p) (steps_of_each (n + steps_before p + 1) ps) (in_steps Q n p h.0) (in_steps_of_each Q (n + steps_before p + 1) ps h.1)
 
-step_seen : (text : List ℕ) (step : RustStep) → InConclusion (StandsIn text) (step_of step).conclusion → StepStandsIn text step
+step_seen : (text : List ℕ) (step : RustStep) → InConclusion (IsSpanOfText text) (step_of step).conclusion → StepStandsIn text step
 step_seen text (rust.Typing rule span ty premises) h = h
 step_seen text (rust.Sub rule lower upper premises) h = tt
 
-steps_seen : (text : List ℕ) (steps : List RustStep) → InSteps (StandsIn text) (map step_of steps) → AllByRecursion (StepStandsIn text) steps
+steps_seen : (text : List ℕ) (steps : List RustStep) → InSteps (IsSpanOfText text) (map step_of steps) → AllByRecursion (StepStandsIn text) steps
 steps_seen text [] h = tt
 steps_seen text (x ∷ xs) h = (step_seen text x h.0, steps_seen text xs h.1)
 
 pub steps_stand : (text : List ℕ) (t : Table) (place : ℕ) (p : TypingTree) (steps : List RustStep)
-    → ((n : ℕ) → StandsIn text (place_row_numbered t n).span) → map step_of steps ≡ steps_of 0 (row_proof t place p) → All (StepStandsIn text) steps
+    → ((n : ℕ) → IsSpanOfText text (place_row_numbered t n).span) → map step_of steps ≡ steps_of 0 (row_proof t place p) → All (StepStandsIn text) steps
 steps_stand text t place p steps h are =
-    let there = in_steps (StandsIn text) 0 (row_proof t place p) (in_typing (StandsIn text) t h place p) in
-    All-from_recursion (StepStandsIn text) steps (steps_seen text steps (subst (InSteps (StandsIn text)) (sym are) there))
+    let there = in_steps (IsSpanOfText text) 0 (row_proof t place p) (in_typing (IsSpanOfText text) t h place p) in
+    All-from_recursion (StepStandsIn text) steps (steps_seen text steps (subst (InSteps (IsSpanOfText text)) (sym are) there))

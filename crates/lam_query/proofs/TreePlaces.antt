@@ -1,7 +1,7 @@
 -- Claims about every place in a tree: those of all its terms, types, names, labels and numerals. `Q` is what is claimed of each.
 use Rattle.std.proofs.Common.{List, [], ◌∷◌}
 use Rattle.lam_token.specs.declared.span.Span.{Span}
-use Rattle.lam_syntax.specs.Trees.{Word, word, Bound, bound, TypeTree, type_tree, TypeNode, named, arrow, record_type, TypeFields, no_type_fields, type_field, TermTree, term_tree, TermNode, variable, numeral, lambda, if_term, let_term, letrec_term, prefixed, apply, project, ascribe, record_term, TermFields, no_fields, field, CommandTree, definition, declaration, abbreviation, evaluation}
+use Rattle.lam_syntax.specs.Trees.{Word, word, Bound, bound, TypeTree, type_tree, TypeNode, named, arrow, record_type, TypeFields, no_type_fields, type_field, TermTree, term_tree, TermNode, variable, numeral, lambda, if_term, let_term, letrec_term, prefixed, apply, project, ascribe, record_term, FieldTrees, no_fields, field, CommandTree, definition, declaration, abbreviation, evaluation}
 
 abbrev pub InWord : (Span → Type 0) → Word → Type 0
 InWord Q (word x s) = Q s
@@ -41,7 +41,7 @@ abbrev mutual
   InNode Q (record_term fs) = InFields Q fs
   InNode Q n = Unit {0}
 
-  pub InFields : (Span → Type 0) → TermFields → Type 0
+  pub InFields : (Span → Type 0) → FieldTrees → Type 0
   InFields Q no_fields = Unit {0}
   InFields Q (field l t fs) = InWord Q l × InTerm Q t × InFields Q fs
 

@@ -3,7 +3,7 @@ use Rattle.std.proofs.Common.{◌≡◌, ℕ, zero, suc, ◌+◌, List, [], ◌�
 use Rattle.std.specs.Option.{option_or}
 use Rattle.std.specs.List.{AllByRecursion}
 use Rattle.lam_token.specs.declared.span.Span.{Span}
-use Rattle.lam_syntax.specs.Trees.{word, bound, TypeTree, type_tree, TypeNode, bool, nat, unit, top, named, arrow, record_type, TypeFields, no_type_fields, type_field, joined_types, TermTree, term_tree, TermNode, true_term, false_term, unit_term, variable, numeral, lambda, if_term, let_term, letrec_term, prefixed, apply, project, ascribe, record_term, TermFields, no_fields, field, CommandTree, definition, declaration, abbreviation, evaluation, type_span, term_span}
+use Rattle.lam_syntax.specs.Trees.{word, bound, TypeTree, type_tree, TypeNode, bool, nat, unit, top, named, arrow, record_type, TypeFields, no_type_fields, type_field, joined_types, TermTree, term_tree, TermNode, true_term, false_term, unit_term, variable, numeral, lambda, if_term, let_term, letrec_term, prefixed, apply, project, ascribe, record_term, FieldTrees, no_fields, field, CommandTree, definition, declaration, abbreviation, evaluation, type_span, term_span}
 use Rattle.lam_scope.specs.Expansions.{Abbreviation, expansion, is_bound, has_label, label_fault, type_faults, node_faults, field_faults, is_over_limit}
 use Rattle.lam_scope.specs.Nameless.{written_in, written_in_node, written_in_fields, written_in_command, faults_in, first_over_limit, faults, first_too_large, abbreviations_after}
 use Rattle.lam_scope.specs.declared.type_fault.TypeFault.{TypeFault}
@@ -109,7 +109,7 @@ mutual
       in_tables Q (term_table types names n k t) (type_uses types u) (in_term_rows Q types names n k t h.0) (in_type_rows Q types u)
   in_node_rows Q types names n k (record_term fs) h = in_field_rows Q types names n k fs h
 
-  in_field_rows : (Q : Span → Type 0) (types names : List Entry) (n k : ℕ) (fs : TermFields) → InFields Q fs → InRows Q (fields_table types names n k fs).places
+  in_field_rows : (Q : Span → Type 0) (types names : List Entry) (n k : ℕ) (fs : FieldTrees) → InFields Q fs → InRows Q (fields_table types names n k fs).places
   in_field_rows Q types names n k no_fields h = tt
   in_field_rows Q types names n k (field l t fs) h =
       in_tables Q (term_table types names n k t) (fields_table types names (n + binders_in t) (behind k t) fs)
@@ -199,7 +199,7 @@ mutual
   in_written_node Q (ascribe t u) h = every_append (InType Q) (written_in t) (u ∷ []) (in_written Q t h.0) (h.1, tt)
   in_written_node Q (record_term fs) h = in_written_fields Q fs h
 
-  in_written_fields : (Q : Span → Type 0) (fs : TermFields) → InFields Q fs → InTypes Q (written_in_fields fs)
+  in_written_fields : (Q : Span → Type 0) (fs : FieldTrees) → InFields Q fs → InTypes Q (written_in_fields fs)
   in_written_fields Q no_fields h = tt
   in_written_fields Q (field l t fs) h = every_append (InType Q) (written_in t) (written_in_fields fs) (in_written Q t h.1) (in_written_fields Q fs h.2)
 

@@ -1,11 +1,10 @@
 -- What is listed for an offset: behind a dot the labels whose projections have a type, and on a variable the names in sight.
-use Rattle.std.specs.Prelude.{◌≡◌, ℕ, ◌+◌, List, [], ◌∷◌, ◌++◌, map, take, filter, get_or, Bool, true, false, not, ◌&&◌, if◌then◌else◌, Option, Some, None, All, Contains, option_map}
+use Rattle.std.specs.Prelude.{◌≡◌, ℕ, ◌+◌, List, [], ◌∷◌, ◌++◌, map, take, filter, get_or, Bool, true, false, not, ◌&&◌, if◌then◌else◌, Option, Some, None, All, Contains, option_map, ltb}
 use Rattle.std.specs.Option.{option_and_then}
 use Rattle.std.specs.List.{find, list_any, last_or}
 use Rattle.std.specs.List.Sorted.{IsStrictlySortedBy}
 use Rattle.std.specs.Cmp.Lexicographic.{slice_cmp}
 use Rattle.std.specs.Ordering.{nat_cmp}
-use Rattle.std.proofs.Math.Dec.{ltb}
 use Rattle.lam_token.specs.declared.kind.Kind.{Kind}
 use Rattle.lam_token.specs.declared.kind.Kind.TheVariants as kind
 use Rattle.lam_token.specs.declared.span.Span.{Span}
@@ -23,8 +22,7 @@ use Rattle.lam_scope.specs.Nameless.{first_too_large}
 use Rattle.lam_scope.specs.Places.{Place}
 use Rattle.lam_scope.specs.PlacedTerms.{document_terms, term_of, tree_in, variable_at, projection_at}
 use Rattle.lam_typing.specs.Analysis.{IsFirstTooLarge}
-use Rattle.lam_typing.specs.Entries.{AreLeastEntries}
-use Rattle.lam_typing.specs.LeastTypes.{IsLeastAt}
+use Rattle.lam_typing.specs.LeastTypes.{IsLeastAt, AreLeastEntries}
 use Rattle.lam_query.specs.Commands.{AreCommandsOf}
 use Rattle.lam_query.specs.Sizes.{places_in, IsSizeFault, IsSmall}
 

@@ -7,20 +7,20 @@ use Rattle.lam_rules.specs.declared.rules.Dialect.{Dialect}
 use Rattle.lam_syntax.specs.Trees.{CommandTree}
 use Rattle.lam_scope.specs.Names.{shown_name}
 use Rattle.lam_scope.specs.PlacedTerms.{PlacedTree, term_of}
-use Rattle.lam_typing.specs.Entries.{AreLeastEntries}
 use Rattle.lam_query.specs.Commands.{AreCommandsOfText}
 use Rattle.lam_query.specs.Hovers.{IsTypedAround, IsHover}
 use Rattle.lam_query.specs.Steps.{Step, steps_of, typing_proof}
+use Rattle.lam_typing.specs.LeastTypes.{AreLeastEntries}
 
 -- a binder of a context: its name, and its type or none
-pub record Entry : Type 0 where
+pub record ContextEntry : Type 0 where
   pub name : Text
   pub type : Option Typ
 
 -- why a term has a type: the binders that it sees, and the steps of a proof
 pub record Derivation : Type 0 where
   -- from the outermost binder to the innermost
-  pub context : List Entry
+  pub context : List ContextEntry
   pub steps : List Step
 
 -- the names of the binders that a term sees, the outermost first

@@ -1,7 +1,6 @@
 -- What is shown of an offset.
-use Rattle.std.specs.Prelude.{◌≡◌, ℕ, List, Bool, false, Option, Some, None, if◌then◌else◌}
+use Rattle.std.specs.Prelude.{◌≡◌, ℕ, List, Bool, false, Option, Some, None, if◌then◌else◌, ltb}
 use Rattle.std.specs.List.{find}
-use Rattle.std.proofs.Math.Dec.{ltb}
 use Rattle.lam_token.specs.declared.span.Span.{Span}
 use Rattle.lam_rules.specs.Types.{Typ}
 use Rattle.lam_rules.specs.Texts.{Text, text}

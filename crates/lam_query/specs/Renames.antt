@@ -8,9 +8,8 @@ use Rattle.lam_token.specs.Edits.{edited, moved, renaming, retold, IsOne}
 use Rattle.lam_syntax.specs.Trees.{CommandTree}
 use Rattle.lam_syntax.specs.Respelled.{respelled_command}
 use Rattle.lam_syntax.specs.Answers.{pieces_of}
-use Rattle.lam_scope.specs.Mentions.{mentions, bound_at}
+use Rattle.lam_scope.specs.Mentions.{mentions, bound_at, other_kind}
 use Rattle.lam_scope.specs.Forms.{forms}
-use Rattle.lam_scope.specs.Renames.{other_kind}
 use Rattle.lam_query.specs.declared.renames.RenameFault.{RenameFault}
 use Rattle.lam_query.specs.declared.renames.RenameFault.TheVariants as fault
 use Rattle.lam_query.specs.Commands.{IsCommandOf, AreCommandsOfText}

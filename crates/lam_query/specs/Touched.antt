@@ -1,8 +1,7 @@
 -- The name under the cursor.
-use Rattle.std.specs.Prelude.{◌==◌, ℕ, List, Bool, ◌&&◌, not, Option}
+use Rattle.std.specs.Prelude.{◌==◌, ℕ, List, Bool, ◌&&◌, not, Option, ltb}
 use Rattle.std.specs.Option.{option_or}
 use Rattle.std.specs.List.{find}
-use Rattle.std.proofs.Math.Dec.{ltb}
 use Rattle.lam_token.specs.Edits.{is_name_kind}
 use Rattle.lam_token.specs.Lexeme.{Lexeme, kind_of, start_of, end_of}
 

@@ -11,11 +11,11 @@ use Rattle.lam_query.specs.declared.answers.Derivation.{Derivation as RustDeriva
 use Rattle.lam_query.specs.declared.answers.Step.{Step as RustStep}
 use Rattle.lam_query.specs.declared.answers.Step.TheVariants as rust
 use Rattle.lam_query.specs.Faults.{Fault}
-use Rattle.lam_query.specs.Within.{StandsIn}
+use Rattle.lam_query.specs.Within.{IsSpanOfText}
 use Rattle.lam_query.specs.Steps.{Step, typing, subtyping}
 use Rattle.lam_query.specs.Hovers.{Shown}
 use Rattle.lam_query.specs.Completions.{Item}
-use Rattle.lam_query.specs.Derivations.{Entry, Derivation}
+use Rattle.lam_query.specs.Derivations.{ContextEntry, Derivation}
 
 -- the code and the span of a `Fault`
 abbrev pub fault_of : RustFault → Fault
@@ -35,7 +35,7 @@ step_of (rust.Typing rule span ty premises) = record { conclusion = typing rule 
 step_of (rust.Sub rule lower upper premises) = record { conclusion = subtyping rule (typ_of lower) (typ_of upper); premises = premises.items }
 
 -- a binder of a context, as its name and its type or none
-abbrev pub entry_of : String Global × Option Ty → Entry
+abbrev pub entry_of : String Global × Option Ty → ContextEntry
 entry_of e = record { name = string_bytes e.0; type = written_of e.1 }
 
 -- the context and the steps of a `Derivation`
@@ -44,5 +44,5 @@ derivation_of d = record { context = map entry_of d.context.items; steps = map s
 
 -- the place of a step of typing begins and ends between characters of the text
 abbrev pub StepStandsIn : List ℕ → RustStep → Type 0
-StepStandsIn text (rust.Typing rule span ty premises) = StandsIn text span
+StepStandsIn text (rust.Typing rule span ty premises) = IsSpanOfText text span
 StepStandsIn text (rust.Sub rule lower upper premises) = Unit {0}

@@ -4,5 +4,5 @@ use Rattle.std.specs.Str.{IsCharBoundary}
 use Rattle.lam_token.specs.declared.span.Span.{Span}
 
 -- a place begins and ends between two characters of the text
-abbrev pub StandsIn : List ℕ → Span → Type 0
-StandsIn text s = IsCharBoundary text s.start × IsCharBoundary text s.end
+abbrev pub IsSpanOfText : List ℕ → Span → Type 0
+IsSpanOfText text s = IsCharBoundary text s.start × IsCharBoundary text s.end

@@ -7,7 +7,7 @@ ghost use Rattle.lam_syntax.specs.Views.{command_of};
 ghost use Rattle.lam_scope.specs.Views.{AreScopesOf};
 ghost use Rattle.lam_query.specs.Analyses.{AreTypesOf, IsAnalysisOf, commands_in, dialect_of};
 ghost use Rattle.lam_query.specs.Completions.{dot_before, IsProjected, AreItems, AreCompletions};
-ghost use Rattle.lam_query.specs.Listed.{IsProjection, AreListedFor};
+ghost use Rattle.lam_query.specs.inner.Listed.{IsProjection, AreListedFor};
 ghost use Rattle.lam_query.specs.Views.{item_of};
 
 use crate::analyses::{Analysis, Types};

@@ -5,7 +5,7 @@ ghost use Rattle.lam_scope.specs.Tables.{visible_at};
 ghost use Rattle.lam_scope.specs.TableViews.{binder_number};
 ghost use Rattle.lam_rules.specs.TermViews.{written_of};
 ghost use Rattle.lam_typing.specs.Typings.{entries_in};
-ghost use Rattle.lam_query.specs.Contexts.{entry_shown};
+ghost use Rattle.lam_query.specs.inner.Contexts.{entry_shown};
 ghost use Rattle.lam_query.specs.Views.{entry_of};
 
 use lam_rules::Ty;

@@ -3,7 +3,7 @@ ghost use Rattle.std.specs.Prelude.{All, IfOk, IfSome};
 ghost use Rattle.std.specs.Option.{option_map};
 ghost use Rattle.lam_query.specs.Analyses.{IsAnalysisOf};
 ghost use Rattle.lam_query.specs.Definitions.{IsDefinitionIn, AreReferencesIn};
-ghost use Rattle.lam_query.specs.Within.{StandsIn};
+ghost use Rattle.lam_query.specs.Within.{IsSpanOfText};
 
 use crate::analyses::Analysis;
 use crate::reading::read;
@@ -17,7 +17,7 @@ use std::alloc::{AllocError, Global};
 /// nothing.
 pub fn definition(alloc: Global, text: &str, offset: usize) -> Result<Option<Span>, AllocError>
     ensures definition { IfOk result (IsDefinitionIn text.now offset) }
-    ensures whole_characters { IfOk result (λ found. IfSome found (StandsIn text.now)) }
+    ensures whole_characters { IfOk result (λ found. IfSome found (IsSpanOfText text.now)) }
 {
     let Some(start) = touched(text, offset) else {
         return Ok(None);
@@ -41,7 +41,7 @@ pub fn references(
     declared: bool,
 ) -> Result<Option<Vec<Span>>, AllocError>
     ensures references { IfOk result (λ found. AreReferencesIn text.now offset declared (option_map (λ spans. spans.items) found)) }
-    ensures whole_characters { IfOk result (λ found. IfSome found (λ spans. All (StandsIn text.now) spans.items)) }
+    ensures whole_characters { IfOk result (λ found. IfSome found (λ spans. All (IsSpanOfText text.now) spans.items)) }
 {
     let Some(start) = touched(text, offset) else {
         return Ok(None);
@@ -70,7 +70,7 @@ impl Analysis {
     ) -> Result<Option<Span>, AllocError>
         requires { IsAnalysisOf text.now self.now }
         ensures definition { IfOk result (IsDefinitionIn text.now offset) }
-        ensures whole_characters { IfOk result (λ found. IfSome found (StandsIn text.now)) }
+        ensures whole_characters { IfOk result (λ found. IfSome found (IsSpanOfText text.now)) }
     {
         definition(alloc, text, offset)
     }
@@ -87,7 +87,7 @@ impl Analysis {
     ) -> Result<Option<Vec<Span>>, AllocError>
         requires { IsAnalysisOf text.now self.now }
         ensures references { IfOk result (λ found. AreReferencesIn text.now offset declared (option_map (λ spans. spans.items) found)) }
-        ensures whole_characters { IfOk result (λ found. IfSome found (λ spans. All (StandsIn text.now) spans.items)) }
+        ensures whole_characters { IfOk result (λ found. IfSome found (λ spans. All (IsSpanOfText text.now) spans.items)) }
     {
         references(alloc, text, offset, declared)
     }

@@ -4,8 +4,8 @@ ghost use Rattle.lam_rules.specs.Numbers.{type_of, Stands, AreEarlier, fields_ov
 ghost use Rattle.lam_syntax.specs.Views.{command_of};
 ghost use Rattle.lam_scope.specs.Views.{AreScopesOf};
 ghost use Rattle.lam_typing.specs.Typings.{found_of};
-ghost use Rattle.lam_query.specs.FieldItems.{field_item, field_items, items_found};
-ghost use Rattle.lam_query.specs.Listed.{IsProjection, AreListed};
+ghost use Rattle.lam_query.specs.inner.FieldItems.{field_item, field_items, items_found};
+ghost use Rattle.lam_query.specs.inner.Listed.{IsProjection, AreListed};
 ghost use Rattle.lam_query.specs.Views.{item_of};
 
 use crate::answers::Item;

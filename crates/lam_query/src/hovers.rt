@@ -3,7 +3,7 @@ ghost use Rattle.std.specs.Prelude.{IfOk, IfSome};
 ghost use Rattle.std.specs.Option.{option_map};
 ghost use Rattle.lam_query.specs.Analyses.{IsAnalysisOf, dialect_of};
 ghost use Rattle.lam_query.specs.Hovers.{IsShownIn};
-ghost use Rattle.lam_query.specs.Within.{StandsIn};
+ghost use Rattle.lam_query.specs.Within.{IsSpanOfText};
 ghost use Rattle.lam_query.specs.Views.{shown_of};
 
 use crate::analyses::{Analysis, Types};
@@ -20,7 +20,7 @@ pub fn hover(
     dialect: Dialect,
 ) -> Result<Option<Hover>, AllocError>
     ensures shown { IfOk result (λ found. IsShownIn text.now offset (option_map shown_of found) dialect) }
-    ensures whole_characters { IfOk result (λ found. IfSome found (λ h. StandsIn text.now h.span)) }
+    ensures whole_characters { IfOk result (λ found. IfSome found (λ h. IsSpanOfText text.now h.span)) }
 {
     Analysis::new(alloc, text, dialect)?.hover(alloc, text, offset)
 }
@@ -36,7 +36,7 @@ impl Analysis {
     ) -> Result<Option<Hover>, AllocError>
         requires { IsAnalysisOf text.now self.now }
         ensures shown { IfOk result (λ found. IsShownIn text.now offset (option_map shown_of found) (dialect_of self.now)) }
-        ensures whole_characters { IfOk result (λ found. IfSome found (λ h. StandsIn text.now h.span)) }
+        ensures whole_characters { IfOk result (λ found. IfSome found (λ h. IsSpanOfText text.now h.span)) }
     {
         let Types::Found(_, typing) = &self.types else {
             return Ok(None);

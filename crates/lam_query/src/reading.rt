@@ -9,7 +9,7 @@ ghost use Rattle.lam_scope.specs.Nesting.{TokensStand};
 ghost use Rattle.lam_query.specs.Commands.{AreCommandsOf};
 ghost use Rattle.lam_query.specs.Completions.{with_label};
 ghost use Rattle.lam_query.specs.SyntaxFaults.{fault_of_token, PieceFault};
-ghost use Rattle.lam_query.specs.Reading.{IsCommandRead, fault_read, IsNoted, IsPieceRead, AreRead, with_name_unless, AreReadAround, IsRead};
+ghost use Rattle.lam_query.specs.inner.Reading.{IsCommandRead, fault_read, IsNoted, IsPieceRead, AreRead, with_name_unless, AreReadAround, IsRead};
 ghost use Rattle.lam_query.specs.Views.{fault_of};
 
 use crate::answers::Fault;

@@ -7,7 +7,7 @@ ghost use Rattle.lam_rules.specs.Typing.{TypingTree};
 ghost use Rattle.lam_rules.specs.TypingViews.{typing_tree_of};
 ghost use Rattle.lam_query.specs.Steps.{typing, subtyping, Proof, steps_of};
 ghost use Rattle.lam_query.specs.ProofTrees.{typing_tree_in, tree_from, typing_premises, sub_premises};
-ghost use Rattle.lam_query.specs.Rebuilding.{trees_of, are_lasts, taken_off, after_step, only_typing, with_premise, tree_of, stack_of, premises_of};
+ghost use Rattle.lam_query.specs.inner.Rebuilding.{trees_of, are_lasts, taken_off, after_step, only_typing, with_premise, tree_of, stack_of, premises_of};
 ghost use Rattle.lam_query.specs.Views.{step_of};
 
 use crate::answers::Step;

@@ -5,7 +5,7 @@ ghost use Rattle.lam_query.specs.Analyses.{IsAnalysisOf};
 ghost use Rattle.lam_query.specs.Definitions.{AreReferencesIn};
 ghost use Rattle.lam_query.specs.Renames.{IsAnyName, IsRenameIn, IsRenamedText, IsOtherText};
 ghost use Rattle.lam_query.specs.declared.renames.RenameFault.TheVariants.{Memory};
-ghost use Rattle.lam_query.specs.Within.{StandsIn};
+ghost use Rattle.lam_query.specs.Within.{IsSpanOfText};
 
 use crate::analyses::Analysis;
 use crate::reading::read;
@@ -47,7 +47,7 @@ pub fn rename(alloc: Global, text: &str, offset: usize, new: &str) -> Result<Vec
     ensures refused { IfErr result (λ fault. fault ≢ RenameFault.Memory → IsRenameIn text.now offset new.now (Err fault)) }
     ensures edited { IfOk result (λ spans. IsRenamedText text.now spans.items new.now) }
     ensures changed { IfErr result (λ fault. fault ≡ RenameFault.ChangesBinding → (spans : List Span) × AreReferencesIn text.now offset true (Some spans) × IsOtherText text.now spans new.now) }
-    ensures whole_characters { IfOk result (λ spans. All (StandsIn text.now) spans.items) }
+    ensures whole_characters { IfOk result (λ spans. All (IsSpanOfText text.now) spans.items) }
 {
     if !is_any_name(new) {
         return Err(RenameFault::NotAName);
@@ -92,7 +92,7 @@ impl Analysis {
         requires { IsAnalysisOf text.now self.now }
         ensures renamed { IfOk result (λ spans. IsRenameIn text.now offset new.now (Ok spans.items)) }
         ensures refused { IfErr result (λ fault. fault ≢ RenameFault.Memory → IsRenameIn text.now offset new.now (Err fault)) }
-        ensures whole_characters { IfOk result (λ spans. All (StandsIn text.now) spans.items) }
+        ensures whole_characters { IfOk result (λ spans. All (IsSpanOfText text.now) spans.items) }
     {
         rename(alloc, text, offset, new)
     }

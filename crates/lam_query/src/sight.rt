@@ -10,7 +10,7 @@ ghost use Rattle.lam_scope.specs.TableViews.{binder_number};
 ghost use Rattle.lam_scope.specs.Views.{AreScopesOf, table_of};
 ghost use Rattle.lam_query.specs.Analyses.{AreTypesOf, commands_in};
 ghost use Rattle.lam_query.specs.Completions.{AreNames};
-ghost use Rattle.lam_query.specs.Sight.{innermost_with, innermost_after, binder_for, detail_found, item_found, AreTexts, AreTextsFound};
+ghost use Rattle.lam_query.specs.inner.Sight.{innermost_with, innermost_after, binder_for, detail_found, item_found, AreTexts, AreTextsFound};
 ghost use Rattle.lam_query.specs.Views.{item_of};
 
 use crate::analyses::{Analysis, Types};

@@ -8,10 +8,10 @@ ghost use Rattle.lam_scope.specs.TableViews.{place_number};
 ghost use Rattle.lam_scope.specs.Views.{table_of};
 ghost use Rattle.lam_query.specs.declared.answers.Step.{Step as RustStep};
 ghost use Rattle.lam_query.specs.Steps.{Proofs, steps_of, steps_before, sub_proof, sub_proofs, with_side};
-ghost use Rattle.lam_query.specs.RowSteps.{premise_places, row_proof, row_proofs};
-ghost use Rattle.lam_query.specs.Within.{StandsIn};
+ghost use Rattle.lam_query.specs.inner.RowSteps.{premise_places, row_proof, row_proofs};
+ghost use Rattle.lam_query.specs.Within.{IsSpanOfText};
 ghost use Rattle.lam_query.specs.Views.{step_of, StepStandsIn};
-ghost use Rattle.lam_query.specs.Listing.{AreListed};
+ghost use Rattle.lam_query.specs.inner.Listing.{AreListed};
 
 use crate::answers::Step;
 use lam_rules::{SubProof, TypeProof, TypeRule, copy_of};
@@ -26,7 +26,7 @@ pub(crate) fn steps_of_proof(
     proof: &TypeProof,
 ) -> Result<Vec<Step>, AllocError>
     ensures steps { IfOk result (λ listed. map step_of listed.items ≡ steps_of 0 (row_proof (table_of scopes.now) place.0 (typing_tree_of proof.now))) }
-    ensures whole_characters { IfOk result (λ listed. (text : List ℕ) → ((n : ℕ) → StandsIn text (place_row_numbered (table_of scopes.now) n).span) → All (StepStandsIn text) listed.items) }
+    ensures whole_characters { IfOk result (λ listed. (text : List ℕ) → ((n : ℕ) → IsSpanOfText text (place_row_numbered (table_of scopes.now) n).span) → All (StepStandsIn text) listed.items) }
 {
     let mut listed = Vec::new(alloc);
     list_typing(alloc, &mut listed, scopes, place, proof)?;

@@ -6,7 +6,7 @@ ghost use Rattle.lam_query.specs.Analyses.{AreTypesOf, IsAnalysisOf, commands_in
 ghost use Rattle.lam_query.specs.Faults.{AreInOrder};
 ghost use Rattle.lam_query.specs.SyntaxFaults.{fault_at};
 ghost use Rattle.lam_query.specs.TextFaults.{AreFaults, AreTypeFaults, written_fault};
-ghost use Rattle.lam_query.specs.Within.{StandsIn};
+ghost use Rattle.lam_query.specs.Within.{IsSpanOfText};
 ghost use Rattle.lam_query.specs.Views.{fault_of};
 
 use crate::analyses::{Analysis, Types};
@@ -19,7 +19,7 @@ use std::alloc::{AllocError, Global};
 /// The faults of a text, by their start, then their end, then their code.
 pub fn faults(alloc: Global, text: &str, dialect: Dialect) -> Result<Vec<Fault>, AllocError>
     ensures faults { IfOk result (λ found. AreFaults text.now (map fault_of found.items) dialect) }
-    ensures whole_characters { IfOk result (λ found. All (λ f. StandsIn text.now f.span) found.items) }
+    ensures whole_characters { IfOk result (λ found. All (λ f. IsSpanOfText text.now f.span) found.items) }
 {
     Analysis::new(alloc, text, dialect)?.faults(alloc, text)
 }
@@ -29,7 +29,7 @@ impl Analysis {
     pub fn faults(&self, alloc: Global, text: &str) -> Result<Vec<Fault>, AllocError>
         requires { IsAnalysisOf text.now self.now }
         ensures faults { IfOk result (λ found. AreFaults text.now (map fault_of found.items) (dialect_of self.now)) }
-        ensures whole_characters { IfOk result (λ found. All (λ f. StandsIn text.now f.span) found.items) }
+        ensures whole_characters { IfOk result (λ found. All (λ f. IsSpanOfText text.now f.span) found.items) }
     {
         let of_types = self.type_faults(alloc)?;
         let mut found = Vec::new(alloc);

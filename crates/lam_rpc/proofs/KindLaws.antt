@@ -6,7 +6,7 @@ use Rattle.std.proofs.lemmas.Str.{IsUtf8-from_is_utf8, is_utf8-from_IsUtf8}
 use Rattle.serde_json.specs.Data.{Data, null}
 use Rattle.serde_json.specs.Find.{get, as_object, as_str}
 use Rattle.serde_json.specs.Read.{read}
-use Rattle.lam_rpc.specs.Kind.{Message, request, notice, reply, unreadable, invalid, IsTextOf, HasKind, IsKindOf, kind_of, with_id, with_method, is_id, is_reply}
+use Rattle.lam_rpc.specs.Kind.{Message, request, notice, reply, unreadable, invalid, IsTextOf, HasKind, IsKindOf, message_kind, with_id, with_method, is_id, is_reply}
 
 -- no value is read, or one of this kind
 data Read (body : List ℕ) (m : Message) : Type 0 where
@@ -28,7 +28,7 @@ same_kind : (body : List ℕ) (m n : Message) → Read body m → Read body n �
 same_kind body m n (nothing p _) (nothing q _) = p ∙ sym q
 same_kind body m n (nothing _ never) (something k) = absurd (never k.value k.text)
 same_kind body m n (something k) (nothing _ never) = absurd (never k.value k.text)
-same_kind body m n (something k) (something l) = k.kind ∙ (ap kind_of (one_value body k.value l.value k.text l.text) ∙ sym l.kind)
+same_kind body m n (something k) (something l) = k.kind ∙ (ap message_kind (one_value body k.value l.value k.text l.text) ∙ sym l.kind)
 
 pub one_kind : (body : List ℕ) (m n : Message) → IsKindOf body m → IsKindOf body n → m ≡ n
 one_kind body m n h k = same_kind body m n (how_read body m h) (how_read body n k)
@@ -49,7 +49,7 @@ with_method_read : (method : Option (List ℕ)) (d : Data) → IsRead (with_meth
 with_method_read None d = λ e. cc
 with_method_read (Some method) d = with_id_read (get (codes "id") d) method (unwrap_or (get (codes "params") d) null)
 
-kind_of_read : (d : Data) → IsRead (kind_of d)
+kind_of_read : (d : Data) → IsRead (message_kind d)
 kind_of_read d =
     let text = option_and_then as_str (get (codes "method") d) in
     chosen (not (is_some (as_object d))) invalid (if is_reply d then reply else with_method text d) (λ e. cc)
@@ -64,7 +64,7 @@ of_read body invalid r h = h
 
 of_value : (body : List ℕ) (found : Option Data) → IsUtf8 body → read body ≡ found → (m : Message) × IsKindOf body m
 of_value body None u e = (unreadable, λ d t. let clash : None ≡ Some d = sym e ∙ t.reads in cc)
-of_value body (Some d) u e = (kind_of d, of_read body (kind_of d) (kind_of_read d) (record { value = d; text = record { utf8 = u; reads = e }; kind = refl }))
+of_value body (Some d) u e = (message_kind d, of_read body (message_kind d) (kind_of_read d) (record { value = d; text = record { utf8 = u; reads = e }; kind = refl }))
 
 of_bytes : (body : List ℕ) (b : Bool) → is_utf8 body ≡ b → (m : Message) × IsKindOf body m
 of_bytes body true e = of_value body (read body) (IsUtf8-from_is_utf8 body e) refl

@@ -16,18 +16,18 @@ abbrev pub text_at : List ℕ → Data → Option (List ℕ)
 text_at name d = option_and_then as_str (get name d)
 
 -- `{"line": L, "character": C}`
-abbrev pub position_of : Data → Option Position
-position_of d =
+abbrev pub given_position : Data → Option Position
+given_position d =
     option_and_then (λ line. option_map (λ character. record { line = line; character = character }) (number_at (codes "character") d))
     (number_at (codes "line") d)
 
 -- a position in a member
 abbrev pub position_at : List ℕ → Data → Option Position
-position_at name d = option_and_then position_of (get name d)
+position_at name d = option_and_then given_position (get name d)
 
 -- `{"start": POSITION, "end": POSITION}`
-abbrev pub range_of : Data → Option Range
-range_of d =
+abbrev pub given_range : Data → Option Range
+given_range d =
     option_and_then (λ start. option_map (λ end. record { start = start; end = end }) (position_at (codes "end") d))
     (position_at (codes "start") d)
 
@@ -42,7 +42,7 @@ named_uri params = option_and_then (text_at (codes "uri")) (get (codes "textDocu
 -- the range that a `range` member is; null means the whole text
 abbrev pub changed_range : Data → Option (Option Range)
 changed_range null = Some None
-changed_range d = option_map (λ range. Some range) (range_of d)
+changed_range d = option_map (λ range. Some range) (given_range d)
 
 -- the range of a change; where it is missing, the whole text is meant
 abbrev pub range_at : Option Data → Option (Option Range)

@@ -44,8 +44,8 @@ with_method None d = invalid
 with_method (Some method) d = with_id (get (codes "id") d) method (unwrap_or (get (codes "params") d) null)
 
 -- the kind of a value: objects alone are messages, and a reply is told before the method is read
-abbrev pub kind_of : Data → Message
-kind_of d =
+abbrev pub message_kind : Data → Message
+message_kind d =
     if not (is_some (as_object d)) then invalid
     else (if is_reply d then reply
     else with_method (option_and_then as_str (get (codes "method") d)) d)
@@ -59,7 +59,7 @@ pub record IsTextOf (body : List ℕ) (d : Data) : Type 0 where
 pub record HasKind (body : List ℕ) (m : Message) : Type 0 where
   pub value : Data
   pub text : IsTextOf body value
-  pub kind : m ≡ kind_of value
+  pub kind : m ≡ message_kind value
 
 -- the kind of a body, where no value is read the unreadable one
 abbrev pub IsKindOf : List ℕ → Message → Type 0

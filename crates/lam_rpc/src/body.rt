@@ -3,7 +3,7 @@ ghost use Rattle.std.specs.Prelude.{◌≡◌, IfOk, codes, unwrap_or};
 ghost use Rattle.serde_json.specs.Data.{null};
 ghost use Rattle.serde_json.specs.Find.{get};
 ghost use Rattle.serde_json.specs.View.{view};
-ghost use Rattle.lam_rpc.specs.Kind.{message_of, kind_of, is_id, is_reply, IsKindOf, HasPlainId};
+ghost use Rattle.lam_rpc.specs.Kind.{message_of, message_kind, is_id, is_reply, IsKindOf, HasPlainId};
 
 use serde_json::Value;
 use std::alloc::{AllocError, Global};
@@ -56,7 +56,7 @@ pub fn classify(alloc: Global, body: &[u8]) -> Result<Incoming, AllocError>
 }
 
 fn of_value(alloc: Global, mut value: Value) -> Result<Incoming, AllocError>
-    ensures kind { IfOk result (λ incoming. message_of incoming ≡ kind_of (view value)) }
+    ensures kind { IfOk result (λ incoming. message_of incoming ≡ message_kind (view value)) }
     ensures plain { IfOk result (λ incoming. HasPlainId (message_of incoming)) }
 {
     if !value.is_object() {

@@ -3,7 +3,7 @@ ghost use Rattle.std.specs.Prelude.{◌≡◌, Some, None, codes, option_map, If
 ghost use Rattle.std.specs.Result.{result_ok};
 ghost use Rattle.serde_json.specs.Find.{get};
 ghost use Rattle.serde_json.specs.View.{view, items_view};
-ghost use Rattle.lam_rpc.specs.Fields.{number_at, text_at, position_of, position_at, range_of, asked_position, named_uri, range_at, change_of, changes_of, listed_changes};
+ghost use Rattle.lam_rpc.specs.Fields.{number_at, text_at, given_position, position_at, given_range, asked_position, named_uri, range_at, change_of, changes_of, listed_changes};
 
 use lam_text::{Change, Position, Range};
 use serde_json::Value;
@@ -30,7 +30,7 @@ pub fn read_position(params: &Value) -> Result<Position, BadParams>
 
 /// A range (LSP 3.17, `Range`).
 pub fn read_range(range: &Value) -> Result<Range, BadParams>
-    ensures { result_ok result ≡ range_of (view range.now) }
+    ensures { result_ok result ≡ given_range (view range.now) }
 {
     range_of(range).ok_or(BadParams {})
 }
@@ -98,7 +98,7 @@ fn range_at(change: &Value) -> Option<Option<Range>>
 }
 
 fn range_of(range: &Value) -> Option<Range>
-    ensures { result ≡ range_of (view range.now) }
+    ensures { result ≡ given_range (view range.now) }
 {
     let start = position_at(range, "start")?;
     let end = position_at(range, "end")?;
@@ -112,7 +112,7 @@ fn position_at(value: &Value, name: &str) -> Option<Position>
 }
 
 fn position_of(value: &Value) -> Option<Position>
-    ensures { result ≡ position_of (view value.now) }
+    ensures { result ≡ given_position (view value.now) }
 {
     let line = number_at(value, "line")?;
     let character = number_at(value, "character")?;

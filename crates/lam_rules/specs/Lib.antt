@@ -11,7 +11,7 @@ pub mod TypingViews
 pub mod Sorting
 pub mod SharedTexts
 pub mod ReadableLabels
-pub mod TypeCodes
 pub mod Numbers
 pub mod Entries
 pub mod ShapeIndex
+pub mod inner

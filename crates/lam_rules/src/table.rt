@@ -40,7 +40,7 @@ pub struct TyTable {
 impl Model for TyTable {
     ghost use Rattle.std.specs.Prelude.{List};
     ghost use Rattle.lam_rules.specs.Types.{Typ};
-    ghost use Rattle.lam_rules.specs.TypeCodes.{coded_types};
+    ghost use Rattle.lam_rules.specs.inner.TypeCodes.{coded_types};
 
     ghost Value = { List Typ };
 

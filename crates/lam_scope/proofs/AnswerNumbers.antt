@@ -111,7 +111,7 @@ module _ (bs : List TextBinder) where
         both_within one (type_uses types u) (term_within types names n k t (rows_left bs n one (type_uses types u) stand)) (types_within types u)
     node_within types names n k (tree.record_term fs) stand = fields_within types names n k fs stand
 
-    fields_within : (types names : List Entry) (n k : ℕ) (fs : tree.TermFields) → BindersStand bs n (fields_table types names n k fs).binders → AreWithin (fields_table types names n k fs)
+    fields_within : (types names : List Entry) (n k : ℕ) (fs : tree.FieldTrees) → BindersStand bs n (fields_table types names n k fs).binders → AreWithin (fields_table types names n k fs)
     fields_within types names n k tree.no_fields stand = tt
     fields_within types names n k (tree.field l t fs) stand =
         let second = n + binders_in t in

@@ -122,7 +122,7 @@ mutual
       omega arith
   node_binders types names n k (tree.record_term fs) = fields_binders types names n k fs
 
-  fields_binders : (types names : List Entry) (n k : ℕ) (fs : tree.TermFields) → length (fields_table types names n k fs).binders ≡ binders_in_fields fs
+  fields_binders : (types names : List Entry) (n k : ℕ) (fs : tree.FieldTrees) → length (fields_table types names n k fs).binders ≡ binders_in_fields fs
   fields_binders types names n k tree.no_fields = refl
   fields_binders types names n k (tree.field l t fs) =
       plus (term_table types names n k t) (fields_table types names (n + binders_in t) (behind k t) fs) (binders_in t) (binders_in_fields fs)

@@ -4,13 +4,13 @@ use Rattle.std.specs.Prelude.{if◌then◌else◌}
 use Rattle.std.specs.List.{AllByRecursion, cons_option}
 use Rattle.std.proofs.lemmas.Bool.{and_parts, eqb-true}
 use Rattle.lam_syntax.specs.Trees as tree
-use Rattle.lam_syntax.specs.Trees.{word, Bound, bound, TypeTree, type_tree, TypeNode, TypeFields, TermTree, term_tree, TermNode, TermFields, CommandTree}
+use Rattle.lam_syntax.specs.Trees.{word, Bound, bound, TypeTree, type_tree, TypeNode, TypeFields, TermTree, term_tree, TermNode, FieldTrees, CommandTree}
 use Rattle.lam_token.specs.declared.kind.Kind.{Kind}
 use Rattle.lam_token.specs.declared.kind.Kind.TheVariants as kind
 use Rattle.lam_token.specs.declared.span.Span.{Span}
 use Rattle.lam_token.specs.Edits.{is_span}
 use Rattle.lam_scope.specs.Names.{Name, binds}
-use Rattle.lam_scope.specs.Mentions.{Binder, binder, seen_of, bound_to, Mention, binds_at, uses_at, labels_at, token_of, mention_of, mentions_of_type, mentions_of_type_node, mentions_of_type_fields, mentions_of, mentions_of_node, mentions_of_fields, mentions_of_command, types_behind, names_behind, mentions_from, mentions, bound_at, uses_of, Ascend, IsBehindBinder}
+use Rattle.lam_scope.specs.Mentions.{Binder, binder, seen_of, token_bound_to, Mention, binds_at, uses_at, labels_at, token_of, mention_of, mentions_of_type, mentions_of_type_node, mentions_of_type_fields, mentions_of, mentions_of_node, mentions_of_fields, mentions_of_command, types_behind, names_behind, mentions_from, mentions, bound_at, uses_of, Ascend, IsBehindBinder}
 use Rattle.lam_scope.proofs.EveryElement.{every_append}
 use Rattle.lam_scope.proofs.BoundMentions.{binder_holds}
 
@@ -50,14 +50,14 @@ Ends high (Some b) = b.end ≤ high
 
 -- so does the binder of each name
 abbrev AllEnd : (high : ℕ) → List Binder → Type 0
-AllEnd high bs = (x : Name) → Ends high (bound_to x bs)
+AllEnd high bs = (x : Name) → Ends high (token_bound_to x bs)
 
 ends_later : (high next : ℕ) (b : Option Span) → high ≤ next → Ends high b → Ends next b
 ends_later high next None le h = tt
 ends_later high next (Some b) le h = omega arith
 
 all_later : (high next : ℕ) (bs : List Binder) → high ≤ next → AllEnd high bs → AllEnd next bs
-all_later high next bs le h x = ends_later high next (bound_to x bs) le (h x)
+all_later high next bs le h x = ends_later high next (token_bound_to x bs) le (h x)
 
 ends_here : (high : ℕ) (here : Bool) (s : Span) (b : Option Span) → s.end ≤ high → Ends high b → Ends high (if here then Some s else b)
 ends_here high true s b le h = le
@@ -66,7 +66,7 @@ ends_here high false s b le h = h
 -- a binder that is mentioned, and the mentions between it and what sees it
 one_more : (low high : ℕ) (k : Kind) (x : Name) (s : Span) (ms : List Mention) (bs : List Binder) → Ascend low (binds_at k s ∷ ms) high → AllEnd low bs → AllEnd high (binder (Some x) s ∷ bs)
 one_more low high k x s ms bs ascend h y =
-    ends_here high (binds (Some x) y) s (bound_to y bs) (ascend_orders s.end high ms ascend.2)
+    ends_here high (binds (Some x) y) s (token_bound_to y bs) (ascend_orders s.end high ms ascend.2)
     (all_later low high bs (ascend_orders low high (binds_at k s ∷ ms) ascend) h y)
 
 -- both kinds of binders in sight
@@ -93,7 +93,7 @@ mutual
   type_behind types low (type_tree s n) h = type_node_behind types low n h
 
   type_node_behind : (types : List Binder) (low : ℕ) (n : TypeNode) → AllEnd low types → AreBehind low (mentions_of_type_node types n)
-  type_node_behind types low (tree.named (word x s)) h = λ high ascend. (ends_later low s.start (bound_to x types) ascend.0 (h x), tt)
+  type_node_behind types low (tree.named (word x s)) h = λ high ascend. (ends_later low s.start (token_bound_to x types) ascend.0 (h x), tt)
   type_node_behind types low (tree.arrow a b) h =
       in_order low (mentions_of_type types a) (mentions_of_type types b) (type_behind types low a h) (λ mid le front. type_behind types mid b (all_later low mid types le h))
   type_node_behind types low (tree.record_type fs) h = type_fields_behind types low fs h
@@ -114,7 +114,7 @@ mutual
   term_behind types names low (term_tree s n) h = node_behind types names low n h
 
   node_behind : (types names : List Binder) (low : ℕ) (n : TermNode) → BothEnd low types names → AreBehind low (mentions_of_node types names n)
-  node_behind types names low (tree.variable (word x s)) h = λ high ascend. (ends_later low s.start (bound_to x names) ascend.0 (h.1 x), tt)
+  node_behind types names low (tree.variable (word x s)) h = λ high ascend. (ends_later low s.start (token_bound_to x names) ascend.0 (h.1 x), tt)
   node_behind types names low (tree.lambda b u t) h =
       in_order low (mention_of b ++ mentions_of_type types u) (mentions_of types (seen_of b ∷ names) t)
       (binder_behind low b (mentions_of_type types u) (λ mid le. type_behind types mid u (all_later low mid types le h.0)))
@@ -149,7 +149,7 @@ mutual
   node_behind types names low (tree.record_term fs) h = fields_behind types names low fs h
   node_behind types names low n h = λ high ascend. tt
 
-  fields_behind : (types names : List Binder) (low : ℕ) (fs : TermFields) → BothEnd low types names → AreBehind low (mentions_of_fields types names fs)
+  fields_behind : (types names : List Binder) (low : ℕ) (fs : FieldTrees) → BothEnd low types names → AreBehind low (mentions_of_fields types names fs)
   fields_behind types names low tree.no_fields h = λ high ascend. tt
   fields_behind types names low (tree.field (word l s) t fs) h =
       first_behind low (labels_at s) (mentions_of types names t ++ mentions_of_fields types names fs) tt

@@ -8,8 +8,8 @@ use Rattle.lam_syntax.specs.Trees.{CommandTree}
 use Rattle.lam_token.specs.declared.kind.Kind.{Kind}
 use Rattle.lam_token.specs.declared.span.Span.{Span}
 use Rattle.lam_token.specs.Edits.{is_span}
-use Rattle.lam_scope.specs.Tables.{TextBinder, TextUse, table, binder_in, binder_numbered, binder_at, binder_token_at, binder_used_at, has_name, is_number, is_use_of, tokens_of}
-use Rattle.lam_scope.specs.Mentions.{Mention, binds_at, uses_at, labels_at, token_of, kind_of, binder_of, mentions, bound_at, use_of, uses_of, Ascend}
+use Rattle.lam_scope.specs.Tables.{TextBinder, TextUse, table, binder_in, binder_numbered, binder_at, binder_token_at, binder_used_at, has_name, is_number, is_use_of, use_tokens}
+use Rattle.lam_scope.specs.Mentions.{Mention, binds_at, uses_at, labels_at, token_of, kind_of, binder_of, mentions, bound_at, use_bound_to, uses_of, Ascend}
 use Rattle.lam_scope.specs.Renames.{kind_bound, answer_for, kind_of_binder, HasName}
 use Rattle.lam_scope.proofs.UseChains.{same_number, other_number}
 use Rattle.lam_scope.proofs.BinderRows.{Along, BindersStand, all_stand}
@@ -211,7 +211,7 @@ same_binder bs n None (Some s) alone h = absurd h
 same_binder bs n (Some m) None alone h = absurd h
 
 -- the token of a use is told for this binder just where it is of it
-pub use_is : (b : Span) (k : Kind) (t : Span) (c : Option Span) → use_of b (uses_at k t c) ≡ (if is_at b c then Some t else None)
+pub use_is : (b : Span) (k : Kind) (t : Span) (c : Option Span) → use_bound_to b (uses_at k t c) ≡ (if is_at b c then Some t else None)
 use_is b k t None = refl
 use_is b k t (Some c) = refl
 
@@ -220,7 +220,7 @@ taken : (b : Bool) (u : TextUse) (us : List TextUse) (t : Span) (ts : List Span)
 taken true u us t ts e rest = λ i. e i ∷ rest i
 taken false u us t ts e rest = rest
 
-tokens_told : (bs : List TextBinder) (n : ℕ) (us : List TextUse) (ms : List Mention) → IsAlone bs n → Along (UseTold bs) us ms → tokens_of n us ≡ uses_of (binder_in bs n).token ms
+tokens_told : (bs : List TextBinder) (n : ℕ) (us : List TextUse) (ms : List Mention) → IsAlone bs n → Along (UseTold bs) us ms → use_tokens n us ≡ uses_of (binder_in bs n).token ms
 tokens_told bs n [] [] alone h = refl
 tokens_told bs n (u ∷ us) (uses_at k s b ∷ ms) alone h =
     taken (is_number n u.binder) u (filter (is_use_of n) us) s (uses_of (binder_in bs n).token ms) h.0.0 (tokens_told bs n us ms alone h.1)
@@ -229,7 +229,7 @@ tokens_told bs n (u ∷ us) (m ∷ ms) alone h = absurd h.0
 tokens_told bs n [] (m ∷ ms) alone h = absurd h
 tokens_told bs n (u ∷ us) [] alone h = absurd h
 
-pub uses_told : (cs : List CommandTree) (high o n : ℕ) → Ascend 0 (mentions cs) high → binder_at (table cs) o ≡ Some n → tokens_of n (table cs).uses ≡ uses_of (binder_numbered (table cs) n).token (mentions cs)
+pub uses_told : (cs : List CommandTree) (high o n : ℕ) → Ascend 0 (mentions cs) high → binder_at (table cs) o ≡ Some n → use_tokens n (table cs).uses ≡ uses_of (binder_numbered (table cs) n).token (mentions cs)
 uses_told cs high o n ascend is =
     let bs = (table cs).binders in
     let ms = mentions cs in

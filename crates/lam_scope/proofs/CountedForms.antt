@@ -114,7 +114,7 @@ mutual
       let all = fields_counted types names n k bs fs us rest e in
       (ap record_term all.0, all.1)
 
-  fields_counted : (types names : List Entry) (n k : ℕ) (bs : List Abbreviation) (fs : tree.TermFields) (us rest : List TextUse) → us ≡ (fields_table types names n k fs).uses ++ rest
+  fields_counted : (types names : List Entry) (n k : ℕ) (bs : List Abbreviation) (fs : tree.FieldTrees) (us rest : List TextUse) → us ≡ (fields_table types names n k fs).uses ++ rest
       → (counted_fields bs fs us ≡ nameless_fields bs (entry_names names) fs) × (past_fields fs us ≡ rest)
   fields_counted types names n k bs tree.no_fields us rest e = (refl, e)
   fields_counted types names n k bs (tree.field (word l s) t fs) us rest e =

@@ -15,7 +15,7 @@ use Rattle.lam_syntax.specs.Trees as tree
 use Rattle.lam_syntax.specs.Trees.{word, bound, TypeTree, type_tree, TypeNode, bool, nat, unit, top, named, arrow, record_type, TypeFields, no_type_fields, type_field, joined_types, TermTree, term_tree, TermNode, CommandTree, definition, declaration, evaluation}
 use Rattle.lam_scope.specs.declared.type_fault.TypeFault.TheVariants.{UnboundTypeName, RepeatedLabel}
 use Rattle.lam_scope.specs.Names.{Name, count}
-use Rattle.lam_scope.specs.Expansions.{Abbreviation, abbreviation, meaning, is_bound, has_label, both, expansion, expansion_of_node, expansion_of_fields, label_fault, type_faults, node_faults, field_faults}
+use Rattle.lam_scope.specs.Expansions.{Abbreviation, stands_for, meaning, is_bound, has_label, both, expansion, expansion_of_node, expansion_of_fields, label_fault, type_faults, node_faults, field_faults}
 use Rattle.lam_scope.specs.Nameless.{use_counted, prefixed, nameless, nameless_node, nameless_fields, statements, written_in, written_in_node, written_in_fields, faults_in, faults}
 use Rattle.lam_scope.specs.EachWritten.{EachWrittenInTerm, EachWrittenInTerms}
 use Rattle.lam_scope.specs.Expanded.{HasExpansion, IsExpanded}
@@ -46,11 +46,11 @@ none_both xs ys e f = λ i. e i ++ f i
 
 abbrev AreExpanded : List Abbreviation → Type 0
 AreExpanded [] = Unit {0}
-AreExpanded (abbreviation x t ∷ bs) = HasExpansion t × AreExpanded bs
+AreExpanded (stands_for x t ∷ bs) = HasExpansion t × AreExpanded bs
 
 meaning_there : (x : Name) (bs : List Abbreviation) → AreExpanded bs → is_bound x bs ≡ true → HasExpansion (meaning x bs)
 meaning_there x [] h e = cc
-meaning_there x (abbreviation y t ∷ bs) h e = by (bytes_eq y x) (λ f. meaning_there x bs h.1 f) e
+meaning_there x (stands_for y t ∷ bs) h e = by (bytes_eq y x) (λ f. meaning_there x bs h.1 f) e
   where
     by : (c : Bool) → (is_bound x bs ≡ true → HasExpansion (meaning x bs)) → (if c then true else is_bound x bs) ≡ true → HasExpansion (if c then t else meaning x bs)
     by true behind f = h.0
@@ -58,7 +58,7 @@ meaning_there x (abbreviation y t ∷ bs) h e = by (bytes_eq y x) (λ f. meaning
 
 unbound_means : (x : Name) (bs : List Abbreviation) → is_bound x bs ≡ false → meaning x bs ≡ None
 unbound_means x [] e = refl
-unbound_means x (abbreviation y t ∷ bs) e = by (bytes_eq y x) (λ f. unbound_means x bs f) e
+unbound_means x (stands_for y t ∷ bs) e = by (bytes_eq y x) (λ f. unbound_means x bs f) e
   where
     by : (c : Bool) → (is_bound x bs ≡ false → meaning x bs ≡ None) → (if c then true else is_bound x bs) ≡ false → (if c then t else meaning x bs) ≡ None
     by true behind f = cc
@@ -304,7 +304,7 @@ mutual
       (term_expands bs h xs t (in_left bs (written_in t) (u ∷ []) e), type_there bs h u (in_first bs u [] (in_right bs (written_in t) (u ∷ []) e)))
   node_expands bs h xs (tree.record_term fs) e = fields_expand bs h xs fs e
 
-  fields_expand : (bs : List Abbreviation) → AreExpanded bs → (xs : List (Option Name)) (fs : tree.TermFields) → faults_in bs (written_in_fields fs) ≡ [] → HaveExpansions (nameless_fields bs xs fs)
+  fields_expand : (bs : List Abbreviation) → AreExpanded bs → (xs : List (Option Name)) (fs : tree.FieldTrees) → faults_in bs (written_in_fields fs) ≡ [] → HaveExpansions (nameless_fields bs xs fs)
   fields_expand bs h xs tree.no_fields e = tt
   fields_expand bs h xs (tree.field (word l s) t fs) e =
       (term_expands bs h xs t (in_left bs (written_in t) (written_in_fields fs) e), fields_expand bs h xs fs (in_right bs (written_in t) (written_in_fields fs) e))
@@ -332,7 +332,7 @@ mutual
   node_of_faultless bs xs (tree.ascribe t u) h = in_none bs (written_in t) (u ∷ []) (term_faultless bs xs t h.0) (none_both (type_faults bs u) [] (type_faultless bs u h.1) refl)
   node_of_faultless bs xs (tree.record_term fs) h = fields_of_faultless bs xs fs h
 
-  fields_of_faultless : (bs : List Abbreviation) (xs : List (Option Name)) (fs : tree.TermFields) → HaveExpansions (nameless_fields bs xs fs) → faults_in bs (written_in_fields fs) ≡ []
+  fields_of_faultless : (bs : List Abbreviation) (xs : List (Option Name)) (fs : tree.FieldTrees) → HaveExpansions (nameless_fields bs xs fs) → faults_in bs (written_in_fields fs) ≡ []
   fields_of_faultless bs xs tree.no_fields h = refl
   fields_of_faultless bs xs (tree.field (word l s) t fs) h = in_none bs (written_in t) (written_in_fields fs) (term_faultless bs xs t h.0) (fields_of_faultless bs xs fs h.1)
 
@@ -344,7 +344,7 @@ commands_expand bs h xs (declaration (word x s) u ∷ cs) e =
     let own = none_left (faults_in bs (u ∷ [])) (faults bs cs) e in
     (type_there bs h u (in_first bs u [] own), commands_expand bs h (Some x ∷ xs) cs (none_right (faults_in bs (u ∷ [])) (faults bs cs) e))
 commands_expand bs h xs (tree.abbreviation (word x s) u ∷ cs) e =
-    let after = abbreviation x (expansion bs u) ∷ bs in
+    let after = stands_for x (expansion bs u) ∷ bs in
     let own = type_there bs h u (in_first bs u [] (none_left (faults_in bs (u ∷ [])) (faults after cs) e)) in
     (own, commands_expand after (own, h) xs cs (none_right (faults_in bs (u ∷ [])) (faults after cs) e))
 commands_expand bs h xs (evaluation t ∷ cs) e =
@@ -356,7 +356,7 @@ commands_faultless bs xs (definition (word x s) t ∷ cs) h = none_both (faults_
 commands_faultless bs xs (declaration (word x s) u ∷ cs) h =
     none_both (faults_in bs (u ∷ [])) (faults bs cs) (none_both (type_faults bs u) [] (type_faultless bs u h.0) refl) (commands_faultless bs (Some x ∷ xs) cs h.1)
 commands_faultless bs xs (tree.abbreviation (word x s) u ∷ cs) h =
-    let after = abbreviation x (expansion bs u) ∷ bs in
+    let after = stands_for x (expansion bs u) ∷ bs in
     none_both (faults_in bs (u ∷ [])) (faults after cs) (none_both (type_faults bs u) [] (type_faultless bs u h.0) refl) (commands_faultless after xs cs h.1)
 commands_faultless bs xs (evaluation t ∷ cs) h = none_both (faults_in bs (written_in t)) (faults bs cs) (term_faultless bs xs t h.0) (commands_faultless bs xs cs h.1)
 

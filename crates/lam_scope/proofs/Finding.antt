@@ -5,7 +5,7 @@ use Rattle.lam_rules.specs.Terms.{Term}
 use Rattle.lam_rules.specs.TermViews.{term_of, terms_of}
 use Rattle.lam_rules.specs.declared.terms.Core.{Core}
 use Rattle.lam_rules.proofs.TermShapes.{term_of-True, term_of-False, term_of-If, term_of-Num, term_of-Succ, term_of-Pred, term_of-IsZero, term_of-Var, term_of-Free, term_of-Abs, term_of-App, term_of-Unit, term_of-Ascribe, term_of-Let, term_of-Record, term_of-Proj, term_of-Fix, terms_of-drop}
-use Rattle.lam_scope.specs.Found.{Sought, here, behind, seek, seek_on, terms_at, terms_at_fields}
+use Rattle.lam_scope.specs.inner.Found.{Sought, here, behind, seek, seek_on, terms_at, terms_at_fields}
 
 pub seek-append : (ts us : List Term) (n : ℕ) → seek (ts ++ us) n ≡ seek_on (seek ts n) us
 seek-append [] us n = refl

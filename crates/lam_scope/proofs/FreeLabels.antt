@@ -109,7 +109,7 @@ module _ (letters : Letters) where
     node_owns bs cs xs ys s r (tree.record_term fs) = fields_owns bs cs xs ys s r fs
     node_owns bs cs xs ys s r n = no_own
 
-    fields_owns : (bs cs : List Abbreviation) (xs ys : List (Option Name)) (s r : Scope) (fs : tree.TermFields)
+    fields_owns : (bs cs : List Abbreviation) (xs ys : List (Option Name)) (s r : Scope) (fs : tree.FieldTrees)
         → SameOwn (terms_in_each (placed_fields bs xs s (respelled_fields (λ p. p) letters fs))) (terms_in_each (placed_fields cs ys r fs))
     fields_owns bs cs xs ys s r tree.no_fields = no_own
     fields_owns bs cs xs ys s r (tree.field l t fs) = both_own (term_owns bs cs xs ys s r t) (fields_owns bs cs xs ys s r fs)
@@ -211,7 +211,7 @@ module _ (o : ℕ) where
     in_node (tree.record_term fs) = in_fields fs
     in_node n = 0
 
-    in_fields : tree.TermFields → ℕ
+    in_fields : tree.FieldTrees → ℕ
     in_fields tree.no_fields = 0
     in_fields (tree.field l t fs) = in_word l + in_term t + in_fields fs
 
@@ -288,7 +288,7 @@ module _ (o : ℕ) where
     node_mentions types names (tree.record_term fs) = fields_mentions types names fs
     node_mentions types names n = refl
 
-    fields_mentions : (types names : List Binder) (fs : tree.TermFields) → at_each (mentions_of_fields types names fs) ≡ in_fields fs
+    fields_mentions : (types names : List Binder) (fs : tree.FieldTrees) → at_each (mentions_of_fields types names fs) ≡ in_fields fs
     fields_mentions types names tree.no_fields = refl
     fields_mentions types names (tree.field (word l s) t fs) =
         omega (arith, at-append (mentions_of types names t) (mentions_of_fields types names fs), term_mentions types names t, fields_mentions types names fs)
@@ -451,7 +451,7 @@ module _ (o : ℕ) (l : Label) where
   abbrev now_node : TermNode → TermNode
   now_node n = respelled_node (λ p. p) (labelling o l) n
 
-  abbrev now_fields : tree.TermFields → tree.TermFields
+  abbrev now_fields : tree.FieldTrees → tree.FieldTrees
   now_fields fs = respelled_fields (λ p. p) (labelling o l) fs
 
   abbrev now_command : CommandTree → CommandTree
@@ -507,7 +507,7 @@ module _ (o : ℕ) (l : Label) where
     node_stays (tree.record_term fs) none = ap tree.record_term (fields_stay fs none)
     node_stays n none = refl
 
-    fields_stay : (fs : tree.TermFields) → in_fields o fs ≡ 0 → now_fields fs ≡ fs
+    fields_stay : (fs : tree.FieldTrees) → in_fields o fs ≡ 0 → now_fields fs ≡ fs
     fields_stay tree.no_fields none = refl
     fields_stay (tree.field (word k s) t fs) none =
         λ i. tree.field (word (letters_stay k s (omega (arith, none)) i) s) (term_stays t (omega (arith, none)) i) (fields_stay fs (omega (arith, none)) i)
@@ -640,7 +640,7 @@ module _ (o : ℕ) (l : Label) where
     node_piece bs xs s (tree.variable w) = no_terms (in_word o w) (λ none. refl)
     node_piece bs xs s n = no_terms 0 (λ none. refl)
 
-    fields_piece : (bs : List Abbreviation) (xs : List (Option Name)) (s : Scope) (fs : tree.TermFields)
+    fields_piece : (bs : List Abbreviation) (xs : List (Option Name)) (s : Scope) (fs : tree.FieldTrees)
         → Piece (in_fields o fs) (terms_in_each (placed_fields bs xs s fs)) (terms_in_each (placed_fields bs xs s (now_fields fs)))
         (written_in_fields (now_fields fs) ≡ written_in_fields fs)
     fields_piece bs xs s tree.no_fields = no_terms 0 (λ none. refl)

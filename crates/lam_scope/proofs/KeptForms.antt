@@ -12,7 +12,7 @@ use Rattle.lam_scope.specs.Sights.{lambda_at, term_at}
 use Rattle.lam_scope.specs.Tables.{TextBinder, TextUse, Table, ◌⊕◌, Entry, entry, entry_names, binder_row, use_row, place_row, root, behind, roots, below, binders_in, type_uses, node_uses, field_uses, term_table, node_table, fields_table, letrec_rows, commands_table, table, binder_in}
 use Rattle.lam_scope.specs.Forms.{use_form, named_form, arrow_form, record_type_form, type_field_form, type_form, type_node_form, type_field_forms, variable_form, lambda_form, if_form, let_form, letrec_form, prefixed_form, apply_form, project_form, ascribe_form, record_form, field_form, term_form, node_form, field_forms, definition_form, declaration_form, abbreviation_form, evaluation_form, forms_from}
 use Rattle.lam_scope.specs.Renames.{renamed_use, renamed_type, renamed_type_node, renamed_type_fields, renamed_term, renamed_node, renamed_fields, renamed_from, KeepsBinding}
-use Rattle.lam_scope.specs.Bearers.{bearers, keeps, all_keep}
+use Rattle.lam_scope.specs.inner.Bearers.{bearers, keeps, all_keep}
 use Rattle.lam_scope.proofs.BinderRows.{plus, type_binders, letrec_binders, term_binders, BindersStand, all_stand, rows_left, rows_right, letrec_first}
 use Rattle.lam_scope.proofs.NewNames.{renamed_entries, AreInSight, in_sight_more, form_if_kept, kept_if_form}
 
@@ -192,7 +192,7 @@ module _ (b : ℕ) (new : Name) (bs : List TextBinder) where
     node_kept types names n k (tree.record_term fs) stand ts ns =
         just_as kept (fields_table types names n k fs) (λ e. cc) (λ e. ap record_form e) (fields_kept types names n k fs stand ts ns)
 
-    fields_kept : (types names : List Entry) (n k : ℕ) (fs : tree.TermFields) → BindersStand bs n (fields_table types names n k fs).binders → AreInSight bs n types → AreInSight bs n names
+    fields_kept : (types names : List Entry) (n k : ℕ) (fs : tree.FieldTrees) → BindersStand bs n (fields_table types names n k fs).binders → AreInSight bs n types → AreInSight bs n names
         → Just kept (fields_table types names n k fs) (field_forms (later types) (later names) (renamed_fields b new types names n fs) ≡ field_forms (entry_names types) (entry_names names) fs)
     fields_kept types names n k tree.no_fields stand ts ns = ((λ e. refl), (λ e. refl))
     fields_kept types names n k (tree.field (word l s) t fs) stand ts ns =

@@ -11,7 +11,7 @@ use Rattle.lam_scope.specs.declared.seen.SeenBinder.{SeenBinder}
 use Rattle.lam_scope.specs.Names.{Name, binds, count}
 use Rattle.lam_scope.specs.Stacks.{stacked, outside}
 use Rattle.lam_scope.specs.Abbreviations.{abbreviation_of, abbreviations_in, name_of_one, names_in}
-use Rattle.lam_scope.specs.Expansions.{Abbreviation, abbreviation, meaning, is_bound}
+use Rattle.lam_scope.specs.Expansions.{Abbreviation, stands_for, meaning, is_bound}
 use Rattle.lam_scope.specs.Tables.{Entry, entry_names, bound_to}
 use Rattle.lam_scope.specs.TableViews.{entry_of, entries_of}
 use Rattle.lam_scope.proofs.StackViews.{stacked-length, stacked-nth, stacked-popped}
@@ -60,23 +60,23 @@ unbound_by_count x (f ∷ es) none =
 -- abbreviations
 
 abbrev expansion_in : Abbreviation → Option Typ
-expansion_in (abbreviation x t) = t
+expansion_in (stands_for x t) = t
 
 pub meaning_by_count : (x : Name) (bs : List Abbreviation) (n : ℕ) (a : Abbreviation) → count x (names_in bs) ≡ Some n → get_or bs n a ≡ a
     → (n < length bs) × (is_bound x bs ≡ true) × (meaning x bs ≡ expansion_in a)
 meaning_by_count x [] n a found is = cc
-meaning_by_count x (abbreviation y t ∷ bs) n a found is = by (λ m rest here. meaning_by_count x bs m a rest here) (split (bytes_eq y x) (count x (names_in bs)) n found)
+meaning_by_count x (stands_for y t ∷ bs) n a found is = by (λ m rest here. meaning_by_count x bs m a rest here) (split (bytes_eq y x) (count x (names_in bs)) n found)
   where
     by : ((m : ℕ) → count x (names_in bs) ≡ Some m → get_or bs m a ≡ a → (m < length bs) × (is_bound x bs ≡ true) × (meaning x bs ≡ expansion_in a))
         → ((bytes_eq y x ≡ true) × (n ≡ 0)) ⊎ ((bytes_eq y x ≡ false) × ((m : ℕ) × (count x (names_in bs) ≡ Some m) × (n ≡ suc m)))
-        → (n < length (abbreviation y t ∷ bs)) × (is_bound x (abbreviation y t ∷ bs) ≡ true) × (meaning x (abbreviation y t ∷ bs) ≡ expansion_in a)
+        → (n < length (stands_for y t ∷ bs)) × (is_bound x (stands_for y t ∷ bs) ≡ true) × (meaning x (stands_for y t ∷ bs) ≡ expansion_in a)
     by behind (inl (is_first, first)) = (
       omega (arith, first),
       ap (λ b. if b then true else is_bound x bs) is_first,
-      ap (λ b. if b then t else meaning x bs) is_first ∙ ap expansion_in (sym (ap (λ k. get_or (abbreviation y t ∷ bs) k a) first) ∙ is),
+      ap (λ b. if b then t else meaning x bs) is_first ∙ ap expansion_in (sym (ap (λ k. get_or (stands_for y t ∷ bs) k a) first) ∙ is),
     )
     by behind (inr (no_match, (m, rest, next))) =
-        let inner = behind m rest (sym (ap (λ k. get_or (abbreviation y t ∷ bs) k a) next) ∙ is) in
+        let inner = behind m rest (sym (ap (λ k. get_or (stands_for y t ∷ bs) k a) next) ∙ is) in
         let within = inner.0 in (
           omega (arith, next, within),
           ap (λ b. if b then true else is_bound x bs) no_match ∙ inner.1,
@@ -85,7 +85,7 @@ meaning_by_count x (abbreviation y t ∷ bs) n a found is = by (λ m rest here. 
 
 pub no_meaning_by_count : (x : Name) (bs : List Abbreviation) → count x (names_in bs) ≡ None → (is_bound x bs ≡ false) × (meaning x bs ≡ None)
 no_meaning_by_count x [] none = (refl, refl)
-no_meaning_by_count x (abbreviation y t ∷ bs) none =
+no_meaning_by_count x (stands_for y t ∷ bs) none =
     let both = split_none (bytes_eq y x) (count x (names_in bs)) none in
     let inner = no_meaning_by_count x bs both.1 in
     (ap (λ b. if b then true else is_bound x bs) both.0 ∙ inner.0, ap (λ b. if b then t else meaning x bs) both.0 ∙ inner.1)

@@ -15,7 +15,7 @@ use Rattle.lam_scope.specs.declared.numbers.Origin.TheVariants.{Declaration, Typ
 use Rattle.lam_scope.specs.Names.{Name, binds}
 use Rattle.lam_scope.specs.Sights.{lambda_at, term_at}
 use Rattle.lam_scope.specs.Tables.{TextBinder, TextUse, Table, ◌⊕◌, empty_table, Entry, entry, bound_to as number_bound_to, binder_row, use_row, place_row, has_name, root, behind, roots, below, binders_in, type_uses, node_uses, field_uses, term_table, node_table, fields_table, letrec_rows, commands_table, table, binder_in, is_token_at, binder_token_at}
-use Rattle.lam_scope.specs.Mentions.{Binder, binder, bound_to, Mention, binds_at, uses_at, labels_at, mention_of, mentions_of_type, mentions_of_type_node, mentions_of_type_fields, mentions_of, mentions_of_node, mentions_of_fields, mentions_from, mentions, bound_at}
+use Rattle.lam_scope.specs.Mentions.{Binder, binder, token_bound_to, Mention, binds_at, uses_at, labels_at, mention_of, mentions_of_type, mentions_of_type_node, mentions_of_type_fields, mentions_of, mentions_of_node, mentions_of_fields, mentions_from, mentions, bound_at}
 use Rattle.lam_scope.specs.Renames.{kind_bound}
 use Rattle.lam_scope.proofs.UseChains.{same_number, other_number}
 use Rattle.lam_scope.proofs.BinderRows.{Along, along_append, plus, type_binders, letrec_binders, term_binders, BindersStand, all_stand, rows_left, rows_right, letrec_first}
@@ -162,16 +162,16 @@ told_either : (R : Option ℕ → Option Span → Type 0) (b : Bool) (n : ℕ) (
 told_either R true n s o p g h = g refl
 told_either R false n s o p g h = h
 
-pub told_bound : (bs : List TextBinder) (k : Kind) (x : Name) (es : List Entry) (seen : List Binder) → AreTold bs k es seen → BothTold bs k (number_bound_to x es) (bound_to x seen)
+pub told_bound : (bs : List TextBinder) (k : Kind) (x : Name) (es : List Entry) (seen : List Binder) → AreTold bs k es seen → BothTold bs k (number_bound_to x es) (token_bound_to x seen)
 told_bound bs k x [] [] h = (tt, tt)
 told_bound bs k x (e ∷ es) (b ∷ seen) h =
-    subst (λ y. BothTold bs k (if binds e.name x then Some e.answer else number_bound_to x es) (if binds y x then Some b.token else bound_to x seen)) h.0
-    (told_either (BothTold bs k) (binds e.name x) e.answer b.token (number_bound_to x es) (bound_to x seen) (h.1 x) (told_bound bs k x es seen h.2))
+    subst (λ y. BothTold bs k (if binds e.name x then Some e.answer else number_bound_to x es) (if binds y x then Some b.token else token_bound_to x seen)) h.0
+    (told_either (BothTold bs k) (binds e.name x) e.answer b.token (number_bound_to x es) (token_bound_to x seen) (h.1 x) (told_bound bs k x es seen h.2))
 told_bound bs k x [] (b ∷ seen) h = absurd h
 told_bound bs k x (e ∷ es) [] h = absurd h
 
 use_mentioned : (bs : List TextBinder) (n : ℕ) (k : Kind) (x : Name) (s : Span) (es : List Entry) (seen : List Binder) → AreTold bs k es seen
-    → AreMentioned bs n (use_row x s es) (uses_at k s (bound_to x seen) ∷ [])
+    → AreMentioned bs n (use_row x s es) (uses_at k s (token_bound_to x seen) ∷ [])
 use_mentioned bs n k x s es seen h = let told = told_bound bs k x es seen h in record { at = λ o. tt; uses = ((refl, told.0, told.1), tt); answers = refl }
 
 -- the row of a binder that is itself the answer for it
@@ -343,7 +343,7 @@ mutual
       (type_mentioned bs (n + length one.binders) types types_seen u told)
   node_mentioned bs types names types_seen names_seen n k (tree.record_term fs) told seen stand = fields_mentioned bs types names types_seen names_seen n k fs told seen stand
 
-  fields_mentioned : (bs : List TextBinder) (types names : List Entry) (types_seen names_seen : List Binder) (n k : ℕ) (fs : tree.TermFields) → AreTold bs kind.TypeName types types_seen → AreTold bs kind.Name names names_seen
+  fields_mentioned : (bs : List TextBinder) (types names : List Entry) (types_seen names_seen : List Binder) (n k : ℕ) (fs : tree.FieldTrees) → AreTold bs kind.TypeName types types_seen → AreTold bs kind.Name names names_seen
       → BindersStand bs n (fields_table types names n k fs).binders → AreMentioned bs n (fields_table types names n k fs) (mentions_of_fields types_seen names_seen fs)
   fields_mentioned bs types names types_seen names_seen n k tree.no_fields told seen stand = none_mentioned bs n
   fields_mentioned bs types names types_seen names_seen n k (tree.field (word l r) t fs) told seen stand =

@@ -11,7 +11,7 @@ use Rattle.lam_scope.specs.declared.names.Named.{Named}
 use Rattle.lam_scope.specs.Names.{Name, binds, count}
 use Rattle.lam_scope.specs.Stacks.{stacked, outside}
 use Rattle.lam_scope.proofs.StackViews.{stacked-push, stacked-popped}
-use Rattle.lam_scope.specs.NameStacks.{name_in, names_of, Standing, nowhere, with_binder, standing_on, standing, at_name, reset, AreShadowed, NameIndex, flattened, found_in, IsNameStack}
+use Rattle.lam_scope.specs.inner.NameStacks.{name_in, names_of, Standing, nowhere, with_binder, standing_on, standing, at_name, reset, AreShadowed, NameIndex, flattened, found_in, IsNameStack}
 
 -- one more binder on top
 

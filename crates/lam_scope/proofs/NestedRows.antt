@@ -10,7 +10,7 @@ use Rattle.lam_syntax.specs.Trees as tree
 use Rattle.lam_syntax.specs.Trees.{word, bound, TermTree, term_tree, TermNode, CommandTree, definition, declaration, evaluation, term_span}
 use Rattle.lam_scope.specs.declared.numbers.Origin.TheVariants.{Declaration, TypeName}
 use Rattle.lam_scope.specs.Sights.{lambda_at, term_at}
-use Rattle.lam_scope.specs.Tables.{TextPlace, Table, ◌⊕◌, Entry, entry, binder_row, place_row, root, behind, roots, below, binders_in, type_uses, term_table, node_table, fields_table, letrec_rows, commands_table, table, is_over, place_in, place_at, no_span}
+use Rattle.lam_scope.specs.Tables.{TextPlace, Table, ◌⊕◌, Entry, entry, binder_row, place_row, root, behind, roots, below, binders_in, type_uses, term_table, node_table, fields_table, letrec_rows, commands_table, table, is_over, place_at_number, place_at, no_span}
 use Rattle.lam_scope.specs.Nesting.{IsWithin, Nests, NestsInAll, AreNested, AreSpelledFrom, IsInnermost}
 use Rattle.lam_scope.proofs.SpelledTerms.{StandsBetween, PartsStand, FieldsStand, CommandsStand, spelled_stand}
 use Rattle.lam_scope.proofs.PlaceCounts.{type_places, places-plus}
@@ -170,7 +170,7 @@ mutual
       (nest_more (term_span t).start (term_span t).end low high one (begins low high t h) (ends low high t h) (term_nests types names n k low high t h))
   node_nests types names n k low high (tree.record_term fs) le h = fields_nest types names n k low high fs le h
 
-  fields_nest : (types names : List Entry) (n k low high : ℕ) (fs : tree.TermFields) → low ≤ high → FieldsStand low high fs → NestBetween low high (fields_table types names n k fs)
+  fields_nest : (types names : List Entry) (n k low high : ℕ) (fs : tree.FieldTrees) → low ≤ high → FieldsStand low high fs → NestBetween low high (fields_table types names n k fs)
   fields_nest types names n k low high tree.no_fields le h = (tt, tt)
   fields_nest types names n k low high (tree.field l t fs) le h =
       let one = term_table types names n k t in
@@ -258,12 +258,12 @@ over_bounds_by false false true s o e f h = (ltb-false o s.start e, ltb-true o s
 over_bounds : (o : ℕ) (p : TextPlace) → is_over o p ≡ true → (p.span.start ≤ o) × (o < p.span.end)
 over_bounds o p h = over_bounds_by p.derived (ltb o p.span.start) (ltb o p.span.end) p.span o refl refl h
 
-nests_at : (p : TextPlace) (qs : List TextPlace) (q : ℕ) → NestsInAll p qs → q < length qs → Nests p (place_in qs q)
+nests_at : (p : TextPlace) (qs : List TextPlace) (q : ℕ) → NestsInAll p qs → q < length qs → Nests p (place_at_number qs q)
 nests_at p [] q n lt = absurd (omega arith)
 nests_at p (r ∷ qs) zero n lt = n.0
 nests_at p (r ∷ qs) (suc q) n lt = nests_at p qs q n.1 (omega arith)
 
-nested_at : (ps : List TextPlace) (i q : ℕ) → AreNested ps → i < q → q < length ps → Nests (place_in ps i) (place_in ps q)
+nested_at : (ps : List TextPlace) (i q : ℕ) → AreNested ps → i < q → q < length ps → Nests (place_at_number ps i) (place_at_number ps q)
 nested_at [] i q n lt within = absurd (omega arith)
 nested_at (p ∷ ps) zero zero n lt within = absurd (omega arith)
 nested_at (p ∷ ps) zero (suc q) n lt within = nests_at p ps q n.0 (omega arith)
@@ -273,29 +273,29 @@ nested_at (p ∷ ps) (suc i) (suc q) n lt within = nested_at ps i q n.1 (omega a
 abbrev no_place : TextPlace
 no_place = record { span = no_span; derived = true; terms = []; inner = None }
 
-over_within : (o : ℕ) (ps : List TextPlace) (q : ℕ) → is_over o (place_in ps q) ≡ true → q < length ps
+over_within : (o : ℕ) (ps : List TextPlace) (q : ℕ) → is_over o (place_at_number ps q) ≡ true → q < length ps
 over_within o ps q there = by (cases_lt q (length ps))
   where
     by : (q < length ps) ⊎ (length ps ≤ q) → q < length ps
     by (inl lt) = lt
-    by (inr le) = let nowhere : place_in ps q ≡ no_place = get_or-eq_default ps no_place le in let wrong : false ≡ true = sym (ap (is_over o) nowhere) ∙ there in cc
+    by (inr le) = let nowhere : place_at_number ps q ≡ no_place = get_or-eq_default ps no_place le in let wrong : false ≡ true = sym (ap (is_over o) nowhere) ∙ there in cc
 
 pub first_is_innermost : (t : Table) (o i : ℕ) → AreNested t.places → place_at t o ≡ Some i → IsInnermost o t i
 first_is_innermost t o i nested found q there = by (cases_lt q i) (cases_lt i q)
   where
-    first : (i < length t.places) × (is_over o (place_in t.places i) ≡ true) × ((k : ℕ) → k < i → is_over o (place_in t.places k) ≡ false)
+    first : (i < length t.places) × (is_over o (place_at_number t.places i) ≡ true) × ((k : ℕ) → k < i → is_over o (place_at_number t.places k) ≡ false)
     first = position-Some (is_over o) t.places i no_place found
 
-    apart : Nests (place_in t.places i) (place_in t.places q) → IsWithin (place_in t.places i).span (place_in t.places q).span
+    apart : Nests (place_at_number t.places i) (place_at_number t.places q) → IsWithin (place_at_number t.places i).span (place_at_number t.places q).span
     apart (inl within) = within
     apart (inr behind) =
-        let mine = over_bounds o (place_in t.places i) first.1 in
-        let theirs = over_bounds o (place_in t.places q) there in
+        let mine = over_bounds o (place_at_number t.places i) first.1 in
+        let theirs = over_bounds o (place_at_number t.places q) there in
         absurd (omega (arith, behind, mine.1, theirs.0))
 
-    by : (q < i) ⊎ (i ≤ q) → (i < q) ⊎ (q ≤ i) → IsWithin (place_in t.places i).span (place_in t.places q).span
+    by : (q < i) ⊎ (i ≤ q) → (i < q) ⊎ (q ≤ i) → IsWithin (place_at_number t.places i).span (place_at_number t.places q).span
     by (inl before) b = let not_yet = first.2 q before in let wrong : true ≡ false = sym there ∙ not_yet in cc
     by (inr le) (inl behind) = apart (nested_at t.places i q nested behind (over_within o t.places q there))
     by (inr le) (inr more) =
         let same : i ≡ q = omega (arith, le, more) in
-        subst (λ k. IsWithin (place_in t.places i).span (place_in t.places k).span) same (omega arith, omega arith)
+        subst (λ k. IsWithin (place_at_number t.places i).span (place_at_number t.places k).span) same (omega arith, omega arith)

@@ -11,7 +11,7 @@ use Rattle.lam_scope.specs.Names.{Name, binds, count}
 use Rattle.lam_scope.specs.Tables.{TextBinder, Entry, entry, entry_names, innermost, bound_to, use_of, free_name, binder_in, is_number}
 use Rattle.lam_scope.specs.Forms.{unbound, use_form}
 use Rattle.lam_scope.specs.Renames.{renamed_use, renamed_binder}
-use Rattle.lam_scope.specs.Bearers.{bears, told_of, bearer, bearers_behind, bearers, name_by, takes, is_answer, keeps}
+use Rattle.lam_scope.specs.inner.Bearers.{bears, told_of, bearer, bearers_behind, bearers, name_by, takes, is_answer, keeps}
 use Rattle.lam_scope.proofs.Lookups.{unbound_by_count}
 use Rattle.lam_scope.proofs.UseChains.{same_number}
 

@@ -18,7 +18,7 @@ use Rattle.lam_scope.specs.Nameless.{nameless, abbreviations_after, names_after}
 use Rattle.lam_scope.specs.Places.{written, of_term, Scope}
 use Rattle.lam_scope.specs.PlacedTerms as placed
 use Rattle.lam_scope.specs.PlacedTerms.{OwnWord, no_word, own_word, PlacedTree, PlacedTrees, no_parts, part_first, one_part, two_parts, placed_at, letrec_function, letrec_fix, placed_term, placed_parts, placed_fields, terms_in, terms_in_each, command_terms, commands_terms, document_terms, scope_after}
-use Rattle.lam_scope.specs.OwnWords.{words_in, words_below, words_in_fields, command_words, commands_words, is_target, at_word, seek_on, number_of}
+use Rattle.lam_scope.specs.inner.OwnWords.{words_in, words_below, words_in_fields, command_words, commands_words, is_target, at_word, seek_on, number_of}
 use Rattle.lam_scope.proofs.Resolving.{commands-drop}
 use Rattle.lam_scope.proofs.Walks.{fields_of-drop}
 
@@ -97,7 +97,7 @@ mutual
   parts_worded bs xs s (tree.ascribe t u) = one_worded (placed_term bs xs s t) (words_in t) (terms_worded bs xs s t)
   parts_worded bs xs s (tree.record_term fs) = fields_worded bs xs s fs
 
-  fields_worded : (bs : List Abbreviation) (xs : List (Option Name)) (s : Scope) (fs : tree.TermFields) → map own (terms_in_each (placed_fields bs xs s fs)) ≡ words_in_fields fs
+  fields_worded : (bs : List Abbreviation) (xs : List (Option Name)) (s : Scope) (fs : tree.FieldTrees) → map own (terms_in_each (placed_fields bs xs s fs)) ≡ words_in_fields fs
   fields_worded bs xs s tree.no_fields = refl
   fields_worded bs xs s (tree.field l t fs) =
       more_worded (placed_term bs xs s t) (placed_fields bs xs s fs) (words_in t) (words_in_fields fs) (terms_worded bs xs s t) (fields_worded bs xs s fs)

@@ -10,7 +10,7 @@ use Rattle.lam_scope.specs.declared.rows.Rows.{Rows}
 use Rattle.lam_scope.specs.Names.{Name, count}
 use Rattle.lam_scope.specs.Expansions.{Abbreviation, expansion}
 use Rattle.lam_scope.specs.Nameless.{use_counted, prefixed, nameless, nameless_node, nameless_fields, statements, abbreviations_after, names_after}
-use Rattle.lam_scope.specs.Places.{written, of_term, Scope, places, places_in, places_of}
+use Rattle.lam_scope.specs.Places.{written, of_term, Scope, places, field_places, places_of}
 use Rattle.lam_scope.specs.TableViews.{rows_of, terms_start, text_place}
 use Rattle.lam_scope.specs.Sights.{inside, inside_fields, lambda_at, term_at}
 use Rattle.lam_scope.specs.Tables.{Table, ◌⊕◌, Entry, entry, binder_row, place_row, root, behind, roots, below, below_node, below_fields, binders_in, type_uses, node_uses, field_uses, term_table, node_table, fields_table, command_table, commands_table, table, types_seen_after, names_seen_after, binders_in_command, places_in_command}
@@ -93,7 +93,7 @@ mutual
       omega arith
   node_places types names n k (tree.record_term fs) = fields_places types names n k fs
 
-  fields_places : (types names : List Entry) (n k : ℕ) (fs : tree.TermFields) → length (fields_table types names n k fs).places ≡ below_fields fs
+  fields_places : (types names : List Entry) (n k : ℕ) (fs : tree.FieldTrees) → length (fields_table types names n k fs).places ≡ below_fields fs
   fields_places types names n k tree.no_fields = refl
   fields_places types names n k (tree.field l t fs) =
       places-plus (term_table types names n k t) (fields_table types names (n + binders_in t) (behind k t) fs) (below t + 1) (below_fields fs)
@@ -134,7 +134,7 @@ mutual
   inside-node bs xs (tree.ascribe t u) = ap (λ m. m + 1) (inside-nameless bs xs t)
   inside-node bs xs (tree.record_term fs) = inside-fields bs xs fs
 
-  inside-fields : (bs : List Abbreviation) (xs : List (Option Name)) (fs : tree.TermFields) → inside_fields (nameless_fields bs xs fs) ≡ below_fields fs
+  inside-fields : (bs : List Abbreviation) (xs : List (Option Name)) (fs : tree.FieldTrees) → inside_fields (nameless_fields bs xs fs) ≡ below_fields fs
   inside-fields bs xs tree.no_fields = refl
   inside-fields bs xs (tree.field (word l s) t fs) = λ i. inside-nameless bs xs t i + 1 + inside-fields bs xs fs i
 
@@ -162,7 +162,7 @@ mutual
       let whole = length-joined (places s a ++ places (of_term a ∷ s) b) (record { scope = s; here = let_in a b } ∷ []) (inside a + 1 + (inside b + 1)) 1
       (length-joined (places s a) (places (of_term a ∷ s) b) (inside a + 1) (inside b + 1) (places-length s a) (places-length (of_term a ∷ s) b)) refl in
       omega arith
-  places-length s (record_term es) = length-joined (places_in s es) (record { scope = s; here = record_term es } ∷ []) (inside_fields es) 1 (places_in-length s es) refl
+  places-length s (record_term es) = length-joined (field_places s es) (record { scope = s; here = record_term es } ∷ []) (inside_fields es) 1 (places_in-length s es) refl
   places-length s (project e l) = length-joined (places s e) (record { scope = s; here = project e l } ∷ []) (inside e + 1) 1 (places-length s e) refl
   places-length s (fix e) = length-joined (places s e) (record { scope = s; here = fix e } ∷ []) (inside e + 1) 1 (places-length s e) refl
   places-length s true_term = refl
@@ -172,9 +172,9 @@ mutual
   places-length s (variable n) = refl
   places-length s (free x) = refl
 
-  places_in-length : (s : Scope) (es : TermFields) → length (places_in s es) ≡ inside_fields es
+  places_in-length : (s : Scope) (es : TermFields) → length (field_places s es) ≡ inside_fields es
   places_in-length s no_terms = refl
-  places_in-length s (term_field l e es) = length-joined (places s e) (places_in s es) (inside e + 1) (inside_fields es) (places-length s e) (places_in-length s es)
+  places_in-length s (term_field l e es) = length-joined (places s e) (field_places s es) (inside e + 1) (inside_fields es) (places-length s e) (places_in-length s es)
 
 -- of the commands, one by one
 

@@ -1,8 +1,8 @@
 -- The terms at the places of statements, and how the search for one ends.
 use Rattle.std.proofs.Common.{◌≡◌, ℕ, ◌<◌, List, [], ◌∷◌, ◌++◌, length, get_or, zero, suc, refl, ap, sym, ◌∙◌, arith}
 use Rattle.lam_rules.specs.Terms.{Term, true_term, false_term, if_then_else, numeral, succ, pred, is_zero, variable, free, lambda, apply, unit_term, ascribe, let_in, record_term, project, fix, TermFields, no_terms, term_field}
-use Rattle.lam_scope.specs.Places.{written, of_term, Scope, Place, places, places_in, Statement, defines, declares, abbreviates, states, places_of, place_numbered}
-use Rattle.lam_scope.specs.Found.{terms_at, terms_at_fields, terms_stated, here, behind, seek, seek_on}
+use Rattle.lam_scope.specs.Places.{written, of_term, Scope, Place, places, field_places, Statement, defines, declares, abbreviates, states, places_of, place_numbered}
+use Rattle.lam_scope.specs.inner.Found.{terms_at, terms_at_fields, terms_stated, here, behind, seek, seek_on}
 use Rattle.lam_scope.proofs.Finding.{seek-append}
 
 -- the terms at the places of statements
@@ -40,7 +40,7 @@ mutual
   terms-places s (let_in a b) =
       one (places s a ++ places (of_term a ∷ s) b) (record { scope = s; here = let_in a b }) (terms_at a ++ terms_at b)
       (two (places s a) (places (of_term a ∷ s) b) (terms_at a) (terms_at b) (terms-places s a) (terms-places (of_term a ∷ s) b))
-  terms-places s (record_term es) = one (places_in s es) (record { scope = s; here = record_term es }) (terms_at_fields es) (terms-places_in s es)
+  terms-places s (record_term es) = one (field_places s es) (record { scope = s; here = record_term es }) (terms_at_fields es) (terms-places_in s es)
   terms-places s (project e l) = one (places s e) (record { scope = s; here = project e l }) (terms_at e) (terms-places s e)
   terms-places s (fix e) = one (places s e) (record { scope = s; here = fix e }) (terms_at e) (terms-places s e)
   terms-places s true_term = refl
@@ -50,9 +50,9 @@ mutual
   terms-places s (variable n) = refl
   terms-places s (free x) = refl
 
-  terms-places_in : (s : Scope) (es : TermFields) → terms_of_places (places_in s es) ≡ terms_at_fields es
+  terms-places_in : (s : Scope) (es : TermFields) → terms_of_places (field_places s es) ≡ terms_at_fields es
   terms-places_in s no_terms = refl
-  terms-places_in s (term_field l e es) = two (places s e) (places_in s es) (terms_at e) (terms_at_fields es) (terms-places s e) (terms-places_in s es)
+  terms-places_in s (term_field l e es) = two (places s e) (field_places s es) (terms_at e) (terms_at_fields es) (terms-places s e) (terms-places_in s es)
 
 terms-places_of : (s : Scope) (ss : List Statement) → terms_of_places (places_of s ss) ≡ terms_in ss
 terms-places_of s [] = refl

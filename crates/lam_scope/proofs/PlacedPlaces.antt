@@ -10,7 +10,7 @@ use Rattle.lam_syntax.specs.Trees.{word, bound, TermTree, term_tree, TermNode, C
 use Rattle.lam_scope.specs.Names.{Name, count}
 use Rattle.lam_scope.specs.Expansions.{Abbreviation, expansion}
 use Rattle.lam_scope.specs.Nameless.{use_counted, prefixed, nameless, nameless_node, nameless_fields, statements, abbreviations_after}
-use Rattle.lam_scope.specs.Places.{Scope, written, of_term, Place, places, places_in, places_of}
+use Rattle.lam_scope.specs.Places.{Scope, written, of_term, Place, places, field_places, places_of}
 use Rattle.lam_scope.specs.PlacedTerms.{OwnWord, no_word, name_at, label_at, PlacedTree, term_of, PlacedTrees, no_parts, part_first, one_part, two_parts, placed_at, letrec_function, letrec_fix, placed_term, placed_parts, placed_fields, terms_in, terms_in_each, commands_terms, document_terms}
 
 abbrev places_told : List PlacedTree → List Place
@@ -100,12 +100,12 @@ mutual
       let one = places s (nameless bs xs t) in
       told_own no_word one r true xs s (nameless_node bs xs (tree.ascribe t u)) (one_part (placed_term bs xs s t)) (told_one one (placed_term bs xs s t) (term_told bs xs s t))
   node_told bs xs s r (tree.record_term fs) =
-      told_own no_word (places_in s (nameless_fields bs xs fs)) r true xs s (nameless_node bs xs (tree.record_term fs)) (placed_fields bs xs s fs) (fields_told bs xs s fs)
+      told_own no_word (field_places s (nameless_fields bs xs fs)) r true xs s (nameless_node bs xs (tree.record_term fs)) (placed_fields bs xs s fs) (fields_told bs xs s fs)
 
-  fields_told : (bs : List Abbreviation) (xs : List (Option Name)) (s : Scope) (fs : tree.TermFields) → places_in s (nameless_fields bs xs fs) ≡ places_told (terms_in_each (placed_fields bs xs s fs))
+  fields_told : (bs : List Abbreviation) (xs : List (Option Name)) (s : Scope) (fs : tree.FieldTrees) → field_places s (nameless_fields bs xs fs) ≡ places_told (terms_in_each (placed_fields bs xs s fs))
   fields_told bs xs s tree.no_fields = refl
   fields_told bs xs s (tree.field (word l q) t fs) =
-      told_both (places s (nameless bs xs t)) (places_in s (nameless_fields bs xs fs)) (terms_in (placed_term bs xs s t)) (terms_in_each (placed_fields bs xs s fs)) (term_told bs xs s t) (fields_told bs xs s fs)
+      told_both (places s (nameless bs xs t)) (field_places s (nameless_fields bs xs fs)) (terms_in (placed_term bs xs s t)) (terms_in_each (placed_fields bs xs s fs)) (term_told bs xs s t) (fields_told bs xs s fs)
 
 commands_told : (bs : List Abbreviation) (xs : List (Option Name)) (s : Scope) (cs : List CommandTree) → places_of s (statements bs xs cs) ≡ places_told (commands_terms bs xs s cs)
 commands_told bs xs s [] = refl

@@ -12,7 +12,7 @@ use Rattle.lam_scope.specs.Expansions.{Abbreviation, expansion}
 use Rattle.lam_scope.specs.Nameless.{nameless, nameless_node, abbreviations_after}
 use Rattle.lam_scope.specs.Places.{written, of_term, Scope}
 use Rattle.lam_scope.specs.Sights.{lambda_at, term_at}
-use Rattle.lam_scope.specs.Tables.{TextBinder, TextPlace, Table, ◌⊕◌, Entry, entry, innermost, binder_row, place_row, root, behind, roots, roots_of_fields, below, below_node, below_fields, binders_in, type_uses, term_table, node_table, fields_table, letrec_rows, commands_table, table, place_in}
+use Rattle.lam_scope.specs.Tables.{TextBinder, TextPlace, Table, ◌⊕◌, Entry, entry, innermost, binder_row, place_row, root, behind, roots, roots_of_fields, below, below_node, below_fields, binders_in, type_uses, term_table, node_table, fields_table, letrec_rows, commands_table, table, place_at_number}
 use Rattle.lam_scope.specs.PlacedTerms.{OwnWord, no_word, PlacedTree, PlacedTrees, no_parts, part_first, one_part, two_parts, placed_at, letrec_function, letrec_fix, placed_term, placed_parts, placed_fields, terms_in, terms_in_each, commands_terms, document_terms, tree_in, trees_in}
 use Rattle.lam_scope.specs.PlacedRows.{IsRowOf}
 use Rattle.lam_scope.specs.TableViews.{rows_of, terms_start, text_place}
@@ -82,7 +82,7 @@ mutual
   parts_counted bs xs s (tree.ascribe t u) = one_counted (placed_term bs xs s t) (below t + 1) (terms_counted bs xs s t)
   parts_counted bs xs s (tree.record_term fs) = fields_counted bs xs s fs
 
-  fields_counted : (bs : List Abbreviation) (xs : List (Option Name)) (s : Scope) (fs : tree.TermFields) → length (terms_in_each (placed_fields bs xs s fs)) ≡ below_fields fs
+  fields_counted : (bs : List Abbreviation) (xs : List (Option Name)) (s : Scope) (fs : tree.FieldTrees) → length (terms_in_each (placed_fields bs xs s fs)) ≡ below_fields fs
   fields_counted bs xs s tree.no_fields = refl
   fields_counted bs xs s (tree.field l t fs) = more_counted (placed_term bs xs s t) (placed_fields bs xs s fs) (below t + 1) (below_fields fs) (terms_counted bs xs s t) (fields_counted bs xs s fs)
 
@@ -109,7 +109,7 @@ module _ (all : List PlacedTree) where
       let count = parts_counted bs xs s n in
       own_stands k (k + below_node n) (placed_term bs xs s (term_tree r n)) (placed_parts bs xs s n) (omega arith) h
 
-  fields_stand : (bs : List Abbreviation) (xs : List (Option Name)) (s : Scope) (k : ℕ) (fs : tree.TermFields) → TreesStand k (terms_in_each (placed_fields bs xs s fs))
+  fields_stand : (bs : List Abbreviation) (xs : List (Option Name)) (s : Scope) (k : ℕ) (fs : tree.FieldTrees) → TreesStand k (terms_in_each (placed_fields bs xs s fs))
       → trees_in all (roots_of_fields k fs) ≡ placed_fields bs xs s fs
   fields_stand bs xs s k tree.no_fields h = refl
   fields_stand bs xs s k (tree.field l t fs) h =
@@ -363,7 +363,7 @@ module _ (whole : Table) (all : List PlacedTree) where
         (term_rows types names n k bs xs s t under seen (rows_left whole.binders n one (type_uses types u) stand) (first_stands all k part no_parts there)))
     node_rows types names n k bs xs s (tree.record_term fs) under seen stand there = fields_rows types names n k bs xs s fs under seen stand there
 
-    fields_rows : (types names : List Entry) (n k : ℕ) (bs : List Abbreviation) (xs : List (Option Name)) (s : Scope) (fs : tree.TermFields)
+    fields_rows : (types names : List Entry) (n k : ℕ) (bs : List Abbreviation) (xs : List (Option Name)) (s : Scope) (fs : tree.FieldTrees)
         → AreUnder names n → See names xs → Stand n (fields_table types names n k fs).binders → TreesStand all k (terms_in_each (placed_fields bs xs s fs))
         → Along Told (fields_table types names n k fs).places (terms_in_each (placed_fields bs xs s fs))
     fields_rows types names n k bs xs s tree.no_fields under seen stand there = tt
@@ -434,7 +434,7 @@ module _ (whole : Table) (all : List PlacedTree) where
 
 -- the row and the term of a number
 
-told_numbered : (whole : Table) (all : List PlacedTree) (ps : List TextPlace) (ts : List PlacedTree) (n : ℕ) → Along (IsRowOf whole all) ps ts → IsRowOf whole all (place_in ps n) (tree_in ts n)
+told_numbered : (whole : Table) (all : List PlacedTree) (ps : List TextPlace) (ts : List PlacedTree) (n : ℕ) → Along (IsRowOf whole all) ps ts → IsRowOf whole all (place_at_number ps n) (tree_in ts n)
 told_numbered whole all [] [] n h = record { span = refl; derived = refl; names = refl; parts = refl }
 told_numbered whole all (p ∷ ps) (t ∷ ts) zero h = h.0
 told_numbered whole all (p ∷ ps) (t ∷ ts) (suc n) h = told_numbered whole all ps ts n h.1
@@ -450,7 +450,7 @@ as_long R (x ∷ xs) [] h = absurd h
 pub document_rows : (cs : List CommandTree) → Along (IsRowOf (table cs) (document_terms cs)) (table cs).places (document_terms cs)
 document_rows cs = commands_rows (table cs) (document_terms cs) [] [] 0 0 0 [] [] [] cs tt tt (all_stand (table cs).binders) (stand_all (tree_in [] 0) (document_terms cs))
 
-pub row_told : (cs : List CommandTree) (n : ℕ) → IsRowOf (table cs) (document_terms cs) (place_in (table cs).places n) (tree_in (document_terms cs) n)
+pub row_told : (cs : List CommandTree) (n : ℕ) → IsRowOf (table cs) (document_terms cs) (place_at_number (table cs).places n) (tree_in (document_terms cs) n)
 row_told cs n = told_numbered (table cs) (document_terms cs) (table cs).places (document_terms cs) n (document_rows cs)
 
 pub as_many_rows : (cs : List CommandTree) → length (table cs).places ≡ length (document_terms cs)

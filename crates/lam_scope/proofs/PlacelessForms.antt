@@ -1,7 +1,7 @@
 -- The nameless form of trees is that of the same trees at other places.
 use Rattle.std.proofs.Common.{◌≡◌, ℕ, List, [], ◌∷◌, map, refl, ap, Option, Some, None}
 use Rattle.lam_token.specs.declared.kind.Kind.TheVariants as kind
-use Rattle.lam_syntax.specs.Trees.{word, bound, TypeTree, type_tree, TypeNode, bool, nat, unit, top, named, arrow, record_type, TypeFields, no_type_fields, type_field, TermTree, term_tree, TermNode, true_term, false_term, unit_term, variable, numeral, lambda, if_term, let_term, letrec_term, prefixed, apply, project, ascribe, record_term, TermFields, no_fields, field, CommandTree, definition, declaration, abbreviation, evaluation}
+use Rattle.lam_syntax.specs.Trees.{word, bound, TypeTree, type_tree, TypeNode, bool, nat, unit, top, named, arrow, record_type, TypeFields, no_type_fields, type_field, TermTree, term_tree, TermNode, true_term, false_term, unit_term, variable, numeral, lambda, if_term, let_term, letrec_term, prefixed, apply, project, ascribe, record_term, FieldTrees, no_fields, field, CommandTree, definition, declaration, abbreviation, evaluation}
 use Rattle.lam_syntax.specs.Respelled.{Letters, respelled_type, respelled_type_node, respelled_type_fields, respelled_term, respelled_node, respelled_fields, respelled_command}
 use Rattle.lam_scope.specs.Names.{Name}
 use Rattle.lam_scope.specs.Forms.{type_form, type_node_form, type_field_forms, term_form, node_form, field_forms, type_field_form, arrow_form, record_type_form, lambda_form, if_form, let_form, letrec_form, prefixed_form, apply_form, project_form, ascribe_form, record_form, field_form, definition_form, declaration_form, abbreviation_form, evaluation_form, forms, forms_from}
@@ -51,7 +51,7 @@ module _ (place other : ℕ → ℕ) (letters : Letters) where
     node_elsewhere types names (ascribe t u) = λ i. ascribe_form (term_elsewhere types names t i) (type_elsewhere types u i)
     node_elsewhere types names (record_term fs) = ap record_form (fields_elsewhere types names fs)
 
-    fields_elsewhere : (types names : List (Option Name)) (fs : TermFields) → field_forms types names (respelled_fields place letters fs) ≡ field_forms types names (respelled_fields other letters fs)
+    fields_elsewhere : (types names : List (Option Name)) (fs : FieldTrees) → field_forms types names (respelled_fields place letters fs) ≡ field_forms types names (respelled_fields other letters fs)
     fields_elsewhere types names no_fields = refl
     fields_elsewhere types names (field (word l s) t fs) = λ i. field_form (letters kind.Name l s) (term_elsewhere types names t i) (fields_elsewhere types names fs i)
 

@@ -8,7 +8,7 @@ use Rattle.std.proofs.Math.ListN.{get_or-eq_default}
 use Rattle.lam_scope.specs.declared.numbers.Origin.TheVariants.{TypeName}
 use Rattle.std.specs.List.{slice_range}
 use Rattle.lam_scope.specs.Slices.{first_start, AreInOrder}
-use Rattle.lam_scope.specs.Tables.{TextBinder, binder_in, place_in, seen_in, no_span}
+use Rattle.lam_scope.specs.Tables.{TextBinder, binder_in, place_at_number, seen_in, no_span}
 use Rattle.lam_scope.specs.declared.rows.BinderRow.{BinderRow}
 use Rattle.lam_scope.specs.declared.rows.PlaceRow.{PlaceRow}
 use Rattle.lam_scope.specs.declared.rows.UseRow.{UseRow}
@@ -37,16 +37,16 @@ pub binder-past : (bs : List BinderRow) (n : ℕ) → length bs ≤ n → binder
 binder-past bs n le = get_or-eq_default (map text_binder bs) _ (rw (length-map bs text_binder) le)
 
 pub place-at : (ts : List Place) (ps : List PlaceRow) (n : ℕ) (p : PlaceRow) → n < length ps → p ≡ get_or ps n p
-    → place_in (text_places ts ps) n ≡ text_place p (slice_range ts p.terms_start (first_start terms_start (drop (n + 1) ps) (length ts)))
+    → place_at_number (text_places ts ps) n ≡ text_place p (slice_range ts p.terms_start (first_start terms_start (drop (n + 1) ps) (length ts)))
 place-at ts ps n p lt is = rw add-one (sliced-at terms_start text_place ts ps n p _ lt is)
 
-pub place-span : (ts : List Place) (ps : List PlaceRow) (n : ℕ) (p : PlaceRow) → n < length ps → p ≡ get_or ps n p → (place_in (text_places ts ps) n).span ≡ p.span
+pub place-span : (ts : List Place) (ps : List PlaceRow) (n : ℕ) (p : PlaceRow) → n < length ps → p ≡ get_or ps n p → (place_at_number (text_places ts ps) n).span ≡ p.span
 place-span ts ps n p lt is = ap (λ q. q.span) (place-at ts ps n p lt is)
 
-pub place-inner : (ts : List Place) (ps : List PlaceRow) (n : ℕ) (p : PlaceRow) → n < length ps → p ≡ get_or ps n p → (place_in (text_places ts ps) n).inner ≡ option_map binder_number p.inner
+pub place-inner : (ts : List Place) (ps : List PlaceRow) (n : ℕ) (p : PlaceRow) → n < length ps → p ≡ get_or ps n p → (place_at_number (text_places ts ps) n).inner ≡ option_map binder_number p.inner
 place-inner ts ps n p lt is = ap (λ q. q.inner) (place-at ts ps n p lt is)
 
-pub place-past : (ts : List Place) (ps : List PlaceRow) (n : ℕ) → length ps ≤ n → place_in (text_places ts ps) n ≡ record { span = no_span; derived = true; terms = []; inner = None }
+pub place-past : (ts : List Place) (ps : List PlaceRow) (n : ℕ) → length ps ≤ n → place_at_number (text_places ts ps) n ≡ record { span = no_span; derived = true; terms = []; inner = None }
 place-past ts ps n le = sliced-past terms_start text_place ts ps n _ le
 
 -- where the immediate terms of a place end

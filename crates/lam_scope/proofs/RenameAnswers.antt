@@ -14,10 +14,11 @@ use Rattle.lam_scope.specs.declared.rename_fault.RenameFault.{RenameFault}
 use Rattle.lam_scope.specs.declared.rename_fault.RenameFault.TheVariants as fault
 use Rattle.lam_scope.specs.Names.{Name}
 use Rattle.lam_scope.specs.Tables.{table, binder_numbered}
-use Rattle.lam_scope.specs.Renames.{KeepsBinding, other_kind, answer_for, kind_of_binder, AreRenamed, IsRefused}
-use Rattle.lam_scope.specs.Bearers.{all_keep}
+use Rattle.lam_scope.specs.Renames.{KeepsBinding, answer_for, kind_of_binder, AreRenamed, IsRefused}
+use Rattle.lam_scope.specs.inner.Bearers.{all_keep}
 use Rattle.lam_scope.proofs.KeptForms.{keeps_if_all, all_if_keeps}
 use Rattle.lam_scope.proofs.RenamedBinders.{bound_kind}
+use Rattle.lam_scope.specs.Mentions.{other_kind}
 
 -- ---- what a text can name
 

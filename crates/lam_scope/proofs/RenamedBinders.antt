@@ -10,10 +10,10 @@ use Rattle.lam_scope.specs.declared.rename_fault.RenameFault.{RenameFault}
 use Rattle.lam_scope.specs.declared.rename_fault.RenameFault.TheVariants as fault
 use Rattle.lam_scope.specs.declared.scopes.Scopes.{Scopes}
 use Rattle.lam_scope.specs.Names.{Name}
-use Rattle.lam_scope.specs.Tables.{Table, table, binder_numbered, tokens_of, tokens_by}
+use Rattle.lam_scope.specs.Tables.{Table, table, binder_numbered, use_tokens, tokens_by}
 use Rattle.lam_scope.specs.Views.{AreScopesOf, table_of, uses_in}
 use Rattle.lam_scope.specs.Renames.{kind_bound, HasName, AreRenamed, IsRefused, answer_for}
-use Rattle.lam_scope.specs.Bearers.{all_keep, IsUnfit}
+use Rattle.lam_scope.specs.inner.Bearers.{all_keep, IsUnfit}
 use Rattle.lam_scope.proofs.AnswerNumbers.{answer_within}
 use Rattle.lam_scope.proofs.TokenLists.{tokens_by-at}
 use Rattle.lam_scope.proofs.KeptForms.{keeps_if_all, all_if_keeps}
@@ -27,11 +27,11 @@ bound_kind origin.TypeName = inr refl
 
 -- the uses of a binder, as the scopes list them
 uses_listed : (cs : List CommandTree) (t : Table) (lists : List (List Span)) (n : ℕ) → t ≡ table cs → lists ≡ tokens_by 0 (length (table cs).binders) (table cs).uses → n < length (table cs).binders
-    → slice_index_or lists (binder_numbered t n).answer [] ≡ tokens_of (answer_for cs n) (table cs).uses
+    → slice_index_or lists (binder_numbered t n).answer [] ≡ use_tokens (answer_for cs n) (table cs).uses
 uses_listed cs t lists n same listed inside =
     (λ i. slice_index_or (listed i) (binder_numbered (same i) n).answer [])
     ∙ tokens_by-at (table cs).uses 0 (length (table cs).binders) (answer_for cs n) (answer_within cs n inside)
-    ∙ ap (λ k. tokens_of k (table cs).uses) zero_more
+    ∙ ap (λ k. use_tokens k (table cs).uses) zero_more
   where
     zero_more : 0 + answer_for cs n ≡ answer_for cs n
     zero_more = omega arith

@@ -9,7 +9,7 @@ use Rattle.lam_scope.specs.declared.numbers.Origin.TheVariants.{Declaration}
 use Rattle.lam_scope.specs.Bindings.{lambda_type, declared_type, binding_from, AreOriginsOf}
 use Rattle.lam_scope.specs.Nameless.{statements}
 use Rattle.lam_scope.specs.PlacedTerms.{term_of, tree_in, document_terms}
-use Rattle.lam_scope.specs.Places.{written, of_term, Scope, Place, places, places_in, Statement, defines, declares, abbreviates, states, places_of, place_numbered, statement_numbered}
+use Rattle.lam_scope.specs.Places.{written, of_term, Scope, Place, places, field_places, Statement, defines, declares, abbreviates, states, places_of, place_numbered, statement_numbered}
 use Rattle.lam_scope.specs.Sights.{Sight, inside, place_of_term, behind_term, lambda_at, term_at, sights, sights_in, sights_of, sight_numbered}
 use Rattle.lam_scope.specs.Tables.{table, binder_numbered, place_row_numbered, seen_in, visible_at}
 use Rattle.lam_scope.proofs.BinderRows.{Along, along_append, StandAt, stand_left, stand_right, stand_all}
@@ -65,7 +65,7 @@ module _ (ss : List Statement) where
   root_stands k s (apply f a) h = last_stands k (inside (apply f a)) s (apply f a) (places s f ++ places s a) (places-length s (apply f a)) h
   root_stands k s (ascribe e w) h = last_stands k (inside (ascribe e w)) s (ascribe e w) (places s e) (places-length s (ascribe e w)) h
   root_stands k s (let_in a b) h = last_stands k (inside (let_in a b)) s (let_in a b) (places s a ++ places (of_term a ∷ s) b) (places-length s (let_in a b)) h
-  root_stands k s (record_term es) h = last_stands k (inside (record_term es)) s (record_term es) (places_in s es) (places-length s (record_term es)) h
+  root_stands k s (record_term es) h = last_stands k (inside (record_term es)) s (record_term es) (field_places s es) (places-length s (record_term es)) h
   root_stands k s (project e l) h = last_stands k (inside (project e l)) s (project e l) (places s e) (places-length s (project e l)) h
   root_stands k s (fix e) h = last_stands k (inside (fix e)) s (fix e) (places s e) (places-length s (fix e)) h
   root_stands k s e h = last_stands k 0 s e [] refl h
@@ -118,16 +118,16 @@ module _ (ss : List Statement) where
         (along_append Leads (places s a) (places scope b) (sights k t a) (sights (behind_term k a) inner b)
         (term_leads k s t a seen first) (term_leads (behind_term k a) scope inner b (under_term k s t a seen first) (next k s a (places scope b) two)))
     term_leads k s t (record_term es) seen h =
-        with_own s t (record_term es) (places_in s es) (sights_in k t es) seen (fields_lead k s t es seen (front k (places_in s es) (record { scope = s; here = record_term es } ∷ []) h))
+        with_own s t (record_term es) (field_places s es) (sights_in k t es) seen (fields_lead k s t es seen (front k (field_places s es) (record { scope = s; here = record_term es } ∷ []) h))
     term_leads k s t (project e l) seen h = with_own s t (project e l) (places s e) (sights k t e) seen (term_leads k s t e seen (front k (places s e) (record { scope = s; here = project e l } ∷ []) h))
     term_leads k s t (fix e) seen h = with_own s t (fix e) (places s e) (sights k t e) seen (term_leads k s t e seen (front k (places s e) (record { scope = s; here = fix e } ∷ []) h))
     term_leads k s t e seen h = (seen, tt)
 
-    fields_lead : (k : ℕ) (s : Scope) (t : Sight) (es : TermFields) → LeadsTo s t → Stand k (places_in s es) → Along Leads (places_in s es) (sights_in k t es)
+    fields_lead : (k : ℕ) (s : Scope) (t : Sight) (es : TermFields) → LeadsTo s t → Stand k (field_places s es) → Along Leads (field_places s es) (sights_in k t es)
     fields_lead k s t no_terms seen h = tt
     fields_lead k s t (term_field l e es) seen h =
-        along_append Leads (places s e) (places_in s es) (sights k t e) (sights_in (behind_term k e) t es)
-        (term_leads k s t e seen (front k (places s e) (places_in s es) h)) (fields_lead (behind_term k e) s t es seen (next k s e (places_in s es) h))
+        along_append Leads (places s e) (field_places s es) (sights k t e) (sights_in (behind_term k e) t es)
+        (term_leads k s t e seen (front k (places s e) (field_places s es) h)) (fields_lead (behind_term k e) s t es seen (next k s e (field_places s es) h))
 
   statements_lead : (k i : ℕ) (s : Scope) (t : Sight) (rest : List Statement) → LeadsTo s t → Stand k (places_of s rest) → Follow i rest → Along Leads (places_of s rest) (sights_of k i t rest)
   statements_lead k i s t [] seen h follow = tt

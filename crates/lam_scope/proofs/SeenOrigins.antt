@@ -12,7 +12,7 @@ use Rattle.lam_scope.specs.Names.{Name, count}
 use Rattle.lam_scope.specs.Expansions.{Abbreviation}
 use Rattle.lam_scope.specs.Nameless.{use_counted, prefixed, nameless, nameless_node, nameless_fields, statements, abbreviations_after}
 use Rattle.lam_scope.specs.Sights.{Sight, inside, place_of_term, behind_term, lambda_at, term_at, sights, sights_in, sights_of, sight_numbered}
-use Rattle.lam_scope.specs.Tables.{TextBinder, TextPlace, Table, ◌⊕◌, Entry, entry, binder_row, place_row, root, behind, roots, below, binders_in, type_uses, term_table, node_table, fields_table, letrec_rows, commands_table, table, binder_in, place_in, seen_in, visible_at}
+use Rattle.lam_scope.specs.Tables.{TextBinder, TextPlace, Table, ◌⊕◌, Entry, entry, binder_row, place_row, root, behind, roots, below, binders_in, type_uses, term_table, node_table, fields_table, letrec_rows, commands_table, table, binder_in, place_at_number, seen_in, visible_at}
 use Rattle.lam_scope.proofs.PlaceCounts.{type_places, inside-nameless, places-plus}
 use Rattle.lam_scope.proofs.Reading.{map-reverse}
 use Rattle.lam_scope.proofs.BinderRows.{Along, both, front_alone, back_alone, plus, type_binders, letrec_binders, term_binders, BindersStand, all_stand, rows_left, rows_right, AreUnder, under_more, AreSeen, one_more, read_from, read_seen, letrec_first}
@@ -161,7 +161,7 @@ mutual
   node_sees bs types names n k known xs s (tree.record_term fs) under seen stand =
       (sights_in k s (nameless_fields known xs fs), fields_see bs types names n k known xs s fs under seen stand, refl)
 
-  fields_see : (bs : List TextBinder) (types names : List Entry) (n k : ℕ) (known : List Abbreviation) (xs : List (Option Name)) (s : Sight) (fs : tree.TermFields)
+  fields_see : (bs : List TextBinder) (types names : List Entry) (n k : ℕ) (known : List Abbreviation) (xs : List (Option Name)) (s : Sight) (fs : tree.FieldTrees)
       → AreUnder names n → AreSeen origin bs names s → BindersStand bs n (fields_table types names n k fs).binders → Along (SeesOrigins bs) (fields_table types names n k fs).places (sights_in k s (nameless_fields known xs fs))
   fields_see bs types names n k known xs s tree.no_fields under seen stand = tt
   fields_see bs types names n k known xs s (tree.field (word l r) t fs) under seen stand =
@@ -229,7 +229,7 @@ commands_see bs types names n k i known xs s (evaluation t ∷ cs) under seen st
 
 -- what the place of a number sees
 
-sees_numbered : (bs : List TextBinder) (ps : List TextPlace) (ss : List Sight) (n : ℕ) → Along (SeesOrigins bs) ps ss → read_from origin bs (length bs) (place_in ps n).inner ≡ get_or ss n []
+sees_numbered : (bs : List TextBinder) (ps : List TextPlace) (ss : List Sight) (n : ℕ) → Along (SeesOrigins bs) ps ss → read_from origin bs (length bs) (place_at_number ps n).inner ≡ get_or ss n []
 sees_numbered bs [] [] n h = refl
 sees_numbered bs (p ∷ ps) (s ∷ ss) zero h = h.0
 sees_numbered bs (p ∷ ps) (s ∷ ss) (suc n) h = sees_numbered bs ps ss n h.1
@@ -240,5 +240,5 @@ pub visible_origins : (cs : List CommandTree) (n : ℕ)
     → map (λ b. (binder_in (table cs).binders b).origin) (visible_at (table cs) n) ≡ reverse (sight_numbered (statements [] [] cs) n)
 visible_origins cs n =
     let bs = (table cs).binders in
-    map-reverse (λ b. (binder_in bs b).origin) (seen_in bs (length bs) (place_in (table cs).places n).inner)
+    map-reverse (λ b. (binder_in bs b).origin) (seen_in bs (length bs) (place_at_number (table cs).places n).inner)
     ∙ ap reverse (sees_numbered bs (table cs).places (sights_of 0 0 [] (statements [] [] cs)) n (commands_see bs [] [] 0 0 0 [] [] [] cs tt tt (all_stand bs)))

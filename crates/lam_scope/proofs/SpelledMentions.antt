@@ -4,9 +4,9 @@ use Rattle.lam_token.specs.Lexeme.{Lexeme, lexeme}
 use Rattle.lam_token.specs.declared.kind.Kind.{Kind}
 use Rattle.lam_token.specs.declared.kind.Kind.TheVariants as kind
 use Rattle.lam_token.specs.declared.span.Span.{Span}
-use Rattle.lam_syntax.specs.Trees.{Bound, TypeTree, type_tree, TypeFields, TermTree, term_tree, TermFields, CommandTree, from_to, spanning_type, spanning_term}
+use Rattle.lam_syntax.specs.Trees.{Bound, TypeTree, type_tree, TypeFields, TermTree, term_tree, FieldTrees, CommandTree, from_to, spanning_type, spanning_term}
 use Rattle.lam_syntax.specs.Grammar.{BinderIs, name_binder, blank_binder, TypeIs, atype_type, arrow_type, ATypeIs, parens_atype, bool_atype, nat_atype, unit_atype, top_atype, name_atype, empty_atype, record_atype, TypeFieldsAre, last_type_field, more_type_fields, TermIs, lambda_is, if_is, let_is, letrec_is, app_is, AppIs, head_app, argument_app, HeadIs, path_head, fix_head, succ_head, pred_head, iszero_head, PathIs, asc_path, label_path, AscIs, atom_asc, typed_asc, AtomIs, parens_atom, true_atom, false_atom, unit_atom, name_atom, numeral_atom, empty_atom, record_atom, FieldsAre, last_field, more_fields, Spells, definition_command, declaration_command, abbreviation_command, evaluation_command}
-use Rattle.lam_scope.specs.Mentions.{Binder, seen_of, bound_to, Mention, binds_at, uses_at, labels_at, token_of, mention_of, mentions_of_type, mentions_of_type_fields, mentions_of, mentions_of_fields, mentions_of_command, types_behind, names_behind, mentions_from, mentions, Ascend}
+use Rattle.lam_scope.specs.Mentions.{Binder, seen_of, token_bound_to, Mention, binds_at, uses_at, labels_at, token_of, mention_of, mentions_of_type, mentions_of_type_fields, mentions_of, mentions_of_fields, mentions_of_command, types_behind, names_behind, mentions_from, mentions, Ascend}
 use Rattle.lam_scope.specs.Nesting.{TokensStand, AreSpelledFrom, NamesStand, AreNamedFrom}
 
 -- mentions that ascend
@@ -69,7 +69,7 @@ mutual
   atype_passes types high nat_atype = none
   atype_passes types high unit_atype = none
   atype_passes types high top_atype = none
-  atype_passes types high (name_atype {x = x} {s = s}) = first (uses_at kind.TypeName s (bound_to x types)) [] none
+  atype_passes types high (name_atype {x = x} {s = s}) = first (uses_at kind.TypeName s (token_bound_to x types)) [] none
   atype_passes types high empty_atype = none
   atype_passes types high (record_atype d) = type_fields_pass types high d
 
@@ -126,12 +126,12 @@ mutual
   atom_passes types names high true_atom = none
   atom_passes types names high false_atom = none
   atom_passes types names high unit_atom = none
-  atom_passes types names high (name_atom {x = x} {s = s}) = first (uses_at kind.Name s (bound_to x names)) [] none
+  atom_passes types names high (name_atom {x = x} {s = s}) = first (uses_at kind.Name s (token_bound_to x names)) [] none
   atom_passes types names high numeral_atom = none
   atom_passes types names high empty_atom = none
   atom_passes types names high (record_atom d) = fields_pass types names high d
 
-  fields_pass : (types names : List Binder) (high : ℕ) {ts rest : List Lexeme} {fs : TermFields} → FieldsAre ts fs rest → Passes high ts (mentions_of_fields types names fs) rest
+  fields_pass : (types names : List Binder) (high : ℕ) {ts rest : List Lexeme} {fs : FieldTrees} → FieldsAre ts fs rest → Passes high ts (mentions_of_fields types names fs) rest
   fields_pass types names high (last_field {t = t} {s = s} d) = let own = mentions_of types names t in first (labels_at s) (own ++ []) (both own [] (term_passes types names high d) none)
   fields_pass types names high (more_fields {t = t} {fs = fs} {s = s} d e) =
       let own = mentions_of types names t in

@@ -2,7 +2,7 @@
 use Rattle.std.proofs.Common.{ℕ, ◌≤◌, List, [], ◌∷◌, arith}
 use Rattle.lam_token.specs.declared.span.Span.{Span}
 use Rattle.lam_token.specs.Lexeme.{Lexeme, lexeme}
-use Rattle.lam_syntax.specs.Trees.{Bound, TypeTree, type_tree, TypeFields, TermTree, term_tree, TermNode, TermFields, CommandTree, definition, declaration, abbreviation, evaluation, type_span, term_span, spanning_type, spanning_term, from_to}
+use Rattle.lam_syntax.specs.Trees.{Bound, TypeTree, type_tree, TypeFields, TermTree, term_tree, TermNode, FieldTrees, CommandTree, definition, declaration, abbreviation, evaluation, type_span, term_span, spanning_type, spanning_term, from_to}
 use Rattle.lam_syntax.specs.Grammar.{BinderIs, name_binder, blank_binder, TypeIs, atype_type, arrow_type, ATypeIs, parens_atype, bool_atype, nat_atype, unit_atype, top_atype, name_atype, empty_atype, record_atype, TypeFieldsAre, last_type_field, more_type_fields, TermIs, lambda_is, if_is, let_is, letrec_is, app_is, AppIs, head_app, argument_app, HeadIs, path_head, fix_head, succ_head, pred_head, iszero_head, PathIs, asc_path, label_path, AscIs, atom_asc, typed_asc, AtomIs, parens_atom, true_atom, false_atom, unit_atom, name_atom, numeral_atom, empty_atom, record_atom, FieldsAre, last_field, more_fields, Spells, definition_command, declaration_command, abbreviation_command, evaluation_command}
 use Rattle.lam_scope.specs.Nesting.{TokensStand, AreSpelledFrom}
 
@@ -25,9 +25,9 @@ abbrev mutual
   PartsStand low high n = Unit {0}
 
   -- the terms of a record, between two bytes
-  pub FieldsStand : (low high : ℕ) → TermFields → Type 0
-  FieldsStand low high TermFields.no_fields = Unit {0}
-  FieldsStand low high (TermFields.field l t fs) = StandsBetween low high t × FieldsStand (term_span t).end high fs
+  pub FieldsStand : (low high : ℕ) → FieldTrees → Type 0
+  FieldsStand low high FieldTrees.no_fields = Unit {0}
+  FieldsStand low high (FieldTrees.field l t fs) = StandsBetween low high t × FieldsStand (term_span t).end high fs
 
 -- the terms of commands, each behind those before it
 abbrev pub CommandsStand : (low : ℕ) → List CommandTree → Type 0
@@ -63,9 +63,9 @@ more_between a b c d (term_tree s n) first last h = let starts = h.0 in let ends
 more_behind : (a b d : ℕ) (t : TermTree) → b ≤ d → StandsBetween a b t → StandsBetween a d t
 more_behind a b d t last h = more_between a b a d t (omega arith) last h
 
-more_fields_between : (a b c d : ℕ) (fs : TermFields) → c ≤ a → b ≤ d → FieldsStand a b fs → FieldsStand c d fs
-more_fields_between a b c d TermFields.no_fields first last h = tt
-more_fields_between a b c d (TermFields.field l t fs) first last h =
+more_fields_between : (a b c d : ℕ) (fs : FieldTrees) → c ≤ a → b ≤ d → FieldsStand a b fs → FieldsStand c d fs
+more_fields_between a b c d FieldTrees.no_fields first last h = tt
+more_fields_between a b c d (FieldTrees.field l t fs) first last h =
     (more_between a b c d t first last h.0, more_fields_between (term_span t).end b (term_span t).end d fs (omega arith) last h.1)
 
 more_parts : (a b c d : ℕ) (n : TermNode) → c ≤ a → b ≤ d → PartsStand a b n → PartsStand c d n
@@ -239,7 +239,7 @@ mutual
       (o.0, omega (arith, o.1, fields.1, last), more_fields_between s.end fields.0 s.start e.end fs (omega (arith, o.1)) last fields.2, fields.3.2)
 
   -- fields, up to the byte where the last one ends
-  fields_stand : (low high : ℕ) {ts rest : List Lexeme} {fs : TermFields} → FieldsAre ts fs rest → TokensStand low ts high
+  fields_stand : (low high : ℕ) {ts rest : List Lexeme} {fs : FieldTrees} → FieldsAre ts fs rest → TokensStand low ts high
       → (mid : ℕ) × (low ≤ mid) × FieldsStand low mid fs × TokensStand mid rest high
   fields_stand low high (last_field {t = t} {c = c} d) o =
       let own = term_stands c.end high d o.2.2 in

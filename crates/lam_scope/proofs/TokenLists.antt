@@ -6,28 +6,28 @@ use Rattle.lam_token.specs.declared.span.Span.{Span}
 use Rattle.std.specs.List.{slice_range}
 use Rattle.lam_scope.specs.Slices.{first_start, sliced, AreInOrder}
 use Rattle.lam_scope.proofs.Slices.{first_start-at, first_start-past, in_order-longer, in_order-pushed, in_order-at, in_order-within, sliced-pushed, sliced-at, sliced-past}
-use Rattle.lam_scope.specs.Tables.{TextUse, tokens_of, tokens_by}
+use Rattle.lam_scope.specs.Tables.{TextUse, use_tokens, tokens_by}
 use Rattle.lam_scope.specs.TableViews.{list_start, listed}
 
 -- the list of a binder
 
-pub tokens_by-at : (us : List TextUse) (m count n : ℕ) → n < count → slice_index_or (tokens_by m count us) n [] ≡ tokens_of (m + n) us
+pub tokens_by-at : (us : List TextUse) (m count n : ℕ) → n < count → slice_index_or (tokens_by m count us) n [] ≡ use_tokens (m + n) us
 tokens_by-at us m zero n within = absurd (omega arith)
-tokens_by-at us m (suc count) zero within = let same : m ≡ m + 0 = omega arith in ap (λ k. tokens_of k us) same
+tokens_by-at us m (suc count) zero within = let same : m ≡ m + 0 = omega arith in ap (λ k. use_tokens k us) same
 tokens_by-at us m (suc count) (suc n) within =
     let same : m + 1 + n ≡ m + suc n = omega arith in
-    tokens_by-at us (m + 1) count n (omega (arith, within)) ∙ ap (λ k. tokens_of k us) same
+    tokens_by-at us (m + 1) count n (omega (arith, within)) ∙ ap (λ k. use_tokens k us) same
 
 -- a list more
 
-by_more : (n m count : ℕ) (us : List TextUse) → count ≡ suc m → tokens_by n count us ≡ tokens_of n us ∷ tokens_by (n + 1) m us
+by_more : (n m count : ℕ) (us : List TextUse) → count ≡ suc m → tokens_by n count us ≡ use_tokens n us ∷ tokens_by (n + 1) m us
 by_more n m count us e = ap (λ k. tokens_by n k us) e
 
-pub lists_more : (before after all : List (List Span)) (i count : ℕ) (us : List TextUse) → i < count → after ≡ before ++ tokens_of i us ∷ []
+pub lists_more : (before after all : List (List Span)) (i count : ℕ) (us : List TextUse) → i < count → after ≡ before ++ use_tokens i us ∷ []
     → before ++ tokens_by i (count - i) us ≡ all → after ++ tokens_by (i + 1) (count - (i + 1)) us ≡ all
 lists_more before after all i count us lt added so_far =
     ap (λ ks. ks ++ tokens_by (i + 1) (count - (i + 1)) us) added
-    ∙ append_assoc before (tokens_of i us ∷ []) (tokens_by (i + 1) (count - (i + 1)) us)
+    ∙ append_assoc before (use_tokens i us ∷ []) (tokens_by (i + 1) (count - (i + 1)) us)
     ∙ ap (λ ks. before ++ ks) (sym (by_more i (count - (i + 1)) (count - i) us (omega arith)))
     ∙ so_far
 

@@ -17,8 +17,8 @@ use Rattle.lam_scope.specs.declared.numbers.Origin.TheVariants.{Declaration, Typ
 use Rattle.lam_scope.specs.Names.{Name}
 use Rattle.lam_scope.specs.Nesting.{AreSpelledFrom}
 use Rattle.lam_scope.specs.Sights.{lambda_at, term_at}
-use Rattle.lam_scope.specs.Tables.{TextBinder, ◌⊕◌, Entry, entry, bound_to as number_bound_to, is_number, binder_row, place_row, root, behind, roots, below, binders_in, type_uses, term_table, node_table, fields_table, letrec_rows, commands_table, table, binder_in, binder_numbered, binder_at, tokens_of}
-use Rattle.lam_scope.specs.Mentions.{Binder, binder, bound_to, Mention, binds_at, uses_at, labels_at, token_of, binder_of, mention_of, mentions_of_type, mentions_of_type_node, mentions_of_type_fields, mentions_of, mentions_of_node, mentions_of_fields, mentions_from, mentions, use_of, uses_of, Ascend}
+use Rattle.lam_scope.specs.Tables.{TextBinder, ◌⊕◌, Entry, entry, bound_to as number_bound_to, is_number, binder_row, place_row, root, behind, roots, below, binders_in, type_uses, term_table, node_table, fields_table, letrec_rows, commands_table, table, binder_in, binder_numbered, binder_at, use_tokens}
+use Rattle.lam_scope.specs.Mentions.{Binder, binder, token_bound_to, Mention, binds_at, uses_at, labels_at, token_of, binder_of, mention_of, mentions_of_type, mentions_of_type_node, mentions_of_type_fields, mentions_of, mentions_of_node, mentions_of_fields, mentions_from, mentions, use_bound_to, uses_of, Ascend}
 use Rattle.lam_scope.specs.Renames.{kind_bound, renamed_binder, renamed_type, renamed_type_node, renamed_type_fields, renamed_term, renamed_node, renamed_fields, renamed_from, renamed}
 use Rattle.lam_scope.proofs.BinderRows.{plus, type_binders, letrec_binders, term_binders, BindersStand, all_stand, rows_left, rows_right, letrec_first}
 use Rattle.lam_scope.proofs.SpelledMentions.{spelled_ascend}
@@ -89,7 +89,7 @@ if_own : (b : Bool) (k : Kind) (s : Span) (c : Option Span) → IsOwn (if b then
 if_own true k s c = refl
 if_own false k s c = tt
 
-use_own : (b : Span) (m : Mention) → IsOwn (use_of b m) m
+use_own : (b : Span) (m : Mention) → IsOwn (use_bound_to b m) m
 use_own b (uses_at k s (Some c)) = if_own (is_span b c) k s (Some c)
 use_own b (uses_at k s None) = tt
 use_own b m = tt
@@ -98,7 +98,7 @@ some_if : (b : Bool) (s : Span) → is_some (if b then Some s else None) ≡ b
 some_if true s = refl
 some_if false s = refl
 
-some_use : (b : Span) (k : Kind) (s : Span) (c : Option Span) → is_some (use_of b (uses_at k s c)) ≡ is_at b c
+some_use : (b : Span) (k : Kind) (s : Span) (c : Option Span) → is_some (use_bound_to b (uses_at k s c)) ≡ is_at b c
 some_use b k s c = ap is_some (use_is b k s c) ∙ some_if (is_at b c) s
 
 -- the tokens of a binder and its uses: a mention's is among these just where the mention is that binder, or uses it
@@ -116,20 +116,20 @@ span_swap : (s t : Span) → is_span s t ≡ is_span t s
 span_swap s t = λ i. number_swap s.start t.start i && number_swap s.end t.end i
 
 module _ (b : Span) (all : List Mention) (binds : (s : Span) → among (filter_map token_bound all) s ≡ false → is_span s b ≡ false) where
-  is_marked : (m : Mention) → among (filter_map token_bound all) (token_of m) ≡ is_some (token_bound m) → among (uses_of b all) (token_of m) ≡ is_some (use_of b m) → IsMarked (b ∷ uses_of b all) b m
+  is_marked : (m : Mention) → among (filter_map token_bound all) (token_of m) ≡ is_some (token_bound m) → among (uses_of b all) (token_of m) ≡ is_some (use_bound_to b m) → IsMarked (b ∷ uses_of b all) b m
   is_marked (binds_at k s) told used = ap (λ c. is_span s b || c) used ∙ or-false (is_span s b) ∙ span_swap s b
   is_marked (uses_at k s c) told used = ap (λ d. d || among (uses_of b all) s) (binds s told) ∙ used ∙ some_use b k s c
   is_marked (labels_at s) told used = or_from (is_span s b) (among (uses_of b all) s) (binds s told) used
 
   are_marked : (ms : List Mention) → AllByRecursion (λ m. among (filter_map token_bound all) (token_of m) ≡ is_some (token_bound m)) ms
-      → AllByRecursion (λ m. among (uses_of b all) (token_of m) ≡ is_some (use_of b m)) ms → AreMarked (b ∷ uses_of b all) b ms
+      → AllByRecursion (λ m. among (uses_of b all) (token_of m) ≡ is_some (use_bound_to b m)) ms → AreMarked (b ∷ uses_of b all) b ms
   are_marked [] told used = tt
   are_marked (m ∷ ms) told used = (is_marked m told.0 used.0, are_marked ms told.1 used.1)
 
   all_marked : (high : ℕ) → Ascend 0 all high → AreMarked (b ∷ uses_of b all) b all
   all_marked high ascend =
       are_marked all (each_among token_bound binder_own (filter_map token_bound all) 0 high all ascend (λ s le. refl))
-      (each_among (use_of b) (use_own b) (uses_of b all) 0 high all ascend (λ s le. refl))
+      (each_among (use_bound_to b) (use_own b) (uses_of b all) 0 high all ascend (λ s le. refl))
 
 -- the new name at marked tokens
 
@@ -142,9 +142,9 @@ module _ (bs : List TextBinder) (n : ℕ) (new : Name) (spans : List Span) (alon
   split : (ms ns : List Mention) → AreMarked spans (binder_in bs n).token (ms ++ ns) → AreMarked spans (binder_in bs n).token ms × AreMarked spans (binder_in bs n).token ns
   split = parts (IsMarked spans (binder_in bs n).token)
 
-  use_marked : (k : Kind) (x : Name) (s : Span) (es : List Entry) (seen : List Binder) → AreTold bs k es seen → IsMarked spans (binder_in bs n).token (uses_at k s (bound_to x seen))
+  use_marked : (k : Kind) (x : Name) (s : Span) (es : List Entry) (seen : List Binder) → AreTold bs k es seen → IsMarked spans (binder_in bs n).token (uses_at k s (token_bound_to x seen))
       → among spans s ≡ is_number n (number_bound_to x es)
-  use_marked k x s es seen told marked = marked ∙ same_binder bs n (number_bound_to x es) (bound_to x seen) alone (told_bound bs k x es seen told).0
+  use_marked k x s es seen told marked = marked ∙ same_binder bs n (number_bound_to x es) (token_bound_to x seen) alone (told_bound bs k x es seen told).0
 
   name_marked : (m : ℕ) (k : Kind) (x : Name) (s : Span) (names : List Entry) (o : Origin) → kind_bound o ≡ k → BindersStand bs m (binder_row (Some x) s names m o).binders
       → IsMarked spans (binder_in bs n).token (binds_at k s) → among spans s ≡ (m == n)
@@ -281,7 +281,7 @@ module _ (bs : List TextBinder) (n : ℕ) (new : Name) (spans : List Span) (alon
         (type_renamed types types_seen u told both.1 i)
     node_renamed types names types_seen names_seen m k (tree.record_term fs) told seen stand marked = ap tree.record_term (fields_renamed types names types_seen names_seen m k fs told seen stand marked)
 
-    fields_renamed : (types names : List Entry) (types_seen names_seen : List Binder) (m k : ℕ) (fs : tree.TermFields) → AreTold bs kind.TypeName types types_seen → AreTold bs kind.Name names names_seen
+    fields_renamed : (types names : List Entry) (types_seen names_seen : List Binder) (m k : ℕ) (fs : tree.FieldTrees) → AreTold bs kind.TypeName types types_seen → AreTold bs kind.Name names names_seen
         → BindersStand bs m (fields_table types names m k fs).binders → AreMarked spans (binder_in bs n).token (mentions_of_fields types_seen names_seen fs)
         → respelled_fields (λ p. p) (renaming spans new) fs ≡ renamed_fields n new types names m fs
     fields_renamed types names types_seen names_seen m k tree.no_fields told seen stand marked = refl
@@ -350,11 +350,11 @@ module _ (bs : List TextBinder) (n : ℕ) (new : Name) (spans : List Span) (alon
       ∷ commands_renamed types names types_seen names_seen after (k + (below t + 1)) (j + 1) cs told seen stand_rest both.1 i
 
 pub tokens_renamed : (cs : List CommandTree) (o n : ℕ) (new : Name) → AreSpelledFrom 0 cs → binder_at (table cs) o ≡ Some n
-    → map (respelled_command (λ p. p) (renaming ((binder_numbered (table cs) n).token ∷ tokens_of n (table cs).uses) new)) cs ≡ renamed n new cs
+    → map (respelled_command (λ p. p) (renaming ((binder_numbered (table cs) n).token ∷ use_tokens n (table cs).uses) new)) cs ≡ renamed n new cs
 tokens_renamed cs o n new spelled is =
     let bs = (table cs).binders in
     let ms = mentions cs in
     let b = (binder_in bs n).token in
     let ascend = spelled_ascend cs spelled in
-    commands_renamed bs n new (b ∷ tokens_of n (table cs).uses) (alone_at cs ascend.0 o n ascend.1 is) [] [] [] [] 0 0 0 cs tt tt (all_stand bs)
+    commands_renamed bs n new (b ∷ use_tokens n (table cs).uses) (alone_at cs ascend.0 o n ascend.1 is) [] [] [] [] 0 0 0 cs tt tt (all_stand bs)
     (subst (λ spans. AreMarked (b ∷ spans) b ms) (sym (uses_told cs ascend.0 o n ascend.1 is)) (all_marked b ms (λ s. bound_apart cs o n s is) ascend.0 ascend.1))

@@ -17,7 +17,7 @@ use Rattle.lam_scope.specs.Expansions.{Abbreviation, meaning, is_bound, expansio
 use Rattle.lam_scope.specs.Nameless.{statement, statements, abbreviations_after, names_after, written_in, written_in_node, written_in_fields}
 use Rattle.lam_scope.specs.Places.{statement_numbered}
 use Rattle.lam_scope.specs.Tables.{TextBinder, table, binder_in, binder_numbered, binder_at}
-use Rattle.lam_scope.specs.Mentions.{Binder, bound_to, Mention, uses_at, labels_at, token_of, binder_of, mention_of, seen_of, mentions_of_type, mentions_of_type_node, mentions_of_type_fields, mentions_of, mentions_of_node, mentions_of_fields, mentions_of_command, types_behind, names_behind, mentions_from, mentions, bound_at, Ascend}
+use Rattle.lam_scope.specs.Mentions.{Binder, token_bound_to, Mention, uses_at, labels_at, token_of, binder_of, mention_of, seen_of, mentions_of_type, mentions_of_type_node, mentions_of_type_fields, mentions_of, mentions_of_node, mentions_of_fields, mentions_of_command, types_behind, names_behind, mentions_from, mentions, bound_at, Ascend}
 use Rattle.lam_scope.specs.TypeNames.{type_names, type_names_in, type_names_in_fields, type_names_in_command, IsTypeNameIn, abbreviations_seen_after, meant_after, binders_seen_after, IsNoAbbreviationOf, IsLastAbbreviation, IsNotAbbreviated}
 use Rattle.lam_scope.proofs.BoundMentions.{all_told}
 use Rattle.lam_scope.proofs.Contained.{nothing_in, first_or_later, mapped_in, filtered_from}
@@ -39,7 +39,7 @@ used_in ms n h = let there = filtered_from type_use_in ms n h in subst (λ m. Co
 
 -- the mention of a type name that sees these binders
 abbrev use_of_type : List Binder → Word → Mention
-use_of_type types (word x s) = uses_at kind.TypeName s (bound_to x types)
+use_of_type types (word x s) = uses_at kind.TypeName s (token_bound_to x types)
 
 -- the uses of type names among mentions are of these
 abbrev AreTypeUses : List Binder → List Mention → List Word → Type 0
@@ -116,7 +116,7 @@ mutual
   node_written types names (tree.record_term fs) = fields_written types names fs
   node_written types names n = refl
 
-  fields_written : (types names : List Binder) (fs : tree.TermFields) → AreUsesOf types (mentions_of_fields types names fs) (written_in_fields fs)
+  fields_written : (types names : List Binder) (fs : tree.FieldTrees) → AreUsesOf types (mentions_of_fields types names fs) (written_in_fields fs)
   fields_written types names tree.no_fields = refl
   fields_written types names (tree.field (word l s) t fs) =
       both_written types (mentions_of types names t) (mentions_of_fields types names fs) (written_in t) (written_in_fields fs) (term_written types names t) (fields_written types names fs)
@@ -129,17 +129,17 @@ command_written types names (evaluation t) = term_written types names t
 
 -- a type name that a command uses is mentioned there
 
-in_command : (types names : List Binder) (c : CommandTree) (x : Name) (s : Span) → Contains (type_names_in_command c) (word x s) → Contains (mentions_of_command types names c) (uses_at kind.TypeName s (bound_to x types))
+in_command : (types names : List Binder) (c : CommandTree) (x : Name) (s : Span) → Contains (type_names_in_command c) (word x s) → Contains (mentions_of_command types names c) (uses_at kind.TypeName s (token_bound_to x types))
 in_command types names c x s h =
-    used_in (mentions_of_command types names c) (uses_at kind.TypeName s (bound_to x types))
-    (subst (λ ms. Contains ms (uses_at kind.TypeName s (bound_to x types))) (sym (command_written types names c)) (mapped_in (use_of_type types) (type_names_in_command c) (word x s) h))
+    used_in (mentions_of_command types names c) (uses_at kind.TypeName s (token_bound_to x types))
+    (subst (λ ms. Contains ms (uses_at kind.TypeName s (token_bound_to x types))) (sym (command_written types names c)) (mapped_in (use_of_type types) (type_names_in_command c) (word x s) h))
 
 in_document : (types names : List Binder) (before : List CommandTree) (c : CommandTree) (after : List CommandTree) (x : Name) (s : Span) → Contains (type_names_in_command c) (word x s)
-    → Contains (mentions_from types names (before ++ c ∷ after)) (uses_at kind.TypeName s (bound_to x (fold types_behind types before)))
+    → Contains (mentions_from types names (before ++ c ∷ after)) (uses_at kind.TypeName s (token_bound_to x (fold types_behind types before)))
 in_document types names [] c after x s h =
-    Contains-append_left (mentions_of_command types names c) (mentions_from (types_behind types c) (names_behind names c) after) (uses_at kind.TypeName s (bound_to x types)) (in_command types names c x s h)
+    Contains-append_left (mentions_of_command types names c) (mentions_from (types_behind types c) (names_behind names c) after) (uses_at kind.TypeName s (token_bound_to x types)) (in_command types names c x s h)
 in_document types names (d ∷ before) c after x s h =
-    Contains-append_right (mentions_of_command types names d) (mentions_from (types_behind types d) (names_behind names d) (before ++ c ∷ after)) (uses_at kind.TypeName s (bound_to x (fold types_behind (types_behind types d) before)))
+    Contains-append_right (mentions_of_command types names d) (mentions_from (types_behind types d) (names_behind names d) (before ++ c ∷ after)) (uses_at kind.TypeName s (token_bound_to x (fold types_behind (types_behind types d) before)))
     (in_document (types_behind types d) (names_behind names d) before c after x s h)
 
 -- what a mention is bound to is what is bound at its first byte, where the mentions stand one behind the other
@@ -171,14 +171,14 @@ record IsFound (types : List Binder) (bs : List Abbreviation) (cs : List Command
   is_last : AllByRecursion (IsNoAbbreviationOf x) after
   means : meaning x (fold abbreviations_after bs cs) ≡ expansion (fold abbreviations_after bs before) type
   binds_it : is_bound x (fold abbreviations_after bs cs) ≡ true
-  is_told : bound_to x (fold types_behind types cs) ≡ Some token
+  is_told : token_bound_to x (fold types_behind types cs) ≡ Some token
 
 -- there is none, so that the name stands for what it stood for before
 record IsMissed (types : List Binder) (bs : List Abbreviation) (cs : List CommandTree) (x : Name) : Type 0 where
   none : AllByRecursion (IsNoAbbreviationOf x) cs
   means : meaning x (fold abbreviations_after bs cs) ≡ meaning x bs
   binds_it : is_bound x (fold abbreviations_after bs cs) ≡ is_bound x bs
-  is_told : bound_to x (fold types_behind types cs) ≡ bound_to x types
+  is_told : token_bound_to x (fold types_behind types cs) ≡ token_bound_to x types
 
 one_before : (types : List Binder) (bs : List Abbreviation) (c : CommandTree) (cs : List CommandTree) (x : Name) → IsFound (types_behind types c) (abbreviations_after bs c) cs x → IsFound types bs (c ∷ cs) x
 one_before types bs c cs x h = record {
@@ -204,7 +204,7 @@ is_first types bs y s u cs x is h = record {
   is_last = h.none;
   means = h.means ∙ ap (λ b. if b then expansion bs u else meaning x bs) is;
   binds_it = h.binds_it ∙ ap (λ b. if b then true else is_bound x bs) is;
-  is_told = h.is_told ∙ ap (λ b. if b then Some s else bound_to x types) is;
+  is_told = h.is_told ∙ ap (λ b. if b then Some s else token_bound_to x types) is;
 }
 
 other_name : (y x : Name) → bytes_eq y x ≡ false → y ≢ x
@@ -216,7 +216,7 @@ is_other types bs y s u cs x is h = record {
   none = (other_name y x is, h.none);
   means = h.means ∙ ap (λ b. if b then expansion bs u else meaning x bs) is;
   binds_it = h.binds_it ∙ ap (λ b. if b then true else is_bound x bs) is;
-  is_told = h.is_told ∙ ap (λ b. if b then Some s else bound_to x types) is;
+  is_told = h.is_told ∙ ap (λ b. if b then Some s else token_bound_to x types) is;
 }
 
 either : (types : List Binder) (bs : List Abbreviation) (y : Name) (s : Span) (u : TypeTree) (cs : List CommandTree) (x : Name) (here : Bool) → bytes_eq y x ≡ here
@@ -243,9 +243,9 @@ found_or_missed types bs (c ∷ cs) x =
 -- what the table tells of a type name
 
 told_there : (cs before : List CommandTree) (x : Name) (s : Span) (high : ℕ) → Ascend 0 (mentions cs) high → IsTypeNameIn cs before x s
-    → Told (table cs).binders (binder_at (table cs) s.start) (bound_to x (fold types_behind [] before))
+    → Told (table cs).binders (binder_at (table cs) s.start) (token_bound_to x (fold types_behind [] before))
 told_there cs before x s high ascend used =
-    let m = uses_at kind.TypeName s (bound_to x (fold types_behind [] before)) in
+    let m = uses_at kind.TypeName s (token_bound_to x (fold types_behind [] before)) in
     let there = subst (λ ds. Contains (mentions ds) m) (sym used.document) (in_document [] [] before used.command used.after x s used.is_used) in
     subst (Told (table cs).binders (binder_at (table cs) s.start)) (bound_there 0 high (mentions cs) m ascend there).1 (all_told cs high s.start ascend)
 
@@ -280,7 +280,7 @@ told_bound cs before x s high n ascend used is =
     let told = told_there cs before x s high ascend used in
     ⊎_elim
     (λ (found : IsFound [] [] before x).
-    let same : found.token ≡ (binder_in bs n).token = told_token bs (binder_at (table cs) s.start) (bound_to x (fold types_behind [] before)) n found.token told is found.is_told in
+    let same : found.token ≡ (binder_in bs n).token = told_token bs (binder_at (table cs) s.start) (token_bound_to x (fold types_behind [] before)) n found.token told is found.is_told in
     record {
       before = found.before;
       written = found.type;
@@ -289,7 +289,7 @@ told_bound cs before x s high n ascend used is =
       is_last = found.is_last;
       is_meant = found.means;
     })
-    (λ (missed : IsMissed [] [] before x). absurd (none_is (binder_at (table cs) s.start) n is (none_told bs (binder_at (table cs) s.start) (bound_to x (fold types_behind [] before)) told missed.is_told)))
+    (λ (missed : IsMissed [] [] before x). absurd (none_is (binder_at (table cs) s.start) n is (none_told bs (binder_at (table cs) s.start) (token_bound_to x (fold types_behind [] before)) told missed.is_told)))
     (found_or_missed [] [] before x)
 
 pub told_unbound : (cs before : List CommandTree) (x : Name) (s : Span) (high : ℕ) → Ascend 0 (mentions cs) high → IsTypeNameIn cs before x s → binder_at (table cs) s.start ≡ None
@@ -299,7 +299,7 @@ told_unbound cs before x s high ascend used is =
     let told = told_there cs before x s high ascend used in
     ⊎_elim
     (λ (found : IsFound [] [] before x).
-    absurd (some_is (binder_at (table cs) s.start) is (some_told bs (binder_at (table cs) s.start) (bound_to x (fold types_behind [] before)) found.token told found.is_told)))
+    absurd (some_is (binder_at (table cs) s.start) is (some_told bs (binder_at (table cs) s.start) (token_bound_to x (fold types_behind [] before)) found.token told found.is_told)))
     (λ (missed : IsMissed [] [] before x). record { none = missed.none; is_meant = missed.means })
     (found_or_missed [] [] before x)
 
@@ -310,8 +310,8 @@ told_as_bound cs before x s high ascend used =
     let told = told_there cs before x s high ascend used in
     let types = fold types_behind [] before in
     ⊎_elim
-    (λ (found : IsFound [] [] before x). found.binds_it ∙ sym (some_told bs (binder_at (table cs) s.start) (bound_to x types) found.token told found.is_told))
-    (λ (missed : IsMissed [] [] before x). missed.binds_it ∙ sym (none_told bs (binder_at (table cs) s.start) (bound_to x types) told missed.is_told))
+    (λ (found : IsFound [] [] before x). found.binds_it ∙ sym (some_told bs (binder_at (table cs) s.start) (token_bound_to x types) found.token told found.is_told))
+    (λ (missed : IsMissed [] [] before x). missed.binds_it ∙ sym (none_told bs (binder_at (table cs) s.start) (token_bound_to x types) told missed.is_told))
     (found_or_missed [] [] before x)
 
 -- what a command states, it states with the abbreviations behind those before it

@@ -1,7 +1,7 @@
 -- How many nodes a term has, by which walks over it end.
 use Rattle.std.proofs.Common.{◌≡◌, ℕ, ◌+◌, ◌<◌, arith, List, [], ◌∷◌, length, get_or, zero, suc, ap}
 use Rattle.lam_syntax.specs.declared.terms.TmField.{TmField}
-use Rattle.lam_syntax.specs.Trees.{TermTree, term_tree, TermNode, lambda, if_term, let_term, letrec_term, prefixed, apply, project, ascribe, record_term, TermFields, no_fields, field}
+use Rattle.lam_syntax.specs.Trees.{TermTree, term_tree, TermNode, lambda, if_term, let_term, letrec_term, prefixed, apply, project, ascribe, record_term, FieldTrees, no_fields, field}
 use Rattle.lam_syntax.specs.Views.{term_of, fields_of}
 
 abbrev mutual
@@ -20,7 +20,7 @@ abbrev mutual
   node_size (record_term fs) = 1 + tree_sizes fs
   node_size n = 1
 
-  pub tree_sizes : TermFields → ℕ
+  pub tree_sizes : FieldTrees → ℕ
   tree_sizes no_fields = 0
   tree_sizes (field l t fs) = 1 + tree_size t + tree_sizes fs
 

@@ -8,10 +8,10 @@ use Rattle.std.specs.Option.{option_map}
 use Rattle.lam_scope.specs.declared.seen.Bound.{Bound}
 use Rattle.lam_token.specs.declared.span.Span.{Span}
 use Rattle.lam_scope.specs.declared.rows.UseRow.{UseRow}
-use Rattle.lam_scope.specs.Tables.{TextUse, is_number, is_use_of, tokens_of}
+use Rattle.lam_scope.specs.Tables.{TextUse, is_number, is_use_of, use_tokens}
 use Rattle.lam_scope.specs.TableViews.{text_use, binder_of}
 use Rattle.lam_scope.proofs.Reading.{uses-drop}
-use Rattle.lam_scope.specs.UseChains.{IsChain, no_more, one_more, AreChains}
+use Rattle.lam_scope.specs.inner.UseChains.{IsChain, no_more, one_more, AreChains}
 
 -- a chain
 
@@ -52,14 +52,14 @@ pub chains_none : (firsts none nexts : List ℕ) (us these : List UseRow) (n m :
 chains_none firsts none nexts us these n m filled empty is b lt =
     let zeros = filled ∙ ap (λ ks. take n ks ++ replicate m 0) empty ∙ ap (λ ks. ks ++ replicate m 0) (take_none n) in
     let first = ap (λ ks. get_or ks b 0) zeros ∙ zero_at m b in
-    subst (λ vs. IsChain us nexts (get_or firsts b 0) (tokens_of b (map text_use vs))) (sym is) (subst (λ k. IsChain us nexts k []) (sym first) no_more)
+    subst (λ vs. IsChain us nexts (get_or firsts b 0) (use_tokens b (map text_use vs))) (sym is) (subst (λ k. IsChain us nexts k []) (sym first) no_more)
 
 -- one more use
 
-tokens_skip : (n : ℕ) (u : TextUse) (us : List TextUse) → is_use_of n u ≡ false → tokens_of n (u ∷ us) ≡ tokens_of n us
+tokens_skip : (n : ℕ) (u : TextUse) (us : List TextUse) → is_use_of n u ≡ false → use_tokens n (u ∷ us) ≡ use_tokens n us
 tokens_skip n u us e = rw e refl
 
-tokens_take : (n : ℕ) (u : TextUse) (us : List TextUse) → is_use_of n u ≡ true → tokens_of n (u ∷ us) ≡ u.token ∷ tokens_of n us
+tokens_take : (n : ℕ) (u : TextUse) (us : List TextUse) → is_use_of n u ≡ true → use_tokens n (u ∷ us) ≡ u.token ∷ use_tokens n us
 tokens_take n u us e = rw e refl
 
 pub same_number : (b n : ℕ) → b ≡ n → (b == n) ≡ true
@@ -86,8 +86,8 @@ chains_skip firsts nexts more longer us i d lt off pushed chains b in_firsts =
     let is = get_or_default us i d u lt in
     let here = uses-drop us i u lt is in
     let same = tokens_skip b (text_use u) (map text_use (drop (i + 1) us)) (off b in_firsts) in
-    subst (λ ns. IsChain us ns (get_or firsts b 0) (tokens_of b (map text_use (drop i us)))) (sym pushed)
-    (subst (λ ts. IsChain us (nexts ++ more) (get_or firsts b 0) ts) (sym (ap (tokens_of b) here ∙ same)) (chain_longer more (chains b in_firsts)))
+    subst (λ ns. IsChain us ns (get_or firsts b 0) (use_tokens b (map text_use (drop i us)))) (sym pushed)
+    (subst (λ ts. IsChain us (nexts ++ more) (get_or firsts b 0) ts) (sym (ap (use_tokens b) here ∙ same)) (chain_longer more (chains b in_firsts)))
 
 pub chains_unbound : (firsts nexts more longer : List ℕ) (us : List UseRow) (i : ℕ) (d : UseRow) → length nexts + i + 1 ≡ length us → (get_or us i d).bound ≡ None → longer ≡ nexts ++ more
     → AreChains firsts nexts us (drop (i + 1) us) → AreChains firsts longer us (drop i us)
@@ -111,14 +111,14 @@ chains_more firsts nexts us i c u count is bound in_firsts chains b lt = by (sam
     here : map text_use (drop i us) ≡ text_use u ∷ map text_use (drop (i + 1) us)
     here = uses-drop us i u (omega arith) is
 
-    by : (b ≡ c) ⊎ (b ≢ c) → IsChain us (nexts ++ more) (get_or (slice_set firsts c (suc (length nexts))) b 0) (tokens_of b (map text_use (drop i us)))
+    by : (b ≡ c) ⊎ (b ≢ c) → IsChain us (nexts ++ more) (get_or (slice_set firsts c (suc (length nexts))) b 0) (use_tokens b (map text_use (drop i us)))
     by (inl e) =
         let longer = length-append nexts more in
         let place : i ≡ length us - suc (length nexts) = omega arith in
         let first : get_or (slice_set firsts c (suc (length nexts))) b 0 ≡ suc (length nexts) = ap (λ k. get_or (slice_set firsts c (suc (length nexts))) k 0) e ∙ get_or-set_same firsts c (suc (length nexts)) 0 in_firsts in
         let taken = tokens_take b (text_use u) (map text_use (drop (i + 1) us)) (ap (is_number b) bound ∙ same_number c b (sym e)) in
-        let tokens = ap (tokens_of b) here ∙ taken ∙ ap (λ k. u.token ∷ tokens_of k (map text_use (drop (i + 1) us))) e in
-        subst (λ n. IsChain us (nexts ++ more) n (tokens_of b (map text_use (drop i us)))) (sym first)
+        let tokens = ap (use_tokens b) here ∙ taken ∙ ap (λ k. u.token ∷ use_tokens k (map text_use (drop (i + 1) us))) e in
+        subst (λ n. IsChain us (nexts ++ more) n (use_tokens b (map text_use (drop i us)))) (sym first)
         (subst (λ ts. IsChain us (nexts ++ more) (suc (length nexts)) ts) (sym tokens)
         (one_more (length nexts) (get_or firsts c 0) u (omega arith) (omega arith) (is ∙ ap (λ k. get_or us k u) place) (sym (get_or-append_seam nexts (get_or firsts c 0) [] 0))
         (chain_within (chains c in_firsts)) (chain_longer more (chains c in_firsts))))
@@ -126,8 +126,8 @@ chains_more firsts nexts us i c u count is bound in_firsts chains b lt = by (sam
         let kept = length-set firsts c (suc (length nexts)) in
         let first = get_or-set_other firsts c b (suc (length nexts)) 0 off in
         let same = tokens_skip b (text_use u) (map text_use (drop (i + 1) us)) (ap (is_number b) bound ∙ other_number c b (λ e. off (sym e))) in
-        subst (λ n. IsChain us (nexts ++ more) n (tokens_of b (map text_use (drop i us)))) (sym first)
-        (subst (λ ts. IsChain us (nexts ++ more) (get_or firsts b 0) ts) (sym (ap (tokens_of b) here ∙ same))
+        subst (λ n. IsChain us (nexts ++ more) n (use_tokens b (map text_use (drop i us)))) (sym first)
+        (subst (λ ts. IsChain us (nexts ++ more) (get_or firsts b 0) ts) (sym (ap (use_tokens b) here ∙ same))
         (chain_longer more (chains b (omega (arith, kept, lt)))))
 
 pub chains_put : (firsts nexts longer : List ℕ) (us : List UseRow) (i first n : ℕ) (c : Bound) (d : UseRow) → length nexts + i + 1 ≡ length us → (get_or us i d).bound ≡ Some c → c.binder.0 < length firsts

@@ -13,14 +13,14 @@ use Rattle.lam_rules.specs.Terms.{Term}
 use Rattle.lam_syntax.specs.Trees as tree
 use Rattle.lam_syntax.specs.Trees.{word, bound, TypeTree, type_tree, TypeNode, bool, nat, unit, top, named, arrow, record_type, TypeFields, no_type_fields, type_field, TermTree, term_tree, TermNode, CommandTree, definition, declaration, evaluation}
 use Rattle.lam_scope.specs.Names.{Name, count}
-use Rattle.lam_scope.specs.Expansions.{Abbreviation, abbreviation, meaning, has_label, both, expansion, expansion_of_node, expansion_of_fields}
+use Rattle.lam_scope.specs.Expansions.{Abbreviation, stands_for, meaning, has_label, both, expansion, expansion_of_node, expansion_of_fields}
 use Rattle.lam_scope.specs.Nameless.{use_counted, prefixed, nameless, nameless_node, nameless_fields, statement, statements, abbreviations_after, names_after}
 use Rattle.lam_scope.specs.WellFormed.{IsWellFormedTerm, AreWellFormedTerms, IsWellFormedStatement, AreWellFormedStatements}
 
 -- what the abbreviations stand for has distinct labels
 abbrev pub AreWellFormedMeanings : List Abbreviation → Type 0
 AreWellFormedMeanings [] = Unit {0}
-AreWellFormedMeanings (abbreviation x t ∷ bs) = IsWellFormedEntry t × AreWellFormedMeanings bs
+AreWellFormedMeanings (stands_for x t ∷ bs) = IsWellFormedEntry t × AreWellFormedMeanings bs
 
 -- fields, where there are some
 
@@ -38,7 +38,7 @@ either-wf false t u v w = w
 
 meaning-wf : (x : Name) (bs : List Abbreviation) → AreWellFormedMeanings bs → IsWellFormedEntry (meaning x bs)
 meaning-wf x [] w = tt
-meaning-wf x (abbreviation y t ∷ bs) w = either-wf (bytes_eq y x) t (meaning x bs) w.0 (meaning-wf x bs w.1)
+meaning-wf x (stands_for y t ∷ bs) w = either-wf (bytes_eq y x) t (meaning x bs) w.0 (meaning-wf x bs w.1)
 
 arrow-wf : (s t : Option Typ) → IsWellFormedEntry s → IsWellFormedEntry t → IsWellFormedEntry (both rules.arrow s t)
 arrow-wf None t v w = tt
@@ -125,7 +125,7 @@ mutual
   nameless_node-wf bs w xs (tree.ascribe t u) = (nameless-wf bs w xs t, expansion-wf bs w u)
   nameless_node-wf bs w xs (tree.record_term fs) = nameless_fields-wf bs w xs fs
 
-  nameless_fields-wf : (bs : List Abbreviation) → AreWellFormedMeanings bs → (xs : List (Option Name)) (fs : tree.TermFields) → AreWellFormedTerms (nameless_fields bs xs fs)
+  nameless_fields-wf : (bs : List Abbreviation) → AreWellFormedMeanings bs → (xs : List (Option Name)) (fs : tree.FieldTrees) → AreWellFormedTerms (nameless_fields bs xs fs)
   nameless_fields-wf bs w xs tree.no_fields = tt
   nameless_fields-wf bs w xs (tree.field (word l s) t fs) = (nameless-wf bs w xs t, nameless_fields-wf bs w xs fs)
 

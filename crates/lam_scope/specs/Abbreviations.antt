@@ -4,11 +4,11 @@ use Rattle.lam_rules.specs.TermViews.{written_of}
 use Rattle.lam_scope.specs.declared.abbreviations.Abbreviation.{Abbreviation as RustAbbreviation}
 use Rattle.lam_scope.specs.Names.{Name}
 use Rattle.lam_scope.specs.Stacks.{stacked}
-use Rattle.lam_scope.specs.Expansions.{Abbreviation, abbreviation}
+use Rattle.lam_scope.specs.Expansions.{Abbreviation, stands_for}
 
 -- the type name and what it stands for, or none
 abbrev pub abbreviation_of : RustAbbreviation → Abbreviation
-abbreviation_of a = abbreviation a.name.now (written_of a.expansion)
+abbreviation_of a = stands_for a.name.now (written_of a.expansion)
 
 -- the abbreviations of a stack, the innermost first
 abbrev pub abbreviations_in : List RustAbbreviation → List Abbreviation
@@ -16,7 +16,7 @@ abbreviations_in = stacked abbreviation_of []
 
 -- the type name that an abbreviation binds
 abbrev pub name_of_one : Abbreviation → Option Name
-name_of_one (abbreviation x t) = Some x
+name_of_one (stands_for x t) = Some x
 
 -- the type names that abbreviations bind, in their order
 abbrev pub names_in : List Abbreviation → List (Option Name)

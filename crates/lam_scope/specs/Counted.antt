@@ -55,7 +55,7 @@ abbrev mutual
   past_node n us = us
 
   -- those behind the terms of a record
-  pub past_fields : tree.TermFields → List TextUse → List TextUse
+  pub past_fields : tree.FieldTrees → List TextUse → List TextUse
   past_fields tree.no_fields us = us
   past_fields (tree.field l t fs) us = past_fields fs (past t us)
 
@@ -94,7 +94,7 @@ abbrev mutual
   counted_node bs (tree.record_term fs) us = record_term (counted_fields bs fs us)
 
   -- that of the terms of a record, with their labels
-  pub counted_fields : List Abbreviation → tree.TermFields → List TextUse → TermFields
+  pub counted_fields : List Abbreviation → tree.FieldTrees → List TextUse → TermFields
   counted_fields bs tree.no_fields us = no_terms
   counted_fields bs (tree.field (word l s) t fs) us = term_field l (counted bs t us) (counted_fields bs fs (past t us))
 

@@ -1,8 +1,7 @@
 -- What written types stand for, and their faults.
-use Rattle.std.specs.Prelude.{ℕ, ◌+◌, List, [], ◌∷◌, ◌++◌, Bool, true, false, ◌||◌, Option, Some, None, if◌then◌else◌, min}
+use Rattle.std.specs.Prelude.{ℕ, ◌+◌, List, [], ◌∷◌, ◌++◌, Bool, true, false, ◌||◌, Option, Some, None, if◌then◌else◌, min, ltb}
 use Rattle.std.specs.Option.{option_map}
 use Rattle.std.specs.Str.{bytes_eq}
-use Rattle.std.proofs.Math.Dec.{ltb}
 use Rattle.lam_rules.specs.Types as rules
 use Rattle.lam_rules.specs.Types.{Typ, Fields, Label, nodes, nodes_in}
 use Rattle.lam_syntax.specs.Trees.{Word, word, TypeTree, type_tree, TypeNode, bool, nat, unit, top, named, arrow, record_type, TypeFields, no_type_fields, type_field, joined_types}
@@ -12,17 +11,17 @@ use Rattle.lam_scope.specs.Names.{Name}
 
 -- an abbreviation: a type name and what it stands for, or none where its written type is faulty
 pub data Abbreviation : Type 0 where
-  abbreviation : Name → Option Typ → Abbreviation
+  stands_for : Name → Option Typ → Abbreviation
 
 -- what a type name stands for, by the innermost abbreviation of that name
 abbrev pub meaning : Name → List Abbreviation → Option Typ
 meaning x [] = None
-meaning x (abbreviation y t ∷ bs) = if bytes_eq y x then t else meaning x bs
+meaning x (stands_for y t ∷ bs) = if bytes_eq y x then t else meaning x bs
 
 -- whether an abbreviation binds the type name
 abbrev pub is_bound : Name → List Abbreviation → Bool
 is_bound x [] = false
-is_bound x (abbreviation y t ∷ bs) = if bytes_eq y x then true else is_bound x bs
+is_bound x (stands_for y t ∷ bs) = if bytes_eq y x then true else is_bound x bs
 
 -- whether one of the fields has the label
 abbrev pub has_label : Label → TypeFields → Bool

@@ -1,7 +1,7 @@
 -- The nameless form of commands: their trees without places and without the names of binders, each use of a name or type name told by a count.
 use Rattle.std.specs.Prelude.{ℕ, List, [], ◌∷◌, Option, Some, None}
 use Rattle.lam_syntax.specs.declared.terms.Prefix.{Prefix}
-use Rattle.lam_syntax.specs.Trees.{word, bound, TypeTree, type_tree, TypeNode, bool, nat, unit, top, named, arrow, record_type, TypeFields, no_type_fields, type_field, TermTree, term_tree, TermNode, true_term, false_term, unit_term, variable, numeral, lambda, if_term, let_term, letrec_term, prefixed, apply, project, ascribe, record_term, TermFields, no_fields, field, CommandTree, definition, declaration, abbreviation, evaluation}
+use Rattle.lam_syntax.specs.Trees.{word, bound, TypeTree, type_tree, TypeNode, bool, nat, unit, top, named, arrow, record_type, TypeFields, no_type_fields, type_field, TermTree, term_tree, TermNode, true_term, false_term, unit_term, variable, numeral, lambda, if_term, let_term, letrec_term, prefixed, apply, project, ascribe, record_term, FieldTrees, no_fields, field, CommandTree, definition, declaration, abbreviation, evaluation}
 use Rattle.lam_scope.specs.Names.{Name, count}
 use Rattle.lam_scope.specs.Nameless.{names_after}
 
@@ -100,7 +100,7 @@ abbrev mutual
   node_form types names (ascribe t u) = ascribe_form (term_form types names t) (type_form types u)
   node_form types names (record_term fs) = record_form (field_forms types names fs)
 
-  pub field_forms : (types names : List (Option Name)) → TermFields → FieldForms
+  pub field_forms : (types names : List (Option Name)) → FieldTrees → FieldForms
   field_forms types names no_fields = no_field_forms
   field_forms types names (field (word l s) t fs) = field_form l (term_form types names t) (field_forms types names fs)
 

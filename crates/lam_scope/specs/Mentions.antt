@@ -5,7 +5,7 @@ use Rattle.lam_token.specs.declared.kind.Kind.{Kind}
 use Rattle.lam_token.specs.declared.kind.Kind.TheVariants as kind
 use Rattle.lam_token.specs.declared.span.Span.{Span}
 use Rattle.lam_token.specs.Edits.{is_span}
-use Rattle.lam_syntax.specs.Trees.{Word, word, Bound, bound, TypeTree, type_tree, TypeNode, named, arrow, record_type, TypeFields, no_type_fields, type_field, TermTree, term_tree, TermNode, variable, lambda, if_term, let_term, letrec_term, prefixed, apply, project, ascribe, record_term, TermFields, no_fields, field, CommandTree, definition, declaration, abbreviation, evaluation}
+use Rattle.lam_syntax.specs.Trees.{Word, word, Bound, bound, TypeTree, type_tree, TypeNode, named, arrow, record_type, TypeFields, no_type_fields, type_field, TermTree, term_tree, TermNode, variable, lambda, if_term, let_term, letrec_term, prefixed, apply, project, ascribe, record_term, FieldTrees, no_fields, field, CommandTree, definition, declaration, abbreviation, evaluation}
 use Rattle.lam_scope.specs.Names.{Name, binds}
 
 -- a binder as it is seen from where it binds: its name, an underscore having none, and its token
@@ -18,9 +18,9 @@ abbrev pub binder : Option Name → Span → Binder
 binder x s = record { name = x; token = s }
 
 -- the token of the innermost binder of a name, the innermost binder first; none where the name is free
-abbrev pub bound_to : Name → List Binder → Option Span
-bound_to x [] = None
-bound_to x (b ∷ bs) = if binds b.name x then Some b.token else bound_to x bs
+abbrev pub token_bound_to : Name → List Binder → Option Span
+token_bound_to x [] = None
+token_bound_to x (b ∷ bs) = if binds b.name x then Some b.token else token_bound_to x bs
 
 -- a name, a type name or a label that stands in a command: a binder, at its token; a use at its token, with the token of its binder, none where it is free; or a label
 pub data Mention : Type 0 where
@@ -65,7 +65,7 @@ abbrev mutual
   mentions_of_type types (type_tree s n) = mentions_of_type_node types n
 
   pub mentions_of_type_node : List Binder → TypeNode → List Mention
-  mentions_of_type_node types (named (word x s)) = uses_at kind.TypeName s (bound_to x types) ∷ []
+  mentions_of_type_node types (named (word x s)) = uses_at kind.TypeName s (token_bound_to x types) ∷ []
   mentions_of_type_node types (arrow a b) = mentions_of_type types a ++ mentions_of_type types b
   mentions_of_type_node types (record_type fs) = mentions_of_type_fields types fs
   mentions_of_type_node types n = []
@@ -81,7 +81,7 @@ abbrev mutual
   mentions_of types names (term_tree s n) = mentions_of_node types names n
 
   pub mentions_of_node : (types names : List Binder) → TermNode → List Mention
-  mentions_of_node types names (variable (word x s)) = uses_at kind.Name s (bound_to x names) ∷ []
+  mentions_of_node types names (variable (word x s)) = uses_at kind.Name s (token_bound_to x names) ∷ []
   mentions_of_node types names (lambda b u t) = mention_of b ++ mentions_of_type types u ++ mentions_of types (seen_of b ∷ names) t
   mentions_of_node types names (if_term c t u) = mentions_of types names c ++ mentions_of types names t ++ mentions_of types names u
   mentions_of_node types names (let_term b t u) = mention_of b ++ mentions_of types names t ++ mentions_of types (seen_of b ∷ names) u
@@ -94,7 +94,7 @@ abbrev mutual
   mentions_of_node types names (record_term fs) = mentions_of_fields types names fs
   mentions_of_node types names n = []
 
-  pub mentions_of_fields : (types names : List Binder) → TermFields → List Mention
+  pub mentions_of_fields : (types names : List Binder) → FieldTrees → List Mention
   mentions_of_fields types names no_fields = []
   mentions_of_fields types names (field l t fs) = label_of l ∷ mentions_of types names t ++ mentions_of_fields types names fs
 
@@ -133,13 +133,13 @@ bound_at o [] = None
 bound_at o (m ∷ ms) = if (token_of m).start == o then binder_of m else bound_at o ms
 
 -- the token of a use of this binder
-abbrev pub use_of : Span → Mention → Option Span
-use_of b (uses_at k s (Some c)) = if is_span b c then Some s else None
-use_of b m = None
+abbrev pub use_bound_to : Span → Mention → Option Span
+use_bound_to b (uses_at k s (Some c)) = if is_span b c then Some s else None
+use_bound_to b m = None
 
 -- the tokens of the uses of a binder, in the order of the mentions
 abbrev pub uses_of : Span → List Mention → List Span
-uses_of b ms = filter_map (use_of b) ms
+uses_of b ms = filter_map (use_bound_to b) ms
 
 -- each token ends where the next begins, or before it, and none is empty
 abbrev pub Ascend : (low : ℕ) → List Mention → (high : ℕ) → Type 0
@@ -150,3 +150,8 @@ Ascend low (m ∷ ms) high = (low ≤ (token_of m).start) × ((token_of m).start
 abbrev pub IsBehindBinder : Mention → Type 0
 IsBehindBinder (uses_at k s (Some b)) = b.end ≤ s.start
 IsBehindBinder m = Unit {0}
+
+-- a type name for a name, a name for a type name
+abbrev pub other_kind : Kind → Kind
+other_kind kind.Name = kind.TypeName
+other_kind k = kind.Name

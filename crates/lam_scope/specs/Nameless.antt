@@ -10,7 +10,7 @@ use Rattle.lam_syntax.specs.Trees as tree
 use Rattle.lam_syntax.specs.Trees.{word, bound, TypeTree, TermTree, term_tree, TermNode, CommandTree, definition, declaration, evaluation, type_span}
 use Rattle.lam_scope.specs.declared.type_fault.TypeFault.{TypeFault}
 use Rattle.lam_scope.specs.Names.{Name, count}
-use Rattle.lam_scope.specs.Expansions.{Abbreviation, abbreviation, expansion, type_faults, is_over_limit}
+use Rattle.lam_scope.specs.Expansions.{Abbreviation, stands_for, expansion, type_faults, is_over_limit}
 use Rattle.lam_scope.specs.Places.{Statement, defines, declares, abbreviates, states}
 
 -- a use of a name: its count of binders, or the name itself where it is unbound
@@ -48,7 +48,7 @@ abbrev mutual
   nameless_node bs xs (tree.record_term fs) = record_term (nameless_fields bs xs fs)
 
   -- that of the terms of a record, with their labels
-  pub nameless_fields : List Abbreviation → List (Option Name) → tree.TermFields → TermFields
+  pub nameless_fields : List Abbreviation → List (Option Name) → tree.FieldTrees → TermFields
   nameless_fields bs xs tree.no_fields = no_terms
   nameless_fields bs xs (tree.field (word l s) t fs) = term_field l (nameless bs xs t) (nameless_fields bs xs fs)
 
@@ -61,7 +61,7 @@ statement bs xs (evaluation t) = states (nameless bs xs t)
 
 -- the abbreviations that the commands after one see
 abbrev pub abbreviations_after : List Abbreviation → CommandTree → List Abbreviation
-abbreviations_after bs (tree.abbreviation (word x s) u) = abbreviation x (expansion bs u) ∷ bs
+abbreviations_after bs (tree.abbreviation (word x s) u) = stands_for x (expansion bs u) ∷ bs
 abbreviations_after bs c = bs
 
 -- the binders of names that the commands after one see
@@ -94,7 +94,7 @@ abbrev mutual
   written_in_node n = []
 
   -- those in the terms of a record
-  pub written_in_fields : tree.TermFields → List TypeTree
+  pub written_in_fields : tree.FieldTrees → List TypeTree
   written_in_fields tree.no_fields = []
   written_in_fields (tree.field l t fs) = written_in t ++ written_in_fields fs
 

@@ -94,7 +94,7 @@ abbrev mutual
   placed_parts bs xs s n = no_parts
 
   -- the terms of a record
-  pub placed_fields : List Abbreviation → List (Option Name) → Scope → tree.TermFields → PlacedTrees
+  pub placed_fields : List Abbreviation → List (Option Name) → Scope → tree.FieldTrees → PlacedTrees
   placed_fields bs xs s tree.no_fields = no_parts
   placed_fields bs xs s (tree.field l t fs) = part_first (placed_term bs xs s t) (placed_fields bs xs s fs)
 

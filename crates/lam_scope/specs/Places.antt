@@ -28,15 +28,15 @@ abbrev mutual
   places s (apply f a) = places s f ++ places s a ++ record { scope = s; here = apply f a } ∷ []
   places s (ascribe e w) = places s e ++ record { scope = s; here = ascribe e w } ∷ []
   places s (let_in a b) = places s a ++ places (of_term a ∷ s) b ++ record { scope = s; here = let_in a b } ∷ []
-  places s (record_term es) = places_in s es ++ record { scope = s; here = record_term es } ∷ []
+  places s (record_term es) = field_places s es ++ record { scope = s; here = record_term es } ∷ []
   places s (project e l) = places s e ++ record { scope = s; here = project e l } ∷ []
   places s (fix e) = places s e ++ record { scope = s; here = fix e } ∷ []
   places s e = record { scope = s; here = e } ∷ []
 
   -- those of the terms of a record, from left to right
-  pub places_in : Scope → TermFields → List Place
-  places_in s no_terms = []
-  places_in s (term_field l e es) = places s e ++ places_in s es
+  pub field_places : Scope → TermFields → List Place
+  field_places s no_terms = []
+  field_places s (term_field l e es) = places s e ++ field_places s es
 
 -- A command without names: what it states, and what it binds for the commands after it.
 pub data Statement : Type 0 where

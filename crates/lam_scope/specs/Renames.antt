@@ -4,14 +4,15 @@ use Rattle.lam_token.specs.declared.kind.Kind.{Kind}
 use Rattle.lam_token.specs.declared.kind.Kind.TheVariants as kind
 use Rattle.lam_token.specs.declared.span.Span.{Span}
 use Rattle.lam_token.specs.Edits.{IsOne}
-use Rattle.lam_syntax.specs.Trees.{word, bound, TypeTree, type_tree, TypeNode, named, arrow, record_type, TypeFields, no_type_fields, type_field, TermTree, term_tree, TermNode, variable, lambda, if_term, let_term, letrec_term, prefixed, apply, project, ascribe, record_term, TermFields, no_fields, field, CommandTree, definition, declaration, abbreviation, evaluation}
+use Rattle.lam_syntax.specs.Trees.{word, bound, TypeTree, type_tree, TypeNode, named, arrow, record_type, TypeFields, no_type_fields, type_field, TermTree, term_tree, TermNode, variable, lambda, if_term, let_term, letrec_term, prefixed, apply, project, ascribe, record_term, FieldTrees, no_fields, field, CommandTree, definition, declaration, abbreviation, evaluation}
 use Rattle.lam_scope.specs.declared.rename_fault.RenameFault.{RenameFault}
 use Rattle.lam_scope.specs.declared.rename_fault.RenameFault.TheVariants as fault
 use Rattle.lam_scope.specs.declared.numbers.Origin.{Origin}
 use Rattle.lam_scope.specs.declared.numbers.Origin.TheVariants.{TypeName}
 use Rattle.lam_scope.specs.Names.{Name}
 use Rattle.lam_scope.specs.Forms.{forms}
-use Rattle.lam_scope.specs.Tables.{Entry, entry, bound_to, is_number, binders_in, types_seen_after, names_seen_after, binders_in_command, table, binder_numbered, has_name, tokens_of}
+use Rattle.lam_scope.specs.Tables.{Entry, entry, bound_to, is_number, binders_in, types_seen_after, names_seen_after, binders_in_command, table, binder_numbered, has_name, use_tokens}
+use Rattle.lam_scope.specs.Mentions.{other_kind}
 
 -- Which of a document's binders is renamed is told by its number. A letrec's token is two binders, and both are renamed: the number is the one given as their answer.
 
@@ -67,7 +68,7 @@ abbrev mutual
   renamed_node b new types names n (record_term fs) = record_term (renamed_fields b new types names n fs)
   renamed_node b new types names n node = node
 
-  pub renamed_fields : (b : ℕ) → (new : Name) → (types names : List Entry) → (n : ℕ) → TermFields → TermFields
+  pub renamed_fields : (b : ℕ) → (new : Name) → (types names : List Entry) → (n : ℕ) → FieldTrees → FieldTrees
   renamed_fields b new types names n no_fields = no_fields
   renamed_fields b new types names n (field l t fs) =
       field l (renamed_term b new types names n t) (renamed_fields b new types names (n + binders_in t) fs)
@@ -99,11 +100,6 @@ abbrev pub kind_bound : Origin → Kind
 kind_bound TypeName = kind.TypeName
 kind_bound o = kind.Name
 
--- a type name for a name, a name for a type name
-abbrev pub other_kind : Kind → Kind
-other_kind kind.Name = kind.TypeName
-other_kind k = kind.Name
-
 -- the binder given as the answer for a binder
 abbrev pub answer_for : List CommandTree → (n : ℕ) → ℕ
 answer_for cs n = (binder_numbered (table cs) n).answer
@@ -122,7 +118,7 @@ pub record HasName (cs : List CommandTree) (n : ℕ) : Type 0 where
 pub record AreRenamed (cs : List CommandTree) (n : ℕ) (new : Name) (spans : List Span) : Type 0 where
   pub kind : IsOne (kind_of_binder cs n) new
   pub keeps : KeepsBinding (answer_for cs n) new cs
-  pub tokens : spans ≡ (binder_numbered (table cs) n).token ∷ tokens_of (answer_for cs n) (table cs).uses
+  pub tokens : spans ≡ (binder_numbered (table cs) n).token ∷ use_tokens (answer_for cs n) (table cs).uses
 
 -- Why they can't. Of several causes the first refuses: so where a later one does, those before it do not stand.
 abbrev pub IsRefused : List CommandTree → (n : ℕ) → (new : Name) → RenameFault → Type 0

@@ -1,6 +1,5 @@
 -- Where the rows of a table stand in the text: a place at its bytes, a name at the byte where its token starts.
-use Rattle.std.specs.Prelude.{ℕ, zero, suc, ◌-◌, Option, Some, None, List, [], ◌∷◌, if◌then◌else◌}
-use Rattle.std.proofs.Math.Dec.{ltb}
+use Rattle.std.specs.Prelude.{ℕ, zero, suc, ◌-◌, Option, Some, None, List, [], ◌∷◌, if◌then◌else◌, ltb}
 use Rattle.lam_scope.specs.declared.rows.BinderRow.{BinderRow}
 use Rattle.lam_scope.specs.declared.rows.UseRow.{UseRow}
 use Rattle.lam_scope.specs.declared.rows.PlaceRow.{PlaceRow}

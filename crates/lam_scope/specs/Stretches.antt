@@ -1,7 +1,6 @@
 -- Stretches of a text, and the runs that they are searched by.
-use Rattle.std.specs.Prelude.{ℕ, ◌≤◌, Bool, true, false, if◌then◌else◌, List, [], ◌∷◌, take, drop}
+use Rattle.std.specs.Prelude.{ℕ, ◌≤◌, Bool, true, false, if◌then◌else◌, List, [], ◌∷◌, take, drop, ltb}
 use Rattle.std.specs.Coded.{×_prop, Unit-prop, le_prop}
-use Rattle.std.proofs.Math.Dec.{ltb}
 use Rattle.lam_scope.specs.declared.stretches.Stretch.{Stretch}
 
 -- the stretch without a byte, which is a part of every other

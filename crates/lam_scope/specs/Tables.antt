@@ -1,9 +1,8 @@
 -- What the names of a document are bound to: its binders, uses and places by number, each kind in its order.
-use Rattle.std.specs.Prelude.{ℕ, zero, suc, ◌+◌, List, [], ◌∷◌, ◌++◌, map, Bool, true, false, ◌==◌, Option, Some, None, if◌then◌else◌, length, get_or, reverse, filter, position}
+use Rattle.std.specs.Prelude.{ℕ, zero, suc, ◌+◌, List, [], ◌∷◌, ◌++◌, map, Bool, true, false, ◌==◌, Option, Some, None, if◌then◌else◌, length, get_or, reverse, filter, position, ltb}
 use Rattle.std.specs.Option.{option_or}
-use Rattle.std.proofs.Math.Dec.{ltb}
 use Rattle.lam_token.specs.declared.span.Span.{Span}
-use Rattle.lam_syntax.specs.Trees.{word, bound, TypeTree, type_tree, TypeNode, named, arrow, record_type, TypeFields, no_type_fields, type_field, TermTree, term_tree, TermNode, variable, lambda, if_term, let_term, letrec_term, prefixed, apply, project, ascribe, record_term, TermFields, no_fields, field, CommandTree, definition, declaration, abbreviation, evaluation, term_span}
+use Rattle.lam_syntax.specs.Trees.{word, bound, TypeTree, type_tree, TypeNode, named, arrow, record_type, TypeFields, no_type_fields, type_field, TermTree, term_tree, TermNode, variable, lambda, if_term, let_term, letrec_term, prefixed, apply, project, ascribe, record_term, FieldTrees, no_fields, field, CommandTree, definition, declaration, abbreviation, evaluation, term_span}
 use Rattle.lam_scope.specs.declared.numbers.Origin.{Origin}
 use Rattle.lam_scope.specs.declared.numbers.Origin.TheVariants.{Declaration, TypeName}
 use Rattle.lam_scope.specs.Names.{Name, binds, count}
@@ -131,7 +130,7 @@ abbrev mutual
   binders_in_node n = 0
 
   -- how many the terms of a record have
-  pub binders_in_fields : TermFields → ℕ
+  pub binders_in_fields : FieldTrees → ℕ
   binders_in_fields no_fields = 0
   binders_in_fields (field l t fs) = binders_in t + binders_in_fields fs
 
@@ -154,7 +153,7 @@ abbrev mutual
   below_node n = 0
 
   -- how many places the terms of a record have, their own among them
-  pub below_fields : TermFields → ℕ
+  pub below_fields : FieldTrees → ℕ
   below_fields no_fields = 0
   below_fields (field l t fs) = below t + 1 + below_fields fs
 
@@ -184,7 +183,7 @@ abbrev mutual
   field_uses types (type_field l t fs) = type_uses types t ⊕ field_uses types fs
 
 -- the places of the terms of a record, where the first of all places in them is k
-abbrev pub roots_of_fields : (k : ℕ) → TermFields → List ℕ
+abbrev pub roots_of_fields : (k : ℕ) → FieldTrees → List ℕ
 roots_of_fields k no_fields = []
 roots_of_fields k (field l t fs) = root k t ∷ roots_of_fields (behind k t) fs
 
@@ -243,7 +242,7 @@ abbrev mutual
   node_table types names n k node = empty_table
 
   -- the table of the terms of a record
-  pub fields_table : (types names : List Entry) → (n k : ℕ) → TermFields → Table
+  pub fields_table : (types names : List Entry) → (n k : ℕ) → FieldTrees → Table
   fields_table types names n k no_fields = empty_table
   fields_table types names n k (field l t fs) =
       term_table types names n k t ⊕ fields_table types names (n + binders_in t) (behind k t) fs
@@ -302,8 +301,8 @@ abbrev pub binder_in : List TextBinder → ℕ → TextBinder
 binder_in bs n = get_or bs n (record { name = None; token = no_span; outer = None; answer = n; origin = TypeName })
 
 -- the place of a number, counted from 0; past the last one, a place that is not written
-abbrev pub place_in : List TextPlace → ℕ → TextPlace
-place_in ps n = get_or ps n (record { span = no_span; derived = true; terms = []; inner = None })
+abbrev pub place_at_number : List TextPlace → ℕ → TextPlace
+place_at_number ps n = get_or ps n (record { span = no_span; derived = true; terms = []; inner = None })
 
 -- the binder of a number in a table
 abbrev pub binder_numbered : Table → ℕ → TextBinder
@@ -311,7 +310,7 @@ binder_numbered t n = binder_in t.binders n
 
 -- the place of a number in a table
 abbrev pub place_row_numbered : Table → ℕ → TextPlace
-place_row_numbered t n = place_in t.places n
+place_row_numbered t n = place_at_number t.places n
 
 -- Those of the binders that are seen from one on, the innermost first: itself, the one just outside of it, and so on. They are no more than n.
 abbrev pub seen_in : List TextBinder → (n : ℕ) → Option ℕ → List ℕ
@@ -346,13 +345,13 @@ abbrev pub is_use_of : ℕ → TextUse → Bool
 is_use_of n u = is_number n u.binder
 
 -- the tokens of the uses of the binder of this number, in the order of the text
-abbrev pub tokens_of : ℕ → List TextUse → List Span
-tokens_of n us = map (λ u. u.token) (filter (is_use_of n) us)
+abbrev pub use_tokens : ℕ → List TextUse → List Span
+use_tokens n us = map (λ u. u.token) (filter (is_use_of n) us)
 
 -- the tokens of the uses of each of so many binders, from the one of number n on
 abbrev pub tokens_by : (n count : ℕ) → List TextUse → List (List Span)
 tokens_by n zero us = []
-tokens_by n (suc count) us = tokens_of n us ∷ tokens_by (n + 1) count us
+tokens_by n (suc count) us = use_tokens n us ∷ tokens_by (n + 1) count us
 
 -- whether a place has byte o; one that is not written has none
 abbrev pub is_over : ℕ → TextPlace → Bool

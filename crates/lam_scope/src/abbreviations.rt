@@ -1,7 +1,7 @@
 //! The abbreviations that a written type sees.
 ghost use Rattle.std.specs.Prelude.{◌≡◌, ◌∷◌, [], true, false, None, OnOk, IfSome, IfNone};
 ghost use Rattle.lam_rules.specs.TermViews.{written_of};
-ghost use Rattle.lam_scope.specs.Expansions.{abbreviation, meaning, is_bound};
+ghost use Rattle.lam_scope.specs.Expansions.{stands_for, meaning, is_bound};
 ghost use Rattle.lam_scope.specs.Abbreviations.{abbreviations_in, names_in};
 
 use crate::names::Names;
@@ -41,7 +41,7 @@ impl<'a> Abbreviations<'a> {
     /// One more is seen, inside of the others.
     #[tactic(auto, using(crate::proofs::AbbreviationStacks::abbreviations))]
     pub(crate) fn add(&mut self, name: &'a str, expansion: Option<Ty>) -> Result<(), AllocError>
-        ensures { OnOk result (abbreviations_of self.new ≡ abbreviation name.now (written_of expansion) ∷ abbreviations_of self.old) }
+        ensures { OnOk result (abbreviations_of self.new ≡ stands_for name.now (written_of expansion) ∷ abbreviations_of self.old) }
     {
         // With its room made first the push cannot fail, and leave a name without its abbreviation.
         self.items.reserve(1)?;

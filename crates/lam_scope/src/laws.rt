@@ -26,7 +26,7 @@ ghost use Rattle.lam_scope.specs.Sights.{sight_numbered};
 ghost use Rattle.lam_scope.specs.Mentions.{binder_of, kind_of, mentions, bound_at, uses_of, Ascend, IsBehindBinder};
 ghost use Rattle.lam_scope.specs.Renames.{HasName, AreRenamed, IsRefused, answer_for, kind_of_binder, renamed};
 ghost use Rattle.lam_scope.specs.Nesting.{AreNested, AreSpelledFrom, AreNamedFrom, IsInnermost};
-ghost use Rattle.lam_scope.specs.Tables.{Table, table, Entry, entry_names, bound_to, binder_numbered, place_row_numbered, visible_at, place_at, binder_at, tokens_of};
+ghost use Rattle.lam_scope.specs.Tables.{Table, table, Entry, entry_names, bound_to, binder_numbered, place_row_numbered, visible_at, place_at, binder_at, use_tokens};
 
 /// The table of commands and their nameless form have as many places, and the binders that a place sees in the table take
 /// their types from where the nameless form says, the outermost first.
@@ -104,7 +104,7 @@ pub fn mentions_ascend()
 /// bound to it is of its kind, names or type names.
 pub fn mentions_are_rows()
     ensures bound { (cs : List CommandTree) (high o : ℕ) → Ascend 0 (mentions cs) high → option_map (λ n. (binder_numbered (table cs) n).token) (binder_at (table cs) o) ≡ bound_at o (mentions cs) }
-    ensures uses { (cs : List CommandTree) (high o n : ℕ) → Ascend 0 (mentions cs) high → binder_at (table cs) o ≡ Some n → tokens_of n (table cs).uses ≡ uses_of (binder_numbered (table cs) n).token (mentions cs) }
+    ensures uses { (cs : List CommandTree) (high o n : ℕ) → Ascend 0 (mentions cs) high → binder_at (table cs) o ≡ Some n → use_tokens n (table cs).uses ≡ uses_of (binder_numbered (table cs) n).token (mentions cs) }
     ensures answer { (cs : List CommandTree) (o n : ℕ) → binder_at (table cs) o ≡ Some n → HasName cs n × (answer_for cs n ≡ n) }
     ensures kinds { (cs : List CommandTree) (high o n : ℕ) → Ascend 0 (mentions cs) high → binder_at (table cs) o ≡ Some n → AllByRecursion (λ m. binder_of m ≡ Some (binder_numbered (table cs) n).token → kind_of m ≡ kind_of_binder cs n) (mentions cs) }
 {}
@@ -116,7 +116,7 @@ pub fn forms_have_no_places()
 
 /// To give a binder of a text and its uses a new name is to put it at their tokens: at these alone, so that no label changes.
 pub fn renamed_at_tokens()
-    ensures { (cs : List CommandTree) (o n : ℕ) (new : Name) → AreSpelledFrom 0 cs → binder_at (table cs) o ≡ Some n → map (respelled_command (λ o. o) (renaming ((binder_numbered (table cs) n).token ∷ tokens_of n (table cs).uses) new)) cs ≡ renamed n new cs }
+    ensures { (cs : List CommandTree) (o n : ℕ) (new : Name) → AreSpelledFrom 0 cs → binder_at (table cs) o ≡ Some n → map (respelled_command (λ o. o) (renaming ((binder_numbered (table cs) n).token ∷ use_tokens n (table cs).uses) new)) cs ≡ renamed n new cs }
 {}
 
 /// To a new name for a binder there is just one answer: the tokens that get it, or one of the three refusals. A refusal for

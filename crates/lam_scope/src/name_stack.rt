@@ -3,7 +3,7 @@ ghost use Rattle.std.specs.Prelude.{◌≡◌, ◌∷◌, Some, IsSome, IfOk, On
 ghost use Rattle.std.specs.Option.{option_map};
 ghost use Rattle.lam_scope.specs.Names.{Name, count};
 ghost use Rattle.lam_scope.specs.Stacks.{outside};
-ghost use Rattle.lam_scope.specs.NameStacks.{names_of, found_in, with_binder, at_name, reset, IsNameStack};
+ghost use Rattle.lam_scope.specs.inner.NameStacks.{names_of, found_in, with_binder, at_name, reset, IsNameStack};
 
 use crate::names::Named;
 use std::alloc::AllocError;

@@ -8,7 +8,7 @@ ghost use Rattle.lam_syntax.specs.Trees.{lambda, if_term, let_term, letrec_term,
 ghost use Rattle.lam_syntax.specs.Views.{term_of as tree_of, term_node_of, fields_of, bound_of, word_of, type_of};
 ghost use Rattle.lam_scope.specs.Counted.{first_between, past_first, past_type, past_fields, counted_fields};
 ghost use Rattle.lam_scope.specs.Expansions.{expansion, type_faults, is_capped};
-ghost use Rattle.lam_scope.specs.Formed.{IsFormed};
+ghost use Rattle.lam_scope.specs.inner.Formed.{IsFormed};
 ghost use Rattle.lam_scope.specs.Nameless.{use_counted, prefixed, written_in_fields, faults_in, first_over_limit};
 ghost use Rattle.lam_scope.specs.Views.{abbreviations_of, IsLimit};
 

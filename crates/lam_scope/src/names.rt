@@ -30,7 +30,7 @@ pub(crate) struct Names<'a> {
 impl<'a> Model for Names<'a> {
     ghost use Rattle.std.specs.Prelude.{List, Option};
     ghost use Rattle.lam_scope.specs.Names.{Name};
-    ghost use Rattle.lam_scope.specs.NameStacks.{names_of, IsNameStack};
+    ghost use Rattle.lam_scope.specs.inner.NameStacks.{names_of, IsNameStack};
 
     ghost Value = { List (Option Name) };
 

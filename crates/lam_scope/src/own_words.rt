@@ -2,7 +2,7 @@
 ghost use Rattle.std.specs.Prelude.{◌≡◌, length, map, position, false};
 ghost use Rattle.lam_syntax.specs.Views.{term_of, fields_of, command_of};
 ghost use Rattle.lam_scope.specs.PlacedTerms.{name_at, label_at, document_terms, term_of as placed_of};
-ghost use Rattle.lam_scope.specs.OwnWords.{words_in, words_in_fields, command_words, commands_words, is_target, at_word, seek_on, number_of};
+ghost use Rattle.lam_scope.specs.inner.OwnWords.{words_in, words_in_fields, command_words, commands_words, is_target, at_word, seek_on, number_of};
 
 use lam_syntax::{Command, Tm, TmField, TmNode};
 use lam_token::Span;

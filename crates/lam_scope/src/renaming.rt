@@ -8,7 +8,7 @@ ghost use Rattle.lam_syntax.specs.Trees.{CommandTree};
 ghost use Rattle.lam_scope.specs.Names.{binds};
 ghost use Rattle.lam_scope.specs.Tables.{binder_in, binder_numbered};
 ghost use Rattle.lam_scope.specs.TableViews.{binder_number, binder_of, origin_of, text_binder, text_use, rows_of};
-ghost use Rattle.lam_scope.specs.Bearers.{bears, told_of, bearers, name_by, takes, is_answer, keeps, all_keep, IsUnfit};
+ghost use Rattle.lam_scope.specs.inner.Bearers.{bears, told_of, bearers, name_by, takes, is_answer, keeps, all_keep, IsUnfit};
 ghost use Rattle.lam_scope.specs.Renames.{kind_bound, HasName, AreRenamed, IsRefused};
 ghost use Rattle.lam_scope.specs.Views.{AreScopesOf, table_of, uses_in};
 

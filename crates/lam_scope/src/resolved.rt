@@ -2,10 +2,10 @@
 ghost use Rattle.std.specs.Prelude.{◌≡◌, ◌<◌, [], map, length};
 ghost use Rattle.lam_rules.specs.TermViews.{term_of};
 ghost use Rattle.lam_scope.specs.Places.{places_of, place_numbered};
-ghost use Rattle.lam_scope.specs.Found.{terms_stated, seek, sought_of};
+ghost use Rattle.lam_scope.specs.inner.Found.{terms_stated, seek, sought_of};
 ghost use Rattle.lam_scope.specs.StatementViews.{statement_of};
 ghost use Rattle.lam_scope.specs.WellFormed.{AreWellFormedStatements};
-ghost use Rattle.lam_scope.specs.ProofIrrelevance.{AreWellFormedStatements-prop};
+ghost use Rattle.lam_scope.specs.inner.ProofIrrelevance.{AreWellFormedStatements-prop};
 
 use crate::numbers::{Origin, Place};
 use crate::search::{Found, find_place};

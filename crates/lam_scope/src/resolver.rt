@@ -2,7 +2,7 @@
 ghost use Rattle.std.specs.Prelude.{◌≡◌, ◌++◌, ◌∷◌, [], map, IfOk, OnOk};
 ghost use Rattle.lam_syntax.specs.Views.{command_of};
 ghost use Rattle.lam_scope.specs.Counted.{statement_counted};
-ghost use Rattle.lam_scope.specs.Formed.{IsPassed};
+ghost use Rattle.lam_scope.specs.inner.Formed.{IsPassed};
 ghost use Rattle.lam_scope.specs.TableViews.{text_use};
 ghost use Rattle.lam_scope.specs.Views.{statement_of, abbreviations_of};
 

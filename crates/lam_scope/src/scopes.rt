@@ -36,7 +36,7 @@ pub struct Scopes {
 impl Scopes {
     ghost use Rattle.lam_scope.specs.Views.{table_of, uses_in, AreScopesOf};
     ghost use Rattle.lam_scope.specs.PlacedTerms.{variable_at, projection_at, document_terms, term_of};
-    ghost use Rattle.lam_scope.specs.OwnWords.{is_target};
+    ghost use Rattle.lam_scope.specs.inner.OwnWords.{is_target};
 
     /// The scopes of these rows, whose binders have those uses.
     pub(crate) fn new(alloc: Global, rows: Rows, tokens: TokenLists) -> Result<Scopes, AllocError>

@@ -1,7 +1,7 @@
 //! The search for the place of a number.
 ghost use Rattle.std.specs.Prelude.{◌≡◌, ◌∷◌, []};
 ghost use Rattle.lam_rules.specs.TermViews.{term_of, terms_of};
-ghost use Rattle.lam_scope.specs.Found.{seek, seek_on, sought_of, terms_at, terms_at_fields};
+ghost use Rattle.lam_scope.specs.inner.Found.{seek, seek_on, sought_of, terms_at, terms_at_fields};
 
 use lam_rules::Core;
 

@@ -20,7 +20,7 @@ pub(crate) struct TokenLists {
 impl TokenLists {
     ghost use Rattle.lam_scope.specs.TableViews.{text_use, list_start, lists_in};
     ghost use Rattle.lam_scope.specs.Tables.{tokens_by};
-    ghost use Rattle.lam_scope.specs.UseChains.{AreChains};
+    ghost use Rattle.lam_scope.specs.inner.UseChains.{AreChains};
 
     /// The tokens of the uses of each binder that has a chain, in the order of the text.
     pub(crate) fn of_chains(

@@ -1,8 +1,8 @@
 //! The uses of each binder in a chain, from each to the next in the text.
 ghost use Rattle.std.specs.Prelude.{◌≡◌, ◌+◌, ◌<◌, ◌++◌, length, map, drop, IfOk, OnOk};
-ghost use Rattle.lam_scope.specs.Tables.{tokens_of};
+ghost use Rattle.lam_scope.specs.Tables.{use_tokens};
 ghost use Rattle.lam_scope.specs.TableViews.{text_use};
-ghost use Rattle.lam_scope.specs.UseChains.{AreChains};
+ghost use Rattle.lam_scope.specs.inner.UseChains.{AreChains};
 
 use crate::rows::UseRow;
 use lam_token::Span;
@@ -69,7 +69,7 @@ pub(crate) fn push_tokens(
 ) -> Result<(), AllocError>
     requires binder { binder < length chains.now.firsts.items }
     requires chains { AreChains chains.now.firsts.items chains.now.nexts.items uses.now uses.now }
-    ensures { OnOk result (tokens.new.items ≡ tokens.old.items ++ tokens_of binder (map text_use uses.now)) }
+    ensures { OnOk result (tokens.new.items ≡ tokens.old.items ++ use_tokens binder (map text_use uses.now)) }
 {
     let mut left = chains.firsts[binder];
     while left > 0 {

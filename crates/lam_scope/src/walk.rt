@@ -7,7 +7,7 @@ ghost use Rattle.lam_syntax.specs.Trees.{term_tree, lambda, if_term, let_term, l
 ghost use Rattle.lam_syntax.specs.Views.{bound_of, type_of, type_fields_of, term_of, fields_of, command_of};
 ghost use Rattle.lam_scope.specs.Tables.{◌⊕◌, entry, use_row, place_row, root, behind, roots_of_fields, binders_in, binders_in_fields, below_fields, type_uses, field_uses, term_table, fields_table};
 ghost use Rattle.lam_scope.specs.TableViews.{place_number, rows_of, entry_of};
-ghost use Rattle.lam_scope.specs.Walked.{IsWalked, IsBoundWalked, IsFixWalked, with_derived, IsCommandWalked};
+ghost use Rattle.lam_scope.specs.inner.Walked.{IsWalked, IsBoundWalked, IsFixWalked, with_derived, IsCommandWalked};
 
 use crate::names::name_of;
 use crate::numbers::{Binder, Origin, Place};

@@ -9,15 +9,15 @@ use Rattle.lam_frame.specs.declared.fault.FrameFault.TheVariants.{NoLength, BadL
 use Rattle.lam_session.specs.State.{Snapshot, ended_status}
 use Rattle.lam_rpc.specs.Kind.{Message, IsKindOf}
 use Rattle.lam_session.specs.Step.{Answers}
-use Rattle.lam_server.specs.Answer.{AnswersBody, StepsBody, WritesValues}
-use Rattle.lam_server.specs.Answer.StopsAnswering.{before_sending as nothing_sent, while_sending as part_sent}
+use Rattle.lam_server.specs.inner.Answer.{AnswersBody, StepsBody, WritesValues}
+use Rattle.lam_server.specs.inner.Answer.StopsAnswering.{before_sending as nothing_sent, while_sending as part_sent}
 use Rattle.lam_server.specs.Output.{Takes, frames_of}
 use Rattle.lam_server.specs.Program.{fault_of_run}
-use Rattle.lam_server.specs.Turn.{TakesTurn, TurnSays}
-use Rattle.lam_server.specs.Turn.Ends.{by_message, by_silence}
-use Rattle.lam_server.specs.Turn.DeviceStops.{at_pull, at_limit, at_sink}
-use Rattle.lam_server.specs.Turn.MemoryStops.{before_sending, while_sending}
-use Rattle.lam_server.specs.Waiting.{Waiting}
+use Rattle.lam_server.specs.inner.Turn.{TakesTurn, TurnSays}
+use Rattle.lam_server.specs.inner.Turn.Ends.{by_message, by_silence}
+use Rattle.lam_server.specs.inner.Turn.DeviceStops.{at_pull, at_limit, at_sink}
+use Rattle.lam_server.specs.inner.Turn.MemoryStops.{before_sending, while_sending}
+use Rattle.lam_server.specs.inner.Waiting.{Waiting}
 use Rattle.lam_server.specs.declared.faults.RunFault.{RunFault}
 use Rattle.lam_server.specs.declared.faults.RunFault.TheVariants.{Header, Device as DeviceRun, Memory as MemoryRun}
 use Rattle.lam_server.specs.declared.server.Turn.{Turn}

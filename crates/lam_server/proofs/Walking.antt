@@ -5,7 +5,7 @@ use Rattle.std.proofs.KnownBytes.{Appends-trans}
 use Rattle.std.proofs.lemmas.List.Folds.{concat-append}
 use Rattle.lam_frame.specs.Frame.{HasFrame, IsOpen, IsRest}
 use Rattle.lam_frame.specs.Next.{OnlyLastEmpty, PulledWhile}
-use Rattle.lam_frame.specs.Steps.{NoneEmpty}
+use Rattle.lam_frame.specs.inner.Steps.{NoneEmpty}
 use Rattle.lam_frame.proofs.Pulls.{NoneEmpty-append, PulledWhile-append, PulledWhile-failed, PulledWhile-front, EndsEmpty-behind, not_ended_behind, stopped_behind}
 use Rattle.lam_frame.proofs.Readings.{open_no_frame}
 use Rattle.lam_frame.proofs.Told.{HasFault-more}
@@ -18,11 +18,11 @@ use Rattle.lam_server.specs.Output.EndsInFrames.{behind_message, behind_value}
 use Rattle.lam_server.specs.Output.Turns.{no_turn, next_turn}
 use Rattle.lam_server.specs.Run.{Runs, RunSays, MayFollow, IsSettled, AwaitsMore}
 use Rattle.lam_server.specs.Run.DeviceEnds.{at_pull, at_limit, at_sink}
-use Rattle.lam_server.specs.Turn.{WantsMore, IsBroken, TakesTurn, Ends, DeviceStops, MemoryStops}
-use Rattle.lam_server.specs.Turn.Ends.{by_message as turn_by_message, by_silence as turn_by_silence}
-use Rattle.lam_server.specs.Turn.DeviceStops.{at_pull as turn_at_pull, at_limit as turn_at_limit, at_sink as turn_at_sink}
-use Rattle.lam_server.specs.Turn.MemoryStops.{before_sending, while_sending}
-use Rattle.lam_server.specs.Waiting.{Waiting}
+use Rattle.lam_server.specs.inner.Turn.{WantsMore, IsBroken, TakesTurn, Ends, DeviceStops, MemoryStops}
+use Rattle.lam_server.specs.inner.Turn.Ends.{by_message as turn_by_message, by_silence as turn_by_silence}
+use Rattle.lam_server.specs.inner.Turn.DeviceStops.{at_pull as turn_at_pull, at_limit as turn_at_limit, at_sink as turn_at_sink}
+use Rattle.lam_server.specs.inner.Turn.MemoryStops.{before_sending, while_sending}
+use Rattle.lam_server.specs.inner.Waiting.{Waiting}
 use Rattle.lam_server.specs.declared.faults.RunFault.{RunFault}
 use Rattle.lam_server.specs.declared.faults.RunFault.TheVariants.{Header, Device, Memory}
 use Rattle.lam_server.specs.declared.server.Turn.TheVariants.{More, End}
@@ -203,12 +203,11 @@ module _ {S W : Type 0} (coming : S → Option (List ℕ)) (failed : S → ℕ) 
         (Sends-both taken flushed sink_failed sink sink_now sink_after w.out answers.out w.sends answers.sends, same),
       ),
     )
-    says_status status pieces last source_after sink_after same (turn_by_silence nothing end one unsent) = sends_nothing pieces last (Ok status) source_after sink_after
-      (
-        settled_rest start server.state (w.pieces ++ pieces) w.out (server.held ++ concat pieces) (Ok status) (heard_turns pieces) w.live
-            (λ more may. silent_rest (server.held ++ concat pieces) more status nothing (may (EndsEmpty-behind w.pieces pieces end)) one),
-        (still sink_after unsent, same),
-      )
+    says_status status pieces last source_after sink_after same (turn_by_silence nothing end one unsent) = sends_nothing pieces last (Ok status) source_after sink_after (
+      settled_rest start server.state (w.pieces ++ pieces) w.out (server.held ++ concat pieces) (Ok status) (heard_turns pieces) w.live
+          (λ more may. silent_rest (server.held ++ concat pieces) more status nothing (may (EndsEmpty-behind w.pieces pieces end)) one),
+      (still sink_after unsent, same),
+    )
 
     pub walk_to_end : (status : ℕ) (source_after : S) (sink_after : W) → TakesTurn coming failed gave taken flushed sink_failed server source_now sink_now (Ok (End status)) source_after sink_after
         → Runs coming failed gave taken flushed sink_failed start source sink (Ok status) source_after sink_after

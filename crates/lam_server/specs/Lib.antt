@@ -1,11 +1,8 @@
 pub mod Output
 pub mod Device
-pub mod Answer
-pub mod Waiting
-pub mod Turn
 pub mod Run
 pub mod Program
 pub mod CommandLine
 pub mod Words
 pub mod Laws
-pub mod Ending
+pub mod inner

@@ -4,7 +4,7 @@ ghost use Rattle.std.specs.Prelude.{◌≡◌, ◌-◌, ◌^◌, ◌<◌, false,
 ghost use Rattle.std.specs.List.{All};
 ghost use Rattle.serde_json.specs.View.{view};
 ghost use Rattle.serde_json.specs.Written.{has_float};
-ghost use Rattle.lam_server.specs.Answer.{AnswersBody, WritesValues};
+ghost use Rattle.lam_server.specs.inner.Answer.{AnswersBody, WritesValues};
 
 use crate::faults::RunFault;
 use lam_frame::{Sink, write_frame};

@@ -8,7 +8,7 @@
 ghost use Rattle.std.specs.Prelude.{◌≡◌, ◌≢◌, ◌-◌, ◌^◌, ◌<◌, map, string_bytes};
 ghost use Rattle.std.specs.IoError.{error_kind};
 ghost use Rattle.lam_session.specs.State.{dialect_of, fresh};
-ghost use Rattle.lam_server.specs.Ending.{EndsAsRun, EndsAsSomeRun, EndsByWords};
+ghost use Rattle.lam_server.specs.inner.Ending.{EndsAsRun, EndsAsSomeRun, EndsByWords};
 ghost use Rattle.lam_server.specs.Program.{status_of};
 ghost use Rattle.lam_server.specs.Words.{ReadsWords};
 
@@ -59,10 +59,8 @@ fn refuse<R: Eprint>(rt: &R, error: &io::Error) -> u8
 
 /// Reads the words, and then runs or says why not. The status to end with.
 fn start<R: AllocGlobal + Input + Print + Eprint>(rt: &R, words: &[String]) -> u8
-    ensures {
-        let source = ⟦<FromRead<R::Reader> as Source>⟧ in let sink = ⟦<ToWrite<Printer<'static, R>> as Sink>⟧ in
-        EndsByWords (EndsAsSomeRun source.coming source.failed source.gave sink.taken sink.flushed sink.failed) (map string_bytes words.now) result
-    }
+    ensures { let source = ⟦<FromRead<R::Reader> as Source>⟧ in let sink = ⟦<ToWrite<Printer<'static, R>> as Sink>⟧ in
+        EndsByWords (EndsAsSomeRun source.coming source.failed source.gave sink.taken sink.flushed sink.failed) (map string_bytes words.now) result }
 {
     match read_words(rt.alloc(), words) {
         Ok(config) => serve(rt, config),
@@ -90,10 +88,8 @@ fn read_words(alloc: Global, words: &[String]) -> Result<Config, ArgsFault>
 
 /// Serves standard input and output. The status to end with.
 fn serve<R: AllocGlobal + Input + Print + Eprint>(rt: &R, config: Config) -> u8
-    ensures {
-        let source = ⟦<FromRead<R::Reader> as Source>⟧ in let sink = ⟦<ToWrite<Printer<'static, R>> as Sink>⟧ in
-        EndsAsSomeRun source.coming source.failed source.gave sink.taken sink.flushed sink.failed (fresh (dialect_of config)) result
-    }
+    ensures { let source = ⟦<FromRead<R::Reader> as Source>⟧ in let sink = ⟦<ToWrite<Printer<'static, R>> as Sink>⟧ in
+        EndsAsSomeRun source.coming source.failed source.gave sink.taken sink.flushed sink.failed (fresh (dialect_of config)) result }
 {
     let mut reader = FromRead::new(rt.reader());
     let mut writer = ToWrite::new(io::writer(rt));

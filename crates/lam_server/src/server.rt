@@ -26,7 +26,7 @@ impl Model for Server {
     ghost use Rattle.std.specs.Prelude.{◌≡◌, false, None};
     ghost use Rattle.lam_frame.specs.declared.reader.State.TheVariants.{Reading};
     ghost use Rattle.lam_session.specs.State.{ended_status};
-    ghost use Rattle.lam_server.specs.Waiting.{Waiting};
+    ghost use Rattle.lam_server.specs.inner.Waiting.{Waiting};
 
     ghost Value = { Waiting };
 
@@ -45,7 +45,7 @@ pub enum Turn {
 }
 
 impl Server {
-    ghost use Rattle.lam_server.specs.Turn.{TakesTurn, ShrinksWork};
+    ghost use Rattle.lam_server.specs.inner.Turn.{TakesTurn, ShrinksWork};
 
     /// A server before its first message. What later calls need of memory they ask of `alloc`.
     pub fn new(alloc: Global, config: Config) -> Result<Server, AllocError>

@@ -22,12 +22,12 @@ use Rattle.lam_session.specs.declared.refusals.Refusal.{Refusal}
 use Rattle.lam_session.specs.declared.refusals.Refusal.TheVariants.{UnreadableMessage, InvalidMessage, AlreadyInitialized, ShutDown, NotInitialized, MethodNotFound, InvalidParams, DocumentNotOpen}
 use Rattle.lam_session.specs.Does.{Does}
 use Rattle.lam_session.specs.Initialize.{chosen, initialize_answer}
-use Rattle.lam_session.specs.Asked.{Place, place_of, has_rest, asked_place, asked_at}
+use Rattle.lam_session.specs.Asked.{PlaceAsked, place_of, has_rest, asked_place, asked_at}
 use Rattle.lam_session.specs.Questions.{RepliesOpen, RepliesAt, Asks}
 use Rattle.lam_session.specs.declared.questions.Question.{Question}
 use Rattle.lam_session.specs.Refusals.{refused}
 use Rattle.lam_session.specs.Methods.{request_method, notice_method}
-use Rattle.lam_session.specs.Runs.{Exchange, Runs, is_lifecycle, is_named, concerns, concerning, document_named, IsAlone, SaysNothing}
+use Rattle.lam_session.specs.Runs.{Exchange, AreExchanges, is_lifecycle, is_named, concerns, concerning, document_named, IsAlone, SaysNothing}
 use Rattle.lam_session.specs.State.{State, open_in, fresh}
 use Rattle.lam_session.specs.Step.{exit_status, Serves, Awaits, Requested, Heeds, Passes, Noticed, Receives, ReceivesIn, Steps}
 use Rattle.lam_session.specs.Sync.{published, opened_text, given_version, Holds, OpensAs, ChangesText, ChangesAs, ClosesOpen, ClosesAs}
@@ -128,18 +128,18 @@ agree_named uri other ds es is agree = subst (λ (u : List ℕ). open_text u ds 
 -- ---- questions
 
 -- the document of a place is the one that the params name
-place_named : (has : Bool) (position : Option Position) (named : Option (List ℕ)) (place : Place) → cond has (place_of position named) None ≡ Some place → named ≡ Some place.uri
+place_named : (has : Bool) (position : Option Position) (named : Option (List ℕ)) (place : PlaceAsked) → cond has (place_of position named) None ≡ Some place → named ≡ Some place.uri
 place_named false position named place is = absurd cc
 place_named true None named place is = absurd cc
 place_named true (Some position) None place is = absurd cc
-place_named true (Some position) (Some uri) place is = let same : record { uri = uri; position = position } ≡ place = cc in ap (λ (p : Place). Some p.uri) same
+place_named true (Some position) (Some uri) place is = let same : record { uri = uri; position = position } ≡ place = cc in ap (λ (p : PlaceAsked). Some p.uri) same
 
-replies_open_same : (question : Question) (s : State) (docs : List OpenDocument) (id params : Data) (place : Place) (found : Option (List ℕ)) (answer : Data)
+replies_open_same : (question : Question) (s : State) (docs : List OpenDocument) (id params : Data) (place : PlaceAsked) (found : Option (List ℕ)) (answer : Data)
     → RepliesOpen question (open_in s) id params place found answer → RepliesOpen question (open_in (beside s docs)) id params place found answer
 replies_open_same question s docs id params place None answer r = r
 replies_open_same question s docs id params place (Some text) answer r = r
 
-replies_same : (uri : List ℕ) (question : Question) (s : State) (docs : List OpenDocument) (id params : Data) (place : Option Place) (answer : Data)
+replies_same : (uri : List ℕ) (question : Question) (s : State) (docs : List OpenDocument) (id params : Data) (place : Option PlaceAsked) (answer : Data)
     → document_named uri s.documents ≡ document_named uri docs → is_named uri (named_uri params) ≡ true → asked_place question params ≡ place
     → RepliesAt question (open_in s) id params place answer → RepliesAt question (open_in (beside s docs)) id params place answer
 replies_same uri question s docs id params None answer agree is asked r = r
@@ -320,11 +320,11 @@ published_says uri other version faults apart = (
   tt,
 )
 
-replies_open_quiet : (question : Question) (held : OpenDocuments) (id params : Data) (place : Place) (found : Option (List ℕ)) (answer : Data) → RepliesOpen question held id params place found answer → HasNoMethod answer
+replies_open_quiet : (question : Question) (held : OpenDocuments) (id params : Data) (place : PlaceAsked) (found : Option (List ℕ)) (answer : Data) → RepliesOpen question held id params place found answer → HasNoMethod answer
 replies_open_quiet question held id params place None answer r = subst HasNoMethod (sym r) (refusal_has_no_method id DocumentNotOpen)
 replies_open_quiet question held id params place (Some text) answer r = (laws question).no_method (asked_at held params place text) id answer r
 
-replies_quiet : (question : Question) (held : OpenDocuments) (id params : Data) (place : Option Place) (answer : Data) → RepliesAt question held id params place answer → HasNoMethod answer
+replies_quiet : (question : Question) (held : OpenDocuments) (id params : Data) (place : Option PlaceAsked) (answer : Data) → RepliesAt question held id params place answer → HasNoMethod answer
 replies_quiet question held id params None answer r = subst HasNoMethod (sym r) (refusal_has_no_method id InvalidParams)
 replies_quiet question held id params (Some place) answer r = replies_open_quiet question held id params place (open_text place.uri held.documents) answer r
 
@@ -438,12 +438,12 @@ untold uri s m sent next d apart = (lives_quiet uri s.life s m sent next apart d
 
 -- the rest of a run, beside its part that concerns a document
 abbrev Rest : List ℕ → State → List OpenDocument → List Exchange → State → Type 0
-Rest uri s docs es end = (ds : List OpenDocument) × Runs (beside s docs) (concerning uri es) (beside end ds) × (document_named uri end.documents ≡ document_named uri ds)
+Rest uri s docs es end = (ds : List OpenDocument) × AreExchanges (beside s docs) (concerning uri es) (beside end ds) × (document_named uri end.documents ≡ document_named uri ds)
 
 run_more : (uri : List ℕ) (b : Bool) (s next end : State) (docs : List OpenDocument) (e : Exchange) (es : List Exchange)
     → concerns uri e.message ≡ b → document_named uri s.documents ≡ document_named uri docs → Steps s e.message e.sent next
     → ((ds : List OpenDocument) → document_named uri next.documents ≡ document_named uri ds → Rest uri next ds es end)
-    → (ds : List OpenDocument) × Runs (beside s docs) (cond b (e ∷ concerning uri es) (concerning uri es)) (beside end ds) × (document_named uri end.documents ≡ document_named uri ds)
+    → (ds : List OpenDocument) × AreExchanges (beside s docs) (cond b (e ∷ concerning uri es) (concerning uri es)) (beside end ds) × (document_named uri end.documents ≡ document_named uri ds)
 run_more uri true s next end docs e es is agree step later =
     let here = lives_same uri s.life s docs e.message e.sent next agree is step in
     let rest = later here.0 here.2 in
@@ -452,14 +452,14 @@ run_more uri false s next end docs e es is agree step later =
     let quiet = lives_quiet uri s.life s e.message e.sent next is step in
     let rest = later docs (quiet.1 ∙ agree) in
     let same : beside next docs ≡ beside s docs = ap (λ (x : State). beside x docs) quiet.0 in
-    (rest.0, subst (λ (x : State). Runs x (concerning uri es) (beside end rest.0)) same rest.1, rest.2)
+    (rest.0, subst (λ (x : State). AreExchanges x (concerning uri es) (beside end rest.0)) same rest.1, rest.2)
 
-runs_same : (uri : List ℕ) (es : List Exchange) (s end : State) (docs : List OpenDocument) → document_named uri s.documents ≡ document_named uri docs → Runs s es end → Rest uri s docs es end
+runs_same : (uri : List ℕ) (es : List Exchange) (s end : State) (docs : List OpenDocument) → document_named uri s.documents ≡ document_named uri docs → AreExchanges s es end → Rest uri s docs es end
 runs_same uri [] s end docs agree r = (docs, ap (λ (x : State). beside x docs) r, ap (λ (x : State). document_named uri x.documents) r ∙ agree)
 runs_same uri (e ∷ es) s end docs agree r =
     run_more uri (concerns uri e.message) s r.0 end docs e es refl agree r.1 (λ ds next_agree. runs_same uri es r.0 end ds next_agree r.2)
 
-pub isolated : (dialect : Dialect) (uri : List ℕ) (exchanges : List Exchange) (end : State) → Runs (fresh dialect) exchanges end → IsAlone dialect uri exchanges end
+pub isolated : (dialect : Dialect) (uri : List ℕ) (exchanges : List Exchange) (end : State) → AreExchanges (fresh dialect) exchanges end → IsAlone dialect uri exchanges end
 isolated dialect uri exchanges end r =
     let part = runs_same uri exchanges (fresh dialect) end [] refl r in
     record { alone = beside end part.0; run = part.1; same = record { life = refl; encoding = refl; dialect = refl; document = part.2 } }

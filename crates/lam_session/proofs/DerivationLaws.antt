@@ -8,7 +8,7 @@ use Rattle.lam_rules.specs.Types.{Typ}
 use Rattle.lam_rules.specs.declared.rules.Dialect.{Dialect}
 use Rattle.lam_text.specs.declared.units.Encoding.{Encoding}
 use Rattle.lam_query.specs.Steps.{Conclusion, typing, subtyping, Step}
-use Rattle.lam_query.specs.Derivations.{Entry, Derivation, IsDerivedIn}
+use Rattle.lam_query.specs.Derivations.{ContextEntry, Derivation, IsDerivedIn}
 use Rattle.lam_query.proofs.OneAnswer.{one_hover}
 use Rattle.lam_query.proofs.SomeAnswers.{some_derivation, shown_of_derived, nothing_derived}
 use Rattle.lam_session.specs.Derivations.{type_value, entry_value, conclusion_value, step_value, derivation_value, IsDerivationReply, GivesDerivation}
@@ -20,7 +20,7 @@ type_plain : (o : Option Typ) → has_float (type_value o) ≡ false
 type_plain None = refl
 type_plain (Some t) = refl
 
-entries_plain : (es : List Entry) → items_have_float (items_of (map entry_value es)) ≡ false
+entries_plain : (es : List ContextEntry) → items_have_float (items_of (map entry_value es)) ≡ false
 entries_plain [] = refl
 entries_plain (e ∷ es) = rw (type_plain e.type, entries_plain es) refl
 

@@ -16,7 +16,7 @@ use Rattle.lam_session.specs.Documents.{OpenDocument, open_text, with_document}
 use Rattle.lam_session.specs.Does.{Does, Ignores}
 use Rattle.lam_session.specs.Methods.{request_method, notice_method}
 use Rattle.lam_session.specs.OneAnswer.{AreAlike, same, both_may_vary, HasOneAnswer}
-use Rattle.lam_session.specs.Asked.{Place, asked_place, asked_at}
+use Rattle.lam_session.specs.Asked.{PlaceAsked, asked_place, asked_at}
 use Rattle.lam_session.specs.Questions.{RepliesOpen, RepliesAt, Asks}
 use Rattle.lam_session.specs.Refusals.{refused}
 use Rattle.lam_session.specs.declared.questions.Question.{Question}
@@ -25,7 +25,7 @@ use Rattle.lam_session.proofs.QuestionLaws.{laws}
 use Rattle.lam_session.specs.State.{State, open_in}
 use Rattle.lam_session.specs.Step.{Serves, Awaits, Requested, Heeds, Passes, Noticed, Receives, ReceivesIn, Steps}
 use Rattle.lam_session.specs.Sync.{Holds, published, OpensAs, ChangesText, ChangesAs, ClosesOpen, ClosesAs, opened_text, given_version}
-use Rattle.lam_session.specs.Runs.{Exchange, Runs, AnswerAlike, both_end, both_go_on}
+use Rattle.lam_session.specs.Runs.{Exchange, AreExchanges, AnswerAlike, both_end, both_go_on}
 
 module _ (s : State) (m : Message) where
   -- a case of a step holds of some values and a state, and any two that it holds of are alike
@@ -44,7 +44,7 @@ module _ (s : State) (m : Message) where
   -- ---- requests
 
   -- two replies to a question
-  alike_open : (question : Question) (id params : Data) (name : List ℕ) (place : Place) (found : Option (List ℕ)) (one other : Data)
+  alike_open : (question : Question) (id params : Data) (name : List ℕ) (place : PlaceAsked) (found : Option (List ℕ)) (one other : Data)
       → m ≡ request id name params → request_method name ≡ Ask question → asked_place question params ≡ Some place → open_text place.uri s.documents ≡ found
       → RepliesOpen question (open_in s) id params place found one → RepliesOpen question (open_in s) id params place found other → AreAlike s m (one ∷ []) (other ∷ [])
   alike_open question id params name place None one other asked meant named is_open a b = same (ap (λ d. d ∷ []) (a ∙ sym b))
@@ -72,16 +72,16 @@ module _ (s : State) (m : Message) where
         })
       ]
 
-  alike_at : (question : Question) (id params : Data) (name : List ℕ) (place : Option Place) (one other : Data) → m ≡ request id name params → request_method name ≡ Ask question → asked_place question params ≡ place
+  alike_at : (question : Question) (id params : Data) (name : List ℕ) (place : Option PlaceAsked) (one other : Data) → m ≡ request id name params → request_method name ≡ Ask question → asked_place question params ≡ place
       → RepliesAt question (open_in s) id params place one → RepliesAt question (open_in s) id params place other → AreAlike s m (one ∷ []) (other ∷ [])
   alike_at question id params name None one other asked meant named a b = same (ap (λ d. d ∷ []) (a ∙ sym b))
   alike_at question id params name (Some place) one other asked meant named a b = alike_open question id params name place (open_text place.uri s.documents) one other asked meant named refl a b
 
-  some_open : (question : Question) (id params : Data) (place : Place) (found : Option (List ℕ)) → (reply : Data) × RepliesOpen question (open_in s) id params place found reply
+  some_open : (question : Question) (id params : Data) (place : PlaceAsked) (found : Option (List ℕ)) → (reply : Data) × RepliesOpen question (open_in s) id params place found reply
   some_open question id params place None = (refused id DocumentNotOpen, refl)
   some_open question id params place (Some text) = (laws question).some (asked_at (open_in s) params place text) id
 
-  some_at : (question : Question) (id params : Data) (place : Option Place) → (reply : Data) × RepliesAt question (open_in s) id params place reply
+  some_at : (question : Question) (id params : Data) (place : Option PlaceAsked) → (reply : Data) × RepliesAt question (open_in s) id params place reply
   some_at question id params None = (refused id InvalidParams, refl)
   some_at question id params (Some place) = some_open question id params place (open_text place.uri s.documents)
 
@@ -195,7 +195,7 @@ alike_more s next end later e o es os messages step rest other go_on =
     let more = go_on (sym alike.1) in
     (both_go_on (sym messages) step alike.0 more.0, more.1)
 
-pub one_run : (s end later : State) (es os : List Exchange) → map (λ (e : Exchange). e.message) os ≡ map (λ (e : Exchange). e.message) es → Runs s es end → Runs s os later → AnswerAlike s es os × (end ≡ later)
+pub one_run : (s end later : State) (es os : List Exchange) → map (λ (e : Exchange). e.message) os ≡ map (λ (e : Exchange). e.message) es → AreExchanges s es end → AreExchanges s os later → AnswerAlike s es os × (end ≡ later)
 one_run s end later [] [] messages r q = (both_end, r ∙ sym q)
 one_run s end later [] (o ∷ os) messages r q = absurd cc
 one_run s end later (e ∷ es) [] messages r q = absurd cc
@@ -203,4 +203,4 @@ one_run s end later (e ∷ es) (o ∷ os) messages r q =
     let first : o.message ≡ e.message = cc in
     let others : map (λ (x : Exchange). x.message) os ≡ map (λ (x : Exchange). x.message) es = cc in
     alike_more s r.0 end later e o es os first r.1 q.0 q.1
-    (λ states. one_run r.0 end later es os others r.2 (subst (λ (t : State). Runs t os later) states q.2))
+    (λ states. one_run r.0 end later es os others r.2 (subst (λ (t : State). AreExchanges t os later) states q.2))

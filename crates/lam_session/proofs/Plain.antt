@@ -27,7 +27,7 @@ use Rattle.lam_rpc.specs.Fields.{named_uri, listed_changes}
 use Rattle.lam_session.specs.Does.{Does}
 use Rattle.lam_session.specs.Documents.{OpenDocument, OpenDocuments, open_text}
 use Rattle.lam_query.specs.Faults.{Fault}
-use Rattle.lam_session.specs.Asked.{Place, asked_place, asked_at}
+use Rattle.lam_session.specs.Asked.{PlaceAsked, asked_place, asked_at}
 use Rattle.lam_session.specs.Questions.{RepliesOpen, RepliesAt, Asks}
 use Rattle.lam_session.specs.declared.questions.Question.{Question}
 use Rattle.lam_session.specs.Diagnostics.{diagnostics}
@@ -53,11 +53,11 @@ does_plain values after sent next h d = subst NoFloats (sym d.0) h
 
 -- ---- questions
 
-replies_open_plain : (question : Question) (held : OpenDocuments) (id params : Data) (place : Place) (found : Option (List ℕ)) (answer : Data) → has_float id ≡ false → RepliesOpen question held id params place found answer → has_float answer ≡ false
+replies_open_plain : (question : Question) (held : OpenDocuments) (id params : Data) (place : PlaceAsked) (found : Option (List ℕ)) (answer : Data) → has_float id ≡ false → RepliesOpen question held id params place found answer → has_float answer ≡ false
 replies_open_plain question held id params place None answer h r = subst (λ (d : Data). has_float d ≡ false) (sym r) (refusal_plain id DocumentNotOpen h)
 replies_open_plain question held id params place (Some text) answer h r = (laws question).plain (asked_at held params place text) id answer h r
 
-replies_plain : (question : Question) (held : OpenDocuments) (id params : Data) (place : Option Place) (answer : Data) → has_float id ≡ false → RepliesAt question held id params place answer → has_float answer ≡ false
+replies_plain : (question : Question) (held : OpenDocuments) (id params : Data) (place : Option PlaceAsked) (answer : Data) → has_float id ≡ false → RepliesAt question held id params place answer → has_float answer ≡ false
 replies_plain question held id params None answer h r = subst (λ (d : Data). has_float d ≡ false) (sym r) (refusal_plain id InvalidParams h)
 replies_plain question held id params (Some place) answer h r = replies_open_plain question held id params place (open_text place.uri held.documents) answer h r
 

@@ -4,7 +4,7 @@ use Rattle.std.proofs.Common.{◌≡◌, List, ℕ, Bool, true, false, Option, S
 use Rattle.serde_json.specs.Data.{Num, unsigned, negative, float, Data, null, boolean, number, string, array, object}
 use Rattle.serde_json.specs.Find.{get, as_object, as_str}
 use Rattle.serde_json.specs.Written.{has_float}
-use Rattle.lam_rpc.specs.Kind.{Message, request, notice, reply, unreadable, invalid, IsKindOf, HasPlainId, kind_of, with_id, with_method, is_id, is_reply}
+use Rattle.lam_rpc.specs.Kind.{Message, request, notice, reply, unreadable, invalid, IsKindOf, HasPlainId, message_kind, with_id, with_method, is_id, is_reply}
 
 number_plain : (n : Num) → is_id (number n) ≡ true → has_float (number n) ≡ false
 number_plain (unsigned n) is = refl
@@ -38,7 +38,7 @@ with_method_plain : (method : Option (List ℕ)) (d : Data) → HasPlainId (with
 with_method_plain None d = tt
 with_method_plain (Some method) d = with_id_plain (get (codes "id") d) method (unwrap_or (get (codes "params") d) null)
 
-kind_plain : (d : Data) → HasPlainId (kind_of d)
+kind_plain : (d : Data) → HasPlainId (message_kind d)
 kind_plain d =
     let text = option_and_then as_str (get (codes "method") d) in
     chosen (not (is_some (as_object d))) invalid (if is_reply d then reply else with_method text d) tt (chosen (is_reply d) reply (with_method text d) tt (with_method_plain text d))

@@ -1,7 +1,7 @@
 -- Two runs in which the messages that concern a document are the same agree about it.
 use Rattle.std.proofs.Common.{◌≡◌, ℕ, List, sym, ap, ◌∙◌}
 use Rattle.lam_rules.specs.declared.rules.Dialect.{Dialect}
-use Rattle.lam_session.specs.Runs.{Exchange, messages_of, Runs, concerning, document_named, SameFor, AgreeAbout}
+use Rattle.lam_session.specs.Runs.{Exchange, messages_of, AreExchanges, concerning, document_named, SameFor, AgreeAbout}
 use Rattle.lam_session.specs.State.{State, fresh}
 use Rattle.lam_session.proofs.AloneRuns.{isolated}
 use Rattle.lam_session.proofs.OneAnswer.{one_run}
@@ -16,7 +16,7 @@ same_through uri s t u v h is k = record {
 }
 
 pub agree_about : (dialect : Dialect) (uri : List ℕ) (exchanges others : List Exchange) (end later : State)
-    → messages_of (concerning uri others) ≡ messages_of (concerning uri exchanges) → Runs (fresh dialect) exchanges end → Runs (fresh dialect) others later
+    → messages_of (concerning uri others) ≡ messages_of (concerning uri exchanges) → AreExchanges (fresh dialect) exchanges end → AreExchanges (fresh dialect) others later
     → AgreeAbout dialect uri exchanges others end later
 agree_about dialect uri exchanges others end later told r q =
     let one = isolated dialect uri exchanges end r in

@@ -11,12 +11,12 @@ use Rattle.lam_session.specs.declared.questions.Question.{Question}
 use Rattle.lam_session.specs.declared.questions.Question.TheVariants.{Rename}
 
 -- a place as the client names it: the uri of a document and a position in it
-pub record Place : Type 0 where
+pub record PlaceAsked : Type 0 where
   pub uri : List ℕ
   pub position : Position
 
 -- a place, where both of its parts are given
-abbrev pub place_of : Option Position → Option (List ℕ) → Option Place
+abbrev pub place_of : Option Position → Option (List ℕ) → Option PlaceAsked
 place_of (Some position) (Some uri) = Some (record { uri = uri; position = position })
 place_of _ _ = None
 
@@ -30,7 +30,7 @@ has_rest Rename params = is_some (given_name params)
 has_rest _ params = true
 
 -- the place that a question's params name, none where they lack what the question needs
-abbrev pub asked_place : Question → Data → Option Place
+abbrev pub asked_place : Question → Data → Option PlaceAsked
 asked_place question params = if has_rest question params then place_of (asked_position params) (named_uri params) else None
 
 -- what is asked about: an offset in the text that the document of this uri now has, the unit of its columns, the rules in force, and the params
@@ -43,7 +43,7 @@ pub record Asked : Type 0 where
   pub offset : ℕ
 
 -- what is asked about with these params, at this place in a document with this text
-abbrev pub asked_at : OpenDocuments → Data → Place → List ℕ → Asked
+abbrev pub asked_at : OpenDocuments → Data → PlaceAsked → List ℕ → Asked
 asked_at held params place text = record {
   encoding = held.encoding;
   dialect = held.dialect;

@@ -9,7 +9,7 @@ use Rattle.lam_rules.specs.Rules.{name_of_sub_rule, name_of_type_rule}
 use Rattle.lam_rules.specs.declared.rules.Dialect.{Dialect}
 use Rattle.lam_text.specs.declared.units.Encoding.{Encoding}
 use Rattle.lam_query.specs.Steps.{Conclusion, typing, subtyping, Step}
-use Rattle.lam_query.specs.Derivations.{Entry, Derivation, IsDerivedIn}
+use Rattle.lam_query.specs.Derivations.{ContextEntry, Derivation, IsDerivedIn}
 use Rattle.lam_session.specs.Ranges.{range_value}
 
 -- the text of an entry's type, with the fields in their own order; null where it has none
@@ -18,7 +18,7 @@ type_value None = null
 type_value (Some t) = string (plain_text t)
 
 -- a binder of the context, by its name and its type
-abbrev pub entry_value : Entry → Data
+abbrev pub entry_value : ContextEntry → Data
 entry_value e = object (member (codes "name") (string e.name) (member (codes "type") (type_value e.type) no_members))
 
 -- the numbers of the steps that a step follows from

@@ -10,7 +10,6 @@ pub mod Courses
 pub mod Does
 pub mod Initialize
 pub mod Sync
-pub mod Told
 pub mod Asked
 pub mod Hovers
 pub mod Derivations
@@ -22,3 +21,4 @@ pub mod Questions
 pub mod Step
 pub mod OneAnswer
 pub mod Runs
+pub mod inner

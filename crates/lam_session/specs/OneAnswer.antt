@@ -4,7 +4,7 @@ use Rattle.serde_json.specs.Data.{Data}
 use Rattle.lam_rpc.specs.Kind.{Message, request}
 use Rattle.lam_session.specs.declared.methods.RequestMethod.TheVariants.{Ask}
 use Rattle.lam_session.specs.declared.questions.Question.{Question}
-use Rattle.lam_session.specs.Asked.{Place, asked_place, asked_at}
+use Rattle.lam_session.specs.Asked.{PlaceAsked, asked_place, asked_at}
 use Rattle.lam_session.specs.Documents.{open_text}
 use Rattle.lam_session.specs.Methods.{request_method}
 use Rattle.lam_session.specs.Questions.{MayVary}
@@ -19,7 +19,7 @@ pub record BothMayVary (s : State) (m : Message) (values sent : List Data) : Typ
   pub asked : m ≡ request id method params
   pub question : Question
   pub meant : request_method method ≡ Ask question
-  pub place : Place
+  pub place : PlaceAsked
   pub named : asked_place question params ≡ Some place
   pub text : List ℕ
   pub open_as : open_text place.uri s.documents ≡ Some text

@@ -2,7 +2,7 @@
 -- then one about a document that is not open.
 use Rattle.std.specs.Prelude.{◌≡◌, ℕ, List, [], ◌∷◌, Option, None, Some}
 use Rattle.serde_json.specs.Data.{Data}
-use Rattle.lam_session.specs.Asked.{Place, asked_place, Asked, asked_at}
+use Rattle.lam_session.specs.Asked.{PlaceAsked, asked_place, Asked, asked_at}
 use Rattle.lam_session.specs.Completions.{IsCompletionReply}
 use Rattle.lam_session.specs.Derivations.{IsDerivationReply, GivesDerivation}
 use Rattle.lam_session.specs.Definitions.{IsDefinitionReply}
@@ -32,12 +32,12 @@ MayVary Derivation a id reply = GivesDerivation a.encoding a.dialect a.text a.of
 MayVary _ a id reply = ⊥
 
 -- the reply to a question about a place in a document, whose text this is; where it is not open, the question is refused
-abbrev pub RepliesOpen : Question → OpenDocuments → Data → Data → Place → Option (List ℕ) → Data → Type 0
+abbrev pub RepliesOpen : Question → OpenDocuments → Data → Data → PlaceAsked → Option (List ℕ) → Data → Type 0
 RepliesOpen question held id params place None reply = reply ≡ refused id DocumentNotOpen
 RepliesOpen question held id params place (Some text) reply = IsAnswerTo question (asked_at held params place text) id reply
 
 -- the reply to a question about this place; where the params name none, the question is refused
-abbrev pub RepliesAt : Question → OpenDocuments → Data → Data → Option Place → Data → Type 0
+abbrev pub RepliesAt : Question → OpenDocuments → Data → Data → Option PlaceAsked → Data → Type 0
 RepliesAt question held id params None reply = reply ≡ refused id InvalidParams
 RepliesAt question held id params (Some place) reply = RepliesOpen question held id params place (open_text place.uri held.documents) reply
 

@@ -22,21 +22,21 @@ code_of WrongKind = negsuc 32601
 code_of ChangesBinding = negsuc 32802
 
 -- what a person reads of a refusal
-abbrev pub text_of : Refusal → List ℕ
-text_of UnreadableMessage = codes "unreadable message"
-text_of InvalidMessage = codes "invalid message"
-text_of AlreadyInitialized = codes "already initialized"
-text_of ShutDown = codes "server is shut down"
-text_of NotInitialized = codes "server not initialized"
-text_of MethodNotFound = codes "method not found"
-text_of InvalidParams = codes "invalid params"
-text_of DocumentNotOpen = codes "document not open"
-text_of NotAName = codes "new name is not a name"
-text_of UnparsedCommand = codes "some command does not parse"
-text_of NoBoundName = codes "no bound name here"
-text_of WrongKind = codes "new name is of the wrong kind"
-text_of ChangesBinding = codes "binding would change"
+abbrev pub refusal_text : Refusal → List ℕ
+refusal_text UnreadableMessage = codes "unreadable message"
+refusal_text InvalidMessage = codes "invalid message"
+refusal_text AlreadyInitialized = codes "already initialized"
+refusal_text ShutDown = codes "server is shut down"
+refusal_text NotInitialized = codes "server not initialized"
+refusal_text MethodNotFound = codes "method not found"
+refusal_text InvalidParams = codes "invalid params"
+refusal_text DocumentNotOpen = codes "document not open"
+refusal_text NotAName = codes "new name is not a name"
+refusal_text UnparsedCommand = codes "some command does not parse"
+refusal_text NoBoundName = codes "no bound name here"
+refusal_text WrongKind = codes "new name is of the wrong kind"
+refusal_text ChangesBinding = codes "binding would change"
 
 -- the reply that refuses the request with this id
 abbrev pub refused : Data → Refusal → Data
-refused id refusal = refusal_reply id (code_of refusal) (text_of refusal)
+refused id refusal = refusal_reply id (code_of refusal) (refusal_text refusal)

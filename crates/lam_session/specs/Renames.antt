@@ -3,7 +3,7 @@ use Rattle.std.specs.Prelude.{◌≡◌, ℕ, List, [], map, codes, Option, None
 use Rattle.serde_json.specs.Data.{Data, string, array, object, member, no_members}
 use Rattle.serde_json.specs.Find.{get}
 use Rattle.serde_json.specs.View.{items_of}
-use Rattle.lam_rpc.specs.Fields.{text_at, range_of as given_range}
+use Rattle.lam_rpc.specs.Fields.{text_at, given_range}
 use Rattle.lam_rpc.specs.Reply.{result_reply}
 use Rattle.lam_token.specs.declared.span.Span.{Span}
 use Rattle.lam_text.specs.declared.units.Encoding.{Encoding}

@@ -22,9 +22,9 @@ abbrev pub messages_of : List Exchange → List Message
 messages_of exchanges = map (λ e. e.message) exchanges
 
 -- these exchanges lead from the one state to the other
-abbrev pub Runs : State → List Exchange → State → Type 0
-Runs s [] end = end ≡ s
-Runs s (e ∷ es) end = (next : State) × Steps s e.message e.sent next × Runs next es end
+abbrev pub AreExchanges : State → List Exchange → State → Type 0
+AreExchanges s [] end = end ≡ s
+AreExchanges s (e ∷ es) end = (next : State) × Steps s e.message e.sent next × AreExchanges next es end
 
 -- a method that shapes the session as a whole
 abbrev pub is_lifecycle : List ℕ → Bool
@@ -62,7 +62,7 @@ pub record SameFor (uri : List ℕ) (s t : State) : Type 0 where
 -- the exchanges that concern a document are a run by themselves, which leaves that document as the whole run does
 pub record IsAlone (dialect : Dialect) (uri : List ℕ) (exchanges : List Exchange) (end : State) : Type 0 where
   pub alone : State
-  pub run : Runs (fresh dialect) (concerning uri exchanges) alone
+  pub run : AreExchanges (fresh dialect) (concerning uri exchanges) alone
   pub same : SameFor uri end alone
 
 -- the same messages, each answered alike in both

@@ -8,7 +8,7 @@ ghost use Rattle.lam_session.specs.Questions.{Asks};
 ghost use Rattle.lam_session.specs.State.{fresh, ended_status};
 ghost use Rattle.lam_session.specs.Step.{Steps, Requested, Awaits, Noticed, Heeds, Passes, Serves, Ends, Initializes, ShutsDown, exit_status};
 ghost use Rattle.lam_session.specs.Sync.{Tells, Opens, Changes, ChangesText, Closes};
-ghost use Rattle.lam_session.specs.Told.{IsTold};
+ghost use Rattle.lam_session.specs.inner.Told.{IsTold};
 
 use crate::diagnostics::diagnostics;
 use crate::documents::Documents;

@@ -2,7 +2,7 @@
 ghost use Rattle.std.specs.Prelude.{◌≡◌, true, IfOk, IfSome};
 ghost use Rattle.serde_json.specs.View.{view};
 ghost use Rattle.lam_text.specs.Positions.{offset_of};
-ghost use Rattle.lam_query.specs.Within.{StandsIn};
+ghost use Rattle.lam_query.specs.Within.{IsSpanOfText};
 ghost use Rattle.lam_session.specs.Definitions.{definition_value, IsDefinitionReply};
 
 use crate::document::Document;
@@ -37,7 +37,7 @@ fn definition_value(
     uri: &str,
     found: Option<Span>,
 ) -> Result<Value, AllocError>
-    requires { IfSome found (StandsIn doc.now.text) }
+    requires { IfSome found (IsSpanOfText doc.now.text) }
     ensures { IfOk result (λ value. view value ≡ definition_value doc.now.encoding doc.now.text uri.now found) }
 {
     match found {

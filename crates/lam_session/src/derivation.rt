@@ -9,7 +9,7 @@ ghost use Rattle.lam_text.specs.declared.units.Encoding.{Encoding};
 ghost use Rattle.lam_text.specs.Positions.{offset_of};
 ghost use Rattle.lam_query.specs.Views.{entry_of, step_of, derivation_of, StepStandsIn};
 ghost use Rattle.lam_query.specs.Steps.{typing, subtyping};
-ghost use Rattle.lam_query.specs.Within.{StandsIn};
+ghost use Rattle.lam_query.specs.Within.{IsSpanOfText};
 ghost use Rattle.lam_session.specs.Derivations.{type_value, entry_value, premises_value, conclusion_value, step_value, derivation_value, IsDerivationReply};
 
 use crate::document::Document;
@@ -131,7 +131,7 @@ fn typing_value(
     ty: &Ty,
     premises: &[usize],
 ) -> Result<Value, AllocError>
-    requires { StandsIn doc.now.text span }
+    requires { IsSpanOfText doc.now.text span }
     ensures { IfOk result (λ value. view value ≡ conclusion_value doc.now.encoding doc.now.text premises.now (typing rule span (typ_of ty.now))) }
 {
     Object::new(alloc)

@@ -2,7 +2,7 @@
 ghost use Rattle.std.specs.Prelude.{◌≡◌, map, All, IfOk};
 ghost use Rattle.serde_json.specs.View.{view};
 ghost use Rattle.lam_query.specs.Views.{fault_of};
-ghost use Rattle.lam_query.specs.Within.{StandsIn};
+ghost use Rattle.lam_query.specs.Within.{IsSpanOfText};
 ghost use Rattle.lam_session.specs.Diagnostics.{message_beside, message_of, diagnostic};
 
 use crate::objects::Object;
@@ -35,7 +35,7 @@ static MESSAGES: [(&str, &str); 17] = [
 
 /// A value for each fault, in their order.
 pub fn diagnostics(alloc: Global, doc: &Doc, faults: &[Fault]) -> Result<Vec<Value>, AllocError>
-    requires { All (λ f. StandsIn doc.now.text f.span) faults.now }
+    requires { All (λ f. IsSpanOfText doc.now.text f.span) faults.now }
     ensures { IfOk result (λ values. map view values.items ≡ map (diagnostic doc.now.encoding doc.now.text) (map fault_of faults.now)) }
 {
     let mut values = Vec::new(alloc);
@@ -46,7 +46,7 @@ pub fn diagnostics(alloc: Global, doc: &Doc, faults: &[Fault]) -> Result<Vec<Val
 }
 
 fn diagnostic(alloc: Global, doc: &Doc, fault: &Fault) -> Result<Value, AllocError>
-    requires { StandsIn doc.now.text fault.now.span }
+    requires { IsSpanOfText doc.now.text fault.now.span }
     ensures { IfOk result (λ value. view value ≡ diagnostic doc.now.encoding doc.now.text (fault_of fault.now)) }
 {
     Object::new(alloc)

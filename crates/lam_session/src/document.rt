@@ -8,7 +8,7 @@ ghost use Rattle.lam_query.specs.Definitions.{IsDefinitionIn, AreReferencesIn};
 ghost use Rattle.lam_query.specs.Renames.{IsRenameIn};
 ghost use Rattle.lam_query.specs.TextFaults.{AreFaults};
 ghost use Rattle.lam_query.specs.Views.{fault_of, shown_of, item_of, derivation_of, StepStandsIn};
-ghost use Rattle.lam_query.specs.Within.{StandsIn};
+ghost use Rattle.lam_query.specs.Within.{IsSpanOfText};
 ghost use Rattle.lam_text.specs.Edits.{text_after};
 ghost use Rattle.lam_text.specs.Positions.{offset_of};
 
@@ -119,7 +119,7 @@ impl Document {
     pub fn faults(&self, alloc: Global) -> Result<Vec<Fault>, AllocError>
         requires { self.now.analysed ≡ true }
         ensures faults { IfOk result (λ found. AreFaults self.now.text (map fault_of found.items) self.now.dialect) }
-        ensures whole_characters { IfOk result (λ found. All (λ f. StandsIn self.now.text f.span) found.items) }
+        ensures whole_characters { IfOk result (λ found. All (λ f. IsSpanOfText self.now.text f.span) found.items) }
     {
         self.analysis().faults(alloc, self.doc.text())
     }
@@ -128,7 +128,7 @@ impl Document {
     pub fn hover(&self, alloc: Global, position: Position) -> Result<Option<Hover>, AllocError>
         requires { self.now.analysed ≡ true }
         ensures shown { IfOk result (λ found. IsShownIn self.now.text (offset_of self.now.encoding self.now.text position) (option_map shown_of found) self.now.dialect) }
-        ensures whole_characters { IfOk result (λ found. IfSome found (λ h. StandsIn self.now.text h.span)) }
+        ensures whole_characters { IfOk result (λ found. IfSome found (λ h. IsSpanOfText self.now.text h.span)) }
     {
         let offset = self.doc.offset_of(position);
         self.analysis().hover(alloc, self.doc.text(), offset)
@@ -161,7 +161,7 @@ impl Document {
     pub fn definition(&self, alloc: Global, position: Position) -> Result<Option<Span>, AllocError>
         requires { self.now.analysed ≡ true }
         ensures definition { IfOk result (IsDefinitionIn self.now.text (offset_of self.now.encoding self.now.text position)) }
-        ensures whole_characters { IfOk result (λ found. IfSome found (StandsIn self.now.text)) }
+        ensures whole_characters { IfOk result (λ found. IfSome found (IsSpanOfText self.now.text)) }
     {
         let offset = self.doc.offset_of(position);
         self.analysis().definition(alloc, self.doc.text(), offset)
@@ -176,7 +176,7 @@ impl Document {
     ) -> Result<Option<Vec<Span>>, AllocError>
         requires { self.now.analysed ≡ true }
         ensures references { IfOk result (λ found. AreReferencesIn self.now.text (offset_of self.now.encoding self.now.text position) declared (option_map (λ spans. spans.items) found)) }
-        ensures whole_characters { IfOk result (λ found. IfSome found (λ spans. All (StandsIn self.now.text) spans.items)) }
+        ensures whole_characters { IfOk result (λ found. IfSome found (λ spans. All (IsSpanOfText self.now.text) spans.items)) }
     {
         let offset = self.doc.offset_of(position);
         self.analysis()
@@ -193,7 +193,7 @@ impl Document {
         requires { self.now.analysed ≡ true }
         ensures renamed { IfOk result (λ spans. IsRenameIn self.now.text (offset_of self.now.encoding self.now.text position) new.now (Ok spans.items)) }
         ensures refused { IfErr result (λ fault. fault ≢ RenameFault.Memory → IsRenameIn self.now.text (offset_of self.now.encoding self.now.text position) new.now (Err fault)) }
-        ensures whole_characters { IfOk result (λ spans. All (StandsIn self.now.text) spans.items) }
+        ensures whole_characters { IfOk result (λ spans. All (IsSpanOfText self.now.text) spans.items) }
     {
         let offset = self.doc.offset_of(position);
         self.analysis().rename(alloc, self.doc.text(), offset, new)

@@ -3,7 +3,7 @@ ghost use Rattle.std.specs.Prelude.{◌≡◌, true, option_map, string_bytes, I
 ghost use Rattle.serde_json.specs.View.{view};
 ghost use Rattle.lam_text.specs.Positions.{offset_of};
 ghost use Rattle.lam_query.specs.Views.{shown_of};
-ghost use Rattle.lam_query.specs.Within.{StandsIn};
+ghost use Rattle.lam_query.specs.Within.{IsSpanOfText};
 ghost use Rattle.lam_session.specs.Hovers.{plain_contents, hover_value, IsHoverReply};
 
 use crate::document::Document;
@@ -33,7 +33,7 @@ pub fn hover_reply(
 
 /// A type and its place; null where there is none.
 fn hover_value(alloc: Global, doc: &Doc, shown: Option<Hover>) -> Result<Value, AllocError>
-    requires { IfSome shown (λ h. StandsIn doc.now.text h.span) }
+    requires { IfSome shown (λ h. IsSpanOfText doc.now.text h.span) }
     ensures { IfOk result (λ value. view value ≡ hover_value doc.now.encoding doc.now.text (option_map shown_of shown)) }
 {
     let Some(hover) = shown else {

@@ -15,7 +15,7 @@ ghost use Rattle.lam_query.specs.TextFaults.{AreFaults};
 ghost use Rattle.lam_query.specs.Renames.{IsRenameIn};
 ghost use Rattle.lam_session.specs.Diagnostics.{message_of};
 ghost use Rattle.lam_session.specs.Renames.{edit_value, change_of, change_in};
-ghost use Rattle.lam_session.specs.Runs.{Exchange, messages_of, Runs, concerns, concerning, IsAlone, AnswerAlike, AgreeAbout, SaysNothing};
+ghost use Rattle.lam_session.specs.Runs.{Exchange, messages_of, AreExchanges, concerns, concerning, IsAlone, AnswerAlike, AgreeAbout, SaysNothing};
 ghost use Rattle.lam_session.specs.State.{State, fresh};
 ghost use Rattle.lam_session.specs.Step.{Steps};
 
@@ -26,11 +26,11 @@ ghost use Rattle.lam_session.specs.Step.{Steps};
 /// each was told, and leave the document with one text and one version.
 pub fn isolation()
     ensures alone { (dialect : Dialect) (uri : List ℕ) (exchanges : List Exchange) (end : State)
-        → Runs (fresh dialect) exchanges end → IsAlone dialect uri exchanges end }
+        → AreExchanges (fresh dialect) exchanges end → IsAlone dialect uri exchanges end }
     ensures untold { (uri : List ℕ) (s : State) (m : Message) (sent : List Data) (next : State)
         → Steps s m sent next → concerns uri m ≡ false → SaysNothing uri sent }
     ensures both { (dialect : Dialect) (uri : List ℕ) (exchanges others : List Exchange) (end later : State)
-        → messages_of (concerning uri others) ≡ messages_of (concerning uri exchanges) → Runs (fresh dialect) exchanges end → Runs (fresh dialect) others later
+        → messages_of (concerning uri others) ≡ messages_of (concerning uri exchanges) → AreExchanges (fresh dialect) exchanges end → AreExchanges (fresh dialect) others later
         → AgreeAbout dialect uri exchanges others end later }
 {}
 
@@ -38,7 +38,7 @@ pub fn isolation()
 /// derivation of a shown type was given.
 pub fn one_run()
     ensures { (s end later : State) (exchanges others : List Exchange)
-        → messages_of others ≡ messages_of exchanges → Runs s exchanges end → Runs s others later
+        → messages_of others ≡ messages_of exchanges → AreExchanges s exchanges end → AreExchanges s others later
         → AnswerAlike s exchanges others × (end ≡ later) }
 {}
 

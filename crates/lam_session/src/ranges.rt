@@ -1,7 +1,7 @@
 //! Places of a text as a client is told them (LSP 3.17, `Position`, `Range` and `Location`).
 ghost use Rattle.std.specs.Prelude.{◌≡◌, IfOk};
 ghost use Rattle.serde_json.specs.View.{view};
-ghost use Rattle.lam_query.specs.Within.{StandsIn};
+ghost use Rattle.lam_query.specs.Within.{IsSpanOfText};
 ghost use Rattle.lam_session.specs.Ranges.{position_value, range_value, location_value};
 
 use crate::objects::Object;
@@ -12,7 +12,7 @@ use std::alloc::{AllocError, Global};
 
 /// The range of a span of the text.
 pub fn range_value(alloc: Global, doc: &Doc, span: Span) -> Result<Value, AllocError>
-    requires { StandsIn doc.now.text span }
+    requires { IsSpanOfText doc.now.text span }
     ensures { IfOk result (λ value. view value ≡ range_value doc.now.encoding doc.now.text span) }
 {
     Object::new(alloc)
@@ -23,7 +23,7 @@ pub fn range_value(alloc: Global, doc: &Doc, span: Span) -> Result<Value, AllocE
 
 /// That range in the document of this uri.
 pub fn location_value(alloc: Global, doc: &Doc, uri: &str, span: Span) -> Result<Value, AllocError>
-    requires { StandsIn doc.now.text span }
+    requires { IsSpanOfText doc.now.text span }
     ensures { IfOk result (λ value. view value ≡ location_value doc.now.encoding doc.now.text uri.now span) }
 {
     Object::new(alloc)

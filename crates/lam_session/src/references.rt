@@ -3,7 +3,7 @@ ghost use Rattle.std.specs.Prelude.{◌≡◌, true, map, option_map, All, IfOk,
 ghost use Rattle.serde_json.specs.Data.{array};
 ghost use Rattle.serde_json.specs.View.{view, items_of};
 ghost use Rattle.lam_text.specs.Positions.{offset_of};
-ghost use Rattle.lam_query.specs.Within.{StandsIn};
+ghost use Rattle.lam_query.specs.Within.{IsSpanOfText};
 ghost use Rattle.lam_session.specs.Ranges.{location_value};
 ghost use Rattle.lam_session.specs.References.{told_declared, is_declared, references_value, IsReferencesReply};
 
@@ -54,7 +54,7 @@ fn references_value(
     uri: &str,
     found: &Option<Vec<Span>>,
 ) -> Result<Value, AllocError>
-    requires { IfSome found.now (λ spans. All (StandsIn doc.now.text) spans.items) }
+    requires { IfSome found.now (λ spans. All (IsSpanOfText doc.now.text) spans.items) }
     ensures { IfOk result (λ value. view value ≡ references_value doc.now.encoding doc.now.text uri.now (option_map (λ spans. spans.items) found.now)) }
 {
     match found {
@@ -64,7 +64,7 @@ fn references_value(
 }
 
 fn locations_value(alloc: Global, doc: &Doc, uri: &str, spans: &[Span]) -> Result<Value, AllocError>
-    requires { All (StandsIn doc.now.text) spans.now }
+    requires { All (IsSpanOfText doc.now.text) spans.now }
     ensures { IfOk result (λ value. view value ≡ array (items_of (map (location_value doc.now.encoding doc.now.text uri.now) spans.now))) }
 {
     let mut values = Vec::new(alloc);

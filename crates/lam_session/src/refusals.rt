@@ -1,7 +1,7 @@
 //! The refusals of a message.
 ghost use Rattle.std.specs.Prelude.{◌≡◌, IfOk};
 ghost use Rattle.serde_json.specs.View.{view};
-ghost use Rattle.lam_session.specs.Refusals.{code_of, text_of, refused};
+ghost use Rattle.lam_session.specs.Refusals.{code_of, refusal_text, refused};
 
 use serde_json::Value;
 use std::alloc::{AllocError, Global};
@@ -45,7 +45,7 @@ fn code_of(refusal: Refusal) -> i64
 }
 
 fn text_of(refusal: Refusal) -> &'static str
-    ensures { result.now ≡ text_of refusal }
+    ensures { result.now ≡ refusal_text refusal }
 {
     match refusal {
         Refusal::UnreadableMessage => "unreadable message",

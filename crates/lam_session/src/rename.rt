@@ -4,7 +4,7 @@ ghost use Rattle.std.specs.Result.{result_ok};
 ghost use Rattle.serde_json.specs.Data.{array};
 ghost use Rattle.serde_json.specs.View.{view, items_of};
 ghost use Rattle.lam_text.specs.Positions.{offset_of};
-ghost use Rattle.lam_query.specs.Within.{StandsIn};
+ghost use Rattle.lam_query.specs.Within.{IsSpanOfText};
 ghost use Rattle.lam_session.specs.Asked.{given_name};
 ghost use Rattle.lam_session.specs.Renames.{new_name, edit_value, rename_value, refusal_of, IsRenameReply};
 
@@ -65,7 +65,7 @@ fn rename_value(
     new: &str,
     spans: &[Span],
 ) -> Result<Value, AllocError>
-    requires { All (StandsIn doc.now.text) spans.now }
+    requires { All (IsSpanOfText doc.now.text) spans.now }
     ensures { IfOk result (λ value. view value ≡ rename_value doc.now.encoding doc.now.text uri.now new.now spans.now) }
 {
     let edits = Object::new(alloc).value(uri, edits_value(alloc, doc, new, spans));
@@ -73,7 +73,7 @@ fn rename_value(
 }
 
 fn edits_value(alloc: Global, doc: &Doc, new: &str, spans: &[Span]) -> Result<Value, AllocError>
-    requires { All (StandsIn doc.now.text) spans.now }
+    requires { All (IsSpanOfText doc.now.text) spans.now }
     ensures { IfOk result (λ value. view value ≡ array (items_of (map (edit_value doc.now.encoding doc.now.text new.now) spans.now))) }
 {
     let mut values = Vec::new(alloc);
@@ -85,7 +85,7 @@ fn edits_value(alloc: Global, doc: &Doc, new: &str, spans: &[Span]) -> Result<Va
 
 /// The text of a span becomes the new name (LSP 3.17, `TextEdit`).
 fn edit_value(alloc: Global, doc: &Doc, new: &str, span: Span) -> Result<Value, AllocError>
-    requires { StandsIn doc.now.text span }
+    requires { IsSpanOfText doc.now.text span }
     ensures { IfOk result (λ value. view value ≡ edit_value doc.now.encoding doc.now.text new.now span) }
 {
     Object::new(alloc)

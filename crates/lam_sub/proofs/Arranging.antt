@@ -8,8 +8,8 @@ use Rattle.lam_rules.specs.declared.rules.Dialect.{Dialect}
 use Rattle.lam_rules.proofs.Permutations.{absent_not, includes_from, permutation_iff}
 use Rattle.lam_rules.proofs.SharedTexts.{one_type, has_wf}
 use Rattle.lam_rules.proofs.Composing.{EachBelow, below_trans, below_width, below_permutation, below_depth}
-use Rattle.lam_sub.specs.Arranging.{type_under, picked, HasLabelsOf}
-use Rattle.lam_sub.specs.FieldsBelow.{AreBelow}
+use Rattle.lam_sub.specs.inner.Arranging.{type_under, picked, HasLabelsOf}
+use Rattle.lam_sub.specs.inner.FieldsBelow.{AreBelow}
 use Rattle.lam_sub.specs.OtherFields.{other_fields}
 use Rattle.lam_sub.proofs.LookUps.{label_or, absent_from, others_are, others_have, others_wf, joined_has, has_in_first, has_in_second, joined_wf, begins_with_first}
 

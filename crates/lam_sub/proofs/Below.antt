@@ -8,7 +8,7 @@ use Rattle.lam_rules.proofs.ByShape.{Under, under_bool, under_nat, under_unit, u
 use Rattle.lam_rules.proofs.SharedTexts.{has_wf, one_type}
 use Rattle.lam_rules.proofs.Permutations.{absent_not}
 use Rattle.lam_rules.proofs.Composing.{below_refl, below_top, below_arrow}
-use Rattle.lam_sub.specs.FieldsBelow.{AreBelow}
+use Rattle.lam_sub.specs.inner.FieldsBelow.{AreBelow}
 use Rattle.lam_sub.proofs.Arranging.{record_below}
 
 pub bool_below_nat : IsBelow bool nat Dialect.Two

@@ -10,7 +10,7 @@ use Rattle.lam_rules.specs.declared.types.Ty.TheVariants.{Bool as BoolType, Nat,
 use Rattle.lam_rules.specs.declared.types.Fields.{Fields as RustFields, out-Fields, roll-Fields}
 use Rattle.lam_rules.proofs.TypeShapes.{ty_cases, typ_of-made, typ_of-Bool, typ_of-Nat, typ_of-Unit, typ_of-Top, typ_of-Arrow, typ_of-Record, is-Bool, is-Nat, is-Unit, no_arrow, no_record, fields_of-drop}
 use Rattle.lam_rules.proofs.Composing.{below_refl, below_top}
-use Rattle.lam_sub.specs.FieldsBelow.{AreBelow}
+use Rattle.lam_sub.specs.inner.FieldsBelow.{AreBelow}
 use Rattle.lam_sub.proofs.Below.{bool_below_nat, arrow_iff, below_bool, below_nat, below_unit, below_arrow_is, below_record_is, field_iff}
 
 pub true_here : {A : Type 0} → A → IsTrue true ↔ A

@@ -14,7 +14,7 @@ use Rattle.lam_rules.specs.declared.types.Ty.{Ty}
 use Rattle.lam_rules.proofs.SubShapes.{sub_tree_of-node, conclusion-sub_tree_of, conclusions-sub_trees_of}
 use Rattle.lam_rules.proofs.ByShape.{below_wf}
 use Rattle.lam_rules.proofs.TypeShapes.{fields_of-drop, joined-push}
-use Rattle.lam_sub.specs.Arranging.{HasLabelsOf, type_under, picked}
+use Rattle.lam_sub.specs.inner.Arranging.{HasLabelsOf, type_under, picked}
 use Rattle.lam_sub.specs.OtherFields.{other_fields}
 use Rattle.lam_sub.proofs.LookUps.{begins_with_first}
 use Rattle.lam_sub.proofs.Arranging.{arranged, arranged_permutes}

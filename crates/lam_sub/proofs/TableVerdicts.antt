@@ -14,7 +14,7 @@ use Rattle.lam_rules.proofs.SortedBelow.{below_sorted, sorted_below}
 use Rattle.lam_rules.proofs.ByShape.{below_wf}
 use Rattle.lam_rules.proofs.Composing.{below_refl, below_trans}
 use Rattle.lam_rules.proofs.TableEntries.{fields_over-drop}
-use Rattle.lam_sub.specs.FieldsBelow.{AreBelow}
+use Rattle.lam_sub.specs.inner.FieldsBelow.{AreBelow}
 use Rattle.lam_sub.proofs.LookUps.{has_in_first, has_in_second, absent_in_both}
 use Rattle.lam_sub.proofs.Below.{bool_below_nat, below_bool, below_nat, below_unit, below_arrow_is, below_record_is, arrow_iff}
 use Rattle.lam_sub.proofs.ByVariant.{true_here, false_here}

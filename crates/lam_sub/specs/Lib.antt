@@ -1,7 +1,5 @@
-pub mod Arranging
 pub mod BoundOrder
 pub mod Bounds
-pub mod FieldsBelow
 pub mod OtherFields
 pub mod Remembered
-pub mod Steps
+pub mod inner

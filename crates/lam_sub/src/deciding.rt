@@ -4,7 +4,7 @@ ghost use Rattle.std.specs.Prelude.{◌↔◌, IsTrue};
 ghost use Rattle.lam_rules.specs.Types.{IsWellFormed, AreWellFormed};
 ghost use Rattle.lam_rules.specs.TypeViews.{typ_of, fields_of};
 ghost use Rattle.lam_rules.specs.Subtyping.{IsBelow};
-ghost use Rattle.lam_sub.specs.FieldsBelow.{AreBelow};
+ghost use Rattle.lam_sub.specs.inner.FieldsBelow.{AreBelow};
 
 use crate::fields::field_type;
 use lam_rules::{Dialect, Ty};

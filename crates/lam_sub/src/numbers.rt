@@ -5,7 +5,7 @@ ghost use Rattle.lam_rules.specs.Types.{Typ, IsWellFormed, AreWellFormed, Has, I
 ghost use Rattle.lam_rules.specs.Subtyping.{IsBelow};
 ghost use Rattle.lam_rules.specs.Numbers.{type_of, Stands, fields_over, shaped, AreEarlier, first_under};
 ghost use Rattle.lam_rules.specs.declared.rules.Dialect.{Dialect};
-ghost use Rattle.lam_sub.specs.FieldsBelow.{AreBelow};
+ghost use Rattle.lam_sub.specs.inner.FieldsBelow.{AreBelow};
 ghost use Rattle.lam_sub.specs.Remembered.{AreRight, IsConstant};
 
 use crate::verdicts::Verdicts;

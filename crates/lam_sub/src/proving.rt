@@ -6,9 +6,9 @@ ghost use Rattle.lam_rules.specs.TypeViews.{typ_of, fields_of};
 ghost use Rattle.lam_rules.specs.Subtyping.{BySubRule, IsRuleOf, GoesFieldByField, AreSubProofs, ProvesBelow, IsBelow, sub_step};
 ghost use Rattle.lam_rules.specs.SubViews.{sub_tree_of, sub_trees_of, claims_of};
 ghost use Rattle.lam_rules.specs.declared.rules.Dialect.{Dialect};
-ghost use Rattle.lam_sub.specs.Arranging.{HasLabelsOf, picked};
-ghost use Rattle.lam_sub.specs.FieldsBelow.{AreBelow};
-ghost use Rattle.lam_sub.specs.Steps.{LeadsTo};
+ghost use Rattle.lam_sub.specs.inner.Arranging.{HasLabelsOf, picked};
+ghost use Rattle.lam_sub.specs.inner.FieldsBelow.{AreBelow};
+ghost use Rattle.lam_sub.specs.inner.Steps.{LeadsTo};
 
 use crate::deciding::is_sub;
 use crate::fields::{append_others, field_type};

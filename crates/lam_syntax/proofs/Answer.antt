@@ -4,7 +4,7 @@ use Rattle.std.proofs.lemmas.List.{append-nil, take_at}
 use Rattle.lam_token.specs.Lexeme.{Lexeme}
 use Rattle.lam_syntax.specs.Trees.{CommandTree}
 use Rattle.lam_syntax.specs.Grammar.{Spells, Begins}
-use Rattle.lam_syntax.specs.Run.{need_command, fault, run}
+use Rattle.lam_syntax.specs.inner.Run.{need_command, fault, run}
 use Rattle.lam_syntax.specs.Answers.{GoesWrongAt, EndsEarly}
 use Rattle.lam_syntax.proofs.Complete.{complete}
 use Rattle.lam_syntax.proofs.Wrong.{goes_wrong}

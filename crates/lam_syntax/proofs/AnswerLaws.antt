@@ -5,7 +5,7 @@ use Rattle.std.proofs.lemmas.List.{append-nil, take-append-drop, take-take}
 use Rattle.lam_token.specs.Lexeme.{Lexeme}
 use Rattle.lam_syntax.specs.Trees.{CommandTree}
 use Rattle.lam_syntax.specs.Grammar.{Spells, Begins}
-use Rattle.lam_syntax.specs.Run.{need_command, Outcome, tree, fault, run}
+use Rattle.lam_syntax.specs.inner.Run.{need_command, Outcome, tree, fault, run}
 use Rattle.lam_syntax.specs.Answers.{GoesWrongAt, EndsEarly}
 use Rattle.lam_syntax.proofs.Sound.{sound}
 use Rattle.lam_syntax.proofs.Answer.{ends_early, goes_wrong_at}

@@ -4,10 +4,10 @@ use Rattle.lam_token.specs.declared.kind.Kind.TheVariants as kind
 use Rattle.lam_token.specs.declared.span.Span.{Span}
 use Rattle.lam_token.specs.Lexeme.{Lexeme, lexeme}
 use Rattle.lam_syntax.specs.declared.terms.Prefix.TheVariants as prefix
-use Rattle.lam_syntax.specs.Trees.{word, Bound, TypeTree, type_tree, record_type, TypeFields, no_type_fields, type_field, TermTree, term_tree, project, record_term, TermFields, no_fields, field, CommandTree, evaluation, from_to, term_span, joined_types, joined}
+use Rattle.lam_syntax.specs.Trees.{word, Bound, TypeTree, type_tree, record_type, TypeFields, no_type_fields, type_field, TermTree, term_tree, project, record_term, FieldTrees, no_fields, field, CommandTree, evaluation, from_to, term_span, joined_types, joined}
 use Rattle.lam_syntax.specs.Grammar.{BinderIs, name_binder, blank_binder, TypeIs, atype_type, arrow_type, ATypeIs, parens_atype, bool_atype, nat_atype, unit_atype, top_atype, name_atype, empty_atype, record_atype, TypeFieldsAre, last_type_field, more_type_fields, TermIs, lambda_is, if_is, let_is, letrec_is, app_is, AppIs, head_app, argument_app, HeadIs, path_head, fix_head, succ_head, pred_head, iszero_head, PathIs, asc_path, label_path, AscIs, atom_asc, typed_asc, AtomIs, parens_atom, true_atom, false_atom, unit_atom, name_atom, numeral_atom, empty_atom, record_atom, FieldsAre, last_field, more_fields, Spells, definition_command, declaration_command, abbreviation_command, evaluation_command}
-use Rattle.lam_syntax.specs.Run.{Purpose, for_lambda, for_let, for_letrec, InTerm, of_evaluation, of_definition, in_lambda, in_condition, in_then, in_else, in_let, in_let_body, in_letrec, in_letrec_body, in_parens, in_field, InPath, as_head, as_operand, as_argument, InType, of_declaration, of_abbreviation, of_lambda, of_letrec, of_ascription, right_of, in_type_parens, in_type_field, need_command, need_type, after_atype, need_type_field, next_type_field, need_binder, after_binder, need_term, need_path, after_atom, after_asc, need_field, next_field, ended_type, ended_asc, ended_app, ended_term, begin_atom, begin_term, tree, run, look}
-use Rattle.lam_syntax.specs.Reads.{Starts}
+use Rattle.lam_syntax.specs.inner.Run.{Purpose, for_lambda, for_let, for_letrec, InTerm, of_evaluation, of_definition, in_lambda, in_condition, in_then, in_else, in_let, in_let_body, in_letrec, in_letrec_body, in_parens, in_field, InPath, as_head, as_operand, as_argument, InType, of_declaration, of_abbreviation, of_lambda, of_letrec, of_ascription, right_of, in_type_parens, in_type_field, need_command, need_type, after_atype, need_type_field, next_type_field, need_binder, after_binder, need_term, need_path, after_atom, after_asc, need_field, next_field, ended_type, ended_asc, ended_app, ended_term, begin_atom, begin_term, tree, run, look}
+use Rattle.lam_syntax.specs.inner.Reads.{Starts}
 use Rattle.lam_syntax.proofs.Ends.{TypeEnds, AscEnds, PathEnds, TermEnds, asc_type, path_asc, term_path, start_path, run-look, type_ended, atom_ended, path_ended, app_ended, head_begun, argument_begun}
 
 run_binder : {ts rest : List Lexeme} {b : Bound} → BinderIs ts b rest → (p : Purpose) (s : Span) (k : InTerm) → run ts (need_binder p s k) ≡ run rest (after_binder p s b k)
@@ -18,7 +18,7 @@ pub joined_types-joined : (fs : TypeFields) (l : _) (t : TypeTree) (gs : TypeFie
 joined_types-joined no_type_fields l t gs = refl
 joined_types-joined (type_field m u fs) l t gs = ap (type_field m u) (joined_types-joined fs l t gs)
 
-pub joined-joined : (fs : TermFields) (l : _) (t : TermTree) (gs : TermFields) → joined (joined fs (field l t no_fields)) gs ≡ joined fs (field l t gs)
+pub joined-joined : (fs : FieldTrees) (l : _) (t : TermTree) (gs : FieldTrees) → joined (joined fs (field l t no_fields)) gs ≡ joined fs (field l t gs)
 joined-joined no_fields l t gs = refl
 joined-joined (field m u fs) l t gs = ap (field m u) (joined-joined fs l t gs)
 
@@ -54,7 +54,7 @@ mutual
 
 -- terms
 
-fields_begin : {ts rest : List Lexeme} {fs : TermFields} → FieldsAre ts fs rest → (s : Span) (k : InPath) → run ts (need_field s k) ≡ run ts (next_field s no_fields k)
+fields_begin : {ts rest : List Lexeme} {fs : FieldTrees} → FieldsAre ts fs rest → (s : Span) (k : InPath) → run ts (need_field s k) ≡ run ts (next_field s no_fields k)
 fields_begin (last_field d) s k = refl
 fields_begin (more_fields d e) s k = refl
 
@@ -128,7 +128,7 @@ mutual
   run_atom empty_atom k = refl
   run_atom (record_atom {s = s} d) k = fields_begin d s k ∙ run_fields d s no_fields k refl
 
-  run_fields : {ts left rest : List Lexeme} {fs : TermFields} {y : List ℕ} {e : Span} → FieldsAre ts fs left → (s : Span) (before : TermFields) (k : InPath) → left ≡ lexeme kind.CloseBrace y e ∷ rest → run ts (next_field s before k) ≡ run rest (after_atom (term_tree (from_to s e) (record_term (joined before fs))) k)
+  run_fields : {ts left rest : List Lexeme} {fs : FieldTrees} {y : List ℕ} {e : Span} → FieldsAre ts fs left → (s : Span) (before : FieldTrees) (k : InPath) → left ≡ lexeme kind.CloseBrace y e ∷ rest → run ts (next_field s before k) ≡ run rest (after_atom (term_tree (from_to s e) (record_term (joined before fs))) k)
   run_fields (last_field {t = t} {l = l} {s = r} d) s before k is =
       run_term d (in_field s before (word l r) k) (subst TermEnds (sym is) tt)
       ∙ ap (λ left. look left (λ o. ended_term o t (in_field s before (word l r) k))) is

@@ -3,8 +3,8 @@ use Rattle.std.proofs.Common.{◌≡◌, List, [], ◌∷◌, refl}
 use Rattle.lam_token.specs.declared.kind.Kind.TheVariants as kind
 use Rattle.lam_token.specs.Lexeme.{Lexeme, lexeme}
 use Rattle.lam_syntax.specs.Trees.{TypeTree, TermTree}
-use Rattle.lam_syntax.specs.Reads.{Starts}
-use Rattle.lam_syntax.specs.Run.{InTerm, InPath, as_head, as_argument, InType, State, after_atype, after_atom, step, ended_type, ended_asc, ended_app, ended_term, applied, outside, begin_atom, begin_term, run, look}
+use Rattle.lam_syntax.specs.inner.Reads.{Starts}
+use Rattle.lam_syntax.specs.inner.Run.{InTerm, InPath, as_head, as_argument, InType, State, after_atype, after_atom, step, ended_type, ended_asc, ended_app, ended_term, applied, outside, begin_atom, begin_term, run, look}
 
 -- no arrow
 abbrev pub TypeEnds : List Lexeme → Type 0

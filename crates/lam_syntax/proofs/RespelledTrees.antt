@@ -2,7 +2,7 @@
 use Rattle.std.proofs.Common.{ℕ, List, map}
 use Rattle.lam_token.specs.Lexeme.{Lexeme}
 use Rattle.lam_token.specs.Edits.{respelled}
-use Rattle.lam_syntax.specs.Trees.{Bound, TypeTree, type_tree, TypeFields, TermTree, term_tree, TermFields, CommandTree}
+use Rattle.lam_syntax.specs.Trees.{Bound, TypeTree, type_tree, TypeFields, TermTree, term_tree, FieldTrees, CommandTree}
 use Rattle.lam_syntax.specs.Grammar.{BinderIs, name_binder, blank_binder, TypeIs, atype_type, arrow_type, ATypeIs, parens_atype, bool_atype, nat_atype, unit_atype, top_atype, name_atype, empty_atype, record_atype, TypeFieldsAre, last_type_field, more_type_fields, TermIs, lambda_is, if_is, let_is, letrec_is, app_is, AppIs, head_app, argument_app, HeadIs, path_head, fix_head, succ_head, pred_head, iszero_head, PathIs, asc_path, label_path, AscIs, atom_asc, typed_asc, AtomIs, parens_atom, true_atom, false_atom, unit_atom, name_atom, numeral_atom, empty_atom, record_atom, FieldsAre, last_field, more_fields, Spells, definition_command, declaration_command, abbreviation_command, evaluation_command}
 use Rattle.lam_syntax.specs.Respelled.{Letters, respelled_bound, respelled_type, respelled_type_fields, respelled_term, respelled_fields, respelled_command}
 
@@ -84,7 +84,7 @@ module _ (place : ℕ → ℕ) (letters : Letters) where
     atom_is_respelled (record_atom d) = record_atom (fields_are_respelled d)
 
     -- labels with their terms
-    fields_are_respelled : {ts rest : List Lexeme} {fs : TermFields} → FieldsAre ts fs rest → FieldsAre (respelled_all ts) (respelled_fields place letters fs) (respelled_all rest)
+    fields_are_respelled : {ts rest : List Lexeme} {fs : FieldTrees} → FieldsAre ts fs rest → FieldsAre (respelled_all ts) (respelled_fields place letters fs) (respelled_all rest)
     fields_are_respelled (last_field d) = last_field (term_is_respelled d)
     fields_are_respelled (more_fields d e) = more_fields (term_is_respelled d) (fields_are_respelled e)
 

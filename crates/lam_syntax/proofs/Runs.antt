@@ -8,7 +8,7 @@ use Rattle.std.specs.Borrow.{Bor}
 use Rattle.std.proofs.lemmas.Bool.{eqb-true, eqb-false}
 use Rattle.lam_token.specs.Lexeme.{Lexeme}
 use Rattle.lam_syntax.specs.Answers.{is_semicolon, onto_first, runs_of, has_tokens, pieces_of}
-use Rattle.lam_syntax.specs.Reads.{run_len, with_piece}
+use Rattle.lam_syntax.specs.inner.Reads.{run_len, with_piece}
 
 -- the runs behind the first
 abbrev others : List Lexeme → List (List Lexeme)

@@ -2,7 +2,7 @@
 use Rattle.std.proofs.Common.{◌≡◌, ℕ, zero, suc, false, List, [], ◌∷◌, ◌++◌, map, refl, subst}
 use Rattle.lam_token.specs.declared.kind.Kind.TheVariants as kind
 use Rattle.lam_token.specs.Lexeme.{Lexeme, lexeme, kind_of, text_of, span_of}
-use Rattle.lam_syntax.specs.Trees.{Bound, TypeTree, TypeFields, TermTree, TermFields, CommandTree}
+use Rattle.lam_syntax.specs.Trees.{Bound, TypeTree, TypeFields, TermTree, FieldTrees, CommandTree}
 use Rattle.lam_syntax.specs.Grammar.{BinderIs, name_binder, blank_binder, TypeIs, atype_type, arrow_type, ATypeIs, parens_atype, bool_atype, nat_atype, unit_atype, top_atype, name_atype, empty_atype, record_atype, TypeFieldsAre, last_type_field, more_type_fields, TermIs, lambda_is, if_is, let_is, letrec_is, app_is, AppIs, head_app, argument_app, HeadIs, path_head, fix_head, succ_head, pred_head, iszero_head, PathIs, asc_path, label_path, AscIs, atom_asc, typed_asc, AtomIs, parens_atom, true_atom, false_atom, unit_atom, name_atom, numeral_atom, empty_atom, record_atom, FieldsAre, last_field, more_fields, Spells, definition_command, declaration_command, abbreviation_command, evaluation_command}
 use Rattle.lam_syntax.specs.Answers.{is_bad}
 
@@ -110,7 +110,7 @@ mutual
   atom_again (record_atom d) f = let a = fields_again d (later f) in (later a.0, _, record_atom a.2)
 
   -- labels with their terms
-  fields_again : {ts rest : List Lexeme} {fs : TermFields} → FieldsAre ts fs rest → (f : Supply) → (g : Supply) × (u : TermFields) × FieldsAre (refilled ts f) u (refilled rest g)
+  fields_again : {ts rest : List Lexeme} {fs : FieldTrees} → FieldsAre ts fs rest → (f : Supply) → (g : Supply) × (u : FieldTrees) × FieldsAre (refilled ts f) u (refilled rest g)
   fields_again (last_field d) f = let a = term_again d (later (later f)) in (a.0, _, last_field a.2)
   fields_again (more_fields d e) f = let a = term_again d (later (later f)) in let b = fields_again e (later a.0) in (b.0, _, more_fields a.2 b.2)
 
@@ -215,7 +215,7 @@ mutual
   atom_good empty_atom g = (refl, (refl, g))
   atom_good (record_atom d) g = (refl, fields_good d (refl, g))
 
-  fields_good : {ts rest : List Lexeme} {fs : TermFields} → FieldsAre ts fs rest → NoneBad rest → NoneBad ts
+  fields_good : {ts rest : List Lexeme} {fs : FieldTrees} → FieldsAre ts fs rest → NoneBad rest → NoneBad ts
   fields_good (last_field d) g = (refl, (refl, term_good d g))
   fields_good (more_fields d e) g = (refl, (refl, term_good d (refl, fields_good e g)))
 

@@ -6,9 +6,9 @@ use Rattle.lam_token.specs.declared.span.Span.{Span}
 use Rattle.lam_token.specs.Lexeme.{Lexeme, lexeme}
 use Rattle.lam_syntax.specs.declared.terms.Prefix.{Prefix}
 use Rattle.lam_syntax.specs.declared.terms.Prefix.TheVariants as prefix
-use Rattle.lam_syntax.specs.Trees.{word, Bound, TypeTree, type_tree, record_type, TypeFields, no_type_fields, type_field, TermTree, term_tree, record_term, TermFields, no_fields, field, CommandTree, evaluation, definition, declaration, abbreviation, from_to, joined_types, joined}
+use Rattle.lam_syntax.specs.Trees.{word, Bound, TypeTree, type_tree, record_type, TypeFields, no_type_fields, type_field, TermTree, term_tree, record_term, FieldTrees, no_fields, field, CommandTree, evaluation, definition, declaration, abbreviation, from_to, joined_types, joined}
 use Rattle.lam_syntax.specs.Grammar.{BinderIs, name_binder, blank_binder, TypeIs, atype_type, arrow_type, ATypeIs, parens_atype, bool_atype, nat_atype, unit_atype, top_atype, name_atype, empty_atype, record_atype, TypeFieldsAre, last_type_field, more_type_fields, TermIs, lambda_is, if_is, let_is, letrec_is, app_is, AppIs, head_app, argument_app, path_head, fix_head, succ_head, pred_head, iszero_head, PathIs, asc_path, label_path, atom_asc, typed_asc, AtomIs, parens_atom, true_atom, false_atom, unit_atom, name_atom, numeral_atom, empty_atom, record_atom, FieldsAre, last_field, more_fields, Spells, definition_command, declaration_command, abbreviation_command, evaluation_command}
-use Rattle.lam_syntax.specs.Run.{Purpose, for_lambda, for_let, for_letrec, InTerm, of_evaluation, of_definition, in_lambda, in_condition, in_then, in_else, in_let, in_let_body, in_letrec, in_letrec_body, in_parens, in_field, InPath, as_head, as_operand, as_argument, InType, of_declaration, of_abbreviation, of_lambda, of_letrec, of_ascription, right_of, in_type_parens, in_type_field, State, need_command, after_name, after_type_name, need_type, after_atype, need_type_field, next_type_field, after_type_label, need_binder, after_binder, need_term, need_path, after_atom, after_asc, need_label, need_field, next_field, after_label, step, ended_type, ended_atype, ended_asc, ended_atom, ended_app, ended_term, begin_atom, begin_term, begin_type, begin_command, name_next, type_name_next, binder_next, bound_next, begin_type_field, more_type_field, type_label_next, begin_field, more_field, label_next, projected, applied, outside, tree, fault, run, look}
+use Rattle.lam_syntax.specs.inner.Run.{Purpose, for_lambda, for_let, for_letrec, InTerm, of_evaluation, of_definition, in_lambda, in_condition, in_then, in_else, in_let, in_let_body, in_letrec, in_letrec_body, in_parens, in_field, InPath, as_head, as_operand, as_argument, InType, of_declaration, of_abbreviation, of_lambda, of_letrec, of_ascription, right_of, in_type_parens, in_type_field, State, need_command, after_name, after_type_name, need_type, after_atype, need_type_field, next_type_field, after_type_label, need_binder, after_binder, need_term, need_path, after_atom, after_asc, need_label, need_field, next_field, after_label, step, ended_type, ended_atype, ended_asc, ended_atom, ended_app, ended_term, begin_atom, begin_term, begin_type, begin_command, name_next, type_name_next, binder_next, bound_next, begin_type_field, more_type_field, type_label_next, begin_field, more_field, label_next, projected, applied, outside, tree, fault, run, look}
 use Rattle.lam_syntax.proofs.Complete.{joined_types-joined, joined-joined}
 
 abbrev prefix_kind : Prefix → Kind
@@ -28,9 +28,9 @@ abbrev TypeFieldsNeed : Span → TypeFields → (TypeTree → List Lexeme → Ty
 TypeFieldsNeed s before fits ts =
     (fs : TypeFields) × (y : List ℕ) × (e : Span) × (rest : List Lexeme) × TypeFieldsAre ts fs (lexeme kind.CloseBrace y e ∷ rest) × fits (type_tree (from_to s e) (record_type (joined_types before fs))) rest
 
-abbrev FieldsNeed : Span → TermFields → (TermTree → List Lexeme → Type 0) → List Lexeme → Type 0
+abbrev FieldsNeed : Span → FieldTrees → (TermTree → List Lexeme → Type 0) → List Lexeme → Type 0
 FieldsNeed s before fits ts =
-    (fs : TermFields) × (y : List ℕ) × (e : Span) × (rest : List Lexeme) × FieldsAre ts fs (lexeme kind.CloseBrace y e ∷ rest) × fits (term_tree (from_to s e) (record_term (joined before fs))) rest
+    (fs : FieldTrees) × (y : List ℕ) × (e : Span) × (rest : List Lexeme) × FieldsAre ts fs (lexeme kind.CloseBrace y e ∷ rest) × fits (term_tree (from_to s e) (record_term (joined before fs))) rest
 
 -- Whatever tokens spelled what is begun, they and these, each in its place, are the command.
 
@@ -279,11 +279,11 @@ field_begun (lexeme kind.Name l r ∷ ts) s k c known h = λ x.
     let found = known (after_label s no_fields (word l r) k) h in found.5 _ (record_atom found.4)
 field_begun ts s k c known h = absurd (no_tree _ _ h)
 
-field_more : (ts : List Lexeme) (s : Span) (before : TermFields) (k : InPath) (c : CommandTree) → Known ts c → look ts (λ o. more_field o s before k) ≡ tree c → Goes (next_field s before k) ts c
+field_more : (ts : List Lexeme) (s : Span) (before : FieldTrees) (k : InPath) (c : CommandTree) → Known ts c → look ts (λ o. more_field o s before k) ≡ tree c → Goes (next_field s before k) ts c
 field_more (lexeme kind.Name l r ∷ ts) s before k c known h = known (after_label s before (word l r) k) h
 field_more ts s before k c known h = absurd (no_tree _ _ h)
 
-label_goes : (ts : List Lexeme) (s : Span) (before : TermFields) (l : List ℕ) (r : Span) (k : InPath) (c : CommandTree) → Known ts c → look ts (λ o. label_next o s before (word l r) k) ≡ tree c → Goes (after_label s before (word l r) k) ts c
+label_goes : (ts : List Lexeme) (s : Span) (before : FieldTrees) (l : List ℕ) (r : Span) (k : InPath) (c : CommandTree) → Known ts c → look ts (λ o. label_next o s before (word l r) k) ≡ tree c → Goes (after_label s before (word l r) k) ts c
 label_goes (lexeme kind.Equals x m ∷ ts) s before l r k c known h = known (need_term (in_field s before (word l r) k)) h x m
 label_goes ts s before l r k c known h = absurd (no_tree _ _ h)
 

@@ -11,9 +11,9 @@ use Rattle.lam_syntax.specs.declared.terms.Prefix.{Prefix}
 use Rattle.lam_syntax.specs.declared.terms.Tm.{Tm}
 use Rattle.lam_syntax.specs.declared.stop.Stop.{Stop}
 use Rattle.lam_syntax.specs.declared.stop.Stop.TheVariants.{At, Memory}
-use Rattle.lam_syntax.specs.Trees.{Word, word, Bound, TypeFields, no_type_fields, TypeTree, TermTree, TermFields, no_fields}
-use Rattle.lam_syntax.specs.Run.{for_lambda, for_let, for_letrec, in_condition, in_then, in_let, in_letrec, of_lambda, of_letrec, after_binder, InTerm, InPath, InType, need_command, after_type_name, need_type_field, next_type_field, need_term, need_field, next_field, after_label, after_type_label, need_label, after_atom, of_evaluation, begin_app, ended_type, ended_term, ended_app, ended_asc, applied, outside, Outcome, fault, run, look}
-use Rattle.lam_syntax.specs.Reads.{Reads, ReadsBehind, ReadsAll, Names, Expects, Front, NoFront, behind_term, placed, prefixed_by}
+use Rattle.lam_syntax.specs.Trees.{Word, word, Bound, TypeFields, no_type_fields, TypeTree, TermTree, FieldTrees, no_fields}
+use Rattle.lam_syntax.specs.inner.Run.{for_lambda, for_let, for_letrec, in_condition, in_then, in_let, in_letrec, of_lambda, of_letrec, after_binder, InTerm, InPath, InType, need_command, after_type_name, need_type_field, next_type_field, need_term, need_field, next_field, after_label, after_type_label, need_label, after_atom, of_evaluation, begin_app, ended_type, ended_term, ended_app, ended_asc, applied, outside, Outcome, fault, run, look}
+use Rattle.lam_syntax.specs.inner.Reads.{Reads, ReadsBehind, ReadsAll, Names, Expects, Front, NoFront, behind_term, placed, prefixed_by}
 
 -- a token of a known kind
 pub known_kind : (tokens rest : List Lexeme) (t : Lexeme) (k : Kind) → tokens ≡ t ∷ rest → k ≡ kind_of t → tokens ≡ lexeme k (text_of t) (span_of t) ∷ rest
@@ -84,16 +84,16 @@ pub colon_stop : {X : Type 0} (tokens rest : List Lexeme) (e : Stop) (s : Span) 
 colon_stop tokens rest (At left) s before l r k f are h = ap (λ ts. run ts (next_type_field s before k)) are ∙ no_colon rest s before l r k h.1 ∙ ap fault (sym h.0)
 colon_stop tokens rest Memory s before l r k f are h = tt
 
-no_field_label : (tokens : List Lexeme) (s : Span) (before : TermFields) (k : InPath) → NoFront kind.Name tokens → run tokens (next_field s before k) ≡ fault tokens
+no_field_label : (tokens : List Lexeme) (s : Span) (before : FieldTrees) (k : InPath) → NoFront kind.Name tokens → run tokens (next_field s before k) ≡ fault tokens
 no_field_label [] s before k none = refl
 no_field_label (lexeme kind.Name x r ∷ ts) s before k none = absurd (none x r ts refl)
 no_field_label (lexeme _ x r ∷ ts) s before k none = refl
 
-pub field_label_stop : {X : Type 0} (tokens : List Lexeme) (e : Stop) (s : Span) (before : TermFields) (k : InPath) (f : X → List Lexeme → Outcome) → Names tokens (Err e) → Reads (Err e) (run tokens (next_field s before k)) f
+pub field_label_stop : {X : Type 0} (tokens : List Lexeme) (e : Stop) (s : Span) (before : FieldTrees) (k : InPath) (f : X → List Lexeme → Outcome) → Names tokens (Err e) → Reads (Err e) (run tokens (next_field s before k)) f
 field_label_stop tokens (At left) s before k f h = no_field_label tokens s before k h.1 ∙ ap fault (sym h.0)
 field_label_stop tokens Memory s before k f h = tt
 
-pub no_equals : (tokens : List Lexeme) (s : Span) (before : TermFields) (l : List ℕ) (r : Span) (k : InPath) → NoFront kind.Equals tokens → run tokens (after_label s before (word l r) k) ≡ fault tokens
+pub no_equals : (tokens : List Lexeme) (s : Span) (before : FieldTrees) (l : List ℕ) (r : Span) (k : InPath) → NoFront kind.Equals tokens → run tokens (after_label s before (word l r) k) ≡ fault tokens
 no_equals [] s before l r k none = refl
 no_equals (lexeme kind.Equals x m ∷ ts) s before l r k none = absurd (none x m ts refl)
 no_equals (lexeme _ x m ∷ ts) s before l r k none = refl

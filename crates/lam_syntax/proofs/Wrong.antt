@@ -7,7 +7,7 @@ use Rattle.lam_token.specs.declared.span.Span.{Span}
 use Rattle.lam_token.specs.Lexeme.{Lexeme, lexeme}
 use Rattle.lam_syntax.specs.Trees.{Word, TypeTree, TermTree, CommandTree, evaluation, definition, declaration, abbreviation}
 use Rattle.lam_syntax.specs.Grammar.{Spells, Begins}
-use Rattle.lam_syntax.specs.Run.{Purpose, for_lambda, for_let, for_letrec, InTerm, of_evaluation, of_definition, in_lambda, in_condition, in_then, in_else, in_let, in_let_body, in_letrec, in_letrec_body, in_parens, in_field, InPath, as_head, as_operand, as_argument, InType, of_declaration, of_abbreviation, of_lambda, of_letrec, of_ascription, right_of, in_type_parens, in_type_field, State, need_command, after_name, after_type_name, need_type, after_atype, need_type_field, next_type_field, after_type_label, need_binder, after_binder, need_term, need_path, after_atom, after_asc, need_label, need_field, next_field, after_label, Next, go, done, stop, step, ended_type, ended_asc, ended_term, applied, outside, tree, fault, run, look, went, at_last}
+use Rattle.lam_syntax.specs.inner.Run.{Purpose, for_lambda, for_let, for_letrec, InTerm, of_evaluation, of_definition, in_lambda, in_condition, in_then, in_else, in_let, in_let_body, in_letrec, in_letrec_body, in_parens, in_field, InPath, as_head, as_operand, as_argument, InType, of_declaration, of_abbreviation, of_lambda, of_letrec, of_ascription, right_of, in_type_parens, in_type_field, State, need_command, after_name, after_type_name, need_type, after_atype, need_type_field, next_type_field, after_type_label, need_binder, after_binder, need_term, need_path, after_atom, after_asc, need_label, need_field, next_field, after_label, Next, go, done, stop, step, ended_type, ended_asc, ended_term, applied, outside, tree, fault, run, look, went, at_last}
 use Rattle.lam_syntax.proofs.Ends.{TypeEnds, TermEnds, asc_type, path_asc, term_path, run-look, type_ended, atom_ended, path_ended, app_ended}
 use Rattle.lam_syntax.proofs.Complete.{complete}
 use Rattle.lam_syntax.proofs.Sound.{sound}

@@ -1,14 +1,12 @@
 -- What `parse` and `pieces` answer.
-use Rattle.std.specs.Prelude.{◌≡◌, ℕ, ◌+◌, ◌<◌, ◌≤◌, Bool, true, false, Result, Ok, Err, List, [], ◌∷◌, length, take, filter, if◌then◌else◌}
+use Rattle.std.specs.Prelude.{◌≡◌, ℕ, ◌+◌, ◌<◌, ◌≤◌, Bool, true, false, List, [], ◌∷◌, length, take, filter, if◌then◌else◌}
 use Rattle.std.specs.List.{list_any}
 use Rattle.lam_token.specs.declared.kind.Kind.{Kind}
 use Rattle.lam_token.specs.declared.kind.Kind.TheVariants as kind
 use Rattle.lam_token.specs.Lexeme.{Lexeme, kind_of}
 use Rattle.lam_syntax.specs.declared.fault.ParseFault.{ParseFault}
 use Rattle.lam_syntax.specs.declared.fault.ParseFault.TheVariants as faults
-use Rattle.lam_syntax.specs.declared.terms.Command.{Command}
 use Rattle.lam_syntax.specs.Trees.{CommandTree}
-use Rattle.lam_syntax.specs.Views.{command_of}
 use Rattle.lam_syntax.specs.Grammar.{Spells, Begins}
 
 -- how many tokens a command may have
@@ -48,12 +46,6 @@ IsFaultOf ts faults.BadToken = (length ts ≤ token_limit) × (has_bad ts ≡ tr
 IsFaultOf ts (faults.WrongToken k) = IsTaken ts × GoesWrongAt ts k
 IsFaultOf ts faults.WrongEnd = IsTaken ts × EndsEarly ts
 IsFaultOf ts faults.Memory = IsTaken ts
-
--- the answer is that command, unless memory ran out
-abbrev pub Accepts : CommandTree → Result Command ParseFault → Type 0
-Accepts c (Ok d) = command_of d ≡ c
-Accepts c (Err faults.Memory) = Unit {0}
-Accepts c (Err e) = ⊥
 
 -- A list of tokens is divided at each semicolon; its pieces are the parts that have tokens.
 

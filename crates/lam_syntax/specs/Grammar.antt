@@ -7,7 +7,7 @@ use Rattle.lam_token.specs.declared.kind.Kind.TheVariants as kind
 use Rattle.lam_token.specs.declared.span.Span.{Span}
 use Rattle.lam_token.specs.Lexeme.{Lexeme, lexeme}
 use Rattle.lam_syntax.specs.declared.terms.Prefix.TheVariants as prefix
-use Rattle.lam_syntax.specs.Trees.{word, Bound, bound, TypeTree, type_tree, bool, nat, unit, top, named, arrow, record_type, TypeFields, no_type_fields, type_field, TermTree, term_tree, true_term, false_term, unit_term, variable, numeral, lambda, if_term, let_term, letrec_term, prefixed, apply, project, ascribe, record_term, TermFields, no_fields, field, CommandTree, definition, declaration, abbreviation, evaluation, from_to, type_span, term_span, spanning_type, spanning_term}
+use Rattle.lam_syntax.specs.Trees.{word, Bound, bound, TypeTree, type_tree, bool, nat, unit, top, named, arrow, record_type, TypeFields, no_type_fields, type_field, TermTree, term_tree, true_term, false_term, unit_term, variable, numeral, lambda, if_term, let_term, letrec_term, prefixed, apply, project, ascribe, record_term, FieldTrees, no_fields, field, CommandTree, definition, declaration, abbreviation, evaluation, from_to, type_span, term_span, spanning_type, spanning_term}
 
 -- what binds a name is the name, or an underscore in its place
 pub data BinderIs : List Lexeme → Bound → List Lexeme → Type 0 where
@@ -109,16 +109,16 @@ mutual
     numeral_atom : {rest : List Lexeme} {x : List ℕ} {s : Span} → AtomIs (lexeme kind.Numeral x s ∷ rest) (term_tree s (numeral (word x s))) rest
     empty_atom : {rest : List Lexeme} {x y : List ℕ} {s e : Span}
         → AtomIs (lexeme kind.OpenBrace x s ∷ lexeme kind.CloseBrace y e ∷ rest) (term_tree (from_to s e) (record_term no_fields)) rest
-    record_atom : {ts rest : List Lexeme} {fs : TermFields} {x y : List ℕ} {s e : Span}
+    record_atom : {ts rest : List Lexeme} {fs : FieldTrees} {x y : List ℕ} {s e : Span}
         → FieldsAre ts fs (lexeme kind.CloseBrace y e ∷ rest)
         → AtomIs (lexeme kind.OpenBrace x s ∷ ts) (term_tree (from_to s e) (record_term fs)) rest
 
   -- one label with its term, or more of them with commas between; none follows the last
-  pub data FieldsAre : List Lexeme → TermFields → List Lexeme → Type 0 where
+  pub data FieldsAre : List Lexeme → FieldTrees → List Lexeme → Type 0 where
     last_field : {ts rest : List Lexeme} {t : TermTree} {l x : List ℕ} {s c : Span}
         → TermIs ts t rest
         → FieldsAre (lexeme kind.Name l s ∷ lexeme kind.Equals x c ∷ ts) (field (word l s) t no_fields) rest
-    more_fields : {ts us rest : List Lexeme} {t : TermTree} {fs : TermFields} {l x y : List ℕ} {s c d : Span}
+    more_fields : {ts us rest : List Lexeme} {t : TermTree} {fs : FieldTrees} {l x y : List ℕ} {s c d : Span}
         → TermIs ts t (lexeme kind.Comma y d ∷ us) → FieldsAre us fs rest
         → FieldsAre (lexeme kind.Name l s ∷ lexeme kind.Equals x c ∷ ts) (field (word l s) t fs) rest
 

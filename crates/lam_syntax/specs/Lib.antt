@@ -4,6 +4,5 @@ pub mod Views
 pub mod Grammar
 pub mod Respelled
 pub mod Answers
-pub mod Run
-pub mod Reads
 pub mod Continued
+pub mod inner

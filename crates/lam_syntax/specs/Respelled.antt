@@ -3,8 +3,8 @@ use Rattle.std.specs.Prelude.{ℕ, List, Some, None}
 use Rattle.lam_token.specs.declared.kind.Kind.{Kind}
 use Rattle.lam_token.specs.declared.kind.Kind.TheVariants as kind
 use Rattle.lam_token.specs.declared.span.Span.{Span}
-use Rattle.lam_token.specs.Edits.{placed}
-use Rattle.lam_syntax.specs.Trees.{Word, word, Bound, bound, TypeTree, type_tree, TypeNode, named, arrow, record_type, TypeFields, no_type_fields, type_field, TermTree, term_tree, TermNode, variable, numeral, lambda, if_term, let_term, letrec_term, prefixed, apply, project, ascribe, record_term, TermFields, no_fields, field, CommandTree, definition, declaration, abbreviation, evaluation}
+use Rattle.lam_token.specs.Edits.{span_placed}
+use Rattle.lam_syntax.specs.Trees.{Word, word, Bound, bound, TypeTree, type_tree, TypeNode, named, arrow, record_type, TypeFields, no_type_fields, type_field, TermTree, term_tree, TermNode, variable, numeral, lambda, if_term, let_term, letrec_term, prefixed, apply, project, ascribe, record_term, FieldTrees, no_fields, field, CommandTree, definition, declaration, abbreviation, evaluation}
 
 -- the letters of a word by its kind, its letters and its span
 abbrev pub Letters : Type 0
@@ -12,17 +12,17 @@ Letters = Kind → List ℕ → Span → List ℕ
 
 -- a word of that kind
 abbrev pub respelled_word : Kind → (place : ℕ → ℕ) → Letters → Word → Word
-respelled_word k place letters (word x s) = word (letters k x s) (placed place s)
+respelled_word k place letters (word x s) = word (letters k x s) (span_placed place s)
 
 -- a binder; an underscore stays one
 abbrev pub respelled_bound : (place : ℕ → ℕ) → Letters → Bound → Bound
-respelled_bound place letters (bound None s) = bound None (placed place s)
-respelled_bound place letters (bound (Some x) s) = bound (Some (letters kind.Name x s)) (placed place s)
+respelled_bound place letters (bound None s) = bound None (span_placed place s)
+respelled_bound place letters (bound (Some x) s) = bound (Some (letters kind.Name x s)) (span_placed place s)
 
 -- a written type
 abbrev mutual
   pub respelled_type : (place : ℕ → ℕ) → Letters → TypeTree → TypeTree
-  respelled_type place letters (type_tree s n) = type_tree (placed place s) (respelled_type_node place letters n)
+  respelled_type place letters (type_tree s n) = type_tree (span_placed place s) (respelled_type_node place letters n)
 
   pub respelled_type_node : (place : ℕ → ℕ) → Letters → TypeNode → TypeNode
   respelled_type_node place letters (named w) = named (respelled_word kind.TypeName place letters w)
@@ -37,7 +37,7 @@ abbrev mutual
 -- a term
 abbrev mutual
   pub respelled_term : (place : ℕ → ℕ) → Letters → TermTree → TermTree
-  respelled_term place letters (term_tree s n) = term_tree (placed place s) (respelled_node place letters n)
+  respelled_term place letters (term_tree s n) = term_tree (span_placed place s) (respelled_node place letters n)
 
   pub respelled_node : (place : ℕ → ℕ) → Letters → TermNode → TermNode
   respelled_node place letters (variable w) = variable (respelled_word kind.Name place letters w)
@@ -54,7 +54,7 @@ abbrev mutual
   respelled_node place letters (record_term fs) = record_term (respelled_fields place letters fs)
   respelled_node place letters n = n
 
-  pub respelled_fields : (place : ℕ → ℕ) → Letters → TermFields → TermFields
+  pub respelled_fields : (place : ℕ → ℕ) → Letters → FieldTrees → FieldTrees
   respelled_fields place letters no_fields = no_fields
   respelled_fields place letters (field l t fs) = field (respelled_word kind.Name place letters l) (respelled_term place letters t) (respelled_fields place letters fs)
 

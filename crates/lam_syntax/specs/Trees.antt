@@ -51,12 +51,12 @@ mutual
     apply : (function argument : TermTree) → TermNode
     project : TermTree → Word → TermNode
     ascribe : TermTree → TypeTree → TermNode
-    record_term : TermFields → TermNode
+    record_term : FieldTrees → TermNode
 
   -- the fields of a record, in the order written
-  pub data TermFields : Type 0 where
-    no_fields : TermFields
-    field : Word → TermTree → TermFields → TermFields
+  pub data FieldTrees : Type 0 where
+    no_fields : FieldTrees
+    field : Word → TermTree → FieldTrees → FieldTrees
 
 -- a command: a name and its term, a name and its type, a type name and what it stands for, or a term
 pub data CommandTree : Type 0 where
@@ -91,6 +91,6 @@ joined_types no_type_fields gs = gs
 joined_types (type_field l t fs) gs = type_field l t (joined_types fs gs)
 
 -- fields of a record, and more behind them
-abbrev pub joined : TermFields → TermFields → TermFields
+abbrev pub joined : FieldTrees → FieldTrees → FieldTrees
 joined no_fields gs = gs
 joined (field l t fs) gs = field l t (joined fs gs)

@@ -1,7 +1,7 @@
 -- The plain trees that written types, terms and commands stand for.
-use Rattle.std.specs.Prelude.{List, [], ◌∷◌}
+use Rattle.std.specs.Prelude.{List, [], ◌∷◌, ◌≡◌, Result, Ok, Err}
 use Rattle.std.specs.Option.{option_map}
-use Rattle.lam_syntax.specs.Trees.{Word, word, Bound, bound, TypeTree, type_tree, TypeNode, bool, nat, unit, top, named, arrow, record_type, TypeFields, no_type_fields, type_field, TermTree, term_tree, TermNode, true_term, false_term, unit_term, variable, numeral, lambda, if_term, let_term, letrec_term, prefixed, apply, project, ascribe, record_term, TermFields, no_fields, field, CommandTree, definition, declaration, abbreviation, evaluation}
+use Rattle.lam_syntax.specs.Trees.{Word, word, Bound, bound, TypeTree, type_tree, TypeNode, bool, nat, unit, top, named, arrow, record_type, TypeFields, no_type_fields, type_field, TermTree, term_tree, TermNode, true_term, false_term, unit_term, variable, numeral, lambda, if_term, let_term, letrec_term, prefixed, apply, project, ascribe, record_term, FieldTrees, no_fields, field, CommandTree, definition, declaration, abbreviation, evaluation}
 use Rattle.lam_syntax.specs.Letters.{letters}
 use Rattle.lam_syntax.specs.declared.identifier.Identifier.{Identifier}
 use Rattle.lam_syntax.specs.declared.identifier.Binder.{Binder}
@@ -15,6 +15,8 @@ use Rattle.lam_syntax.specs.declared.terms.TmNode.TheOpen.{TmNode-F, Application
 use Rattle.lam_syntax.specs.declared.terms.TmField.{TmField}
 use Rattle.lam_syntax.specs.declared.terms.Command.{Command}
 use Rattle.lam_syntax.specs.declared.terms.Command.TheVariants as command
+use Rattle.lam_syntax.specs.declared.fault.ParseFault.{ParseFault}
+use Rattle.lam_syntax.specs.declared.fault.ParseFault.TheVariants as faults
 
 -- the text of a name, a type name, a label or a numeral, with its place
 abbrev pub word_of : Identifier → Word
@@ -69,7 +71,7 @@ type_fields_of (f ∷ fs) = type_field (word_of f.label) (type_of f.ty) (type_fi
 -- One level of a term, with each term inside already seen as its tree.
 
 -- labelled terms as fields
-abbrev pub fields_made : List (Word × TermTree) → TermFields
+abbrev pub fields_made : List (Word × TermTree) → FieldTrees
 fields_made [] = no_fields
 fields_made (f ∷ fs) = field f.0 f.1 (fields_made fs)
 
@@ -135,7 +137,7 @@ abbrev pub term_of : Tm → TermTree
 term_of t = term_tree t.span (term_node_of t.node)
 
 -- the trees of the fields of a record
-abbrev pub fields_of : List TmField → TermFields
+abbrev pub fields_of : List TmField → FieldTrees
 fields_of [] = no_fields
 fields_of (f ∷ fs) = field (word_of f.label) (term_of f.term) (fields_of fs)
 
@@ -145,3 +147,9 @@ command_of (command.Definition x t) = definition (word_of x) (term_of t)
 command_of (command.Declaration x t) = declaration (word_of x) (type_of t)
 command_of (command.Abbreviation x t) = abbreviation (word_of x) (type_of t)
 command_of (command.Evaluation t) = evaluation (term_of t)
+
+-- the answer is that command, unless memory ran out
+abbrev pub Accepts : CommandTree → Result Command ParseFault → Type 0
+Accepts c (Ok d) = command_of d ≡ c
+Accepts c (Err faults.Memory) = Unit {0}
+Accepts c (Err e) = ⊥

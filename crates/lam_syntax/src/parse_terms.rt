@@ -4,10 +4,10 @@
 //! token that fits nowhere.
 ghost use Rattle.std.specs.Prelude.{◌≡◌, ◌<◌, ◌≤◌, length, IfOk, MatchBool};
 ghost use Rattle.lam_token.specs.declared.span.Span.{Span as TokenSpan};
-ghost use Rattle.lam_syntax.specs.Run.{Purpose, for_lambda, for_let, for_letrec, of_lambda, of_letrec, InTerm, InPath, need_binder, need_term, in_condition, in_parens, after_atom, need_field, next_field, begin_app, begin_atom, run, look};
-ghost use Rattle.lam_syntax.specs.Trees.{TermFields};
+ghost use Rattle.lam_syntax.specs.inner.Run.{Purpose, for_lambda, for_let, for_letrec, of_lambda, of_letrec, InTerm, InPath, need_binder, need_term, in_condition, in_parens, after_atom, need_field, next_field, begin_app, begin_atom, run, look};
+ghost use Rattle.lam_syntax.specs.Trees.{FieldTrees};
 ghost use Rattle.lam_syntax.specs.Views.{term_of};
-ghost use Rattle.lam_syntax.specs.Reads.{Reads, ReadsBehind, Starts, behind_binder, behind_typed_binder, behind_atom, behind_asc, behind_path, behind_term, behind_field, placed};
+ghost use Rattle.lam_syntax.specs.inner.Reads.{Reads, ReadsBehind, Starts, behind_binder, behind_typed_binder, behind_atom, behind_asc, behind_path, behind_term, behind_field, placed};
 
 use crate::identifier::Binder;
 use crate::parse_types::parse_type;
@@ -232,7 +232,7 @@ fn parse_field<'a, 'b>(
     alloc: Global,
     tokens: &'a [Token<'b>],
 ) -> Result<(TmField, &'a [Token<'b>]), Stop<'a, 'b>>
-    ensures read { (s : TokenSpan) (before : TermFields) (k : InPath) → Reads result (run tokens.now (next_field s before k)) (behind_field s before k) }
+    ensures read { (s : TokenSpan) (before : FieldTrees) (k : InPath) → Reads result (run tokens.now (next_field s before k)) (behind_field s before k) }
     ensures shorter { IfOk result (λ r. length r.1.now < length tokens.now) }
 {
     let (label, rest) = expect_name(alloc, tokens)?;

@@ -4,9 +4,9 @@
 //! token that fits nowhere.
 ghost use Rattle.std.specs.Prelude.{◌<◌, length, IfOk};
 ghost use Rattle.lam_token.specs.declared.span.Span.{Span as TokenSpan};
-ghost use Rattle.lam_syntax.specs.Run.{InType, in_type_parens, need_type, need_type_field, next_type_field, run};
+ghost use Rattle.lam_syntax.specs.inner.Run.{InType, in_type_parens, need_type, need_type_field, next_type_field, run};
 ghost use Rattle.lam_syntax.specs.Trees.{TypeFields};
-ghost use Rattle.lam_syntax.specs.Reads.{Reads, behind_type, behind_atype, behind_type_field};
+ghost use Rattle.lam_syntax.specs.inner.Reads.{Reads, behind_type, behind_atype, behind_type_field};
 
 use crate::stop::Stop;
 use crate::tokens::{expect, expect_name, identifier_of, take};

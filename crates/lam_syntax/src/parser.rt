@@ -2,11 +2,11 @@
 ghost use Rattle.std.specs.Prelude.{◌≡◌, IfOk, IfErr};
 ghost use Rattle.lam_token.specs.Lexeme.{text_of, span_of};
 ghost use Rattle.lam_syntax.specs.Trees.{CommandTree, word};
-ghost use Rattle.lam_syntax.specs.Views.{command_of};
+ghost use Rattle.lam_syntax.specs.Views.{command_of, Accepts};
 ghost use Rattle.lam_syntax.specs.Grammar.{Spells};
-ghost use Rattle.lam_syntax.specs.Run.{need_command, need_term, need_type, after_type_name, of_evaluation, of_definition, of_declaration, fault, run};
-ghost use Rattle.lam_syntax.specs.Reads.{ReadsAll, EndsAll};
-ghost use Rattle.lam_syntax.specs.Answers.{is_bad, has_bad, IsTaken, IsFaultOf, Accepts};
+ghost use Rattle.lam_syntax.specs.inner.Run.{need_command, need_term, need_type, after_type_name, of_evaluation, of_definition, of_declaration, fault, run};
+ghost use Rattle.lam_syntax.specs.inner.Reads.{ReadsAll, EndsAll};
+ghost use Rattle.lam_syntax.specs.Answers.{is_bad, has_bad, IsTaken, IsFaultOf};
 
 use crate::fault::ParseFault;
 use crate::parse_terms::parse_term;

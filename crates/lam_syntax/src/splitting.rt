@@ -1,7 +1,7 @@
 //! The pieces of a document's tokens.
 ghost use Rattle.std.specs.Prelude.{◌≡◌, ◌<◌, ◌≤◌, length, drop, map, IfOk, All};
 ghost use Rattle.lam_syntax.specs.Answers.{is_semicolon, pieces_of};
-ghost use Rattle.lam_syntax.specs.Reads.{run_len};
+ghost use Rattle.lam_syntax.specs.inner.Reads.{run_len};
 
 use lam_token::{Kind, Token};
 use std::alloc::{AllocError, Global};

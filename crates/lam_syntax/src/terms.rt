@@ -2,7 +2,7 @@
 ghost use Rattle.std.specs.Prelude.{◌≡◌, IfOk};
 ghost use Rattle.lam_syntax.specs.Trees.{from_to, term_span, type_span, term_tree, lambda, if_term, let_term, letrec_term, apply, project, ascribe, record_term, spanning_term};
 ghost use Rattle.lam_syntax.specs.Views.{word_of, bound_of, type_of, term_of, fields_of};
-ghost use Rattle.lam_syntax.specs.Reads.{prefixed_by};
+ghost use Rattle.lam_syntax.specs.inner.Reads.{prefixed_by};
 
 use crate::identifier::{Binder, Identifier};
 use crate::spans::from_to;

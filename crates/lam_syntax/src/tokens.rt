@@ -3,7 +3,7 @@ ghost use Rattle.std.specs.Prelude.{◌≡◌, ◌<◌, IfOk};
 ghost use Rattle.lam_token.specs.Lexeme.{text_of, span_of};
 ghost use Rattle.lam_syntax.specs.Trees.{word};
 ghost use Rattle.lam_syntax.specs.Views.{word_of};
-ghost use Rattle.lam_syntax.specs.Reads.{Takes, Expects, Names};
+ghost use Rattle.lam_syntax.specs.inner.Reads.{Takes, Expects, Names};
 
 use crate::identifier::Identifier;
 use crate::stop::Stop;

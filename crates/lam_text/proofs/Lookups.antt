@@ -10,9 +10,9 @@ use Rattle.lam_text.specs.declared.index.Mark.{Mark}
 use Rattle.lam_text.specs.Units.{units_in, bytes_within}
 use Rattle.lam_text.specs.Lines.{LineEnd, CrLf, Lf, Cr, end_bytes}
 use Rattle.lam_text.specs.Positions.{offset_of, position_of}
-use Rattle.lam_text.specs.Index.{all_ascii, index_of}
-use Rattle.lam_text.specs.Search.{starts_by}
-use Rattle.lam_text.specs.Rows.{line_start, line_content}
+use Rattle.lam_text.specs.inner.Index.{all_ascii, index_of}
+use Rattle.lam_text.specs.inner.Search.{starts_by}
+use Rattle.lam_text.specs.inner.Rows.{line_start, line_content}
 use Rattle.lam_text.proofs.Splices.{IsAscii-from_all_ascii}
 use Rattle.lam_text.proofs.RowLemmas.{Row, EndedRow, get_or-index, row_at, ended_row_at, last_row, before_end-is, Row-inner_boundary, offset_of-row, offset_of-past, position_of-row}
 

@@ -3,8 +3,8 @@ use Rattle.std.proofs.Common.{ℕ, ◌+◌, List, [], ◌∷◌, length, take, d
 use Rattle.std.specs.Prelude.{Bool, if◌then◌else◌}
 use Rattle.lam_text.specs.declared.index.Mark.{Mark}
 use Rattle.lam_text.specs.Lines.{Lines, Cut, begins_with_lf, line_bytes}
-use Rattle.lam_text.specs.Index.{marks_in}
-use Rattle.lam_text.specs.Search.{fresh, grown, ends, lf_after}
+use Rattle.lam_text.specs.inner.Index.{marks_in}
+use Rattle.lam_text.specs.inner.Search.{fresh, grown, ends, lf_after}
 
 -- the marks of the lines that end among these bytes, which an LF follows or not
 abbrev pub ended_in : Mark → ℕ → List ℕ → Bool → List Mark

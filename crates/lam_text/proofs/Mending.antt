@@ -9,8 +9,8 @@ use Rattle.std.specs.List.{prefix_len, All}
 use Rattle.std.specs.List.Sorted.{IsNonDecreasingBy}
 use Rattle.lam_text.specs.declared.index.Mark.{Mark}
 use Rattle.lam_text.specs.Lines.{begins_with_lf}
-use Rattle.lam_text.specs.Index.{all_ascii}
-use Rattle.lam_text.specs.Search.{fresh, grown, ends, lf_after, marks_from, open_after, starts_by}
+use Rattle.lam_text.specs.inner.Index.{all_ascii}
+use Rattle.lam_text.specs.inner.Search.{fresh, grown, ends, lf_after, marks_from, open_after, starts_by}
 use Rattle.lam_text.proofs.Marks.{ended_in}
 use Rattle.lam_text.proofs.Scan.{and-true}
 

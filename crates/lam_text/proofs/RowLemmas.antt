@@ -11,9 +11,9 @@ use Rattle.lam_text.specs.declared.index.Mark.{Mark}
 use Rattle.lam_text.specs.Units.{units_in, bytes_within}
 use Rattle.lam_text.specs.Lines.{Line, Ended, LineEnd, CrLf, Lf, Cr, Lines, Cut, line_bytes, end_bytes, IsPlain, is_plain, Spell, IsCutOf, lines_of}
 use Rattle.lam_text.specs.Positions.{offset_in, offset_on, offset_of, position_in, position_on, position_of}
-use Rattle.lam_text.specs.Index.{all_ascii, marks_in, marks_on, index_of}
-use Rattle.lam_text.specs.Search.{starts_by}
-use Rattle.lam_text.specs.Rows.{start_in, content_in, start_on, content_on, line_start, line_content}
+use Rattle.lam_text.specs.inner.Index.{all_ascii, marks_in, marks_on, index_of}
+use Rattle.lam_text.specs.inner.Search.{starts_by}
+use Rattle.lam_text.specs.inner.Rows.{start_in, content_in, start_on, content_on, line_start, line_content}
 use Rattle.lam_text.proofs.Cuts.{IsCutOf-lines_of, plain_tests}
 use Rattle.lam_text.proofs.Walks.{bytes_within-le, IsUtf8-drop_within}
 

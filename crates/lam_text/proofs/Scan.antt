@@ -7,8 +7,8 @@ use Rattle.memchr.specs.Find.{NoneBefore, Nowhere, Passes, is_byte2}
 use Rattle.std.specs.List.{list_all}
 use Rattle.lam_text.specs.declared.index.Mark.{Mark}
 use Rattle.lam_text.specs.Lines.{Ended, LineEnd, Lf, Cr, Lines, Cut, end_bytes, begins_with_lf, IsPlain, is_plain, with_line, with_byte, with_cr, lines_of}
-use Rattle.lam_text.specs.Index.{all_ascii, marks_on, index_of}
-use Rattle.lam_text.specs.Search.{fresh, grown, lengthened, ends, marks_from, lf_after, open_after}
+use Rattle.lam_text.specs.inner.Index.{all_ascii, marks_on, index_of}
+use Rattle.lam_text.specs.inner.Search.{fresh, grown, lengthened, ends, marks_from, lf_after, open_after}
 use Rattle.lam_text.proofs.Marks.{ended_in}
 use Rattle.lam_text.proofs.Cuts.{plain_tests, lines_of-lf, lines_of-cr_lf, lines_of-cr, lines_of-plain, lines_of-begins_with_lf}
 

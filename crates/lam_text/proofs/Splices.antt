@@ -11,10 +11,10 @@ use Rattle.std.specs.Str.{IsAscii, IsNotAscii}
 use Rattle.std.specs.List.{prefix_len, All}
 use Rattle.lam_text.specs.declared.index.Mark.{Mark}
 use Rattle.lam_text.specs.Lines.{Line, Ended, LineEnd, CrLf, Lf, Cr, Lines, Cut, line_bytes, end_bytes, IsCutOf, begins_with_lf, lines_of}
-use Rattle.lam_text.specs.Index.{all_ascii, marks_in, marks_on, index_of}
+use Rattle.lam_text.specs.inner.Index.{all_ascii, marks_in, marks_on, index_of}
 use Rattle.lam_text.proofs.Cuts.{IsCutOf-lines_of}
-use Rattle.lam_text.specs.Search.{IsIndex, fresh, marks_from, starts_by, open_at}
-use Rattle.lam_text.specs.Splice.{first_ascii_on, first_start, moved, IsSplice}
+use Rattle.lam_text.specs.inner.Search.{IsIndex, fresh, marks_from, starts_by, open_at}
+use Rattle.lam_text.specs.inner.Splice.{first_ascii_on, first_start, moved, IsSplice}
 use Rattle.lam_text.proofs.Marks.{ended_by, later_on}
 use Rattle.lam_text.proofs.Scan.{and-true, reopened, marks_from-lines_of, marks_from-append, index_of-marks_from}
 use Rattle.lam_text.proofs.Mending.{starts_rise, prefix_len-ended_in, prefix_len-marks_from, open_after-start, open_after-ascii, starts_to, later_starts_from}

@@ -3,8 +3,5 @@ pub mod Lines
 pub mod Positions
 pub mod Edits
 pub mod Document
-pub mod Index
-pub mod Search
-pub mod Splice
-pub mod Rows
 pub mod Laws
+pub mod inner

@@ -26,7 +26,7 @@ impl Model for Doc {
     ghost use Rattle.std.specs.Prelude.{◌≡◌};
     ghost use Rattle.std.specs.String.{string_bytes};
     ghost use Rattle.lam_text.specs.Document.{Document};
-    ghost use Rattle.lam_text.specs.Index.{index_of};
+    ghost use Rattle.lam_text.specs.inner.Index.{index_of};
 
     ghost Value = { Document };
 

@@ -4,9 +4,9 @@ ghost use Rattle.std.specs.List.{prefix_len};
 ghost use Rattle.std.specs.Str.{IsAscii};
 ghost use Rattle.lam_text.specs.Units.{bytes_within, units_in};
 ghost use Rattle.lam_text.specs.Lines.{begins_with_lf};
-ghost use Rattle.lam_text.specs.Index.{all_ascii, index_of};
-ghost use Rattle.lam_text.specs.Rows.{line_start, line_content};
-ghost use Rattle.lam_text.specs.Search.{IsIndex, ends, marks_from, lengthened, starts_by};
+ghost use Rattle.lam_text.specs.inner.Index.{all_ascii, index_of};
+ghost use Rattle.lam_text.specs.inner.Rows.{line_start, line_content};
+ghost use Rattle.lam_text.specs.inner.Search.{IsIndex, ends, marks_from, lengthened, starts_by};
 
 use crate::units::{Encoding, bytes_within, units_in};
 use memchr::memchr2;

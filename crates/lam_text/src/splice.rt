@@ -2,9 +2,9 @@
 ghost use Rattle.std.specs.Prelude.{◌≡◌, ◌+◌, ◌-◌, ◌^◌, ◌<◌, ◌≤◌, ◌++◌, length, drop, map, ◌&&◌, IfOk, All};
 ghost use Rattle.std.specs.List.{prefix_len};
 ghost use Rattle.lam_text.specs.Lines.{lines_of};
-ghost use Rattle.lam_text.specs.Index.{index_of};
-ghost use Rattle.lam_text.specs.Search.{starts_by, open_at};
-ghost use Rattle.lam_text.specs.Splice.{closed, first_ascii_on, first_start, moved, IsSplice};
+ghost use Rattle.lam_text.specs.inner.Index.{index_of};
+ghost use Rattle.lam_text.specs.inner.Search.{starts_by, open_at};
+ghost use Rattle.lam_text.specs.inner.Splice.{closed, first_ascii_on, first_start, moved, IsSplice};
 
 use crate::index::{Mark, is_ascii_between, line_at, push_marks};
 use std::alloc::{AllocError, Global};

@@ -17,7 +17,7 @@ use Rattle.lam_token.specs.declared.segment.Beginning.{Beginning}
 use Rattle.lam_token.specs.declared.segment.Beginning.TheVariants as begin
 use Rattle.lam_token.specs.Lexeme.{Lexeme, lexeme_at, text_of, start_of, end_of}
 use Rattle.lam_token.specs.Shape.{beginning_of, shape_of, opened, opens_comment}
-use Rattle.lam_token.specs.Reading.{SegmentIs}
+use Rattle.lam_token.specs.inner.Reading.{SegmentIs}
 use Rattle.lam_token.proofs.Reading.{length_front, chars_front}
 use Rattle.lam_token.specs.Cut.{NothingBegins, NothingLonger, IsFirst, longest, unclosed, stray, Part, IsCut, with_token, tokens_of, AreTokensFrom, AreTokensOf, StandsIn, IsWholeKind}
 

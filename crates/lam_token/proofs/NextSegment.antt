@@ -16,7 +16,7 @@ use Rattle.lam_token.specs.Shape.{is_blank, is_digit, is_continuing, mark_of, be
 use Rattle.lam_token.specs.Words.{word_kind}
 use Rattle.lam_token.specs.Cut.{NothingLonger, IsFirst, longest, unclosed, stray}
 use Rattle.lam_token.specs.Edits.{IsNameKind}
-use Rattle.lam_token.specs.Reading.{EndsRun}
+use Rattle.lam_token.specs.inner.Reading.{EndsRun}
 use Rattle.lam_token.proofs.Shapes.{longer_fails, not_alone, longer_comment, same_choices}
 use Rattle.lam_token.proofs.Segments.{longer_underscore, begun_slash, nothing_begins}
 

@@ -6,7 +6,7 @@ use Rattle.std.proofs.lemmas.Str.{chars-nil, chars_past_char, IsUtf8-past_char, 
 use Rattle.std.proofs.lemmas.List.{append-nil, append_cancel_right}
 use Rattle.std.proofs.Math.Seq.{take-append_seam}
 use Rattle.lam_token.specs.Shape.{rest_of_comment, is_opening, is_closing}
-use Rattle.lam_token.specs.Reading.{FirstIs, FrontIs, EndsRun, RunIs, IsBehind}
+use Rattle.lam_token.specs.inner.Reading.{FirstIs, FrontIs, EndsRun, RunIs, IsBehind}
 
 pub first_is : (text rest : List ℕ) (c : ℕ) → IsUtf8 text → text ≡ encode_utf8 c ++ rest → FirstIs text c rest
 first_is text rest c is_text bytes = record {

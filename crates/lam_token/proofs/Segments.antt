@@ -13,7 +13,7 @@ use Rattle.lam_token.specs.declared.segment.Beginning.TheVariants as begin
 use Rattle.lam_token.specs.Shape.{is_digit, is_continuing, beginning_of, rest_of_comment, alone, closed_at_end, begun, shape_of, opened, opens_comment}
 use Rattle.lam_token.specs.Words.{word_kind}
 use Rattle.lam_token.specs.Cut.{NothingBegins, NothingLonger, longest, unclosed, stray}
-use Rattle.lam_token.specs.Reading.{FirstIs, FrontIs, EndsRun, RunIs, IsBehind, SegmentIs}
+use Rattle.lam_token.specs.inner.Reading.{FirstIs, FrontIs, EndsRun, RunIs, IsBehind, SegmentIs}
 use Rattle.lam_token.proofs.Reading.{front_none, front_all, front_behind, no_front}
 use Rattle.lam_token.proofs.Shapes.{longer_fails, not_alone, longer_comment, open_comment, behind_front, same_choices}
 

@@ -4,7 +4,7 @@ use Rattle.std.specs.Prelude.{◌==◌, ◌&&◌}
 use Rattle.std.specs.List.{list_all}
 use Rattle.lam_token.specs.declared.segment.Segment.{Segment}
 use Rattle.lam_token.specs.Shape.{is_opening, is_closing, rest_of_comment, alone, closed_at_end}
-use Rattle.lam_token.specs.Reading.{EndsRun}
+use Rattle.lam_token.specs.inner.Reading.{EndsRun}
 
 -- a test that fails somewhere fails for all
 and_false : (b : Bool) → (b && false) ≡ false

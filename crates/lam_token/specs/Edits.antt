@@ -13,12 +13,12 @@ use Rattle.lam_token.specs.Cut.{AreTokensOf}
 -- Tokens with other letters and at other places.
 
 -- a span whose bytes have other offsets
-abbrev pub placed : (place : ℕ → ℕ) → Span → Span
-placed place s = record { start = place s.start; end = place s.end }
+abbrev pub span_placed : (place : ℕ → ℕ) → Span → Span
+span_placed place s = record { start = place s.start; end = place s.end }
 
 -- a token of the same kind with other letters, which its kind, its own letters and its span decide, and at another place
 abbrev pub respelled : (place : ℕ → ℕ) → (letters : Kind → List ℕ → Span → List ℕ) → Lexeme → Lexeme
-respelled place letters (lexeme k x s) = lexeme k (letters k x s) (placed place s)
+respelled place letters (lexeme k x s) = lexeme k (letters k x s) (span_placed place s)
 
 -- A new name in the place of some of a text's tokens.
 

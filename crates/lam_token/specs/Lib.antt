@@ -3,5 +3,5 @@ pub mod Words
 pub mod Shape
 pub mod Comment
 pub mod Cut
-pub mod Reading
 pub mod Edits
+pub mod inner

@@ -2,7 +2,7 @@
 ghost use Rattle.std.specs.Prelude.{◌≡◌, [], MatchOption};
 ghost use Rattle.std.specs.Str.{chars};
 ghost use Rattle.lam_token.specs.Shape.{is_blank, is_digit, is_continuing, is_opening, is_closing, mark_of, beginning_of};
-ghost use Rattle.lam_token.specs.Reading.{FirstIs};
+ghost use Rattle.lam_token.specs.inner.Reading.{FirstIs};
 ghost use Rattle.unicode_ident.specs.Ident.{is_xid_start, is_xid_continue};
 
 use crate::kind::Kind;

@@ -2,7 +2,7 @@
 ghost use Rattle.std.specs.Prelude.{◌≡◌, [], MatchOption};
 ghost use Rattle.std.specs.Option.{option_copied};
 ghost use Rattle.lam_token.specs.Shape.{is_digit, is_continuing, beginning_of};
-ghost use Rattle.lam_token.specs.Reading.{FirstIs, RunIs, IsBehind, SegmentIs};
+ghost use Rattle.lam_token.specs.inner.Reading.{FirstIs, RunIs, IsBehind, SegmentIs};
 
 use crate::characters::{
     beginning_of, is_closing, is_continuing, is_digit, is_opening, split_first,

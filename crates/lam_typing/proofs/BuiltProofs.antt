@@ -12,10 +12,10 @@ use Rattle.lam_scope.specs.Places.{written, of_term, Scope, Place}
 use Rattle.lam_scope.specs.Sights.{inside, inside_fields, place_of_term, behind_term}
 use Rattle.lam_typing.specs.LeastTypes.{IsLeastAt}
 use Rattle.lam_typing.specs.Progress.{IsLowest}
-use Rattle.lam_typing.specs.Steps.{entry_at, LetRule, MoreRule}
-use Rattle.lam_typing.specs.Seeing.{note_among, Sees}
-use Rattle.lam_typing.specs.Grounds.{found_in, noted_in, dialect_in}
-use Rattle.lam_typing.specs.Proving.{IsSetting, ProvesFound, IsProvenTerm, ProvesThis, IsProvenForm, IsProvenAs, IsWidened, IsLeafBy, IsNatBy, FieldTrees, AreProvenFields}
+use Rattle.lam_typing.specs.inner.Steps.{entry_at, LetRule, MoreRule}
+use Rattle.lam_typing.specs.inner.Seeing.{note_among, Sees}
+use Rattle.lam_typing.specs.inner.Grounds.{found_in, noted_in, dialect_in}
+use Rattle.lam_typing.specs.inner.Proving.{IsSetting, ProvesFound, IsProvenTerm, ProvesThis, IsProvenForm, IsProvenAs, IsWidened, IsLeafBy, IsNatBy, FieldTrees, AreProvenFields}
 use Rattle.lam_typing.specs.declared.grounds.Grounds.{Grounds}
 use Rattle.lam_typing.proofs.Derivations.{Derives, t_fix, t_sub, derives, has_type, derives_wf, entry_wf}
 use Rattle.lam_typing.proofs.Forms.{fields_least}

@@ -23,8 +23,8 @@ use Rattle.lam_rules.specs.declared.typing.TypeProof.{TypeProof, roll-TypeProof,
 use Rattle.lam_rules.proofs.ByShape.{below_wf}
 use Rattle.lam_rules.proofs.TypingShapes.{typing_tree_of-node, type_in-typing_tree_of}
 use Rattle.lam_scope.specs.Sights.{inside, place_of_term}
-use Rattle.lam_typing.specs.Grounds.{found_in, dialect_in}
-use Rattle.lam_typing.specs.Proving.{tree_in, ProvesFound, ProvesThis, IsProvenTerm, IsProvenForm, IsWidened, IsLeafBy, IsNatBy}
+use Rattle.lam_typing.specs.inner.Grounds.{found_in, dialect_in}
+use Rattle.lam_typing.specs.inner.Proving.{tree_in, ProvesFound, ProvesThis, IsProvenTerm, IsProvenForm, IsWidened, IsLeafBy, IsNatBy}
 use Rattle.lam_typing.specs.declared.proving.Proven.{Proven}
 use Rattle.lam_typing.specs.declared.grounds.Grounds.{Grounds}
 

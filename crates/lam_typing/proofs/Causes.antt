@@ -6,13 +6,13 @@ use Rattle.lam_rules.specs.Types.{Typ}
 use Rattle.lam_rules.specs.Terms.{Term, true_term, false_term, if_then_else, numeral, succ, pred, is_zero, variable, free, lambda, apply, unit_term, ascribe, let_in, record_term, project, fix, TermFields, no_terms, term_field}
 use Rattle.lam_rules.specs.Typing.{Context}
 use Rattle.lam_rules.specs.declared.rules.Dialect.{Dialect}
-use Rattle.lam_scope.specs.Places.{written, of_term, Scope, Place, places, places_in}
+use Rattle.lam_scope.specs.Places.{written, of_term, Scope, Place, places, field_places}
 use Rattle.lam_scope.specs.WellFormed.{IsWellFormedTerm, AreWellFormedTerms, IsWellFormedScope}
 use Rattle.lam_typing.specs.LeastTypes.{IsTyped}
 use Rattle.lam_typing.specs.Blaming.{ArePartsTyped, AreFieldsTyped, IsExcused, IsBlamed}
 use Rattle.lam_typing.specs.Causes.{HasCause}
 use Rattle.lam_typing.specs.Progress.{IsLowest}
-use Rattle.lam_typing.specs.Steps.{entry_at}
+use Rattle.lam_typing.specs.inner.Steps.{entry_at}
 use Rattle.lam_typing.proofs.Existing.{lowest_exists, typed_or_not}
 use Rattle.lam_typing.proofs.Forms.{no_type_within, has_no_type_within, context_length}
 use Rattle.lam_typing.proofs.LeastIn.{least_at, typed_at}
@@ -107,11 +107,11 @@ module _ (d : Dialect) where
     typed_or_cause (if_then_else c a b) s ws we =
         settled ((places s c ++ places s a) ++ places s b) s (if_then_else c a b) ws we (inr (λ x. x))
         (three (places s c) (places s a) (places s b) d (typed_or_cause c s ws we.0) (typed_or_cause a s ws we.1) (typed_or_cause b s ws we.2))
-    typed_or_cause (record_term es) s ws we = settled (places_in s es) s (record_term es) ws we (inr (λ x. x)) (fields_or_cause es s ws we)
+    typed_or_cause (record_term es) s ws we = settled (field_places s es) s (record_term es) ws we (inr (λ x. x)) (fields_or_cause es s ws we)
 
-    fields_or_cause : (es : TermFields) (s : Scope) → IsWellFormedScope s → AreWellFormedTerms es → OrCause (AreFieldsTyped s es d) (places_in s es) d
+    fields_or_cause : (es : TermFields) (s : Scope) → IsWellFormedScope s → AreWellFormedTerms es → OrCause (AreFieldsTyped s es d) (field_places s es) d
     fields_or_cause no_terms s ws we = inl tt
-    fields_or_cause (term_field l e es) s ws we = both (places s e) (places_in s es) d (typed_or_cause e s ws we.0) (fields_or_cause es s ws we.1)
+    fields_or_cause (term_field l e es) s ws we = both (places s e) (field_places s es) d (typed_or_cause e s ws we.0) (fields_or_cause es s ws we.1)
 
   pub untyped_cause : (s : Scope) (e : Term) → IsWellFormedScope s → IsWellFormedTerm e → (IsTyped s e d → ⊥) → HasCause (places s e) d
   untyped_cause s e ws we untyped = by (typed_or_cause e s ws we)

@@ -10,10 +10,10 @@ use Rattle.lam_typing.specs.Analysis.{AreLeast, IsFirstTooLarge}
 use Rattle.lam_typing.specs.Answers.{answers}
 use Rattle.lam_typing.specs.Entries.{IsLeastFrom, HasTermAmong, entry_from}
 use Rattle.lam_typing.specs.Progress.{Went}
-use Rattle.lam_typing.specs.Seeing.{LeastAmong}
+use Rattle.lam_typing.specs.inner.Seeing.{LeastAmong}
 use Rattle.lam_typing.specs.Walk.{Grows, IsSoundWalk, progress_of, entries_of, HasStoppedAmong}
 use Rattle.lam_typing.specs.Typings.{found_of, dialect_of, IsAnalysis, IsTypingOf, AreEntries, IsFaultOf}
-use Rattle.lam_typing.specs.Ends.{Begins, AreSourcesOf, Completes, IsEndOf, up_to}
+use Rattle.lam_typing.specs.inner.Ends.{Begins, AreSourcesOf, Completes, IsEndOf, up_to}
 use Rattle.lam_typing.specs.declared.noting.Source.{Source}
 use Rattle.lam_typing.specs.declared.fault.TypingFault.{TypingFault}
 use Rattle.lam_typing.specs.declared.typing.Typing.{Typing}

@@ -4,7 +4,7 @@ use Rattle.lam_rules.specs.Types.{Typ, bool, nat, arrow, record_of, Fields}
 use Rattle.lam_rules.specs.Terms.{Term, true_term, false_term, if_then_else, numeral, succ, pred, is_zero, variable, free, lambda, apply, unit_term, ascribe, let_in, record_term, project, fix, TermFields, no_terms, term_field}
 use Rattle.lam_rules.specs.Typing.{Context}
 use Rattle.lam_rules.specs.declared.rules.Dialect.{Dialect}
-use Rattle.lam_scope.specs.Places.{written, of_term, Scope, Place, places, places_in, Statement, defines, declares, abbreviates, states, places_of}
+use Rattle.lam_scope.specs.Places.{written, of_term, Scope, Place, places, field_places, Statement, defines, declares, abbreviates, states, places_of}
 use Rattle.lam_typing.specs.Contexts.{IsContext}
 use Rattle.lam_typing.specs.LeastTypes.{IsTyped}
 use Rattle.lam_typing.specs.Blaming.{ArePartsTyped, AreFieldsTyped, IsExcused, HasNoType, IsBlamed}
@@ -113,12 +113,12 @@ module _ (d : Dialect) where
         (λ x. x)
         (unblamed_last ((places s c ++ places s a) ++ places s b) s (if_then_else c a b) d u)
     unblamed_typed (record_term es) s ts ws we he u =
-        by_parts s (record_term es) ws we (unblamed_fields es s ts ws we he (unblamed_front (places_in s es) _ d u)) (λ x. x) (unblamed_last (places_in s es) s (record_term es) d u)
+        by_parts s (record_term es) ws we (unblamed_fields es s ts ws we he (unblamed_front (field_places s es) _ d u)) (λ x. x) (unblamed_last (field_places s es) s (record_term es) d u)
 
-    unblamed_fields : (es : TermFields) (s : Scope) → IsTypedScope s d → IsWellFormedScope s → AreWellFormedTerms es → HaveExpansions es → AreUnblamed (places_in s es) d → AreFieldsTyped s es d
+    unblamed_fields : (es : TermFields) (s : Scope) → IsTypedScope s d → IsWellFormedScope s → AreWellFormedTerms es → HaveExpansions es → AreUnblamed (field_places s es) d → AreFieldsTyped s es d
     unblamed_fields no_terms s ts ws we he u = tt
     unblamed_fields (term_field l e es) s ts ws we he u =
-        (unblamed_typed e s ts ws we.0 he.0 (unblamed_front (places s e) (places_in s es) d u), unblamed_fields es s ts ws we.1 he.1 (unblamed_back (places s e) (places_in s es) d u))
+        (unblamed_typed e s ts ws we.0 he.0 (unblamed_front (places s e) (field_places s es) d u), unblamed_fields es s ts ws we.1 he.1 (unblamed_back (places s e) (field_places s es) d u))
 
 -- the other way: each place of a term that has a type has one
 
@@ -172,13 +172,13 @@ mutual
       (typed_by s g (if_then_else c a b) t d is x)
   derived_unblamed (record_term es) s g t d is x =
       let h = of_record g es t d x in
-      with_here (places_in s es) s (record_term es) d (derived_fields_unblamed es s g h.fields d is h.derive) (typed_by s g (record_term es) t d is x)
+      with_here (field_places s es) s (record_term es) d (derived_fields_unblamed es s g h.fields d is h.derive) (typed_by s g (record_term es) t d is x)
 
-  derived_fields_unblamed : (es : TermFields) (s : Scope) (g : Context) (fs : Fields) (d : Dialect) → IsContext s g d → FieldsDerive g es fs d → AreUnblamed (places_in s es) d
+  derived_fields_unblamed : (es : TermFields) (s : Scope) (g : Context) (fs : Fields) (d : Dialect) → IsContext s g d → FieldsDerive g es fs d → AreUnblamed (field_places s es) d
   derived_fields_unblamed no_terms s g fs d is xs = tt
   derived_fields_unblamed (term_field l e es) s g fs d is xs =
       let h = of_more g l e es fs d xs in
-      unblamed_both (places s e) (places_in s es) d (derived_unblamed e s g h.0 d is h.3) (derived_fields_unblamed es s g h.1 d is h.4)
+      unblamed_both (places s e) (field_places s es) d (derived_unblamed e s g h.0 d is h.3) (derived_fields_unblamed es s g h.1 d is h.4)
 
 typed_unblamed : (s : Scope) (e : Term) (d : Dialect) → IsTyped s e d → AreUnblamed (places s e) d
 typed_unblamed s e d (t, is) = derived_unblamed e s is.0 t d is.1 (derives is.0 e t d is.2)

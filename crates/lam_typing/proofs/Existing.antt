@@ -15,7 +15,7 @@ use Rattle.lam_typing.proofs.Deciding.{decide_below}
 use Rattle.lam_typing.proofs.Derivations.{FieldsDerive, none_derive, more_derive, derives_wf}
 use Rattle.lam_typing.specs.Progress.{IsLowest}
 use Rattle.lam_typing.proofs.LeastIn.{LeastIn, LeastContext, lowest, least_at, least_wf}
-use Rattle.lam_typing.specs.Steps.{entry_at, NatRule, LambdaRule, ArrowRule, ApplyRule, AscribeRule, LetRule, IfRule, FixRule, FieldRule, ProjectRule, MoreRule, RecordRule}
+use Rattle.lam_typing.specs.inner.Steps.{entry_at, NatRule, LambdaRule, ArrowRule, ApplyRule, AscribeRule, LetRule, IfRule, FixRule, FieldRule, ProjectRule, MoreRule, RecordRule}
 use Rattle.lam_typing.proofs.LeastSteps.{LeastFields, true_least, false_least, unit_least, num_least, free_least, variable_least, succ_least, pred_least, is_zero_least, lambda_least, apply_least, ascribe_least, let_least, if_least, fix_least, project_least, none_least, more_least, record_least}
 
 -- each type has distinct labels, and the fields may repeat one

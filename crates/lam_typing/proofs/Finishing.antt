@@ -8,11 +8,11 @@ use Rattle.lam_scope.specs.Places.{Place, Statement, places_of}
 use Rattle.lam_scope.specs.declared.numbers.Place.{Place as PlaceNumber}
 use Rattle.lam_typing.specs.Blaming.{Blamed, AreBlamed}
 use Rattle.lam_typing.specs.Analysis.{AreLeast, AreSmall, IsTooLarge, IsFirstTooLarge}
-use Rattle.lam_typing.specs.Answers.{answer, answers, StandsIn, AllStandIn}
+use Rattle.lam_typing.specs.Answers.{answer, answers, StandsWhereFound, AllStandIn}
 use Rattle.lam_typing.specs.Progress.{IsLowest, Shown, Went, next_is_too_large, NextIs}
 use Rattle.lam_typing.specs.Walk.{blames_of, entries_of, progress_of, Grows, IsBehind, IsUpTo, IsWithin, HasStoppedAmong}
 use Rattle.lam_typing.specs.Typings.{found_of, IsAnalysis}
-use Rattle.lam_typing.specs.Ends.{up_to, Begins}
+use Rattle.lam_typing.specs.inner.Ends.{up_to, Begins}
 use Rattle.lam_typing.specs.declared.typing.Typing.{Typing}
 use Rattle.lam_typing.specs.declared.walking.Walk.{Walk}
 use Rattle.lam_typing.specs.declared.walking.Stop.{Stop}
@@ -138,9 +138,9 @@ answers_at ts (o ∷ os) (suc k) = answers_at ts os k
 
 pub each_stands : (ts : List Typ) (os : List (Option TyNo)) → AllStandIn ts os → (i : ℕ) (number : TyNo) → get_or os i None ≡ Some number → number.index < length ts
 each_stands ts [] stand i number is = absurd (let wrong : None ≡ Some number = is in cc)
-each_stands ts (o ∷ os) stand zero number is = subst (λ p. StandsIn ts p) is stand.0
+each_stands ts (o ∷ os) stand zero number is = subst (λ p. StandsWhereFound ts p) is stand.0
 each_stands ts (o ∷ os) stand (suc i) number is = each_stands ts os stand.1 i number is
 
-pub stands_where : (ts : List Typ) (o : Option TyNo) → ((number : TyNo) → o ≡ Some number → number.index < length ts) → StandsIn ts o
+pub stands_where : (ts : List Typ) (o : Option TyNo) → ((number : TyNo) → o ≡ Some number → number.index < length ts) → StandsWhereFound ts o
 stands_where ts None each = tt
 stands_where ts (Some number) each = each number refl

@@ -5,12 +5,12 @@ use Rattle.lam_rules.specs.Terms.{Term, true_term, false_term, if_then_else, num
 use Rattle.lam_rules.specs.Texts.{Text}
 use Rattle.lam_rules.specs.Typing.{Context, IsWellFormedEntry, IsWellFormedContext}
 use Rattle.lam_rules.specs.declared.rules.Dialect.{Dialect}
-use Rattle.lam_scope.specs.Places.{written, of_term, Scope, places, places_in}
+use Rattle.lam_scope.specs.Places.{written, of_term, Scope, places, field_places}
 use Rattle.lam_typing.specs.Contexts.{IsContext}
 use Rattle.lam_typing.specs.LeastTypes.{IsTyped, IsLeastAt}
 use Rattle.lam_typing.specs.Blaming.{ArePartsTyped, AreFieldsTyped, IsExcused, HasNoType, IsBlamedFor, Blamed, AreBlamed}
 use Rattle.lam_typing.specs.Progress.{IsLowest, Progress, Went, WentOver, blame_step, IsApplicationCode, AreFieldsAt, if_all}
-use Rattle.lam_typing.specs.Steps.{entry_at, IsNumeric, NatRule, LambdaRule, ApplyRule, AscribeRule, LetRule, IfRule, FixRule, ProjectRule, RecordRule}
+use Rattle.lam_typing.specs.inner.Steps.{entry_at, IsNumeric, NatRule, LambdaRule, ApplyRule, AscribeRule, LetRule, IfRule, FixRule, ProjectRule, RecordRule}
 use Rattle.lam_typing.proofs.LeastIn.{LeastIn, lowest_written, lowest_some, lowest_none, least_at, least_in}
 use Rattle.lam_typing.proofs.LeastSteps.{true_least, false_least, unit_least, num_least, free_least, variable_least, succ_least, pred_least, is_zero_least, lambda_least, apply_least, ascribe_least, let_least, if_least, fix_least, project_least, LeastFields, none_least, more_least, record_least}
 use Rattle.lam_typing.proofs.NeverBlamed.{lambda_unblamed, let_typed}
@@ -286,8 +286,8 @@ typed_fields s (term_field l e es) d typed (Some t, None, least, rest, rule) = t
 typed_fields s (term_field l e es) d typed (Some t, Some gs, least, rest, rule) = absurd (let wrong : None ≡ Some (field l t gs) = rule in cc)
 
 pub record_ready : (g : Context) (es : TermFields) (old mid : Progress) (all : Bool) (fs : Fields) (o : Option Typ) (d : Dialect)
-    → Went g (λ s. places_in s es) old mid d → ((s : Scope) → IsLowest s g d → AreFieldsAt s es (if_all all fs) d) → RecordRule (if_all all fs) o
-    → IsReady g (record_term es) (λ s. places_in s es) old mid o (blame_step (length mid.found) all o (codes "E9")) d
+    → Went g (λ s. field_places s es) old mid d → ((s : Scope) → IsLowest s g d → AreFieldsAt s es (if_all all fs) d) → RecordRule (if_all all fs) o
+    → IsReady g (record_term es) (λ s. field_places s es) old mid o (blame_step (length mid.found) all o (codes "E9")) d
 record_ready g es old mid all fs o d went fields rule = record {
   went = went;
   least = least;

@@ -17,13 +17,13 @@ use Rattle.lam_rules.proofs.Tables.{keeps_same, keeps_trans, keeps_length, kept_
 use Rattle.lam_sub.specs.Remembered.{AreRight}
 use Rattle.lam_sub.specs.declared.verdicts.Verdicts.{Verdicts}
 use Rattle.lam_sub.proofs.Keeping.{right_kept}
-use Rattle.lam_scope.specs.Places.{Binding, written, of_term, Scope, Place, places, places_in}
+use Rattle.lam_scope.specs.Places.{Binding, written, of_term, Scope, Place, places, field_places}
 use Rattle.lam_scope.specs.declared.numbers.Place.{Place as PlaceNumber}
 use Rattle.lam_typing.specs.LeastTypes.{IsLeastAt}
-use Rattle.lam_typing.specs.Answers.{answer, answers, StandsIn, AllStandIn, context_under}
+use Rattle.lam_typing.specs.Answers.{answer, answers, StandsWhereFound, AllStandIn, context_under}
 use Rattle.lam_typing.specs.Progress.{IsLowest, Progress, Went, WentOver, Cause, next_is_too_large, enough, StoppedIn, AreFieldsAt, blame_step, IsApplicationCode, if_all}
 use Rattle.lam_typing.specs.Walk.{blamed_of, blames_of, progress_of, entries_of, IsSoundWalk, Grows, WalkedOver, HasStoppedAmong, HasStopped, HasStoppedInFields, FieldsWalked, HasWalked, HasWalkedFields, blame_at, Settles, StopsAt, HasSettled, IsUpTo, IsWithin}
-use Rattle.lam_typing.specs.Steps.{entry_at, IsNumeric, NatRule, LambdaRule, ApplyRule, AscribeRule, LetRule, IfRule, FixRule, ProjectRule, MoreRule, RecordRule}
+use Rattle.lam_typing.specs.inner.Steps.{entry_at, IsNumeric, NatRule, LambdaRule, ApplyRule, AscribeRule, LetRule, IfRule, FixRule, ProjectRule, MoreRule, RecordRule}
 use Rattle.lam_typing.specs.declared.walking.Walk.{Walk}
 use Rattle.lam_typing.specs.declared.blame.Blame.{Blame}
 use Rattle.lam_typing.specs.declared.walking.Stop.{Stop}
@@ -141,7 +141,7 @@ put_or_not true v xs ys e = inl e
 put_or_not false v xs ys e = inr e
 
 pub pushed_grows : {w : Walk} {t : List Typ} (v : Vec (Option TyNo) Global) (o : Option TyNo) → IsSoundWalk w → Keeps w.table t
-    → (v.items ≡ w.entries.items ++ o ∷ []) ⊎ (v.items ≡ w.entries.items) → StandsIn t o → Grows w (record w { table = t; entries = v })
+    → (v.items ≡ w.entries.items ++ o ∷ []) ⊎ (v.items ≡ w.entries.items) → StandsWhereFound t o → Grows w (record w { table = t; entries = v })
 pushed_grows {w = w} {t = t} v o sound keeps put stands = record {
   sound = sound_with w (record w { table = t; entries = v }) sound keeps (stand put) (all_stand_keep w.table t w.found.items keeps sound.found) (right_kept w.table t w.verdicts keeps sound.verdicts) sound.room refl;
   keeps = keeps;
@@ -179,7 +179,7 @@ within_more (Some last) os o now up_to put =
     let count = length-append os (o ∷ []) in
     omega (arith, longer, count, up_to)
 
-pub settle_grows : (w : Walk) (fs : Vec (Option TyNo) Global) (bs : Vec Blame Global) (found : Option TyNo) → IsSoundWalk w → StandsIn w.table found
+pub settle_grows : (w : Walk) (fs : Vec (Option TyNo) Global) (bs : Vec Blame Global) (found : Option TyNo) → IsSoundWalk w → StandsWhereFound w.table found
     → fs.items ≡ w.found.items ++ found ∷ [] → IsUpTo w.last (length w.found.items) → Grows w (record w { found = fs; blames = bs })
 settle_grows w fs bs found sound stands put up_to = record {
   sound = sound_with w (record w { found = fs; blames = bs }) sound (keeps_same w.table) sound.entries
@@ -255,7 +255,7 @@ no_fields_walked w (f ∷ fs) items e = absurd (omega arith)
 -- those that follow, under the entries and in the dialect of an earlier walk
 fields_at : (w1 w2 : Walk) (g : Context) (es : TermFields) (before after : List (String Global × TyNo)) (all : Bool) (d : Dialect)
     → (rest : FieldsWalked w1 w2 es before after all) → entries_of w1 ≡ g → w1.verdicts.dialect ≡ d
-    → Went g (λ s. places_in s es) (progress_of w1) (progress_of w2) d × ((s : Scope) → IsLowest s g d → AreFieldsAt s es (if_all all (fields_over w2.table rest.parts)) d)
+    → Went g (λ s. field_places s es) (progress_of w1) (progress_of w2) d × ((s : Scope) → IsLowest s g d → AreFieldsAt s es (if_all all (fields_over w2.table rest.parts)) d)
 fields_at w1 w2 g es before after all d rest same is = rw (sym same, sym is) (rest.went, rest.fields)
 
 pub fields_unfound : (w0 w1 w2 : Walk) (l : Label) (e : Term) (es : TermFields) (found : Option TyNo) (before after : List (String Global × TyNo)) (all : Bool)
@@ -269,7 +269,7 @@ fields_unfound w0 w1 w2 l e es found before after all sound grows first none res
       parts = rest.parts;
       parts_are = rest.parts_are;
       stand = rest.stand;
-      went = went_both (entries_of w0) (λ s. places s e) (λ s. places_in s es) (progress_of w0) (progress_of w1) (progress_of w2) d first.over.went others.0;
+      went = went_both (entries_of w0) (λ s. places s e) (λ s. field_places s es) (progress_of w0) (progress_of w1) (progress_of w2) d first.over.went others.0;
       fields = λ s low. (
         answer w1.table found,
         if_all all (fields_over w2.table rest.parts),
@@ -289,7 +289,7 @@ pub fields_found : (w0 w1 w2 : Walk) (l : Label) (e : Term) (es : TermFields) (f
 fields_found w0 w1 w2 l e es found label number before pushed after all sound grows first is more put same_label rest =
     let d = w0.verdicts.dialect in
     let others = fields_at w1 w2 (entries_of w0) es pushed after all d rest (entries_same w0 w1 sound grows.keeps first.entries) grows.dialect in
-    let stands = subst (λ o. StandsIn w1.table o) is first.stands in
+    let stands = subst (λ o. StandsWhereFound w1.table o) is first.stands in
     let longer = keeps_length w1.table w2.table more.keeps in
     let kept : Some (type_of w2.table number) ≡ Some (type_of w1.table number) = answer_keep w1.table w2.table (Some number) more.keeps stands in
     let same_type : type_of w2.table number ≡ type_of w1.table number = (cc) in
@@ -298,7 +298,7 @@ fields_found w0 w1 w2 l e es found label number before pushed after all sound gr
       parts = (label, number) ∷ rest.parts;
       parts_are = rest.parts_are ∙ ap (λ xs. xs ++ rest.parts) put ∙ append_assoc before ((label, number) ∷ []) rest.parts;
       stand = (omega arith, rest.stand);
-      went = went_both (entries_of w0) (λ s. places s e) (λ s. places_in s es) (progress_of w0) (progress_of w1) (progress_of w2) d first.over.went others.0;
+      went = went_both (entries_of w0) (λ s. places s e) (λ s. field_places s es) (progress_of w0) (progress_of w1) (progress_of w2) d first.over.went others.0;
       fields = λ s low. (
         Some (type_of w1.table number),
         if_all all (fields_over w2.table rest.parts),
@@ -309,14 +309,14 @@ fields_found w0 w1 w2 l e es found label number before pushed after all sound gr
     }
 
 pub fields_front : (stop : Stop) (w0 w1 : Walk) (l : Label) (e : Term) (es : TermFields) → HasStopped stop w0 w1 e → HasStoppedInFields stop w0 w1 (term_field l e es)
-fields_front stop w0 w1 l e es stopped = among_front stop (entries_of w0) (λ s. places s e) (λ s. places_in s es) w0 w1 w0.verdicts.dialect stopped
+fields_front stop w0 w1 l e es stopped = among_front stop (entries_of w0) (λ s. places s e) (λ s. field_places s es) w0 w1 w0.verdicts.dialect stopped
 
 pub fields_behind : (stop : Stop) (w0 w1 w2 : Walk) (l : Label) (e : Term) (es : TermFields) (found : Option TyNo)
     → IsSoundWalk w0 → Grows w0 w1 → WalkedOver w0 w1 e found → HasStoppedInFields stop w1 w2 es → HasStoppedInFields stop w0 w2 (term_field l e es)
 fields_behind stop w0 w1 w2 l e es found sound grows first stopped =
     let d = w0.verdicts.dialect in
-    among_behind stop (entries_of w0) (λ s. places s e) (λ s. places_in s es) w0 w1 w2 d first.over.went
-    (among_from stop (entries_of w1) (entries_of w0) (λ s. places_in s es) w1 w1 w2 w1.verdicts.dialect d (entries_same w0 w1 sound grows.keeps first.entries) refl grows.dialect stopped)
+    among_behind stop (entries_of w0) (λ s. places s e) (λ s. field_places s es) w0 w1 w2 d first.over.went
+    (among_from stop (entries_of w1) (entries_of w0) (λ s. field_places s es) w1 w1 w2 w1.verdicts.dialect d (entries_same w0 w1 sound grows.keeps first.entries) refl grows.dialect stopped)
 
 pub fields_then : (r : Result Bool Stop) (w0 w1 w2 : Walk) (l : Label) (e : Term) (es : TermFields) (found : Option TyNo) (label : String Global) (number : TyNo) (before pushed after : List (String Global × TyNo))
     → IsSoundWalk w0 → Grows w0 w1 → WalkedOver w0 w1 e found → found ≡ Some number → Grows w1 w2 → pushed ≡ before ++ (label, number) ∷ [] → string_bytes label ≡ l
@@ -330,12 +330,12 @@ fields_then (Err stop) w0 w1 w2 l e es found label number before pushed after so
 
 pub settled_over : (w0 mid now : Walk) (e : Term) (ps : Scope → List Place) (found : Option TyNo) (blame : Option (Bor Text))
     → ((s : Scope) → ps s ++ record { scope = s; here = e } ∷ [] ≡ places s e)
-    → mid.entries.items ≡ w0.entries.items → StandsIn mid.table found
+    → mid.entries.items ≡ w0.entries.items → StandsWhereFound mid.table found
     → IsReady (entries_of w0) e ps (progress_of w0) (progress_of mid) (answer mid.table found) (blame_at (length mid.found.items) blame) w0.verdicts.dialect
     → Settles mid now found blame → WalkedOver w0 now e found
 settled_over w0 mid now e ps found blame split same stands ready settles = record {
   entries = settles.entries ∙ same;
-  stands = subst (λ t. StandsIn t found) (sym settles.table) stands;
+  stands = subst (λ t. StandsWhereFound t found) (sym settles.table) stands;
   over = subst (λ o. WentOver (entries_of w0) e (progress_of w0) (progress_of now) o w0.verdicts.dialect) (ap (λ t. answer t found) (sym settles.table))
       record {
         went = went_as (entries_of w0) (λ s. ps s ++ record { scope = s; here = e } ∷ []) (λ s. places s e) (progress_of w0) (progress_of now) w0.verdicts.dialect split
@@ -349,7 +349,7 @@ settled_over w0 mid now e ps found blame split same stands ready settles = recor
 
 pub settled_stop : (stop : Stop) (w0 mid now : Walk) (e : Term) (ps : Scope → List Place) (found : Option TyNo) (blame : Option (Bor Text))
     → ((s : Scope) → ps s ++ record { scope = s; here = e } ∷ [] ≡ places s e)
-    → mid.entries.items ≡ w0.entries.items → StandsIn mid.table found
+    → mid.entries.items ≡ w0.entries.items → StandsWhereFound mid.table found
     → IsReady (entries_of w0) e ps (progress_of w0) (progress_of mid) (answer mid.table found) (blame_at (length mid.found.items) blame) w0.verdicts.dialect
     → StopsAt stop mid now found blame → HasStopped stop w0 now e
 settled_stop Stop.Memory w0 mid now e ps found blame split same stands ready stops = tt
@@ -384,7 +384,7 @@ ready_at mid g e ps old found parts seen code blame d ready same blames =
 pub settled_walked : (r : Result (Option TyNo) Stop) (w0 mid now : Walk) (e : Term) (ps : Scope → List Place) (found : Option TyNo) (blame : Option (Bor Text))
     → HasSettled r mid now found blame
     → IsReady (entries_of w0) e ps (progress_of w0) (progress_of mid) (answer mid.table found) (blame_at (length mid.found.items) blame) w0.verdicts.dialect
-    → mid.entries.items ≡ w0.entries.items → StandsIn mid.table found
+    → mid.entries.items ≡ w0.entries.items → StandsWhereFound mid.table found
     → ((s : Scope) → ps s ++ record { scope = s; here = e } ∷ [] ≡ places s e)
     → HasWalked r w0 now e
 settled_walked (Ok number) w0 mid now e ps found blame h ready same stands split =
@@ -427,7 +427,7 @@ numeric_places _ e t is s = absurd is
 
 module _ (w0 w1 : Walk) (e : Term) (x found : Option TyNo) (blame : Option (Bor Text)) (grows : Grows w0 w1) (over : WalkedOver w0 w1 e x) where
   -- an operation on a number, by the number of the type that the whole has
-  pub numeric_parts : (q : Term) (outcome : TyNo) → StandsIn w0.table (Some outcome) → IsNumeric q e (type_of w0.table outcome)
+  pub numeric_parts : (q : Term) (outcome : TyNo) → StandsWhereFound w0.table (Some outcome) → IsNumeric q e (type_of w0.table outcome)
       → NatRule (type_of w1.table outcome) (answer w1.table x) (answer w1.table found) w1.verdicts.dialect → Blames (is_some x) found (codes "E6") blame
       → IsReady (entries_of w0) q (λ s. places s e) (progress_of w0) (progress_of w1) (answer w1.table found) (blame_at (length w1.found.items) blame) w0.verdicts.dialect
   numeric_parts q outcome stands is rule blames =
@@ -536,10 +536,10 @@ if_parts w0 w1 w2 w3 w4 e1 e2 e3 x y z found blame sound r1 o1 r2 o2 r3 o3 to ru
 pub record_parts : (w0 w1 w2 : Walk) (es : TermFields) (before after : List (String Global × TyNo)) (all : Bool) (found : Option TyNo) (blame : Option (Bor Text))
     → (over : FieldsWalked w0 w1 es before after all) → progress_of w2 ≡ progress_of w1
     → RecordRule (if_all all (fields_over w1.table over.parts)) (answer w2.table found) → Blames all found (codes "E9") blame
-    → IsReady (entries_of w0) (record_term es) (λ s. places_in s es) (progress_of w0) (progress_of w2) (answer w2.table found) (blame_at (length w2.found.items) blame) w0.verdicts.dialect
+    → IsReady (entries_of w0) (record_term es) (λ s. field_places s es) (progress_of w0) (progress_of w2) (answer w2.table found) (blame_at (length w2.found.items) blame) w0.verdicts.dialect
 record_parts w0 w1 w2 es before after all found blame over to rule blames =
     let d = w0.verdicts.dialect in
-    ready_at w2 (entries_of w0) (record_term es) (λ s. places_in s es) (progress_of w0) found all all (codes "E9") blame d
+    ready_at w2 (entries_of w0) (record_term es) (λ s. field_places s es) (progress_of w0) found all all (codes "E9") blame d
     (record_ready (entries_of w0) es (progress_of w0) (progress_of w2) all (fields_over w1.table over.parts) (answer w2.table found) d
-    (subst (λ p. Went (entries_of w0) (λ s. places_in s es) (progress_of w0) p d) (sym to) over.went) over.fields rule)
+    (subst (λ p. Went (entries_of w0) (λ s. field_places s es) (progress_of w0) p d) (sym to) over.went) over.fields rule)
     refl blames

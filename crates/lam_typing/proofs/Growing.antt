@@ -5,14 +5,14 @@ use Rattle.lam_rules.specs.Typing.{Context}
 use Rattle.lam_rules.specs.Numbers.{Keeps}
 use Rattle.lam_rules.specs.declared.numbers.TyNo.{TyNo}
 use Rattle.lam_rules.proofs.Tables.{kept_type, keeps_length}
-use Rattle.lam_typing.specs.Steps.{entry_at}
-use Rattle.lam_typing.specs.Answers.{answer, answers, StandsIn, AllStandIn, under_entries, context_under}
+use Rattle.lam_typing.specs.inner.Steps.{entry_at}
+use Rattle.lam_typing.specs.Answers.{answer, answers, StandsWhereFound, AllStandIn, under_entries, context_under}
 
-pub answer_keep : (old now : List Typ) (o : Option TyNo) → Keeps old now → StandsIn old o → answer now o ≡ answer old o
+pub answer_keep : (old now : List Typ) (o : Option TyNo) → Keeps old now → StandsWhereFound old o → answer now o ≡ answer old o
 answer_keep old now None keeps stands = refl
 answer_keep old now (Some number) keeps stands = ap Some (kept_type old now number.index keeps stands)
 
-pub stands_keep : (old now : List Typ) (o : Option TyNo) → Keeps old now → StandsIn old o → StandsIn now o
+pub stands_keep : (old now : List Typ) (o : Option TyNo) → Keeps old now → StandsWhereFound old o → StandsWhereFound now o
 stands_keep old now None keeps stands = tt
 stands_keep old now (Some number) keeps stands = let longer = keeps_length old now keeps in omega arith
 
@@ -39,7 +39,7 @@ pub length-answers : (ts : List Typ) (os : List (Option TyNo)) → length (answe
 length-answers ts [] = refl
 length-answers ts (o ∷ os) = let e = length-answers ts os in omega arith
 
-pub all_stand_push : (ts : List Typ) (os : List (Option TyNo)) (o : Option TyNo) → AllStandIn ts os → StandsIn ts o → AllStandIn ts (os ++ o ∷ [])
+pub all_stand_push : (ts : List Typ) (os : List (Option TyNo)) (o : Option TyNo) → AllStandIn ts os → StandsWhereFound ts o → AllStandIn ts (os ++ o ∷ [])
 all_stand_push ts [] o stand stands = (stands, tt)
 all_stand_push ts (p ∷ os) o stand stands = (stand.0, all_stand_push ts os o stand.1 stands)
 
@@ -78,7 +78,7 @@ pub entry_of_count : (ts : List Typ) (os : List (Option TyNo)) (n : ℕ) (o : Op
     → answer ts o ≡ entry_at n (context_under ts os)
 entry_of_count ts os n o lt is = entry_under ts [] os n (length os - 1 - n) o (omega arith) is
 
-pub stands_at : (ts : List Typ) (os : List (Option TyNo)) (k : ℕ) (o : Option TyNo) → k < length os → o ≡ get_or os k o → AllStandIn ts os → StandsIn ts o
+pub stands_at : (ts : List Typ) (os : List (Option TyNo)) (k : ℕ) (o : Option TyNo) → k < length os → o ≡ get_or os k o → AllStandIn ts os → StandsWhereFound ts o
 stands_at ts [] k o lt is stand = absurd (omega arith)
 stands_at ts (p ∷ os) zero o lt is stand = rw is stand.0
 stands_at ts (p ∷ os) (suc k) o lt is stand = stands_at ts os k o (omega arith) is stand.1

@@ -14,7 +14,7 @@ use Rattle.lam_typing.specs.Blaming.{AreFieldsTyped, IsBlamed, IsBlamedFor, appl
 use Rattle.lam_typing.specs.Contexts.{IsContext}
 use Rattle.lam_typing.specs.LeastTypes.{IsTypeAt, IsLeastAt}
 use Rattle.lam_typing.specs.Progress.{IsLowest}
-use Rattle.lam_typing.specs.Steps.{entry_at}
+use Rattle.lam_typing.specs.inner.Steps.{entry_at}
 use Rattle.lam_typing.proofs.Derivations.{Derives, FieldsDerive, none_derive, more_derive, derives_wf, derives, has_type, t_sub, t_succ, t_pred, t_is_zero, t_app, t_ascribe, t_rcd, t_proj, t_fix}
 use Rattle.lam_typing.proofs.Existing.{lowest_exists}
 use Rattle.lam_typing.proofs.Forms.{no_type_within, context_length}

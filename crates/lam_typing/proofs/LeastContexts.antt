@@ -12,8 +12,7 @@ use Rattle.lam_scope.specs.WellFormed.{IsWellFormedScope}
 use Rattle.lam_scope.proofs.PlacedPlaces.{same_places}
 use Rattle.lam_scope.proofs.WellFormedForms.{document-wf}
 use Rattle.lam_typing.specs.Contexts.{IsContext}
-use Rattle.lam_typing.specs.Entries.{AreLeastEntries}
-use Rattle.lam_typing.specs.LeastTypes.{IsLeastAt}
+use Rattle.lam_typing.specs.LeastTypes.{IsLeastAt, AreLeastEntries}
 use Rattle.lam_typing.proofs.Existing.{exists_at}
 use Rattle.lam_typing.proofs.PlaceProofs.{entries_lowest}
 use Rattle.lam_typing.proofs.WellFormedPlaces.{IsWellFormedPlace, AreWellFormedPlaces, places_of_wf}

@@ -11,7 +11,7 @@ use Rattle.lam_rules.proofs.Permutations.{absent_not}
 use Rattle.lam_rules.proofs.SharedTexts.{one_type}
 use Rattle.lam_sub.proofs.Arranging.{field_below}
 use Rattle.lam_sub.proofs.Below.{arrow_inside, record_inside, below_arrow_is, below_record_is}
-use Rattle.lam_typing.specs.Steps.{entry_at, NatRule, LambdaRule, ArrowRule, ApplyRule, AscribeRule, LetRule, IfRule, FixRule, ProjectRule, MoreRule, RecordRule}
+use Rattle.lam_typing.specs.inner.Steps.{entry_at, NatRule, LambdaRule, ArrowRule, ApplyRule, AscribeRule, LetRule, IfRule, FixRule, ProjectRule, MoreRule, RecordRule}
 use Rattle.lam_typing.proofs.Derivations.{Derives, FieldsDerive, t_true, t_false, t_if, t_num, t_succ, t_pred, t_is_zero, t_var, t_abs, t_app, t_unit, t_ascribe, t_let, t_rcd, t_proj, t_fix, t_sub, none_derive, more_derive, derives_wf}
 use Rattle.lam_typing.proofs.Narrows.{narrow, narrower_self}
 use Rattle.lam_typing.proofs.LeastIn.{LeastIn}

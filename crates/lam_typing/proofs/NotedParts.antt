@@ -11,9 +11,9 @@ use Rattle.lam_scope.specs.Views.{statement_of}
 use Rattle.lam_scope.specs.declared.numbers.Place.{Place}
 use Rattle.lam_scope.specs.declared.statement.Statement.{Statement as RustStatement}
 use Rattle.lam_scope.proofs.Resolving.{statements-drop}
-use Rattle.lam_typing.specs.Notes.{Noted, note, notes, notes_in, notes_of, entry_of_source, entries_onto, context_in, noted_as, noted_by, NotesMore, NotesTerm, NotesFields, NotesOne, NotesStatement, IsLeaf, IsOver}
-use Rattle.lam_typing.specs.Seeing.{note_among}
-use Rattle.lam_typing.specs.Steps.{entry_at}
+use Rattle.lam_typing.specs.inner.Notes.{Noted, note, notes, notes_in, notes_of, entry_of_source, entries_onto, context_in, noted_as, noted_by, NotesMore, NotesTerm, NotesFields, NotesOne, NotesStatement, IsLeaf, IsOver}
+use Rattle.lam_typing.specs.inner.Seeing.{note_among}
+use Rattle.lam_typing.specs.inner.Steps.{entry_at}
 use Rattle.lam_typing.specs.declared.noting.Source.{Source}
 use Rattle.lam_typing.specs.declared.noting.Source.TheVariants.{Term as TermAt}
 use Rattle.lam_typing.specs.declared.noting.Note.{Note}

@@ -11,11 +11,11 @@ use Rattle.lam_scope.specs.Places.{Statement}
 use Rattle.lam_scope.specs.WellFormed.{AreWellFormedStatements}
 use Rattle.std.proofs.lemmas.List.{append-nil, map-append}
 use Rattle.lam_typing.specs.Entries.{entry_from}
-use Rattle.lam_typing.specs.Notes.{entry_told}
-use Rattle.lam_typing.specs.Ends.{AreSourcesOf, AreWellFormedSources}
+use Rattle.lam_typing.specs.inner.Notes.{entry_told}
+use Rattle.lam_typing.specs.inner.Ends.{AreSourcesOf, AreWellFormedSources}
 use Rattle.lam_typing.specs.declared.noting.Source.{Source}
 use Rattle.lam_typing.proofs.WellFormedPlaces.{entry_wf}
-use Rattle.lam_typing.specs.Answers.{answer, answers, StandsIn, AllStandIn}
+use Rattle.lam_typing.specs.Answers.{answer, answers, StandsWhereFound, AllStandIn}
 use Rattle.lam_typing.proofs.Growing.{answers_keep, answers-push, all_stand_keep, all_stand_push}
 
 -- The first entries are numbered, and the others are to come.
@@ -25,7 +25,7 @@ pub record AreNumbered {X : Type 0} (first now : List Typ) (entry : X → Option
   pub told : answers now done ++ map entry left ≡ map entry all
 
 pub numbered_more : {X : Type 0} (first old now : List Typ) (entry : X → Option Typ) (done more : List (Option TyNo)) (number : Option TyNo) (i : ℕ) (o : X) (all : List X)
-    → i < length all → Keeps old now → StandsIn now number → answer now number ≡ entry (get_or all i o) → more ≡ done ++ number ∷ []
+    → i < length all → Keeps old now → StandsWhereFound now number → answer now number ≡ entry (get_or all i o) → more ≡ done ++ number ∷ []
     → AreNumbered first old entry done (drop i all) all → AreNumbered first now entry more (drop (i + 1) all) all
 numbered_more first old now entry done more number i o all inside keeps stands is put numbered =
     let before : answers now done ≡ answers old done = answers_keep old now done keeps numbered.stand in
@@ -44,7 +44,7 @@ numbered_more first old now entry done more number i o all inside keeps stands i
     }
 
 -- a number that was found, or none
-pub stands_or_none : (ts : List Typ) (os : List (Option TyNo)) (k : ℕ) → AllStandIn ts os → StandsIn ts (get_or os k None)
+pub stands_or_none : (ts : List Typ) (os : List (Option TyNo)) (k : ℕ) → AllStandIn ts os → StandsWhereFound ts (get_or os k None)
 stands_or_none ts [] k stand = tt
 stands_or_none ts (o ∷ os) zero stand = stand.0
 stands_or_none ts (o ∷ os) (suc k) stand = stands_or_none ts os k stand.1

@@ -7,13 +7,12 @@ use Rattle.lam_rules.specs.declared.rules.Dialect.{Dialect}
 use Rattle.lam_scope.specs.Places.{written, of_term, Scope, Place, Statement, places_of, place_numbered}
 use Rattle.lam_scope.specs.Sights.{inside, place_of_term, sight_numbered}
 use Rattle.lam_scope.specs.WellFormed.{IsWellFormedScope, AreWellFormedStatements}
-use Rattle.lam_typing.specs.Entries.{AreLeastEntries}
 use Rattle.lam_typing.specs.Progress.{IsLowest}
-use Rattle.lam_typing.specs.Seeing.{Sees}
-use Rattle.lam_typing.specs.Notes.{notes_of}
-use Rattle.lam_typing.specs.Grounds.{found_in, dialect_in, noted_in}
+use Rattle.lam_typing.specs.inner.Seeing.{Sees}
+use Rattle.lam_typing.specs.inner.Notes.{notes_of}
+use Rattle.lam_typing.specs.inner.Grounds.{found_in, dialect_in, noted_in}
 use Rattle.lam_typing.specs.Typings.{found_of, dialect_of, IsTypingOf, context_at, IsProofAt}
-use Rattle.lam_typing.specs.Proving.{ProvesFound, IsProvenTerm}
+use Rattle.lam_typing.specs.inner.Proving.{ProvesFound, IsProvenTerm}
 use Rattle.lam_typing.specs.declared.typing.Typing.{Typing}
 use Rattle.lam_typing.specs.declared.grounds.Grounds.{Grounds}
 use Rattle.lam_typing.proofs.Completing.{least_among}
@@ -21,6 +20,7 @@ use Rattle.lam_typing.proofs.Growing.{length-answers}
 use Rattle.lam_typing.proofs.LeastIn.{lowest, lowest_written, lowest_some, lowest_none, least_in}
 use Rattle.lam_typing.proofs.Sighted.{Seen, place_seen}
 use Rattle.lam_typing.proofs.Together.{least_length}
+use Rattle.lam_typing.specs.LeastTypes.{AreLeastEntries}
 
 -- a context of least entries is the lowest
 pub entries_lowest : (s : Scope) (g : Context) (d : Dialect) → IsWellFormedScope s → AreLeastEntries s g d → IsLowest s g d

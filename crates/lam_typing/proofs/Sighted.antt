@@ -5,23 +5,24 @@ use Rattle.lam_rules.specs.Types.{Typ}
 use Rattle.lam_rules.specs.Terms.{Term, true_term, false_term, if_then_else, numeral, succ, pred, is_zero, variable, free, lambda, apply, unit_term, ascribe, let_in, record_term, project, fix, TermFields, no_terms, term_field}
 use Rattle.lam_rules.specs.Typing.{Context}
 use Rattle.lam_rules.specs.declared.rules.Dialect.{Dialect}
-use Rattle.lam_scope.specs.Places.{written, of_term, Scope, Place, places, places_in, places_of, Statement, defines, declares, abbreviates, states, place_numbered, statement_numbered}
+use Rattle.lam_scope.specs.Places.{written, of_term, Scope, Place, places, field_places, places_of, Statement, defines, declares, abbreviates, states, place_numbered, statement_numbered}
 use Rattle.lam_scope.specs.Sights.{Sight, inside, inside_fields, place_of_term, behind_term, lambda_at, term_at, sights, sights_in, sights_of, sight_numbered}
 use Rattle.lam_scope.specs.WellFormed.{IsWellFormedTerm, AreWellFormedTerms, IsWellFormedScope, AreWellFormedStatements}
 use Rattle.lam_scope.specs.declared.numbers.Origin.TheVariants.{Declaration}
 use Rattle.lam_scope.proofs.PlaceCounts.{length-joined}
-use Rattle.lam_typing.specs.LeastTypes.{IsLeastAt}
-use Rattle.lam_typing.specs.Entries.{AreLeastEntries, written_in, declared_in, entry_from}
-use Rattle.lam_typing.specs.Steps.{entry_at}
-use Rattle.lam_typing.specs.Notes.{Noted, note, notes, notes_in, notes_of}
-use Rattle.lam_typing.specs.Seeing.{place_among, note_among, LeastAmong, IsPlace, Sees, SeesFields}
+use Rattle.lam_typing.specs.LeastTypes.{IsLeastAt, AreLeastEntries}
+use Rattle.lam_typing.specs.Entries.{entry_from}
+use Rattle.lam_typing.specs.inner.Steps.{entry_at}
+use Rattle.lam_typing.specs.inner.Notes.{Noted, note, notes, notes_in, notes_of}
+use Rattle.lam_typing.specs.inner.Seeing.{place_among, note_among, LeastAmong, IsPlace, Sees, SeesFields}
+use Rattle.lam_scope.specs.Bindings.{lambda_type, declared_type}
 
 -- how many places and notes there are
 
 -- a note for each place, which says what is written there
 abbrev pub Paired : List Place → List Noted → Type 0
 Paired [] [] = Unit {0}
-Paired (p ∷ ps) (m ∷ ms) = (m.written ≡ written_in p.here) × Paired ps ms
+Paired (p ∷ ps) (m ∷ ms) = (m.written ≡ lambda_type p.here) × Paired ps ms
 Paired [] (m ∷ ms) = ⊥
 Paired (p ∷ ps) [] = ⊥
 
@@ -66,7 +67,7 @@ mutual
       counted_both (places s a ++ places (of_term a ∷ s) b) _ (notes k fs g a ++ notes (behind_term k a) fs (get_or fs (place_of_term k a) None ∷ g) b) _ (inside a + 1 + (inside b + 1)) 1 _ (omega arith)
       (counted_both (places s a) (places (of_term a ∷ s) b) (notes k fs g a) _ (inside a + 1) (inside b + 1) _ refl (counted fs k s g a) (counted fs (behind_term k a) (of_term a ∷ s) (get_or fs (place_of_term k a) None ∷ g) b))
       (one_counted s g (let_in a b))
-  counted fs k s g (record_term es) = counted_both (places_in s es) _ (notes_in k fs g es) _ (inside_fields es) 1 _ refl (counted_in fs k s g es) (one_counted s g (record_term es))
+  counted fs k s g (record_term es) = counted_both (field_places s es) _ (notes_in k fs g es) _ (inside_fields es) 1 _ refl (counted_in fs k s g es) (one_counted s g (record_term es))
   counted fs k s g (project e l) = counted_both (places s e) _ (notes k fs g e) _ (inside e + 1) 1 _ refl (counted fs k s g e) (one_counted s g (project e l))
   counted fs k s g (fix e) = counted_both (places s e) _ (notes k fs g e) _ (inside e + 1) 1 _ refl (counted fs k s g e) (one_counted s g (fix e))
   counted fs k s g true_term = one_counted s g true_term
@@ -76,9 +77,9 @@ mutual
   counted fs k s g (variable n) = one_counted s g (variable n)
   counted fs k s g (free x) = one_counted s g (free x)
 
-  counted_in : (fs : List (Option Typ)) (k : ℕ) (s : Scope) (g : Context) (es : TermFields) → Count (places_in s es) (notes_in k fs g es) (inside_fields es)
+  counted_in : (fs : List (Option Typ)) (k : ℕ) (s : Scope) (g : Context) (es : TermFields) → Count (field_places s es) (notes_in k fs g es) (inside_fields es)
   counted_in fs k s g no_terms = record { of_places = refl; of_notes = refl; paired = tt }
-  counted_in fs k s g (term_field l e es) = counted_both (places s e) (places_in s es) (notes k fs g e) _ (inside e + 1) (inside_fields es) _ refl (counted fs k s g e) (counted_in fs (behind_term k e) s g es)
+  counted_in fs k s g (term_field l e es) = counted_both (places s e) (field_places s es) (notes k fs g e) _ (inside e + 1) (inside_fields es) _ refl (counted fs k s g e) (counted_in fs (behind_term k e) s g es)
 
 -- places and notes that stand among all, the first of them at k
 
@@ -141,7 +142,7 @@ module _ (all : List Place) (fs : List (Option Typ)) (ns : List Noted) where
         let second = split all ns k (places s a) (places (of_term a ∷ s) b) (notes k fs g a) _ _ (behind_term k a) ca (omega arith) whole.0 in
         (whole.1, sees k s g a second.0, sees (behind_term k a) (of_term a ∷ s) (x ∷ g) b second.1)
     sees k s g (record_term es) h =
-        let whole = parts_of k (place_of_term k (record_term es)) s (record_term es) _ (places_in s es) (notes_in k fs g es) _ (counted_in fs k s g es) refl h in
+        let whole = parts_of k (place_of_term k (record_term es)) s (record_term es) _ (field_places s es) (notes_in k fs g es) _ (counted_in fs k s g es) refl h in
         (whole.1, sees_fields k s g es whole.0)
     sees k s g (project e l) h = let whole = parts_of k (place_of_term k (project e l)) s (project e l) _ (places s e) (notes k fs g e) _ (counted fs k s g e) refl h in (whole.1, sees k s g e whole.0)
     sees k s g (fix e) h = let whole = parts_of k (place_of_term k (fix e)) s (fix e) _ (places s e) (notes k fs g e) _ (counted fs k s g e) refl h in (whole.1, sees k s g e whole.0)
@@ -154,10 +155,10 @@ module _ (all : List Place) (fs : List (Option Typ)) (ns : List Noted) where
         (at_zero k s (variable n) h.0, subst (λ j. (note_among ns j).bound ≡ entry_at n g) zero_more (ap (λ m. m.bound) h.1))
     sees k s g (free x) h = (at_zero k s (free x) h.0, tt)
 
-    sees_fields : (k : ℕ) (s : Scope) (g : Context) (es : TermFields) → Stand all ns k (places_in s es) (notes_in k fs g es) → SeesFields all fs ns k s g es
+    sees_fields : (k : ℕ) (s : Scope) (g : Context) (es : TermFields) → Stand all ns k (field_places s es) (notes_in k fs g es) → SeesFields all fs ns k s g es
     sees_fields k s g no_terms h = tt
     sees_fields k s g (term_field l e es) h =
-        let both = split all ns k (places s e) (places_in s es) (notes k fs g e) _ _ (behind_term k e) (counted fs k s g e) (omega arith) h in
+        let both = split all ns k (places s e) (field_places s es) (notes k fs g e) _ _ (behind_term k e) (counted fs k s g e) (omega arith) h in
         (sees k s g e both.0, sees_fields (behind_term k e) s g es both.1)
 
 -- statements
@@ -189,14 +190,14 @@ stand_behind before noted_before (p ∷ ps) [] k e f paired = absurd paired
 
 -- what is written, by number
 
-pub written_at : (ps : List Place) (ms : List Noted) (k : ℕ) → Paired ps ms → (note_among ms k).written ≡ written_in (place_among ps k).here
+pub written_at : (ps : List Place) (ms : List Noted) (k : ℕ) → Paired ps ms → (note_among ms k).written ≡ lambda_type (place_among ps k).here
 written_at [] [] k paired = refl
 written_at (p ∷ ps) (m ∷ ms) zero paired = paired.0
 written_at (p ∷ ps) (m ∷ ms) (suc k) paired = written_at ps ms k paired.1
 written_at [] (m ∷ ms) k paired = absurd paired
 written_at (p ∷ ps) [] k paired = absurd paired
 
-pub written_noted : (fs : List (Option Typ)) (ss : List Statement) (k : ℕ) → (note_among (notes_of 0 fs [] ss) k).written ≡ written_in (place_numbered ss k).here
+pub written_noted : (fs : List (Option Typ)) (ss : List Statement) (k : ℕ) → (note_among (notes_of 0 fs [] ss) k).written ≡ lambda_type (place_numbered ss k).here
 written_noted fs ss k = written_at (places_of [] ss) (notes_of 0 fs [] ss) k (counted_of fs 0 [] [] ss).paired
 
 -- what a place sees: of its binders the least entries, and its parts at their places
@@ -265,7 +266,7 @@ module _ (ss : List Statement) (fs : List (Option Typ)) (ns : List Noted) (d : D
 
   under_lambda : (k : ℕ) (s : Scope) (t : Sight) (w : Option Typ) (e : Term) → IsPlace (places_of [] ss) (behind_term k e) s (lambda w e) → Entries k s t → Entries k (written w ∷ s) (lambda_at (behind_term k e) ∷ t)
   unfolding Entries
-  under_lambda k s t w e is entries = λ lt. (ap (λ p. written_in p.here) is, entries lt)
+  under_lambda k s t w e is entries = λ lt. (ap (λ p. lambda_type p.here) is, entries lt)
 
   under_term : (k : ℕ) (s : Scope) (t : Sight) (a : Term) → Sees (places_of [] ss) fs ns k s (map (entry_from ss fs) t) a → Entries k s t → Entries (behind_term k a) (of_term a ∷ s) (term_at (place_of_term k a) ∷ t)
   unfolding Entries
@@ -296,7 +297,7 @@ module _ (ss : List Statement) (fs : List (Option Typ)) (ns : List Noted) (d : D
         let is : IsPlace (places_of [] ss) (behind_term k e) s (lambda w e) = subst (λ n. IsPlace (places_of [] ss) n s (lambda w e)) at sees.0 in
         own k s t (lambda w e) (places (written w ∷ s) e) _ ws entries sees (omega (arith, l))
         (seen k (written w ∷ s) (lambda_at (behind_term k e) ∷ t) e (we.0, ws) we.1 (under_lambda k s t w e is entries)
-        (subst (λ x. Sees (places_of [] ss) fs ns k (written w ∷ s) (x ∷ map (entry_from ss fs) t) e) (sym (ap (λ p. written_in p.here) is)) sees.1))
+        (subst (λ x. Sees (places_of [] ss) fs ns k (written w ∷ s) (x ∷ map (entry_from ss fs) t) e) (sym (ap (λ p. lambda_type p.here) is)) sees.1))
     seen k s t (apply f a) ws we entries sees =
         let lf = places_count k s f in
         let la = places_count k s a in
@@ -313,7 +314,7 @@ module _ (ss : List Statement) (fs : List (Option Typ)) (ns : List Noted) (d : D
         (seen (behind_term k a) (of_term a ∷ s) (term_at (place_of_term k a) ∷ t) b (we.0, ws) we.1 (under_term k s t a sees.1 entries) sees.2))
     seen k s t (record_term es) ws we entries sees =
         let l = (counted_in fs k s [] es).of_places in
-        own k s t (record_term es) (places_in s es) _ ws entries sees (omega (arith, l)) (seen_in k s t es ws we entries sees.1)
+        own k s t (record_term es) (field_places s es) _ ws entries sees (omega (arith, l)) (seen_in k s t es ws we entries sees.1)
     seen k s t (project e l) ws we entries sees = let n = places_count k s e in own k s t (project e l) (places s e) _ ws entries sees (omega (arith, n)) (seen k s t e ws we entries sees.1)
     seen k s t (fix e) ws we entries sees = let l = places_count k s e in own k s t (fix e) (places s e) _ ws entries sees (omega (arith, l)) (seen k s t e ws we entries sees.1)
     seen k s t true_term ws we entries sees = own k s t true_term [] [] ws entries sees refl tt
@@ -324,11 +325,11 @@ module _ (ss : List Statement) (fs : List (Option Typ)) (ns : List Noted) (d : D
     seen k s t (free x) ws we entries sees = own k s t (free x) [] [] ws entries sees refl tt
 
     seen_in : (k : ℕ) (s : Scope) (t : Sight) (es : TermFields) → IsWellFormedScope s → AreWellFormedTerms es → Entries k s t → SeesFields (places_of [] ss) fs ns k s (map (entry_from ss fs) t) es
-        → AllSeen ss fs ns d k (places_in s es) (sights_in k t es)
+        → AllSeen ss fs ns d k (field_places s es) (sights_in k t es)
     seen_in k s t no_terms ws we entries sees = tt
     seen_in k s t (term_field l e es) ws we entries sees =
         let n = places_count k s e in
-        seen_both ss fs ns d k (behind_term k e) (places s e) (places_in s es) _ _ (omega (arith, n)) (seen k s t e ws we.0 entries sees.0) (seen_in (behind_term k e) s t es ws we.1 (later k _ s t (omega arith) entries) sees.1)
+        seen_both ss fs ns d k (behind_term k e) (places s e) (field_places s es) _ _ (omega (arith, n)) (seen k s t e ws we.0 entries sees.0) (seen_in (behind_term k e) s t es ws we.1 (later k _ s t (omega arith) entries) sees.1)
 
   -- the statements from number i on, the first place of which is k
   Follow : ℕ → List Statement → Type 0
@@ -344,7 +345,7 @@ module _ (ss : List Statement) (fs : List (Option Typ)) (ns : List Noted) (d : D
   unfolding Follow
   follow_first i st rest follow = let at : i + 0 ≡ i = omega arith in subst (λ n. statement_numbered ss n ≡ st) at (follow 0 (omega arith))
 
-  under_declared : (k i : ℕ) (s : Scope) (t : Sight) (w : Option Typ) → declared_in (statement_numbered ss i) ≡ w → Entries k s t → Entries k (written w ∷ s) (Declaration i ∷ t)
+  under_declared : (k i : ℕ) (s : Scope) (t : Sight) (w : Option Typ) → declared_type (statement_numbered ss i) ≡ w → Entries k s t → Entries k (written w ∷ s) (Declaration i ∷ t)
   unfolding Entries
   under_declared k i s t w is entries = λ lt. (is, entries lt)
 
@@ -359,7 +360,7 @@ module _ (ss : List Statement) (fs : List (Option Typ)) (ns : List Noted) (d : D
       seen_both ss fs ns d k (behind_term k e) (places s e) (places_of (of_term e ∷ s) rest) _ _ (omega (arith, l)) (seen k s t e ws we.0 entries here)
       (seen_of (behind_term k e) (i + 1) (of_term e ∷ s) (term_at (place_of_term k e) ∷ t) rest (we.0, ws) we.1 (under_term k s t e here entries) (follow_more i _ rest follow) both.1)
   seen_of k i s t (declares w ∷ rest) ws we entries follow stand =
-      let is : declared_in (statement_numbered ss i) ≡ w = ap declared_in (follow_first i _ rest follow) in
+      let is : declared_type (statement_numbered ss i) ≡ w = ap declared_type (follow_first i _ rest follow) in
       seen_of k (i + 1) (written w ∷ s) (Declaration i ∷ t) rest (we.0, ws) we.1 (under_declared k i s t w is entries) (follow_more i _ rest follow)
       (subst (λ x. Stand (places_of [] ss) ns k (places_of (written w ∷ s) rest) (notes_of k fs (x ∷ map (entry_from ss fs) t) rest)) (sym is) stand)
   seen_of k i s t (abbreviates w ∷ rest) ws we entries follow stand = seen_of k (i + 1) s t rest ws we.1 entries (follow_more i _ rest follow) stand

@@ -3,7 +3,7 @@ use Rattle.std.proofs.Common.{List, Some, None, refl}
 use Rattle.lam_rules.specs.Types.{Label, Typ, bool, nat, unit, top, arrow, record_of}
 use Rattle.lam_rules.specs.Typing.{HasField}
 use Rattle.lam_sub.proofs.LookUps.{absent_from}
-use Rattle.lam_typing.specs.Steps.{FieldRule, ProjectRule}
+use Rattle.lam_typing.specs.inner.Steps.{FieldRule, ProjectRule}
 
 no_field_rule : (l : Label) (t : Typ) → ((u : Typ) → HasField t l u → ⊥) → FieldRule l t None
 no_field_rule l (record_of fs) n = absent_from l fs n

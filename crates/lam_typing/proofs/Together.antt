@@ -10,7 +10,7 @@ use Rattle.lam_scope.specs.Expansions.{node_limit}
 use Rattle.lam_scope.specs.Places.{Binding, Scope, Place}
 use Rattle.lam_typing.specs.LeastTypes.{IsLeastAt}
 use Rattle.lam_typing.specs.Blaming.{ArePartsTyped, IsExcused, IsBlamed, IsBlamedFor, Blamed, AreBlamed}
-use Rattle.lam_typing.specs.Analysis.{AreLeast, IsSmall, AreSmall}
+use Rattle.lam_typing.specs.Analysis.{AreLeast, IsSmallType, AreSmall}
 use Rattle.lam_typing.specs.Progress.{IsLowest, Progress, Shown, Went, Cause, next_is_too_large, enough, NextIs, StoppedIn, blame_step}
 
 -- lists side by side
@@ -162,7 +162,7 @@ here_blamed n s e false None code d least there back why = inl ((λ blamed. let 
 here_blamed n s e false (Some t) code d least there back why = inl ((λ blamed. blamed.untyped (t, least.0)), refl)
 
 pub went_here : (g : Context) (e : Term) (o : Option Typ) (blames : List Blamed) (old now : Progress) (d : Dialect)
-    → now.found ≡ old.found ++ o ∷ [] → now.blames ≡ old.blames ++ blames → IsSmall o
+    → now.found ≡ old.found ++ o ∷ [] → now.blames ≡ old.blames ++ blames → IsSmallType o
     → ((s : Scope) → IsLowest s g d → IsLeastAt s e o d)
     → ((s : Scope) → IsLowest s g d → AreBlamed (length old.found) (record { scope = s; here = e } ∷ []) blames d)
     → Went g (λ s. record { scope = s; here = e } ∷ []) old now d
@@ -219,7 +219,7 @@ pub record IsReady (g : Context) (e : Term) (ps : Scope → List Place) (old mid
   pub blamed : (s : Scope) → IsLowest s g d → AreBlamed (length mid.found) (record { scope = s; here = e } ∷ []) blames d
 
 pub ready_went : (g : Context) (e : Term) (ps : Scope → List Place) (old mid now : Progress) (o : Option Typ) (blames : List Blamed) (d : Dialect)
-    → IsReady g e ps old mid o blames d → now.found ≡ mid.found ++ o ∷ [] → now.blames ≡ mid.blames ++ blames → IsSmall o
+    → IsReady g e ps old mid o blames d → now.found ≡ mid.found ++ o ∷ [] → now.blames ≡ mid.blames ++ blames → IsSmallType o
     → Went g (λ s. ps s ++ record { scope = s; here = e } ∷ []) old now d
 ready_went g e ps old mid now o blames d ready found_is blames_are small =
     went_both g ps (λ s. record { scope = s; here = e } ∷ []) old mid now d ready.went

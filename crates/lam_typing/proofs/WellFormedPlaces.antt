@@ -3,12 +3,13 @@ use Rattle.std.proofs.Common.{ℕ, zero, suc, List, [], ◌∷◌, ◌++◌, get
 use Rattle.std.specs.List.{AllByRecursion}
 use Rattle.lam_rules.specs.Terms.{Term, true_term, false_term, if_then_else, numeral, succ, pred, is_zero, variable, free, lambda, apply, unit_term, ascribe, let_in, record_term, project, fix, TermFields, no_terms, term_field}
 use Rattle.lam_rules.specs.Typing.{IsWellFormedEntry}
-use Rattle.lam_scope.specs.Places.{written, of_term, Scope, Place, places, places_in, Statement, defines, declares, abbreviates, states, places_of, place_numbered, statement_numbered}
+use Rattle.lam_scope.specs.Places.{written, of_term, Scope, Place, places, field_places, Statement, defines, declares, abbreviates, states, places_of, place_numbered, statement_numbered}
 use Rattle.lam_scope.specs.WellFormed.{IsWellFormedTerm, AreWellFormedTerms, IsWellFormedScope, AreWellFormedStatements}
 use Rattle.lam_scope.specs.declared.numbers.Origin.{Origin}
 use Rattle.lam_scope.specs.declared.numbers.Origin.TheVariants.{Lambda, Term as TermAt, Declaration, TypeName}
 use Rattle.lam_scope.proofs.EveryElement.{every_append}
-use Rattle.lam_typing.specs.Entries.{written_in, declared_in, entry_from}
+use Rattle.lam_typing.specs.Entries.{entry_from}
+use Rattle.lam_scope.specs.Bindings.{lambda_type, declared_type}
 
 -- the types written in the term of a place and in its scope have distinct labels
 abbrev pub IsWellFormedPlace : Place → Type 0
@@ -31,7 +32,7 @@ mutual
   places_wf s (let_in a b) ws we =
       every_append IsWellFormedPlace (places s a ++ places (of_term a ∷ s) b) _
       (every_append IsWellFormedPlace (places s a) (places (of_term a ∷ s) b) (places_wf s a ws we.0) (places_wf (of_term a ∷ s) b (we.0, ws) we.1)) ((ws, we), tt)
-  places_wf s (record_term es) ws we = every_append IsWellFormedPlace (places_in s es) _ (places_in_wf s es ws we) ((ws, we), tt)
+  places_wf s (record_term es) ws we = every_append IsWellFormedPlace (field_places s es) _ (places_in_wf s es ws we) ((ws, we), tt)
   places_wf s (project e l) ws we = every_append IsWellFormedPlace (places s e) _ (places_wf s e ws we) ((ws, we), tt)
   places_wf s (fix e) ws we = every_append IsWellFormedPlace (places s e) _ (places_wf s e ws we) ((ws, we), tt)
   places_wf s true_term ws we = ((ws, we), tt)
@@ -41,9 +42,9 @@ mutual
   places_wf s (variable n) ws we = ((ws, we), tt)
   places_wf s (free x) ws we = ((ws, we), tt)
 
-  places_in_wf : (s : Scope) (es : TermFields) → IsWellFormedScope s → AreWellFormedTerms es → AreWellFormedPlaces (places_in s es)
+  places_in_wf : (s : Scope) (es : TermFields) → IsWellFormedScope s → AreWellFormedTerms es → AreWellFormedPlaces (field_places s es)
   places_in_wf s no_terms ws we = tt
-  places_in_wf s (term_field l e es) ws we = every_append IsWellFormedPlace (places s e) (places_in s es) (places_wf s e ws we.0) (places_in_wf s es ws we.1)
+  places_in_wf s (term_field l e es) ws we = every_append IsWellFormedPlace (places s e) (field_places s es) (places_wf s e ws we.0) (places_in_wf s es ws we.1)
 
 pub places_of_wf : (s : Scope) (ss : List Statement) → IsWellFormedScope s → AreWellFormedStatements ss → AreWellFormedPlaces (places_of s ss)
 places_of_wf s [] ws wss = tt
@@ -60,11 +61,11 @@ wf_at (p ∷ ps) (suc n) wf = wf_at ps n wf.1
 
 -- what is written at a lambda, in a declaration, for a binder
 
-written_wf : (e : Term) → IsWellFormedTerm e → IsWellFormedEntry (written_in e)
+written_wf : (e : Term) → IsWellFormedTerm e → IsWellFormedEntry (lambda_type e)
 written_wf (lambda w e) wf = wf.0
 written_wf e wf = tt
 
-declared_wf : (ss : List Statement) (i : ℕ) → AreWellFormedStatements ss → IsWellFormedEntry (declared_in (statement_numbered ss i))
+declared_wf : (ss : List Statement) (i : ℕ) → AreWellFormedStatements ss → IsWellFormedEntry (declared_type (statement_numbered ss i))
 declared_wf [] i wf = tt
 declared_wf (declares w ∷ ss) zero wf = wf.0
 declared_wf (defines e ∷ ss) zero wf = tt

@@ -14,14 +14,14 @@ AreLeast [] (o ∷ os) d = ⊥
 AreLeast (p ∷ ps) [] d = ⊥
 
 -- a type, if there is one, of at most as many nodes as one that is shown may have
-abbrev pub IsSmall : Option Typ → Type 0
-IsSmall None = Unit {0}
-IsSmall (Some t) = nodes t ≤ node_limit
+abbrev pub IsSmallType : Option Typ → Type 0
+IsSmallType None = Unit {0}
+IsSmallType (Some t) = nodes t ≤ node_limit
 
 -- none of the types that were found has more nodes than that
 abbrev pub AreSmall : List (Option Typ) → Type 0
 AreSmall [] = Unit {0}
-AreSmall (o ∷ os) = IsSmall o × AreSmall os
+AreSmall (o ∷ os) = IsSmallType o × AreSmall os
 
 -- a place with a least type of more nodes
 abbrev pub IsTooLarge : Place → Dialect → Type 0
@@ -31,4 +31,4 @@ IsTooLarge p d = (t : Typ) × IsLeastAt p.scope p.here (Some t) d × (node_limit
 abbrev pub IsFirstTooLarge : List Place → ℕ → Dialect → Type 0
 IsFirstTooLarge [] n d = ⊥
 IsFirstTooLarge (p ∷ ps) zero d = IsTooLarge p d
-IsFirstTooLarge (p ∷ ps) (suc n) d = (o : Option Typ) × IsLeastAt p.scope p.here o d × IsSmall o × IsFirstTooLarge ps n d
+IsFirstTooLarge (p ∷ ps) (suc n) d = (o : Option Typ) × IsLeastAt p.scope p.here o d × IsSmallType o × IsFirstTooLarge ps n d

@@ -15,14 +15,14 @@ abbrev pub answers : List Typ → List (Option TyNo) → List (Option Typ)
 answers ts os = map (answer ts) os
 
 -- the number, if there is one, is one of the table
-abbrev pub StandsIn : List Typ → Option TyNo → Type 0
-StandsIn ts None = Unit {0}
-StandsIn ts (Some number) = Stands ts number
+abbrev pub StandsWhereFound : List Typ → Option TyNo → Type 0
+StandsWhereFound ts None = Unit {0}
+StandsWhereFound ts (Some number) = Stands ts number
 
 -- each number among them is one of the table
 abbrev pub AllStandIn : List Typ → List (Option TyNo) → Type 0
 AllStandIn ts [] = Unit {0}
-AllStandIn ts (o ∷ os) = StandsIn ts o × AllStandIn ts os
+AllStandIn ts (o ∷ os) = StandsWhereFound ts o × AllStandIn ts os
 
 -- a context with entries put onto it one by one, so that the last of them is the innermost
 abbrev pub under_entries : List Typ → Context → List (Option TyNo) → Context

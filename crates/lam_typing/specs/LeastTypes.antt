@@ -1,5 +1,5 @@
 -- The types of a place, over all its contexts, and the least of them.
-use Rattle.std.specs.Prelude.{◌≡◌, Option, Some, None}
+use Rattle.std.specs.Prelude.{◌≡◌, Option, Some, None, [], ◌∷◌}
 use Rattle.lam_rules.specs.Types.{Typ}
 use Rattle.lam_rules.specs.Terms.{Term}
 use Rattle.lam_rules.specs.Subtyping.{IsBelow}
@@ -25,3 +25,10 @@ IsLeastAt s e None d = (u : Typ) → IsTypeAt s e u d → ⊥
 abbrev pub IsLeastEntry : Scope → Binding → Option Typ → Dialect → Type 0
 IsLeastEntry outside (written w) entry d = entry ≡ w
 IsLeastEntry outside (of_term e) entry d = IsLeastAt outside e entry d
+
+-- each entry of a context is the least one of its binder
+abbrev pub AreLeastEntries : Scope → Context → Dialect → Type 0
+AreLeastEntries [] [] d = Unit {0}
+AreLeastEntries (b ∷ outside) (entry ∷ g) d = IsLeastEntry outside b entry d × AreLeastEntries outside g d
+AreLeastEntries [] (entry ∷ g) d = ⊥
+AreLeastEntries (b ∷ outside) [] d = ⊥

@@ -5,14 +5,9 @@ pub mod Narrowing
 pub mod WellTyped
 pub mod Analysis
 pub mod Progress
-pub mod Steps
 pub mod Answers
 pub mod Walk
 pub mod Entries
-pub mod Notes
-pub mod Seeing
 pub mod Typings
-pub mod Ends
-pub mod Grounds
-pub mod Proving
 pub mod Causes
+pub mod inner

@@ -12,7 +12,7 @@ use Rattle.lam_typing.specs.LeastTypes.{IsLeastAt}
 use Rattle.lam_typing.specs.Narrowing.{IsNarrower}
 use Rattle.lam_typing.specs.Blaming.{Blamed, AreBlamed, application_code}
 use Rattle.lam_typing.specs.Analysis.{AreLeast, AreSmall, IsTooLarge}
-use Rattle.lam_typing.specs.Steps.{MoreRule}
+use Rattle.lam_typing.specs.inner.Steps.{MoreRule}
 
 -- a context of a scope that is narrower than each other one
 pub record IsLowest (s : Scope) (g : Context) (d : Dialect) : Type 0 where

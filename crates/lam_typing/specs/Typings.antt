@@ -8,11 +8,12 @@ use Rattle.lam_scope.specs.Sights.{sight_numbered}
 use Rattle.lam_scope.specs.declared.numbers.Origin.{Origin}
 use Rattle.lam_typing.specs.Blaming.{Blamed, AreBlamed}
 use Rattle.lam_typing.specs.Analysis.{AreLeast, AreSmall, IsFirstTooLarge}
-use Rattle.lam_typing.specs.Entries.{AreLeastEntries, IsLeastFrom, HasTermAmong, entry_from}
+use Rattle.lam_typing.specs.Entries.{IsLeastFrom, HasTermAmong, entry_from}
 use Rattle.lam_typing.specs.Answers.{answers}
 use Rattle.lam_typing.specs.Walk.{blames_of}
 use Rattle.lam_typing.specs.declared.fault.TypingFault.{TypingFault}
 use Rattle.lam_typing.specs.declared.typing.Typing.{Typing}
+use Rattle.lam_typing.specs.LeastTypes.{AreLeastEntries}
 
 -- the types of its table, by number
 abbrev pub types_of : Typing → List Typ

@@ -9,11 +9,11 @@ use Rattle.lam_rules.specs.Typing.{Context}
 use Rattle.lam_rules.specs.Numbers.{IsNumberOf, Keeps, AreEarlier, fields_over}
 use Rattle.lam_rules.specs.declared.rules.Dialect.{Dialect}
 use Rattle.lam_rules.specs.declared.numbers.TyNo.{TyNo}
-use Rattle.lam_scope.specs.Places.{Scope, Place, places, places_in, Statement, places_of}
+use Rattle.lam_scope.specs.Places.{Scope, Place, places, field_places, Statement, places_of}
 use Rattle.lam_sub.specs.Remembered.{AreRight}
 use Rattle.lam_typing.specs.Blaming.{Blamed}
-use Rattle.lam_typing.specs.Analysis.{IsSmall}
-use Rattle.lam_typing.specs.Answers.{answer, answers, StandsIn, AllStandIn, context_under}
+use Rattle.lam_typing.specs.Analysis.{IsSmallType}
+use Rattle.lam_typing.specs.Answers.{answer, answers, StandsWhereFound, AllStandIn, context_under}
 use Rattle.lam_typing.specs.Progress.{IsLowest, Progress, Went, WentOver, next_is_too_large, enough, StoppedIn, AreFieldsAt, if_all, IsLarge}
 use Rattle.lam_scope.specs.declared.numbers.Place.{Place as PlaceNumber}
 use Rattle.lam_typing.specs.declared.blame.Blame.{Blame}
@@ -72,7 +72,7 @@ pub record Grows (old now : Walk) : Type 0 where
 -- it went over a term of this type, and is under the same binders as before
 pub record WalkedOver (old now : Walk) (e : Term) (found : Option TyNo) : Type 0 where
   pub entries : now.entries.items ≡ old.entries.items
-  pub stands : StandsIn now.table found
+  pub stands : StandsWhereFound now.table found
   pub over : WentOver (entries_of old) e (progress_of old) (progress_of now) (answer now.table found) old.verdicts.dialect
 
 -- it stopped among these places: before one that is too large, or that lies behind the last one asked for, or wherever memory was wanting
@@ -87,7 +87,7 @@ HasStopped stop old now e = HasStoppedAmong stop (entries_of old) (λ s. places 
 
 -- it stopped among the places of a record's terms
 abbrev pub HasStoppedInFields : Stop → Walk → Walk → TermFields → Type 0
-HasStoppedInFields stop old now es = HasStoppedAmong stop (entries_of old) (λ s. places_in s es) old now old.verdicts.dialect
+HasStoppedInFields stop old now es = HasStoppedAmong stop (entries_of old) (λ s. field_places s es) old now old.verdicts.dialect
 
 -- it went over a term, or stopped among its places
 abbrev pub HasWalked : Result (Option TyNo) Stop → Walk → Walk → Term → Type 0
@@ -100,7 +100,7 @@ pub record FieldsWalked (old now : Walk) (es : TermFields) (before after : List 
   pub parts : List (String Global × TyNo)
   pub parts_are : after ≡ before ++ parts
   pub stand : AreEarlier (length now.table) parts
-  pub went : Went (entries_of old) (λ s. places_in s es) (progress_of old) (progress_of now) old.verdicts.dialect
+  pub went : Went (entries_of old) (λ s. field_places s es) (progress_of old) (progress_of now) old.verdicts.dialect
   pub fields : (s : Scope) → IsLowest s (entries_of old) old.verdicts.dialect → AreFieldsAt s es (if_all all (fields_over now.table parts)) old.verdicts.dialect
 
 -- it went over the terms of a record, or stopped among their places
@@ -119,7 +119,7 @@ pub record Settles (old now : Walk) (found : Option TyNo) (blame : Option (Bor T
   pub entries : now.entries.items ≡ old.entries.items
   pub found_is : now.found.items ≡ old.found.items ++ found ∷ []
   pub blames_are : blames_of now.blames.items ≡ blames_of old.blames.items ++ blame_at (length old.found.items) blame
-  pub small : IsSmall (answer old.table found)
+  pub small : IsSmallType (answer old.table found)
 
 -- it stopped at the next place
 abbrev pub StopsAt : Stop → Walk → Walk → Option TyNo → Option (Bor Text) → Type 0

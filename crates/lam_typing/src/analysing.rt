@@ -7,7 +7,7 @@ ghost use Rattle.lam_scope.specs.Views.{statements_of, origins_of};
 ghost use Rattle.lam_scope.specs.declared.numbers.Origin.{Origin};
 ghost use Rattle.lam_typing.specs.Walk.{IsSoundWalk};
 ghost use Rattle.lam_typing.specs.Typings.{IsAnalysis, IsTypingOf, AreEntries, dialect_of, IsFaultOf};
-ghost use Rattle.lam_typing.specs.Ends.{up_to, Begins, AreSourcesOf, AreWellFormedSources, Completes, IsEndOf};
+ghost use Rattle.lam_typing.specs.inner.Ends.{up_to, Begins, AreSourcesOf, AreWellFormedSources, Completes, IsEndOf};
 ghost use Rattle.lam_typing.specs.declared.fault.TypingFault.TheVariants.{Memory};
 
 use crate::entries::{number_entries, sources_of};

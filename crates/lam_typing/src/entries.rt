@@ -5,10 +5,10 @@ ghost use Rattle.lam_rules.specs.Types.{Typ};
 ghost use Rattle.lam_rules.specs.Typing.{IsWellFormedEntry};
 ghost use Rattle.lam_rules.specs.Numbers.{Keeps};
 ghost use Rattle.lam_scope.specs.Views.{statement_of, statements_of, origins_of};
-ghost use Rattle.lam_typing.specs.Answers.{answer, answers, StandsIn, AllStandIn};
+ghost use Rattle.lam_typing.specs.Answers.{answer, answers, StandsWhereFound, AllStandIn};
 ghost use Rattle.lam_typing.specs.Entries.{entry_from};
-ghost use Rattle.lam_typing.specs.Notes.{entry_told, NotesDocument};
-ghost use Rattle.lam_typing.specs.Ends.{AreSourcesOf, AreWellFormedSources};
+ghost use Rattle.lam_typing.specs.inner.Notes.{entry_told, NotesDocument};
+ghost use Rattle.lam_typing.specs.inner.Ends.{AreSourcesOf, AreWellFormedSources};
 
 use crate::noting::{Note, Source, note_statements};
 use crate::reading::{declared_at, found_at, written_at};
@@ -81,7 +81,7 @@ fn number_of(
     requires found { AllStandIn table.old found.now }
     requires wf { IsWellFormedEntry (entry_told [] source) }
     ensures keeps { Keeps table.old table.new }
-    ensures stands { IfOk result (λ number. StandsIn table.new number) }
+    ensures stands { IfOk result (λ number. StandsWhereFound table.new number) }
     ensures told { IfOk result (λ number. answer table.new number ≡ entry_told (answers table.old found.now) source.entry) }
 {
     match source {

@@ -22,10 +22,10 @@ impl<'t> Grounds<'t> {
     ghost use Rattle.lam_rules.specs.TermViews.{written_of};
     ghost use Rattle.lam_rules.specs.TypingViews.{typing_tree_of};
     ghost use Rattle.lam_scope.specs.Views.{statements_of};
-    ghost use Rattle.lam_typing.specs.Notes.{entry_told};
-    ghost use Rattle.lam_typing.specs.Seeing.{note_among};
+    ghost use Rattle.lam_typing.specs.inner.Notes.{entry_told};
+    ghost use Rattle.lam_typing.specs.inner.Seeing.{note_among};
     ghost use Rattle.lam_typing.specs.Typings.{IsTypingOf, IsProofAt};
-    ghost use Rattle.lam_typing.specs.Grounds.{found_in, noted_in, AreGrounds, AreGroundsOf};
+    ghost use Rattle.lam_typing.specs.inner.Grounds.{found_in, noted_in, AreGrounds, AreGroundsOf};
 
     /// It goes once over the document, which has to be the one that was analysed.
     pub(crate) fn new(

@@ -5,7 +5,7 @@ ghost use Rattle.std.specs.Prelude.{map, IfOk, OnOk};
 ghost use Rattle.lam_rules.specs.Terms.{Term, if_then_else, variable, lambda, apply, let_in, record_term};
 ghost use Rattle.lam_rules.specs.TermViews.{term_of, terms_of, written_of};
 ghost use Rattle.lam_scope.specs.Views.{statement_of};
-ghost use Rattle.lam_typing.specs.Notes.{IsEntryCounted, NotesTerm, NotesFields, NotesOne, NotesStatement, NotesDocument, IsLeaf, IsOver};
+ghost use Rattle.lam_typing.specs.inner.Notes.{IsEntryCounted, NotesTerm, NotesFields, NotesOne, NotesStatement, NotesDocument, IsLeaf, IsOver};
 
 use lam_rules::{Core, Ty};
 use lam_scope::{Place, Statement};

@@ -15,8 +15,8 @@ ghost use Rattle.lam_rules.specs.Typing.{typing_step, typing_first, no_typings, 
 ghost use Rattle.lam_rules.specs.TypingViews.{typing_tree_of, typings_of};
 ghost use Rattle.lam_rules.specs.declared.rules.Dialect.{Dialect};
 ghost use Rattle.lam_scope.specs.Sights.{inside, inside_fields};
-ghost use Rattle.lam_typing.specs.Grounds.{dialect_in};
-ghost use Rattle.lam_typing.specs.Proving.{tree_in, BuildsTerm, BuildsForm, BuildsAs, BuildsFields, IsFieldPut, Finishes, IsWidened, IsLeafBy, IsNatBy};
+ghost use Rattle.lam_typing.specs.inner.Grounds.{dialect_in};
+ghost use Rattle.lam_typing.specs.inner.Proving.{tree_in, BuildsTerm, BuildsForm, BuildsAs, BuildsFields, IsFieldPut, Finishes, IsWidened, IsLeafBy, IsNatBy};
 
 use crate::grounds::Grounds;
 use lam_rules::{

@@ -5,9 +5,9 @@ ghost use Rattle.lam_rules.specs.Types.{Typ};
 ghost use Rattle.lam_rules.specs.TermViews.{written_of};
 ghost use Rattle.lam_scope.specs.Places.{statement_numbered};
 ghost use Rattle.lam_scope.specs.Views.{statement_of};
-ghost use Rattle.lam_typing.specs.Entries.{declared_in};
-ghost use Rattle.lam_typing.specs.Notes.{entry_told, noted_by};
-ghost use Rattle.lam_typing.specs.Seeing.{note_among};
+ghost use Rattle.lam_typing.specs.inner.Notes.{entry_told, noted_by};
+ghost use Rattle.lam_typing.specs.inner.Seeing.{note_among};
+ghost use Rattle.lam_scope.specs.Bindings.{declared_type};
 
 use crate::noting::{Note, Source};
 use lam_rules::{Ty, TyNo, copy_of};
@@ -54,7 +54,7 @@ pub(crate) fn bound_at<'t>(notes: &[Note<'t>], number: usize) -> Option<Source<'
 
 /// Where the entry of the binder is from that the statement of that number declares.
 pub(crate) fn declared_at<'t>(statements: &'t [Statement], number: usize) -> Option<Source<'t>>
-    ensures { (found : List (Option Typ)) → entry_told found result ≡ declared_in (statement_numbered (map statement_of statements.now) number) }
+    ensures { (found : List (Option Typ)) → entry_told found result ≡ declared_type (statement_numbered (map statement_of statements.now) number) }
 {
     if number >= statements.len() {
         return None;

@@ -7,9 +7,9 @@ ghost use Rattle.lam_rules.specs.TermViews.{written_of};
 ghost use Rattle.lam_rules.specs.Typing.{IsWellFormedEntry};
 ghost use Rattle.lam_rules.specs.Numbers.{type_of, Stands, IsNumberOf, Keeps, AreEarlier, fields_over};
 ghost use Rattle.lam_sub.specs.Remembered.{AreRight};
-ghost use Rattle.lam_typing.specs.Answers.{answer, StandsIn};
+ghost use Rattle.lam_typing.specs.Answers.{answer, StandsWhereFound};
 ghost use Rattle.lam_typing.specs.Progress.{if_all};
-ghost use Rattle.lam_typing.specs.Steps.{NatRule, LambdaRule, ApplyRule, AscribeRule, LetRule, IfRule, FixRule, ProjectRule, RecordRule};
+ghost use Rattle.lam_typing.specs.inner.Steps.{NatRule, LambdaRule, ApplyRule, AscribeRule, LetRule, IfRule, FixRule, ProjectRule, RecordRule};
 
 use lam_lattice::join_no;
 use lam_rules::{Shape, Ty, TyNo, TyTable, labels_differ};
@@ -36,7 +36,7 @@ pub(crate) fn number_of_written(
 ) -> Result<Option<TyNo>, AllocError>
     requires wf { IsWellFormedEntry (written_of written.now) }
     ensures keeps { Keeps table.old table.new }
-    ensures stands { IfOk result (λ entry. StandsIn table.new entry) }
+    ensures stands { IfOk result (λ entry. StandsWhereFound table.new entry) }
     ensures entry { IfOk result (λ entry. answer table.new entry ≡ written_of written.now) }
 {
     match written {
@@ -56,13 +56,13 @@ pub(crate) fn type_of_numeric(
     nat_number: TyNo,
     outcome: TyNo,
 ) -> Result<Option<TyNo>, AllocError>
-    requires operand { StandsIn table.now operand }
+    requires operand { StandsWhereFound table.now operand }
     requires nat_number { IsNumberOf table.now nat_number nat }
     requires outcome { Stands table.now outcome }
     requires right { AreRight table.now verdicts.old }
     ensures dialect { verdicts.new.dialect ≡ verdicts.old.dialect }
     ensures right { AreRight table.now verdicts.new }
-    ensures stands { IfOk result (λ found. StandsIn table.now found) }
+    ensures stands { IfOk result (λ found. StandsWhereFound table.now found) }
     ensures rule { IfOk result (λ found. NatRule (type_of table.now outcome) (answer table.now operand) (answer table.now found) verdicts.old.dialect) }
 {
     let Some(number) = operand else {
@@ -81,10 +81,10 @@ pub(crate) fn type_of_lambda(
     written: Option<TyNo>,
     body: Option<TyNo>,
 ) -> Result<Option<TyNo>, AllocError>
-    requires written { StandsIn table.old written }
-    requires body { StandsIn table.old body }
+    requires written { StandsWhereFound table.old written }
+    requires body { StandsWhereFound table.old body }
     ensures keeps { Keeps table.old table.new }
-    ensures stands { IfOk result (λ found. StandsIn table.new found) }
+    ensures stands { IfOk result (λ found. StandsWhereFound table.new found) }
     ensures rule { IfOk result (λ found. LambdaRule (answer table.old written) (answer table.old body) (answer table.new found)) }
 {
     let Some(parameter) = written else {
@@ -104,12 +104,12 @@ pub(crate) fn type_of_apply(
     function: Option<TyNo>,
     argument: Option<TyNo>,
 ) -> Result<Option<TyNo>, AllocError>
-    requires function { StandsIn table.now function }
-    requires argument { StandsIn table.now argument }
+    requires function { StandsWhereFound table.now function }
+    requires argument { StandsWhereFound table.now argument }
     requires right { AreRight table.now verdicts.old }
     ensures dialect { verdicts.new.dialect ≡ verdicts.old.dialect }
     ensures right { AreRight table.now verdicts.new }
-    ensures stands { IfOk result (λ found. StandsIn table.now found) }
+    ensures stands { IfOk result (λ found. StandsWhereFound table.now found) }
     ensures rule { IfOk result (λ found. ApplyRule (answer table.now function) (answer table.now argument) (answer table.now found) verdicts.old.dialect) }
 {
     let Some(function_number) = function else {
@@ -135,12 +135,12 @@ pub(crate) fn type_of_ascribe(
     written: Option<TyNo>,
     operand: Option<TyNo>,
 ) -> Result<Option<TyNo>, AllocError>
-    requires written { StandsIn table.now written }
-    requires operand { StandsIn table.now operand }
+    requires written { StandsWhereFound table.now written }
+    requires operand { StandsWhereFound table.now operand }
     requires right { AreRight table.now verdicts.old }
     ensures dialect { verdicts.new.dialect ≡ verdicts.old.dialect }
     ensures right { AreRight table.now verdicts.new }
-    ensures stands { IfOk result (λ found. StandsIn table.now found) }
+    ensures stands { IfOk result (λ found. StandsWhereFound table.now found) }
     ensures rule { IfOk result (λ found. AscribeRule (answer table.now written) (answer table.now operand) (answer table.now found) verdicts.old.dialect) }
 {
     let Some(written_number) = written else {
@@ -158,7 +158,7 @@ pub(crate) fn type_of_ascribe(
 
 /// T-Let.
 pub(crate) fn type_of_let(bound: Option<TyNo>, body: Option<TyNo>) -> Option<TyNo>
-    ensures { (ts : List Typ) → (StandsIn ts body → StandsIn ts result) × LetRule (answer ts bound) (answer ts body) (answer ts result) }
+    ensures { (ts : List Typ) → (StandsWhereFound ts body → StandsWhereFound ts result) × LetRule (answer ts bound) (answer ts body) (answer ts result) }
 {
     match bound {
         Some(_) => body,
@@ -175,15 +175,15 @@ pub(crate) fn type_of_if(
     else_term: Option<TyNo>,
     bool_number: TyNo,
 ) -> Result<Option<TyNo>, AllocError>
-    requires condition { StandsIn table.old condition }
-    requires then_term { StandsIn table.old then_term }
-    requires else_term { StandsIn table.old else_term }
+    requires condition { StandsWhereFound table.old condition }
+    requires then_term { StandsWhereFound table.old then_term }
+    requires else_term { StandsWhereFound table.old else_term }
     requires bool_number { IsNumberOf table.old bool_number bool }
     requires right { AreRight table.old verdicts.old }
     ensures keeps { Keeps table.old table.new }
     ensures dialect { verdicts.new.dialect ≡ verdicts.old.dialect }
     ensures right { AreRight table.new verdicts.new }
-    ensures stands { IfOk result (λ found. StandsIn table.new found) }
+    ensures stands { IfOk result (λ found. StandsWhereFound table.new found) }
     ensures rule { IfOk result (λ found. IfRule (answer table.old condition) (answer table.old then_term) (answer table.old else_term) (answer table.new found) verdicts.old.dialect) }
 {
     let Some(condition_number) = condition else {
@@ -208,11 +208,11 @@ pub(crate) fn type_of_fix(
     verdicts: &mut Verdicts,
     operand: Option<TyNo>,
 ) -> Result<Option<TyNo>, AllocError>
-    requires operand { StandsIn table.now operand }
+    requires operand { StandsWhereFound table.now operand }
     requires right { AreRight table.now verdicts.old }
     ensures dialect { verdicts.new.dialect ≡ verdicts.old.dialect }
     ensures right { AreRight table.now verdicts.new }
-    ensures stands { IfOk result (λ found. StandsIn table.now found) }
+    ensures stands { IfOk result (λ found. StandsWhereFound table.now found) }
     ensures rule { IfOk result (λ found. FixRule (answer table.now operand) (answer table.now found) verdicts.old.dialect) }
 {
     let Some(number) = operand else {
@@ -230,8 +230,8 @@ pub(crate) fn type_of_fix(
 
 /// T-Proj.
 pub(crate) fn type_of_project(table: &TyTable, operand: Option<TyNo>, label: &str) -> Option<TyNo>
-    requires { StandsIn table.now operand }
-    ensures stands { StandsIn table.now result }
+    requires { StandsWhereFound table.now operand }
+    ensures stands { StandsWhereFound table.now result }
     ensures rule { ProjectRule label.now (answer table.now operand) (answer table.now result) }
 {
     let Some(number) = operand else {
@@ -251,7 +251,7 @@ pub(crate) fn type_of_record(
 ) -> Result<Option<TyNo>, AllocError>
     requires { AreEarlier (length table.old) fields.items }
     ensures keeps { Keeps table.old table.new }
-    ensures stands { IfOk result (λ found. StandsIn table.new found) }
+    ensures stands { IfOk result (λ found. StandsWhereFound table.new found) }
     ensures rule { IfOk result (λ found. RecordRule (if_all all (fields_over table.old fields.items)) (answer table.new found)) }
 {
     if !all {

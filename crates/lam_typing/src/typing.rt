@@ -29,14 +29,14 @@ impl Typing {
     ghost use Rattle.lam_rules.specs.TermViews.{written_of};
     ghost use Rattle.lam_rules.specs.TypingViews.{typing_tree_of};
     ghost use Rattle.lam_scope.specs.Views.{statements_of};
-    ghost use Rattle.lam_typing.specs.Answers.{answer, StandsIn};
+    ghost use Rattle.lam_typing.specs.Answers.{answer, StandsWhereFound};
     ghost use Rattle.lam_typing.specs.Walk.{blames_of};
     ghost use Rattle.lam_typing.specs.Typings.{types_of, found_of, entries_in, blamed_in, IsTypingOf, IsProofAt};
 
     /// The least type of a place, if it has one and was analysed.
     pub fn type_at(&self, place: Place) -> Option<TyNo>
         ensures found { answer (types_of self.now) result ≡ get_or (found_of self.now) place.0 None }
-        ensures stands { StandsIn (types_of self.now) result }
+        ensures stands { StandsWhereFound (types_of self.now) result }
     {
         found_at(&self.found, place.0)
     }
@@ -45,7 +45,7 @@ impl Typing {
     /// binder of a type name has none.
     pub fn type_of_binder(&self, binder: Binder) -> Option<TyNo>
         ensures entry { answer (types_of self.now) result ≡ get_or (entries_in self.now) binder.0 None }
-        ensures stands { StandsIn (types_of self.now) result }
+        ensures stands { StandsWhereFound (types_of self.now) result }
     {
         found_at(&self.entries, binder.0)
     }

@@ -8,10 +8,10 @@ ghost use Rattle.lam_rules.specs.Typing.{IsWellFormedEntry};
 ghost use Rattle.lam_scope.specs.WellFormed.{IsWellFormedTerm, AreWellFormedTerms, IsWellFormedStatement, AreWellFormedStatements};
 ghost use Rattle.lam_scope.specs.Places.{places_of};
 ghost use Rattle.lam_scope.specs.Views.{statement_of};
-ghost use Rattle.lam_typing.specs.Answers.{answer, StandsIn, AllStandIn, context_under};
+ghost use Rattle.lam_typing.specs.Answers.{answer, StandsWhereFound, AllStandIn, context_under};
 ghost use Rattle.lam_rules.specs.Numbers.{type_of, Stands};
-ghost use Rattle.lam_typing.specs.Steps.{entry_at, IsNumeric};
-ghost use Rattle.lam_typing.specs.Analysis.{IsSmall};
+ghost use Rattle.lam_typing.specs.inner.Steps.{entry_at, IsNumeric};
+ghost use Rattle.lam_typing.specs.Analysis.{IsSmallType};
 ghost use Rattle.lam_typing.specs.Progress.{Went, blame_step, IsApplicationCode, IsLarge};
 ghost use Rattle.lam_typing.specs.Walk.{Grows, HasWalked, HasWalkedFields, HasSettled, blame_at, blames_of, IsSoundWalk, IsBehind, IsUpTo, GoesOn, HasStoppedAt, HasStoppedAmong, entries_of, progress_of};
 ghost use Rattle.lam_typing.specs.declared.walking.Stop.TheVariants.{Memory};
@@ -341,14 +341,14 @@ fn walk_variable(walk: &mut Walk, count: usize) -> Result<Option<TyNo>, Stop>
 pub(crate) fn entry_of(entries: &[Option<TyNo>], count: usize) -> Option<TyNo>
     requires { count < length entries.now }
     ensures entry { (ts : List Typ) → answer ts result ≡ entry_at count (context_under ts entries.now) }
-    ensures stands { (ts : List Typ) → AllStandIn ts entries.now → StandsIn ts result }
+    ensures stands { (ts : List Typ) → AllStandIn ts entries.now → StandsWhereFound ts result }
 {
     entries[entries.len() - 1 - count]
 }
 
 /// What an application is blamed for, by the type of its first term.
 fn application_code(table: &TyTable, function: Option<TyNo>) -> &'static str
-    requires { StandsIn table.now function }
+    requires { StandsWhereFound table.now function }
     ensures { IsApplicationCode result.now (answer table.now function) }
 {
     let Some(number) = function else {
@@ -395,7 +395,7 @@ fn settle(
     blame: Option<&'static str>,
 ) -> Result<Option<TyNo>, Stop>
     requires sound { IsSoundWalk walk.old }
-    requires stands { StandsIn walk.old.table found }
+    requires stands { StandsWhereFound walk.old.table found }
     ensures grows { Grows walk.old walk.new }
     ensures settled { HasSettled result walk.old walk.new found blame.entry }
 {
@@ -439,8 +439,8 @@ fn put_blame(
 
 /// Whether a type has more nodes than a place may show.
 fn is_large(table: &TyTable, found: Option<TyNo>) -> bool
-    requires { StandsIn table.now found }
-    ensures small { IsFalse result → IsSmall (answer table.now found) }
+    requires { StandsWhereFound table.now found }
+    ensures small { IsFalse result → IsSmallType (answer table.now found) }
     ensures large { IsTrue result → IsLarge (answer table.now found) }
 {
     let Some(number) = found else {

@@ -2,7 +2,7 @@ use Rattle.std.proofs.Common.{◌∙◌, IfNone, subst}
 use Rattle.lam_rules.specs.TypeViews.{typ_of}
 use Rattle.lam_rules.specs.Numbers.{type_of}
 use Rattle.lam_rules.proofs.Tables.{kept_type}
-use Rattle.lam_lattice.specs.Bounds.{HaveNoMeet}
+use Rattle.lam_lattice.specs.inner.Bounds.{HaveNoMeet}
 use Rattle.lam_lattice.proofs.Unlike.{no_meet_seen}
 use Rattle.lam_lattice.proofs.bounds.meet.Goals as goal
 

@@ -1,5 +1,5 @@
 use Rattle.std.proofs.Common.{take}
-use Rattle.lam_lattice.specs.Matches.{AreMatches}
+use Rattle.lam_lattice.specs.inner.Matches.{AreMatches}
 use Rattle.lam_lattice.proofs.matching.matched.Given as goal
 
 abbrev pub invariant-loop-i : goal.invariant-loop-i

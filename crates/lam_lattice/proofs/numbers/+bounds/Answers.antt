@@ -13,9 +13,9 @@ use Rattle.lam_sub.specs.BoundOrder.{join_without_parts}
 use Rattle.lam_sub.proofs.Keeping.{right_kept}
 use Rattle.lam_sub.proofs.TableVerdicts.{record_of_numbers, stand_in}
 use Rattle.lam_sub.specs.Remembered.{IsJoinOf, IsMeetOf}
-use Rattle.lam_lattice.specs.Bounds.{IsJoin, IsMeet, HaveNoMeet, JoinsInOrder, MeetsInOrder}
-use Rattle.lam_lattice.specs.Matches.{AreMatches}
-use Rattle.lam_lattice.specs.Records.{OrderlyJoins, OrderlyMeets, AreMet}
+use Rattle.lam_lattice.specs.inner.Bounds.{IsJoin, IsMeet, HaveNoMeet, JoinsInOrder, MeetsInOrder}
+use Rattle.lam_lattice.specs.inner.Matches.{AreMatches}
+use Rattle.lam_lattice.specs.inner.Records.{OrderlyJoins, OrderlyMeets, AreMet}
 use Rattle.lam_lattice.proofs.Unlike.{join_below, meet_above, no_meet_seen}
 use Rattle.lam_lattice.proofs.Orders.{join_of_same, meet_of_same}
 use Rattle.lam_lattice.proofs.SideBySide.{matches_below, matches_bound, match_below, match_bound, right_below, joins_more, joins_without, joins_all, meets_more, meets_alone, meets_all, meet_missing}

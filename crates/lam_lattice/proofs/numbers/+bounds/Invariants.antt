@@ -1,7 +1,7 @@
 use Rattle.std.proofs.Common.{◌≡◌, ◌+◌, ◌*◌, length}
 use Rattle.lam_rules.specs.Numbers.{Keeps, AreEarlier}
 use Rattle.lam_sub.specs.Remembered.{AreRight}
-use Rattle.lam_lattice.specs.Records.{OrderlyJoins, OrderlyMeets}
+use Rattle.lam_lattice.specs.inner.Records.{OrderlyJoins, OrderlyMeets}
 use Rattle.lam_lattice.proofs.SideBySide.{bound_of, JoinsSoFar, MeetsSoFar}
 use Rattle.lam_lattice.proofs.numbers.+bounds.Given as goal
 

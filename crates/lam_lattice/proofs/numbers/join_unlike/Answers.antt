@@ -5,7 +5,7 @@ use Rattle.lam_rules.specs.Subtyping.{IsBelow}
 use Rattle.lam_rules.proofs.Tables.{keeps_same}
 use Rattle.lam_sub.specs.BoundOrder.{join_without_parts}
 use Rattle.lam_sub.proofs.Keeping.{right_kept}
-use Rattle.lam_lattice.specs.Bounds.{IsJoin, JoinsInOrder}
+use Rattle.lam_lattice.specs.inner.Bounds.{IsJoin, JoinsInOrder}
 use Rattle.lam_lattice.proofs.Unlike.{join_above, join_below, join_unlike_top, join_seen}
 use Rattle.lam_lattice.proofs.Orders.{join_order_above, join_order_below}
 use Rattle.lam_lattice.proofs.numbers.join_unlike.Goals as goal

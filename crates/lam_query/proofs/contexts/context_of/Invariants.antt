@@ -1,7 +1,7 @@
 use Rattle.std.proofs.Common.{drop}
 use Rattle.lam_scope.specs.Views.{table_of}
 use Rattle.lam_typing.specs.Typings.{entries_in}
-use Rattle.lam_query.specs.Contexts.{entry_shown}
+use Rattle.lam_query.specs.inner.Contexts.{entry_shown}
 use Rattle.lam_query.specs.Views.{entry_of}
 use Rattle.lam_query.proofs.Collected.{IsCollected}
 use Rattle.lam_query.proofs.contexts.context_of.Given as goal

@@ -1,7 +1,7 @@
 use Rattle.std.proofs.Common.{rules, subst, arith}
 use Rattle.lam_token.proofs.Cuts.{tokens_stand}
 use Rattle.lam_token.proofs.SomeCut.{tokens_at, are_tokens_at, first_told, none_told}
-use Rattle.lam_query.specs.Reading.{AreRead}
+use Rattle.lam_query.specs.inner.Reading.{AreRead}
 use Rattle.lam_query.proofs.PiecesRead.{commands_read, faults_read}
 use Rattle.lam_query.proofs.reading.read.Goals as goal
 

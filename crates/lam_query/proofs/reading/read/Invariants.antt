@@ -2,7 +2,7 @@ use Rattle.std.proofs.Common.{◌≡◌, ◌+◌, length}
 use denote.Shadow.{shadow}
 use denote.Text.{Utf8}
 use Rattle.lam_token.proofs.SomeCut.{tokens_at}
-use Rattle.lam_query.specs.Reading.{AreRead}
+use Rattle.lam_query.specs.inner.Reading.{AreRead}
 use Rattle.lam_query.proofs.reading.read.Given as goal
 
 abbrev pub invariant-loop-token : goal.invariant-loop-token

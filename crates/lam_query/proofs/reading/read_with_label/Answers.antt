@@ -1,7 +1,7 @@
 use Rattle.std.proofs.Common.{[], rules, subst, arith}
 use Rattle.lam_token.proofs.SomeCut.{tokens_at, are_tokens_at, first_told, none_told}
 use Rattle.lam_scope.specs.Nesting.{TokensStand}
-use Rattle.lam_query.specs.Reading.{AreReadAround}
+use Rattle.lam_query.specs.inner.Reading.{AreReadAround}
 use Rattle.lam_query.proofs.PiecesRead.{commands_read}
 use Rattle.lam_query.proofs.StandingTokens.{stands_at}
 use Rattle.lam_query.proofs.ReadAround.{named, named_commands, none_read_around, none_around}

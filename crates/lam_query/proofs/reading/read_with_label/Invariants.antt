@@ -2,7 +2,7 @@ use Rattle.std.proofs.Common.{◌≡◌, ◌+◌, length}
 use denote.Shadow.{shadow}
 use denote.Text.{Utf8}
 use Rattle.lam_token.proofs.SomeCut.{tokens_at}
-use Rattle.lam_query.specs.Reading.{AreReadAround}
+use Rattle.lam_query.specs.inner.Reading.{AreReadAround}
 use Rattle.lam_query.proofs.ReadAround.{named}
 use Rattle.lam_query.proofs.reading.read_with_label.Given as goal
 

@@ -1,5 +1,5 @@
 use Rattle.std.proofs.Common.{◌≡◌, drop}
-use Rattle.lam_query.specs.Rebuilding.{are_lasts, stack_of}
+use Rattle.lam_query.specs.inner.Rebuilding.{are_lasts, stack_of}
 use Rattle.lam_query.proofs.rebuilding.are_lasts.Given as goal
 
 abbrev pub invariant-loop-i : goal.invariant-loop-i

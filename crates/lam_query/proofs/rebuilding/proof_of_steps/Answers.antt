@@ -1,6 +1,6 @@
 use Rattle.std.proofs.Common.{map, sym, ap, ◌∙◌}
 use Rattle.std.specs.Option.{option_and_then}
-use Rattle.lam_query.specs.Rebuilding.{only_typing, stack_of}
+use Rattle.lam_query.specs.inner.Rebuilding.{only_typing, stack_of}
 use Rattle.lam_query.specs.Views.{step_of}
 use Rattle.lam_query.proofs.RebuiltTrees.{no_proof}
 use Rattle.lam_query.proofs.RebuiltPremises.{step_not_done, steps_done, some_answered, none_answered}

@@ -1,5 +1,5 @@
 use Rattle.std.proofs.Common.{◌≡◌, [], drop, map}
-use Rattle.lam_query.specs.Rebuilding.{after_steps, stack_of}
+use Rattle.lam_query.specs.inner.Rebuilding.{after_steps, stack_of}
 use Rattle.lam_query.specs.Views.{step_of}
 use Rattle.lam_query.proofs.rebuilding.proof_of_steps.Given as goal
 

@@ -1,4 +1,4 @@
-use Rattle.lam_query.specs.Rebuilding.{trees_of, stack_of}
+use Rattle.lam_query.specs.inner.Rebuilding.{trees_of, stack_of}
 use Rattle.lam_query.proofs.RebuiltPremises.{typing_made}
 use Rattle.lam_query.proofs.rebuilding.typing_from.Goals as goal
 

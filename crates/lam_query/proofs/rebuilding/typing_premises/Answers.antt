@@ -1,5 +1,5 @@
 use Rattle.std.proofs.Common.{length, sym, ap, ◌∙◌}
-use Rattle.lam_query.specs.Rebuilding.{trees_of, stack_of}
+use Rattle.lam_query.specs.inner.Rebuilding.{trees_of, stack_of}
 use Rattle.lam_query.proofs.RebuiltPremises.{premises_put}
 use Rattle.lam_query.proofs.rebuilding.typing_premises.Goals as goal
 

@@ -1,7 +1,7 @@
 use Rattle.std.proofs.Common.{◌≡◌, length}
 use Rattle.std.specs.Vec.Iter.{into_iter_items, into_iter_len}
 use Rattle.lam_query.specs.ProofTrees.{typing_premises}
-use Rattle.lam_query.specs.Rebuilding.{trees_of, with_premises, stack_of, premises_of}
+use Rattle.lam_query.specs.inner.Rebuilding.{trees_of, with_premises, stack_of, premises_of}
 use Rattle.lam_query.proofs.rebuilding.typing_premises.Given as goal
 
 abbrev pub invariant-loop-rebuilt : goal.invariant-loop-rebuilt

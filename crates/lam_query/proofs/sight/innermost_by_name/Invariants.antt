@@ -2,7 +2,7 @@ use Rattle.std.proofs.Common.{◌≡◌, None, drop, map}
 use Rattle.lam_scope.specs.Names.{Name}
 use Rattle.lam_scope.specs.TableViews.{binder_number}
 use Rattle.lam_scope.specs.Views.{table_of}
-use Rattle.lam_query.specs.Sight.{innermost_after, binder_for}
+use Rattle.lam_query.specs.inner.Sight.{innermost_after, binder_for}
 use Rattle.lam_query.proofs.sight.innermost_by_name.Given as goal
 
 abbrev pub invariant-loop-i : goal.invariant-loop-i

@@ -1,4 +1,4 @@
-use Rattle.lam_query.specs.Sight.{item_found, AreTextsFound}
+use Rattle.lam_query.specs.inner.Sight.{item_found, AreTextsFound}
 use Rattle.lam_query.specs.Views.{item_of}
 use Rattle.lam_query.proofs.Collected.{IsCollected}
 use Rattle.lam_query.proofs.sight.items_of_names.Given as goal

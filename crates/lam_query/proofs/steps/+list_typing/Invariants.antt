@@ -2,7 +2,7 @@ use Rattle.std.proofs.Common.{drop, map}
 use Rattle.lam_rules.specs.TypingViews.{typings_of}
 use Rattle.lam_scope.specs.TableViews.{place_number}
 use Rattle.lam_scope.specs.Views.{table_of}
-use Rattle.lam_query.specs.RowSteps.{row_proofs}
+use Rattle.lam_query.specs.inner.RowSteps.{row_proofs}
 use Rattle.lam_query.proofs.Flat.{IsLeft}
 use Rattle.lam_query.proofs.steps.+list_typing.Given as goal
 

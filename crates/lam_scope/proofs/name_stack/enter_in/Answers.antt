@@ -1,6 +1,6 @@
 use Rattle.std.proofs.Common.{◌∙◌, ◌++◌, ◌∷◌, [], ap}
 use Rattle.lam_scope.specs.declared.names.Named.{Named}
-use Rattle.lam_scope.specs.NameStacks.{names_of}
+use Rattle.lam_scope.specs.inner.NameStacks.{names_of}
 use Rattle.lam_scope.proofs.NameStacks.{names_of-push, stack_pushed}
 use Rattle.lam_scope.proofs.name_stack.enter_in.Goals as goal
 

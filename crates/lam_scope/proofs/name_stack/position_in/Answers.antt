@@ -1,6 +1,6 @@
 use Rattle.std.proofs.Common.{sym, ap, ◌∙◌}
 use Rattle.std.specs.Option.{option_copied}
-use Rattle.lam_scope.specs.NameStacks.{flattened}
+use Rattle.lam_scope.specs.inner.NameStacks.{flattened}
 use Rattle.lam_scope.proofs.name_stack.position_in.Goals as goal
 
 pub returns-in-None : goal.returns-in-None

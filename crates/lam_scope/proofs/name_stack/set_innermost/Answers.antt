@@ -1,6 +1,6 @@
 use Rattle.std.proofs.Common.{sym, ap, ◌∙◌}
 use Rattle.std.specs.Option.{option_map}
-use Rattle.lam_scope.specs.NameStacks.{found_in, with_binder}
+use Rattle.lam_scope.specs.inner.NameStacks.{found_in, with_binder}
 use Rattle.lam_scope.proofs.NameStacks.{innermost_set}
 use Rattle.lam_scope.proofs.name_stack.set_innermost.Goals as goal
 

@@ -1,7 +1,7 @@
 use Rattle.std.proofs.Common.{◌≡◌, drop, map}
 use Rattle.lam_syntax.specs.Views.{command_of}
 use Rattle.lam_scope.specs.declared.own_words.Reached.TheVariants.{Behind}
-use Rattle.lam_scope.specs.OwnWords.{commands_words, seek_on}
+use Rattle.lam_scope.specs.inner.OwnWords.{commands_words, seek_on}
 use Rattle.lam_scope.proofs.own_words.find_in_commands.Given as goal
 
 abbrev pub invariant-loop-i : goal.invariant-loop-i

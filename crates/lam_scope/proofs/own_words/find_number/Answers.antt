@@ -1,6 +1,6 @@
 use Rattle.std.proofs.Common.{◌∙◌, ap, map}
 use Rattle.lam_syntax.specs.Views.{command_of}
-use Rattle.lam_scope.specs.OwnWords.{number_of}
+use Rattle.lam_scope.specs.inner.OwnWords.{number_of}
 use Rattle.lam_scope.proofs.OwnWords.{number_found}
 use Rattle.lam_scope.proofs.own_words.find_number.Goals as goal
 

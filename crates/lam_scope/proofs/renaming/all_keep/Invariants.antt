@@ -2,7 +2,7 @@ use Rattle.std.proofs.Common.{◌≡◌, map, drop}
 use Rattle.std.specs.List.{list_all}
 use Rattle.std.specs.Option.{option_map}
 use Rattle.lam_scope.specs.TableViews.{binder_number, text_binder, text_use}
-use Rattle.lam_scope.specs.Bearers.{keeps}
+use Rattle.lam_scope.specs.inner.Bearers.{keeps}
 use Rattle.lam_scope.proofs.renaming.all_keep.Given as goal
 
 abbrev pub invariant-loop-i : goal.invariant-loop-i

@@ -1,7 +1,7 @@
 use Rattle.std.proofs.Common.{◌≡◌, map, drop}
 use Rattle.std.specs.Option.{option_map}
 use Rattle.lam_scope.specs.TableViews.{binder_number, text_binder}
-use Rattle.lam_scope.specs.Bearers.{bearers_behind, bearers}
+use Rattle.lam_scope.specs.inner.Bearers.{bearers_behind, bearers}
 use Rattle.lam_scope.proofs.renaming.bearers_of.Given as goal
 
 abbrev pub invariant-loop-i : goal.invariant-loop-i

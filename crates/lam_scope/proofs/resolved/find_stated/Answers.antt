@@ -1,6 +1,6 @@
 use Rattle.std.proofs.Common.{◌∙◌, ap, ◌+◌, map, drop}
 use Rattle.std.proofs.lemmas.List.{drop_all}
-use Rattle.lam_scope.specs.Found.{seek}
+use Rattle.lam_scope.specs.inner.Found.{seek}
 use Rattle.lam_scope.specs.Views.{statement_of}
 use Rattle.lam_scope.proofs.PlaceTerms.{terms_in, sought_here, sought_behind, sought_nowhere}
 use Rattle.lam_scope.proofs.resolved.find_stated.Goals as goal

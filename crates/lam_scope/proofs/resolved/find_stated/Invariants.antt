@@ -1,5 +1,5 @@
 use Rattle.std.proofs.Common.{◌≡◌, map, drop}
-use Rattle.lam_scope.specs.Found.{seek}
+use Rattle.lam_scope.specs.inner.Found.{seek}
 use Rattle.lam_scope.specs.Views.{statement_of}
 use Rattle.lam_scope.proofs.PlaceTerms.{terms_in}
 use Rattle.lam_scope.proofs.resolved.find_stated.Given as goal

@@ -1,5 +1,5 @@
 use Rattle.lam_scope.proofs.Finding.{found_more}
-use Rattle.lam_scope.specs.Found.{sought_of}
+use Rattle.lam_scope.specs.inner.Found.{sought_of}
 use Rattle.lam_scope.proofs.search.+search.Goals as goal
 
 pub find_in_fields-loop-i-preserved : goal.find_in_fields-loop-i-preserved

@@ -1,6 +1,6 @@
 use Rattle.std.proofs.Common.{◌≡◌, drop}
 use Rattle.lam_rules.specs.TermViews.{terms_of}
-use Rattle.lam_scope.specs.Found.{seek, seek_on, sought_of, terms_at_fields}
+use Rattle.lam_scope.specs.inner.Found.{seek, seek_on, sought_of, terms_at_fields}
 use Rattle.lam_scope.proofs.search.+search.Given as goal
 
 abbrev pub invariant-find_in_fields-loop-i : goal.invariant-find_in_fields-loop-i

@@ -1,5 +1,5 @@
 use Rattle.std.proofs.Common.{◌≡◌, ◌-◌, length, drop}
-use Rattle.lam_scope.specs.UseChains.{AreChains}
+use Rattle.lam_scope.specs.inner.UseChains.{AreChains}
 use Rattle.lam_scope.proofs.use_chains.chains_of.Given as goal
 
 abbrev pub invariant-loop-i : goal.invariant-loop-i

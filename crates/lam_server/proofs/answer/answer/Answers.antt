@@ -2,7 +2,7 @@ use Rattle.std.proofs.Common.{List, map, subst}
 use Rattle.serde_json.specs.View.{view}
 use Rattle.serde_json.specs.declared.value.Value.{Value}
 use Rattle.lam_rpc.specs.Kind.{message_of}
-use Rattle.lam_server.specs.Answer.{WritesValues}
+use Rattle.lam_server.specs.inner.Answer.{WritesValues}
 use Rattle.lam_server.proofs.Answering.{answers_body}
 use Rattle.lam_server.proofs.answer.answer.Goals as goal
 

@@ -1,7 +1,7 @@
 use Rattle.std.proofs.Common.{◌↔◌, ◌+◌, ◌*◌, drop}
 use Rattle.lam_rules.specs.Types.{nodes, nodes_in}
 use Rattle.lam_rules.specs.TypeViews.{typ_of, fields_of}
-use Rattle.lam_sub.specs.FieldsBelow.{AreBelow}
+use Rattle.lam_sub.specs.inner.FieldsBelow.{AreBelow}
 use Rattle.lam_sub.proofs.deciding.+is_sub.Given as goal
 
 abbrev pub invariant-are_fields_sub-loop-i : goal.invariant-are_fields_sub-loop-i

@@ -1,7 +1,7 @@
 use Rattle.std.proofs.Common.{◌≡◌, ◌↔◌, ◌+◌, ◌*◌, drop}
 use Rattle.lam_rules.specs.Types.{nodes, nodes_in}
 use Rattle.lam_rules.specs.Numbers.{type_of, fields_over}
-use Rattle.lam_sub.specs.FieldsBelow.{AreBelow}
+use Rattle.lam_sub.specs.inner.FieldsBelow.{AreBelow}
 use Rattle.lam_sub.specs.Remembered.{AreRight}
 use Rattle.lam_sub.proofs.numbers.+is_sub_no.Given as goal
 

@@ -8,8 +8,8 @@ use Rattle.lam_rules.specs.SubViews.{claims_of}
 use Rattle.lam_rules.specs.declared.rules.SubRule.{SubRule}
 use Rattle.lam_rules.proofs.TypeShapes.{typ_of-Top, typ_of-Arrow}
 use Rattle.lam_rules.proofs.ByShape.{below_wf}
-use Rattle.lam_sub.specs.Arranging.{picked}
-use Rattle.lam_sub.specs.Steps.{LeadsTo}
+use Rattle.lam_sub.specs.inner.Arranging.{picked}
+use Rattle.lam_sub.specs.inner.Steps.{LeadsTo}
 use Rattle.lam_sub.proofs.LookUps.{item_has}
 use Rattle.lam_sub.proofs.Below.{no_field, field_iff, nodes_of_field, record_inside}
 use Rattle.lam_sub.proofs.Arranging.{type_under_is, below_labels, picked_wf}

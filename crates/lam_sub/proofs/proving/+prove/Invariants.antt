@@ -4,8 +4,8 @@ use Rattle.lam_rules.specs.TypeViews.{typ_of, fields_of}
 use Rattle.lam_rules.specs.Subtyping.{AreSubProofs, GoesFieldByField}
 use Rattle.lam_rules.specs.SubViews.{sub_trees_of, claims_of}
 use Rattle.lam_rules.specs.declared.subtyping.SubProof.{SubProof}
-use Rattle.lam_sub.specs.Arranging.{picked}
-use Rattle.lam_sub.specs.FieldsBelow.{AreBelow}
+use Rattle.lam_sub.specs.inner.Arranging.{picked}
+use Rattle.lam_sub.specs.inner.FieldsBelow.{AreBelow}
 use Rattle.lam_sub.proofs.proving.+prove.Given as goal
 
 abbrev pub invariant-prove_fields-loop-i : goal.invariant-prove_fields-loop-i

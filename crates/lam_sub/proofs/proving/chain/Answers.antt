@@ -1,5 +1,5 @@
 use Rattle.std.proofs.Common.{subst}
-use Rattle.lam_sub.specs.Steps.{LeadsTo}
+use Rattle.lam_sub.specs.inner.Steps.{LeadsTo}
 use Rattle.lam_sub.proofs.proving.chain.Goals as goal
 
 pub returns : goal.returns

@@ -3,7 +3,7 @@ use Rattle.std.proofs.lemmas.Result.{IfOk-weaker}
 use Rattle.lam_rules.specs.Types.{record_of, AreWellFormed}
 use Rattle.lam_rules.specs.TypeViews.{fields_of}
 use Rattle.lam_rules.specs.declared.rules.Dialect.{Dialect}
-use Rattle.lam_sub.specs.Steps.{LeadsTo}
+use Rattle.lam_sub.specs.inner.Steps.{LeadsTo}
 use Rattle.lam_sub.proofs.Arranging.{arranged, picked_wf, arranged_wf}
 use Rattle.lam_sub.proofs.Steps.{arranged_is, permutation_by, width_by, no_premises}
 use Rattle.lam_sub.proofs.proving.prove_picked.Goals as goal

@@ -1,10 +1,10 @@
 use Rattle.std.proofs.Common.{refl, sym, ◌∙◌, ap, ◌++◌, ◌∷◌, arith}
 use Rattle.std.proofs.lemmas.Result.{err_from_is_err_and}
 use Rattle.lam_token.specs.declared.kind.Kind.TheVariants as kind
-use Rattle.lam_syntax.specs.Run.{for_let, of_lambda, of_letrec, in_lambda, in_condition, in_then, in_else, in_let, in_let_body, in_letrec, in_letrec_body, in_field, next_field, after_label, as_argument, after_binder, ended_type, ended_term, ended_app, run, look}
+use Rattle.lam_syntax.specs.inner.Run.{for_let, of_lambda, of_letrec, in_lambda, in_condition, in_then, in_else, in_let, in_let_body, in_letrec, in_letrec_body, in_field, next_field, after_label, as_argument, after_binder, ended_type, ended_term, ended_app, run, look}
 use Rattle.lam_syntax.specs.Trees.{word, no_fields}
 use Rattle.lam_syntax.specs.Views.{bound_of, type_of, term_of, fields_of}
-use Rattle.lam_syntax.specs.Reads.{placed, fields_next}
+use Rattle.lam_syntax.specs.inner.Reads.{placed, fields_next}
 use Rattle.lam_syntax.proofs.Ends.{argument_begun}
 use Rattle.lam_syntax.proofs.Steps.{reads_stop, reads_same, behind_front, behind_none, behind_stop, behind_read, some_fields, field_label_stop, no_equals, placed_app, no_word, no_lambda_dot, no_let_equals, no_let_in, no_letrec_equals, no_letrec_in, no_then, no_else}
 use Rattle.lam_syntax.proofs.parse_terms.+terms.Goals as goal

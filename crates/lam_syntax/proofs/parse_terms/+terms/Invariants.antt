@@ -1,7 +1,7 @@
 use Rattle.std.proofs.Common.{◌≡◌, length, ◌+◌, ◌*◌, ◌<◌}
-use Rattle.lam_syntax.specs.Run.{InTerm, InPath, need_field, begin_app, ended_app, run, look}
+use Rattle.lam_syntax.specs.inner.Run.{InTerm, InPath, need_field, begin_app, ended_app, run, look}
 use Rattle.lam_syntax.specs.Views.{term_of, fields_of}
-use Rattle.lam_syntax.specs.Reads.{fields_next}
+use Rattle.lam_syntax.specs.inner.Reads.{fields_next}
 use Rattle.lam_syntax.proofs.parse_terms.+terms.Given as goal
 
 abbrev pub decreases-parse_term : goal.decreases-parse_term

@@ -1,5 +1,5 @@
 use Rattle.std.proofs.Common.{◌≡◌, length, ◌≤◌}
-use Rattle.lam_syntax.specs.Run.{InPath, after_atom, ended_asc, run, look}
+use Rattle.lam_syntax.specs.inner.Run.{InPath, after_atom, ended_asc, run, look}
 use Rattle.lam_syntax.specs.Views.{term_of}
 use Rattle.lam_syntax.proofs.parse_terms.parse_suffixes.Given as goal
 

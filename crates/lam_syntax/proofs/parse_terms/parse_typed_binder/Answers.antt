@@ -1,6 +1,6 @@
 use Rattle.std.proofs.lemmas.Result.{err_from_is_err_and}
 use Rattle.lam_token.specs.declared.kind.Kind.TheVariants as kind
-use Rattle.lam_syntax.specs.Run.{for_lambda, for_letrec, after_binder, run}
+use Rattle.lam_syntax.specs.inner.Run.{for_lambda, for_letrec, after_binder, run}
 use Rattle.lam_syntax.specs.Views.{bound_of}
 use Rattle.lam_syntax.proofs.Steps.{expect_stop, no_lambda_colon, no_letrec_colon}
 use Rattle.lam_syntax.proofs.parse_terms.parse_typed_binder.Goals as goal

@@ -1,9 +1,9 @@
 use Rattle.std.proofs.Common.{sym, ◌∙◌, ap, ◌++◌, ◌∷◌}
 use Rattle.std.proofs.lemmas.Result.{err_from_is_err_and}
-use Rattle.lam_syntax.specs.Run.{look}
+use Rattle.lam_syntax.specs.inner.Run.{look}
 use Rattle.lam_syntax.specs.Trees.{no_type_fields}
 use Rattle.lam_syntax.specs.Views.{type_fields_of}
-use Rattle.lam_syntax.specs.Reads.{type_fields_next}
+use Rattle.lam_syntax.specs.inner.Reads.{type_fields_next}
 use Rattle.lam_syntax.proofs.Steps.{reads_stop, some_type_fields, type_label_stop, colon_stop}
 use Rattle.lam_syntax.proofs.parse_types.+types.Goals as goal
 

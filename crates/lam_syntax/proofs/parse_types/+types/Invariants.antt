@@ -1,7 +1,7 @@
 use Rattle.std.proofs.Common.{◌≡◌, length, ◌+◌, ◌*◌, ◌<◌}
-use Rattle.lam_syntax.specs.Run.{InType, need_type_field, run, look}
+use Rattle.lam_syntax.specs.inner.Run.{InType, need_type_field, run, look}
 use Rattle.lam_syntax.specs.Views.{type_fields_of}
-use Rattle.lam_syntax.specs.Reads.{type_fields_next}
+use Rattle.lam_syntax.specs.inner.Reads.{type_fields_next}
 use Rattle.lam_syntax.proofs.parse_types.+types.Given as goal
 
 abbrev pub decreases-parse_type : goal.decreases-parse_type

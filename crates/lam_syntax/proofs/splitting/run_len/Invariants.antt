@@ -1,5 +1,5 @@
 use Rattle.std.proofs.Common.{◌≡◌, ◌+◌, drop}
-use Rattle.lam_syntax.specs.Reads.{run_len}
+use Rattle.lam_syntax.specs.inner.Reads.{run_len}
 use Rattle.lam_syntax.proofs.splitting.run_len.Given as goal
 
 -- the run goes on behind the tokens so far

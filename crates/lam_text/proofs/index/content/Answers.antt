@@ -1,5 +1,5 @@
 use Rattle.std.proofs.Common.{◌≡◌, ◌+◌, length, ◌∙◌, arith}
-use Rattle.lam_text.specs.Rows.{line_start, line_content}
+use Rattle.lam_text.specs.inner.Rows.{line_start, line_content}
 use Rattle.lam_text.proofs.RowLemmas.{Row-start_boundary, Row-end_boundary, Row-slice}
 use Rattle.lam_text.proofs.Lookups.{read_start, read_row_at}
 use Rattle.lam_text.proofs.index.content.Goals as goal

@@ -2,7 +2,7 @@ use Rattle.std.proofs.Common.{◌≡◌, arith, rules}
 use Rattle.std.specs.List.{prefix_len}
 use Rattle.std.proofs.lemmas.List.Sorted.{IsPartitionPoint-from_clause, IsPartitionedBy-leb}
 use Rattle.std.proofs.lemmas.List.Sums.{prefix_len-le-length}
-use Rattle.lam_text.specs.Search.{starts_by}
+use Rattle.lam_text.specs.inner.Search.{starts_by}
 use Rattle.lam_text.proofs.Splices.{starts_rise-index, some_starts_by, prefix_len-point}
 use Rattle.lam_text.proofs.index.line_at.Goals as goal
 use Rattle.lam_text.proofs.index.line_at.Goals.{After-partition_point}

@@ -1,6 +1,6 @@
 -- The lines found so far and those that are still to be found are those of the whole search.
 use Rattle.std.proofs.Common.{◌≡◌, ◌-◌, ◌≤◌, ◌++◌, drop}
-use Rattle.lam_text.specs.Search.{marks_from}
+use Rattle.lam_text.specs.inner.Search.{marks_from}
 use Rattle.lam_text.proofs.index.push_marks.Given as goal
 
 abbrev pub invariant-loop-plain : goal.invariant-loop-plain

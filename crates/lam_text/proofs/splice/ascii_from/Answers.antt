@@ -1,6 +1,6 @@
 use Rattle.std.proofs.Common.{◌≡◌, length, drop, ap, sym, ◌∙◌}
 use Rattle.lam_text.specs.Lines.{lines_of}
-use Rattle.lam_text.specs.Splice.{first_start}
+use Rattle.lam_text.specs.inner.Splice.{first_start}
 use Rattle.lam_text.proofs.Marks.{later_on}
 use Rattle.lam_text.proofs.Splices.{first_ascii-mark, later-read, first_start-bounds, first_ascii-stop}
 use Rattle.lam_text.proofs.splice.ascii_from.Goals as goal

@@ -1,6 +1,6 @@
 -- Each mark so far was moved.
 use Rattle.std.proofs.Common.{◌≡◌, ◌+◌, ◌++◌, take, map}
-use Rattle.lam_text.specs.Splice.{moved}
+use Rattle.lam_text.specs.inner.Splice.{moved}
 use Rattle.lam_text.proofs.splice.push_moved.Given as goal
 
 abbrev pub invariant-loop-mark : goal.invariant-loop-mark

@@ -1,7 +1,7 @@
 use Rattle.std.proofs.Common.{sym, ◌∙◌, subst, arith}
 use Rattle.std.specs.Prelude.{Some, None}
 use Rattle.std.proofs.lemmas.Bool.{ne_eqb}
-use Rattle.lam_token.specs.Reading.{IsBehind}
+use Rattle.lam_token.specs.inner.Reading.{IsBehind}
 use Rattle.lam_token.proofs.Reading.{first_shorter, step_behind, end_behind, last_behind, behind_opening, behind_closing, behind_other}
 use Rattle.lam_token.proofs.scan.behind_comment.Goals as goal
 

@@ -1,6 +1,6 @@
 use Rattle.std.proofs.Common.{List, ℕ, ◌+◌, ◌≤◌, Option, length}
 use Rattle.std.specs.Str.{IsUtf8}
-use Rattle.lam_token.specs.Reading.{IsBehind}
+use Rattle.lam_token.specs.inner.Reading.{IsBehind}
 use Rattle.lam_token.proofs.scan.behind_comment.Given as goal
 
 -- what is behind the comment from here is what is behind the whole of it

@@ -1,7 +1,7 @@
 use Rattle.std.proofs.Common.{List, ℕ, length}
 use Rattle.std.specs.Str.{IsUtf8}
 use Rattle.lam_token.specs.Shape.{is_digit}
-use Rattle.lam_token.specs.Reading.{RunIs}
+use Rattle.lam_token.specs.inner.Reading.{RunIs}
 use Rattle.lam_token.proofs.scan.behind_digits.Given as goal
 
 -- a run of what is left is the end of a run of the whole

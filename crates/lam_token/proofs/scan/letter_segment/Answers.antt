@@ -1,7 +1,7 @@
 use Rattle.std.proofs.Common.{sym, ◌∙◌, ap, subst}
 use Rattle.lam_token.specs.declared.segment.Segment.TheVariants.{Token}
 use Rattle.lam_token.specs.Words.{word_kind}
-use Rattle.lam_token.specs.Reading.{SegmentIs}
+use Rattle.lam_token.specs.inner.Reading.{SegmentIs}
 use Rattle.lam_token.proofs.Reading.{front_behind, cut_behind, take_front}
 use Rattle.lam_token.proofs.Segments.{word_segment}
 use Rattle.lam_token.proofs.scan.letter_segment.Goals as goal

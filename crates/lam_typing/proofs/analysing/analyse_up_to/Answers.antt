@@ -4,7 +4,7 @@ use Rattle.lam_scope.specs.Views.{statements_of, origins_of}
 use Rattle.lam_scope.specs.WellFormed.{AreWellFormedStatements}
 use Rattle.lam_typing.specs.Progress.{Went}
 use Rattle.lam_typing.specs.Walk.{entries_of, progress_of, HasStoppedAmong}
-use Rattle.lam_typing.specs.Ends.{AreSourcesOf, AreWellFormedSources}
+use Rattle.lam_typing.specs.inner.Ends.{AreSourcesOf, AreWellFormedSources}
 use Rattle.lam_typing.proofs.Numbering.{sources_wf}
 use Rattle.lam_typing.proofs.Completing.{told_ok, went_through, ended}
 use Rattle.lam_typing.proofs.analysing.analyse_up_to.Goals as goal

@@ -1,6 +1,6 @@
 use Rattle.std.proofs.Common.{map, refl, ap, sym, subst, ◌∙◌}
 use Rattle.lam_typing.specs.Answers.{answers, AllStandIn}
-use Rattle.lam_typing.specs.Notes.{entry_told}
+use Rattle.lam_typing.specs.inner.Notes.{entry_told}
 use Rattle.lam_typing.proofs.Finishing.{each_stands}
 use Rattle.lam_typing.proofs.Growing.{all_stand_keep}
 use Rattle.lam_typing.proofs.analysing.complete.Goals as goal

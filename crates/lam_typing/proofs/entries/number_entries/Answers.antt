@@ -3,7 +3,7 @@ use Rattle.std.proofs.lemmas.List.{get_or_default}
 use Rattle.lam_rules.specs.Typing.{IsWellFormedEntry}
 use Rattle.lam_rules.proofs.Tables.{keeps_same}
 use Rattle.lam_typing.specs.Answers.{answers}
-use Rattle.lam_typing.specs.Notes.{entry_told}
+use Rattle.lam_typing.specs.inner.Notes.{entry_told}
 use Rattle.lam_typing.proofs.Growing.{answers_keep, all_stand_keep}
 use Rattle.lam_typing.proofs.Numbering.{numbered_more}
 use Rattle.lam_typing.proofs.entries.number_entries.Goals as goal

@@ -1,6 +1,6 @@
 use Rattle.std.proofs.Common.{drop}
 use Rattle.lam_typing.specs.Answers.{answers}
-use Rattle.lam_typing.specs.Notes.{entry_told}
+use Rattle.lam_typing.specs.inner.Notes.{entry_told}
 use Rattle.lam_typing.proofs.Numbering.{AreNumbered}
 use Rattle.lam_typing.proofs.entries.number_entries.Given as goal
 

@@ -1,7 +1,7 @@
 use Rattle.std.proofs.Common.{map, ap, ◌∙◌}
 use Rattle.lam_scope.specs.Views.{statement_of}
 use Rattle.lam_typing.specs.Entries.{entry_from}
-use Rattle.lam_typing.specs.Seeing.{note_among}
+use Rattle.lam_typing.specs.inner.Seeing.{note_among}
 use Rattle.lam_typing.proofs.Sighted.{written_noted}
 use Rattle.lam_typing.proofs.entries.source_of.Goals as goal
 

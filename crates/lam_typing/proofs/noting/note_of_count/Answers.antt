@@ -1,5 +1,5 @@
 use Rattle.std.proofs.Common.{None, ap, sym, ◌∙◌, arith}
-use Rattle.lam_typing.specs.Notes.{context_in, entry_of_source}
+use Rattle.lam_typing.specs.inner.Notes.{context_in, entry_of_source}
 use Rattle.lam_typing.proofs.Forms.{entry_beyond}
 use Rattle.lam_typing.proofs.NotedParts.{length-context, entry_of_count}
 use Rattle.lam_typing.proofs.noting.note_of_count.Goals as goal

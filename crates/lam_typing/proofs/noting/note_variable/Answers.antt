@@ -1,7 +1,7 @@
 use Rattle.std.proofs.Common.{[], refl, subst}
 use Rattle.std.proofs.lemmas.Result.{IfOk-weaker}
 use Rattle.lam_rules.specs.Terms.{variable}
-use Rattle.lam_typing.specs.Notes.{IsEntryCounted}
+use Rattle.lam_typing.specs.inner.Notes.{IsEntryCounted}
 use Rattle.lam_typing.proofs.NotedParts.{more_none, term_done}
 use Rattle.lam_typing.proofs.noting.note_variable.Goals as goal
 

@@ -11,7 +11,7 @@ use Rattle.lam_rules.proofs.TermShapes.{term_of-True, term_of-False, term_of-Num
 use Rattle.lam_rules.proofs.TypeShapes.{typ_of-Bool, typ_of-Nat, typ_of-Unit}
 use Rattle.lam_rules.proofs.TypingShapes.{type_in-typing_tree_of}
 use Rattle.lam_scope.specs.Sights.{inside, inside_fields}
-use Rattle.lam_typing.specs.Proving.{tree_in}
+use Rattle.lam_typing.specs.inner.Proving.{tree_in}
 use Rattle.lam_typing.proofs.Sizes.{size_of, size_of_fields}
 use Rattle.lam_typing.proofs.Arms.{if_arm, succ_arm, pred_arm, is_zero_arm, lambda_arm, apply_arm, ascribe_arm, let_arm, record_arm, project_arm, fix_arm}
 use Rattle.lam_typing.proofs.BuiltProofs.{free_none, as_wide, as_none, number_form, number_none, if_form, if_none_else, if_none_then, if_none_condition, lambda_form, lambda_none, faulty_lambda_none, apply_none_argument, apply_none_function, ascribe_form, ascribe_none, faulty_ascribe_none, let_form, let_none_body, let_none_bound, record_form, record_none, no_fields_form, more_fields_form, more_fields_none, first_field_none, project_form, project_none, project_no_record, project_no_field, fix_form, fix_none}

@@ -5,7 +5,7 @@ use Rattle.lam_rules.specs.Terms.{apply}
 use Rattle.lam_rules.specs.TypeViews.{typ_of}
 use Rattle.lam_rules.specs.TypingViews.{typing_tree_of}
 use Rattle.lam_scope.specs.Sights.{inside}
-use Rattle.lam_typing.specs.Proving.{tree_in}
+use Rattle.lam_typing.specs.inner.Proving.{tree_in}
 use Rattle.lam_typing.proofs.BuiltProofs.{apply_form, apply_no_arrow, apply_not_below}
 use Rattle.lam_typing.proofs.BuiltSteps.{some_wide, none_wide, arrow_in, no_arrow_in, first_before}
 use Rattle.lam_typing.proofs.proving.finish_apply.Goals as goal

@@ -4,7 +4,7 @@ use Rattle.std.proofs.Common.{ap, refl, arith}
 use Rattle.std.proofs.lemmas.Result.{IfOk-weaker}
 use Rattle.lam_rules.specs.TypingViews.{typings_of}
 use Rattle.lam_scope.specs.Sights.{inside}
-use Rattle.lam_typing.specs.Proving.{tree_in}
+use Rattle.lam_typing.specs.inner.Proving.{tree_in}
 use Rattle.lam_typing.proofs.BuiltProofs.{leaf_form}
 use Rattle.lam_typing.proofs.BuiltSteps.{step_as, first_before, inside_leaf}
 use Rattle.lam_typing.proofs.proving.prove_leaf.Goals as goal

@@ -4,7 +4,7 @@ use Rattle.std.proofs.lemmas.Result.{IfOk-weaker}
 use Rattle.lam_rules.specs.TypeViews.{typ_of}
 use Rattle.lam_rules.specs.declared.rules.TypeRule.{TypeRule}
 use Rattle.lam_rules.specs.TypingViews.{typings_of}
-use Rattle.lam_typing.specs.Proving.{tree_in}
+use Rattle.lam_typing.specs.inner.Proving.{tree_in}
 use Rattle.lam_typing.proofs.BuiltProofs.{variable_form, variable_none}
 use Rattle.lam_typing.proofs.BuiltSteps.{step_as, first_before}
 use Rattle.lam_typing.proofs.proving.prove_variable.Goals as goal

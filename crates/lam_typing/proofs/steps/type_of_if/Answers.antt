@@ -1,7 +1,7 @@
 use Rattle.std.proofs.Common.{subst}
 use Rattle.lam_rules.specs.Subtyping.{IsBelow}
 use Rattle.lam_rules.specs.Numbers.{type_of}
-use Rattle.lam_lattice.specs.Bounds.{IsJoin}
+use Rattle.lam_lattice.specs.inner.Bounds.{IsJoin}
 use Rattle.lam_typing.proofs.steps.type_of_if.Goals as goal
 
 pub returns-clause-rule : goal.returns-clause-rule

@@ -5,9 +5,9 @@ use Rattle.lam_rules.specs.TermViews.{term_of, terms_of, written_of}
 use Rattle.lam_rules.specs.Numbers.{fields_over, AreEarlier}
 use Rattle.lam_rules.proofs.TermShapes.{term_of-True, term_of-False, term_of-Num, term_of-Var, term_of-Free, term_of-Unit}
 use Rattle.lam_rules.proofs.Tables.{keeps_same}
-use Rattle.lam_scope.specs.Places.{written, of_term, places, places_in}
+use Rattle.lam_scope.specs.Places.{written, of_term, places, field_places}
 use Rattle.lam_typing.specs.Answers.{answer}
-use Rattle.lam_typing.specs.Steps.{LambdaRule, LetRule, RecordRule}
+use Rattle.lam_typing.specs.inner.Steps.{LambdaRule, LetRule, RecordRule}
 use Rattle.lam_typing.specs.Progress.{if_all}
 use Rattle.lam_typing.specs.Walk.{entries_of, progress_of}
 use Rattle.lam_typing.proofs.Sizes.{size_of, size_of_fields}
@@ -609,7 +609,7 @@ walk_record-returns-clause-walked t c =
     let blame = c.blame_if-blame in
     let items = parts_empty _ _ _ over.parts_are c.in_ok-parts.ensures.items in
     let rule = subst (λ fs. RecordRule (if_all all (fields_over w1.table fs)) (answer w2.table found)) items c.in_ok-found.ensures.rule in
-    settled_walked _ _ _ _ (record_term es) (λ s. places_in s es) found blame.result c.settle.ensures.settled
+    settled_walked _ _ _ _ (record_term es) (λ s. field_places s es) found blame.result c.settle.ensures.settled
     (record_parts c.args.walk.now w1 w2 es _ _ all found blame.result over (progress_same w1 w2 c.in_ok-all.ensures.grows.sound c.type_of_record.ensures.keeps refl refl) rule blame.ensures)
     over.entries c.in_ok-found.ensures.stands (λ s. refl)
 

@@ -1,7 +1,7 @@
 use Rattle.std.proofs.Common.{◌≡◌, [], None, refl, sym, subst, arith}
 use Rattle.lam_rules.specs.Terms.{variable}
 use Rattle.lam_typing.specs.Answers.{answer, AllStandIn, context_under}
-use Rattle.lam_typing.specs.Steps.{entry_at}
+use Rattle.lam_typing.specs.inner.Steps.{entry_at}
 use Rattle.lam_typing.proofs.Glue.{settled_walked, unbound_parts, variable_parts}
 use Rattle.lam_typing.proofs.walking.walk_variable.Goals as goal
 

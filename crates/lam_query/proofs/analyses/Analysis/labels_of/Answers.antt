@@ -1,5 +1,5 @@
 use Rattle.std.proofs.lemmas.Result.{IfOk-weaker}
-use Rattle.lam_query.specs.Listed.{small, large}
+use Rattle.lam_query.specs.inner.Listed.{small, large}
 use Rattle.lam_query.specs.Analyses.{commands_in}
 use Rattle.lam_query.specs.Sizes.{IsSmall}
 use Rattle.lam_typing.specs.Typings.{found_of}

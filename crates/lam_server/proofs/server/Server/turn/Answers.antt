@@ -1,5 +1,5 @@
 use Rattle.std.proofs.Common.{ℕ, List, Ok, Err, sym, subst}
-use Rattle.lam_server.specs.Answer.{AnswersBody}
+use Rattle.lam_server.specs.inner.Answer.{AnswersBody}
 use Rattle.lam_server.proofs.Answering.{turn_end, turn_unanswered, turn_unread}
 use Rattle.lam_server.proofs.server.Server.turn.Goals as goal
 

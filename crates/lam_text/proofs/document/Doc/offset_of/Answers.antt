@@ -1,6 +1,6 @@
 use Rattle.std.proofs.Common.{◌≡◌, ap, sym, ◌∙◌, arith, false}
 use Rattle.lam_text.specs.declared.index.Mark.{Mark}
-use Rattle.lam_text.specs.Index.{index_of}
+use Rattle.lam_text.specs.inner.Index.{index_of}
 use Rattle.lam_text.proofs.RowLemmas.{offset_of-boundary}
 use Rattle.lam_text.proofs.Lookups.{read_offset, read_past, read_ascii}
 use Rattle.lam_text.proofs.document.Doc.offset_of.Goals as goal

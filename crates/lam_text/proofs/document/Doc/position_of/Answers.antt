@@ -1,7 +1,7 @@
 use Rattle.std.proofs.Common.{◌≡◌, ap, sym, ◌∙◌}
 use Rattle.std.proofs.lemmas.Str.{IsAscii-take}
 use Rattle.std.specs.Str.{IsCharBoundary}
-use Rattle.lam_text.specs.Index.{index_of}
+use Rattle.lam_text.specs.inner.Index.{index_of}
 use Rattle.lam_text.proofs.Lookups.{read_before, read_ascii, read_boundary, read_position}
 use Rattle.lam_text.proofs.document.Doc.position_of.Goals as goal
 use Rattle.lam_text.proofs.document.Doc.position_of.Goals.{After-as_slice-marks}

@@ -1,5 +1,5 @@
 use Rattle.std.proofs.Common.{[], ap, refl, ◌∙◌}
-use Rattle.lam_typing.specs.Notes.{notes_of}
+use Rattle.lam_typing.specs.inner.Notes.{notes_of}
 use Rattle.lam_typing.specs.Typings.{found_of}
 use Rattle.lam_typing.proofs.grounds.Grounds.new.Goals as goal
 

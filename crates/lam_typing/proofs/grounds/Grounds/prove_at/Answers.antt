@@ -1,7 +1,7 @@
 use Rattle.std.proofs.Common.{◌+◌, Some, None, arith}
 use Rattle.lam_rules.specs.TermViews.{term_of}
 use Rattle.lam_scope.specs.Views.{statements_of}
-use Rattle.lam_typing.specs.Proving.{tree_in}
+use Rattle.lam_typing.specs.inner.Proving.{tree_in}
 use Rattle.lam_typing.proofs.BuiltSteps.{some_term, none_term}
 use Rattle.lam_typing.proofs.PlaceProofs.{place_within, inside_within, proof_at, past_all}
 use Rattle.lam_typing.proofs.grounds.Grounds.prove_at.Goals as goal

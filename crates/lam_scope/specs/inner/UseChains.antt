@@ -2,7 +2,7 @@
 use Rattle.std.specs.Prelude.{◌≡◌, ℕ, suc, ◌-◌, ◌<◌, ◌≤◌, List, [], ◌∷◌, length, map, slice_index_or}
 use Rattle.lam_token.specs.declared.span.Span.{Span}
 use Rattle.lam_scope.specs.declared.rows.UseRow.{UseRow}
-use Rattle.lam_scope.specs.Tables.{tokens_of}
+use Rattle.lam_scope.specs.Tables.{use_tokens}
 use Rattle.lam_scope.specs.TableViews.{text_use}
 
 -- the chain that begins at a use has these tokens, where the next of each use is known, of the last use first
@@ -13,4 +13,4 @@ pub data IsChain (us : List UseRow) (nexts : List ℕ) : ℕ → List Span → T
 
 -- at the first use of each binder begins the chain of its uses among these
 abbrev pub AreChains : (firsts nexts : List ℕ) (us these : List UseRow) → Type 0
-AreChains firsts nexts us these = (b : ℕ) → b < length firsts → IsChain us nexts (slice_index_or firsts b 0) (tokens_of b (map text_use these))
+AreChains firsts nexts us these = (b : ℕ) → b < length firsts → IsChain us nexts (slice_index_or firsts b 0) (use_tokens b (map text_use these))

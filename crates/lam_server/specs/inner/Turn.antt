@@ -9,7 +9,7 @@ use Rattle.lam_frame.specs.declared.fault.FrameFault.TheVariants.{NoLength, BadL
 use Rattle.lam_session.specs.State.{State, ended_status}
 use Rattle.lam_server.specs.Device.{Sends, FailsToSend, StopsSending}
 use Rattle.lam_server.specs.Output.{Takes, IsLive}
-use Rattle.lam_server.specs.Waiting.{Waiting, HasLessWork}
+use Rattle.lam_server.specs.inner.Waiting.{Waiting, HasLessWork}
 use Rattle.lam_server.specs.declared.faults.RunFault.{RunFault}
 use Rattle.lam_server.specs.declared.faults.RunFault.TheVariants.{Header, Device, Memory}
 use Rattle.lam_server.specs.declared.server.Turn.{Turn}

@@ -7,8 +7,8 @@ use Rattle.lam_rules.specs.declared.rules.Dialect.{Dialect}
 use Rattle.lam_scope.specs.Places.{written, of_term, Scope, Place}
 use Rattle.lam_scope.specs.Sights.{place_of_term, behind_term}
 use Rattle.lam_typing.specs.LeastTypes.{IsLeastAt}
-use Rattle.lam_typing.specs.Steps.{entry_at}
-use Rattle.lam_typing.specs.Notes.{Noted}
+use Rattle.lam_typing.specs.inner.Steps.{entry_at}
+use Rattle.lam_typing.specs.inner.Notes.{Noted}
 
 -- the place of a number, counted from 0
 abbrev pub place_among : List Place → ℕ → Place

@@ -8,7 +8,7 @@ use Rattle.lam_token.specs.declared.span.Span.{Span}
 use Rattle.lam_token.specs.Lexeme.{Lexeme, lexeme}
 use Rattle.lam_syntax.specs.declared.terms.Prefix.{Prefix}
 use Rattle.lam_syntax.specs.declared.terms.Prefix.TheVariants as prefix
-use Rattle.lam_syntax.specs.Trees.{Word, word, Bound, bound, TypeTree, type_tree, bool, nat, unit, top, named, arrow, record_type, TypeFields, no_type_fields, type_field, TermTree, term_tree, true_term, false_term, unit_term, variable, numeral, lambda, if_term, let_term, letrec_term, prefixed, apply, project, ascribe, record_term, TermFields, no_fields, field, CommandTree, definition, declaration, abbreviation, evaluation, from_to, type_span, term_span, spanning_type, spanning_term, joined_types, joined}
+use Rattle.lam_syntax.specs.Trees.{Word, word, Bound, bound, TypeTree, type_tree, bool, nat, unit, top, named, arrow, record_type, TypeFields, no_type_fields, type_field, TermTree, term_tree, true_term, false_term, unit_term, variable, numeral, lambda, if_term, let_term, letrec_term, prefixed, apply, project, ascribe, record_term, FieldTrees, no_fields, field, CommandTree, definition, declaration, abbreviation, evaluation, from_to, type_span, term_span, spanning_type, spanning_term, joined_types, joined}
 
 -- what a binder is for
 pub data Purpose : Type 0 where
@@ -30,7 +30,7 @@ mutual
     in_letrec : Span → Bound → TypeTree → InTerm → InTerm
     in_letrec_body : Span → Bound → TypeTree → TermTree → InTerm → InTerm
     in_parens : Span → InPath → InTerm
-    in_field : Span → (before : TermFields) → (label : Word) → InPath → InTerm
+    in_field : Span → (before : FieldTrees) → (label : Word) → InPath → InTerm
 
   -- what is begun where a path is read
   pub data InPath : Type 0 where
@@ -67,8 +67,8 @@ pub data State : Type 0 where
   after_asc : TermTree → InPath → State
   need_label : TermTree → InPath → State
   need_field : Span → InPath → State
-  next_field : Span → (before : TermFields) → InPath → State
-  after_label : Span → (before : TermFields) → (label : Word) → InPath → State
+  next_field : Span → (before : FieldTrees) → InPath → State
+  after_label : Span → (before : FieldTrees) → (label : Word) → InPath → State
 
 -- what a token, or the end, leads to
 pub data Next : Type 0 where
@@ -239,12 +239,12 @@ begin_field (Some (lexeme kind.Name l r)) s k = go (after_label s no_fields (wor
 begin_field o s k = stop
 
 -- what follows a comma in a record: a label
-abbrev pub more_field : Option Lexeme → Span → TermFields → InPath → Next
+abbrev pub more_field : Option Lexeme → Span → FieldTrees → InPath → Next
 more_field (Some (lexeme kind.Name l r)) s before k = go (after_label s before (word l r) k)
 more_field o s before k = stop
 
 -- what follows a label in a record: an equals sign
-abbrev pub label_next : Option Lexeme → Span → TermFields → Word → InPath → Next
+abbrev pub label_next : Option Lexeme → Span → FieldTrees → Word → InPath → Next
 label_next (Some (lexeme kind.Equals x c)) s before l k = go (need_term (in_field s before l k))
 label_next o s before l k = stop
 

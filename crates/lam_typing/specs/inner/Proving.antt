@@ -13,8 +13,8 @@ use Rattle.lam_rules.specs.declared.rules.TypeRule.{TypeRule}
 use Rattle.lam_scope.specs.Places.{Scope, Place}
 use Rattle.lam_scope.specs.Sights.{inside, inside_fields, place_of_term, behind_term}
 use Rattle.lam_typing.specs.Progress.{IsLowest, AreFieldsAt}
-use Rattle.lam_typing.specs.Seeing.{LeastAmong, Sees, SeesFields}
-use Rattle.lam_typing.specs.Grounds.{found_in, noted_in, dialect_in}
+use Rattle.lam_typing.specs.inner.Seeing.{LeastAmong, Sees, SeesFields}
+use Rattle.lam_typing.specs.inner.Grounds.{found_in, noted_in, dialect_in}
 use Rattle.lam_typing.specs.declared.grounds.Grounds.{Grounds}
 use Rattle.lam_typing.specs.declared.proving.Proven.{Proven}
 use Rattle.lam_typing.specs.declared.proving.ProvenFields.{ProvenFields}

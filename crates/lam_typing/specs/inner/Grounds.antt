@@ -4,7 +4,7 @@ use Rattle.lam_rules.specs.Types.{Typ}
 use Rattle.lam_rules.specs.declared.rules.Dialect.{Dialect}
 use Rattle.lam_scope.specs.Views.{statements_of}
 use Rattle.lam_scope.specs.declared.resolved.Resolved.{Resolved}
-use Rattle.lam_typing.specs.Notes.{Noted, noted_by, notes_of}
+use Rattle.lam_typing.specs.inner.Notes.{Noted, noted_by, notes_of}
 use Rattle.lam_typing.specs.Typings.{found_of, dialect_of, IsTypingOf}
 use Rattle.lam_typing.specs.declared.typing.Typing.{Typing}
 use Rattle.lam_typing.specs.declared.grounds.Grounds.{Grounds}

@@ -1,7 +1,7 @@
 -- Bounds of record types field by field, and pairs of types that have none of their own shape.
 use Rattle.lam_rules.specs.Types.{Label, Typ, arrow, record_of, Fields, no_fields, field, Has, IsAbsent}
 use Rattle.lam_rules.specs.declared.rules.Dialect.{Dialect}
-use Rattle.lam_lattice.specs.Bounds.{IsJoin, IsMeet, JoinsInOrder, MeetsInOrder}
+use Rattle.lam_lattice.specs.inner.Bounds.{IsJoin, IsMeet, JoinsInOrder, MeetsInOrder}
 
 -- they are not two arrows, nor two record types
 abbrev pub AreUnlike : Typ → Typ → Type 0

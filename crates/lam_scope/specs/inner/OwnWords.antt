@@ -27,7 +27,7 @@ abbrev mutual
   words_below n = []
 
   -- those in the terms of a record
-  pub words_in_fields : tree.TermFields → List OwnWord
+  pub words_in_fields : tree.FieldTrees → List OwnWord
   words_in_fields tree.no_fields = []
   words_in_fields (tree.field l t fs) = words_in t ++ words_in_fields fs
 

@@ -9,7 +9,8 @@ use Rattle.lam_scope.specs.declared.rename_fault.RenameFault.{RenameFault}
 use Rattle.lam_scope.specs.declared.rename_fault.RenameFault.TheVariants as fault
 use Rattle.lam_scope.specs.Names.{Name, binds}
 use Rattle.lam_scope.specs.Tables.{TextBinder, TextUse, binder_in, is_number}
-use Rattle.lam_scope.specs.Renames.{renamed_binder, other_kind}
+use Rattle.lam_scope.specs.Renames.{renamed_binder}
+use Rattle.lam_scope.specs.Mentions.{other_kind}
 
 -- whether a binder bears the new name then
 abbrev pub bears : (b : ℕ) → (new : Name) → TextBinder → Bool

@@ -8,7 +8,7 @@ use Rattle.lam_scope.specs.declared.numbers.Place.{Place as PlaceNumber}
 use Rattle.lam_scope.specs.declared.numbers.Origin.{Origin}
 use Rattle.lam_typing.specs.Entries.{entry_from}
 use Rattle.lam_typing.specs.Answers.{answers}
-use Rattle.lam_typing.specs.Notes.{entry_told}
+use Rattle.lam_typing.specs.inner.Notes.{entry_told}
 use Rattle.lam_typing.specs.Typings.{entries_in}
 use Rattle.lam_typing.specs.declared.noting.Source.{Source}
 use Rattle.lam_typing.specs.declared.fault.TypingFault.{TypingFault}

@@ -2,7 +2,7 @@
 use Rattle.std.specs.Prelude.{◌≡◌, ℕ, ◌+◌, Bool, true, not, ◌&&◌, ◌||◌, ◌==◌, nat_lt, nat_le, List, [], ◌∷◌, take, drop, if◌then◌else◌}
 use Rattle.lam_text.specs.declared.index.Mark.{Mark}
 use Rattle.lam_text.specs.Lines.{begins_with_lf}
-use Rattle.lam_text.specs.Index.{all_ascii, index_of}
+use Rattle.lam_text.specs.inner.Index.{all_ascii, index_of}
 
 -- the marks are the index of some text
 abbrev pub IsIndex : List Mark → Type 0

@@ -6,13 +6,13 @@ use Rattle.lam_rules.specs.Typing.{Context}
 use Rattle.lam_rules.specs.TermViews.{written_of}
 use Rattle.lam_scope.specs.Places.{Statement, defines, declares, abbreviates, states}
 use Rattle.lam_scope.specs.Sights.{inside, inside_fields, place_of_term, behind_term}
-use Rattle.lam_typing.specs.Entries.{written_in}
-use Rattle.lam_typing.specs.Steps.{entry_at}
+use Rattle.lam_typing.specs.inner.Steps.{entry_at}
 use Rattle.lam_typing.specs.declared.noting.Note.{Note}
 use Rattle.lam_typing.specs.declared.noting.Note.TheVariants.{Lambda, Variable, Nothing}
 use Rattle.lam_typing.specs.declared.noting.Source.{Source}
 use Rattle.lam_typing.specs.declared.noting.Source.TheVariants.{Written, Term as TermAt}
 use Rattle.lam_typing.specs.declared.noting.Notes.{Notes}
+use Rattle.lam_scope.specs.Bindings.{lambda_type}
 
 -- what is noted of a place: of a lambda the type that is written, of a variable the entry of the binder that it counts to
 pub record Noted : Type 0 where
@@ -26,7 +26,7 @@ bound_in g _ = None
 
 -- what is noted of a term in this context
 abbrev pub note : Context → Term → Noted
-note g e = record { written = written_in e; bound = bound_in g e }
+note g e = record { written = lambda_type e; bound = bound_in g e }
 
 -- the notes of the places of a term in this context, where the first one has the number k and these types were found of all places
 abbrev mutual

@@ -1,7 +1,7 @@
 -- How the reader goes along a header part: for its private functions alone.
 use Rattle.std.specs.Prelude.{◌≡◌, ℕ, List, ◌∷◌, ◌++◌, length, take, drop, if◌then◌else◌, Result, Err}
 use Rattle.std.specs.List.{prefix_len, after_first}
-use Rattle.lam_frame.specs.Header.{AreLines, IsSpoiled, IsUnfinished, IsMisplaced, IsBegunEnd, is_plain, header_text, body_length, has_colon, names_length, is_colon, trim, length_in}
+use Rattle.lam_frame.specs.Header.{AreLines, IsSpoiled, IsUnfinished, IsMisplaced, IsBegunEnd, is_header_byte, header_text, body_length, has_colon, names_length, is_colon, trim, length_in}
 use Rattle.lam_frame.specs.declared.fault.FrameFault.{FrameFault}
 use Rattle.lam_frame.specs.declared.fault.FrameFault.TheVariants.{NoLength, BadLength, BadHeader}
 use Rattle.lam_frame.specs.declared.header.Header.{Header}
@@ -11,11 +11,11 @@ use Rattle.lam_frame.specs.declared.header.Line.TheVariants.{Whole as WholeLine,
 
 -- the plain bytes in front
 abbrev pub plain_part : List ℕ → List ℕ
-plain_part bytes = take (prefix_len is_plain bytes) bytes
+plain_part bytes = take (prefix_len is_header_byte bytes) bytes
 
 -- what follows them
 abbrev pub plain_rest : List ℕ → List ℕ
-plain_rest bytes = drop (prefix_len is_plain bytes) bytes
+plain_rest bytes = drop (prefix_len is_header_byte bytes) bytes
 
 -- what the bytes begin with, by the byte behind the plain ones
 abbrev pub IsFirstLine : List ℕ → Line → Type 0

@@ -15,8 +15,8 @@ use Rattle.lam_syntax.specs.declared.terms.TmField.{TmField}
 use Rattle.lam_syntax.specs.declared.terms.Command.{Command}
 use Rattle.lam_syntax.specs.declared.types.WrittenTy.{WrittenTy}
 use Rattle.lam_syntax.specs.declared.types.TyField.{TyField}
-use Rattle.lam_syntax.specs.Trees.{word, Bound, TermTree, term_tree, term_span, prefixed, record_term, TermFields, no_fields, field, joined, TypeFields, no_type_fields, type_field, joined_types, type_tree, record_type, from_to}
-use Rattle.lam_syntax.specs.Run.{Purpose, InTerm, InPath, as_head, as_operand, after_binder, after_atom, next_field, ended_asc, ended_app, ended_term, applied, outside, tree, InType, need_term, after_atype, next_type_field, Next, go, stop, ended_type, Outcome, fault, run, look}
+use Rattle.lam_syntax.specs.Trees.{word, Bound, TermTree, term_tree, term_span, prefixed, record_term, FieldTrees, no_fields, field, joined, TypeFields, no_type_fields, type_field, joined_types, type_tree, record_type, from_to}
+use Rattle.lam_syntax.specs.inner.Run.{Purpose, InTerm, InPath, as_head, as_operand, after_binder, after_atom, next_field, ended_asc, ended_app, ended_term, applied, outside, tree, InType, need_term, after_atype, next_type_field, Next, go, stop, ended_type, Outcome, fault, run, look}
 use Rattle.lam_syntax.specs.Answers.{is_semicolon, has_tokens}
 use Rattle.lam_syntax.specs.Views.{word_of, bound_of, type_of, term_of, command_of}
 
@@ -115,13 +115,13 @@ prefixed_by None t = t
 prefixed_by (Some q) t = term_tree (from_to q.1 (term_span t)) (prefixed q.0 t)
 
 -- what follows a field of a record: a comma and more fields, or the closing brace
-abbrev pub fields_next : Option Lexeme → Span → TermFields → InPath → Next
+abbrev pub fields_next : Option Lexeme → Span → FieldTrees → InPath → Next
 fields_next (Some (lexeme kind.Comma x e)) s fs k = go (next_field s fs k)
 fields_next (Some (lexeme kind.CloseBrace x e)) s fs k = go (after_atom (term_tree (from_to s e) (record_term fs)) k)
 fields_next o s fs k = stop
 
 -- what follows a field of a record that was read behind others
-abbrev pub behind_field : Span → TermFields → InPath → TmField → List Lexeme → Outcome
+abbrev pub behind_field : Span → FieldTrees → InPath → TmField → List Lexeme → Outcome
 behind_field s before k f rest = look rest (λ o. fields_next o s (joined before (field (word_of f.label) (term_of f.term) no_fields)) k)
 
 -- what a command that is read to its end answers

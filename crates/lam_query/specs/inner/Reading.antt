@@ -7,7 +7,7 @@ use Rattle.lam_token.specs.Lexeme.{Lexeme, lexeme_at}
 use Rattle.lam_token.specs.Cut.{AreTokensOf, StandsIn}
 use Rattle.lam_syntax.specs.Trees.{CommandTree}
 use Rattle.lam_syntax.specs.Answers.{is_semicolon, pieces_of}
-use Rattle.lam_syntax.specs.Reads.{with_piece}
+use Rattle.lam_syntax.specs.inner.Reads.{with_piece}
 use Rattle.lam_syntax.specs.Views.{command_of}
 use Rattle.lam_syntax.specs.declared.terms.Command.{Command}
 use Rattle.lam_query.specs.declared.answers.Fault.{Fault as RustFault}

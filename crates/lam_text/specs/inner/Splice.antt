@@ -2,7 +2,7 @@
 use Rattle.std.specs.Prelude.{◌≡◌, ℕ, ◌+◌, ◌-◌, ◌≤◌, Bool, ◌&&◌, List, [], ◌∷◌, length, take, drop}
 use Rattle.lam_text.specs.declared.index.Mark.{Mark}
 use Rattle.lam_text.specs.Lines.{Lines, Cut, content, lines_of}
-use Rattle.lam_text.specs.Index.{all_ascii}
+use Rattle.lam_text.specs.inner.Index.{all_ascii}
 
 -- whether the first line is all ASCII
 abbrev pub first_ascii_on : Lines → Bool

@@ -5,7 +5,7 @@ use Rattle.lam_rules.specs.Subtyping.{IsBelow}
 use Rattle.lam_rules.specs.Terms.{Term, succ, pred, is_zero}
 use Rattle.lam_rules.specs.Typing.{Context}
 use Rattle.lam_rules.specs.declared.rules.Dialect.{Dialect}
-use Rattle.lam_lattice.specs.Bounds.{IsJoin}
+use Rattle.lam_lattice.specs.inner.Bounds.{IsJoin}
 
 -- a variable has its entry
 abbrev pub entry_at : ℕ → Context → Option Typ

@@ -1,0 +1,4 @@
+pub mod Answer
+pub mod Waiting
+pub mod Turn
+pub mod Ending

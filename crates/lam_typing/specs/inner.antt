@@ -1,0 +1,6 @@
+pub mod Steps
+pub mod Notes
+pub mod Seeing
+pub mod Ends
+pub mod Grounds
+pub mod Proving
