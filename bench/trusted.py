@@ -74,11 +74,11 @@ class File:
         return found
 
 
-def declared(block, declares=DECLARES):
+def declared(block):
     """The names that a block declares: of its definitions and of their cases. A record has its own alone: who asks for a part of it has
     the record from a definition."""
     lines = block[:1] if RECORD.match(block[0]) else block
-    found = (NAMED.match(line) for line in lines if declares.match(line))
+    found = (NAMED.match(line) for line in lines if DECLARES.match(line))
     return {it[1] for it in found if it} - {"mutual"}
 
 
@@ -154,7 +154,7 @@ def doubled(blocks, known):
     homes = collections.defaultdict(set)
     for module, numbers in blocks.items():
         for i in numbers:
-            for name in declared(known[module].blocks[i], TITLES):
+            for name in titles(known[module].blocks[i]):
                 homes[name].add(module)
     yield from (f"{name}: defined by {' and '.join(sorted(modules))}" for name, modules in sorted(homes.items()) if len(modules) > 1)
 
@@ -167,13 +167,15 @@ def table(modules, blocks, known):
         file = known[module]
         path = os.path.relpath(file.path, ROOT)
         count = sum(len(file.blocks[i]) for i in blocks[module])
-        beside = [NAMED.match(first_line(block))[1] for i, block in enumerate(file.blocks) if i not in blocks[module]]
+        beside = [name for i, block in enumerate(file.blocks) if i not in blocks[module] for name in titles(block)]
         yield f"| [{path.split('/', 2)[2]}](../{path}) | {file.about} | {count} | {', '.join(f'`{it}`' for it in beside)} |"
 
 
-def first_line(block):
-    """The line that names a block: the first of a mutual one stands behind that word."""
-    return block[1] if block[0].endswith("mutual") else block[0]
+def titles(block):
+    """The names that a block defines, in their order."""
+    lines = block[:1] if RECORD.match(block[0]) else block
+    found = (NAMED.match(line) for line in lines if TITLES.match(line))
+    return [it[1] for it in found if it and it[1] != "mutual"]
 
 
 def rust_types(others):
@@ -204,7 +206,8 @@ def page():
     order = in_order(blocks, known)
     yield "# What has to be believed"
     yield ""
-    yield "The contract of `run`, in [crates/lam_server/src/run.rt](../crates/lam_server/src/run.rt), is proved. Whoever wants to know what it says reads the definitions on which"
+    yield "The contract of `run`, in [crates/lam_server/src/run.rt](../crates/lam_server/src/run.rt), is proved, over any source and sink, which"
+    yield "[crates/lam_frame/src/device.rt](../crates/lam_frame/src/device.rt) describes (`Source`, `Sink`). Whoever wants to know what it says reads the definitions on which"
     yield f"it rests: {lines_of(blocks, known)} lines in {len(order)} files, without imports and comments, and what is named at the end of this page. Each file stands after those that it"
     yield "names. In the last column are the definitions of a file on which `run` does not rest. [How to read a definition](ARCHITECTURE.md#how-to-read-a-definition) tells the signs. This"
     yield "page is printed by `make trusted`, and the gate fails where it is not what that prints."

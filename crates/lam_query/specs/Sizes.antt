@@ -17,7 +17,7 @@ abbrev pub span_numbered : List CommandTree → ℕ → Span
 span_numbered commands n = (term_of (tree_in (document_terms commands) n)).span
 
 -- The size fault of a document: the first written type in the text whose expansion has more than 4,096 nodes; where there is none, the first term
--- whose least type has.
+-- whose least type has, where each term comes after its parts.
 pub data IsSizeFault : List CommandTree → Span → Dialect → Type 0 where
   of_written_type : {commands : List CommandTree} {s : Span} {d : Dialect} → first_too_large [] commands ≡ Some s → IsSizeFault commands s d
   of_term : {commands : List CommandTree} {d : Dialect} (n : ℕ)

@@ -18,7 +18,7 @@ pub record Step : Type 0 where
   pub conclusion : Conclusion
   pub premises : List ℕ
 
--- A tree of conclusions, each above its premises.
+-- A tree of conclusions, each the root of the trees of its premises.
 mutual
   pub data Proof : Type 0 where
     concludes : Conclusion → (premises : Proofs) → Proof

@@ -21,7 +21,7 @@ fault_of_token (lexeme kind.BadCharacter text span) = Some (fault_at (codes "B1"
 fault_of_token (lexeme kind.BadComment text span) = Some (fault_at (codes "B2") span)
 fault_of_token t = None
 
--- the fault that a piece has as a whole: none where it is a command, and none of its own where a token of it is one
+-- the fault that a piece has as a whole: that it is too long; else none where a token of it is a fault by itself, or where it is a command; else where it goes wrong
 pub data PieceFault : List Lexeme → Option Fault → Type 0 where
   too_long : {ts : List Lexeme} {first last : Lexeme}
       → token_limit < length ts → slice_get ts 0 ≡ Some first → slice_get ts (length ts - 1) ≡ Some last

@@ -22,7 +22,7 @@ GoesFieldByField (field k s fs) (field l t gs) (claim ∷ claims) =
     (k ≡ l) × (claim.lower ≡ s) × (claim.upper ≡ t) × GoesFieldByField fs gs claims
 GoesFieldByField _ _ _ = ⊥
 
--- the same fields in some order: the first one stands somewhere among the second, and the others are a permutation of what is left there
+-- the same fields in some order: the first of these stands somewhere among those, and the rest are a permutation of what is left there
 abbrev pub IsPermutation : Fields → Fields → Type 0
 IsPermutation no_fields gs = gs ≡ no_fields
 IsPermutation (field l t rest) gs =

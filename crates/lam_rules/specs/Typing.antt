@@ -21,7 +21,7 @@ abbrev pub IsWellFormedEntry : Option Typ → Type 0
 IsWellFormedEntry None = Unit {0}
 IsWellFormedEntry (Some t) = IsWellFormed t
 
--- in each type of a context they are
+-- in each type of a context labels are distinct
 abbrev pub IsWellFormedContext : Context → Type 0
 IsWellFormedContext [] = Unit {0}
 IsWellFormedContext (entry ∷ context) = IsWellFormedEntry entry × IsWellFormedContext context

@@ -127,7 +127,7 @@ mentions cs = mentions_from [] [] cs
 
 -- What is bound to what.
 
--- the token of the binder that the mention is or uses whose token begins at byte o; none where there is no such mention, or it is free
+-- the token of the binder that the mention is or uses whose token begins at byte o; none where there is no such mention, or it is free or a label
 abbrev pub bound_at : ℕ → List Mention → Option Span
 bound_at o [] = None
 bound_at o (m ∷ ms) = if (token_of m).start == o then binder_of m else bound_at o ms

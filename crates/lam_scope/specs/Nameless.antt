@@ -25,7 +25,7 @@ prefixed prefix.Succ e = succ e
 prefixed prefix.Pred e = pred e
 prefixed prefix.IsZero e = is_zero e
 
--- The nameless form of a term that sees these abbreviations and these binders of names. A letrec is the let of a fix that it stands for.
+-- The nameless term of a term of the text that sees these abbreviations and these binders of names. A letrec is the let of a fix that it stands for.
 abbrev mutual
   pub nameless : List Abbreviation → List (Option Name) → TermTree → Term
   nameless bs xs (term_tree s n) = nameless_node bs xs n

@@ -29,7 +29,7 @@ pub record PlacedTerm : Type 0 where
   pub is_written : Bool
   -- the names of the binders that it sees, the innermost first; an underscore has none
   pub names : List (Option Name)
-  -- these binders by what they take their types from, and the nameless form
+  -- these binders by what they take their types from, and the nameless term
   pub place : Place
 
 -- A term with its parts, which are its immediate terms.

@@ -24,6 +24,8 @@ use std::alloc::Global;
 /// gave; after a device's fault or want of memory they say it of a front of the answers, which has all that was owed
 /// before the last pull. A pull that fails finds all answered, taken and flushed (`failed_pull`). That an answer is out
 /// before a pull that does not fail is said of `turn`; when memory is wanting is said nowhere.
+/// That the edits of a rename leave binding as it was, and in which texts there are faults of types, follows from what is
+/// told by two laws of lam_query, `renames_keep_binding` and `no_fault_is_well_typed`.
 ///
 /// Which output is allowed depends on the bytes and the dialect alone: every input has one, but for which derivation of a
 /// shown type is given, and what begins the output for some bytes begins it for any more of them.

@@ -34,7 +34,7 @@ pub record GoesWrongAt (ts : List Lexeme) (k : ℕ) : Type 0 where
   pub before : Begins (take k ts)
   pub through : Begins (take (k + 1) ts) → ⊥
 
--- some command starts with these tokens, and they are none yet
+-- some command starts with these tokens, and they are no command themselves
 pub record EndsEarly (ts : List Lexeme) : Type 0 where
   pub begins : Begins ts
   pub none : (c : CommandTree) → Spells ts c → ⊥

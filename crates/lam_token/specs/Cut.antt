@@ -17,7 +17,7 @@ abbrev pub NothingLonger : List ℕ → List ℕ → Type 0
 NothingLonger text cs = (front after : List ℕ) → text ≡ front ++ after → length cs < length front → shape_of front ≡ None
 
 -- Of a text that begins with these characters and goes on with those others, the first segment, of this sort: the longest
--- front with a shape; where none has one, all of it behind the mark that opens a comment, and else a single character.
+-- front with a shape; where none has one, all of it where it begins with the mark that opens a comment, and else a single character.
 pub data IsFirst : Segment → List ℕ → List ℕ → Type 0 where
   longest : {s : Segment} {cs rest : List ℕ} → shape_of cs ≡ Some s → NothingLonger (cs ++ rest) cs → IsFirst s cs rest
   unclosed : {cs rest : List ℕ} → NothingBegins (cs ++ rest) → opens_comment (cs ++ rest) ≡ true → rest ≡ [] → IsFirst (Token BadComment) cs rest

@@ -14,7 +14,7 @@ words =
     ∷ (codes "true", True) ∷ (codes "false", False) ∷ (codes "unit", UnitTerm) ∷ (codes "as", As)
     ∷ (codes "Bool", BoolType) ∷ (codes "Nat", NatType) ∷ (codes "Unit", UnitType) ∷ (codes "Top", TopType) ∷ []
 
--- the kind that a text has among words of which each has one, if it is one of them
+-- the kind of a text, if it is one of these words, each of which has a kind
 abbrev pub kind_among : List (List ℕ × Kind) → List ℕ → Option Kind
 kind_among [] text = None
 kind_among (w ∷ ws) text = if bytes_eq text w.0 then Some w.1 else kind_among ws text

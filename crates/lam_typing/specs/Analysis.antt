@@ -23,7 +23,7 @@ abbrev pub AreSmall : List (Option Typ) → Type 0
 AreSmall [] = Unit {0}
 AreSmall (o ∷ os) = IsSmallType o × AreSmall os
 
--- a place with a least type of more nodes
+-- a place with a least type of more nodes than a type may have
 abbrev pub IsTooLarge : Place → Dialect → Type 0
 IsTooLarge p d = (t : Typ) × IsLeastAt p.scope p.here (Some t) d × (node_limit < nodes t)
 
