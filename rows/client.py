@@ -408,11 +408,12 @@ class Script:
         self.saved = os.path.join(os.path.dirname(self.row.file), rest)
 
 
-def ran(program, script, given):
+def ran(program, script, given, **started):
+    """The program's run on this input; `started` are words of subprocess, as the environment in which it is started."""
     words = [os.path.abspath(program), *script.row.arguments]
     if script.dialect == "2":
         words += ["--dialect", "2"]
-    return subprocess.run(words, input=given, capture_output=True, timeout=SECONDS, check=False)
+    return subprocess.run(words, input=given, capture_output=True, timeout=SECONDS, check=False, **started)
 
 
 def bodies_of(output):

@@ -17,6 +17,14 @@ HERE = os.path.dirname(os.path.realpath(__file__))
 BUILT = os.path.join(HERE, "..", "crates", "lam_server", "out", "lam_server")
 
 
+def built(named):
+    """The programs that were named, else those that the gate built."""
+    programs = named or [it for it in (BUILT, BUILT + ".by-rattle") if os.path.isfile(it)]
+    if not programs:
+        sys.exit("there is no program to play against: run make, or name one by --program")
+    return programs
+
+
 def plays(file):
     """Each way in which the file's rows are to be played, and its mistakes as complaints."""
     rows, mistakes = Reader(file).read()
@@ -83,9 +91,7 @@ def main():
     words.add_argument("--show", action="store_true", help="print the files that were played, too")
     words.add_argument("rows", nargs="*", help="row files (else all of this folder, and the wrong ones of wrong/, which must fail)")
     given = words.parse_args()
-    programs = given.program or [it for it in (BUILT, BUILT + ".by-rattle") if os.path.isfile(it)]
-    if not programs:
-        sys.exit("there is no program to play against: run make, or name one by --program")
+    programs = built(given.program)
     files = given.rows or sorted(glob.glob(f"{HERE}/*.rows"))
     right, wrong = count_right(programs, [os.path.relpath(it) for it in files])
     for file in files if given.show else []:
