@@ -1,9 +1,10 @@
 # `make` proves and builds the program, `make test` is the merge gate with the rows of rows/ behind it, `make rows` plays these alone,
-# `make dear` tells what the proofs cost, `make attack` tries further wrong bodies, `make bench` prints figures.
+# `make hostile` plays sessions while memory is refused, `make dear` tells what the proofs cost, `make attack` tries further wrong bodies,
+# `make bench` prints figures.
 PREFIX ?= $(HOME)/.local
 NAME ?=
 
-.PHONY: all test rows install dear attack bench
+.PHONY: all test rows hostile install dear attack bench
 
 all:
 	python3 bench/build.py
@@ -13,6 +14,9 @@ test:
 
 rows:
 	python3 rows/play.py
+
+hostile:
+	python3 bench/memory.py
 
 install: all
 	install -D crates/lam_server/out/lam_server $(PREFIX)/bin/lam_server

@@ -1,6 +1,7 @@
 #!/usr/bin/env python3
 """gate.py: the merge gate. It runs `rt ci`, that is every proof from nothing, the tests and the edits that must fail, then plays the rows
-against the program as both compilers build it, and prints what all of it took. The last line counts both: 'N passed, M failed'."""
+against the program as both compilers build it, plays sessions while memory is refused to it, and prints what all of it took. The last line
+counts all of this: 'N passed, M failed'."""
 
 import os
 import re
@@ -12,6 +13,8 @@ import time
 ROOT = os.path.join(os.path.dirname(os.path.realpath(__file__)), "..")
 COUNT = re.compile(r"(\d+) passed, (\d+) failed$")
 
+# What is played after `rt ci`, against the program that it built.
+BEHIND = (("rows", "rows/play.py"), ("refused memory", "bench/memory.py"))
 
 # What one check takes of memory at most, in bytes.
 A_CHECK = 5 << 30
@@ -46,13 +49,16 @@ def main():
     os.environ.setdefault("RT_JOBS", str(lanes()))
     proofs = counted(["rt", "ci"])
     print(f"proofs, tests and edits: {proofs[0]} right, {proofs[1]} wrong", flush=True)
-    middle = time.monotonic()
-    rows = counted([sys.executable, f"{ROOT}/rows/play.py"])
-    print(f"rows: {rows[0]} right, {rows[1]} wrong, in {time.monotonic() - middle:.0f} s")
+    counts = [proofs]
+    for name, script in BEHIND:
+        middle = time.monotonic()
+        counts.append(counted([sys.executable, f"{ROOT}/{script}"]))
+        print(f"{name}: {counts[-1][0]} right, {counts[-1][1]} wrong, in {time.monotonic() - middle:.0f} s", flush=True)
     used = resource.getrusage(resource.RUSAGE_CHILDREN)
     print(f"{(time.monotonic() - start) / 60:.0f} minutes, {(used.ru_utime + used.ru_stime) / 60:.0f} of processor time")
-    print(f"{proofs[0] + rows[0]} passed, {proofs[1] + rows[1]} failed")
-    return 1 if proofs[1] or rows[1] else 0
+    passed, failed = map(sum, zip(*counts))
+    print(f"{passed} passed, {failed} failed")
+    return 1 if failed else 0
 
 
 if __name__ == "__main__":
