@@ -31,6 +31,7 @@ sys.path.insert(0, ROWS)
 from client import SECONDS, Script, framed, ran
 from play import built, plays
 from read import Block, Row
+from running import Running
 
 # The two ends of a run that are right; any other is told in words of its own.
 REFUSED = "ended with status 5 and F7 Memory"
@@ -148,15 +149,10 @@ def opening(text):
 
 def address_space(program, script):
     """The most address space, in bytes, that the program takes until all of the session is answered."""
-    *frames, end = (frame for frame, _ in script.sent)
-    with subprocess.Popen([program], stdin=subprocess.PIPE, stdout=subprocess.PIPE) as run:
-        run.stdin.write(b"".join(frames))
-        run.stdin.flush()
-        run.stdout.read(len(answer_of(script)))
-        with open(f"/proc/{run.pid}/status", encoding="utf-8") as status:
-            peak = next(line for line in status if line.startswith("VmPeak:"))
-        run.stdin.write(end)
-    return 1024 * int(peak.split()[1])
+    with Running(program, script) as run:
+        run.give(b"".join(frame for frame, _ in script.sent[:-1]))
+        run.take(len(answer_of(script)))
+        return 1024 * int(run.status("VmPeak"))
 
 
 def end_under(program, script, limit):
