@@ -1,6 +1,6 @@
 # `make` proves and builds the program, `make test` is the merge gate with the rows of rows/ behind it, `make rows` plays these alone,
-# `make hostile` plays sessions while memory is refused, `make trusted` prints what has to be believed, `make dear` tells what the proofs
-# cost, `make attack` tries further wrong bodies, `make bench` prints figures.
+# `make hostile` plays sessions while memory is refused, devices fail and signals come, `make trusted` prints what has to be believed,
+# `make dear` tells what the proofs cost, `make attack` tries further wrong bodies, `make bench` prints figures.
 PREFIX ?= $(HOME)/.local
 NAME ?=
 
@@ -17,6 +17,7 @@ rows:
 
 hostile:
 	python3 bench/memory.py
+	python3 bench/process.py
 
 install: all
 	install -D crates/lam_server/out/lam_server $(PREFIX)/bin/lam_server

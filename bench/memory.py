@@ -31,6 +31,7 @@ sys.path.insert(0, ROWS)
 from client import SECONDS, Script, framed, ran
 from play import built, plays
 from read import Block, Row
+from running import Running
 
 # The two ends of a run that are right; any other is told in words of its own.
 REFUSED = "ended with status 5 and F7 Memory"
@@ -47,9 +48,14 @@ COMMANDS = 340_000
 LIMITS = 10
 
 
-def fronts(script):
-    """What has been written before the first answer, after the first one, after the second, and so on to the last."""
-    return list(itertools.accumulate((framed(it.body) for it in script.wanted), initial=b""))
+def answer_of(script):
+    """All that must be written."""
+    return b"".join(framed(it.body) for it in script.wanted)
+
+
+def borders_of(script):
+    """How many bytes of it have been written before the first answer, after the first one, and so on to the last."""
+    return set(itertools.accumulate((len(framed(it.body)) for it in script.wanted), initial=0))
 
 
 def end_of(program, script, **started):
@@ -58,14 +64,14 @@ def end_of(program, script, **started):
         done = ran(program, script, b"".join(frame for frame, _ in script.sent), **started)
     except subprocess.TimeoutExpired:
         return f"no end after {SECONDS} seconds"
-    written, told = fronts(script), done.stderr.decode(errors="replace")
-    if done.stdout not in written:
+    answer, told = answer_of(script), done.stderr.decode(errors="replace")
+    if not answer.startswith(done.stdout) or len(done.stdout) not in borders_of(script):
         return f"wrote {len(done.stdout)} bytes that are no frames of the answers, at their end {done.stdout[-80:]!r}"
     if (done.returncode, told) == (5, "lam_server: F7 Memory\n"):
         return REFUSED
-    if (done.returncode, told, done.stdout) == (script.status, script.says, written[-1]):
+    if (done.returncode, told, done.stdout) == (script.status, script.says, answer):
         return ANSWERED
-    return f"ended with status {done.returncode} after {len(done.stdout)} of {len(written[-1])} bytes, and said {told!r}"
+    return f"ended with status {done.returncode} after {len(done.stdout)} of {len(answer)} bytes, and said {told!r}"
 
 
 # Allocations are refused.
@@ -143,15 +149,10 @@ def opening(text):
 
 def address_space(program, script):
     """The most address space, in bytes, that the program takes until all of the session is answered."""
-    *frames, end = (frame for frame, _ in script.sent)
-    with subprocess.Popen([program], stdin=subprocess.PIPE, stdout=subprocess.PIPE) as run:
-        run.stdin.write(b"".join(frames))
-        run.stdin.flush()
-        run.stdout.read(len(fronts(script)[-1]))
-        with open(f"/proc/{run.pid}/status", encoding="utf-8") as status:
-            peak = next(line for line in status if line.startswith("VmPeak:"))
-        run.stdin.write(end)
-    return 1024 * int(peak.split()[1])
+    with Running(program, script) as run:
+        run.give(b"".join(frame for frame, _ in script.sent[:-1]))
+        run.take(len(answer_of(script)))
+        return 1024 * int(run.status("VmPeak"))
 
 
 def end_under(program, script, limit):

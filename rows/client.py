@@ -408,12 +408,15 @@ class Script:
         self.saved = os.path.join(os.path.dirname(self.row.file), rest)
 
 
+def command_line(program, script):
+    """The words by which the program is started for the script."""
+    words = [os.path.abspath(program), *script.row.arguments]
+    return [*words, "--dialect", "2"] if script.dialect == "2" else words
+
+
 def ran(program, script, given, **started):
     """The program's run on this input; `started` are words of subprocess, as the environment in which it is started."""
-    words = [os.path.abspath(program), *script.row.arguments]
-    if script.dialect == "2":
-        words += ["--dialect", "2"]
-    return subprocess.run(words, input=given, capture_output=True, timeout=SECONDS, check=False, **started)
+    return subprocess.run(command_line(program, script), input=given, capture_output=True, timeout=SECONDS, check=False, **started)
 
 
 def bodies_of(output):
