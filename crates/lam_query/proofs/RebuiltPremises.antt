@@ -8,15 +8,16 @@ use Rattle.lam_token.specs.declared.span.Span.{Span}
 use Rattle.lam_rules.specs.Types.{Typ}
 use Rattle.lam_rules.specs.TypeViews.{typ_of}
 use Rattle.lam_rules.specs.declared.types.Ty.{Ty}
-use Rattle.lam_rules.specs.Subtyping.{sub_step, sub_first}
+use Rattle.lam_rules.specs.Subtyping.{sub_step}
 use Rattle.lam_rules.specs.SubViews.{sub_tree_of, sub_trees_of, sub_trees_made}
-use Rattle.lam_rules.specs.Typing.{TypingTree, typing_step, typing_first}
-use Rattle.lam_rules.specs.TypingViews.{typing_tree_of, typings_of, typings_made}
+use Rattle.lam_rules.specs.Typing.{TypingTree, typing_step}
+use Rattle.lam_rules.specs.TypingViews.{typing_tree_of, typings_made}
 use Rattle.lam_rules.specs.declared.rules.SubRule.{SubRule}
 use Rattle.lam_rules.specs.declared.rules.TypeRule.{TypeRule}
 use Rattle.lam_rules.specs.declared.typing.TypeProof.{TypeProof, roll-TypeProof}
 use Rattle.lam_rules.specs.declared.subtyping.SubProof.{SubProof, SubProof-F, roll-SubProof, out-roll-SubProof}
-use Rattle.lam_rules.proofs.SubShapes.{sub_tree_of-node}
+use Rattle.lam_rules.proofs.SubShapes.{sub_tree_of-node, sub_trees_made-map}
+use Rattle.lam_rules.proofs.TypingShapes.{typings_made-map}
 use Rattle.lam_typing.proofs.BuiltSteps.{step_tree}
 use Rattle.lam_query.specs.declared.rebuilding.Premises.{Premises as RustPremises}
 use Rattle.lam_query.specs.declared.rebuilding.Rebuilt.{Rebuilt as RustRebuilt}
@@ -28,14 +29,6 @@ use Rattle.lam_query.specs.inner.Rebuilding.{Rebuilt, are_lasts, taken_off, with
 use Rattle.lam_query.proofs.RebuiltTrees.{proof_found, no_proof}
 
 -- a proof that is made is its tree from those of its premises
-
-typings_made-map : (ps : List TypeProof) → typings_made (map typing_tree_of ps) ≡ typings_of ps
-typings_made-map [] = refl
-typings_made-map (p ∷ ps) = ap (λ rest. typing_first (typing_tree_of p) rest) (typings_made-map ps)
-
-sub_trees_made-map : (qs : List SubProof) → sub_trees_made (map sub_tree_of qs) ≡ sub_trees_of qs
-sub_trees_made-map [] = refl
-sub_trees_made-map (q ∷ qs) = ap (λ rest. sub_first (sub_tree_of q) rest) (sub_trees_made-map qs)
 
 pub typing_made : (rule : TypeRule) (ty : Ty) (t : Typ) (span : Span) (made : RustPremises) (ts : List Tree) → typ_of ty ≡ t → Some (premises_of made) ≡ typing_premises ts
     → Some (of_typing (typing_tree_of (roll-TypeProof record { rule = rule; ty = ty; typing = made.typing; sub = made.sub }))) ≡ tree_from (typing rule span t) ts

@@ -9,7 +9,7 @@ use Rattle.lam_rules.specs.SubViews.{sub_trees_made, sub_tree_step, sub_tree_of,
 use Rattle.lam_rules.specs.TypeViews.{typ_of, fields_of}
 use Rattle.lam_rules.specs.declared.subtyping.SubProof.{SubProof, out-SubProof, fold_out-SubProof}
 
-sub_trees_made-map : (ps : List SubProof) → sub_trees_made (map sub_tree_of ps) ≡ sub_trees_of ps
+pub sub_trees_made-map : (ps : List SubProof) → sub_trees_made (map sub_tree_of ps) ≡ sub_trees_of ps
 sub_trees_made-map [] = refl
 sub_trees_made-map (p ∷ ps) = ap (λ rest. sub_first (sub_tree_of p) rest) (sub_trees_made-map ps)
 

@@ -14,7 +14,7 @@ use Rattle.lam_rules.specs.declared.typing.Entries.{Entries, fold-roll-Entries}
 use Rattle.lam_rules.specs.declared.typing.Entries.TheOpen.{Entries-F}
 use Rattle.lam_rules.specs.declared.typing.Entries.TheVariants.{Given, Under, rolls-Given, rolls-Under}
 
-typings_made-map : (ps : List TypeProof) → typings_made (map typing_tree_of ps) ≡ typings_of ps
+pub typings_made-map : (ps : List TypeProof) → typings_made (map typing_tree_of ps) ≡ typings_of ps
 typings_made-map [] = refl
 typings_made-map (p ∷ ps) = ap (λ rest. typing_first (typing_tree_of p) rest) (typings_made-map ps)
 

@@ -56,7 +56,7 @@ scalars-append : (xs ys : List ℕ) → all_scalars (xs ++ ys) ≡ (all_scalars 
 scalars-append [] ys = refl
 scalars-append (x ∷ xs) ys = let others = scalars-append xs ys in grind arith
 
-scalars_both : (xs ys : List ℕ) → all_scalars xs ≡ true → all_scalars ys ≡ true → all_scalars (xs ++ ys) ≡ true
+pub scalars_both : (xs ys : List ℕ) → all_scalars xs ≡ true → all_scalars ys ≡ true → all_scalars (xs ++ ys) ≡ true
 scalars_both xs ys first last = scalars-append xs ys ∙ rw (first, last) refl
 
 pub scalars_parts : (xs ys : List ℕ) → all_scalars (xs ++ ys) ≡ true → (all_scalars xs ≡ true) × (all_scalars ys ≡ true)

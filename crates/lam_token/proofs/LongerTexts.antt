@@ -13,9 +13,9 @@ use Rattle.lam_token.specs.Cut.{IsFirst, Part, IsCut, with_token, tokens_of, Are
 use Rattle.lam_token.proofs.Cuts.{some_characters}
 use Rattle.lam_token.proofs.NextSegment.{StartsAlike, first_alike, front_alike}
 use Rattle.lam_token.proofs.Exchanged.{size, joined, cut_joined}
-use Rattle.lam_token.proofs.EditedTexts.{scalars_parts}
+use Rattle.lam_token.proofs.EditedTexts.{scalars_both, scalars_parts}
 use Rattle.lam_token.proofs.BlankEnds.{blank_ends}
-use Rattle.lam_token.proofs.SimpleTexts.{AllGood, simple_text, simple_parts, simple_begins, simple_cut, simple_kinds, simple_text-scalars, scalars_both}
+use Rattle.lam_token.proofs.SimpleTexts.{AllGood, simple_text, simple_parts, simple_begins, simple_cut, simple_kinds, simple_text-scalars}
 
 -- ---- another end
 

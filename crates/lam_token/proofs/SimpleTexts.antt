@@ -17,6 +17,7 @@ use Rattle.lam_token.specs.Lexeme.{kind_of}
 use Rattle.lam_token.specs.Cut.{NothingLonger, IsFirst, longest, Part, IsCut, tokens_of}
 use Rattle.lam_token.proofs.Shapes.{not_alone}
 use Rattle.lam_token.proofs.BlankEnds.{shaped_first}
+use Rattle.lam_token.proofs.EditedTexts.{scalars_both}
 
 -- ---- a lexeme of each kind
 
@@ -197,13 +198,6 @@ pub simple_kinds : (ks : List Kind) (start : ℕ) → map kind_of (tokens_of sta
 unfolding simple_parts blank
 simple_kinds [] start = refl
 simple_kinds (k ∷ ks) start = ap (λ l. k ∷ l) (simple_kinds ks _)
-
-scalars-append : (xs ys : List ℕ) → all_scalars (xs ++ ys) ≡ (all_scalars xs && all_scalars ys)
-scalars-append [] ys = refl
-scalars-append (x ∷ xs) ys = let others = scalars-append xs ys in grind arith
-
-pub scalars_both : (xs ys : List ℕ) → all_scalars xs ≡ true → all_scalars ys ≡ true → all_scalars (xs ++ ys) ≡ true
-scalars_both xs ys first last = scalars-append xs ys ∙ rw (first, last) refl
 
 pub simple_text-scalars : (ks : List Kind) → all_scalars (simple_text ks) ≡ true
 simple_text-scalars [] = refl

@@ -63,6 +63,7 @@ premise_put t ps (Some q) = None
 premise_put (of_typing p) ps None = Some (record { typings = ps ++ p ∷ []; side = None })
 premise_put (of_subtyping q) ps None = Some (record { typings = ps; side = Some q })
 
+-- the same of premises that stand together
 abbrev pub with_premise : Tree → Premises → Option Premises
 with_premise t ps = premise_put t ps.typings ps.side
 
