@@ -76,9 +76,9 @@ module _ {V : Type 0} (items : V → List ℕ) where
     after_body (Err TooManyTurns) last left a = a
     after_body (Err Spent) last left a = a
 
-    limit_body : (answer : Result V FrameFault) → with_body answer ≡ Err TooManyTurns → answer ≡ Err TooManyTurns
-    limit_body (Ok body) e = absurd (cc e)
-    limit_body (Err fault) e = let same : fault ≡ TooManyTurns = cc e in ap (λ (f : FrameFault). Err f) same
+    fault_body : (answer : Result V FrameFault) (other : FrameFault) → with_body answer ≡ Err other → answer ≡ Err other
+    fault_body (Ok body) other e = absurd (cc e)
+    fault_body (Err fault) other e = let same : fault ≡ other = cc e in ap (λ (f : FrameFault). Err f) same
 
     cut_header : (fault : FrameFault) → IsCutOff {V = Option V} (Err fault) → IsCutOff {V = Option ℕ} (Err fault)
     cut_header Device c = tt
@@ -116,6 +116,7 @@ module _ {V : Type 0} (items : V → List ℕ) where
       says = says_header (held ++ concat r.pieces) r.pieces fault held_after r.says;
       counted = r.counted;
       few = r.few;
+      room = λ e. let same : fault ≡ Device = cc e in r.room (ap (λ (f : FrameFault). Err f) same);
       limit = λ e. let same : fault ≡ TooManyTurns = cc e in r.limit (ap (λ (f : FrameFault). Err f) same);
     }
 
@@ -146,5 +147,6 @@ module _ {V : Type 0} (items : V → List ℕ) where
               (λ none. let sizes = ap length (sym none ∙ all) in absurd (omega (arith, sizes, length-append text part, length-append (ended_lines h.says.0.lines) (13 ∷ 10 ∷ [])))) b.says;
           counted = omega (arith, h.counted, b.counted, length-append h.pieces b.pieces);
           few = b.few;
-          limit = λ e. b.limit (limit_body answer e);
+          room = λ e. b.room (fault_body answer Device e);
+          limit = λ e. b.limit (fault_body answer TooManyTurns e);
         }

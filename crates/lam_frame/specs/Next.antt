@@ -57,6 +57,7 @@ pub record Reads {S V : Type 0} (coming : S → Option (List ℕ)) (failed : S �
   pub says : Said (held ++ concat pieces) pieces answer held_after
   pub counted : pulls_after ≡ pulls + length pieces
   pub few : pulls_after ≤ 2 ^ 48
+  pub room : answer ≡ Err Device → pulls_after < 2 ^ 48
   pub limit : answer ≡ Err TooManyTurns → pulls_after ≡ 2 ^ 48
 
 -- ---- what an answer of `next` says

@@ -1,5 +1,5 @@
 -- What a turn makes of what the reader answered and of what answering did.
-use Rattle.std.proofs.Common.{◌≡◌, ◌≤◌, ℕ, ◌^◌, List, ◌++◌, Option, Some, None, Result, Ok, Err, refl, sym, ◌∙◌, subst}
+use Rattle.std.proofs.Common.{◌≡◌, ◌<◌, ◌≤◌, ℕ, ◌^◌, List, ◌++◌, Option, Some, None, Result, Ok, Err, refl, sym, ◌∙◌, subst}
 use Rattle.std.specs.List.{concat}
 use Rattle.serde_json.specs.Data.{Data}
 use Rattle.lam_frame.specs.Frame.{HasFrame, IsOpen}
@@ -108,7 +108,7 @@ module _ {S V W : Type 0} (items : V → List ℕ) (coming : S → Option (List 
   turn_unread held pulls old source sink TooLong held_after pulls_after source_after r = turn held pulls old source sink (Err TooLong) held_after pulls_after source_after sink (Err (Header TooLong)) r (r.says, (r.after, refl))
   turn_unread held pulls old source sink BadHeader held_after pulls_after source_after r = turn held pulls old source sink (Err BadHeader) held_after pulls_after source_after sink (Err (Header BadHeader)) r (r.says, (r.after, refl))
   turn_unread held pulls old source sink Truncated held_after pulls_after source_after r = turn held pulls old source sink (Err Truncated) held_after pulls_after source_after sink (Err (Header Truncated)) r (r.says, (r.after, refl))
-  turn_unread held pulls old source sink Device held_after pulls_after source_after r = turn held pulls old source sink (Err Device) held_after pulls_after source_after sink (Err DeviceRun) r (at_pull (r.says, r.onward tt) r.after refl)
+  turn_unread held pulls old source sink Device held_after pulls_after source_after r = turn held pulls old source sink (Err Device) held_after pulls_after source_after sink (Err DeviceRun) r (at_pull (r.says, r.onward tt) (subst (λ (n : ℕ). n < 2 ^ 48) r.counted (r.room refl)) r.after refl)
   turn_unread held pulls old source sink Memory held_after pulls_after source_after r = turn held pulls old source sink (Err Memory) held_after pulls_after source_after sink (Err MemoryRun) r (before_sending refl, r.after)
   turn_unread held pulls old source sink TooManyTurns held_after pulls_after source_after r =
       turn held pulls old source sink (Err TooManyTurns) held_after pulls_after source_after sink (Err DeviceRun) r (at_limit (r.says, r.onward tt) (sym r.counted ∙ r.limit refl) r.after refl)

@@ -20,7 +20,7 @@ module _ {S W : Type 0} (coming : S → Option (List ℕ)) (failed : S → ℕ) 
     at_device : (r : Runs coming failed gave taken flushed sink_failed start source sink (Err Device) source_after sink_after)
         → DeviceEnds coming failed taken flushed sink_failed start r.pieces r.last sink r.out source_after sink_after
         → FindsAllAnswered coming failed gave taken flushed sink_failed start source sink (Err Device) source_after sink_after
-    at_device r (at_pull awaits failure sends) = record {
+    at_device r (at_pull awaits room failure sends) = record {
       pieces = r.pieces;
       last = r.last;
       out = r.out;

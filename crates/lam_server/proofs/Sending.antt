@@ -1,5 +1,5 @@
 -- Bytes that are sent in several calls are sent as one.
-use Rattle.std.proofs.Common.{◌≡◌, ◌<◌, ℕ, ◌+◌, List, [], ◌∷◌, ◌++◌, length, drop, map, false, Option, Err, refl, sym, ap, ◌∙◌, subst, append_assoc, append-nil, get_or, suc, drop-cons, add-one}
+use Rattle.std.proofs.Common.{◌≡◌, ◌<◌, ℕ, ◌+◌, List, [], ◌∷◌, ◌++◌, length, drop, map, false, Option, IsSome, Err, refl, sym, ap, ◌∙◌, subst, append_assoc, append-nil, get_or, suc, drop-cons, add-one}
 use Rattle.std.specs.List.{All}
 use Rattle.std.specs.Io.KnownBytes.{Appends}
 use Rattle.std.proofs.KnownBytes.{Appends-nil, Appends-trans}
@@ -35,7 +35,7 @@ counts_failure V fault n m is e = e ∙ ap (λ (f : FrameFault). failures_after 
 
 module _ {W : Type 0} (taken : W → Option (List ℕ)) (flushed : W → Option ℕ) (failed : W → ℕ) where
   pub Sends-nothing : (sink : W) → Sends taken flushed failed sink [] sink
-  Sends-nothing sink = record { appended = Appends-nil (taken sink); flushed_all = refl; unfailed = refl }
+  Sends-nothing sink = record { appended = Appends-nil (taken sink); told = λ some. some; flushed_all = refl; unfailed = refl }
 
   flushed_on : (first second : List ℕ) (old middle new : W) → IsFlushedAfter taken flushed old first middle → IsFlushedAfter taken flushed middle second new → IsFlushedAfter taken flushed old (first ++ second) new
   flushed_on [] second old middle new p q = subst (λ (w : W). IsFlushedAfter taken flushed w second new) (sym p) q
@@ -45,6 +45,7 @@ module _ {W : Type 0} (taken : W → Option (List ℕ)) (flushed : W → Option 
   pub Sends-both : (old middle new : W) (first second : List ℕ) → Sends taken flushed failed old first middle → Sends taken flushed failed middle second new → Sends taken flushed failed old (first ++ second) new
   Sends-both old middle new first second p q = record {
     appended = Appends-trans (taken old) (taken middle) (taken new) first second p.appended q.appended;
+    told = λ some. q.told (p.told some);
     flushed_all = flushed_on first second old middle new p.flushed_all q.flushed_all;
     unfailed = q.unfailed ∙ p.unfailed;
   }
@@ -72,8 +73,8 @@ module _ {W : Type 0} (taken : W → Option (List ℕ)) (flushed : W → Option 
   unfolding frame_text header_line
   flushed_frame old new body p = p
 
-  pub Sends-frame : (old new : W) (body : List ℕ) → Appends (taken old) (taken new) (frame_text body) → IsFlushed (taken new) (flushed new) → failed new ≡ failed old → Sends taken flushed failed old (frame_text body) new
-  Sends-frame old new body p q r = record { appended = p; flushed_all = flushed_frame old new body q; unfailed = r }
+  pub Sends-frame : (old new : W) (body : List ℕ) → Appends (taken old) (taken new) (frame_text body) → (IsSome (flushed old) → IsSome (flushed new)) → IsFlushed (taken new) (flushed new) → failed new ≡ failed old → Sends taken flushed failed old (frame_text body) new
+  Sends-frame old new body p t q r = record { appended = p; told = t; flushed_all = flushed_frame old new body q; unfailed = r }
 
   -- ---- value after value
 
@@ -115,13 +116,13 @@ module _ {W : Type 0} (taken : W → Option (List ℕ)) (flushed : W → Option 
   pub sent_at : (values : List Value) (i : ℕ) (value : Value) (text : List ℕ) (old middle new : W) → i < length values → value ≡ get_or values i value
       → All (λ v. has_float (view v) ≡ false) values → (has_float (view value) ≡ false → text ≡ compact_text (view value))
       → SentBefore (map view values) (map view (drop i values)) old middle
-      → Appends (taken middle) (taken new) (frame_text text) → IsFlushed (taken new) (flushed new) → failed new ≡ failed middle
+      → Appends (taken middle) (taken new) (frame_text text) → (IsSome (flushed middle) → IsSome (flushed new)) → IsFlushed (taken new) (flushed new) → failed new ≡ failed middle
       → SentBefore (map view values) (map view (drop (i + 1) values)) old new
-  sent_at values i value text old middle new below at plain is s p q r =
+  sent_at values i value text old middle new below at plain is s p t q r =
       let same = text_at values i value text below at plain is in
       one_more_sent (map view values) (map view (drop (i + 1) values)) (view value) old middle new
       (subst (λ (l : List Data). SentBefore (map view values) l old middle) (values_from values i value below at) s)
-      (subst (λ (l : List ℕ). Sends taken flushed failed middle (frame_text l) new) same (Sends-frame middle new text p q r))
+      (subst (λ (l : List ℕ). Sends taken flushed failed middle (frame_text l) new) same (Sends-frame middle new text p t q r))
 
   pub failed_at : (values : List Value) (i : ℕ) (value : Value) (text : List ℕ) (old middle new : W) → i < length values → value ≡ get_or values i value
       → All (λ v. has_float (view v) ≡ false) values → (has_float (view value) ≡ false → text ≡ compact_text (view value))

@@ -54,7 +54,7 @@ module _ {S W : Type 0} (coming : S → Option (List ℕ)) (failed : S → ℕ) 
 
   device_front : (start : State) (pieces : List (List ℕ)) (out input left : List ℕ) (last source_after : S) (sink sink_after : W) → input ≡ concat pieces ++ left → AnswersAllButOnePiece start (concat pieces) out
       → DeviceEnds coming failed taken flushed sink_failed start pieces last sink out source_after sink_after → AnswersFront start input left (taken sink) (taken sink_after)
-  device_front start pieces out input left last source_after sink sink_after split answered (at_pull a failure sends) =
+  device_front start pieces out input left last source_after sink sink_after split answered (at_pull a room failure sends) =
       front start input left (concat pieces) out (taken sink) (taken sink_after) split (front_of start (concat pieces) out a.0) answered sends.appended
   device_front start pieces out input left last source_after sink sink_after split answered (at_limit a limit same sends) =
       front start input left (concat pieces) out (taken sink) (taken sink_after) split (front_of start (concat pieces) out a.0) answered sends.appended
@@ -67,7 +67,7 @@ module _ {S W : Type 0} (coming : S → Option (List ℕ)) (failed : S → ℕ) 
 
   kept_by_device : (start : State) (pieces : List (List ℕ)) (out : List ℕ) (last source_after : S) (sink sink_after : W) → DeviceEnds coming failed taken flushed sink_failed start pieces last sink out source_after sink_after
       → Keeps (coming last) (coming source_after)
-  kept_by_device start pieces out last source_after sink sink_after (at_pull a failure sends) = failure.kept
+  kept_by_device start pieces out last source_after sink sink_after (at_pull a room failure sends) = failure.kept
   kept_by_device start pieces out last source_after sink sink_after (at_limit a limit same sends) = kept_at last source_after same
   kept_by_device start pieces out last source_after sink sink_after (at_sink f in_answer appended counted same) = kept_at last source_after same
 

@@ -1,5 +1,5 @@
 -- A run, as far as it has come: turn after turn, and then how it ends.
-use Rattle.std.proofs.Common.{◌≡◌, ◌≢◌, ◌≤◌, ℕ, ◌+◌, ◌^◌, List, [], ◌∷◌, ◌++◌, length, Option, Some, None, Result, Ok, Err, refl, sym, ap, ◌∙◌, subst, arith, append_assoc, append-nil, length-append}
+use Rattle.std.proofs.Common.{◌≡◌, ◌≢◌, ◌<◌, ◌≤◌, ℕ, ◌+◌, ◌^◌, List, [], ◌∷◌, ◌++◌, length, Option, Some, None, Result, Ok, Err, refl, sym, ap, ◌∙◌, subst, arith, append_assoc, append-nil, length-append}
 use Rattle.std.specs.List.{concat}
 use Rattle.std.proofs.KnownBytes.{Appends-trans}
 use Rattle.std.proofs.lemmas.List.Folds.{concat-append}
@@ -149,6 +149,9 @@ module _ {S W : Type 0} (coming : S → Option (List ℕ)) (failed : S → ℕ) 
     heard_few : (pieces : List (List ℕ)) → server.pulls + length pieces ≤ 2 ^ 48 → length (w.pieces ++ pieces) ≤ 2 ^ 48
     heard_few pieces few = omega (arith, few, w.counted, length-append w.pieces pieces)
 
+    heard_room : (pieces : List (List ℕ)) → server.pulls + length pieces < 2 ^ 48 → length (w.pieces ++ pieces) < 2 ^ 48
+    heard_room pieces room = omega (arith, room, w.counted, length-append w.pieces pieces)
+
     -- the session goes on
     pub walk_on : (next : Waiting) (source_after : S) (sink_after : W) → TakesTurn coming failed gave taken flushed sink_failed server source_now sink_now (Ok (More next)) source_after sink_after
         → Walked start source sink next source_after sink_after
@@ -230,9 +233,9 @@ module _ {S W : Type 0} (coming : S → Option (List ℕ)) (failed : S → ℕ) 
 
     says_device : (pieces : List (List ℕ)) (last source_after : S) (sink_after : W) → DeviceStops coming failed taken sink_failed server (server.held ++ concat pieces) pieces last sink_now source_after sink_after
         → (more : List ℕ) × RunSays coming failed taken flushed sink_failed start (w.pieces ++ pieces) last sink (w.out ++ more) (Err Device) source_after sink_after
-    says_device pieces last source_after sink_after (turn_at_pull wants failure unsent) =
+    says_device pieces last source_after sink_after (turn_at_pull wants room failure unsent) =
         sends_nothing pieces last (Err Device) source_after sink_after
-        (at_pull (awaits_more pieces wants) failure (still sink_after unsent))
+        (at_pull (awaits_more pieces wants) (heard_room pieces room) failure (still sink_after unsent))
     says_device pieces last source_after sink_after (turn_at_limit wants limit same unsent) =
         sends_nothing pieces last (Err Device) source_after sink_after
         (at_limit (awaits_more pieces wants) (sym (heard_count pieces (2 ^ 48) (sym limit))) same (still sink_after unsent))

@@ -1,5 +1,5 @@
 -- What sending does to a sink.
-use Rattle.std.specs.Prelude.{◌≡◌, ℕ, ◌+◌, List, [], ◌∷◌, ◌++◌, Option}
+use Rattle.std.specs.Prelude.{◌≡◌, ℕ, ◌+◌, List, [], ◌∷◌, ◌++◌, Option, IsSome}
 use Rattle.std.specs.Io.KnownBytes.{Appends}
 use Rattle.serde_json.specs.Data.{Data}
 use Rattle.lam_frame.specs.Device.{AppendsFront, IsFlushed}
@@ -10,9 +10,10 @@ abbrev pub IsFlushedAfter : {W : Type 0} → (W → Option (List ℕ)) → (W �
 IsFlushedAfter taken flushed old [] new = old ≡ new
 IsFlushedAfter taken flushed old (_ ∷ _) new = IsFlushed (taken new) (flushed new)
 
--- the sink took exactly these bytes, all are flushed, and no call failed
+-- the sink took exactly these bytes, all are flushed, and no call failed; one that told how many are flushed tells it still
 pub record Sends {W : Type 0} (taken : W → Option (List ℕ)) (flushed : W → Option ℕ) (failed : W → ℕ) (old : W) (out : List ℕ) (new : W) : Type 0 where
   pub appended : Appends (taken old) (taken new) out
+  pub told : IsSome (flushed old) → IsSome (flushed new)
   pub flushed_all : IsFlushedAfter taken flushed old out new
   pub unfailed : failed new ≡ failed old
 

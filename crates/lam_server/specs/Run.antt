@@ -1,5 +1,5 @@
 -- What a run does, from the first turn to the last.
-use Rattle.std.specs.Prelude.{◌≡◌, ℕ, ◌+◌, ◌^◌, ◌≤◌, List, [], ◌++◌, length, Option, Some, None, Result, Ok, Err}
+use Rattle.std.specs.Prelude.{◌≡◌, ℕ, ◌+◌, ◌^◌, ◌<◌, ◌≤◌, List, [], ◌++◌, length, Option, Some, None, Result, Ok, Err}
 use Rattle.std.specs.List.{concat}
 use Rattle.std.specs.Io.KnownBytes.{Appends}
 use Rattle.lam_frame.specs.Device.{FailedPull}
@@ -27,7 +27,7 @@ AwaitsMore start pieces out = IsAwaiting start (concat pieces) out × (EndsEmpty
 -- a pull that was due failed; or it was one too many; or the sink failed, somewhere in the answer to one message
 pub data DeviceEnds {S W : Type 0} (coming : S → Option (List ℕ)) (source_failed : S → ℕ) (taken : W → Option (List ℕ)) (flushed : W → Option ℕ) (sink_failed : W → ℕ)
     (start : State) (pieces : List (List ℕ)) (last : S) (sink : W) (out : List ℕ) (source_after : S) (sink_after : W) : Type 0 where
-  at_pull : AwaitsMore start pieces out → FailedPull coming source_failed last source_after → Sends taken flushed sink_failed sink out sink_after
+  at_pull : AwaitsMore start pieces out → length pieces < 2 ^ 48 → FailedPull coming source_failed last source_after → Sends taken flushed sink_failed sink out sink_after
       → DeviceEnds coming source_failed taken flushed sink_failed start pieces last sink out source_after sink_after
   at_limit : AwaitsMore start pieces out → length pieces ≡ 2 ^ 48 → last ≡ source_after → Sends taken flushed sink_failed sink out sink_after
       → DeviceEnds coming source_failed taken flushed sink_failed start pieces last sink out source_after sink_after

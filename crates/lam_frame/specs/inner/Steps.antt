@@ -50,7 +50,7 @@ abbrev pub PullsMore : {S : Type 0} → (S → Option (List ℕ)) → (S → ℕ
 PullsMore coming failed gave held pulls source (Ok n) held_after pulls_after source_after =
     PulledPiece coming failed gave held source n held_after source_after × ((pulls_after ≡ pulls + 1) × (pulls < 2 ^ 48))
 PullsMore coming failed gave held pulls source (Err Device) held_after pulls_after source_after =
-    FailedPull coming failed source source_after × (pulls_after ≡ pulls)
+    FailedPull coming failed source source_after × ((pulls_after ≡ pulls) × (pulls < 2 ^ 48))
 PullsMore coming failed gave held pulls source (Err TooManyTurns) held_after pulls_after source_after =
     (source ≡ source_after) × ((pulls_after ≡ pulls) × (pulls ≡ 2 ^ 48))
 PullsMore coming failed gave held pulls source (Err _) held_after pulls_after source_after = ⊥

@@ -1,5 +1,5 @@
 -- What a turn does: with the bytes held and pulled, with the session, and with the sink.
-use Rattle.std.specs.Prelude.{◌≡◌, ◌≢◌, ℕ, ◌+◌, ◌^◌, ◌≤◌, List, [], ◌++◌, length, Option, Some, Result, Ok, Err}
+use Rattle.std.specs.Prelude.{◌≡◌, ◌≢◌, ℕ, ◌+◌, ◌^◌, ◌<◌, ◌≤◌, List, [], ◌++◌, length, Option, Some, Result, Ok, Err}
 use Rattle.std.specs.List.{concat}
 use Rattle.lam_frame.specs.Device.{FailedPull}
 use Rattle.lam_frame.specs.Frame.{HasFault, IsOpen}
@@ -52,7 +52,7 @@ pub data Ends {W : Type 0} (taken : W → Option (List ℕ)) (flushed : W → Op
 -- a pull that was due failed; or it was one too many; or the sink failed, while it was given the answer
 pub data DeviceStops {S W : Type 0} (coming : S → Option (List ℕ)) (source_failed : S → ℕ) (taken : W → Option (List ℕ)) (sink_failed : W → ℕ)
     (old : Waiting) (heard : List ℕ) (pieces : List (List ℕ)) (last : S) (sink : W) (source_after : S) (sink_after : W) : Type 0 where
-  at_pull : WantsMore heard pieces → FailedPull coming source_failed last source_after → sink ≡ sink_after
+  at_pull : WantsMore heard pieces → old.pulls + length pieces < 2 ^ 48 → FailedPull coming source_failed last source_after → sink ≡ sink_after
       → DeviceStops coming source_failed taken sink_failed old heard pieces last sink source_after sink_after
   at_limit : WantsMore heard pieces → old.pulls + length pieces ≡ 2 ^ 48 → last ≡ source_after → sink ≡ sink_after
       → DeviceStops coming source_failed taken sink_failed old heard pieces last sink source_after sink_after

@@ -11,5 +11,5 @@ returns-in_default-write_frame g c =
 pub loop-value-preserved : goal.loop-value-preserved
 loop-value-preserved g c =
     sent_at g.W.Sink.taken g.W.Sink.flushed g.W.Sink.failed c.args.values.now c.loop-value.value-index c.value-item.result c.as_bytes.result.now _ _ _ c.loop-value-test.true c.value-item.is
-    c.requires.plain (λ plain. c.as_bytes.ensures.value ∙ c.in-Ok.ensures.text plain) c.loop-value.invariant c.in-Ok-write_frame.ensures.taken c.in-Ok-write_frame.ensures.flushed
+    c.requires.plain (λ plain. c.as_bytes.ensures.value ∙ c.in-Ok.ensures.text plain) c.loop-value.invariant c.in-Ok-write_frame.ensures.taken c.in-Ok-write_frame.ensures.told c.in-Ok-write_frame.ensures.flushed
     c.in-Ok-write_frame.ensures.failures
