@@ -1,6 +1,7 @@
 //! A run: turn after turn, to the end.
 
 ghost use Rattle.std.specs.Prelude.{◌-◌, ◌^◌, ◌<◌, List, ℕ};
+ghost use Rattle.lam_frame.specs.Device.{source_of, sink_of};
 ghost use Rattle.lam_session.specs.State.{fresh, dialect_of};
 ghost use Rattle.lam_server.specs.Laws.{FailedPullFindsAllAnswered, HasOneOutput, OutputGrows};
 ghost use Rattle.lam_server.specs.Run.{AnswersWhereTold, Runs};
@@ -38,8 +39,8 @@ pub fn run<R: Source, W: Sink>(
     requires source { R.failed reader.old < 2 ^ 64 - 1 }
     requires sink { W.failed writer.old < 2 ^ 64 - 1 }
     ensures told { AnswersWhereTold (fresh (dialect_of config)) (R.coming reader.old) (R.coming reader.new) result (W.taken writer.old) (W.taken writer.new) }
-    ensures runs { Runs R.coming R.failed R.gave W.taken W.flushed W.failed (fresh (dialect_of config)) reader.old writer.old result reader.new writer.new }
-    ensures failed_pull { FailedPullFindsAllAnswered R.coming R.failed R.gave W.taken W.flushed W.failed (fresh (dialect_of config)) reader.old writer.old result reader.new writer.new }
+    ensures runs { Runs (source_of R.coming R.failed R.gave) (sink_of W.taken W.flushed W.failed) (fresh (dialect_of config)) reader.old writer.old result reader.new writer.new }
+    ensures failed_pull { FailedPullFindsAllAnswered (source_of R.coming R.failed R.gave) (sink_of W.taken W.flushed W.failed) (fresh (dialect_of config)) reader.old writer.old result reader.new writer.new }
     ensures one_output { (input : List ℕ) → HasOneOutput (fresh (dialect_of config)) input }
     ensures grows { (bytes : List ℕ) → OutputGrows (fresh (dialect_of config)) bytes }
 {
