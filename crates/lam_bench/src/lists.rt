@@ -3,7 +3,8 @@
 use crate::documents::{Uses, document};
 use crate::fault::BenchFault;
 use crate::watch::Watch;
-use lam_query::{Analysis, Item, complete};
+use lam_query::answers::Item;
+use lam_query::{Analysis, complete};
 use lam_rules::Dialect;
 use std::alloc::{AllocError, Global};
 use std::rt::Clock;
