@@ -2,6 +2,7 @@
 use Rattle.std.proofs.Common.{◌≡◌, ◌≢◌, ◌<◌, length, ℕ, List, [], ◌∷◌, ◌++◌, Option, Some, Result, Ok, Err, refl, sym, ap, ◌∙◌, subst, arith, append_assoc, length-append}
 use Rattle.std.specs.List.{concat}
 use Rattle.std.proofs.lemmas.List.Folds.{concat-append}
+use Rattle.lam_frame.specs.Device.{SourceView}
 use Rattle.lam_frame.specs.declared.fault.FrameFault.{FrameFault}
 use Rattle.lam_frame.specs.declared.fault.FrameFault.TheVariants.{NoLength, BadLength, TooLong, BadHeader, Truncated, Device, Memory, TooManyTurns, Spent}
 use Rattle.lam_frame.specs.Frame.{IsOpen}
@@ -52,8 +53,8 @@ module _ {V : Type 0} (items : V → List ℕ) where
   says_body first heard held part left size front back (Err BadHeader) h e some s = absurd s
   says_body first heard held part left size front back (Err Spent) h e some s = absurd s
 
-  module _ {S : Type 0} (coming : S → Option (List ℕ)) (failed : S → ℕ) (gave : S → List ℕ → S → Type 0) where
-    after_header : (fault : FrameFault) (last left : S) → After {V = Option ℕ} coming failed last (Err fault) left → After {V = Option V} coming failed last (Err fault) left
+  module _ {S : Type 0} (from : SourceView S) where
+    after_header : (fault : FrameFault) (last left : S) → After {V = Option ℕ} from last (Err fault) left → After {V = Option V} from last (Err fault) left
     after_header NoLength last left a = a
     after_header BadLength last left a = a
     after_header TooLong last left a = a
@@ -64,7 +65,7 @@ module _ {V : Type 0} (items : V → List ℕ) where
     after_header TooManyTurns last left a = a
     after_header Spent last left a = a
 
-    after_body : (answer : Result V FrameFault) (last left : S) → After coming failed last answer left → After coming failed last (with_body answer) left
+    after_body : (answer : Result V FrameFault) (last left : S) → After from last answer left → After from last (with_body answer) left
     after_body (Ok body) last left a = a
     after_body (Err NoLength) last left a = a
     after_body (Err BadLength) last left a = a
@@ -76,9 +77,9 @@ module _ {V : Type 0} (items : V → List ℕ) where
     after_body (Err TooManyTurns) last left a = a
     after_body (Err Spent) last left a = a
 
-    limit_body : (answer : Result V FrameFault) → with_body answer ≡ Err TooManyTurns → answer ≡ Err TooManyTurns
-    limit_body (Ok body) e = absurd (cc e)
-    limit_body (Err fault) e = let same : fault ≡ TooManyTurns = cc e in ap (λ (f : FrameFault). Err f) same
+    fault_body : (answer : Result V FrameFault) (other : FrameFault) → with_body answer ≡ Err other → answer ≡ Err other
+    fault_body (Ok body) other e = absurd (cc e)
+    fault_body (Err fault) other e = let same : fault ≡ other = cc e in ap (λ (f : FrameFault). Err f) same
 
     cut_header : (fault : FrameFault) → IsCutOff {V = Option V} (Err fault) → IsCutOff {V = Option ℕ} (Err fault)
     cut_header Device c = tt
@@ -104,8 +105,8 @@ module _ {V : Type 0} (items : V → List ℕ) where
     cut_body (Err Spent) c = c
 
     pub no_header : (held : List ℕ) (pulls : ℕ) (source : S) (fault : FrameFault) (held_after : List ℕ) (pulls_after : ℕ) (left : S)
-        → Reads coming failed gave IsOpen SaysHeader held pulls source (Err fault) held_after pulls_after left
-        → Reads coming failed gave IsOpen (Says items) held pulls source (Err fault) held_after pulls_after left
+        → Reads from IsOpen SaysHeader held pulls source (Err fault) held_after pulls_after left
+        → Reads from IsOpen (Says items) held pulls source (Err fault) held_after pulls_after left
     no_header held pulls source fault held_after pulls_after left r = record {
       pieces = r.pieces;
       last = r.last;
@@ -116,13 +117,14 @@ module _ {V : Type 0} (items : V → List ℕ) where
       says = says_header (held ++ concat r.pieces) r.pieces fault held_after r.says;
       counted = r.counted;
       few = r.few;
+      room = λ e. let same : fault ≡ Device = cc e in r.room (ap (λ (f : FrameFault). Err f) same);
       limit = λ e. let same : fault ≡ TooManyTurns = cc e in r.limit (ap (λ (f : FrameFault). Err f) same);
     }
 
     pub header_and_body : (held : List ℕ) (pulls : ℕ) (source : S) (size : ℕ) (held_between : List ℕ) (pulls_between : ℕ) (between : S) (answer : Result V FrameFault) (held_after : List ℕ) (pulls_after : ℕ) (left : S)
-        → Reads coming failed gave IsOpen SaysHeader held pulls source (Ok (Some size)) held_between pulls_between between
-        → Reads coming failed gave (λ (heard : List ℕ). length heard < size) (SaysBody items size) held_between pulls_between between answer held_after pulls_after left
-        → Reads coming failed gave IsOpen (Says items) held pulls source (with_body answer) held_after pulls_after left
+        → Reads from IsOpen SaysHeader held pulls source (Ok (Some size)) held_between pulls_between between
+        → Reads from (λ (heard : List ℕ). length heard < size) (SaysBody items size) held_between pulls_between between answer held_after pulls_after left
+        → Reads from IsOpen (Says items) held pulls source (with_body answer) held_after pulls_after left
     header_and_body held pulls source size held_between pulls_between between answer held_after pulls_after left h b =
         let text = header_text h.says.0.lines in
         let heard_is : held ++ concat h.pieces ≡ text ++ held_between = h.says.0.header.text in
@@ -130,15 +132,15 @@ module _ {V : Type 0} (items : V → List ℕ) where
         let all : held ++ concat (h.pieces ++ b.pieces) ≡ text ++ part =
         ap (λ (l : List ℕ). held ++ l) (concat-append h.pieces b.pieces) ∙ sym (append_assoc held (concat h.pieces) (concat b.pieces)) ∙ ap (λ (l : List ℕ). l ++ concat b.pieces) heard_is
         ∙ append_assoc text held_between (concat b.pieces) in
-        let behind : PulledWhile coming failed gave IsOpen (text ++ held_between) between b.pieces b.last =
-        PulledWhile-front coming failed gave (λ (heard : List ℕ). length heard < size) IsOpen text held_between between b.last b.pieces
+        let behind : PulledWhile from IsOpen (text ++ held_between) between b.pieces b.last =
+        PulledWhile-front from (λ (heard : List ℕ). length heard < size) IsOpen text held_between between b.last b.pieces
         (λ heard less. body_open (held ++ concat h.pieces) held_between heard size h.says.0 less) b.needed in
         record {
           pieces = h.pieces ++ b.pieces;
           last = b.last;
-          needed = PulledWhile-append coming failed gave IsOpen held source between b.last h.pieces b.pieces
-              (subst (λ (s : S). PulledWhile coming failed gave IsOpen held source h.pieces s) h.after h.needed)
-              (subst (λ (l : List ℕ). PulledWhile coming failed gave IsOpen l between b.pieces b.last) (sym heard_is) behind);
+          needed = PulledWhile-append from IsOpen held source between b.last h.pieces b.pieces
+              (subst (λ (s : S). PulledWhile from IsOpen held source h.pieces s) h.after h.needed)
+              (subst (λ (l : List ℕ). PulledWhile from IsOpen l between b.pieces b.last) (sym heard_is) behind);
           stopped = stopped_behind h.pieces b.pieces h.says.1 b.stopped;
           onward = λ cut e. not_ended_behind h.pieces b.pieces h.says.1 (b.onward (cut_body answer cut)) e;
           after = after_body answer b.last left b.after;
@@ -146,5 +148,6 @@ module _ {V : Type 0} (items : V → List ℕ) where
               (λ none. let sizes = ap length (sym none ∙ all) in absurd (omega (arith, sizes, length-append text part, length-append (ended_lines h.says.0.lines) (13 ∷ 10 ∷ [])))) b.says;
           counted = omega (arith, h.counted, b.counted, length-append h.pieces b.pieces);
           few = b.few;
-          limit = λ e. b.limit (limit_body answer e);
+          room = λ e. b.room (fault_body answer Device e);
+          limit = λ e. b.limit (fault_body answer TooManyTurns e);
         }

@@ -5,6 +5,7 @@ use Rattle.std.specs.Io.KnownBytes.{Consumes, IsAtEnd}
 use Rattle.std.proofs.lemmas.List.{nil_from_length}
 use Rattle.std.proofs.KnownBytes.{Consumes-nil, Consumes-trans}
 use Rattle.std.proofs.lemmas.List.Folds.{concat-append}
+use Rattle.lam_frame.specs.Device.{SourceView}
 use Rattle.lam_frame.specs.Next.{EndsEmpty, OnlyLastEmpty, PulledWhile}
 use Rattle.lam_frame.specs.inner.Steps.{NoneEmpty, PulledPiece}
 
@@ -43,32 +44,32 @@ not_ended_behind front [] f b e = not_ended front f (subst EndsEmpty (append-nil
 not_ended_behind front (x ∷ back) f b e = b (same_last front x back e.0 e.1)
 
 -- pulls while P, from these bytes held and this source to these bytes heard and that source
-pub record Pulling {S : Type 0} (coming : S → Option (List ℕ)) (failed : S → ℕ) (gave : S → List ℕ → S → Type 0) (P : List ℕ → Type 0)
+pub record Pulling {S : Type 0} (from : SourceView S) (P : List ℕ → Type 0)
     (held : List ℕ) (pulls : ℕ) (source : S) (heard : List ℕ) (count : ℕ) (last : S) : Type 0 where
   pub pieces : List (List ℕ)
-  pub needed : PulledWhile coming failed gave P held source pieces last
+  pub needed : PulledWhile from P held source pieces last
   pub some : NoneEmpty pieces
   pub heard_is : heard ≡ held ++ concat pieces
   pub counted : count ≡ pulls + length pieces
   pub few : count ≤ 2 ^ 48
 
 -- the same, and then a pull that gave nothing
-pub record Ended {S : Type 0} (coming : S → Option (List ℕ)) (failed : S → ℕ) (gave : S → List ℕ → S → Type 0) (P : List ℕ → Type 0)
+pub record Ended {S : Type 0} (from : SourceView S) (P : List ℕ → Type 0)
     (held : List ℕ) (pulls : ℕ) (source : S) (heard : List ℕ) (count : ℕ) (last : S) : Type 0 where
   pub pieces : List (List ℕ)
-  pub needed : PulledWhile coming failed gave P held source pieces last
+  pub needed : PulledWhile from P held source pieces last
   pub stopped : OnlyLastEmpty pieces
   pub ended : EndsEmpty pieces
   pub heard_is : heard ≡ held ++ concat pieces
   pub counted : count ≡ pulls + length pieces
   pub few : count ≤ 2 ^ 48
 
-module _ {S : Type 0} (coming : S → Option (List ℕ)) (failed : S → ℕ) (gave : S → List ℕ → S → Type 0) where
+module _ {S : Type 0} (from : SourceView S) where
   pub PulledWhile-append : (P : List ℕ → Type 0) (held : List ℕ) (source middle last : S) (front back : List (List ℕ))
-      → PulledWhile coming failed gave P held source front middle → PulledWhile coming failed gave P (held ++ concat front) middle back last
-      → PulledWhile coming failed gave P held source (front ++ back) last
+      → PulledWhile from P held source front middle → PulledWhile from P (held ++ concat front) middle back last
+      → PulledWhile from P held source (front ++ back) last
   PulledWhile-append P held source middle last [] back f b =
-      subst (λ (s : S). PulledWhile coming failed gave P held s back last) (sym f) (subst (λ (h : List ℕ). PulledWhile coming failed gave P h middle back last) (append-nil held) b)
+      subst (λ (s : S). PulledWhile from P held s back last) (sym f) (subst (λ (h : List ℕ). PulledWhile from P h middle back last) (append-nil held) b)
   PulledWhile-append P held source middle last (piece ∷ front) back f b = (
     f.0,
     f.1,
@@ -76,13 +77,13 @@ module _ {S : Type 0} (coming : S → Option (List ℕ)) (failed : S → ℕ) (g
       f.2.0,
       f.2.1,
       PulledWhile-append P (held ++ piece) f.2.0 middle last front back f.2.2
-          (subst (λ (h : List ℕ). PulledWhile coming failed gave P h middle back last) (sym (append_assoc held piece (concat front))) b),
+          (subst (λ (h : List ℕ). PulledWhile from P h middle back last) (sym (append_assoc held piece (concat front))) b),
     ),
   )
 
   -- what holds behind some bytes, holds with them in front
   pub PulledWhile-front : (P Q : List ℕ → Type 0) (front held : List ℕ) (source last : S) (pieces : List (List ℕ)) → ((heard : List ℕ) → P heard → Q (front ++ heard))
-      → PulledWhile coming failed gave P held source pieces last → PulledWhile coming failed gave Q (front ++ held) source pieces last
+      → PulledWhile from P held source pieces last → PulledWhile from Q (front ++ held) source pieces last
   PulledWhile-front P Q front held source last [] into p = p
   PulledWhile-front P Q front held source last (piece ∷ pieces) into p = (
     into held p.0,
@@ -90,38 +91,38 @@ module _ {S : Type 0} (coming : S → Option (List ℕ)) (failed : S → ℕ) (g
     (
       p.2.0,
       p.2.1,
-      subst (λ (h : List ℕ). PulledWhile coming failed gave Q h p.2.0 pieces last) (sym (append_assoc front held piece))
+      subst (λ (h : List ℕ). PulledWhile from Q h p.2.0 pieces last) (sym (append_assoc front held piece))
           (PulledWhile-front P Q front (held ++ piece) p.2.0 last pieces into p.2.2),
     ),
   )
 
-  pub PulledWhile-failed : (P : List ℕ → Type 0) (held : List ℕ) (source last : S) (pieces : List (List ℕ)) → PulledWhile coming failed gave P held source pieces last → failed last ≡ failed source
-  PulledWhile-failed P held source last [] p = ap failed (sym p)
+  pub PulledWhile-failed : (P : List ℕ → Type 0) (held : List ℕ) (source last : S) (pieces : List (List ℕ)) → PulledWhile from P held source pieces last → from.failed last ≡ from.failed source
+  PulledWhile-failed P held source last [] p = ap from.failed (sym p)
   PulledWhile-failed P held source last (piece ∷ pieces) p = PulledWhile-failed P (held ++ piece) p.2.0 last pieces p.2.2 ∙ p.2.1.unfailed
 
-  pub PulledWhile-bytes : (P : List ℕ → Type 0) (held : List ℕ) (source last : S) (pieces : List (List ℕ)) → PulledWhile coming failed gave P held source pieces last
-      → Consumes (coming source) (coming last) (concat pieces)
-  PulledWhile-bytes P held source last [] p = subst (λ (s : S). Consumes (coming source) (coming s) []) p (Consumes-nil (coming source))
+  pub PulledWhile-bytes : (P : List ℕ → Type 0) (held : List ℕ) (source last : S) (pieces : List (List ℕ)) → PulledWhile from P held source pieces last
+      → Consumes (from.coming source) (from.coming last) (concat pieces)
+  PulledWhile-bytes P held source last [] p = subst (λ (s : S). Consumes (from.coming source) (from.coming s) []) p (Consumes-nil (from.coming source))
   PulledWhile-bytes P held source last (piece ∷ pieces) p =
-      Consumes-trans (coming source) (coming p.2.0) (coming last) piece (concat pieces) p.2.1.bytes (PulledWhile-bytes P (held ++ piece) p.2.0 last pieces p.2.2)
+      Consumes-trans (from.coming source) (from.coming p.2.0) (from.coming last) piece (concat pieces) p.2.1.bytes (PulledWhile-bytes P (held ++ piece) p.2.0 last pieces p.2.2)
 
-  pub PulledWhile-short : (P : List ℕ → Type 0) (held : List ℕ) (source last : S) (pieces : List (List ℕ)) → PulledWhile coming failed gave P held source pieces last
+  pub PulledWhile-short : (P : List ℕ → Type 0) (held : List ℕ) (source last : S) (pieces : List (List ℕ)) → PulledWhile from P held source pieces last
       → length (concat pieces) ≤ 65536 * length pieces
   PulledWhile-short P held source last [] p = omega arith
   PulledWhile-short P held source last (piece ∷ pieces) p =
       omega (arith, p.1, length-append piece (concat pieces), PulledWhile-short P (held ++ piece) p.2.0 last pieces p.2.2)
 
   -- the source is at its end behind an empty piece
-  pub PulledWhile-end : (P : List ℕ → Type 0) (held : List ℕ) (source last : S) (front : List (List ℕ)) → PulledWhile coming failed gave P held source (front ++ ([] ∷ [])) last → IsAtEnd (coming last)
-  PulledWhile-end P held source last [] p = subst (λ (s : S). IsAtEnd (coming s)) p.2.2 (p.2.1.ended refl)
+  pub PulledWhile-end : (P : List ℕ → Type 0) (held : List ℕ) (source last : S) (front : List (List ℕ)) → PulledWhile from P held source (front ++ ([] ∷ [])) last → IsAtEnd (from.coming last)
+  PulledWhile-end P held source last [] p = subst (λ (s : S). IsAtEnd (from.coming s)) p.2.2 (p.2.1.ended refl)
   PulledWhile-end P held source last (piece ∷ front) p = PulledWhile-end P (held ++ piece) p.2.0 last front p.2.2
 
-  pub pulling_none : (P : List ℕ → Type 0) (held : List ℕ) (pulls : ℕ) (source : S) → pulls ≤ 2 ^ 48 → Pulling coming failed gave P held pulls source held pulls source
+  pub pulling_none : (P : List ℕ → Type 0) (held : List ℕ) (pulls : ℕ) (source : S) → pulls ≤ 2 ^ 48 → Pulling from P held pulls source held pulls source
   pulling_none P held pulls source few = record { pieces = []; needed = refl; some = tt; heard_is = sym (append-nil held); counted = omega arith; few = few }
 
   pub pulling_more : (P : List ℕ → Type 0) (held : List ℕ) (pulls : ℕ) (source : S) (heard : List ℕ) (count : ℕ) (middle : S) (front rest rest_after : List ℕ) (n : ℕ) (last : S)
-      → Pulling coming failed gave P held pulls source heard count middle → P heard → heard ≡ front ++ rest → count < 2 ^ 48 → (n ≡ 0 → ⊥) → (p : PulledPiece coming failed gave rest middle n rest_after last)
-      → Pulling coming failed gave P held pulls source (front ++ rest_after) (count + 1) last
+      → Pulling from P held pulls source heard count middle → P heard → heard ≡ front ++ rest → count < 2 ^ 48 → (n ≡ 0 → ⊥) → (p : PulledPiece from rest middle n rest_after last)
+      → Pulling from P held pulls source (front ++ rest_after) (count + 1) last
   pulling_more P held pulls source heard count middle front rest rest_after n last w still split below some p = record {
     pieces = w.pieces ++ (p.piece ∷ []);
     needed = PulledWhile-append P held source middle last w.pieces (p.piece ∷ []) w.needed
@@ -133,15 +134,15 @@ module _ {S : Type 0} (coming : S → Option (List ℕ)) (failed : S → ℕ) (g
     few = omega arith;
   }
 
-  pub pulling_failed : (P : List ℕ → Type 0) (held : List ℕ) (pulls : ℕ) (source : S) (heard : List ℕ) (count : ℕ) (last : S) → Pulling coming failed gave P held pulls source heard count last → failed last ≡ failed source
+  pub pulling_failed : (P : List ℕ → Type 0) (held : List ℕ) (pulls : ℕ) (source : S) (heard : List ℕ) (count : ℕ) (last : S) → Pulling from P held pulls source heard count last → from.failed last ≡ from.failed source
   pulling_failed P held pulls source heard count last w = PulledWhile-failed P held source last w.pieces w.needed
 
   -- a pull that gave nothing
 
   -- a pull that gave nothing leaves the bytes as they were
   pub pulling_end : (P : List ℕ → Type 0) (held : List ℕ) (pulls : ℕ) (source : S) (heard : List ℕ) (count : ℕ) (middle : S) (front rest rest_after : List ℕ) (n : ℕ) (last : S)
-      → Pulling coming failed gave P held pulls source heard count middle → P heard → heard ≡ front ++ rest → count < 2 ^ 48 → n ≡ 0 → PulledPiece coming failed gave rest middle n rest_after last
-      → Ended coming failed gave P held pulls source (front ++ rest_after) (count + 1) last × (rest_after ≡ rest)
+      → Pulling from P held pulls source heard count middle → P heard → heard ≡ front ++ rest → count < 2 ^ 48 → n ≡ 0 → PulledPiece from rest middle n rest_after last
+      → Ended from P held pulls source (front ++ rest_after) (count + 1) last × (rest_after ≡ rest)
   pulling_end P held pulls source heard count middle front rest rest_after n last w still split below zero p =
       let none : p.piece ≡ [] = nil_from_length p.piece (p.counted ∙ zero) in
       let same : rest_after ≡ rest = p.added ∙ ap (λ (l : List ℕ). rest ++ l) none ∙ append-nil rest in (

@@ -3,6 +3,7 @@ use Rattle.std.proofs.Common.{◌≡◌, ◌≢◌, ◌<◌, length, ℕ, List, 
 use Rattle.std.specs.List.{concat}
 use Rattle.std.specs.Io.KnownBytes.{Keeps, Consumes, IsAtEnd}
 use Rattle.std.proofs.KnownBytes.{Consumes-kept, Keeps-refl}
+use Rattle.lam_frame.specs.Device.{SourceView}
 use Rattle.lam_frame.specs.declared.fault.FrameFault.{FrameFault}
 use Rattle.lam_frame.specs.declared.fault.FrameFault.TheVariants.{NoLength, BadLength, TooLong, BadHeader, Truncated, Device, Memory, TooManyTurns, Spent}
 use Rattle.lam_frame.specs.Frame.{HasFrame, HasFault, IsOpen}
@@ -69,34 +70,34 @@ module _ {V : Type 0} (items : V → List ℕ) where
       let all : (held ++ concat pieces) ++ ys ≡ held ++ xs = append_assoc held (concat pieces) ys ∙ ap (λ (l : List ℕ). held ++ l) (sym c) in
       subst (λ (l : List ℕ). Answers items l answer (held_after ++ ys)) all (answers (held ++ concat pieces) pieces answer held_after ys s end)
 
-  module _ {S : Type 0} (coming : S → Option (List ℕ)) (failed : S → ℕ) (gave : S → List ℕ → S → Type 0) where
-    kept_after : (answer : Result (Option V) FrameFault) (last left : S) → After coming failed last answer left → Keeps (coming last) (coming left) × (failed left ≡ failures_after answer (failed last))
-    kept_after (Ok (Some body)) last left a = (subst (λ (s : S). Keeps (coming last) (coming s)) a (Keeps-refl (coming last)), ap failed (sym a))
-    kept_after (Ok None) last left a = (subst (λ (s : S). Keeps (coming last) (coming s)) a (Keeps-refl (coming last)), ap failed (sym a))
+  module _ {S : Type 0} (from : SourceView S) where
+    kept_after : (answer : Result (Option V) FrameFault) (last left : S) → After from last answer left → Keeps (from.coming last) (from.coming left) × (from.failed left ≡ failures_after answer (from.failed last))
+    kept_after (Ok (Some body)) last left a = (subst (λ (s : S). Keeps (from.coming last) (from.coming s)) a (Keeps-refl (from.coming last)), ap from.failed (sym a))
+    kept_after (Ok None) last left a = (subst (λ (s : S). Keeps (from.coming last) (from.coming s)) a (Keeps-refl (from.coming last)), ap from.failed (sym a))
     kept_after (Err Device) last left a = (a.kept, a.counted)
-    kept_after (Err NoLength) last left a = (subst (λ (s : S). Keeps (coming last) (coming s)) a (Keeps-refl (coming last)), ap failed (sym a))
-    kept_after (Err BadLength) last left a = (subst (λ (s : S). Keeps (coming last) (coming s)) a (Keeps-refl (coming last)), ap failed (sym a))
-    kept_after (Err TooLong) last left a = (subst (λ (s : S). Keeps (coming last) (coming s)) a (Keeps-refl (coming last)), ap failed (sym a))
-    kept_after (Err BadHeader) last left a = (subst (λ (s : S). Keeps (coming last) (coming s)) a (Keeps-refl (coming last)), ap failed (sym a))
-    kept_after (Err Truncated) last left a = (subst (λ (s : S). Keeps (coming last) (coming s)) a (Keeps-refl (coming last)), ap failed (sym a))
-    kept_after (Err Memory) last left a = (subst (λ (s : S). Keeps (coming last) (coming s)) a (Keeps-refl (coming last)), ap failed (sym a))
-    kept_after (Err TooManyTurns) last left a = (subst (λ (s : S). Keeps (coming last) (coming s)) a (Keeps-refl (coming last)), ap failed (sym a))
-    kept_after (Err Spent) last left a = (subst (λ (s : S). Keeps (coming last) (coming s)) a (Keeps-refl (coming last)), ap failed (sym a))
+    kept_after (Err NoLength) last left a = (subst (λ (s : S). Keeps (from.coming last) (from.coming s)) a (Keeps-refl (from.coming last)), ap from.failed (sym a))
+    kept_after (Err BadLength) last left a = (subst (λ (s : S). Keeps (from.coming last) (from.coming s)) a (Keeps-refl (from.coming last)), ap from.failed (sym a))
+    kept_after (Err TooLong) last left a = (subst (λ (s : S). Keeps (from.coming last) (from.coming s)) a (Keeps-refl (from.coming last)), ap from.failed (sym a))
+    kept_after (Err BadHeader) last left a = (subst (λ (s : S). Keeps (from.coming last) (from.coming s)) a (Keeps-refl (from.coming last)), ap from.failed (sym a))
+    kept_after (Err Truncated) last left a = (subst (λ (s : S). Keeps (from.coming last) (from.coming s)) a (Keeps-refl (from.coming last)), ap from.failed (sym a))
+    kept_after (Err Memory) last left a = (subst (λ (s : S). Keeps (from.coming last) (from.coming s)) a (Keeps-refl (from.coming last)), ap from.failed (sym a))
+    kept_after (Err TooManyTurns) last left a = (subst (λ (s : S). Keeps (from.coming last) (from.coming s)) a (Keeps-refl (from.coming last)), ap from.failed (sym a))
+    kept_after (Err Spent) last left a = (subst (λ (s : S). Keeps (from.coming last) (from.coming s)) a (Keeps-refl (from.coming last)), ap from.failed (sym a))
 
     pub reads_told : (held : List ℕ) (pulls : ℕ) (source : S) (answer : Result (Option V) FrameFault) (held_after : List ℕ) (pulls_after : ℕ) (left : S)
-        → Reads coming failed gave IsOpen (Says items) held pulls source answer held_after pulls_after left → ReadsWhereTold items held (coming source) answer held_after (coming left)
+        → Reads from IsOpen (Says items) held pulls source answer held_after pulls_after left → ReadsWhereTold items held (from.coming source) answer held_after (from.coming left)
     reads_told held pulls source answer held_after pulls_after left r =
         let kept = (kept_after answer r.last left r.after).0 in
-        let bytes = PulledWhile-bytes coming failed gave IsOpen held source r.last r.pieces r.needed in
-        answers_told held r.pieces answer held_after (coming source) (coming left) r.says
-        (Consumes-kept (coming source) (coming r.last) (coming left) (concat r.pieces) bytes kept)
-        (λ e. ends_where_told (coming source) (coming r.last) (coming left) (concat r.pieces) bytes kept
-        (PulledWhile-end coming failed gave IsOpen held source r.last e.0 (subst (λ (p : List (List ℕ)). PulledWhile coming failed gave IsOpen held source p r.last) e.1 r.needed)))
+        let bytes = PulledWhile-bytes from IsOpen held source r.last r.pieces r.needed in
+        answers_told held r.pieces answer held_after (from.coming source) (from.coming left) r.says
+        (Consumes-kept (from.coming source) (from.coming r.last) (from.coming left) (concat r.pieces) bytes kept)
+        (λ e. ends_where_told (from.coming source) (from.coming r.last) (from.coming left) (concat r.pieces) bytes kept
+        (PulledWhile-end from IsOpen held source r.last e.0 (subst (λ (p : List (List ℕ)). PulledWhile from IsOpen held source p r.last) e.1 r.needed)))
 
     pub reads_failures : (held : List ℕ) (pulls : ℕ) (source : S) (answer : Result (Option V) FrameFault) (held_after : List ℕ) (pulls_after : ℕ) (left : S)
-        → Reads coming failed gave IsOpen (Says items) held pulls source answer held_after pulls_after left → failed left ≡ failures_after answer (failed source)
+        → Reads from IsOpen (Says items) held pulls source answer held_after pulls_after left → from.failed left ≡ failures_after answer (from.failed source)
     reads_failures held pulls source answer held_after pulls_after left r =
-        (kept_after answer r.last left r.after).1 ∙ ap (failures_after answer) (PulledWhile-failed coming failed gave IsOpen held source r.last r.pieces r.needed)
+        (kept_after answer r.last left r.after).1 ∙ ap (failures_after answer) (PulledWhile-failed from IsOpen held source r.last r.pieces r.needed)
 
     less_work : (heard : List ℕ) (pieces : List (List ℕ)) (answer : Result (Option V) FrameFault) (held_after : List ℕ) → Says items heard pieces answer held_after
         → IfOk answer (λ o. OnSome o (length held_after < length heard))
@@ -111,9 +112,9 @@ module _ {V : Type 0} (items : V → List ℕ) where
     falls (Err fault) a b c d f h = tt
 
     pub reads_progress : (held : List ℕ) (pulls : ℕ) (source : S) (answer : Result (Option V) FrameFault) (held_after : List ℕ) (pulls_after : ℕ) (left : S)
-        → Reads coming failed gave IsOpen (Says items) held pulls source answer held_after pulls_after left
+        → Reads from IsOpen (Says items) held pulls source answer held_after pulls_after left
         → IfOk answer (λ o. OnSome o (work_left pulls_after held_after < work_left pulls held))
     reads_progress held pulls source answer held_after pulls_after left r =
         falls answer (length held_after) (length (held ++ concat r.pieces)) (work_left pulls_after held_after) (work_left pulls held)
-        (λ h. omega (arith, h, r.counted, r.few, length-append held (concat r.pieces), PulledWhile-short coming failed gave IsOpen held source r.last r.pieces r.needed))
+        (λ h. omega (arith, h, r.counted, r.few, length-append held (concat r.pieces), PulledWhile-short from IsOpen held source r.last r.pieces r.needed))
         (less_work (held ++ concat r.pieces) r.pieces answer held_after r.says)

@@ -1,7 +1,7 @@
 -- What a call that reads does: the pieces that it pulls, and what its answer says of the bytes.
 use Rattle.std.specs.Prelude.{◌≡◌, ◌≢◌, ℕ, ◌+◌, ◌-◌, ◌*◌, ◌^◌, ◌<◌, ◌≤◌, List, [], ◌∷◌, ◌++◌, length, Option, Some, None, Result, Ok, Err}
 use Rattle.std.specs.List.{concat}
-use Rattle.lam_frame.specs.Device.{Gave, FailedPull}
+use Rattle.lam_frame.specs.Device.{Gave, FailedPull, SourceView}
 use Rattle.lam_frame.specs.Frame.{HasFrame, HasFault, IsOpen, IsRest}
 use Rattle.lam_frame.specs.declared.fault.FrameFault.{FrameFault}
 use Rattle.lam_frame.specs.declared.fault.FrameFault.TheVariants.{Truncated, Device, Memory, TooManyTurns, Spent}
@@ -18,10 +18,10 @@ pub record Progress : Type 0 where
 
 -- Pulls gave these pieces, and before each pull P held of the bytes that were there. A piece has at most 65,536 bytes, since a
 -- reader asks for no more; `work_left` counts on that.
-abbrev pub PulledWhile : {S : Type 0} → (S → Option (List ℕ)) → (S → ℕ) → (S → List ℕ → S → Type 0) → (List ℕ → Type 0) → List ℕ → S → List (List ℕ) → S → Type 0
-PulledWhile coming failed gave P held source [] last = source ≡ last
-PulledWhile {S} coming failed gave P held source (piece ∷ pieces) last =
-    P held × (length piece ≤ 65536) × ((middle : S) × Gave coming failed gave source piece middle × PulledWhile coming failed gave P (held ++ piece) middle pieces last)
+abbrev pub PulledWhile : {S : Type 0} → SourceView S → (List ℕ → Type 0) → List ℕ → S → List (List ℕ) → S → Type 0
+PulledWhile from P held source [] last = source ≡ last
+PulledWhile {S} from P held source (piece ∷ pieces) last =
+    P held × (length piece ≤ 65536) × ((middle : S) × Gave from source piece middle × PulledWhile from P (held ++ piece) middle pieces last)
 
 -- the last piece is empty, as at the source's end
 abbrev pub EndsEmpty : List (List ℕ) → Type 0
@@ -40,23 +40,24 @@ IsCutOff (Err TooManyTurns) = Unit {0}
 IsCutOff _ = ⊥
 
 -- after the pieces came nothing, or the one pull that failed
-abbrev pub After : {S V : Type 0} → (S → Option (List ℕ)) → (S → ℕ) → S → Result V FrameFault → S → Type 0
-After coming failed last (Err Device) new = FailedPull coming failed last new
-After coming failed last _ new = last ≡ new
+abbrev pub After : {S V : Type 0} → SourceView S → S → Result V FrameFault → S → Type 0
+After from last (Err Device) new = FailedPull from last new
+After from last _ new = last ≡ new
 
 -- a call that pulls while the bytes are open, and then says something of the bytes held before, of the pieces, and of the bytes held after
-pub record Reads {S V : Type 0} (coming : S → Option (List ℕ)) (failed : S → ℕ) (gave : S → List ℕ → S → Type 0)
+pub record Reads {S V : Type 0} (from : SourceView S)
     (Open : List ℕ → Type 0) (Said : List ℕ → List (List ℕ) → Result V FrameFault → List ℕ → Type 0)
     (held : List ℕ) (pulls : ℕ) (source : S) (answer : Result V FrameFault) (held_after : List ℕ) (pulls_after : ℕ) (source_after : S) : Type 0 where
   pub pieces : List (List ℕ)
   pub last : S
-  pub needed : PulledWhile coming failed gave Open held source pieces last
+  pub needed : PulledWhile from Open held source pieces last
   pub stopped : OnlyLastEmpty pieces
   pub onward : IsCutOff answer → EndsEmpty pieces → ⊥
-  pub after : After coming failed last answer source_after
+  pub after : After from last answer source_after
   pub says : Said (held ++ concat pieces) pieces answer held_after
   pub counted : pulls_after ≡ pulls + length pieces
   pub few : pulls_after ≤ 2 ^ 48
+  pub room : answer ≡ Err Device → pulls_after < 2 ^ 48
   pub limit : answer ≡ Err TooManyTurns → pulls_after ≡ 2 ^ 48
 
 -- ---- what an answer of `next` says

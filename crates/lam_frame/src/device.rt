@@ -1,7 +1,7 @@
 //! Where bytes come from, and where they go.
 
 ghost use Rattle.std.specs.Prelude.{◌≡◌, ◌-◌, ◌^◌, ◌<◌, ℕ, List, Option, None};
-ghost use Rattle.lam_frame.specs.Device.{Flushes, Pulls, Pushes};
+ghost use Rattle.lam_frame.specs.Device.{Flushes, Pulls, Pushes, source_of, sink_of};
 
 use thiserror::Error;
 
@@ -28,7 +28,7 @@ pub trait Source {
     /// with an empty `into` nothing is said.
     fn pull(&mut self, into: &mut [u8]) -> Result<usize, DeviceFault>
         requires { failed self.old < 2 ^ 64 - 1 }
-        ensures { Pulls coming failed gave self.old result into.new self.new };
+        ensures { Pulls (source_of coming failed gave) self.old result into.new self.new };
 }
 
 /// Takes bytes. A sink that tells its bytes has `taken`, and `flushed` where it tells how many of those are flushed.
@@ -48,10 +48,10 @@ pub trait Sink {
     /// be it answered by `Ok(0)`.
     fn push(&mut self, from: &[u8]) -> Result<usize, DeviceFault>
         requires { failed self.old < 2 ^ 64 - 1 }
-        ensures { Pushes taken flushed failed self.old result from.now self.new };
+        ensures { Pushes (sink_of taken flushed failed) self.old result from.now self.new };
 
     /// Passes on all that was taken.
     fn flush(&mut self) -> Result<(), DeviceFault>
         requires { failed self.old < 2 ^ 64 - 1 }
-        ensures { Flushes taken flushed failed self.old result self.new };
+        ensures { Flushes (sink_of taken flushed failed) self.old result self.new };
 }

@@ -1,7 +1,7 @@
 //! A device of which one call fails: for tests of what is done about it.
 
 ghost use Rattle.std.specs.Prelude.{◌≡◌, ◌↔◌, ◌-◌, ◌^◌, ◌<◌, ◌≤◌, IsErr, IsTrue};
-ghost use Rattle.lam_frame.specs.Device.{Flushes, Pulls, Pushes};
+ghost use Rattle.lam_frame.specs.Device.{Flushes, Pulls, Pushes, source_of, sink_of};
 ghost use Rattle.lam_frame.specs.FailAt.{FailsOrPasses, IsDue, Passes, after_call, failures_with, own_failures};
 
 use crate::device::{DeviceFault, Sink, Source};
@@ -84,9 +84,9 @@ impl<S: Source> Source for FailAt<S> {
 
     fn pull(&mut self, into: &mut [u8]) -> Result<usize, DeviceFault>
         requires { ⟦<FailAt<S> as Source>⟧.failed self.old < 2 ^ 64 - 1 }
-        ensures pulls { Pulls ⟦<FailAt<S> as Source>⟧.coming ⟦<FailAt<S> as Source>⟧.failed ⟦<FailAt<S> as Source>⟧.gave self.old result into.new self.new }
+        ensures pulls { Pulls (source_of ⟦<FailAt<S> as Source>⟧.coming ⟦<FailAt<S> as Source>⟧.failed ⟦<FailAt<S> as Source>⟧.gave) self.old result into.new self.new }
         ensures exact { FailsOrPasses (IsErr result × (into.new ≡ into.old))
-            (λ inner inner_after. Pulls S.coming S.failed S.gave inner result into.new inner_after) self.old self.new }
+            (λ inner inner_after. Pulls (source_of S.coming S.failed S.gave) inner result into.new inner_after) self.old self.new }
     {
         if self.fails_now() {
             return Err(DeviceFault);
@@ -108,9 +108,9 @@ impl<W: Sink> Sink for FailAt<W> {
 
     fn push(&mut self, from: &[u8]) -> Result<usize, DeviceFault>
         requires { ⟦<FailAt<W> as Sink>⟧.failed self.old < 2 ^ 64 - 1 }
-        ensures pushes { Pushes ⟦<FailAt<W> as Sink>⟧.taken ⟦<FailAt<W> as Sink>⟧.flushed ⟦<FailAt<W> as Sink>⟧.failed self.old result from.now self.new }
+        ensures pushes { Pushes (sink_of ⟦<FailAt<W> as Sink>⟧.taken ⟦<FailAt<W> as Sink>⟧.flushed ⟦<FailAt<W> as Sink>⟧.failed) self.old result from.now self.new }
         ensures exact { FailsOrPasses (IsErr result)
-            (λ inner inner_after. Pushes W.taken W.flushed W.failed inner result from.now inner_after) self.old self.new }
+            (λ inner inner_after. Pushes (sink_of W.taken W.flushed W.failed) inner result from.now inner_after) self.old self.new }
     {
         if self.fails_now() {
             return Err(DeviceFault);
@@ -120,9 +120,9 @@ impl<W: Sink> Sink for FailAt<W> {
 
     fn flush(&mut self) -> Result<(), DeviceFault>
         requires { ⟦<FailAt<W> as Sink>⟧.failed self.old < 2 ^ 64 - 1 }
-        ensures flushes { Flushes ⟦<FailAt<W> as Sink>⟧.taken ⟦<FailAt<W> as Sink>⟧.flushed ⟦<FailAt<W> as Sink>⟧.failed self.old result self.new }
+        ensures flushes { Flushes (sink_of ⟦<FailAt<W> as Sink>⟧.taken ⟦<FailAt<W> as Sink>⟧.flushed ⟦<FailAt<W> as Sink>⟧.failed) self.old result self.new }
         ensures exact { FailsOrPasses (IsErr result)
-            (λ inner inner_after. Flushes W.taken W.flushed W.failed inner result inner_after) self.old self.new }
+            (λ inner inner_after. Flushes (sink_of W.taken W.flushed W.failed) inner result inner_after) self.old self.new }
     {
         if self.fails_now() {
             return Err(DeviceFault);

@@ -1,6 +1,7 @@
 //! Bytes that were pulled and are not used yet.
 
 ghost use Rattle.std.specs.Prelude.{◌≡◌, ◌-◌, ◌^◌, ◌<◌, ◌≤◌, IfOk, List, ℕ, [], drop, length, take};
+ghost use Rattle.lam_frame.specs.Device.{source_of};
 ghost use Rattle.lam_frame.specs.inner.Steps.{PullsBehind};
 
 use crate::device::{DeviceFault, Source};
@@ -60,7 +61,7 @@ impl Held {
     pub(crate) fn pull<S: Source>(&mut self, source: &mut S) -> Result<usize, DeviceFault>
         requires room { length self.old < 65536 }
         requires failures { S.failed source.old < 2 ^ 64 - 1 }
-        ensures { PullsBehind S.coming S.failed S.gave self.old source.old result self.new source.new }
+        ensures { PullsBehind (source_of S.coming S.failed S.gave) self.old source.old result self.new source.new }
     {
         self.chunk.copy_within(self.start..self.end, 0);
         self.end -= self.start;

@@ -1,6 +1,7 @@
 //! Frames in, bodies out.
 
 ghost use Rattle.std.specs.Prelude.{◌≡◌, IfSome, OnOk, ◌+◌, ◌-◌, ◌^◌, ◌<◌, ◌≤◌, IfOk, [], length, Ok, Err, None, OnSome};
+ghost use Rattle.lam_frame.specs.Device.{source_of};
 ghost use Rattle.lam_frame.specs.Header.{body_limit};
 ghost use Rattle.lam_frame.specs.Frame.{IsOpen};
 ghost use Rattle.lam_frame.specs.Next.{ReadsWhereTold, Progress, Reads, Says, failures_after, state_after, work_left};
@@ -70,7 +71,7 @@ impl FrameReader {
         ensures ended { self.old.state ≡ State.Ended → (result ≡ Ok None) × ((self.new ≡ self.old) × (source.new ≡ source.old)) }
         ensures spent { self.old.state ≡ State.Spent → (result ≡ Err FrameFault.Spent) × ((self.new ≡ self.old) × (source.new ≡ source.old)) }
 
-        ensures reads { self.old.state ≡ State.Reading → Reads S.coming S.failed S.gave IsOpen (Says (λ b. b.items))
+        ensures reads { self.old.state ≡ State.Reading → Reads (source_of S.coming S.failed S.gave) IsOpen (Says (λ b. b.items))
             self.old.held self.old.pulls source.old result self.new.held self.new.pulls source.new }
         ensures told { self.old.state ≡ State.Reading → ReadsWhereTold (λ b. b.items)
             self.old.held (S.coming source.old) result self.new.held (S.coming source.new) }
@@ -102,7 +103,7 @@ fn read_frame<S: Source>(
 ) -> Result<Option<Vec<u8>>, FrameFault>
     requires few { pulls.old ≤ 2 ^ 48 }
     requires failures { S.failed source.old < 2 ^ 64 - 1 }
-    ensures reads { Reads S.coming S.failed S.gave IsOpen (Says (λ b. b.items))
+    ensures reads { Reads (source_of S.coming S.failed S.gave) IsOpen (Says (λ b. b.items))
         held.old pulls.old source.old result held.new pulls.new source.new }
 {
     match read_header(held, pulls, source) {
@@ -123,7 +124,7 @@ fn read_header<S: Source>(
 ) -> Result<Option<usize>, FrameFault>
     requires few { pulls.old ≤ 2 ^ 48 }
     requires failures { S.failed source.old < 2 ^ 64 - 1 }
-    ensures reads { Reads S.coming S.failed S.gave IsOpen SaysHeader
+    ensures reads { Reads (source_of S.coming S.failed S.gave) IsOpen SaysHeader
         held.old pulls.old source.old result held.new pulls.new source.new }
     ensures size { IfOk result (λ o. IfSome o (λ size. size ≤ body_limit)) }
 {
@@ -165,7 +166,7 @@ fn read_body<S: Source>(
 ) -> Result<Vec<u8>, FrameFault>
     requires few { pulls.old ≤ 2 ^ 48 }
     requires failures { S.failed source.old < 2 ^ 64 - 1 }
-    ensures { Reads S.coming S.failed S.gave (λ heard. length heard < size) (SaysBody (λ b. b.items) size)
+    ensures { Reads (source_of S.coming S.failed S.gave) (λ heard. length heard < size) (SaysBody (λ b. b.items) size)
         held.old pulls.old source.old result held.new pulls.new source.new }
 {
     let mut body = Vec::new(alloc);
@@ -205,7 +206,7 @@ fn pull_more<S: Source>(
     requires room { length held.old < 65536 }
     requires few { pulls.old ≤ 2 ^ 48 }
     requires failures { S.failed source.old < 2 ^ 64 - 1 }
-    ensures { PullsMore S.coming S.failed S.gave held.old pulls.old source.old result held.new pulls.new source.new }
+    ensures { PullsMore (source_of S.coming S.failed S.gave) held.old pulls.old source.old result held.new pulls.new source.new }
 {
     if *pulls == PULL_LIMIT {
         return Err(FrameFault::TooManyTurns);

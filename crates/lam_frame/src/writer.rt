@@ -1,6 +1,6 @@
 //! Bodies in, frames out.
 
-ghost use Rattle.std.specs.Prelude.{◌≡◌, ◌-◌, ◌^◌, ◌<◌, ◌≤◌, ◌++◌, OnOk, OnErr, IfErr, decimal, drop, length};
+ghost use Rattle.std.specs.Prelude.{◌≡◌, ◌-◌, ◌^◌, ◌<◌, ◌≤◌, ◌++◌, OnOk, OnErr, IfErr, decimal, drop, length, IsSome};
 ghost use Rattle.lam_frame.specs.Device.{AppendsFront, IsFlushed};
 ghost use Rattle.lam_frame.specs.Frame.{frame_text, header_line};
 ghost use Rattle.lam_frame.specs.Next.{failures_after};
@@ -25,6 +25,7 @@ pub fn write_frame<W: Sink>(sink: &mut W, body: &[u8]) -> Result<(), FrameFault>
     requires { W.failed sink.old < 2 ^ 64 - 1 }
     ensures taken { OnOk result (Appends (W.taken sink.old) (W.taken sink.new) (frame_text body.now)) }
     ensures flushed { OnOk result (IsFlushed (W.taken sink.new) (W.flushed sink.new)) }
+    ensures told { IsSome (W.flushed sink.old) → IsSome (W.flushed sink.new) }
     ensures front { OnErr result (AppendsFront (W.taken sink.old) (W.taken sink.new) (frame_text body.now)) }
     ensures fault { IfErr result (λ fault. fault ≡ FrameFault.Device) }
     ensures failures { W.failed sink.new ≡ failures_after result (W.failed sink.old) }
@@ -73,6 +74,7 @@ fn write_digits(room: &mut [u8; ROOM], number: usize) -> usize
 fn push_all<W: Sink>(sink: &mut W, bytes: &[u8]) -> Result<(), FrameFault>
     requires { W.failed sink.old < 2 ^ 64 - 1 }
     ensures taken { OnOk result (Appends (W.taken sink.old) (W.taken sink.new) bytes.now) }
+    ensures unflushed { W.flushed sink.new ≡ W.flushed sink.old }
     ensures front { OnErr result (AppendsFront (W.taken sink.old) (W.taken sink.new) bytes.now) }
     ensures fault { IfErr result (λ fault. fault ≡ FrameFault.Device) }
     ensures failures { W.failed sink.new ≡ failures_after result (W.failed sink.old) }

@@ -1,7 +1,8 @@
 -- What a turn makes of what the reader answered and of what answering did.
-use Rattle.std.proofs.Common.{◌≡◌, ◌≤◌, ℕ, ◌^◌, List, ◌++◌, Option, Some, None, Result, Ok, Err, refl, sym, ◌∙◌, subst}
+use Rattle.std.proofs.Common.{◌≡◌, ◌<◌, ◌≤◌, ℕ, ◌^◌, List, ◌++◌, Option, Some, None, Result, Ok, Err, refl, sym, ◌∙◌, subst}
 use Rattle.std.specs.List.{concat}
 use Rattle.serde_json.specs.Data.{Data}
+use Rattle.lam_frame.specs.Device.{SourceView, SinkView}
 use Rattle.lam_frame.specs.Frame.{HasFrame, IsOpen}
 use Rattle.lam_frame.specs.Next.{Reads, Says}
 use Rattle.lam_frame.specs.declared.fault.FrameFault.{FrameFault}
@@ -24,12 +25,12 @@ use Rattle.lam_server.specs.declared.server.Turn.{Turn}
 use Rattle.lam_server.specs.declared.server.Turn.TheVariants.{More, End}
 
 -- the session took the message, and its values were written or not
-pub answers_body : {W : Type 0} (taken : W → Option (List ℕ)) (flushed : W → Option ℕ) (failed : W → ℕ) (old new : Snapshot) (body : List ℕ) (message : Message) (values : List Data) (sink sink_after : W) (answer : Result (Unit {0}) RunFault)
-    → IsKindOf body message → Answers old message values new → WritesValues taken flushed failed values sink answer sink_after → AnswersBody taken flushed failed old body sink answer new sink_after
-answers_body taken flushed failed old new body message values sink sink_after (Ok done) k a w = (values, record { message = message; kind = k; answers = a }, w)
-answers_body taken flushed failed old new body message values sink sink_after (Err DeviceRun) k a w = (values, record { message = message; kind = k; answers = a }, w)
-answers_body taken flushed failed old new body message values sink sink_after (Err MemoryRun) k a w = part_sent values (record { message = message; kind = k; answers = a }) w
-answers_body taken flushed failed old new body message values sink sink_after (Err (Header fault)) k a w = absurd w
+pub answers_body : {W : Type 0} (to : SinkView W) (old new : Snapshot) (body : List ℕ) (message : Message) (values : List Data) (sink sink_after : W) (answer : Result (Unit {0}) RunFault)
+    → IsKindOf body message → Answers old message values new → WritesValues to values sink answer sink_after → AnswersBody to old body sink answer new sink_after
+answers_body to old new body message values sink sink_after (Ok done) k a w = (values, record { message = message; kind = k; answers = a }, w)
+answers_body to old new body message values sink sink_after (Err DeviceRun) k a w = (values, record { message = message; kind = k; answers = a }, w)
+answers_body to old new body message values sink sink_after (Err MemoryRun) k a w = part_sent values (record { message = message; kind = k; answers = a }) w
+answers_body to old new body message values sink sink_after (Err (Header fault)) k a w = absurd w
 
 -- a server with these bytes held, these pulls made, and the session's state
 abbrev pub waiting : List ℕ → ℕ → Snapshot → Waiting
@@ -46,12 +47,12 @@ takes_body old new heard body left values f s = record {
   frames = refl;
 }
 
-module _ {S V W : Type 0} (items : V → List ℕ) (coming : S → Option (List ℕ)) (failed : S → ℕ) (gave : S → List ℕ → S → Type 0) (taken : W → Option (List ℕ)) (flushed : W → Option ℕ) (sink_failed : W → ℕ) where
+module _ {S V W : Type 0} (items : V → List ℕ) (from : SourceView S) (to : SinkView W) where
   -- the chain of pulls is the reader's
   turn : (held : List ℕ) (pulls : ℕ) (old : Snapshot) (source : S) (sink : W) (read : Result (Option V) FrameFault) (held_after : List ℕ) (pulls_after : ℕ) (source_after : S) (sink_after : W) (answer : Result Turn RunFault)
-      → (r : Reads coming failed gave IsOpen (Says items) held pulls source read held_after pulls_after source_after)
-      → TurnSays coming failed taken flushed sink_failed (waiting held pulls old) (held ++ concat r.pieces) r.pieces r.last sink answer source_after sink_after
-      → TakesTurn coming failed gave taken flushed sink_failed (waiting held pulls old) source sink answer source_after sink_after
+      → (r : Reads from IsOpen (Says items) held pulls source read held_after pulls_after source_after)
+      → TurnSays from to (waiting held pulls old) (held ++ concat r.pieces) r.pieces r.last sink answer source_after sink_after
+      → TakesTurn from to (waiting held pulls old) source sink answer source_after sink_after
   turn held pulls old source sink read held_after pulls_after source_after sink_after answer r says = record {
     pieces = r.pieces;
     last = r.last;
@@ -63,9 +64,9 @@ module _ {S V W : Type 0} (items : V → List ℕ) (coming : S → Option (List 
 
   -- a message was answered, and the session goes on
   pub turn_more : (held : List ℕ) (pulls : ℕ) (old : Snapshot) (source : S) (sink : W) (body : V) (held_after : List ℕ) (pulls_after : ℕ) (new : Snapshot) (source_after : S) (sink_after : W)
-      → Reads coming failed gave IsOpen (Says items) held pulls source (Ok (Some body)) held_after pulls_after source_after
-      → AnswersBody taken flushed sink_failed old (items body) sink (Ok tt) new sink_after → ended_status new.state.life ≡ None
-      → TakesTurn coming failed gave taken flushed sink_failed (waiting held pulls old) source sink (Ok (More (waiting held_after pulls_after new))) source_after sink_after
+      → Reads from IsOpen (Says items) held pulls source (Ok (Some body)) held_after pulls_after source_after
+      → AnswersBody to old (items body) sink (Ok tt) new sink_after → ended_status new.state.life ≡ None
+      → TakesTurn from to (waiting held pulls old) source sink (Ok (More (waiting held_after pulls_after new))) source_after sink_after
   turn_more held pulls old source sink body held_after pulls_after new source_after sink_after r a live =
       turn held pulls old source sink (Ok (Some body)) held_after pulls_after source_after sink_after (Ok (More (waiting held_after pulls_after new))) r (
         record {
@@ -82,9 +83,9 @@ module _ {S V W : Type 0} (items : V → List ℕ) (coming : S → Option (List 
 
   -- a message was answered, and the session is over
   pub turn_end : (held : List ℕ) (pulls : ℕ) (old : Snapshot) (source : S) (sink : W) (body : V) (held_after : List ℕ) (pulls_after : ℕ) (new : Snapshot) (source_after : S) (sink_after : W) (status : ℕ)
-      → Reads coming failed gave IsOpen (Says items) held pulls source (Ok (Some body)) held_after pulls_after source_after
-      → AnswersBody taken flushed sink_failed old (items body) sink (Ok tt) new sink_after → ended_status new.state.life ≡ Some status
-      → TakesTurn coming failed gave taken flushed sink_failed (waiting held pulls old) source sink (Ok (End status)) source_after sink_after
+      → Reads from IsOpen (Says items) held pulls source (Ok (Some body)) held_after pulls_after source_after
+      → AnswersBody to old (items body) sink (Ok tt) new sink_after → ended_status new.state.life ≡ Some status
+      → TakesTurn from to (waiting held pulls old) source sink (Ok (End status)) source_after sink_after
   turn_end held pulls old source sink body held_after pulls_after new source_after sink_after status r a over =
       turn held pulls old source sink (Ok (Some body)) held_after pulls_after source_after sink_after (Ok (End status)) r (
         by_message new.state held_after
@@ -94,21 +95,21 @@ module _ {S V W : Type 0} (items : V → List ℕ) (coming : S → Option (List 
 
   -- the clean end
   pub turn_silent : (held : List ℕ) (pulls : ℕ) (old : Snapshot) (source : S) (sink : W) (held_after : List ℕ) (pulls_after : ℕ) (source_after : S)
-      → Reads coming failed gave IsOpen (Says items) held pulls source (Ok None) held_after pulls_after source_after
-      → TakesTurn coming failed gave taken flushed sink_failed (waiting held pulls old) source sink (Ok (End 1)) source_after sink
+      → Reads from IsOpen (Says items) held pulls source (Ok None) held_after pulls_after source_after
+      → TakesTurn from to (waiting held pulls old) source sink (Ok (End 1)) source_after sink
   turn_silent held pulls old source sink held_after pulls_after source_after r =
       turn held pulls old source sink (Ok None) held_after pulls_after source_after sink (Ok (End 1)) r (by_silence r.says.0 r.says.1 refl refl, r.after)
 
   -- no frame was read
   pub turn_unread : (held : List ℕ) (pulls : ℕ) (old : Snapshot) (source : S) (sink : W) (fault : FrameFault) (held_after : List ℕ) (pulls_after : ℕ) (source_after : S)
-      → Reads coming failed gave IsOpen (Says items) held pulls source (Err fault) held_after pulls_after source_after
-      → TakesTurn coming failed gave taken flushed sink_failed (waiting held pulls old) source sink (Err (fault_of_run fault)) source_after sink
+      → Reads from IsOpen (Says items) held pulls source (Err fault) held_after pulls_after source_after
+      → TakesTurn from to (waiting held pulls old) source sink (Err (fault_of_run fault)) source_after sink
   turn_unread held pulls old source sink NoLength held_after pulls_after source_after r = turn held pulls old source sink (Err NoLength) held_after pulls_after source_after sink (Err (Header NoLength)) r (r.says, (r.after, refl))
   turn_unread held pulls old source sink BadLength held_after pulls_after source_after r = turn held pulls old source sink (Err BadLength) held_after pulls_after source_after sink (Err (Header BadLength)) r (r.says, (r.after, refl))
   turn_unread held pulls old source sink TooLong held_after pulls_after source_after r = turn held pulls old source sink (Err TooLong) held_after pulls_after source_after sink (Err (Header TooLong)) r (r.says, (r.after, refl))
   turn_unread held pulls old source sink BadHeader held_after pulls_after source_after r = turn held pulls old source sink (Err BadHeader) held_after pulls_after source_after sink (Err (Header BadHeader)) r (r.says, (r.after, refl))
   turn_unread held pulls old source sink Truncated held_after pulls_after source_after r = turn held pulls old source sink (Err Truncated) held_after pulls_after source_after sink (Err (Header Truncated)) r (r.says, (r.after, refl))
-  turn_unread held pulls old source sink Device held_after pulls_after source_after r = turn held pulls old source sink (Err Device) held_after pulls_after source_after sink (Err DeviceRun) r (at_pull (r.says, r.onward tt) r.after refl)
+  turn_unread held pulls old source sink Device held_after pulls_after source_after r = turn held pulls old source sink (Err Device) held_after pulls_after source_after sink (Err DeviceRun) r (at_pull (r.says, r.onward tt) (subst (λ (n : ℕ). n < 2 ^ 48) r.counted (r.room refl)) r.after refl)
   turn_unread held pulls old source sink Memory held_after pulls_after source_after r = turn held pulls old source sink (Err Memory) held_after pulls_after source_after sink (Err MemoryRun) r (before_sending refl, r.after)
   turn_unread held pulls old source sink TooManyTurns held_after pulls_after source_after r =
       turn held pulls old source sink (Err TooManyTurns) held_after pulls_after source_after sink (Err DeviceRun) r (at_limit (r.says, r.onward tt) (sym r.counted ∙ r.limit refl) r.after refl)
@@ -116,9 +117,9 @@ module _ {S V W : Type 0} (items : V → List ℕ) (coming : S → Option (List 
 
   -- a message was taken, and not answered in full
   pub turn_unanswered : (held : List ℕ) (pulls : ℕ) (old : Snapshot) (source : S) (sink : W) (body : V) (held_after : List ℕ) (pulls_after : ℕ) (new : Snapshot) (source_after : S) (sink_after : W) (fault : RunFault)
-      → Reads coming failed gave IsOpen (Says items) held pulls source (Ok (Some body)) held_after pulls_after source_after
-      → AnswersBody taken flushed sink_failed old (items body) sink (Err fault) new sink_after
-      → TakesTurn coming failed gave taken flushed sink_failed (waiting held pulls old) source sink (Err fault) source_after sink_after
+      → Reads from IsOpen (Says items) held pulls source (Ok (Some body)) held_after pulls_after source_after
+      → AnswersBody to old (items body) sink (Err fault) new sink_after
+      → TakesTurn from to (waiting held pulls old) source sink (Err fault) source_after sink_after
   turn_unanswered held pulls old source sink body held_after pulls_after new source_after sink_after DeviceRun r a =
       turn held pulls old source sink (Ok (Some body)) held_after pulls_after source_after sink_after (Err DeviceRun) r
       (at_sink (frames_of a.0) new.state held_after (takes_body old new (held ++ concat r.pieces) (items body) held_after a.0 r.says a.1) r.after a.2)

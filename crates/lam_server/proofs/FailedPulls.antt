@@ -1,5 +1,6 @@
 -- A pull that fails finds all answered: in no other way does the count of the source's failures rise in a run.
 use Rattle.std.proofs.Common.{◌≡◌, ◌<◌, ℕ, List, [], Option, Result, Ok, Err, refl, ap, ◌∙◌, arith}
+use Rattle.lam_frame.specs.Device.{SourceView, SinkView}
 use Rattle.lam_frame.proofs.Pulls.{PulledWhile-failed}
 use Rattle.lam_session.specs.State.{State}
 use Rattle.lam_server.specs.Laws.{FailedPullFindsAllAnswered, FindsAllAnswered}
@@ -9,18 +10,18 @@ use Rattle.lam_server.specs.Run.DeviceEnds.{at_pull, at_limit, at_sink}
 use Rattle.lam_server.specs.declared.faults.RunFault.{RunFault}
 use Rattle.lam_server.specs.declared.faults.RunFault.TheVariants.{Header, Device, Memory}
 
-module _ {S W : Type 0} (coming : S → Option (List ℕ)) (failed : S → ℕ) (gave : S → List ℕ → S → Type 0) (taken : W → Option (List ℕ)) (flushed : W → Option ℕ) (sink_failed : W → ℕ) where
-  module _ (start : State) (source : S) (sink : W) (source_after : S) (sink_after : W) (rose : failed source < failed source_after) where
+module _ {S W : Type 0} (from : SourceView S) (to : SinkView W) where
+  module _ (start : State) (source : S) (sink : W) (source_after : S) (sink_after : W) (rose : from.failed source < from.failed source_after) where
     -- where nothing was pulled behind the pieces, no pull failed
-    no_failure : (answer : Result ℕ RunFault) → (r : Runs coming failed gave taken flushed sink_failed start source sink answer source_after sink_after) → r.last ≡ source_after → ⊥
+    no_failure : (answer : Result ℕ RunFault) → (r : Runs from to start source sink answer source_after sink_after) → r.last ≡ source_after → ⊥
     no_failure answer r same =
-        let pulled : failed r.last ≡ failed source = PulledWhile-failed coming failed gave (IsAnsweredIn start r.out) [] source r.last r.pieces r.needed in
-        omega (arith, rose, pulled, ap failed same)
+        let pulled : from.failed r.last ≡ from.failed source = PulledWhile-failed from (IsAnsweredIn start r.out) [] source r.last r.pieces r.needed in
+        omega (arith, rose, pulled, ap from.failed same)
 
-    at_device : (r : Runs coming failed gave taken flushed sink_failed start source sink (Err Device) source_after sink_after)
-        → DeviceEnds coming failed taken flushed sink_failed start r.pieces r.last sink r.out source_after sink_after
-        → FindsAllAnswered coming failed gave taken flushed sink_failed start source sink (Err Device) source_after sink_after
-    at_device r (at_pull awaits failure sends) = record {
+    at_device : (r : Runs from to start source sink (Err Device) source_after sink_after)
+        → DeviceEnds from to start r.pieces r.last sink r.out source_after sink_after
+        → FindsAllAnswered from to start source sink (Err Device) source_after sink_after
+    at_device r (at_pull awaits room failure sends) = record {
       pieces = r.pieces;
       last = r.last;
       out = r.out;
@@ -33,14 +34,14 @@ module _ {S W : Type 0} (coming : S → Option (List ℕ)) (failed : S → ℕ) 
     at_device r (at_limit awaits limit same sends) = absurd (no_failure (Err Device) r same)
     at_device r (at_sink front in_answer appended counted same) = absurd (no_failure (Err Device) r same)
 
-    finds : (answer : Result ℕ RunFault) → Runs coming failed gave taken flushed sink_failed start source sink answer source_after sink_after
-        → FindsAllAnswered coming failed gave taken flushed sink_failed start source sink answer source_after sink_after
+    finds : (answer : Result ℕ RunFault) → Runs from to start source sink answer source_after sink_after
+        → FindsAllAnswered from to start source sink answer source_after sink_after
     finds (Ok status) r = absurd (no_failure (Ok status) r r.says.1.1)
     finds (Err (Header fault)) r = absurd (no_failure (Err (Header fault)) r r.says.1.1)
     finds (Err Device) r = at_device r r.says
     finds (Err Memory) r = absurd (no_failure (Err Memory) r r.says.same)
 
   pub failed_pull : (start : State) (source : S) (sink : W) (answer : Result ℕ RunFault) (source_after : S) (sink_after : W)
-      → Runs coming failed gave taken flushed sink_failed start source sink answer source_after sink_after
-      → FailedPullFindsAllAnswered coming failed gave taken flushed sink_failed start source sink answer source_after sink_after
+      → Runs from to start source sink answer source_after sink_after
+      → FailedPullFindsAllAnswered from to start source sink answer source_after sink_after
   failed_pull start source sink answer source_after sink_after r = λ rose. finds start source sink source_after sink_after rose answer r

@@ -3,6 +3,7 @@ use Rattle.std.proofs.Common.{◌≡◌, ℕ, List, [], ◌∷◌, ◌++◌, Opt
 use Rattle.std.specs.List.{concat}
 use Rattle.std.specs.Io.KnownBytes.{Appends, Consumes, Keeps, IsAtEnd}
 use Rattle.std.proofs.KnownBytes.{Keeps-refl}
+use Rattle.lam_frame.specs.Device.{SourceView, SinkView}
 use Rattle.lam_frame.specs.Frame.{IsOpen}
 use Rattle.lam_frame.specs.Frame.IsOpen.{InHeader}
 use Rattle.lam_frame.specs.Next.{EndsEmpty, PulledWhile}
@@ -19,9 +20,9 @@ use Rattle.lam_server.proofs.Growing.{whole_front}
 nothing_is_open : IsOpen []
 nothing_is_open = InHeader (record { lines = []; part = []; begun_end = []; are_lines = tt; plain = refl; begun = tt; text = refl }) (omega arith)
 
-module _ {S W : Type 0} (coming : S → Option (List ℕ)) (failed : S → ℕ) (gave : S → List ℕ → S → Type 0) (taken : W → Option (List ℕ)) (flushed : W → Option ℕ) (sink_failed : W → ℕ) where
+module _ {S W : Type 0} (from : SourceView S) (to : SinkView W) where
   -- before the last pull all that was whole was answered
-  before_last : (start : State) (out held piece : List ℕ) (source last : S) (pieces : List (List ℕ)) → PulledWhile coming failed gave (IsAnsweredIn start out) held source (piece ∷ pieces) last
+  before_last : (start : State) (out held piece : List ℕ) (source last : S) (pieces : List (List ℕ)) → PulledWhile from (IsAnsweredIn start out) held source (piece ∷ pieces) last
       → AnswersAllButOnePiece start (held ++ concat (piece ∷ pieces)) out
   before_last start out held piece source last [] p = record {
     earlier = held;
@@ -34,7 +35,7 @@ module _ {S W : Type 0} (coming : S → Option (List ℕ)) (failed : S → ℕ) 
       subst (λ (l : List ℕ). AnswersAllButOnePiece start l out) (append_assoc held piece (concat (next ∷ pieces)))
       (before_last start out (held ++ piece) next p.2.0 last pieces p.2.2)
 
-  all_but_one : (start : State) (out : List ℕ) → IsLive start → (source last : S) (pieces : List (List ℕ)) → PulledWhile coming failed gave (IsAnsweredIn start out) [] source pieces last
+  all_but_one : (start : State) (out : List ℕ) → IsLive start → (source last : S) (pieces : List (List ℕ)) → PulledWhile from (IsAnsweredIn start out) [] source pieces last
       → AnswersAllButOnePiece start (concat pieces) out
   all_but_one start out live source last [] p = record {
     earlier = [];
@@ -53,34 +54,34 @@ module _ {S W : Type 0} (coming : S → Option (List ℕ)) (failed : S → ℕ) 
   front start input left read out before after split f answered a = record { read = read; out = out; split = split; front = f; answered = answered; appended = a }
 
   device_front : (start : State) (pieces : List (List ℕ)) (out input left : List ℕ) (last source_after : S) (sink sink_after : W) → input ≡ concat pieces ++ left → AnswersAllButOnePiece start (concat pieces) out
-      → DeviceEnds coming failed taken flushed sink_failed start pieces last sink out source_after sink_after → AnswersFront start input left (taken sink) (taken sink_after)
-  device_front start pieces out input left last source_after sink sink_after split answered (at_pull a failure sends) =
-      front start input left (concat pieces) out (taken sink) (taken sink_after) split (front_of start (concat pieces) out a.0) answered sends.appended
+      → DeviceEnds from to start pieces last sink out source_after sink_after → AnswersFront start input left (to.taken sink) (to.taken sink_after)
+  device_front start pieces out input left last source_after sink sink_after split answered (at_pull a room failure sends) =
+      front start input left (concat pieces) out (to.taken sink) (to.taken sink_after) split (front_of start (concat pieces) out a.0) answered sends.appended
   device_front start pieces out input left last source_after sink sink_after split answered (at_limit a limit same sends) =
-      front start input left (concat pieces) out (taken sink) (taken sink_after) split (front_of start (concat pieces) out a.0) answered sends.appended
+      front start input left (concat pieces) out (to.taken sink) (to.taken sink_after) split (front_of start (concat pieces) out a.0) answered sends.appended
   device_front start pieces out input left last source_after sink sink_after split answered (at_sink f in_answer appended counted same) =
-      front start input left (concat pieces) out (taken sink) (taken sink_after) split f answered appended
+      front start input left (concat pieces) out (to.taken sink) (to.taken sink_after) split f answered appended
 
   -- a run keeps what the source tells behind its last pull
-  kept_at : (last source_after : S) → last ≡ source_after → Keeps (coming last) (coming source_after)
-  kept_at last source_after same = subst (λ (s : S). Keeps (coming last) (coming s)) same (Keeps-refl (coming last))
+  kept_at : (last source_after : S) → last ≡ source_after → Keeps (from.coming last) (from.coming source_after)
+  kept_at last source_after same = subst (λ (s : S). Keeps (from.coming last) (from.coming s)) same (Keeps-refl (from.coming last))
 
-  kept_by_device : (start : State) (pieces : List (List ℕ)) (out : List ℕ) (last source_after : S) (sink sink_after : W) → DeviceEnds coming failed taken flushed sink_failed start pieces last sink out source_after sink_after
-      → Keeps (coming last) (coming source_after)
-  kept_by_device start pieces out last source_after sink sink_after (at_pull a failure sends) = failure.kept
+  kept_by_device : (start : State) (pieces : List (List ℕ)) (out : List ℕ) (last source_after : S) (sink sink_after : W) → DeviceEnds from to start pieces last sink out source_after sink_after
+      → Keeps (from.coming last) (from.coming source_after)
+  kept_by_device start pieces out last source_after sink sink_after (at_pull a room failure sends) = failure.kept
   kept_by_device start pieces out last source_after sink sink_after (at_limit a limit same sends) = kept_at last source_after same
   kept_by_device start pieces out last source_after sink sink_after (at_sink f in_answer appended counted same) = kept_at last source_after same
 
-  kept : (start : State) (source : S) (sink : W) (answer : Result ℕ RunFault) (source_after : S) (sink_after : W) → (r : Runs coming failed gave taken flushed sink_failed start source sink answer source_after sink_after)
-      → Keeps (coming r.last) (coming source_after)
+  kept : (start : State) (source : S) (sink : W) (answer : Result ℕ RunFault) (source_after : S) (sink_after : W) → (r : Runs from to start source sink answer source_after sink_after)
+      → Keeps (from.coming r.last) (from.coming source_after)
   kept start source sink (Ok status) source_after sink_after r = kept_at r.last source_after r.says.1.1
   kept start source sink (Err (Header fault)) source_after sink_after r = kept_at r.last source_after r.says.1.1
   kept start source sink (Err Device) source_after sink_after r = kept_by_device start r.pieces r.out r.last source_after sink sink_after r.says
   kept start source sink (Err Memory) source_after sink_after r = kept_at r.last source_after r.says.same
 
   told : (start : State) (source : S) (sink : W) (answer : Result ℕ RunFault) (source_after : S) (sink_after : W) (input left : List ℕ) → IsLive start
-      → (r : Runs coming failed gave taken flushed sink_failed start source sink answer source_after sink_after) → input ≡ concat r.pieces ++ left → (EndsEmpty r.pieces → left ≡ [])
-      → AnswersTold start input left answer (taken sink) (taken sink_after)
+      → (r : Runs from to start source sink answer source_after sink_after) → input ≡ concat r.pieces ++ left → (EndsEmpty r.pieces → left ≡ [])
+      → AnswersTold start input left answer (to.taken sink) (to.taken sink_after)
   told start source sink (Ok status) source_after sink_after input left live r split end = record {
     out = r.out;
     allowed = subst (λ (l : List ℕ). IsAllowed start l r.out (Ok status)) (sym split) (r.says.0 left end);
@@ -94,12 +95,12 @@ module _ {S W : Type 0} (coming : S → Option (List ℕ)) (failed : S → ℕ) 
   told start source sink (Err Device) source_after sink_after input left live r split end =
       device_front start r.pieces r.out input left r.last source_after sink sink_after split (all_but_one start r.out live source r.last r.pieces r.needed) r.says
   told start source sink (Err Memory) source_after sink_after input left live r split end =
-      front start input left (concat r.pieces) r.out (taken sink) (taken sink_after) split r.says.front (all_but_one start r.out live source r.last r.pieces r.needed) r.says.sends.appended
+      front start input left (concat r.pieces) r.out (to.taken sink) (to.taken sink_after) split r.says.front (all_but_one start r.out live source r.last r.pieces r.needed) r.says.sends.appended
 
   where_told : (start : State) (source : S) (sink : W) (answer : Result ℕ RunFault) (source_after : S) (sink_after : W) (before last after : Option (List ℕ)) → IsLive start
-      → (r : Runs coming failed gave taken flushed sink_failed start source sink answer source_after sink_after)
+      → (r : Runs from to start source sink answer source_after sink_after)
       → Consumes before last (concat r.pieces) → Keeps last after → (EndsEmpty r.pieces → IsAtEnd last)
-      → AnswersWhereTold start before after answer (taken sink) (taken sink_after)
+      → AnswersWhereTold start before after answer (to.taken sink) (to.taken sink_after)
   where_told start source sink answer source_after sink_after None last after live r c k end = tt
   where_told start source sink answer source_after sink_after (Some xs) None after live r c k end = absurd c
   where_told start source sink answer source_after sink_after (Some xs) (Some ys) None live r c k end = absurd k
@@ -107,10 +108,10 @@ module _ {S W : Type 0} (coming : S → Option (List ℕ)) (failed : S → ℕ) 
       told start source sink answer source_after sink_after xs zs live r (c ∙ ap (λ (l : List ℕ). concat r.pieces ++ l) (sym k)) (λ e. k ∙ end e)
 
   pub run_told : (start : State) (source : S) (sink : W) (answer : Result ℕ RunFault) (source_after : S) (sink_after : W) → IsLive start
-      → Runs coming failed gave taken flushed sink_failed start source sink answer source_after sink_after
-      → AnswersWhereTold start (coming source) (coming source_after) answer (taken sink) (taken sink_after)
+      → Runs from to start source sink answer source_after sink_after
+      → AnswersWhereTold start (from.coming source) (from.coming source_after) answer (to.taken sink) (to.taken sink_after)
   run_told start source sink answer source_after sink_after live r =
-      where_told start source sink answer source_after sink_after (coming source) (coming r.last) (coming source_after) live r
-      (PulledWhile-bytes coming failed gave (IsAnsweredIn start r.out) [] source r.last r.pieces r.needed) (kept start source sink answer source_after sink_after r)
-      (λ e. PulledWhile-end coming failed gave (IsAnsweredIn start r.out) [] source r.last e.0
-      (subst (λ (p : List (List ℕ)). PulledWhile coming failed gave (IsAnsweredIn start r.out) [] source p r.last) e.1 r.needed))
+      where_told start source sink answer source_after sink_after (from.coming source) (from.coming r.last) (from.coming source_after) live r
+      (PulledWhile-bytes from (IsAnsweredIn start r.out) [] source r.last r.pieces r.needed) (kept start source sink answer source_after sink_after r)
+      (λ e. PulledWhile-end from (IsAnsweredIn start r.out) [] source r.last e.0
+      (subst (λ (p : List (List ℕ)). PulledWhile from (IsAnsweredIn start r.out) [] source p r.last) e.1 r.needed))

@@ -1,8 +1,9 @@
 -- A run, as far as it has come: turn after turn, and then how it ends.
-use Rattle.std.proofs.Common.{◌≡◌, ◌≢◌, ◌≤◌, ℕ, ◌+◌, ◌^◌, List, [], ◌∷◌, ◌++◌, length, Option, Some, None, Result, Ok, Err, refl, sym, ap, ◌∙◌, subst, arith, append_assoc, append-nil, length-append}
+use Rattle.std.proofs.Common.{◌≡◌, ◌≢◌, ◌<◌, ◌≤◌, ℕ, ◌+◌, ◌^◌, List, [], ◌∷◌, ◌++◌, length, Option, Some, None, Result, Ok, Err, refl, sym, ap, ◌∙◌, subst, arith, append_assoc, append-nil, length-append}
 use Rattle.std.specs.List.{concat}
 use Rattle.std.proofs.KnownBytes.{Appends-trans}
 use Rattle.std.proofs.lemmas.List.Folds.{concat-append}
+use Rattle.lam_frame.specs.Device.{SourceView, SinkView}
 use Rattle.lam_frame.specs.Frame.{HasFrame, IsOpen, IsRest}
 use Rattle.lam_frame.specs.Next.{OnlyLastEmpty, PulledWhile}
 use Rattle.lam_frame.specs.inner.Steps.{NoneEmpty}
@@ -41,24 +42,24 @@ answered_more start out more read a = record {
 }
 
 -- pulls that a turn needs are pulls that the run needs: what was whole before is answered
-PulledWhile-run : {S : Type 0} (coming : S → Option (List ℕ)) (failed : S → ℕ) (gave : S → List ℕ → S → Type 0) (start s : State) (read out more held : List ℕ) (source last : S) (pieces : List (List ℕ))
-    → Turns start read out s held → IsLive s → PulledWhile coming failed gave IsOpen held source pieces last → PulledWhile coming failed gave (IsAnsweredIn start (out ++ more)) read source pieces last
-PulledWhile-run coming failed gave start s read out more held source last [] turns live p = p
-PulledWhile-run coming failed gave start s read out more held source last (piece ∷ pieces) turns live p = (
+PulledWhile-run : {S : Type 0} (from : SourceView S) (start s : State) (read out more held : List ℕ) (source last : S) (pieces : List (List ℕ))
+    → Turns start read out s held → IsLive s → PulledWhile from IsOpen held source pieces last → PulledWhile from (IsAnsweredIn start (out ++ more)) read source pieces last
+PulledWhile-run from start s read out more held source last [] turns live p = p
+PulledWhile-run from start s read out more held source last (piece ∷ pieces) turns live p = (
   record { done = out; more = more; awaiting = record { state = s; left = held; turns = turns; live = live; undecided = p.0 }; begins = refl },
   p.1,
-  (p.2.0, p.2.1, PulledWhile-run coming failed gave start s (read ++ piece) out more (held ++ piece) p.2.0 last pieces (Turns-more start read piece out s held turns) live p.2.2),
+  (p.2.0, p.2.1, PulledWhile-run from start s (read ++ piece) out more (held ++ piece) p.2.0 last pieces (Turns-more start read piece out s held turns) live p.2.2),
 )
 
 -- where a frame was found, no piece was empty: before the last one the bytes were open
-found_pieces : {S : Type 0} (coming : S → Option (List ℕ)) (failed : S → ℕ) (gave : S → List ℕ → S → Type 0) (held body left : List ℕ) (source last : S) (pieces : List (List ℕ))
-    → PulledWhile coming failed gave IsOpen held source pieces last → OnlyLastEmpty pieces → HasFrame (held ++ concat pieces) body left → NoneEmpty pieces
-found_pieces coming failed gave held body left source last [] p stopped frame = tt
-found_pieces coming failed gave held body left source last ([] ∷ []) p stopped frame = absurd (open_no_frame held body left p.0 (subst (λ (l : List ℕ). HasFrame l body left) (append-nil held) frame))
-found_pieces coming failed gave held body left source last ((b ∷ bs) ∷ []) p stopped frame = (omega arith, tt)
-found_pieces coming failed gave held body left source last (piece ∷ next ∷ pieces) p stopped frame = (
+found_pieces : {S : Type 0} (from : SourceView S) (held body left : List ℕ) (source last : S) (pieces : List (List ℕ))
+    → PulledWhile from IsOpen held source pieces last → OnlyLastEmpty pieces → HasFrame (held ++ concat pieces) body left → NoneEmpty pieces
+found_pieces from held body left source last [] p stopped frame = tt
+found_pieces from held body left source last ([] ∷ []) p stopped frame = absurd (open_no_frame held body left p.0 (subst (λ (l : List ℕ). HasFrame l body left) (append-nil held) frame))
+found_pieces from held body left source last ((b ∷ bs) ∷ []) p stopped frame = (omega arith, tt)
+found_pieces from held body left source last (piece ∷ next ∷ pieces) p stopped frame = (
   stopped.0,
-  found_pieces coming failed gave (held ++ piece) body left p.2.0 last (next ∷ pieces) p.2.2 stopped.1
+  found_pieces from (held ++ piece) body left p.2.0 last (next ∷ pieces) p.2.2 stopped.1
       (subst (λ (l : List ℕ). HasFrame l body left) (sym (append_assoc held piece (concat (next ∷ pieces)))) frame),
 )
 
@@ -102,18 +103,18 @@ broken_rest left more front back Spent b may = absurd b
 
 -- ---- turn after turn
 
-module _ {S W : Type 0} (coming : S → Option (List ℕ)) (failed : S → ℕ) (gave : S → List ℕ → S → Type 0) (taken : W → Option (List ℕ)) (flushed : W → Option ℕ) (sink_failed : W → ℕ) where
+module _ {S W : Type 0} (from : SourceView S) (to : SinkView W) where
   -- some turns, each to a server that goes on
   pub record Walked (start : State) (source : S) (sink : W) (server : Waiting) (source_now : S) (sink_now : W) : Type 0 where
     pub pieces : List (List ℕ)
     pub out : List ℕ
-    pub needed : PulledWhile coming failed gave (IsAnsweredIn start out) [] source pieces source_now
+    pub needed : PulledWhile from (IsAnsweredIn start out) [] source pieces source_now
     pub some : NoneEmpty pieces
     pub turns : Turns start (concat pieces) out server.state server.held
     pub live : IsLive server.state
     pub counted : server.pulls ≡ length pieces
-    pub sends : Sends taken flushed sink_failed sink out sink_now
-    pub unfailed : failed source_now ≡ failed source
+    pub sends : Sends to sink out sink_now
+    pub unfailed : from.failed source_now ≡ from.failed source
 
   pub no_walk : (start : State) (source : S) (sink : W) → IsLive start → Walked start source sink (record { held = []; pulls = 0; state = start }) source sink
   no_walk start source sink live = record {
@@ -124,7 +125,7 @@ module _ {S W : Type 0} (coming : S → Option (List ℕ)) (failed : S → ℕ) 
     turns = no_turn;
     live = live;
     counted = refl;
-    sends = Sends-nothing taken flushed sink_failed sink;
+    sends = Sends-nothing to sink;
     unfailed = refl;
   }
 
@@ -136,12 +137,12 @@ module _ {S W : Type 0} (coming : S → Option (List ℕ)) (failed : S → ℕ) 
         subst (λ (l : List ℕ). Turns start l w.out server.state (server.held ++ concat pieces)) (sym (concat-append w.pieces pieces))
         (Turns-more start (concat w.pieces) (concat pieces) w.out server.state server.held w.turns)
 
-    heard_needed : (pieces : List (List ℕ)) (last : S) (more : List ℕ) → PulledWhile coming failed gave IsOpen server.held source_now pieces last
-        → PulledWhile coming failed gave (IsAnsweredIn start (w.out ++ more)) [] source (w.pieces ++ pieces) last
+    heard_needed : (pieces : List (List ℕ)) (last : S) (more : List ℕ) → PulledWhile from IsOpen server.held source_now pieces last
+        → PulledWhile from (IsAnsweredIn start (w.out ++ more)) [] source (w.pieces ++ pieces) last
     heard_needed pieces last more p =
-        PulledWhile-append coming failed gave (IsAnsweredIn start (w.out ++ more)) [] source source_now last w.pieces pieces
-        (PulledWhile-front coming failed gave (IsAnsweredIn start w.out) (IsAnsweredIn start (w.out ++ more)) [] [] source source_now w.pieces (answered_more start w.out more) w.needed)
-        (PulledWhile-run coming failed gave start server.state (concat w.pieces) w.out more server.held source_now last pieces w.turns w.live p)
+        PulledWhile-append from (IsAnsweredIn start (w.out ++ more)) [] source source_now last w.pieces pieces
+        (PulledWhile-front from (IsAnsweredIn start w.out) (IsAnsweredIn start (w.out ++ more)) [] [] source source_now w.pieces (answered_more start w.out more) w.needed)
+        (PulledWhile-run from start server.state (concat w.pieces) w.out more server.held source_now last pieces w.turns w.live p)
 
     heard_count : (pieces : List (List ℕ)) (n : ℕ) → n ≡ server.pulls + length pieces → n ≡ length (w.pieces ++ pieces)
     heard_count pieces n e = omega (arith, e, w.counted, length-append w.pieces pieces)
@@ -149,30 +150,33 @@ module _ {S W : Type 0} (coming : S → Option (List ℕ)) (failed : S → ℕ) 
     heard_few : (pieces : List (List ℕ)) → server.pulls + length pieces ≤ 2 ^ 48 → length (w.pieces ++ pieces) ≤ 2 ^ 48
     heard_few pieces few = omega (arith, few, w.counted, length-append w.pieces pieces)
 
+    heard_room : (pieces : List (List ℕ)) → server.pulls + length pieces < 2 ^ 48 → length (w.pieces ++ pieces) < 2 ^ 48
+    heard_room pieces room = omega (arith, room, w.counted, length-append w.pieces pieces)
+
     -- the session goes on
-    pub walk_on : (next : Waiting) (source_after : S) (sink_after : W) → TakesTurn coming failed gave taken flushed sink_failed server source_now sink_now (Ok (More next)) source_after sink_after
+    pub walk_on : (next : Waiting) (source_after : S) (sink_after : W) → TakesTurn from to server source_now sink_now (Ok (More next)) source_after sink_after
         → Walked start source sink next source_after sink_after
     walk_on next source_after sink_after t =
         let answers = t.says.0.answers in
         record {
           pieces = w.pieces ++ t.pieces;
           out = w.out ++ answers.out;
-          needed = subst (λ (s : S). PulledWhile coming failed gave (IsAnsweredIn start (w.out ++ answers.out)) [] source (w.pieces ++ t.pieces) s) t.says.1
+          needed = subst (λ (s : S). PulledWhile from (IsAnsweredIn start (w.out ++ answers.out)) [] source (w.pieces ++ t.pieces) s) t.says.1
               (heard_needed t.pieces t.last answers.out t.needed);
           some = NoneEmpty-append w.pieces t.pieces w.some
-              (found_pieces coming failed gave server.held answers.takes.body next.held source_now t.last t.pieces t.needed t.stopped answers.takes.frame);
+              (found_pieces from server.held answers.takes.body next.held source_now t.last t.pieces t.needed t.stopped answers.takes.frame);
           turns = next_turn (heard_turns t.pieces) w.live answers.takes;
           live = t.says.0.live;
           counted = heard_count t.pieces next.pulls t.says.0.counted;
-          sends = Sends-both taken flushed sink_failed sink sink_now sink_after w.out answers.out w.sends answers.sends;
-          unfailed = ap failed (sym t.says.1) ∙ (PulledWhile-failed coming failed gave IsOpen server.held source_now t.last t.pieces t.needed ∙ w.unfailed);
+          sends = Sends-both to sink sink_now sink_after w.out answers.out w.sends answers.sends;
+          unfailed = ap from.failed (sym t.says.1) ∙ (PulledWhile-failed from IsOpen server.held source_now t.last t.pieces t.needed ∙ w.unfailed);
         }
 
     -- the run ends, with these bytes sent by its last turn
-    ends : (pieces : List (List ℕ)) (last : S) (more : List ℕ) (answer : Result ℕ RunFault) (source_after : S) (sink_after : W) → PulledWhile coming failed gave IsOpen server.held source_now pieces last
+    ends : (pieces : List (List ℕ)) (last : S) (more : List ℕ) (answer : Result ℕ RunFault) (source_after : S) (sink_after : W) → PulledWhile from IsOpen server.held source_now pieces last
         → OnlyLastEmpty pieces → server.pulls + length pieces ≤ 2 ^ 48
-        → RunSays coming failed taken flushed sink_failed start (w.pieces ++ pieces) last sink (w.out ++ more) answer source_after sink_after
-        → Runs coming failed gave taken flushed sink_failed start source sink answer source_after sink_after
+        → RunSays from to start (w.pieces ++ pieces) last sink (w.out ++ more) answer source_after sink_after
+        → Runs from to start source sink answer source_after sink_after
     ends pieces last more answer source_after sink_after needed stopped few says = record {
       pieces = w.pieces ++ pieces;
       last = last;
@@ -184,23 +188,23 @@ module _ {S W : Type 0} (coming : S → Option (List ℕ)) (failed : S → ℕ) 
     }
 
     -- the sink is as it was
-    still : (sink_after : W) → sink_now ≡ sink_after → Sends taken flushed sink_failed sink w.out sink_after
-    still sink_after same = subst (λ (s : W). Sends taken flushed sink_failed sink w.out s) same w.sends
+    still : (sink_after : W) → sink_now ≡ sink_after → Sends to sink w.out sink_after
+    still sink_after same = subst (λ (s : W). Sends to sink w.out s) same w.sends
 
     -- its last turn sent nothing
     sends_nothing : (pieces : List (List ℕ)) (last : S) (answer : Result ℕ RunFault) (source_after : S) (sink_after : W)
-        → RunSays coming failed taken flushed sink_failed start (w.pieces ++ pieces) last sink w.out answer source_after sink_after
-        → (more : List ℕ) × RunSays coming failed taken flushed sink_failed start (w.pieces ++ pieces) last sink (w.out ++ more) answer source_after sink_after
+        → RunSays from to start (w.pieces ++ pieces) last sink w.out answer source_after sink_after
+        → (more : List ℕ) × RunSays from to start (w.pieces ++ pieces) last sink (w.out ++ more) answer source_after sink_after
     sends_nothing pieces last answer source_after sink_after says =
-        ([], subst (λ (l : List ℕ). RunSays coming failed taken flushed sink_failed start (w.pieces ++ pieces) last sink l answer source_after sink_after) (sym (append-nil w.out)) says)
+        ([], subst (λ (l : List ℕ). RunSays from to start (w.pieces ++ pieces) last sink l answer source_after sink_after) (sym (append-nil w.out)) says)
 
-    says_status : (status : ℕ) (pieces : List (List ℕ)) (last source_after : S) (sink_after : W) → last ≡ source_after → Ends taken flushed sink_failed server.state (server.held ++ concat pieces) pieces sink_now status sink_after
-        → (more : List ℕ) × RunSays coming failed taken flushed sink_failed start (w.pieces ++ pieces) last sink (w.out ++ more) (Ok status) source_after sink_after
+    says_status : (status : ℕ) (pieces : List (List ℕ)) (last source_after : S) (sink_after : W) → last ≡ source_after → Ends to server.state (server.held ++ concat pieces) pieces sink_now status sink_after
+        → (more : List ℕ) × RunSays from to start (w.pieces ++ pieces) last sink (w.out ++ more) (Ok status) source_after sink_after
     says_status status pieces last source_after sink_after same (turn_by_message next left answers over) = (
       answers.out,
       (
         settled_status start next (w.pieces ++ pieces) (w.out ++ answers.out) left status (next_turn (heard_turns pieces) w.live answers.takes) over,
-        (Sends-both taken flushed sink_failed sink sink_now sink_after w.out answers.out w.sends answers.sends, same),
+        (Sends-both to sink sink_now sink_after w.out answers.out w.sends answers.sends, same),
       ),
     )
     says_status status pieces last source_after sink_after same (turn_by_silence nothing end one unsent) = sends_nothing pieces last (Ok status) source_after sink_after (
@@ -209,8 +213,8 @@ module _ {S W : Type 0} (coming : S → Option (List ℕ)) (failed : S → ℕ) 
       (still sink_after unsent, same),
     )
 
-    pub walk_to_end : (status : ℕ) (source_after : S) (sink_after : W) → TakesTurn coming failed gave taken flushed sink_failed server source_now sink_now (Ok (End status)) source_after sink_after
-        → Runs coming failed gave taken flushed sink_failed start source sink (Ok status) source_after sink_after
+    pub walk_to_end : (status : ℕ) (source_after : S) (sink_after : W) → TakesTurn from to server source_now sink_now (Ok (End status)) source_after sink_after
+        → Runs from to start source sink (Ok status) source_after sink_after
     walk_to_end status source_after sink_after t =
         let says = says_status status t.pieces t.last source_after sink_after t.says.1 t.says.0 in
         ends t.pieces t.last says.0 (Ok status) source_after sink_after t.needed t.stopped t.few says.1
@@ -228,11 +232,11 @@ module _ {S W : Type 0} (coming : S → Option (List ℕ)) (failed : S → ℕ) 
       not_ended_behind w.pieces pieces w.some wants.1,
     )
 
-    says_device : (pieces : List (List ℕ)) (last source_after : S) (sink_after : W) → DeviceStops coming failed taken sink_failed server (server.held ++ concat pieces) pieces last sink_now source_after sink_after
-        → (more : List ℕ) × RunSays coming failed taken flushed sink_failed start (w.pieces ++ pieces) last sink (w.out ++ more) (Err Device) source_after sink_after
-    says_device pieces last source_after sink_after (turn_at_pull wants failure unsent) =
+    says_device : (pieces : List (List ℕ)) (last source_after : S) (sink_after : W) → DeviceStops from to server (server.held ++ concat pieces) pieces last sink_now source_after sink_after
+        → (more : List ℕ) × RunSays from to start (w.pieces ++ pieces) last sink (w.out ++ more) (Err Device) source_after sink_after
+    says_device pieces last source_after sink_after (turn_at_pull wants room failure unsent) =
         sends_nothing pieces last (Err Device) source_after sink_after
-        (at_pull (awaits_more pieces wants) failure (still sink_after unsent))
+        (at_pull (awaits_more pieces wants) (heard_room pieces room) failure (still sink_after unsent))
     says_device pieces last source_after sink_after (turn_at_limit wants limit same unsent) =
         sends_nothing pieces last (Err Device) source_after sink_after
         (at_limit (awaits_more pieces wants) (sym (heard_count pieces (2 ^ 48) (sym limit))) same (still sink_after unsent))
@@ -254,12 +258,12 @@ module _ {S W : Type 0} (coming : S → Option (List ℕ)) (failed : S → ℕ) 
             split = failure.front.split;
             begins = refl;
           })
-          (Appends-trans (taken sink) (taken sink_now) (taken sink_after) w.out failure.front.front w.sends.appended failure.front.appended)
+          (Appends-trans (to.taken sink) (to.taken sink_now) (to.taken sink_after) w.out failure.front.front w.sends.appended failure.front.appended)
           (failure.counted ∙ ap (λ (n : ℕ). n + 1) w.sends.unfailed) same,
     )
 
-    says_memory : (pieces : List (List ℕ)) (last source_after : S) (sink_after : W) → last ≡ source_after → MemoryStops taken flushed sink_failed server.state (server.held ++ concat pieces) sink_now sink_after
-        → (more : List ℕ) × RunSays coming failed taken flushed sink_failed start (w.pieces ++ pieces) last sink (w.out ++ more) (Err Memory) source_after sink_after
+    says_memory : (pieces : List (List ℕ)) (last source_after : S) (sink_after : W) → last ≡ source_after → MemoryStops to server.state (server.held ++ concat pieces) sink_now sink_after
+        → (more : List ℕ) × RunSays from to start (w.pieces ++ pieces) last sink (w.out ++ more) (Err Memory) source_after sink_after
     says_memory pieces last source_after sink_after same (before_sending unsent) =
         sends_nothing pieces last (Err Memory) source_after sink_after
         (record {
@@ -274,13 +278,13 @@ module _ {S W : Type 0} (coming : S → Option (List ℕ)) (failed : S → ℕ) 
         front = front_of_part pieces whole (frames_of stops.done) (frames_of stops.others) left next takes
             (takes.frames ∙ ap frames_of stops.split ∙ frames-append stops.done stops.others);
         frames = behind_value (heard_turns pieces) w.live takes stops.done stops.others stops.split refl;
-        sends = Sends-both taken flushed sink_failed sink sink_now sink_after w.out (frames_of stops.done) w.sends stops.sends;
+        sends = Sends-both to sink sink_now sink_after w.out (frames_of stops.done) w.sends stops.sends;
         same = same;
       },
     )
 
-    pub walk_to_fault : (fault : RunFault) (source_after : S) (sink_after : W) → TakesTurn coming failed gave taken flushed sink_failed server source_now sink_now (Err fault) source_after sink_after
-        → Runs coming failed gave taken flushed sink_failed start source sink (Err fault) source_after sink_after
+    pub walk_to_fault : (fault : RunFault) (source_after : S) (sink_after : W) → TakesTurn from to server source_now sink_now (Err fault) source_after sink_after
+        → Runs from to start source sink (Err fault) source_after sink_after
     walk_to_fault (Header fault) source_after sink_after t =
         let says =
         sends_nothing t.pieces t.last (Err (Header fault)) source_after sink_after (
@@ -297,7 +301,7 @@ module _ {S W : Type 0} (coming : S → Option (List ℕ)) (failed : S → ℕ) 
         ends t.pieces t.last says.0 (Err Memory) source_after sink_after t.needed t.stopped t.few says.1
 
   -- no server came to be
-  pub no_run : (start : State) (source : S) (sink : W) → IsLive start → Runs coming failed gave taken flushed sink_failed start source sink (Err Memory) source sink
+  pub no_run : (start : State) (source : S) (sink : W) → IsLive start → Runs from to start source sink (Err Memory) source sink
   no_run start source sink live = record {
     pieces = [];
     last = source;
@@ -305,5 +309,5 @@ module _ {S W : Type 0} (coming : S → Option (List ℕ)) (failed : S → ℕ) 
     needed = refl;
     stopped = tt;
     few = omega arith;
-    says = record { front = whole_front start [] [] [] start no_turn; frames = behind_message no_turn live; sends = Sends-nothing taken flushed sink_failed sink; same = refl };
+    says = record { front = whole_front start [] [] [] start no_turn; frames = behind_message no_turn live; sends = Sends-nothing to sink; same = refl };
   }

@@ -3,7 +3,7 @@
 use Rattle.std.specs.Prelude.{◌≡◌, ◌<◌, List, [], ℕ, ◌++◌, Option, Result, Err}
 use Rattle.std.specs.List.{concat}
 use Rattle.serde_json.specs.Data.{Data}
-use Rattle.lam_frame.specs.Device.{FailedPull}
+use Rattle.lam_frame.specs.Device.{FailedPull, SourceView, SinkView}
 use Rattle.lam_frame.specs.Frame.{HasFrame}
 use Rattle.lam_frame.specs.Next.{PulledWhile}
 use Rattle.lam_rpc.specs.Kind.{Message, IsKindOf}
@@ -36,22 +36,20 @@ pub record OutputGrows (start : State) (bytes : List ℕ) : Type 0 where
   pub grows : (more out : List ℕ) → IsFront start bytes out → IsFront start (bytes ++ more) out
 
 -- behind these pieces a pull failed: all that was owed for them is taken and flushed, and the sink has not failed
-pub record FindsAllAnswered {S W : Type 0} (coming : S → Option (List ℕ)) (source_failed : S → ℕ) (gave : S → List ℕ → S → Type 0)
-    (taken : W → Option (List ℕ)) (flushed : W → Option ℕ) (sink_failed : W → ℕ)
+pub record FindsAllAnswered {S W : Type 0} (from : SourceView S) (to : SinkView W)
     (start : State) (source : S) (sink : W) (answer : Result ℕ RunFault) (source_after : S) (sink_after : W) : Type 0 where
   pub pieces : List (List ℕ)
   pub last : S
   pub out : List ℕ
-  pub pulled : PulledWhile coming source_failed gave (IsAnsweredIn start out) [] source pieces last
-  pub failed : FailedPull coming source_failed last source_after
+  pub pulled : PulledWhile from (IsAnsweredIn start out) [] source pieces last
+  pub failed : FailedPull from last source_after
   pub owed : IsAwaiting start (concat pieces) out
-  pub sent : Sends taken flushed sink_failed sink out sink_after
+  pub sent : Sends to sink out sink_after
   pub faulted : answer ≡ Err Device
 
 -- Where a pull failed in a run, it found all answered. A run that gathers its answers breaks this over a source that fails once and a
 -- sink that fails from then on.
-abbrev pub FailedPullFindsAllAnswered : {S W : Type 0} → (S → Option (List ℕ)) → (S → ℕ) → (S → List ℕ → S → Type 0) → (W → Option (List ℕ)) → (W → Option ℕ) → (W → ℕ)
-    → State → S → W → Result ℕ RunFault → S → W → Type 0
-FailedPullFindsAllAnswered coming source_failed gave taken flushed sink_failed start source sink answer source_after sink_after =
-    source_failed source < source_failed source_after
-    → FindsAllAnswered coming source_failed gave taken flushed sink_failed start source sink answer source_after sink_after
+abbrev pub FailedPullFindsAllAnswered : {S W : Type 0} → SourceView S → SinkView W → State → S → W → Result ℕ RunFault → S → W → Type 0
+FailedPullFindsAllAnswered from to start source sink answer source_after sink_after =
+    from.failed source < from.failed source_after
+    → FindsAllAnswered from to start source sink answer source_after sink_after

@@ -1,8 +1,8 @@
 -- What a run does, from the first turn to the last.
-use Rattle.std.specs.Prelude.{◌≡◌, ℕ, ◌+◌, ◌^◌, ◌≤◌, List, [], ◌++◌, length, Option, Some, None, Result, Ok, Err}
+use Rattle.std.specs.Prelude.{◌≡◌, ℕ, ◌+◌, ◌^◌, ◌<◌, ◌≤◌, List, [], ◌++◌, length, Option, Some, None, Result, Ok, Err}
 use Rattle.std.specs.List.{concat}
 use Rattle.std.specs.Io.KnownBytes.{Appends}
-use Rattle.lam_frame.specs.Device.{FailedPull}
+use Rattle.lam_frame.specs.Device.{FailedPull, SourceView, SinkView}
 use Rattle.lam_frame.specs.Next.{EndsEmpty, OnlyLastEmpty, PulledWhile}
 use Rattle.lam_session.specs.State.{State}
 use Rattle.lam_server.specs.Device.{Sends}
@@ -25,46 +25,44 @@ abbrev pub AwaitsMore : State → List (List ℕ) → List ℕ → Type 0
 AwaitsMore start pieces out = IsAwaiting start (concat pieces) out × (EndsEmpty pieces → ⊥)
 
 -- a pull that was due failed; or it was one too many; or the sink failed, somewhere in the answer to one message
-pub data DeviceEnds {S W : Type 0} (coming : S → Option (List ℕ)) (source_failed : S → ℕ) (taken : W → Option (List ℕ)) (flushed : W → Option ℕ) (sink_failed : W → ℕ)
+pub data DeviceEnds {S W : Type 0} (from : SourceView S) (to : SinkView W)
     (start : State) (pieces : List (List ℕ)) (last : S) (sink : W) (out : List ℕ) (source_after : S) (sink_after : W) : Type 0 where
-  at_pull : AwaitsMore start pieces out → FailedPull coming source_failed last source_after → Sends taken flushed sink_failed sink out sink_after
-      → DeviceEnds coming source_failed taken flushed sink_failed start pieces last sink out source_after sink_after
-  at_limit : AwaitsMore start pieces out → length pieces ≡ 2 ^ 48 → last ≡ source_after → Sends taken flushed sink_failed sink out sink_after
-      → DeviceEnds coming source_failed taken flushed sink_failed start pieces last sink out source_after sink_after
-  at_sink : IsFront start (concat pieces) out → EndsInAnswer start (concat pieces) out → Appends (taken sink) (taken sink_after) out → sink_failed sink_after ≡ sink_failed sink + 1 → last ≡ source_after
-      → DeviceEnds coming source_failed taken flushed sink_failed start pieces last sink out source_after sink_after
+  at_pull : AwaitsMore start pieces out → length pieces < 2 ^ 48 → FailedPull from last source_after → Sends to sink out sink_after
+      → DeviceEnds from to start pieces last sink out source_after sink_after
+  at_limit : AwaitsMore start pieces out → length pieces ≡ 2 ^ 48 → last ≡ source_after → Sends to sink out sink_after
+      → DeviceEnds from to start pieces last sink out source_after sink_after
+  at_sink : IsFront start (concat pieces) out → EndsInAnswer start (concat pieces) out → Appends (to.taken sink) (to.taken sink_after) out → to.failed sink_after ≡ to.failed sink + 1 → last ≡ source_after
+      → DeviceEnds from to start pieces last sink out source_after sink_after
 
 -- memory was wanting, somewhere: what is out are whole answers and whole frames of the next one, all flushed
-pub record MemoryEnds {S W : Type 0} (taken : W → Option (List ℕ)) (flushed : W → Option ℕ) (sink_failed : W → ℕ)
+pub record MemoryEnds {S W : Type 0} (to : SinkView W)
     (start : State) (pieces : List (List ℕ)) (last : S) (sink : W) (out : List ℕ) (source_after : S) (sink_after : W) : Type 0 where
   pub front : IsFront start (concat pieces) out
   pub frames : EndsInFrames start (concat pieces) out
-  pub sends : Sends taken flushed sink_failed sink out sink_after
+  pub sends : Sends to sink out sink_after
   pub same : last ≡ source_after
 
 -- what the answer of a run says of the pieces and of the bytes sent
-abbrev pub RunSays : {S W : Type 0} → (S → Option (List ℕ)) → (S → ℕ) → (W → Option (List ℕ)) → (W → Option ℕ) → (W → ℕ)
-    → State → List (List ℕ) → S → W → List ℕ → Result ℕ RunFault → S → W → Type 0
-RunSays coming source_failed taken flushed sink_failed start pieces last sink out (Ok status) source_after sink_after =
-    IsSettled start pieces out (Ok status) × (Sends taken flushed sink_failed sink out sink_after × (last ≡ source_after))
-RunSays coming source_failed taken flushed sink_failed start pieces last sink out (Err (Header fault)) source_after sink_after =
-    IsSettled start pieces out (Err fault) × (Sends taken flushed sink_failed sink out sink_after × (last ≡ source_after))
-RunSays coming source_failed taken flushed sink_failed start pieces last sink out (Err Device) source_after sink_after =
-    DeviceEnds coming source_failed taken flushed sink_failed start pieces last sink out source_after sink_after
-RunSays coming source_failed taken flushed sink_failed start pieces last sink out (Err Memory) source_after sink_after =
-    MemoryEnds taken flushed sink_failed start pieces last sink out source_after sink_after
+abbrev pub RunSays : {S W : Type 0} → SourceView S → SinkView W → State → List (List ℕ) → S → W → List ℕ → Result ℕ RunFault → S → W → Type 0
+RunSays from to start pieces last sink out (Ok status) source_after sink_after =
+    IsSettled start pieces out (Ok status) × (Sends to sink out sink_after × (last ≡ source_after))
+RunSays from to start pieces last sink out (Err (Header fault)) source_after sink_after =
+    IsSettled start pieces out (Err fault) × (Sends to sink out sink_after × (last ≡ source_after))
+RunSays from to start pieces last sink out (Err Device) source_after sink_after =
+    DeviceEnds from to start pieces last sink out source_after sink_after
+RunSays from to start pieces last sink out (Err Memory) source_after sink_after =
+    MemoryEnds to start pieces last sink out source_after sink_after
 
 -- a run: the pieces pulled, each when all that was whole before it was answered and no end told, the bytes sent, and what its answer says of both
-pub record Runs {S W : Type 0} (coming : S → Option (List ℕ)) (source_failed : S → ℕ) (gave : S → List ℕ → S → Type 0)
-    (taken : W → Option (List ℕ)) (flushed : W → Option ℕ) (sink_failed : W → ℕ)
+pub record Runs {S W : Type 0} (from : SourceView S) (to : SinkView W)
     (start : State) (source : S) (sink : W) (answer : Result ℕ RunFault) (source_after : S) (sink_after : W) : Type 0 where
   pub pieces : List (List ℕ)
   pub last : S
   pub out : List ℕ
-  pub needed : PulledWhile coming source_failed gave (IsAnsweredIn start out) [] source pieces last
+  pub needed : PulledWhile from (IsAnsweredIn start out) [] source pieces last
   pub stopped : OnlyLastEmpty pieces
   pub few : length pieces ≤ 2 ^ 48
-  pub says : RunSays coming source_failed taken flushed sink_failed start pieces last sink out answer source_after sink_after
+  pub says : RunSays from to start pieces last sink out answer source_after sink_after
 
 -- ---- by the bytes that the source tells
 

@@ -1,6 +1,7 @@
 //! One body in, the frames of its answer out.
 
 ghost use Rattle.std.specs.Prelude.{◌≡◌, ◌-◌, ◌^◌, ◌<◌, false, map};
+ghost use Rattle.lam_frame.specs.Device.{sink_of};
 ghost use Rattle.std.specs.List.{All};
 ghost use Rattle.serde_json.specs.View.{view};
 ghost use Rattle.serde_json.specs.Written.{has_float};
@@ -21,7 +22,7 @@ pub fn answer<W: Sink>(
     body: &[u8],
 ) -> Result<(), RunFault>
     requires { W.failed writer.old < 2 ^ 64 - 1 }
-    ensures { AnswersBody W.taken W.flushed W.failed session.old body.now writer.old result session.new writer.new }
+    ensures { AnswersBody (sink_of W.taken W.flushed W.failed) session.old body.now writer.old result session.new writer.new }
 {
     let Ok(incoming) = classify(alloc, body) else {
         return Err(RunFault::Memory);
@@ -36,7 +37,7 @@ pub fn answer<W: Sink>(
 fn write_values<W: Sink>(alloc: Global, writer: &mut W, values: &[Value]) -> Result<(), RunFault>
     requires failures { W.failed writer.old < 2 ^ 64 - 1 }
     requires plain { All (λ v. has_float (view v) ≡ false) values.now }
-    ensures { WritesValues W.taken W.flushed W.failed (map view values.now) writer.old result writer.new }
+    ensures { WritesValues (sink_of W.taken W.flushed W.failed) (map view values.now) writer.old result writer.new }
 {
     for value in values {
         let Ok(text) = value.to_string(alloc) else {

@@ -6,6 +6,7 @@
 #![tactic(auto)]
 
 ghost use Rattle.std.specs.Prelude.{◌≡◌, ◌≢◌, ◌-◌, ◌^◌, ◌<◌, map, string_bytes};
+ghost use Rattle.lam_frame.specs.Device.{source_of, sink_of};
 ghost use Rattle.std.specs.IoError.{error_kind};
 ghost use Rattle.lam_session.specs.State.{dialect_of, fresh};
 ghost use Rattle.lam_server.specs.inner.Ending.{EndsAsRun, EndsAsSomeRun, EndsByWords};
@@ -60,7 +61,7 @@ fn refuse<R: Eprint>(rt: &R, error: &io::Error) -> u8
 /// Reads the words, and then runs or says why not. The status to end with.
 fn start<R: AllocGlobal + Input + Print + Eprint>(rt: &R, words: &[String]) -> u8
     ensures { let source = ⟦<FromRead<R::Reader> as Source>⟧ in let sink = ⟦<ToWrite<Printer<'static, R>> as Sink>⟧ in
-        EndsByWords (EndsAsSomeRun source.coming source.failed source.gave sink.taken sink.flushed sink.failed) (map string_bytes words.now) result }
+        EndsByWords (EndsAsSomeRun (source_of source.coming source.failed source.gave) (sink_of sink.taken sink.flushed sink.failed)) (map string_bytes words.now) result }
 {
     match read_words(rt.alloc(), words) {
         Ok(config) => serve(rt, config),
@@ -89,7 +90,7 @@ fn read_words(alloc: Global, words: &[String]) -> Result<Config, ArgsFault>
 /// Serves standard input and output. The status to end with.
 fn serve<R: AllocGlobal + Input + Print + Eprint>(rt: &R, config: Config) -> u8
     ensures { let source = ⟦<FromRead<R::Reader> as Source>⟧ in let sink = ⟦<ToWrite<Printer<'static, R>> as Sink>⟧ in
-        EndsAsSomeRun source.coming source.failed source.gave sink.taken sink.flushed sink.failed (fresh (dialect_of config)) result }
+        EndsAsSomeRun (source_of source.coming source.failed source.gave) (sink_of sink.taken sink.flushed sink.failed) (fresh (dialect_of config)) result }
 {
     let mut reader = FromRead::new(rt.reader());
     let mut writer = ToWrite::new(io::writer(rt));
@@ -105,7 +106,7 @@ fn served<R: AllocGlobal + Eprint, S: Source, W: Sink>(
 ) -> u8
     requires source { S.failed reader.old < 2 ^ 64 - 1 }
     requires sink { W.failed writer.old < 2 ^ 64 - 1 }
-    ensures { EndsAsRun S.coming S.failed S.gave W.taken W.flushed W.failed (fresh (dialect_of config)) reader.old writer.old result reader.new writer.new }
+    ensures { EndsAsRun (source_of S.coming S.failed S.gave) (sink_of W.taken W.flushed W.failed) (fresh (dialect_of config)) reader.old writer.old result reader.new writer.new }
 {
     match run(rt.alloc(), reader, writer, config) {
         Ok(status) => status,

@@ -1,6 +1,7 @@
 //! A run: turn after turn, to the end.
 
 ghost use Rattle.std.specs.Prelude.{◌-◌, ◌^◌, ◌<◌, List, ℕ};
+ghost use Rattle.lam_frame.specs.Device.{source_of, sink_of};
 ghost use Rattle.lam_session.specs.State.{fresh, dialect_of};
 ghost use Rattle.lam_server.specs.Laws.{FailedPullFindsAllAnswered, HasOneOutput, OutputGrows};
 ghost use Rattle.lam_server.specs.Run.{AnswersWhereTold, Runs};
@@ -24,6 +25,8 @@ use std::alloc::Global;
 /// gave; after a device's fault or want of memory they say it of a front of the answers, which has all that was owed
 /// before the last pull. A pull that fails finds all answered, taken and flushed (`failed_pull`). That an answer is out
 /// before a pull that does not fail is said of `turn`; when memory is wanting is said nowhere.
+/// That the edits of a rename leave binding as it was, and in which texts there are faults of types, follows from what is
+/// told by two laws of lam_query, `renames_keep_binding` and `no_fault_is_well_typed`.
 ///
 /// Which output is allowed depends on the bytes and the dialect alone: every input has one, but for which derivation of a
 /// shown type is given, and what begins the output for some bytes begins it for any more of them.
@@ -36,8 +39,8 @@ pub fn run<R: Source, W: Sink>(
     requires source { R.failed reader.old < 2 ^ 64 - 1 }
     requires sink { W.failed writer.old < 2 ^ 64 - 1 }
     ensures told { AnswersWhereTold (fresh (dialect_of config)) (R.coming reader.old) (R.coming reader.new) result (W.taken writer.old) (W.taken writer.new) }
-    ensures runs { Runs R.coming R.failed R.gave W.taken W.flushed W.failed (fresh (dialect_of config)) reader.old writer.old result reader.new writer.new }
-    ensures failed_pull { FailedPullFindsAllAnswered R.coming R.failed R.gave W.taken W.flushed W.failed (fresh (dialect_of config)) reader.old writer.old result reader.new writer.new }
+    ensures runs { Runs (source_of R.coming R.failed R.gave) (sink_of W.taken W.flushed W.failed) (fresh (dialect_of config)) reader.old writer.old result reader.new writer.new }
+    ensures failed_pull { FailedPullFindsAllAnswered (source_of R.coming R.failed R.gave) (sink_of W.taken W.flushed W.failed) (fresh (dialect_of config)) reader.old writer.old result reader.new writer.new }
     ensures one_output { (input : List ℕ) → HasOneOutput (fresh (dialect_of config)) input }
     ensures grows { (bytes : List ℕ) → OutputGrows (fresh (dialect_of config)) bytes }
 {

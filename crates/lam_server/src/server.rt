@@ -1,6 +1,7 @@
 //! A server, turn by turn.
 
 ghost use Rattle.std.specs.Prelude.{◌≡◌, ◌-◌, ◌^◌, ◌<◌, IfOk, []};
+ghost use Rattle.lam_frame.specs.Device.{source_of, sink_of};
 ghost use Rattle.lam_session.specs.State.{fresh, dialect_of};
 
 use crate::answer::answer;
@@ -69,7 +70,7 @@ impl Server {
     pub fn turn<R: Source, W: Sink>(self, reader: &mut R, writer: &mut W) -> Result<Turn, RunFault>
         requires source { R.failed reader.old < 2 ^ 64 - 1 }
         requires sink { W.failed writer.old < 2 ^ 64 - 1 }
-        ensures takes { TakesTurn R.coming R.failed R.gave W.taken W.flushed W.failed
+        ensures takes { TakesTurn (source_of R.coming R.failed R.gave) (sink_of W.taken W.flushed W.failed)
             self reader.old writer.old result reader.new writer.new }
         ensures progress { ShrinksWork self result }
     {

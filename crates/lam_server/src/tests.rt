@@ -1,13 +1,14 @@
-//! What only devices in memory show: a run goes turn by turn, and answers each message before it reads on.
+//! What only devices in memory show: a run goes turn by turn, and answers each message before it reads on; and what it
+//! leaves where one call of a device fails.
 ghost use Rattle.std.specs.Prelude.{◌≡◌, Some, ⊤};
 
 use crate::faults::RunFault;
 use crate::run::run;
 use crate::server::{Server, Turn};
-use lam_frame::{BytesIn, BytesOut, DeviceFault, Sink, Source};
+use lam_frame::{BytesIn, BytesOut, DeviceFault, FailAt, Sink, Source};
 use lam_rules::Dialect;
 use lam_session::Config;
-use std::alloc::Global;
+use std::alloc::{AllocError, Global};
 use std::cell::Cell;
 
 const INITIALIZE: &str =
@@ -159,4 +160,85 @@ fn answers_before_it_pulls_again(rt: HostRuntime) {
     let (found, writer) = asked(rt.alloc(), &messages, &[0, 1, 2, 2]);
     assert_eq!(rt; found, Ok(0));
     assert_eq!(rt; writer.bytes(), ANSWERS.as_bytes());
+}
+
+/// The bodies of a session: a text is opened and changed, and a type is asked for.
+const BODIES: [&str; 6] = [
+    "{\"jsonrpc\":\"2.0\",\"id\":0,\"method\":\"initialize\"}",
+    "{\"jsonrpc\":\"2.0\",\"method\":\"textDocument/didOpen\",\"params\":{\"textDocument\":{\"uri\":\"file:///h\",\"text\":\"f : {a:Nat}->Nat; f {a=0, b=true}; f {}\"}}}",
+    "{\"jsonrpc\":\"2.0\",\"method\":\"textDocument/didChange\",\"params\":{\"textDocument\":{\"uri\":\"file:///h\",\"version\":2},\"contentChanges\":[{\"range\":{\"start\":{\"line\":0,\"character\":33},\"end\":{\"line\":0,\"character\":34}},\"text\":\"0\"}]}}",
+    "{\"jsonrpc\":\"2.0\",\"id\":1,\"method\":\"textDocument/hover\",\"params\":{\"textDocument\":{\"uri\":\"file:///h\"},\"position\":{\"line\":0,\"character\":18}}}",
+    "{\"jsonrpc\":\"2.0\",\"id\":2,\"method\":\"shutdown\"}",
+    "{\"jsonrpc\":\"2.0\",\"method\":\"exit\"}",
+];
+
+/// How many of them were answered before each pull, and at the end.
+const OWED: [usize; 7] = [0, 1, 2, 3, 4, 5, 5];
+
+/// The bodies as frames.
+fn frames(alloc: Global) -> Result<Vec<String>, AllocError> {
+    let mut made = Vec::new(alloc);
+    for body in BODIES.as_slice() {
+        made.push(format!(in alloc; "Content-Length: {}\r\n\r\n{body}", body.len())?)?;
+    }
+    Ok(made)
+}
+
+/// The first so many messages of the session, where a pull of one number fails and a push or a flush of another, 0 for
+/// none: the outcome, and what is written.
+fn session(
+    alloc: Global,
+    count: usize,
+    pull: u64,
+    call: u64,
+) -> Result<(Result<u8, RunFault>, Vec<u8>), AllocError> {
+    let made = frames(alloc)?;
+    let texts: Vec<&str> = made.iter().take(count).map(String::as_str).collect(alloc)?;
+    let answered = Cell::new(0);
+    let asker = Asker {
+        frames: texts.as_slice(),
+        owed: OWED.as_slice(),
+        given: 0,
+        answered: &answered,
+        failures: 0,
+    };
+    let hearer = Hearer {
+        inner: BytesOut::new(alloc),
+        unflushed: false,
+        answered: &answered,
+    };
+    let mut reader = FailAt::new(asker, pull);
+    let mut writer = FailAt::new(hearer, call);
+    let outcome = run(alloc, &mut reader, &mut writer, Config::new(Dialect::One));
+    let mut written = Vec::new(alloc);
+    written.extend_from_slice(writer.inner().inner.bytes())?;
+    Ok((outcome, written))
+}
+
+#[test]
+fn each_pull_fails_in_turn(rt: HostRuntime) -> Result<(), AllocError> {
+    for pull in 1..7usize {
+        let (outcome, written) = session(rt.alloc(), 6, pull as u64, 0)?;
+        let (_, answers) = session(rt.alloc(), pull.wrapping_sub(1), 0, 0)?;
+        assert_eq!(rt; outcome, Err(RunFault::Device));
+        assert_eq!(rt; written, answers);
+    }
+    let (outcome, _) = session(rt.alloc(), 6, 7, 0)?;
+    assert_eq!(rt; outcome, Ok(0));
+    Ok(())
+}
+
+/// Five answers take two pushes and a flush each.
+#[test]
+fn each_push_and_flush_fails_in_turn(rt: HostRuntime) -> Result<(), AllocError> {
+    let (_, whole) = session(rt.alloc(), 6, 0, 0)?;
+    for call in 1..16u64 {
+        let (outcome, written) = session(rt.alloc(), 6, 0, call)?;
+        assert_eq!(rt; outcome, Err(RunFault::Device));
+        assert!(rt; whole.starts_with(&written));
+    }
+    let (outcome, written) = session(rt.alloc(), 6, 0, 16)?;
+    assert_eq!(rt; outcome, Ok(0));
+    assert_eq!(rt; written, whole);
+    Ok(())
 }

@@ -1,7 +1,7 @@
 -- What the steps of a call that reads do: for the reader's private functions alone.
 use Rattle.std.specs.Prelude.{◌≡◌, ◌≢◌, ℕ, ◌+◌, ◌^◌, ◌<◌, ◌≤◌, List, [], ◌∷◌, ◌++◌, length, drop, Option, Some, None, Result, Ok, Err}
 use Rattle.std.specs.List.{AllByRecursion}
-use Rattle.lam_frame.specs.Device.{Gave, FailedPull}
+use Rattle.lam_frame.specs.Device.{Gave, FailedPull, SourceView}
 use Rattle.lam_frame.specs.Frame.{HasFault, IsOpen}
 use Rattle.lam_frame.specs.Header.{HasHeader, IsUnfinished, body_length, header_limit}
 use Rattle.lam_frame.specs.Next.{EndsEmpty}
@@ -33,27 +33,27 @@ IsStart bytes Open = IsUnfinished bytes × (length bytes < header_limit)
 IsStart bytes (Faulty fault) = HasFault bytes fault × IsByteFault fault
 
 -- one pull, whose piece stands behind the bytes held
-pub record PulledPiece {S : Type 0} (coming : S → Option (List ℕ)) (failed : S → ℕ) (gave : S → List ℕ → S → Type 0) (held : List ℕ) (source : S) (n : ℕ) (held_after : List ℕ) (source_after : S) : Type 0 where
+pub record PulledPiece {S : Type 0} (from : SourceView S) (held : List ℕ) (source : S) (n : ℕ) (held_after : List ℕ) (source_after : S) : Type 0 where
   pub piece : List ℕ
-  pub given : Gave coming failed gave source piece source_after
+  pub given : Gave from source piece source_after
   pub counted : length piece ≡ n
   pub small : n ≤ 65536
   pub added : held_after ≡ held ++ piece
 
 -- a pull behind the bytes held, or one that failed
-abbrev pub PullsBehind : {S : Type 0} → (S → Option (List ℕ)) → (S → ℕ) → (S → List ℕ → S → Type 0) → List ℕ → S → Result ℕ DeviceFault → List ℕ → S → Type 0
-PullsBehind coming failed gave held source (Ok n) held_after source_after = PulledPiece coming failed gave held source n held_after source_after
-PullsBehind coming failed gave held source (Err _) held_after source_after = FailedPull coming failed source source_after
+abbrev pub PullsBehind : {S : Type 0} → SourceView S → List ℕ → S → Result ℕ DeviceFault → List ℕ → S → Type 0
+PullsBehind from held source (Ok n) held_after source_after = PulledPiece from held source n held_after source_after
+PullsBehind from held source (Err _) held_after source_after = FailedPull from source source_after
 
 -- the same with the count of pulls and its limit
-abbrev pub PullsMore : {S : Type 0} → (S → Option (List ℕ)) → (S → ℕ) → (S → List ℕ → S → Type 0) → List ℕ → ℕ → S → Result ℕ FrameFault → List ℕ → ℕ → S → Type 0
-PullsMore coming failed gave held pulls source (Ok n) held_after pulls_after source_after =
-    PulledPiece coming failed gave held source n held_after source_after × ((pulls_after ≡ pulls + 1) × (pulls < 2 ^ 48))
-PullsMore coming failed gave held pulls source (Err Device) held_after pulls_after source_after =
-    FailedPull coming failed source source_after × (pulls_after ≡ pulls)
-PullsMore coming failed gave held pulls source (Err TooManyTurns) held_after pulls_after source_after =
+abbrev pub PullsMore : {S : Type 0} → SourceView S → List ℕ → ℕ → S → Result ℕ FrameFault → List ℕ → ℕ → S → Type 0
+PullsMore from held pulls source (Ok n) held_after pulls_after source_after =
+    PulledPiece from held source n held_after source_after × ((pulls_after ≡ pulls + 1) × (pulls < 2 ^ 48))
+PullsMore from held pulls source (Err Device) held_after pulls_after source_after =
+    FailedPull from source source_after × ((pulls_after ≡ pulls) × (pulls < 2 ^ 48))
+PullsMore from held pulls source (Err TooManyTurns) held_after pulls_after source_after =
     (source ≡ source_after) × ((pulls_after ≡ pulls) × (pulls ≡ 2 ^ 48))
-PullsMore coming failed gave held pulls source (Err _) held_after pulls_after source_after = ⊥
+PullsMore from held pulls source (Err _) held_after pulls_after source_after = ⊥
 
 -- no piece is empty
 abbrev pub NoneEmpty : List (List ℕ) → Type 0

@@ -7,14 +7,15 @@ use Rattle.lam_session.specs.Step.{Answers}
 use Rattle.lam_server.specs.Device.{Sends, FailsToSend, StopsSending}
 use Rattle.lam_server.specs.Output.{frames_of}
 use Rattle.lam_server.specs.declared.faults.RunFault.{RunFault}
+use Rattle.lam_frame.specs.Device.{SinkView}
 use Rattle.lam_server.specs.declared.faults.RunFault.TheVariants.{Header, Device, Memory}
 
 -- the frames of these values are written, or a front of them and then a fault
-abbrev pub WritesValues : {W : Type 0} → (W → Option (List ℕ)) → (W → Option ℕ) → (W → ℕ) → List Data → W → Result (Unit {0}) RunFault → W → Type 0
-WritesValues taken flushed failed values sink (Ok _) sink_after = Sends taken flushed failed sink (frames_of values) sink_after
-WritesValues taken flushed failed values sink (Err Device) sink_after = FailsToSend taken failed sink (frames_of values) sink_after
-WritesValues taken flushed failed values sink (Err Memory) sink_after = StopsSending taken flushed failed sink values sink_after
-WritesValues taken flushed failed values sink (Err (Header _)) sink_after = ⊥
+abbrev pub WritesValues : {W : Type 0} → SinkView W → List Data → W → Result (Unit {0}) RunFault → W → Type 0
+WritesValues to values sink (Ok _) sink_after = Sends to sink (frames_of values) sink_after
+WritesValues to values sink (Err Device) sink_after = FailsToSend to sink (frames_of values) sink_after
+WritesValues to values sink (Err Memory) sink_after = StopsSending to sink values sink_after
+WritesValues to values sink (Err (Header _)) sink_after = ⊥
 
 -- the session takes the message that the body is
 pub record StepsBody (old : Snapshot) (body : List ℕ) (values : List Data) (new : Snapshot) : Type 0 where
@@ -23,16 +24,16 @@ pub record StepsBody (old : Snapshot) (body : List ℕ) (values : List Data) (ne
   pub answers : Answers old message values new
 
 -- memory was wanting before anything was sent, or in the midst of it
-pub data StopsAnswering {W : Type 0} (taken : W → Option (List ℕ)) (flushed : W → Option ℕ) (failed : W → ℕ) (old : Snapshot) (body : List ℕ) (sink : W) (new : Snapshot) (sink_after : W) : Type 0 where
-  before_sending : sink ≡ sink_after → StopsAnswering taken flushed failed old body sink new sink_after
-  while_sending : (values : List Data) → StepsBody old body values new → StopsSending taken flushed failed sink values sink_after
-      → StopsAnswering taken flushed failed old body sink new sink_after
+pub data StopsAnswering {W : Type 0} (to : SinkView W) (old : Snapshot) (body : List ℕ) (sink : W) (new : Snapshot) (sink_after : W) : Type 0 where
+  before_sending : sink ≡ sink_after → StopsAnswering to old body sink new sink_after
+  while_sending : (values : List Data) → StepsBody old body values new → StopsSending to sink values sink_after
+      → StopsAnswering to old body sink new sink_after
 
 -- one body is answered, or not to its end
-abbrev pub AnswersBody : {W : Type 0} → (W → Option (List ℕ)) → (W → Option ℕ) → (W → ℕ) → Snapshot → List ℕ → W → Result (Unit {0}) RunFault → Snapshot → W → Type 0
-AnswersBody taken flushed failed old body sink (Ok _) new sink_after =
-    (values : List Data) × StepsBody old body values new × Sends taken flushed failed sink (frames_of values) sink_after
-AnswersBody taken flushed failed old body sink (Err Device) new sink_after =
-    (values : List Data) × StepsBody old body values new × FailsToSend taken failed sink (frames_of values) sink_after
-AnswersBody taken flushed failed old body sink (Err Memory) new sink_after = StopsAnswering taken flushed failed old body sink new sink_after
-AnswersBody taken flushed failed old body sink (Err (Header _)) new sink_after = ⊥
+abbrev pub AnswersBody : {W : Type 0} → SinkView W → Snapshot → List ℕ → W → Result (Unit {0}) RunFault → Snapshot → W → Type 0
+AnswersBody to old body sink (Ok _) new sink_after =
+    (values : List Data) × StepsBody old body values new × Sends to sink (frames_of values) sink_after
+AnswersBody to old body sink (Err Device) new sink_after =
+    (values : List Data) × StepsBody old body values new × FailsToSend to sink (frames_of values) sink_after
+AnswersBody to old body sink (Err Memory) new sink_after = StopsAnswering to old body sink new sink_after
+AnswersBody to old body sink (Err (Header _)) new sink_after = ⊥

@@ -7,6 +7,7 @@ use Rattle.lam_server.specs.Run.{AnswersWhereTold, Runs}
 use Rattle.lam_server.specs.Words.{ReadsWords}
 use Rattle.lam_server.specs.declared.args.ArgsFault.{ArgsFault}
 use Rattle.lam_server.specs.declared.args.ArgsFault.TheVariants.{Help, Usage, Memory}
+use Rattle.lam_frame.specs.Device.{SourceView, SinkView}
 use Rattle.lam_server.specs.declared.faults.RunFault.{RunFault}
 
 -- ---- a run
@@ -17,24 +18,22 @@ status_after (Ok status) = status
 status_after (Err fault) = status_of fault
 
 -- the status is that of a run from this state over this source and this sink
-pub record EndsAsRun {S W : Type 0} (coming : S → Option (List ℕ)) (source_failed : S → ℕ) (gave : S → List ℕ → S → Type 0)
-    (taken : W → Option (List ℕ)) (flushed : W → Option ℕ) (sink_failed : W → ℕ)
+pub record EndsAsRun {S W : Type 0} (from : SourceView S) (to : SinkView W)
     (start : State) (source : S) (sink : W) (status : ℕ) (source_after : S) (sink_after : W) : Type 0 where
   pub answer : Result ℕ RunFault
-  pub told : AnswersWhereTold start (coming source) (coming source_after) answer (taken sink) (taken sink_after)
-  pub runs : Runs coming source_failed gave taken flushed sink_failed start source sink answer source_after sink_after
+  pub told : AnswersWhereTold start (from.coming source) (from.coming source_after) answer (to.taken sink) (to.taken sink_after)
+  pub runs : Runs from to start source sink answer source_after sink_after
   pub ends : status ≡ status_after answer
 
 -- the status is that of a run from this state over some source and some sink, neither of which had failed before
-pub record EndsAsSomeRun {S W : Type 0} (coming : S → Option (List ℕ)) (source_failed : S → ℕ) (gave : S → List ℕ → S → Type 0)
-    (taken : W → Option (List ℕ)) (flushed : W → Option ℕ) (sink_failed : W → ℕ) (start : State) (status : ℕ) : Type 0 where
+pub record EndsAsSomeRun {S W : Type 0} (from : SourceView S) (to : SinkView W) (start : State) (status : ℕ) : Type 0 where
   pub source : S
   pub sink : W
   pub source_after : S
   pub sink_after : W
-  pub source_new : source_failed source ≡ 0
-  pub sink_new : sink_failed sink ≡ 0
-  pub run : EndsAsRun coming source_failed gave taken flushed sink_failed start source sink status source_after sink_after
+  pub source_new : from.failed source ≡ 0
+  pub sink_new : to.failed sink ≡ 0
+  pub run : EndsAsRun from to start source sink status source_after sink_after
 
 -- ---- by the words
 

@@ -1,7 +1,7 @@
 -- What a turn does: with the bytes held and pulled, with the session, and with the sink.
-use Rattle.std.specs.Prelude.{◌≡◌, ◌≢◌, ℕ, ◌+◌, ◌^◌, ◌≤◌, List, [], ◌++◌, length, Option, Some, Result, Ok, Err}
+use Rattle.std.specs.Prelude.{◌≡◌, ◌≢◌, ℕ, ◌+◌, ◌^◌, ◌<◌, ◌≤◌, List, [], ◌++◌, length, Option, Some, Result, Ok, Err}
 use Rattle.std.specs.List.{concat}
-use Rattle.lam_frame.specs.Device.{FailedPull}
+use Rattle.lam_frame.specs.Device.{FailedPull, SourceView, SinkView}
 use Rattle.lam_frame.specs.Frame.{HasFault, IsOpen}
 use Rattle.lam_frame.specs.Next.{EndsEmpty, OnlyLastEmpty, PulledWhile}
 use Rattle.lam_frame.specs.declared.fault.FrameFault.{FrameFault}
@@ -29,67 +29,65 @@ IsBroken bytes pieces Truncated = IsOpen bytes × ((bytes ≢ []) × EndsEmpty p
 IsBroken bytes pieces _ = ⊥
 
 -- one message is taken from these bytes and answered in full
-pub record AnswersOne {W : Type 0} (taken : W → Option (List ℕ)) (flushed : W → Option ℕ) (failed : W → ℕ)
+pub record AnswersOne {W : Type 0} (to : SinkView W)
     (s : State) (heard : List ℕ) (sink : W) (next : State) (left : List ℕ) (sink_after : W) : Type 0 where
   pub out : List ℕ
   pub takes : Takes s heard out next left
-  pub sends : Sends taken flushed failed sink out sink_after
+  pub sends : Sends to sink out sink_after
 
 -- the session goes on behind that message
-pub record GoesOn {W : Type 0} (taken : W → Option (List ℕ)) (flushed : W → Option ℕ) (failed : W → ℕ)
+pub record GoesOn {W : Type 0} (to : SinkView W)
     (old : Waiting) (heard : List ℕ) (pieces : List (List ℕ)) (sink : W) (new : Waiting) (sink_after : W) : Type 0 where
-  pub answers : AnswersOne taken flushed failed old.state heard sink new.state new.held sink_after
+  pub answers : AnswersOne to old.state heard sink new.state new.held sink_after
   pub live : IsLive new.state
   pub counted : new.pulls ≡ old.pulls + length pieces
 
 -- the session ends with that message, or nothing is left to hear
-pub data Ends {W : Type 0} (taken : W → Option (List ℕ)) (flushed : W → Option ℕ) (failed : W → ℕ)
+pub data Ends {W : Type 0} (to : SinkView W)
     (s : State) (heard : List ℕ) (pieces : List (List ℕ)) (sink : W) (status : ℕ) (sink_after : W) : Type 0 where
-  by_message : (next : State) (left : List ℕ) → AnswersOne taken flushed failed s heard sink next left sink_after
-      → ended_status next.life ≡ Some status → Ends taken flushed failed s heard pieces sink status sink_after
-  by_silence : heard ≡ [] → EndsEmpty pieces → status ≡ 1 → sink ≡ sink_after → Ends taken flushed failed s heard pieces sink status sink_after
+  by_message : (next : State) (left : List ℕ) → AnswersOne to s heard sink next left sink_after
+      → ended_status next.life ≡ Some status → Ends to s heard pieces sink status sink_after
+  by_silence : heard ≡ [] → EndsEmpty pieces → status ≡ 1 → sink ≡ sink_after → Ends to s heard pieces sink status sink_after
 
 -- a pull that was due failed; or it was one too many; or the sink failed, while it was given the answer
-pub data DeviceStops {S W : Type 0} (coming : S → Option (List ℕ)) (source_failed : S → ℕ) (taken : W → Option (List ℕ)) (sink_failed : W → ℕ)
+pub data DeviceStops {S W : Type 0} (from : SourceView S) (to : SinkView W)
     (old : Waiting) (heard : List ℕ) (pieces : List (List ℕ)) (last : S) (sink : W) (source_after : S) (sink_after : W) : Type 0 where
-  at_pull : WantsMore heard pieces → FailedPull coming source_failed last source_after → sink ≡ sink_after
-      → DeviceStops coming source_failed taken sink_failed old heard pieces last sink source_after sink_after
+  at_pull : WantsMore heard pieces → old.pulls + length pieces < 2 ^ 48 → FailedPull from last source_after → sink ≡ sink_after
+      → DeviceStops from to old heard pieces last sink source_after sink_after
   at_limit : WantsMore heard pieces → old.pulls + length pieces ≡ 2 ^ 48 → last ≡ source_after → sink ≡ sink_after
-      → DeviceStops coming source_failed taken sink_failed old heard pieces last sink source_after sink_after
-  at_sink : (out : List ℕ) (next : State) (left : List ℕ) → Takes old.state heard out next left → last ≡ source_after → FailsToSend taken sink_failed sink out sink_after
-      → DeviceStops coming source_failed taken sink_failed old heard pieces last sink source_after sink_after
+      → DeviceStops from to old heard pieces last sink source_after sink_after
+  at_sink : (out : List ℕ) (next : State) (left : List ℕ) → Takes old.state heard out next left → last ≡ source_after → FailsToSend to sink out sink_after
+      → DeviceStops from to old heard pieces last sink source_after sink_after
 
 -- nothing was sent; or the memory for the text of a value of the answer was wanting
-pub data MemoryStops {W : Type 0} (taken : W → Option (List ℕ)) (flushed : W → Option ℕ) (failed : W → ℕ)
+pub data MemoryStops {W : Type 0} (to : SinkView W)
     (s : State) (heard : List ℕ) (sink sink_after : W) : Type 0 where
-  before_sending : sink ≡ sink_after → MemoryStops taken flushed failed s heard sink sink_after
+  before_sending : sink ≡ sink_after → MemoryStops to s heard sink sink_after
   while_sending : (out : List ℕ) (next : State) (left : List ℕ) → (takes : Takes s heard out next left)
-      → StopsSending taken flushed failed sink takes.values sink_after → MemoryStops taken flushed failed s heard sink sink_after
+      → StopsSending to sink takes.values sink_after → MemoryStops to s heard sink sink_after
 
 -- what the answer of a turn says of the bytes heard
-abbrev pub TurnSays : {S W : Type 0} → (S → Option (List ℕ)) → (S → ℕ) → (W → Option (List ℕ)) → (W → Option ℕ) → (W → ℕ)
-    → Waiting → List ℕ → List (List ℕ) → S → W → Result Turn RunFault → S → W → Type 0
-TurnSays coming source_failed taken flushed sink_failed old heard pieces last sink (Ok (More server)) source_after sink_after =
-    GoesOn taken flushed sink_failed old heard pieces sink server sink_after × (last ≡ source_after)
-TurnSays coming source_failed taken flushed sink_failed old heard pieces last sink (Ok (End status)) source_after sink_after =
-    Ends taken flushed sink_failed old.state heard pieces sink status sink_after × (last ≡ source_after)
-TurnSays coming source_failed taken flushed sink_failed old heard pieces last sink (Err (Header fault)) source_after sink_after =
+abbrev pub TurnSays : {S W : Type 0} → SourceView S → SinkView W → Waiting → List ℕ → List (List ℕ) → S → W → Result Turn RunFault → S → W → Type 0
+TurnSays from to old heard pieces last sink (Ok (More server)) source_after sink_after =
+    GoesOn to old heard pieces sink server sink_after × (last ≡ source_after)
+TurnSays from to old heard pieces last sink (Ok (End status)) source_after sink_after =
+    Ends to old.state heard pieces sink status sink_after × (last ≡ source_after)
+TurnSays from to old heard pieces last sink (Err (Header fault)) source_after sink_after =
     IsBroken heard pieces fault × ((last ≡ source_after) × (sink ≡ sink_after))
-TurnSays coming source_failed taken flushed sink_failed old heard pieces last sink (Err Device) source_after sink_after =
-    DeviceStops coming source_failed taken sink_failed old heard pieces last sink source_after sink_after
-TurnSays coming source_failed taken flushed sink_failed old heard pieces last sink (Err Memory) source_after sink_after =
-    MemoryStops taken flushed sink_failed old.state heard sink sink_after × (last ≡ source_after)
+TurnSays from to old heard pieces last sink (Err Device) source_after sink_after =
+    DeviceStops from to old heard pieces last sink source_after sink_after
+TurnSays from to old heard pieces last sink (Err Memory) source_after sink_after =
+    MemoryStops to old.state heard sink sink_after × (last ≡ source_after)
 
 -- a turn: pulls while the bytes there decide nothing and no empty piece told the end, and then what the answer says
-pub record TakesTurn {S W : Type 0} (coming : S → Option (List ℕ)) (source_failed : S → ℕ) (gave : S → List ℕ → S → Type 0)
-    (taken : W → Option (List ℕ)) (flushed : W → Option ℕ) (sink_failed : W → ℕ)
+pub record TakesTurn {S W : Type 0} (from : SourceView S) (to : SinkView W)
     (old : Waiting) (source : S) (sink : W) (answer : Result Turn RunFault) (source_after : S) (sink_after : W) : Type 0 where
   pub pieces : List (List ℕ)
   pub last : S
-  pub needed : PulledWhile coming source_failed gave IsOpen old.held source pieces last
+  pub needed : PulledWhile from IsOpen old.held source pieces last
   pub stopped : OnlyLastEmpty pieces
   pub few : old.pulls + length pieces ≤ 2 ^ 48
-  pub says : TurnSays coming source_failed taken flushed sink_failed old (old.held ++ concat pieces) pieces last sink answer source_after sink_after
+  pub says : TurnSays from to old (old.held ++ concat pieces) pieces last sink answer source_after sink_after
 
 -- the work that is left grows less where the session goes on
 abbrev pub ShrinksWork : Waiting → Result Turn RunFault → Type 0

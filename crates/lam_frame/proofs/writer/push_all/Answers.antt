@@ -7,5 +7,6 @@ loop-rest-preserved g c =
     let known = g.W.Sink.taken in
     record {
       pushed = rw c.split_at.ensures.back (pushed_more (known c.args.sink.now) (known c.loop-rest.sink) (known c.push.new.self) _ _ _ c.loop-rest.invariant.pushed c.in-Ok.ensures.appended);
+      unflushed = c.in-Ok.ensures.unflushed ∙ c.loop-rest.invariant.unflushed;
       unfailed = c.in-Ok.ensures.counted ∙ some_taken _ _ _ c.if-count-eq0.false ∙ c.loop-rest.invariant.unfailed;
     }
