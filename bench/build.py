@@ -2,8 +2,9 @@
 """build.py: proves the crates that the program stands on, side by side, and builds it; says how far it is and how long is left.
 
 As many crates are proved at a time as there are processors, each once those below it are, those with the longest chain above
-them first. Each is proved by as many processes as there are processors, up to four, so that none lies idle where few crates are
-ready. What was built before and has not changed is not built again.
+them first. Each is proved by one process, since each process reads the libraries anew; where fewer crates are ready than there are
+processors, the processors that are left are shared out among them, up to four processes a crate. What was built before and has
+not changed is not built again.
 """
 
 import concurrent.futures
@@ -90,9 +91,10 @@ def main():
     with concurrent.futures.ThreadPoolExecutor(cores) as pool:
         while left or running:
             ready = [it for it in left if all(lower in taken for lower in below[it])]
+            jobs = max(1, min(4, cores // max(1, len(ready) + len(running))))
             for name in ready[: cores - len(running)]:
                 left.remove(name)
-                running[pool.submit(prove, name, min(4, cores))] = name, time.monotonic()
+                running[pool.submit(prove, name, jobs)] = name, time.monotonic()
             for it in concurrent.futures.wait(running, return_when=concurrent.futures.FIRST_COMPLETED).done:
                 name, began = running.pop(it)
                 if not it.result():
