@@ -1,4 +1,5 @@
-//! Proofs that one type is below another.
+//! Proofs that one type is below another. What a step does beside its recursion is kept out of line, so that each level
+//! of a type takes a small frame of the stack.
 
 ghost use Rattle.std.specs.Prelude.{◌≡◌, IfOk, IfSome, IfNone};
 ghost use Rattle.lam_rules.specs.Types.{Typ, record_of, AreWellFormed, IsWellFormed};
@@ -91,15 +92,33 @@ fn prove_record(
     requires below { AreBelow (fields_of lower.now) (fields_of upper.now) dialect }
     ensures { IfOk result (λ proof. LeadsTo proof (record_of (fields_of lower.now)) (record_of (fields_of upper.now)) dialect) }
 {
+    let premises = prove_fields(alloc, lower, upper, dialect)?;
+    steps_between(alloc, lower, upper, premises)
+}
+
+/// Those steps, where the premises make the type of each field that is asked for wider.
+#[inline(never)]
+fn steps_between(
+    alloc: Global,
+    lower: &[(String, Ty)],
+    upper: &[(String, Ty)],
+    premises: Vec<SubProof>,
+) -> Result<Option<SubProof>, AllocError>
+    requires lower { AreWellFormed (fields_of lower.now) }
+    requires upper { AreWellFormed (fields_of upper.now) }
+    requires labels { HasLabelsOf (fields_of lower.now) (fields_of upper.now) }
+    requires premises { GoesFieldByField (picked (fields_of lower.now) (fields_of upper.now)) (fields_of upper.now) (claims_of premises.items) }
+    ensures { IfOk result (λ proof. (d : Dialect) → AreSubProofs (sub_trees_of premises.items) d → LeadsTo proof (record_of (fields_of lower.now)) (record_of (fields_of upper.now)) d) }
+{
     let picked = picked_fields(alloc, lower, upper)?;
     let cut = prove_picked(alloc, lower, upper, &picked)?;
-    let premises = prove_fields(alloc, lower, upper, dialect)?;
     let widened = record_step(alloc, SubRule::RcdDepth, premises, &picked, upper)?;
     chain(alloc, cut, widened)
 }
 
 /// The steps to the fields that are picked of a record type: they are put in front, and the others
 /// cut off.
+#[inline(never)]
 fn prove_picked(
     alloc: Global,
     lower: &[(String, Ty)],
@@ -145,6 +164,7 @@ fn prove_fields(
 }
 
 /// Copies of the fields whose labels are asked for, in the order in which they are.
+#[inline(never)]
 fn picked_fields(
     alloc: Global,
     fields: &[(String, Ty)],
@@ -168,6 +188,7 @@ fn picked_fields(
 }
 
 /// A tree with this last step.
+#[inline(never)]
 fn conclude(
     alloc: Global,
     rule: SubRule,
@@ -188,6 +209,7 @@ fn conclude(
 }
 
 /// A proof whose last step goes from one record type to another, or none where they are one type.
+#[inline(never)]
 fn record_step(
     alloc: Global,
     rule: SubRule,
@@ -214,6 +236,7 @@ fn record_step(
 }
 
 /// The first proof and then the second, by transitivity where there are both.
+#[inline(never)]
 fn chain(
     alloc: Global,
     first: Option<SubProof>,
@@ -232,6 +255,7 @@ fn chain(
 }
 
 /// A proof whose last step is that of transitivity.
+#[inline(never)]
 fn by_transitivity(alloc: Global, first: SubProof, second: SubProof) -> Result<SubProof, AllocError>
     ensures { IfOk result (λ made. (s u t : Typ) (d : Dialect) → ProvesBelow (sub_tree_of first) s u d → ProvesBelow (sub_tree_of second) u t d → ProvesBelow (sub_tree_of made) s t d) }
 {

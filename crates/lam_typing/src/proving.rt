@@ -2,6 +2,9 @@
 //!
 //! What is known of a type that was found is that it is least, and two least types may differ in the order of fields.
 //! So each step is followed by one of subsumption where it does not conclude in the very type that was found.
+//!
+//! Each rule is kept out of line, and so is what is done behind the recursion, so that each level of a term takes the
+//! frame of the match and of one rule.
 
 ghost use Rattle.std.specs.Prelude.{◌≡◌, ◌<◌, ◌≤◌, ℕ, IfOk, OnOk, Some, None};
 ghost use Rattle.std.specs.Option.{option_map};
@@ -107,6 +110,7 @@ fn prove_form(
 }
 
 /// Constants and numerals.
+#[inline(never)]
 fn prove_leaf(
     alloc: Global,
     grounds: &Grounds<'_>,
@@ -122,6 +126,7 @@ fn prove_leaf(
 }
 
 /// A variable has the entry of its binder.
+#[inline(never)]
 fn prove_variable(
     alloc: Global,
     grounds: &Grounds<'_>,
@@ -138,6 +143,7 @@ fn prove_variable(
 }
 
 /// T-Succ, T-Pred and T-IsZero.
+#[inline(never)]
 #[cycle(prove_term)]
 fn prove_number(
     alloc: Global,
@@ -158,6 +164,7 @@ fn prove_number(
 }
 
 /// T-If: both branches are made as wide as the whole.
+#[inline(never)]
 #[cycle(prove_term)]
 fn prove_if(
     alloc: Global,
@@ -195,6 +202,7 @@ fn prove_if(
 }
 
 /// T-Abs.
+#[inline(never)]
 #[cycle(prove_term)]
 fn prove_lambda(
     alloc: Global,
@@ -218,6 +226,7 @@ fn prove_lambda(
 }
 
 /// T-App.
+#[inline(never)]
 #[cycle(prove_term)]
 fn prove_apply(
     alloc: Global,
@@ -240,6 +249,7 @@ fn prove_apply(
 }
 
 /// The step of T-App from a function and its argument, which is made as wide as the parameter.
+#[inline(never)]
 fn finish_apply(
     alloc: Global,
     grounds: &Grounds<'_>,
@@ -268,6 +278,7 @@ fn finish_apply(
 }
 
 /// T-Ascribe: the term is made as wide as what is written.
+#[inline(never)]
 #[cycle(prove_term)]
 fn prove_ascribe(
     alloc: Global,
@@ -291,6 +302,7 @@ fn prove_ascribe(
 }
 
 /// T-Let.
+#[inline(never)]
 #[cycle(prove_term)]
 fn prove_let(
     alloc: Global,
@@ -322,6 +334,7 @@ fn prove_let(
 }
 
 /// T-Rcd.
+#[inline(never)]
 #[cycle(prove_term)]
 fn prove_record(
     alloc: Global,
@@ -383,6 +396,7 @@ fn prove_fields(
 }
 
 /// Puts the term of a field before those that stand, which are kept from the last to the first.
+#[inline(never)]
 fn put_field(
     alloc: Global,
     made: &mut ProvenFields,
@@ -401,6 +415,7 @@ fn put_field(
 }
 
 /// T-Proj.
+#[inline(never)]
 #[cycle(prove_term)]
 fn prove_project(
     alloc: Global,
@@ -427,6 +442,7 @@ fn prove_project(
 }
 
 /// T-Fix: the function is made one from its outcome to its outcome.
+#[inline(never)]
 #[cycle(prove_term)]
 fn prove_fix(
     alloc: Global,
@@ -469,6 +485,7 @@ fn prove_as(
 }
 
 /// The arrow from a type to another, in memory of its own.
+#[inline(never)]
 fn arrow_between(alloc: Global, parameter: &Ty, outcome: &Ty) -> Result<Ty, AllocError>
     ensures { IfOk result (λ made. typ_of made ≡ arrow (typ_of parameter.now) (typ_of outcome.now)) }
 {
@@ -478,6 +495,7 @@ fn arrow_between(alloc: Global, parameter: &Ty, outcome: &Ty) -> Result<Ty, Allo
 }
 
 /// The step of a rule of one premise, which begins at the same place.
+#[inline(never)]
 fn finish_over(
     alloc: Global,
     grounds: &Grounds<'_>,
@@ -494,6 +512,7 @@ fn finish_over(
 }
 
 /// The step of a rule of two premises, of which the first begins at the same place.
+#[inline(never)]
 fn finish_over_two(
     alloc: Global,
     grounds: &Grounds<'_>,
@@ -511,6 +530,7 @@ fn finish_over_two(
 }
 
 /// The step of a rule, and one to the type that was found where it concludes in another.
+#[inline(never)]
 fn finish(
     alloc: Global,
     grounds: &Grounds<'_>,
@@ -536,6 +556,7 @@ fn finish(
 
 /// A proof with one step of subsumption more, where its type is not this one already; none, where it is not below this
 /// one. Types in which a label is repeated have no proofs.
+#[inline(never)]
 #[tactic(auto, using(lam_rules::proofs::TypingShapes::typing_shapes))]
 fn widened(
     alloc: Global,
@@ -562,6 +583,7 @@ fn widened(
 }
 
 /// The step of subsumption from a proof, by a proof that its type is below this one.
+#[inline(never)]
 fn subsumed(
     alloc: Global,
     proof: TypeProof,

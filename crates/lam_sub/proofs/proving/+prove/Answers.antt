@@ -1,20 +1,17 @@
 use Rattle.std.proofs.Common.{◌≡◌, ◌∙◌, ap, sym, refl, subst, arith, string_bytes, append-nil, [], true, false, Some}
 use Rattle.std.proofs.lemmas.List.{drop_all}
-use Rattle.std.proofs.lemmas.Result.{IfOk-weaker}
-use Rattle.lam_rules.specs.Types.{Has, IsAbsent, record_of, IsWellFormed, AreWellFormed}
+use Rattle.lam_rules.specs.Types.{Has, IsAbsent, record_of, IsWellFormed}
 use Rattle.lam_rules.specs.TypeViews.{typ_of, fields_of}
-use Rattle.lam_rules.specs.Subtyping.{IsBelow, IsRuleOf, GoesFieldByField}
-use Rattle.lam_rules.specs.SubViews.{claims_of}
+use Rattle.lam_rules.specs.Subtyping.{IsBelow, IsRuleOf}
 use Rattle.lam_rules.specs.declared.rules.SubRule.{SubRule}
 use Rattle.lam_rules.proofs.TypeShapes.{typ_of-Top, typ_of-Arrow}
 use Rattle.lam_rules.proofs.ByShape.{below_wf}
-use Rattle.lam_sub.specs.inner.Arranging.{picked}
 use Rattle.lam_sub.specs.inner.Steps.{LeadsTo}
 use Rattle.lam_sub.proofs.LookUps.{item_has}
 use Rattle.lam_sub.proofs.Below.{no_field, field_iff, nodes_of_field, record_inside}
-use Rattle.lam_sub.proofs.Arranging.{type_under_is, below_labels, picked_wf}
+use Rattle.lam_sub.proofs.Arranging.{type_under_is, below_labels}
 use Rattle.lam_sub.proofs.ByVariant.{not_arrow, not_record, two_arrows, record_seen, nodes_of_record, nodes_of_arrow, only_bool_and_nat, field_first}
-use Rattle.lam_sub.proofs.Steps.{concluded, concluded_arrow, claim_is, picked_is, proofs_more, claims_more}
+use Rattle.lam_sub.proofs.Steps.{concluded, concluded_arrow, claim_is, proofs_more, claims_more}
 use Rattle.lam_sub.proofs.proving.+prove.Goals as goal
 
 -- the fields that are asked for, one after the other
@@ -56,39 +53,8 @@ prove_fields-returns-clause-claims t c =
 
 -- the steps between two record types
 
-pub prove_record-picked_fields-requires-clause-labels : goal.prove_record-picked_fields-requires-clause-labels
-prove_record-picked_fields-requires-clause-labels t c = below_labels (fields_of c.args.lower.now) (fields_of c.args.upper.now) c.args.dialect c.requires.below
-
-pub prove_record-prove_picked-requires-clause-labels : goal.prove_record-prove_picked-requires-clause-labels
-prove_record-prove_picked-requires-clause-labels t c = below_labels (fields_of c.args.lower.now) (fields_of c.args.upper.now) c.args.dialect c.requires.below
-
-pub prove_record-prove_picked-requires-clause-front : goal.prove_record-prove_picked-requires-clause-front
-prove_record-prove_picked-requires-clause-front t c = picked_is _ _ (fields_of c.args.lower.now) (fields_of c.args.upper.now) c.in_ok-picked.ensures c.deref.ensures.value
-
-pub prove_record-record_step-requires-clause-lower : goal.prove_record-record_step-requires-clause-lower
-prove_record-record_step-requires-clause-lower t c =
-    subst (λ hs. AreWellFormed hs)
-    (sym (picked_is _ _ (fields_of c.args.lower.now) (fields_of c.args.upper.now) c.in_ok-picked.ensures c.deref-2.ensures.value))
-    (picked_wf (fields_of c.args.lower.now) (fields_of c.args.upper.now) c.requires.lower c.requires.upper (below_labels _ _ _ c.requires.below))
-
-pub prove_record-record_step-requires-clause-by_rule : goal.prove_record-record_step-requires-clause-by_rule
-prove_record-record_step-requires-clause-by_rule t c =
-    subst (λ hs. GoesFieldByField hs (fields_of c.args.upper.now) (claims_of c.in_ok-premises.premises.items))
-    (sym (picked_is _ _ (fields_of c.args.lower.now) (fields_of c.args.upper.now) c.in_ok-picked.ensures c.deref-2.ensures.value))
-    c.in_ok-premises.ensures.claims
-
-pub prove_record-returns : goal.prove_record-returns
-prove_record-returns t c =
-    let fs = fields_of c.args.lower.now in
-    let gs = fields_of c.args.upper.now in
-    let d = c.args.dialect in
-    let cut = subst (λ hs. LeadsTo c.in_ok-cut.cut (record_of fs) (record_of hs) d)
-    (picked_is _ _ fs gs c.in_ok-picked.ensures c.deref.ensures.value) (c.in_ok-cut.ensures d) in
-    let widened = subst (λ hs. LeadsTo c.in_ok-widened.widened (record_of hs) (record_of gs) d)
-    (picked_is _ _ fs gs c.in_ok-picked.ensures c.deref-2.ensures.value)
-    (c.in_ok-widened.ensures d tt c.in_ok-premises.ensures.proofs) in
-    IfOk-weaker c.chain.result _ (λ made. LeadsTo made (record_of fs) (record_of gs) d)
-    (λ made leads. leads (record_of fs) (record_of (picked fs gs)) (record_of gs) d cut widened) c.chain.ensures
+pub prove_record-steps_between-requires-clause-labels : goal.prove_record-steps_between-requires-clause-labels
+prove_record-steps_between-requires-clause-labels t c = below_labels (fields_of c.args.lower.now) (fields_of c.args.upper.now) c.args.dialect c.requires.below
 
 -- the last step, by the shape of the two types
 
