@@ -13,4 +13,7 @@ pub mod EditedTexts
 pub mod NamePlaces
 pub mod BlankEnds
 pub mod SimpleTexts
+pub mod OtherEnds
 pub mod LongerTexts
+pub mod Divided
+pub mod MovedTokens

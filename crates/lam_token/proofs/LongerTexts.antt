@@ -1,20 +1,20 @@
 -- A text, or its front up to a token, goes on to tokens of whatever kinds: behind a blank stand simple lexemes of these kinds.
-use Rattle.std.proofs.Common.{◌≡◌, ℕ, ◌+◌, ◌<◌, true, List, [], ◌∷◌, ◌++◌, length, take, map, ◌⊎◌, inl, inr, ⊎_elim, sym, refl, ap, ◌∙◌, subst, append_assoc, arith, length-append}
+use Rattle.std.proofs.Common.{◌≡◌, ℕ, ◌+◌, ◌<◌, true, List, [], ◌∷◌, ◌++◌, length, take, map, ◌⊎◌, inl, inr, ⊎_elim, sym, ap, ◌∙◌, subst, arith, length-append}
 use Rattle.std.specs.Prelude.{encode_utf8_all}
 use Rattle.std.specs.Str.{chars, IsUtf8, all_scalars}
 use Rattle.std.proofs.lemmas.List.{append-nil, take_at}
-use Rattle.std.proofs.lemmas.Str.{encodes-append, encodes-chars, scalars-chars, chars_from_encodes}
+use Rattle.std.proofs.lemmas.Str.{encodes-append, scalars-chars, chars_from_encodes}
 use Rattle.lam_token.specs.declared.kind.Kind.{Kind}
 use Rattle.lam_token.specs.declared.kind.Kind.TheVariants.{BadComment}
 use Rattle.lam_token.specs.declared.segment.Segment.{Segment}
 use Rattle.lam_token.specs.declared.segment.Segment.TheVariants.{Blank, Comment, Token}
 use Rattle.lam_token.specs.Lexeme.{Lexeme, lexeme_at, kind_of, start_of}
-use Rattle.lam_token.specs.Cut.{IsFirst, Part, IsCut, with_token, tokens_of, AreTokensOf}
+use Rattle.lam_token.specs.Cut.{Part, IsCut, with_token, tokens_of, AreTokensOf}
 use Rattle.lam_token.proofs.Cuts.{some_characters}
-use Rattle.lam_token.proofs.NextSegment.{StartsAlike, first_alike, front_alike}
 use Rattle.lam_token.proofs.Exchanged.{size, joined, cut_joined}
 use Rattle.lam_token.proofs.EditedTexts.{scalars_both, scalars_parts}
 use Rattle.lam_token.proofs.BlankEnds.{blank_ends}
+use Rattle.lam_token.proofs.OtherEnds.{LastStays, other_end, tokens_joined, joined-append, whole_bytes, bytes_joined, in_front}
 use Rattle.lam_token.proofs.SimpleTexts.{AllGood, simple_text, simple_parts, simple_begins, simple_cut, simple_kinds, simple_text-scalars}
 
 -- ---- another end
@@ -41,47 +41,11 @@ last_closes p rest qs cut may is_open ended =
     (λ (closed : p.sort ≡ Token BadComment → ⊥). closed is_open)
     may
 
--- the segments up to there stay, and those of the new end follow
-longer_cut : (text : List ℕ) (ps qs rs : List Part) (end more : List ℕ) → IsCut text (ps ++ qs) → MayEnd ps qs → end ≡ 32 ∷ more → IsCut end rs → IsCut (joined ps ++ end) (ps ++ rs)
-longer_cut text [] qs rs end more cut may blank new = new
-longer_cut text (p ∷ []) qs rs end more cut may blank new = (
-  end,
-  append_assoc p.characters [] end,
-  subst (IsFirst p.sort p.characters) (sym blank) (blank_ends p.sort p.characters cut.0 more (last_closes p cut.0 qs cut.3 may) cut.2),
-  new,
-)
-longer_cut text (p ∷ q ∷ ps) qs rs end more cut may blank new =
-    let behind = cut.3 in
-    let alike : StartsAlike cut.0 (joined (q ∷ ps) ++ end) =
-    subst (λ l. StartsAlike l (joined (q ∷ ps) ++ end)) (sym behind.1)
-    (subst (StartsAlike (q.characters ++ behind.0)) (sym (append_assoc q.characters (joined ps) end))
-    (front_alike q.characters behind.0 (joined ps ++ end) (some_characters q.sort q.characters behind.0 behind.2))) in (
-      joined (q ∷ ps) ++ end,
-      append_assoc p.characters (joined (q ∷ ps)) end,
-      first_alike p.sort p.characters cut.0 (joined (q ∷ ps) ++ end) alike cut.2,
-      longer_cut cut.0 (q ∷ ps) qs rs end more behind may blank new,
-    )
-
--- and so do the tokens
-
-with_joined : (s : Segment) (bytes : List ℕ) (start : ℕ) (ts us : List Lexeme) → with_token s bytes start (ts ++ us) ≡ with_token s bytes start ts ++ us
-with_joined Blank bytes start ts us = refl
-with_joined Comment bytes start ts us = refl
-with_joined (Token k) bytes start ts us = refl
-
-tokens_joined : (start : ℕ) (ps rs : List Part) → tokens_of start (ps ++ rs) ≡ tokens_of start ps ++ tokens_of (start + length (encode_utf8_all (joined ps))) rs
-tokens_joined start [] rs = let here : start ≡ start + length (encode_utf8_all []) = omega arith in ap (λ n. tokens_of n rs) here
-tokens_joined start (p ∷ ps) rs =
-    let bytes = encode_utf8_all p.characters in
-    let there : start + length bytes + length (encode_utf8_all (joined ps)) ≡ start + length (encode_utf8_all (p.characters ++ joined ps)) =
-    omega (arith, ap length (encodes-append p.characters (joined ps)), length-append bytes (encode_utf8_all (joined ps))) in
-    ap (with_token p.sort bytes start) (tokens_joined (start + length bytes) ps rs)
-    ∙ with_joined p.sort bytes start _ _
-    ∙ ap (λ n. tokens_of start (p ∷ ps) ++ tokens_of n rs) there
-
-joined-append : (ps qs : List Part) → joined (ps ++ qs) ≡ joined ps ++ joined qs
-joined-append [] qs = refl
-joined-append (p ∷ ps) qs = ap (λ l. p.characters ++ l) (joined-append ps qs) ∙ sym (append_assoc p.characters (joined ps) (joined qs))
+-- so the last one stays in front of a blank
+may_end-stays : (ps qs : List Part) (more : List ℕ) → MayEnd ps qs → LastStays qs (32 ∷ more) ps
+may_end-stays [] qs more may = tt
+may_end-stays (p ∷ []) qs more may = λ rest cut first. blank_ends p.sort p.characters rest more (last_closes p rest qs cut may) first
+may_end-stays (p ∷ q ∷ ps) qs more may = may_end-stays (q ∷ ps) qs more may
 
 -- ---- the text that goes on
 
@@ -107,7 +71,8 @@ goes_on_to text front tokens kinds ps qs is_text cut may are bytes good =
     let whole : encode_utf8_all (joined ps ++ end) ≡ front ++ encode_utf8_all end = encodes-append (joined ps) end ∙ ap (λ l. l ++ encode_utf8_all end) (sym bytes) in
     let is_longer : IsUtf8 (front ++ encode_utf8_all end) = (joined ps ++ end, (longer_scalars text ps qs end is_text cut (simple_text-scalars kinds), whole)) in
     let begins = simple_begins kinds in
-    let new = longer_cut (chars text) ps qs (simple_parts kinds) end begins.0 cut may begins.1 (simple_cut kinds good) in
+    let stays = subst (λ l. LastStays qs l ps) (sym begins.1) (may_end-stays ps qs begins.0 may) in
+    let new = other_end (chars text) ps qs (simple_parts kinds) end cut stays (simple_cut kinds good) in
     record {
       more = encode_utf8_all end;
       rest = tokens_of there (simple_parts kinds);
@@ -149,9 +114,6 @@ segments_close start [] closes = tt
 segments_close start (p ∷ []) closes = token_closes p.sort (encode_utf8_all p.characters) start closes
 segments_close start (p ∷ q ∷ ps) closes = segments_close (start + size p) (q ∷ ps) (others_last p.sort (encode_utf8_all p.characters) start _ closes)
 
-whole_bytes : (text : List ℕ) (ps : List Part) → IsUtf8 text → IsCut (chars text) ps → text ≡ encode_utf8_all (joined ps)
-whole_bytes text ps is_text cut = sym (encodes-chars text is_text) ∙ ap encode_utf8_all (cut_joined (chars text) ps cut)
-
 -- a text that ends in no open comment goes on
 pub text_goes_on : (text : List ℕ) (tokens : List Lexeme) (kinds : List Kind) → IsUtf8 text → AreTokensOf text tokens → LastTokenCloses tokens → AllGood kinds → GoesOnTo text tokens kinds
 text_goes_on text tokens kinds is_text are closes good =
@@ -161,45 +123,6 @@ text_goes_on text tokens kinds is_text are closes good =
 
 -- ---- in front of a token
 
--- the segments in front of a token, and where it begins
-record InFront (start : ℕ) (ps : List Part) (ts : List Lexeme) (t : Lexeme) : Type 0 where
-  front : List Part
-  first : Part
-  back : List Part
-  splits : ps ≡ front ++ (first ∷ back)
-  tokens : tokens_of start front ≡ ts
-  starts : start_of t ≡ start + length (encode_utf8_all (joined front))
-
-one_more : (start : ℕ) (p : Part) (ps : List Part) (ts us : List Lexeme) (t : Lexeme) → InFront (start + size p) ps ts t → with_token p.sort (encode_utf8_all p.characters) start ts ≡ us → InFront start (p ∷ ps) us t
-one_more start p ps ts us t found is = record {
-  front = p ∷ found.front;
-  first = found.first;
-  back = found.back;
-  splits = ap (λ l. p ∷ l) found.splits;
-  tokens = ap (with_token p.sort (encode_utf8_all p.characters) start) found.tokens ∙ is;
-  starts = omega (arith, found.starts, ap length (encodes-append p.characters (joined found.front)), length-append (encode_utf8_all p.characters) (encode_utf8_all (joined found.front)));
-}
-
--- by what the first segment is
-further : (start : ℕ) (p : Part) (ps : List Part) (s : Segment) (ts : List Lexeme) (t : Lexeme) (us : List Lexeme) → p.sort ≡ s
-    → ((xs : List Lexeme) → tokens_of (start + size p) ps ≡ xs ++ (t ∷ us) → InFront (start + size p) ps xs t)
-    → with_token s (encode_utf8_all p.characters) start (tokens_of (start + size p) ps) ≡ ts ++ (t ∷ us) → InFront start (p ∷ ps) ts t
-further start p ps Blank ts t us is behind are = one_more start p ps ts ts t (behind ts are) (ap (λ s. with_token s (encode_utf8_all p.characters) start ts) is)
-further start p ps Comment ts t us is behind are = one_more start p ps ts ts t (behind ts are) (ap (λ s. with_token s (encode_utf8_all p.characters) start ts) is)
-further start p ps (Token k) [] t us is behind are =
-    let here : lexeme_at k (encode_utf8_all p.characters) start ≡ t = cc in
-    let at : start ≡ start_of t = ap start_of here in
-    record { front = []; first = p; back = ps; splits = refl; tokens = refl; starts = omega (arith, at) }
-further start p ps (Token k) (x ∷ ts) t us is behind are =
-    let here : lexeme_at k (encode_utf8_all p.characters) start ≡ x = cc in
-    let others : tokens_of (start + size p) ps ≡ ts ++ (t ∷ us) = cc in
-    one_more start p ps ts (x ∷ ts) t (behind ts others) (ap (λ s. with_token s (encode_utf8_all p.characters) start ts) is ∙ ap (λ y. y ∷ ts) here)
-
-in_front : (start : ℕ) (ps : List Part) (ts : List Lexeme) (t : Lexeme) (us : List Lexeme) → tokens_of start ps ≡ ts ++ (t ∷ us) → InFront start ps ts t
-in_front start [] [] t us are = absurd cc
-in_front start [] (x ∷ ts) t us are = absurd cc
-in_front start (p ∷ ps) ts t us are = further start p ps p.sort ts t us refl (λ xs rest. in_front (start + size p) ps xs t us rest) are
-
 -- a text goes on otherwise from one of its tokens on
 pub front_goes_on : (text : List ℕ) (tokens : List Lexeme) (t : Lexeme) (behind : List Lexeme) (kinds : List Kind) → IsUtf8 text → AreTokensOf text (tokens ++ (t ∷ behind)) → AllGood kinds → GoesOnTo (take (start_of t) text) tokens kinds
 front_goes_on text tokens t behind kinds is_text are good =
@@ -207,8 +130,7 @@ front_goes_on text tokens t behind kinds is_text are good =
     let ps = found.front in
     let qs = found.first ∷ found.back in
     let cut : IsCut (chars text) (ps ++ qs) = subst (IsCut (chars text)) found.splits are.cut in
-    let whole : text ≡ encode_utf8_all (joined ps) ++ encode_utf8_all (joined qs) =
-    whole_bytes text (ps ++ qs) is_text cut ∙ ap encode_utf8_all (joined-append ps qs) ∙ encodes-append (joined ps) (joined qs) in
+    let whole = bytes_joined text ps qs is_text cut in
     let front : take (start_of t) text ≡ encode_utf8_all (joined ps) =
     ap (take (start_of t)) whole ∙ take_at (encode_utf8_all (joined ps)) (encode_utf8_all (joined qs)) (start_of t) (omega (arith, found.starts)) in
     goes_on_to text (take (start_of t) text) tokens kinds ps qs is_text cut (inl (omega arith)) found.tokens front good

@@ -121,7 +121,7 @@ name_begins c cs kind is shape = begins_by (beginning_of c) c cs kind is (beginn
 -- ---- what a segment goes on with
 
 -- what would make a segment that begins so longer
-abbrev goes_on : Beginning → ℕ → Bool
+abbrev pub goes_on : Beginning → ℕ → Bool
 goes_on begin.Digit = is_digit
 goes_on begin.Letter = is_continuing
 goes_on begin.Underscore = is_continuing
@@ -171,7 +171,7 @@ longer_none begin.Dash c (d ∷ cs) rest (x ∷ y ∷ front) after s is stop sam
 longer_none (begin.Mark k) c cs rest front after s is stop same longer = not_alone (Token k) front (omega arith)
 longer_none begin.Stray c cs rest front after s is stop same longer = absurd cc
 
-stays_longest : (c : ℕ) (cs rest : List ℕ) (s : Segment) → shape_of (c ∷ cs) ≡ Some s → EndsRun (goes_on (beginning_of c)) rest → NothingLonger (c ∷ cs ++ rest) (c ∷ cs)
+pub stays_longest : (c : ℕ) (cs rest : List ℕ) (s : Segment) → shape_of (c ∷ cs) ≡ Some s → EndsRun (goes_on (beginning_of c)) rest → NothingLonger (c ∷ cs ++ rest) (c ∷ cs)
 stays_longest c cs rest s is stop [] after same longer = absurd (omega arith)
 stays_longest c cs rest s is stop (d ∷ front) after same longer =
     let head : d ≡ c = cc in

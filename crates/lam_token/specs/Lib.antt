@@ -4,4 +4,6 @@ pub mod Shape
 pub mod Comment
 pub mod Cut
 pub mod Edits
+pub mod Divided
+pub mod MovedTokens
 pub mod inner

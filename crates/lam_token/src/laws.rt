@@ -1,14 +1,17 @@
 //! What holds of all texts.
 //! Each law is the contract of a function that does nothing.
-ghost use Rattle.std.specs.Prelude.{◌≡◌, ◌↔◌, ℕ, List, Some, map};
+ghost use Rattle.std.specs.Prelude.{◌≡◌, ◌↔◌, ℕ, ◌+◌, List, ◌∷◌, ◌++◌, Some, length, map};
 ghost use Rattle.std.specs.Str.{IsUtf8};
 ghost use Rattle.lam_token.specs.declared.kind.Kind.{Kind};
+ghost use Rattle.lam_token.specs.declared.kind.Kind.TheVariants.{Semicolon};
 ghost use Rattle.lam_token.specs.declared.span.Span.{Span};
-ghost use Rattle.lam_token.specs.Lexeme.{Lexeme};
+ghost use Rattle.lam_token.specs.Lexeme.{Lexeme, kind_of};
 ghost use Rattle.lam_token.specs.Shape.{rest_of_comment};
 ghost use Rattle.lam_token.specs.Comment.{Inside};
-ghost use Rattle.lam_token.specs.Cut.{Part, IsCut, AreTokensOf};
+ghost use Rattle.lam_token.specs.Cut.{Part, IsCut, AreTokensFrom, AreTokensOf};
 ghost use Rattle.lam_token.specs.Edits.{edited, retold, IsNewName};
+ghost use Rattle.lam_token.specs.Divided.{SemicolonEndsAt, EndsInSemicolon, IsDividedAfter};
+ghost use Rattle.lam_token.specs.MovedTokens.{moved_by, moved_from};
 
 /// Marks that are read one after another from the left, with a count of the open ones, find what the grammar of
 /// comments says: comments nest.
@@ -26,4 +29,23 @@ pub fn some_cut()
 pub fn names_change_alone()
     ensures tokens { (kind : Kind) (text new : List ℕ) (tokens : List Lexeme) (spans : List Span) → IsNewName kind text new tokens spans → AreTokensOf (edited text spans new) (map (retold spans new) tokens) }
     ensures text { (kind : Kind) (text new : List ℕ) (tokens : List Lexeme) (spans : List Span) → IsNewName kind text new tokens spans → IsUtf8 (edited text spans new) }
+{}
+
+/// A semicolon divides a text. If the tokens of a front end in one, at the last byte of the front, then the tokens of the whole
+/// text are those of the front and then those of the rest, and no others; so it is with a part of a text too. And after each
+/// semicolon among its tokens a text falls into such a front and the rest.
+pub fn a_semicolon_divides()
+    ensures joined { (front rest : List ℕ) (before behind : List Lexeme) → IsUtf8 front → AreTokensOf front before → EndsInSemicolon front before → AreTokensFrom (length front) rest behind → AreTokensOf (front ++ rest) (before ++ behind) }
+    ensures only { (front rest : List ℕ) (before all : List Lexeme) → IsUtf8 front → AreTokensOf front before → EndsInSemicolon front before → AreTokensOf (front ++ rest) all → (behind : List Lexeme) × (all ≡ before ++ behind) × AreTokensFrom (length front) rest behind }
+    ensures part { (start : ℕ) (front rest : List ℕ) (before behind : List Lexeme) → IsUtf8 front → AreTokensFrom start front before → SemicolonEndsAt (start + length front) before → AreTokensFrom (start + length front) rest behind → AreTokensFrom start (front ++ rest) (before ++ behind) }
+    ensures after { (text : List ℕ) (before : List Lexeme) (t : Lexeme) (behind : List Lexeme) → IsUtf8 text → AreTokensOf text (before ++ (t ∷ behind)) → kind_of t ≡ Semicolon → IsDividedAfter text before t behind }
+{}
+
+/// The tokens of a text whose first byte has an offset are those of the text by itself, each so many bytes further on. From one
+/// offset of the first byte they can be moved to any other. Moved tokens still end in a semicolon.
+pub fn places_move()
+    ensures further { (count : ℕ) (text : List ℕ) (tokens : List Lexeme) → AreTokensOf text tokens → AreTokensFrom count text (map (moved_by count) tokens) }
+    ensures back { (count : ℕ) (text : List ℕ) (tokens : List Lexeme) → AreTokensFrom count text tokens → (others : List Lexeme) × AreTokensOf text others × (tokens ≡ map (moved_by count) others) }
+    ensures anywhere { (start other : ℕ) (text : List ℕ) (tokens : List Lexeme) → AreTokensFrom start text tokens → AreTokensFrom other text (map (moved_from start other) tokens) }
+    ensures ends { (count end : ℕ) (tokens : List Lexeme) → SemicolonEndsAt end tokens → SemicolonEndsAt (end + count) (map (moved_by count) tokens) }
 {}

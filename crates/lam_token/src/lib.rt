@@ -20,7 +20,7 @@ mod token;
 mod words;
 
 pub use kind::Kind;
-pub use laws::{comments_nest, names_change_alone, some_cut};
+pub use laws::{a_semicolon_divides, comments_nest, names_change_alone, places_move, some_cut};
 pub use lexer::{first_token, lex};
 pub use names::{is_name, is_type_name, placeholder};
 pub use span::Span;

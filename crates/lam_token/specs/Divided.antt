@@ -1,0 +1,24 @@
+-- A text that is divided after a semicolon.
+use Rattle.std.specs.Prelude.{◌≡◌, ℕ, List, [], ◌∷◌, ◌++◌, length, take, drop}
+use Rattle.std.specs.Str.{IsUtf8}
+use Rattle.lam_token.specs.declared.kind.Kind.TheVariants.{Semicolon}
+use Rattle.lam_token.specs.Lexeme.{Lexeme, kind_of, end_of}
+use Rattle.lam_token.specs.Cut.{AreTokensFrom, AreTokensOf}
+
+-- the last of these tokens is a semicolon, and ends at this byte offset
+abbrev pub SemicolonEndsAt : (end : ℕ) → List Lexeme → Type 0
+SemicolonEndsAt end [] = ⊥
+SemicolonEndsAt end (t ∷ []) = (kind_of t ≡ Semicolon) × (end_of t ≡ end)
+SemicolonEndsAt end (t ∷ u ∷ ts) = SemicolonEndsAt end (u ∷ ts)
+
+-- the last of a text's tokens is a semicolon, and ends where the text ends
+abbrev pub EndsInSemicolon : (front : List ℕ) → List Lexeme → Type 0
+EndsInSemicolon front tokens = SemicolonEndsAt (length front) tokens
+
+-- A text falls into a front, which ends with this semicolon among its tokens, and a rest: the tokens up to it are those of the front,
+-- and the others those of the rest.
+pub record IsDividedAfter (text : List ℕ) (before : List Lexeme) (t : Lexeme) (behind : List Lexeme) : Type 0 where
+  pub is_front : IsUtf8 (take (end_of t) text)
+  pub are_front : AreTokensOf (take (end_of t) text) (before ++ (t ∷ []))
+  pub ends : EndsInSemicolon (take (end_of t) text) (before ++ (t ∷ []))
+  pub are_rest : AreTokensFrom (end_of t) (drop (end_of t) text) behind

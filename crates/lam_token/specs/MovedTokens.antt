@@ -1,0 +1,16 @@
+-- Tokens at other places.
+use Rattle.std.specs.Prelude.{ℕ, ◌+◌, ◌-◌}
+use Rattle.lam_token.specs.Lexeme.{Lexeme, lexeme}
+use Rattle.lam_token.specs.Edits.{span_placed}
+
+-- the same token, whose bytes have other offsets
+abbrev pub placed_by : (place : ℕ → ℕ) → Lexeme → Lexeme
+placed_by place (lexeme kind text s) = lexeme kind text (span_placed place s)
+
+-- the same token, so many bytes further on
+abbrev pub moved_by : (count : ℕ) → Lexeme → Lexeme
+moved_by count t = placed_by (λ o. o + count) t
+
+-- the same token of a text whose first byte has another offset than before
+abbrev pub moved_from : (start other : ℕ) → Lexeme → Lexeme
+moved_from start other t = placed_by (λ o. (o - start) + other) t
