@@ -25,7 +25,7 @@ use Rattle.lam_typing.proofs.NeverBlamed.{if_unblamed}
 
 -- a name that is bound is not to blame
 
-unblamed_by : (o : Option Typ) (s : Scope) (g : Context) (n : ℕ) (d : Dialect) → IsLowest s g d → n < length g → o ≡ entry_at n g → IsBlamed s (variable n) d → ⊥
+pub unblamed_by : (o : Option Typ) (s : Scope) (g : Context) (n : ℕ) (d : Dialect) → IsLowest s g d → n < length g → o ≡ entry_at n g → IsBlamed s (variable n) d → ⊥
 unblamed_by (Some t) s g n d low lt e blamed = blamed.untyped (typed_at s g (variable n) t d low (variable_least g n (Some t) d low.wf e).0)
 unblamed_by None s g n d low lt e blamed = blamed.unexcused (g, low.is_context, no_type_within n g lt (sym e))
 

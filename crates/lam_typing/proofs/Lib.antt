@@ -29,3 +29,7 @@ pub mod JustBlames
 pub mod Projections
 pub mod Causes
 pub mod LeastContexts
+pub mod AlikeTerms
+pub mod AlikeTypes
+pub mod AlikePlaces
+pub mod AlikeBlames

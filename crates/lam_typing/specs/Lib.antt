@@ -2,6 +2,7 @@ pub mod Contexts
 pub mod LeastTypes
 pub mod Blaming
 pub mod Narrowing
+pub mod Alike
 pub mod WellTyped
 pub mod Analysis
 pub mod Progress

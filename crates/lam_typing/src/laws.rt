@@ -11,10 +11,12 @@ ghost use Rattle.lam_scope.specs.Trees.{CommandTree};
 ghost use Rattle.lam_scope.specs.Labels.{place_in};
 ghost use Rattle.lam_scope.specs.Places.{Scope, Statement, places};
 ghost use Rattle.lam_typing.specs.LeastTypes.{IsTypeAt, IsTyped, IsLeastAt, AreLeastEntries};
-ghost use Rattle.lam_typing.specs.Blaming.{IsBlamed, IsBlamedFor, DifferInLabels};
+ghost use Rattle.lam_typing.specs.Alike.{AreAlike};
+ghost use Rattle.lam_typing.specs.Blaming.{IsBlamed, IsBlamedFor, DifferInLabels, Blamed};
 ghost use Rattle.lam_typing.specs.Causes.{HasCause};
 ghost use Rattle.lam_typing.specs.Contexts.{IsContext};
 ghost use Rattle.lam_typing.specs.Narrowing.{Narrows};
+ghost use Rattle.lam_typing.specs.Progress.{IsLowest, Shown, Cause, ShownFront};
 ghost use Rattle.lam_scope.specs.WellFormed.{IsWellFormedScope, IsWellFormedTerm, AreWellFormedStatements};
 ghost use Rattle.lam_typing.specs.WellTyped.{IsTypedWhereUnblamed};
 
@@ -103,4 +105,14 @@ pub fn projections_are_fields()
     ensures field { (s : Scope) (e : Term) (l : Label) (fs : Fields) (t : Typ) (d : Dialect) → IsLeastAt s e (Some (record_of fs)) d → Has l t fs → IsLeastAt s (project e l) (Some t) d }
     ensures of_record { (s : Scope) (e : Term) (l : Label) (u t : Typ) (d : Dialect) → IsLeastAt s e (Some u) d → IsTypeAt s (project e l) t d → (v : Typ) × HasField u l v }
     ensures of_typed { (s : Scope) (e : Term) (l : Label) (t : Typ) (d : Dialect) → IsLeastAt s e None d → IsTypeAt s (project e l) t d → ⊥ }
+{}
+
+/// Only free names count. Where two terms say the same, each in the lowest context of its own scope, the least type of the
+/// one is that of the other, and so it goes with their places, one by one: what is found of them, which is too large, which
+/// are to blame and for what. So a command may be looked at under the binders that it uses and no others.
+pub fn only_free_names_count()
+    ensures symmetric { (g h : Context) (e f : Term) → AreAlike g e h f → AreAlike h f g e }
+    ensures least { (s r : Scope) (g h : Context) (e f : Term) (o : Option Typ) (d : Dialect) → IsLowest s g d → IsLowest r h d → AreAlike g e h f → IsLeastAt s e o d → IsLeastAt r f o d }
+    ensures shown { (s r : Scope) (g h : Context) (e f : Term) (n : ℕ) (found : List (Option Typ)) (blames : List Blamed) (d : Dialect) → IsWellFormedTerm e → IsLowest s g d → IsLowest r h d → AreAlike g e h f → Shown (places s e) n found blames d → Shown (places r f) n found blames d }
+    ensures stopped { (s r : Scope) (g h : Context) (e f : Term) (n : ℕ) (found : List (Option Typ)) (blames : List Blamed) (cause : Cause) (d : Dialect) → IsWellFormedTerm e → IsLowest s g d → IsLowest r h d → AreAlike g e h f → ShownFront (places s e) n found blames cause d → ShownFront (places r f) n found blames cause d }
 {}
