@@ -45,3 +45,4 @@ pub mod FreeLabels
 pub mod EveryElement
 pub mod OwnWords
 pub mod RenameAnswers
+pub mod FreeNames

@@ -23,6 +23,7 @@ use Rattle.lam_scope.specs.Renames.{kind_bound, renamed_binder, renamed_type, re
 use Rattle.lam_scope.proofs.BinderRows.{plus, type_binders, letrec_binders, term_binders, BindersStand, all_stand, rows_left, rows_right, letrec_first}
 use Rattle.lam_scope.proofs.SpelledMentions.{spelled_ascend}
 use Rattle.lam_scope.proofs.MentionRows.{bindings_in, AreTold, told_bound, row_told, seen_told, table_mentioned}
+use Rattle.lam_scope.proofs.EveryElement.{every_parts}
 use Rattle.lam_scope.proofs.BoundMentions.{same_token, other_token, is_at, same_binder, use_is, IsAlone, is_answer_at, alone_at, answer_holds, uses_told}
 
 -- the tokens of mentions that ascend
@@ -133,14 +134,9 @@ module _ (b : Span) (all : List Mention) (binds : (s : Span) → among (filter_m
 
 -- the new name at marked tokens
 
--- what holds of the elements of two lists holds of those of each
-parts : {A : Type 0} (P : A → Type 0) (xs ys : List A) → AllByRecursion P (xs ++ ys) → AllByRecursion P xs × AllByRecursion P ys
-parts P [] ys h = (tt, h)
-parts P (x ∷ xs) ys h = let rest = parts P xs ys h.1 in ((h.0, rest.0), rest.1)
-
 module _ (bs : List TextBinder) (n : ℕ) (new : Name) (spans : List Span) (alone : IsAlone bs n) where
   split : (ms ns : List Mention) → AreMarked spans (binder_in bs n).token (ms ++ ns) → AreMarked spans (binder_in bs n).token ms × AreMarked spans (binder_in bs n).token ns
-  split = parts (IsMarked spans (binder_in bs n).token)
+  split = every_parts (IsMarked spans (binder_in bs n).token)
 
   use_marked : (k : Kind) (x : Name) (s : Span) (es : List Entry) (seen : List Binder) → AreTold bs k es seen → IsMarked spans (binder_in bs n).token (uses_at k s (token_bound_to x seen))
       → among spans s ≡ is_number n (number_bound_to x es)

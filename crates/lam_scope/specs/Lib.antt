@@ -19,6 +19,9 @@ pub mod Renames
 pub mod Labels
 pub mod Mentions
 pub mod TypeNames
+pub mod FreeNames
+pub mod Meanings
+pub mod Alike
 pub mod PlacedTerms
 pub mod PlacedRows
 pub mod Stretches

@@ -1,12 +1,13 @@
 //! What holds of the table and the nameless form of any commands.
 //! Each law is the contract of a function that does nothing.
-ghost use Rattle.std.specs.Prelude.{◌≡◌, ◌≢◌, ◌⊎◌, ◌↔◌, ℕ, [], ◌∷◌, ◌++◌, List, None, Some, map, length, get_or, reverse, Contains};
+ghost use Rattle.std.specs.Prelude.{◌≡◌, ◌≢◌, ◌⊎◌, ◌↔◌, ℕ, [], ◌∷◌, ◌++◌, List, Option, None, Some, map, length, get_or, reverse, Contains};
 ghost use Rattle.std.specs.Option.{option_map};
 ghost use Rattle.std.specs.List.{AllByRecursion};
 ghost use Rattle.lam_token.specs.declared.span.Span.{Span};
 ghost use Rattle.lam_token.specs.Edits.{renaming};
 ghost use Rattle.lam_rules.specs.Types.{Label};
-ghost use Rattle.lam_syntax.specs.Trees.{CommandTree};
+ghost use Rattle.lam_rules.specs.Typing.{Context};
+ghost use Rattle.lam_syntax.specs.Trees.{TypeTree, TermTree, CommandTree};
 ghost use Rattle.lam_syntax.specs.Respelled.{Letters, respelled_command};
 ghost use Rattle.lam_scope.specs.declared.rename_fault.RenameFault.{RenameFault};
 ghost use Rattle.lam_scope.specs.declared.rename_fault.RenameFault.TheVariants.{Memory};
@@ -14,9 +15,13 @@ ghost use Rattle.lam_scope.specs.declared.type_fault.TypeFault.TheVariants.{Unbo
 ghost use Rattle.lam_scope.specs.Counted.{statements_counted, past_commands};
 ghost use Rattle.lam_scope.specs.Names.{Name, count};
 ghost use Rattle.lam_scope.specs.Forms.{forms};
-ghost use Rattle.lam_scope.specs.Nameless.{statement, statements, faults};
+ghost use Rattle.lam_scope.specs.Expansions.{Abbreviation, expansion, type_faults};
+ghost use Rattle.lam_scope.specs.Nameless.{nameless, statement, statements, written_in, written_in_command, faults_in, faults, first_over_limit};
 ghost use Rattle.lam_scope.specs.Bindings.{binding_from, AreOriginsOf};
 ghost use Rattle.lam_scope.specs.TypeNames.{IsTypeNameIn, abbreviations_seen_after, meant_after, binders_seen_after, IsLastAbbreviation, IsNotAbbreviated};
+ghost use Rattle.lam_scope.specs.FreeNames.{free_in, type_names_in, type_names_in_types, free_in_command, type_names_in_command};
+ghost use Rattle.lam_scope.specs.Meanings.{MeanTheSame, StandForTheSame};
+ghost use Rattle.lam_scope.specs.Alike.{AreAlike, AreAlikeStatements};
 ghost use Rattle.lam_scope.specs.Expanded.{IsExpanded};
 ghost use Rattle.lam_scope.specs.PlacedTerms.{document_terms, term_of, tree_in, projection_at};
 ghost use Rattle.lam_scope.specs.Labels.{labelled, AreLabelled};
@@ -133,4 +138,17 @@ pub fn one_answer_to_a_rename()
 pub fn a_label_is_free()
     ensures number { (cs : List CommandTree) (o : ℕ) (l : Label) → projection_at o (labelled o l cs) ≡ projection_at o cs }
     ensures labelled { (cs : List CommandTree) (high o n : ℕ) (l : Label) → Ascend 0 (mentions cs) high → projection_at o cs ≡ Some n → AreLabelled cs (labelled o l cs) n l }
+{}
+
+/// What a command means depends on nothing but what its free names and its type names mean. Where the type names of a written
+/// type stand for the same among other abbreviations, its expansion and its faults are the same there; and of the written types
+/// of a command so are the faults and the first one that is too large. Where the free names of a term, too, mean the same among
+/// other binders, which have a context of their own, its form there is alike; and so is what a command states.
+pub fn free_names_decide()
+    ensures expansions { (bs cs : List Abbreviation) (u : TypeTree) → StandForTheSame (type_names_in u) bs cs → expansion bs u ≡ expansion cs u }
+    ensures faults { (bs cs : List Abbreviation) (u : TypeTree) → StandForTheSame (type_names_in u) bs cs → type_faults bs u ≡ type_faults cs u }
+    ensures command_faults { (bs cs : List Abbreviation) (c : CommandTree) → StandForTheSame (type_names_in_command c) bs cs → faults_in bs (written_in_command c) ≡ faults_in cs (written_in_command c) }
+    ensures command_limits { (bs cs : List Abbreviation) (c : CommandTree) → StandForTheSame (type_names_in_command c) bs cs → first_over_limit bs (written_in_command c) ≡ first_over_limit cs (written_in_command c) }
+    ensures forms { (bs cs : List Abbreviation) (xs : List (Option Name)) (g : Context) (ys : List (Option Name)) (h : Context) (t : TermTree) → length xs ≡ length g → length ys ≡ length h → MeanTheSame (free_in t) xs g ys h → StandForTheSame (type_names_in_types (written_in t)) bs cs → AreAlike g (nameless bs xs t) h (nameless cs ys t) }
+    ensures statements { (bs cs : List Abbreviation) (xs : List (Option Name)) (g : Context) (ys : List (Option Name)) (h : Context) (c : CommandTree) → length xs ≡ length g → length ys ≡ length h → MeanTheSame (free_in_command c) xs g ys h → StandForTheSame (type_names_in_command c) bs cs → AreAlikeStatements g (statement bs xs c) h (statement cs ys c) }
 {}
