@@ -15,7 +15,7 @@ use Rattle.lam_scope.specs.declared.type_fault.TypeFault.TheVariants.{UnboundTyp
 use Rattle.lam_scope.specs.Names.{Name, binds, count}
 use Rattle.lam_scope.specs.Expansions.{Abbreviation, meaning, is_bound, has_label, both, expansion, expansion_of_node, expansion_of_fields, label_fault, type_faults, node_faults, field_faults, is_over_limit}
 use Rattle.lam_scope.specs.Nameless.{use_counted, prefixed, nameless, nameless_node, nameless_fields, statement, written_in, written_in_node, written_in_fields, written_in_command, faults_in, first_over_limit}
-use Rattle.lam_scope.specs.FreeNames.{without, free_in, free_in_node, free_in_fields, type_names_in, type_names_in_node, type_names_in_fields, type_names_in_types, free_in_command, type_names_in_command}
+use Rattle.lam_scope.specs.FreeNames.{without, free_in, free_in_node, free_in_fields, free_type_names_in, free_type_names_in_node, free_type_names_in_fields, free_type_names_in_types, free_in_command, free_type_names_in_command}
 use Rattle.lam_scope.specs.Meanings.{entry_named, MeanTheSame, StandForTheSame}
 use Rattle.lam_scope.specs.Alike.{AreAlike, AreAlikeTerms, AreAlikeStatements}
 use Rattle.lam_scope.proofs.EveryElement.{every_parts}
@@ -30,39 +30,39 @@ module _ (bs cs : List Abbreviation) where
   stand_apart xs ys same = every_parts Stands xs ys same
 
   mutual
-    pub same_expansion : (u : TypeTree) → StandForTheSame (type_names_in u) bs cs → expansion bs u ≡ expansion cs u
+    pub same_expansion : (u : TypeTree) → StandForTheSame (free_type_names_in u) bs cs → expansion bs u ≡ expansion cs u
     same_expansion (type_tree s n) same = same_node_expansion n same
 
-    same_node_expansion : (n : TypeNode) → StandForTheSame (type_names_in_node n) bs cs → expansion_of_node bs n ≡ expansion_of_node cs n
+    same_node_expansion : (n : TypeNode) → StandForTheSame (free_type_names_in_node n) bs cs → expansion_of_node bs n ≡ expansion_of_node cs n
     same_node_expansion (named (word x s)) same = same.0.0
     same_node_expansion (arrow a b) same =
-        let apart = stand_apart (type_names_in a) (type_names_in b) same in
+        let apart = stand_apart (free_type_names_in a) (free_type_names_in b) same in
         λ i. both rules.arrow (same_expansion a apart.0 i) (same_expansion b apart.1 i)
     same_node_expansion (record_type fs) same = ap (option_map rules.record_of) (same_fields_expansion fs same)
     same_node_expansion n same = refl
 
-    same_fields_expansion : (fs : TypeFields) → StandForTheSame (type_names_in_fields fs) bs cs → expansion_of_fields bs fs ≡ expansion_of_fields cs fs
+    same_fields_expansion : (fs : TypeFields) → StandForTheSame (free_type_names_in_fields fs) bs cs → expansion_of_fields bs fs ≡ expansion_of_fields cs fs
     same_fields_expansion no_type_fields same = refl
     same_fields_expansion (type_field (word l s) t rest) same =
-        let apart = stand_apart (type_names_in t) (type_names_in_fields rest) same in
+        let apart = stand_apart (free_type_names_in t) (free_type_names_in_fields rest) same in
         λ i. if has_label l rest then None else both (rules.field l) (same_expansion t apart.0 i) (same_fields_expansion rest apart.1 i)
 
   mutual
-    pub same_faults : (u : TypeTree) → StandForTheSame (type_names_in u) bs cs → type_faults bs u ≡ type_faults cs u
+    pub same_faults : (u : TypeTree) → StandForTheSame (free_type_names_in u) bs cs → type_faults bs u ≡ type_faults cs u
     same_faults (type_tree s n) same = same_node_faults n same
 
-    same_node_faults : (n : TypeNode) → StandForTheSame (type_names_in_node n) bs cs → node_faults bs n ≡ node_faults cs n
+    same_node_faults : (n : TypeNode) → StandForTheSame (free_type_names_in_node n) bs cs → node_faults bs n ≡ node_faults cs n
     same_node_faults (named (word x s)) same = ap (λ b. if b then [] else UnboundTypeName s ∷ []) same.0.1
     same_node_faults (arrow a b) same =
-        let apart = stand_apart (type_names_in a) (type_names_in b) same in
+        let apart = stand_apart (free_type_names_in a) (free_type_names_in b) same in
         λ i. same_faults a apart.0 i ++ same_faults b apart.1 i
     same_node_faults (record_type fs) same = same_field_faults no_type_fields fs same
     same_node_faults n same = refl
 
-    same_field_faults : (earlier fs : TypeFields) → StandForTheSame (type_names_in_fields fs) bs cs → field_faults bs earlier fs ≡ field_faults cs earlier fs
+    same_field_faults : (earlier fs : TypeFields) → StandForTheSame (free_type_names_in_fields fs) bs cs → field_faults bs earlier fs ≡ field_faults cs earlier fs
     same_field_faults earlier no_type_fields same = refl
     same_field_faults earlier (type_field l t rest) same =
-        let apart = stand_apart (type_names_in t) (type_names_in_fields rest) same in
+        let apart = stand_apart (free_type_names_in t) (free_type_names_in_fields rest) same in
         let more = joined_types earlier (type_field l t no_type_fields) in
         λ i. label_fault l earlier ++ same_faults t apart.0 i ++ same_field_faults more rest apart.1 i
 
@@ -70,12 +70,12 @@ module _ (bs cs : List Abbreviation) where
 
   -- the type names of each of them stand for the same
   abbrev pub EachStandsForTheSame : List TypeTree → Type 0
-  EachStandsForTheSame us = AllByRecursion (λ u. StandForTheSame (type_names_in u) bs cs) us
+  EachStandsForTheSame us = AllByRecursion (λ u. StandForTheSame (free_type_names_in u) bs cs) us
 
-  each_apart : (us : List TypeTree) → StandForTheSame (type_names_in_types us) bs cs → EachStandsForTheSame us
+  each_apart : (us : List TypeTree) → StandForTheSame (free_type_names_in_types us) bs cs → EachStandsForTheSame us
   each_apart [] same = tt
   each_apart (u ∷ us) same =
-      let apart = stand_apart (type_names_in u) (type_names_in_types us) same in
+      let apart = stand_apart (free_type_names_in u) (free_type_names_in_types us) same in
       (apart.0, each_apart us apart.1)
 
   same_faults_in : (us : List TypeTree) → EachStandsForTheSame us → faults_in bs us ≡ faults_in cs us
@@ -86,11 +86,11 @@ module _ (bs cs : List Abbreviation) where
   same_over_limit [] each = refl
   same_over_limit (u ∷ us) each = λ i. if is_over_limit (same_expansion u each.0 i) then Some (type_span u) else same_over_limit us each.1 i
 
-  pub same_command_faults : (c : CommandTree) → StandForTheSame (type_names_in_command c) bs cs
+  pub same_command_faults : (c : CommandTree) → StandForTheSame (free_type_names_in_command c) bs cs
       → faults_in bs (written_in_command c) ≡ faults_in cs (written_in_command c)
   same_command_faults c same = same_faults_in (written_in_command c) (each_apart (written_in_command c) same)
 
-  pub same_command_limit : (c : CommandTree) → StandForTheSame (type_names_in_command c) bs cs
+  pub same_command_limit : (c : CommandTree) → StandForTheSame (free_type_names_in_command c) bs cs
       → first_over_limit bs (written_in_command c) ≡ first_over_limit cs (written_in_command c)
   same_command_limit c same = same_over_limit (written_in_command c) (each_apart (written_in_command c) same)
 
@@ -170,7 +170,7 @@ module _ (bs cs : List Abbreviation) where
   alike_body g w a h u b same alike = subst (λ v. AreAlike (w ∷ g) a (v ∷ h) b) same alike
 
   types_apart : (us vs : List TypeTree) → EachStandsForTheSame bs cs (us ++ vs) → EachStandsForTheSame bs cs us × EachStandsForTheSame bs cs vs
-  types_apart us vs each = every_parts (λ u. StandForTheSame (type_names_in u) bs cs) us vs each
+  types_apart us vs each = every_parts (λ u. StandForTheSame (free_type_names_in u) bs cs) us vs each
 
   mutual
     alike_terms : (xs : List (Option Name)) (g : Context) (ys : List (Option Name)) (h : Context) → length xs ≡ length g → length ys ≡ length h
@@ -236,14 +236,14 @@ module _ (bs cs : List Abbreviation) where
         (refl, alike_terms xs g ys h m n t apart.0 types.0, alike_fields xs g ys h m n fs apart.1 types.1)
 
 pub alike_forms : (bs cs : List Abbreviation) (xs : List (Option Name)) (g : Context) (ys : List (Option Name)) (h : Context) (t : TermTree)
-    → length xs ≡ length g → length ys ≡ length h → MeanTheSame (free_in t) xs g ys h → StandForTheSame (type_names_in_types (written_in t)) bs cs
+    → length xs ≡ length g → length ys ≡ length h → MeanTheSame (free_in t) xs g ys h → StandForTheSame (free_type_names_in_types (written_in t)) bs cs
     → AreAlike g (nameless bs xs t) h (nameless cs ys t)
 alike_forms bs cs xs g ys h t m n same types = alike_terms bs cs xs g ys h m n t same (each_apart bs cs (written_in t) types)
 
 -- ---- commands
 
 pub alike_statements : (bs cs : List Abbreviation) (xs : List (Option Name)) (g : Context) (ys : List (Option Name)) (h : Context) (c : CommandTree)
-    → length xs ≡ length g → length ys ≡ length h → MeanTheSame (free_in_command c) xs g ys h → StandForTheSame (type_names_in_command c) bs cs
+    → length xs ≡ length g → length ys ≡ length h → MeanTheSame (free_in_command c) xs g ys h → StandForTheSame (free_type_names_in_command c) bs cs
     → AreAlikeStatements g (statement bs xs c) h (statement cs ys c)
 alike_statements bs cs xs g ys h (definition w t) m n same types = alike_forms bs cs xs g ys h t m n same types
 alike_statements bs cs xs g ys h (declaration w u) m n same types = same_expansion bs cs u (each_apart bs cs (u ∷ []) types).0

@@ -37,25 +37,25 @@ abbrev mutual
 
 -- the type names of a written type: nothing in it binds one
 abbrev mutual
-  pub type_names_in : TypeTree → List Name
-  type_names_in (type_tree s n) = type_names_in_node n
+  pub free_type_names_in : TypeTree → List Name
+  free_type_names_in (type_tree s n) = free_type_names_in_node n
 
   -- those of the form of a written type
-  pub type_names_in_node : TypeNode → List Name
-  type_names_in_node (named (word x s)) = x ∷ []
-  type_names_in_node (arrow a b) = type_names_in a ++ type_names_in b
-  type_names_in_node (record_type fs) = type_names_in_fields fs
-  type_names_in_node n = []
+  pub free_type_names_in_node : TypeNode → List Name
+  free_type_names_in_node (named (word x s)) = x ∷ []
+  free_type_names_in_node (arrow a b) = free_type_names_in a ++ free_type_names_in b
+  free_type_names_in_node (record_type fs) = free_type_names_in_fields fs
+  free_type_names_in_node n = []
 
   -- those of the fields of a record type
-  pub type_names_in_fields : TypeFields → List Name
-  type_names_in_fields no_type_fields = []
-  type_names_in_fields (type_field l t fs) = type_names_in t ++ type_names_in_fields fs
+  pub free_type_names_in_fields : TypeFields → List Name
+  free_type_names_in_fields no_type_fields = []
+  free_type_names_in_fields (type_field l t fs) = free_type_names_in t ++ free_type_names_in_fields fs
 
 -- the type names of several written types, one after the other
-abbrev pub type_names_in_types : List TypeTree → List Name
-type_names_in_types [] = []
-type_names_in_types (u ∷ us) = type_names_in u ++ type_names_in_types us
+abbrev pub free_type_names_in_types : List TypeTree → List Name
+free_type_names_in_types [] = []
+free_type_names_in_types (u ∷ us) = free_type_names_in u ++ free_type_names_in_types us
 
 -- the free names of a command; the name that a definition binds is not bound in its term
 abbrev pub free_in_command : CommandTree → List Name
@@ -65,5 +65,5 @@ free_in_command (tree.abbreviation w u) = []
 free_in_command (evaluation t) = free_in t
 
 -- the type names of a command; the one that an abbreviation binds is not among them, unless it is used there too
-abbrev pub type_names_in_command : CommandTree → List Name
-type_names_in_command c = type_names_in_types (written_in_command c)
+abbrev pub free_type_names_in_command : CommandTree → List Name
+free_type_names_in_command c = free_type_names_in_types (written_in_command c)

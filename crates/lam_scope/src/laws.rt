@@ -19,7 +19,7 @@ ghost use Rattle.lam_scope.specs.Expansions.{Abbreviation, expansion, type_fault
 ghost use Rattle.lam_scope.specs.Nameless.{nameless, statement, statements, written_in, written_in_command, faults_in, faults, first_over_limit};
 ghost use Rattle.lam_scope.specs.Bindings.{binding_from, AreOriginsOf};
 ghost use Rattle.lam_scope.specs.TypeNames.{IsTypeNameIn, abbreviations_seen_after, meant_after, binders_seen_after, IsLastAbbreviation, IsNotAbbreviated};
-ghost use Rattle.lam_scope.specs.FreeNames.{free_in, type_names_in, type_names_in_types, free_in_command, type_names_in_command};
+ghost use Rattle.lam_scope.specs.FreeNames.{free_in, free_type_names_in, free_type_names_in_types, free_in_command, free_type_names_in_command};
 ghost use Rattle.lam_scope.specs.Meanings.{MeanTheSame, StandForTheSame};
 ghost use Rattle.lam_scope.specs.Alike.{AreAlike, AreAlikeStatements};
 ghost use Rattle.lam_scope.specs.Expanded.{IsExpanded};
@@ -145,10 +145,10 @@ pub fn a_label_is_free()
 /// of a command so are the faults and the first one that is too large. Where the free names of a term, too, mean the same among
 /// other binders, which have a context of their own, its form there is alike; and so is what a command states.
 pub fn free_names_decide()
-    ensures expansions { (bs cs : List Abbreviation) (u : TypeTree) → StandForTheSame (type_names_in u) bs cs → expansion bs u ≡ expansion cs u }
-    ensures faults { (bs cs : List Abbreviation) (u : TypeTree) → StandForTheSame (type_names_in u) bs cs → type_faults bs u ≡ type_faults cs u }
-    ensures command_faults { (bs cs : List Abbreviation) (c : CommandTree) → StandForTheSame (type_names_in_command c) bs cs → faults_in bs (written_in_command c) ≡ faults_in cs (written_in_command c) }
-    ensures command_limits { (bs cs : List Abbreviation) (c : CommandTree) → StandForTheSame (type_names_in_command c) bs cs → first_over_limit bs (written_in_command c) ≡ first_over_limit cs (written_in_command c) }
-    ensures forms { (bs cs : List Abbreviation) (xs : List (Option Name)) (g : Context) (ys : List (Option Name)) (h : Context) (t : TermTree) → length xs ≡ length g → length ys ≡ length h → MeanTheSame (free_in t) xs g ys h → StandForTheSame (type_names_in_types (written_in t)) bs cs → AreAlike g (nameless bs xs t) h (nameless cs ys t) }
-    ensures statements { (bs cs : List Abbreviation) (xs : List (Option Name)) (g : Context) (ys : List (Option Name)) (h : Context) (c : CommandTree) → length xs ≡ length g → length ys ≡ length h → MeanTheSame (free_in_command c) xs g ys h → StandForTheSame (type_names_in_command c) bs cs → AreAlikeStatements g (statement bs xs c) h (statement cs ys c) }
+    ensures expansions { (bs cs : List Abbreviation) (u : TypeTree) → StandForTheSame (free_type_names_in u) bs cs → expansion bs u ≡ expansion cs u }
+    ensures faults { (bs cs : List Abbreviation) (u : TypeTree) → StandForTheSame (free_type_names_in u) bs cs → type_faults bs u ≡ type_faults cs u }
+    ensures command_faults { (bs cs : List Abbreviation) (c : CommandTree) → StandForTheSame (free_type_names_in_command c) bs cs → faults_in bs (written_in_command c) ≡ faults_in cs (written_in_command c) }
+    ensures command_limits { (bs cs : List Abbreviation) (c : CommandTree) → StandForTheSame (free_type_names_in_command c) bs cs → first_over_limit bs (written_in_command c) ≡ first_over_limit cs (written_in_command c) }
+    ensures forms { (bs cs : List Abbreviation) (xs : List (Option Name)) (g : Context) (ys : List (Option Name)) (h : Context) (t : TermTree) → length xs ≡ length g → length ys ≡ length h → MeanTheSame (free_in t) xs g ys h → StandForTheSame (free_type_names_in_types (written_in t)) bs cs → AreAlike g (nameless bs xs t) h (nameless cs ys t) }
+    ensures statements { (bs cs : List Abbreviation) (xs : List (Option Name)) (g : Context) (ys : List (Option Name)) (h : Context) (c : CommandTree) → length xs ≡ length g → length ys ≡ length h → MeanTheSame (free_in_command c) xs g ys h → StandForTheSame (free_type_names_in_command c) bs cs → AreAlikeStatements g (statement bs xs c) h (statement cs ys c) }
 {}

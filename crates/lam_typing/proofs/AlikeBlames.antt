@@ -8,7 +8,7 @@ use Rattle.lam_rules.specs.Typing.{Context}
 use Rattle.lam_rules.specs.declared.rules.Dialect.{Dialect}
 use Rattle.lam_scope.specs.Places.{Scope, Place, places}
 use Rattle.lam_scope.specs.WellFormed.{IsWellFormedTerm}
-use Rattle.lam_typing.specs.Alike.{AreAlike}
+use Rattle.lam_scope.specs.Alike.{AreAlike}
 use Rattle.lam_typing.specs.Analysis.{AreLeast, IsTooLarge}
 use Rattle.lam_typing.specs.Blaming.{ArePartsTyped, AreFieldsTyped, IsExcused, IsBlamed, IsBlamedFor, Blamed, AreBlamed}
 use Rattle.lam_typing.specs.LeastTypes.{IsLeastAt}

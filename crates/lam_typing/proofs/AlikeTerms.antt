@@ -4,7 +4,7 @@ use Rattle.lam_rules.specs.Types.{Label, Typ}
 use Rattle.lam_rules.specs.Terms.{Term, true_term, false_term, if_then_else, numeral, succ, pred, is_zero, variable, free, lambda, apply, unit_term, ascribe, let_in, record_term, project, fix, TermFields, no_terms, term_field}
 use Rattle.lam_rules.specs.Typing.{Context}
 use Rattle.lam_scope.specs.WellFormed.{IsWellFormedTerm, AreWellFormedTerms}
-use Rattle.lam_typing.specs.Alike.{AreAlike, AreFieldsAlike}
+use Rattle.lam_scope.specs.Alike.{AreAlike, AreAlikeTerms}
 
 mutual
   pub data Alike : Context → Term → Context → Term → Type 0 where
@@ -58,7 +58,7 @@ mutual
   alike g (fix e) h (fix f) are = both_fix (alike g e h f are)
   alike g _ h _ are = absurd are
 
-  fields_alike : (g : Context) (es : TermFields) (h : Context) (fs : TermFields) → AreFieldsAlike g es h fs → FieldsAlike g es h fs
+  fields_alike : (g : Context) (es : TermFields) (h : Context) (fs : TermFields) → AreAlikeTerms g es h fs → FieldsAlike g es h fs
   fields_alike g no_terms h no_terms are = both_none
   fields_alike g (term_field l e es) h (term_field k f fs) are =
       let more : FieldsAlike g (term_field l e es) h (term_field l f fs) = both_more (alike g e h f are.1) (fields_alike g es h fs are.2) in
@@ -87,7 +87,7 @@ mutual
   are_alike (both_project i) = (are_alike i, refl)
   are_alike (both_fix i) = are_alike i
 
-  are_fields_alike : {g h : Context} {es fs : TermFields} → FieldsAlike g es h fs → AreFieldsAlike g es h fs
+  are_fields_alike : {g h : Context} {es fs : TermFields} → FieldsAlike g es h fs → AreAlikeTerms g es h fs
   are_fields_alike both_none = tt
   are_fields_alike (both_more i is) = (refl, are_alike i, are_fields_alike is)
 

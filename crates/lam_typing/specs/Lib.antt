@@ -2,7 +2,6 @@ pub mod Contexts
 pub mod LeastTypes
 pub mod Blaming
 pub mod Narrowing
-pub mod Alike
 pub mod WellTyped
 pub mod Analysis
 pub mod Progress

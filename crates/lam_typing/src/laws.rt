@@ -11,7 +11,7 @@ ghost use Rattle.lam_scope.specs.Trees.{CommandTree};
 ghost use Rattle.lam_scope.specs.Labels.{place_in};
 ghost use Rattle.lam_scope.specs.Places.{Scope, Statement, places};
 ghost use Rattle.lam_typing.specs.LeastTypes.{IsTypeAt, IsTyped, IsLeastAt, AreLeastEntries};
-ghost use Rattle.lam_typing.specs.Alike.{AreAlike};
+ghost use Rattle.lam_scope.specs.Alike.{AreAlike};
 ghost use Rattle.lam_typing.specs.Blaming.{IsBlamed, IsBlamedFor, DifferInLabels, Blamed};
 ghost use Rattle.lam_typing.specs.Causes.{HasCause};
 ghost use Rattle.lam_typing.specs.Contexts.{IsContext};
