@@ -1,6 +1,7 @@
 """Row files, read: README.md in this folder says how they are written."""
 
 import json
+import os
 import re
 from dataclasses import dataclass, field
 
@@ -51,7 +52,8 @@ class Mark:
 
 @dataclass
 class Block:
-    """A text with its marks. `kind` is what is done with it: open, now, and, whole, applied."""
+    """A text with its marks. `kind` is what is done with it: open, now, and, whole, applied. Marks belong to the line `shown`: the last
+    one or, in a file, whose lines are all here, the one that was quoted last."""
 
     line: int
     kind: str
@@ -59,6 +61,8 @@ class Block:
     lines: list = field(default_factory=list)
     marks: list = field(default_factory=list)
     given: str = None
+    file: str = None
+    shown: int = -1
 
     def text(self, line_end):
         return self.given if self.given is not None else line_end.join(it.text for it in self.lines)
@@ -94,7 +98,9 @@ SETTINGS = {
 
 BLOCKS = ("now", "and", "whole", "applied")
 
-VERBS = (*SETTINGS, *BLOCKS, "document", "text", "initialize", "close", "send", "get", "says", "complains", "prints", "plays", "leaves")
+TEXTS = ("document", "text", "file")
+
+VERBS = (*SETTINGS, *BLOCKS, *TEXTS, "initialize", "close", "send", "get", "says", "complains", "prints", "plays", "leaves")
 
 
 def chosen_one(word, words):
@@ -144,7 +150,7 @@ class Reader:
         elif not self.rows:
             raise Mistake("the first row begins with a line '== its title'")
         elif source.startswith("|"):
-            self.block(at).lines.append(Line(source[2:]))
+            self.take_line(self.block(at), source[2:])
         elif source.startswith("  "):
             self.take_mark(at, source)
         elif source.startswith("at "):
@@ -166,15 +172,40 @@ class Reader:
             raise Mistake("a mark without a text above it")
         return steps[-1]
 
+    def take_line(self, block, text):
+        """A line of the text; of a file, the next line that reads so."""
+        if block.file is None:
+            block.lines.append(Line(text))
+            block.shown = len(block.lines) - 1
+            return
+        found = [it for it in range(block.shown + 1, len(block.lines)) if block.lines[it].text == text]
+        if not found:
+            raise Mistake(f"{block.file} has no such line, or none below the last one")
+        block.shown = found[0]
+
+    def take_file(self, block, name):
+        """The text of a file, which is named from the folder of the row file."""
+        if block.lines or block.given is not None:
+            raise Mistake("a file is a text by itself")
+        block.file = os.path.join(os.path.dirname(self.file), name)
+        try:
+            with open(block.file, encoding="utf-8", newline="") as it:
+                block.given = it.read()
+        except OSError as error:
+            raise Mistake(f"{block.file} cannot be read") from error
+        block.lines = [Line(it) for it in block.given.split("\n")]
+
     def take_mark(self, at, source):
         block = self.last_block()
         found = MARK.match(source)
         if not found or not found[3]:
             raise Mistake("under a text stand marks, of ^ and ~, each with what is said of it")
-        if block.given is not None:
+        if block.given is not None and block.file is None:
             raise Mistake("under a text in quotes only 'at LINE:COLUMN' can mark a place")
+        if block.shown < 0:
+            raise Mistake("under the name of a file a line of it is quoted, and marks stand under that")
         blanks, signs, says = found.groups()
-        line, shown = len(block.lines) - 1, block.lines[-1]
+        line, shown = block.shown, block.lines[block.shown]
         start, end, cursor = len(blanks), len(blanks) + len(signs), len(blanks) + max(signs.find("^"), 0)
         if not signs:
             start = end = cursor = 0
@@ -207,6 +238,8 @@ class Reader:
         elif verb == "text":
             block = self.block(at)
             block.given = quoted(rest)
+        elif verb == "file":
+            self.take_file(self.block(at), rest)
         else:
             row.steps.append(Words(at, verb, rest))
             self.kind = self.kind or "open"
