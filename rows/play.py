@@ -15,6 +15,7 @@ from texts import Mistake
 
 HERE = os.path.dirname(os.path.realpath(__file__))
 BUILT = os.path.join(HERE, "..", "crates", "lam_server", "out", "lam_server")
+EXAMPLES = os.path.join(HERE, "..", "examples")
 
 
 def built(named):
@@ -38,6 +39,14 @@ def plays(file):
                 except (Mistake, ValueError, IndexError) as mistake:
                     complaints.append(f"{file}:{row.line}: {row.title}: the row is wrong: {mistake}")
     return ways, complaints
+
+
+def unplayed(files):
+    """The texts of examples/ that no row of these files names."""
+    steps = [step for file in files for row in Reader(file).read()[0] for step in row.steps]
+    named = {os.path.realpath(it.file) for it in steps if getattr(it, "file", None)}
+    texts = sorted(glob.glob(f"{EXAMPLES}/**/*.fsub", recursive=True))
+    return [os.path.relpath(it) for it in texts if os.path.realpath(it) not in named]
 
 
 def complaint_of(program, script):
@@ -99,7 +108,10 @@ def main():
             print(it.read())
     if not given.rows:
         refused = count_refused(programs[0], [os.path.relpath(it) for it in sorted(glob.glob(f"{HERE}/wrong/*.rows"))])
-        right, wrong = right + refused[0], wrong + refused[1]
+        left = unplayed(files)
+        for text in left:
+            print(f"{text}:1: no row names this text", flush=True)
+        right, wrong = right + refused[0], wrong + refused[1] + len(left)
     print(f"{right} passed, {wrong} failed")
     return 1 if wrong or not right else 0
 
