@@ -1,10 +1,12 @@
 # `make` proves and builds the program, `make test` is the merge gate with the rows of rows/ behind it, `make rows` plays these alone,
 # `make hostile` plays sessions while memory is refused, devices fail and signals come, `make trusted` prints what has to be believed,
 # `make dear` tells what the proofs cost, `make attack` tries further wrong bodies, `make bench` prints figures.
+# `make dist` and `make deb` pack the program for machines without the toolchain, or one that is built already: PROGRAM=PATH.
 PREFIX ?= $(HOME)/.local
 NAME ?=
+PROGRAM ?=
 
-.PHONY: all test rows hostile install trusted dear attack bench
+.PHONY: all test rows hostile install dist deb trusted dear attack bench
 
 all:
 	python3 bench/build.py
@@ -22,6 +24,9 @@ hostile:
 install: all
 	install -D crates/lam_server/out/lam_server $(PREFIX)/bin/lam_server
 	python3 rows/play.py --show --program $(PREFIX)/bin/lam_server rows/example.rows
+
+dist deb: $(if $(PROGRAM),,all)
+	python3 package/package.py $@ $(if $(PROGRAM),--program "$(PROGRAM)")
 
 trusted:
 	@python3 bench/trusted.py

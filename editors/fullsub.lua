@@ -1,6 +1,12 @@
 -- Neovim's part for `.fsub` files: the file type, comments, words, colours, and the server.
 -- Copy it to ~/.config/nvim/plugin/fullsub.lua, and have `lam_server` on the PATH.
 
+-- Of several copies the first alone counts, so one's own goes before one that a package installed.
+if vim.g.loaded_fullsub or vim.fn.has("nvim-0.7") == 0 then
+  return
+end
+vim.g.loaded_fullsub = true
+
 local command = { "lam_server" }
 
 -- The number of the one client, kept here since Neovim before 0.8 has no vim.lsp.start.

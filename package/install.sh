@@ -1,0 +1,24 @@
+#!/bin/sh
+# install.sh [PREFIX]: copies bin/ and share/ below PREFIX (~/.local where none is named), and says what an editor still needs.
+set -eu
+prefix=${1:-$HOME/.local}
+here=$(dirname "$0")
+"$here/bin/lam_server" --help > /dev/null || {
+  echo "install.sh: the program does not run here. It needs Linux on x86-64, and glibc @LIBC@ or later." >&2
+  exit 1
+}
+mkdir -p "$prefix"
+prefix=$(cd "$prefix" && pwd)
+cd "$here"
+find bin share -type f | while IFS= read -r file; do
+  case $file in bin/*) mode=755 ;; *) mode=644 ;; esac
+  install -D -m "$mode" "$file" "$prefix/$file"
+done
+echo "lam_server is in $prefix/bin."
+case :$PATH: in *":$prefix/bin:"*) ;; *) echo "Put that folder on the PATH, for the editors too." ;; esac
+case $prefix in
+"$HOME/.local" | /usr/local | /usr) echo "Neovim 0.7 or later finds its part by itself." ;;
+*) echo "Neovim: copy $prefix/share/nvim/site/plugin/fullsub.lua to ~/.config/nvim/plugin/." ;;
+esac
+echo "Emacs: put this into the init file: (load \"$prefix/share/emacs/site-lisp/moorbasket/fullsub-mode.el\")"
+echo "Then open a file of $prefix/share/doc/moorbasket/examples. How to go on: man lam_server"
