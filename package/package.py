@@ -68,7 +68,8 @@ def installed(program):
         "share/emacs/site-lisp/moorbasket/fullsub-mode.el": read(f"{ROOT}/editors/fullsub-mode.el"),
         f"{DOCS}/copyright": licences.licences().encode(),
     }
-    for path in [f"{ROOT}/docs/EDITORS.md", f"{ROOT}/docs/LANGUAGE.md", *glob.glob(f"{ROOT}/examples/*.fsub")]:
+    examples = [it for it in glob.glob(f"{ROOT}/examples/**", recursive=True) if os.path.isfile(it)]
+    for path in [f"{ROOT}/docs/EDITORS.md", f"{ROOT}/docs/LANGUAGE.md", *examples]:
         files[f"{DOCS}/{os.path.relpath(path, ROOT)}"] = read(path)
     return files
 
