@@ -3,7 +3,7 @@ use Rattle.std.proofs.Common.{◌≡◌, ℕ, ◌+◌, ◌<◌, ◌++◌, List, 
 use Rattle.std.specs.declared.alloc.Global.{Global}
 use Rattle.std.specs.declared.alloc.AllocError.{AllocError}
 use Rattle.std.proofs.lemmas.Result.{IfOk-weaker}
-use Rattle.lam_rules.specs.Types.{Typ, arrow, record_of, Fields, joined, IsWellFormed, AreWellFormed}
+use Rattle.lam_rules.specs.Types.{Typ, record_of, Fields, joined, IsWellFormed, AreWellFormed}
 use Rattle.lam_rules.specs.TypeViews.{typ_of, fields_of}
 use Rattle.lam_rules.specs.Subtyping.{BySubRule, IsRuleOf, GoesFieldByField, SubTree, sub_step, no_subs, sub_first, IsSubProof, AreSubProofs, ProvesBelow}
 use Rattle.lam_rules.specs.SubViews.{sub_tree_of, sub_trees_of, claim_of, claims_of}
@@ -114,22 +114,6 @@ pub concluded : (rule : SubRule) (s t : Typ) (ps : List SubProof) (d : Dialect) 
 concluded rule s t ps d r none wf of by =
     IfOk-weaker r (λ made. sub_tree_of made ≡ sub_step rule s t (sub_trees_of ps)) (λ made. ProvesBelow (sub_tree_of made) s t d)
     (λ made is. stepped rule s t ps (sub_tree_of made) d wf.0 wf.1 of (subst (λ qs. BySubRule rule (claims_of qs) s t) (sym none) by) (no_premises ps d none) is)
-
--- of two arrows: the first premise is of the parameters, the second of the outcomes
-pub concluded_arrow : (s1 s2 t1 t2 : Typ) (p q : SubProof) (both : List SubProof) (d : Dialect) (r : Result SubProof AllocError) → both ≡ p ∷ q ∷ []
-    → ProvesBelow (sub_tree_of p) t1 s1 d → ProvesBelow (sub_tree_of q) s2 t2 d
-    → IfOk r (λ made. sub_tree_of made ≡ sub_step SubRule.Arrow (arrow s1 s2) (arrow t1 t2) (sub_trees_of both))
-    → IfOk r (λ made. ProvesBelow (sub_tree_of made) (arrow s1 s2) (arrow t1 t2) d)
-concluded_arrow s1 s2 t1 t2 p q both d r are first second =
-    let parameters = claim_is p t1 s1 d first in
-    let outcomes = claim_is q s2 t2 d second in
-    let wf = below_wf t1 s1 d (sub_tree_of p, first) in
-    let wf_outcomes = below_wf s2 t2 d (sub_tree_of q, second) in
-    IfOk-weaker r (λ made. sub_tree_of made ≡ sub_step SubRule.Arrow (arrow s1 s2) (arrow t1 t2) (sub_trees_of both)) (λ made. ProvesBelow (sub_tree_of made) (arrow s1 s2) (arrow t1 t2) d)
-    (λ made is. stepped SubRule.Arrow (arrow s1 s2) (arrow t1 t2) both (sub_tree_of made) d (wf.1, wf_outcomes.0) (wf.0, wf_outcomes.1) tt
-    (subst (λ qs. BySubRule SubRule.Arrow (claims_of qs) (arrow s1 s2) (arrow t1 t2)) (sym are) (parameters.0, parameters.1, outcomes.0, outcomes.1))
-    (subst (λ qs. AreSubProofs (sub_trees_of qs) d) (sym are) (first.0, (second.0, tt)))
-    is)
 
 pub step_made : (rule : SubRule) (lower upper : Ty) (premises : Vec SubProof Global) (s t : Typ) → typ_of lower ≡ s → typ_of upper ≡ t
     → sub_tree_of (roll-SubProof record { rule = rule; lower = lower; upper = upper; premises = premises }) ≡ sub_step rule s t (sub_trees_of premises.items)

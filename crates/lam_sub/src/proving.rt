@@ -2,11 +2,12 @@
 //! of a type takes a small frame of the stack.
 
 ghost use Rattle.std.specs.Prelude.{◌≡◌, IfOk, IfSome, IfNone};
-ghost use Rattle.lam_rules.specs.Types.{Typ, record_of, AreWellFormed, IsWellFormed};
+ghost use Rattle.lam_rules.specs.Types.{Typ, arrow, record_of, AreWellFormed, IsWellFormed};
 ghost use Rattle.lam_rules.specs.TypeViews.{typ_of, fields_of};
 ghost use Rattle.lam_rules.specs.Subtyping.{BySubRule, IsRuleOf, GoesFieldByField, AreSubProofs, ProvesBelow, IsBelow, sub_step};
 ghost use Rattle.lam_rules.specs.SubViews.{sub_tree_of, sub_trees_of, claims_of};
 ghost use Rattle.lam_rules.specs.declared.rules.Dialect.{Dialect};
+ghost use Rattle.lam_rules.specs.declared.rules.SubRule.{SubRule};
 ghost use Rattle.lam_sub.specs.inner.Arranging.{HasLabelsOf, picked};
 ghost use Rattle.lam_sub.specs.inner.FieldsBelow.{AreBelow};
 ghost use Rattle.lam_sub.specs.inner.Steps.{LeadsTo};
@@ -54,9 +55,14 @@ fn prove(alloc: Global, lower: &Ty, upper: &Ty, dialect: Dialect) -> Result<SubP
             let Ty::Arrow(lower_parameter, lower_outcome) = lower else {
                 unreachable!();
             };
-            let parameter = prove(alloc, upper_parameter, lower_parameter, dialect)?;
-            let outcome = prove(alloc, lower_outcome, upper_outcome, dialect)?;
-            let premises = vec![in alloc; parameter, outcome]?;
+            let premises = prove_sides(
+                alloc,
+                lower_parameter,
+                lower_outcome,
+                upper_parameter,
+                upper_outcome,
+                dialect,
+            )?;
             conclude(alloc, SubRule::Arrow, premises, lower, upper)
         }
         Ty::Record(upper_fields) => {
@@ -78,9 +84,32 @@ fn prove(alloc: Global, lower: &Ty, upper: &Ty, dialect: Dialect) -> Result<SubP
     }
 }
 
+/// The premises of the step between two arrows: that of the parameters goes the other way.
+#[cycle(prove)]
+#[inline(never)]
+fn prove_sides(
+    alloc: Global,
+    lower_parameter: &Ty,
+    lower_outcome: &Ty,
+    upper_parameter: &Ty,
+    upper_outcome: &Ty,
+    dialect: Dialect,
+) -> Result<Vec<SubProof>, AllocError>
+    requires parameters { IsBelow (typ_of upper_parameter.now) (typ_of lower_parameter.now) dialect }
+    requires outcomes { IsBelow (typ_of lower_outcome.now) (typ_of upper_outcome.now) dialect }
+    ensures proofs { IfOk result (λ made. AreSubProofs (sub_trees_of made.items) dialect) }
+    ensures by_rule { IfOk result (λ made. BySubRule SubRule.Arrow (claims_of made.items) (arrow (typ_of lower_parameter.now) (typ_of lower_outcome.now)) (arrow (typ_of upper_parameter.now) (typ_of upper_outcome.now))) }
+{
+    let parameter = prove(alloc, upper_parameter, lower_parameter, dialect)?;
+    let outcome = prove(alloc, lower_outcome, upper_outcome, dialect)?;
+    let premises = vec![in alloc; parameter, outcome]?;
+    Ok(premises)
+}
+
 /// The steps from one record type to another, as few as will do: the fields that are asked for put
 /// in front, the others cut off, each type made wider.
 #[cycle(prove)]
+#[inline(never)]
 fn prove_record(
     alloc: Global,
     lower: &[(String, Ty)],
@@ -140,6 +169,7 @@ fn prove_picked(
 
 /// For each field above, the proof that its type is above that of the field below.
 #[cycle(prove)]
+#[inline(never)]
 fn prove_fields(
     alloc: Global,
     lower: &[(String, Ty)],

@@ -1,8 +1,10 @@
-use Rattle.std.proofs.Common.{◌≡◌, ◌∙◌, ap, sym, refl, subst, arith, string_bytes, append-nil, [], true, false, Some}
+use Rattle.std.proofs.Common.{◌≡◌, ◌∙◌, ap, sym, subst, arith, string_bytes, append-nil, [], true, false, Some}
 use Rattle.std.proofs.lemmas.List.{drop_all}
-use Rattle.lam_rules.specs.Types.{Has, IsAbsent, record_of, IsWellFormed}
+use Rattle.std.proofs.lemmas.Result.{IfOk-weaker}
+use Rattle.lam_rules.specs.Types.{Has, IsAbsent, arrow, record_of, IsWellFormed}
 use Rattle.lam_rules.specs.TypeViews.{typ_of, fields_of}
-use Rattle.lam_rules.specs.Subtyping.{IsBelow, IsRuleOf}
+use Rattle.lam_rules.specs.Subtyping.{BySubRule, ProvesBelow, IsBelow, IsRuleOf}
+use Rattle.lam_rules.specs.SubViews.{claims_of, sub_tree_of}
 use Rattle.lam_rules.specs.declared.rules.SubRule.{SubRule}
 use Rattle.lam_rules.proofs.TypeShapes.{typ_of-Top, typ_of-Arrow}
 use Rattle.lam_rules.proofs.ByShape.{below_wf}
@@ -11,7 +13,7 @@ use Rattle.lam_sub.proofs.LookUps.{item_has}
 use Rattle.lam_sub.proofs.Below.{no_field, field_iff, nodes_of_field, record_inside}
 use Rattle.lam_sub.proofs.Arranging.{type_under_is, below_labels}
 use Rattle.lam_sub.proofs.ByVariant.{not_arrow, not_record, two_arrows, record_seen, nodes_of_record, nodes_of_arrow, only_bool_and_nat, field_first}
-use Rattle.lam_sub.proofs.Steps.{concluded, concluded_arrow, claim_is, proofs_more, claims_more}
+use Rattle.lam_sub.proofs.Steps.{concluded, stepped, claim_is, proofs_more, claims_more}
 use Rattle.lam_sub.proofs.proving.+prove.Goals as goal
 
 -- the fields that are asked for, one after the other
@@ -66,28 +68,16 @@ pub prove-unreachable-requires-in_default-lower-2 : goal.prove-unreachable-requi
 prove-unreachable-requires-in_default-lower-2 t c =
     let e : false ≡ true = (not_record c.args.lower.now c.args.upper.now _ c.args.dialect c.in-Record.is c.in_default-lower-2.not-Record).1 c.requires in cc
 
-pub prove-prove-requires : goal.prove-prove-requires
-prove-prove-requires t c =
+pub prove-prove_sides-requires : goal.prove-prove_sides-requires
+prove-prove_sides-requires t c =
     let parts = (two_arrows c.args.lower.now c.args.upper.now _ _ _ _ c.args.dialect c.in-Arrow-lower.is c.in-Arrow.is).1 c.requires in (
       omega (
         arith,
         c.decreases,
-        nodes_of_arrow c.args.lower.now c.deref-in-Arrow.result.now _ _ _ c.in-Arrow-lower.is c.deref-in-Arrow.ensures refl,
-        nodes_of_arrow c.args.upper.now c.deref.result.now _ _ _ c.in-Arrow.is c.deref.ensures refl,
+        nodes_of_arrow c.args.lower.now c.deref.result.now c.deref-in-Arrow.result.now _ _ c.in-Arrow-lower.is c.deref.ensures c.deref-in-Arrow.ensures,
+        nodes_of_arrow c.args.upper.now c.deref-in-Arrow-2.result.now c.deref-in-Arrow-3.result.now _ _ c.in-Arrow.is c.deref-in-Arrow-2.ensures c.deref-in-Arrow-3.ensures,
       ),
-      rw (c.deref.ensures, c.deref-in-Arrow.ensures) parts.0,
-    )
-
-pub prove-prove-requires-in-Arrow : goal.prove-prove-requires-in-Arrow
-prove-prove-requires-in-Arrow t c =
-    let parts = (two_arrows c.args.lower.now c.args.upper.now _ _ _ _ c.args.dialect c.in-Arrow-lower.is c.in-Arrow.is).1 c.requires in (
-      omega (
-        arith,
-        c.decreases,
-        nodes_of_arrow c.args.lower.now _ c.deref-in-Arrow-2.result.now _ _ c.in-Arrow-lower.is refl c.deref-in-Arrow-2.ensures,
-        nodes_of_arrow c.args.upper.now _ c.deref-in-Arrow-3.result.now _ _ c.in-Arrow.is refl c.deref-in-Arrow-3.ensures,
-      ),
-      rw (c.deref-in-Arrow-2.ensures, c.deref-in-Arrow-3.ensures) parts.1,
+      (rw (c.deref.ensures, c.deref-in-Arrow-2.ensures) parts.0, rw (c.deref-in-Arrow.ensures, c.deref-in-Arrow-3.ensures) parts.1),
     )
 
 pub prove-prove_record-requires : goal.prove-prove_record-requires
@@ -121,12 +111,23 @@ prove-returns-in-Top t c =
 
 pub prove-returns-in_ok-premises-in-Arrow : goal.prove-returns-in_ok-premises-in-Arrow
 prove-returns-in_ok-premises-in-Arrow t c =
-    rw (c.in-Arrow-lower.is, c.in-Arrow.is, typ_of-Arrow c.in-Arrow-lower.lower_parameter c.in-Arrow-lower.lower_outcome, typ_of-Arrow c.in-Arrow.upper_parameter c.in-Arrow.upper_outcome)
-    (concluded_arrow (typ_of c.in-Arrow-lower.lower_parameter.value) (typ_of c.in-Arrow-lower.lower_outcome.value) (typ_of c.in-Arrow.upper_parameter.value) (typ_of c.in-Arrow.upper_outcome.value)
-    c.in_ok-parameter-in-Arrow.parameter c.in_ok-outcome-in-Arrow.outcome c.in_ok-premises-in-Arrow.premises.items c.args.dialect c.conclude-in-Arrow.result c.in_ok-premises-in-Arrow.ensures.items
-    (rw (sym c.deref.ensures, sym c.deref-in-Arrow.ensures) c.in_ok-parameter-in-Arrow.ensures)
-    (rw (sym c.deref-in-Arrow-2.ensures, sym c.deref-in-Arrow-3.ensures) c.in_ok-outcome-in-Arrow.ensures)
-    (rw (sym (typ_of-Arrow c.in-Arrow-lower.lower_parameter c.in-Arrow-lower.lower_outcome), sym (typ_of-Arrow c.in-Arrow.upper_parameter c.in-Arrow.upper_outcome), sym c.in-Arrow-lower.is, sym c.in-Arrow.is) c.conclude-in-Arrow.ensures))
+    let wf = below_wf _ _ _ c.requires in
+    let premises = c.in_ok-premises-in-Arrow.premises.items in
+    let lower : typ_of c.args.lower.now ≡ arrow (typ_of c.deref.result.now) (typ_of c.deref-in-Arrow.result.now)
+    = rw (c.deref.ensures, c.deref-in-Arrow.ensures) (ap typ_of c.in-Arrow-lower.is ∙ typ_of-Arrow c.in-Arrow-lower.lower_parameter c.in-Arrow-lower.lower_outcome) in
+    let upper : typ_of c.args.upper.now ≡ arrow (typ_of c.deref-in-Arrow-2.result.now) (typ_of c.deref-in-Arrow-3.result.now)
+    = rw (c.deref-in-Arrow-2.ensures, c.deref-in-Arrow-3.ensures) (ap typ_of c.in-Arrow.is ∙ typ_of-Arrow c.in-Arrow.upper_parameter c.in-Arrow.upper_outcome) in
+    let by_rule : BySubRule SubRule.Arrow (claims_of premises) (typ_of c.args.lower.now) (typ_of c.args.upper.now) = rw (lower, upper) c.in_ok-premises-in-Arrow.ensures.by_rule in
+    IfOk-weaker c.conclude-in-Arrow.result _ (λ made. ProvesBelow (sub_tree_of made) (typ_of c.args.lower.now) (typ_of c.args.upper.now) c.args.dialect)
+    (λ made is. stepped SubRule.Arrow _ _ premises (sub_tree_of made) c.args.dialect wf.0 wf.1 tt by_rule c.in_ok-premises-in-Arrow.ensures.proofs is)
+    c.conclude-in-Arrow.ensures
+
+pub prove_sides-returns-clause-by_rule : goal.prove_sides-returns-clause-by_rule
+prove_sides-returns-clause-by_rule t c =
+    let parameters = claim_is c.in_ok-parameter.parameter _ _ c.args.dialect c.in_ok-parameter.ensures in
+    let outcomes = claim_is c.in_ok-outcome.outcome _ _ c.args.dialect c.in_ok-outcome.ensures in
+    subst (λ qs. BySubRule SubRule.Arrow (claims_of qs) (arrow (typ_of c.args.lower_parameter.now) (typ_of c.args.lower_outcome.now)) (arrow (typ_of c.args.upper_parameter.now) (typ_of c.args.upper_outcome.now)))
+    (sym c.in_ok-premises.ensures.items) (parameters.0, parameters.1, outcomes.0, outcomes.1)
 
 pub prove-returns-in-Some : goal.prove-returns-in-Some
 prove-returns-in-Some t c =

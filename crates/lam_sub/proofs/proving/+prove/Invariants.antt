@@ -25,3 +25,7 @@ decreases-prove_record l = 3 * (nodes_in (fields_of l.lower.now) + nodes_in (fie
 
 abbrev pub decreases-prove_fields : goal.decreases-prove_fields
 decreases-prove_fields l = 3 * (nodes_in (fields_of l.lower.now) + nodes_in (fields_of l.upper.now)) + 1
+
+abbrev pub decreases-prove_sides : goal.decreases-prove_sides
+decreases-prove_sides l =
+    3 * (nodes (typ_of l.lower_parameter.now) + nodes (typ_of l.lower_outcome.now) + nodes (typ_of l.upper_parameter.now) + nodes (typ_of l.upper_outcome.now)) + 1
