@@ -46,3 +46,5 @@ pub mod EveryElement
 pub mod OwnWords
 pub mod RenameAnswers
 pub mod FreeNames
+pub mod InternedShapes
+pub mod InternedTerms

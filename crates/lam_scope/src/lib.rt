@@ -19,6 +19,7 @@ mod abbreviations;
 mod binding;
 mod document;
 mod expansion;
+mod interned;
 mod laws;
 mod name_stack;
 mod nameless;
@@ -48,6 +49,7 @@ mod walk;
 pub use binding::bind;
 pub use document::resolve;
 pub use expansion::NODE_LIMIT;
+pub use interned::{InternedStatement, InternedTerm};
 pub use laws::{
     a_label_is_free, faultless_is_expanded, forms_have_no_places, free_names_decide,
     innermost_place, mentions_are_rows, mentions_ascend, one_abbreviation, one_answer_to_a_rename,
