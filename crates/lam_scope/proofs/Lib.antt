@@ -48,3 +48,4 @@ pub mod RenameAnswers
 pub mod FreeNames
 pub mod InternedShapes
 pub mod InternedTerms
+pub mod TypeNames

@@ -30,5 +30,7 @@ pub mod StatementViews
 pub mod Views
 pub mod Numbered
 pub mod InternedViews
+pub mod NumberedNames
+pub mod Environments
 pub use Rattle.lam_syntax.specs.Trees
 pub mod inner

@@ -18,6 +18,7 @@
 mod abbreviations;
 mod binding;
 mod document;
+mod environment;
 mod expansion;
 mod interned;
 mod laws;
@@ -42,12 +43,14 @@ mod statement;
 mod stretches;
 mod token_lists;
 mod type_fault;
+mod type_names;
 mod use_chains;
 mod uses_left;
 mod walk;
 
 pub use binding::bind;
 pub use document::resolve;
+pub use environment::Environment;
 pub use expansion::NODE_LIMIT;
 pub use interned::{InternedStatement, InternedTerm};
 pub use laws::{
