@@ -49,3 +49,4 @@ pub mod FreeNames
 pub mod InternedShapes
 pub mod InternedTerms
 pub mod TypeNames
+pub mod InterningTypes

@@ -12,6 +12,7 @@ use Rattle.lam_scope.specs.Names.{Name, binds, count}
 use Rattle.lam_scope.specs.Expansions.{Abbreviation, stands_for, meaning, is_bound}
 use Rattle.lam_scope.specs.Numbered.{written_over, StandsIfAny}
 use Rattle.lam_scope.specs.NumberedNames.{NumberedName, numbered_name_of, numbered_names_of, names_numbered, number_named, abbreviation_over, abbreviations_over, NamesStand}
+use Rattle.lam_scope.specs.inner.Interned.{number_of_named, is_named}
 use Rattle.lam_scope.proofs.InternedTerms.{kept_written}
 use Rattle.lam_scope.proofs.Lookups.{split, split_none, count-within}
 use Rattle.lam_scope.proofs.StackViews.{stacked-push, stacked-length, stacked-nth}
@@ -60,14 +61,6 @@ pub type_name_missed : (stack : List TypeName) (names : List (Option Name)) (x :
 type_name_missed stack names x named none = sym (unnamed_by_count x (numbered_names_of stack) (ap (count x) (sym named) ∙ none))
 
 -- the abbreviations over a table
-
-abbrev pub number_of_named : Option (Option TyNo) → Option TyNo
-number_of_named None = None
-number_of_named (Some w) = w
-
-abbrev pub is_named : Option (Option TyNo) → Bool
-is_named None = false
-is_named (Some w) = true
 
 either_number : (ts : List Typ) (b : Bool) (w : Option TyNo) (o : Option (Option TyNo))
     → written_over ts (number_of_named (if b then Some w else o)) ≡ (if b then written_over ts w else written_over ts (number_of_named o))

@@ -21,6 +21,7 @@ mod document;
 mod environment;
 mod expansion;
 mod interned;
+mod interning_types;
 mod laws;
 mod name_stack;
 mod nameless;
