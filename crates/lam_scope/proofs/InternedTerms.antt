@@ -2,7 +2,6 @@
 use Rattle.std.proofs.Common.{◌≡◌, ◌⊎◌, inl, inr, ℕ, ◌<◌, ◌≤◌, List, Option, Some, None, length, ap, refl, subst, sym, arith}
 use Rattle.std.proofs.lemmas.List.{get_or_past}
 use Rattle.std.proofs.lemmas.Bool.{cases_lt}
-use denote.Ref.{Bor}
 use Rattle.lam_rules.specs.Types.{Typ, top, IsWellFormed}
 use Rattle.lam_rules.specs.Typing.{IsWellFormedEntry}
 use Rattle.lam_rules.specs.Numbers.{type_at, Keeps}
@@ -14,6 +13,7 @@ use Rattle.lam_scope.specs.InternedViews.{numbered_of, numbered_terms, interned_
 use Rattle.lam_scope.specs.WellFormed.{IsWellFormedTerm, AreWellFormedTerms, IsWellFormedStatement}
 use Rattle.lam_scope.specs.Places.{defines, declares, abbreviates, states}
 use Rattle.lam_scope.specs.declared.interned.InternedTerm.{InternedTerm}
+use Rattle.lam_scope.specs.declared.interned.InternedField.{InternedField}
 use Rattle.lam_scope.specs.declared.interned.InternedStatement.{InternedStatement}
 use Rattle.lam_scope.specs.declared.interned.InternedStatement.TheVariants as interned
 
@@ -71,7 +71,7 @@ mutual
 pub kept : (old now : List Typ) (e : InternedTerm) → Keeps old now → StandIn old e → (interned_term now e ≡ interned_term old e) × StandIn now e
 kept old now e k h = kept_over old now (numbered_of e) k h
 
-pub kept_terms : (old now : List Typ) (fs : List (Bor (List ℕ) × InternedTerm)) → Keeps old now → StandInTerms old fs
+pub kept_terms : (old now : List Typ) (fs : List InternedField) → Keeps old now → StandInTerms old fs
     → (interned_terms now fs ≡ interned_terms old fs) × StandInTerms now fs
 kept_terms old now fs k h = kept_all_over old now (numbered_terms fs) k h
 
@@ -126,7 +126,7 @@ mutual
 pub interned_wf : (ts : List Typ) (e : InternedTerm) → EachIsWellFormed ts → IsWellFormedTerm (interned_term ts e)
 interned_wf ts e each = over_wf ts (numbered_of e) each
 
-pub interned_terms_wf : (ts : List Typ) (fs : List (Bor (List ℕ) × InternedTerm)) → EachIsWellFormed ts → AreWellFormedTerms (interned_terms ts fs)
+pub interned_terms_wf : (ts : List Typ) (fs : List InternedField) → EachIsWellFormed ts → AreWellFormedTerms (interned_terms ts fs)
 interned_terms_wf ts fs each = all_over_wf ts (numbered_terms fs) each
 
 pub interned_statement_wf : (ts : List Typ) (s : InternedStatement) → EachIsWellFormed ts → IsWellFormedStatement (interned_statement ts s)

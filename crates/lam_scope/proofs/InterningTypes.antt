@@ -1,7 +1,6 @@
 -- How written types get their numbers.
 use Rattle.std.proofs.Common.{◌≡◌, ◌≢◌, ℕ, ◌+◌, ◌<◌, ◌≤◌, List, [], ◌∷◌, ◌++◌, Bool, true, false, Option, Some, None, refl, ap, sym, ◌∙◌, subst, length, take, drop, get_or, Bor, append_assoc, arith, Result, Ok, Err}
 use Rattle.std.specs.Prelude.{if◌then◌else◌, IfOk}
-use Rattle.std.specs.Option.{option_map}
 use Rattle.std.specs.Str.{bytes_eq}
 use Rattle.std.specs.declared.alloc.AllocError.{AllocError}
 use Rattle.std.proofs.lemmas.List.{append-nil, drop_all}
@@ -16,7 +15,7 @@ use Rattle.lam_rules.proofs.Tables.{keeps_same, keeps_trans, kept_type, keeps_le
 use Rattle.lam_rules.proofs.TypeShapes.{joined-none}
 use Rattle.lam_syntax.specs.Letters.{letters}
 use Rattle.lam_syntax.specs.declared.types.TyField.{TyField}
-use Rattle.lam_syntax.specs.Trees.{word, TypeTree, type_tree, TypeNode, arrow, TypeFields, type_field, no_type_fields, joined_types}
+use Rattle.lam_syntax.specs.Trees.{word, type_tree, TypeNode, arrow, TypeFields, type_field, no_type_fields, joined_types}
 use Rattle.lam_syntax.specs.Views.{word_of, type_of as type_tree_of, type_fields_of}
 use Rattle.lam_syntax.proofs.Shapes.{type_node_of-Bool, type_node_of-Nat, type_node_of-Unit, type_node_of-Top, type_node_of-Named, type_node_of-Arrow, type_node_of-Record}
 use Rattle.lam_scope.specs.declared.type_fault.TypeFault.{TypeFault}
@@ -105,10 +104,10 @@ numbered_more names fs i f old mid new items more w label all lt is stand earlie
     let same = (kept_names old mid names earlier stand).0 in
     let type = number ∙ ap (λ cs. expansion cs (type_tree_of f.ty)) same in (
       ap (λ o. both joined (given_over new o) (expansion_of_fields bs rest)) pushed
-      ∙ one_more new items label repeated w (expansion_of_fields bs rest)
-      ∙ (λ j. both joined (kept.0 j) (if repeated then None else both (rules.field (labelled j)) (type j) (expansion_of_fields bs rest)))
-      ∙ ap (λ gs. both joined (given_over mid items) (expansion_of_fields bs gs)) (sym (type_fields_of-drop fs i f lt is))
-      ∙ so_far,
+          ∙ one_more new items label repeated w (expansion_of_fields bs rest)
+          ∙ (λ j. both joined (kept.0 j) (if repeated then None else both (rules.field (labelled j)) (type j) (expansion_of_fields bs rest)))
+          ∙ ap (λ gs. both joined (given_over mid items) (expansion_of_fields bs gs)) (sym (type_fields_of-drop fs i f lt is))
+          ∙ so_far,
       subst (GivenStand new) (sym pushed) (one_more_stands new items label repeated w kept.1 stands),
     )
 

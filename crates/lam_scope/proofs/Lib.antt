@@ -50,3 +50,4 @@ pub mod InternedShapes
 pub mod InternedTerms
 pub mod TypeNames
 pub mod InterningTypes
+pub mod InternedForms

@@ -1,17 +1,16 @@
 -- How a stack of type names is seen, what it tells of a name, and the abbreviations that it is over a table.
-use Rattle.std.proofs.Common.{◌≡◌, ◌⊎◌, inl, inr, ℕ, ◌-◌, ◌<◌, arith, Bool, true, false, List, [], ◌∷◌, ◌++◌, length, map, get_or, suc, refl, ap, sym, ◌∙◌, Option, Some, None}
+use Rattle.std.proofs.Common.{◌≡◌, ◌⊎◌, inl, inr, ℕ, ◌-◌, ◌<◌, arith, Bool, true, false, List, [], ◌∷◌, ◌++◌, length, get_or, suc, refl, ap, sym, ◌∙◌, Option, Some, None}
 use Rattle.std.specs.Prelude.{if◌then◌else◌}
-use Rattle.std.specs.Option.{option_map}
 use Rattle.std.specs.Str.{bytes_eq}
 use Rattle.std.proofs.lemmas.List.{length-map}
 use Rattle.lam_rules.specs.Types.{Typ}
 use Rattle.lam_rules.specs.Numbers.{Keeps}
 use Rattle.lam_rules.specs.declared.numbers.TyNo.{TyNo}
 use Rattle.lam_scope.specs.declared.type_names.TypeName.{TypeName}
-use Rattle.lam_scope.specs.Names.{Name, binds, count}
-use Rattle.lam_scope.specs.Expansions.{Abbreviation, stands_for, meaning, is_bound}
+use Rattle.lam_scope.specs.Names.{Name, count}
+use Rattle.lam_scope.specs.Expansions.{stands_for, meaning, is_bound}
 use Rattle.lam_scope.specs.Numbered.{written_over, StandsIfAny}
-use Rattle.lam_scope.specs.NumberedNames.{NumberedName, numbered_name_of, numbered_names_of, names_numbered, number_named, abbreviation_over, abbreviations_over, NamesStand}
+use Rattle.lam_scope.specs.NumberedNames.{NumberedName, numbered_name_of, numbered_names_of, names_numbered, number_named, abbreviations_over, NamesStand}
 use Rattle.lam_scope.specs.inner.Interned.{number_of_named, is_named}
 use Rattle.lam_scope.proofs.InternedTerms.{kept_written}
 use Rattle.lam_scope.proofs.Lookups.{split, split_none, count-within}

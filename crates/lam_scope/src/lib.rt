@@ -53,7 +53,7 @@ pub use binding::bind;
 pub use document::resolve;
 pub use environment::Environment;
 pub use expansion::NODE_LIMIT;
-pub use interned::{InternedStatement, InternedTerm};
+pub use interned::{InternedField, InternedStatement, InternedTerm};
 pub use laws::{
     a_label_is_free, faultless_is_expanded, forms_have_no_places, free_names_decide,
     innermost_place, mentions_are_rows, mentions_ascend, one_abbreviation, one_answer_to_a_rename,

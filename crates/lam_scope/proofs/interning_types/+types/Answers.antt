@@ -1,4 +1,4 @@
-use Rattle.std.proofs.Common.{◌≡◌, ◌+◌, ◌++◌, sym, ◌∙◌, ap, arith, subst, drop, Some, None}
+use Rattle.std.proofs.Common.{◌≡◌, ◌+◌, ◌++◌, sym, ◌∙◌, ap, arith, subst, drop, None}
 use Rattle.std.specs.Prelude.{if◌then◌else◌}
 use Rattle.lam_syntax.specs.Letters.{letters}
 use Rattle.lam_syntax.specs.Views.{type_of, type_fields_of}
@@ -34,9 +34,9 @@ intern_fields-loop-i-preserved t c =
     let once : c.unless_repeated-once.result ≡ (if has_label (letters c.index-fields-i.result.label.text) (type_fields_of (drop (c.loop-i.i + 1) c.args.fields.now)) then None else c.in_ok-number.number) =
     grind (arith, common_steps) in
     let more =
-        numbered_more c.args.seen.now c.args.fields.now c.loop-i.i c.index-fields-i.result c.args.table.now c.loop-i.table c.intern_type.new.table (items_in c.loop-i.items) (items_in c.in_ok-items.items)
-        c.in_ok-number.number c.as_str.result _ c.loop-i-test.true c.index-fields-i.is c.requires c.loop-i.invariant.keeps one.keeps one.number one.stands c.loop-i.invariant.stand c.as_str.ensures
-        (c.in_ok-items.ensures ∙ ap (both (with_given c.as_str.result) (items_in c.loop-i.items)) once) c.loop-i.invariant.numbers in
+    numbered_more c.args.seen.now c.args.fields.now c.loop-i.i c.index-fields-i.result c.args.table.now c.loop-i.table c.intern_type.new.table (items_in c.loop-i.items) (items_in c.in_ok-items.items)
+    c.in_ok-number.number c.as_str.result _ c.loop-i-test.true c.index-fields-i.is c.requires c.loop-i.invariant.keeps one.keeps one.number one.stands c.loop-i.invariant.stand c.as_str.ensures
+    (c.in_ok-items.ensures ∙ ap (both (with_given c.as_str.result) (items_in c.loop-i.items)) once) c.loop-i.invariant.numbers in
     record {
       keeps = keeps_trans c.args.table.now c.loop-i.table c.intern_type.new.table c.loop-i.invariant.keeps one.keeps;
       stand = more.1;
