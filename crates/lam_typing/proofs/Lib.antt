@@ -15,6 +15,7 @@ pub mod Stops
 pub mod StepRules
 pub mod Sizes
 pub mod Arms
+pub mod NumberedArms
 pub mod Statements
 pub mod Finishing
 pub mod NotedParts
@@ -34,3 +35,5 @@ pub mod AlikeTypes
 pub mod AlikePlaces
 pub mod AlikeBlames
 pub mod MovedBlames
+pub mod KeptForms
+pub mod InternedParts

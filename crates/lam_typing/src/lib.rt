@@ -13,6 +13,7 @@ mod blame;
 mod entries;
 mod fault;
 mod grounds;
+mod interning;
 mod laws;
 mod noting;
 mod proving;
