@@ -37,3 +37,4 @@ pub mod AlikeBlames
 pub mod MovedBlames
 pub mod KeptForms
 pub mod InternedParts
+pub mod Checking
