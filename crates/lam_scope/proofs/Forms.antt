@@ -41,7 +41,7 @@ forms_all bs us forms fs i all le so_far = sym (joined_terms-none (terms_of form
 
 -- the written types of a term
 
-ltb-capped : (n : ℕ) → ltb node_limit (min n (node_limit + 1)) ≡ ltb node_limit n
+pub ltb-capped : (n : ℕ) → ltb node_limit (min n (node_limit + 1)) ≡ ltb node_limit n
 ltb-capped n = grind (arith, nat_tests)
 
 pub is_capped-nodes : (o : Option Typ) → is_capped (capped_nodes o) ≡ is_over_limit o

@@ -46,3 +46,8 @@ pub mod EveryElement
 pub mod OwnWords
 pub mod RenameAnswers
 pub mod FreeNames
+pub mod InternedShapes
+pub mod InternedTerms
+pub mod TypeNames
+pub mod InterningTypes
+pub mod InternedForms

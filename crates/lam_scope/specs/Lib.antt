@@ -28,5 +28,9 @@ pub mod Stretches
 pub mod RowStretches
 pub mod StatementViews
 pub mod Views
+pub mod Numbered
+pub mod InternedViews
+pub mod NumberedNames
+pub mod Environments
 pub use Rattle.lam_syntax.specs.Trees
 pub mod inner

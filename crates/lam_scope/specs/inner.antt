@@ -6,3 +6,4 @@ pub mod Bearers
 pub mod Formed
 pub mod Walked
 pub mod OwnWords
+pub mod Interned

@@ -66,7 +66,7 @@ fn collect_field_faults(
     Ok(())
 }
 
-fn collect_label_fault(
+pub(crate) fn collect_label_fault(
     field: &TyField,
     earlier: &[TyField],
     faults: &mut Vec<TypeFault>,
@@ -81,7 +81,7 @@ fn collect_label_fault(
 
 /// Whether a field has this label.
 #[tactic(auto, using(crate::proofs::WrittenTypes::written_types))]
-fn has_label(label: &str, fields: &[TyField]) -> bool
+pub(crate) fn has_label(label: &str, fields: &[TyField]) -> bool
     ensures { result ≡ has_label label.now (type_fields_of fields.now) }
 {
     for i in 0..fields.len() {

@@ -18,7 +18,10 @@
 mod abbreviations;
 mod binding;
 mod document;
+mod environment;
 mod expansion;
+mod interned;
+mod interning_types;
 mod laws;
 mod name_stack;
 mod nameless;
@@ -41,13 +44,16 @@ mod statement;
 mod stretches;
 mod token_lists;
 mod type_fault;
+mod type_names;
 mod use_chains;
 mod uses_left;
 mod walk;
 
 pub use binding::bind;
 pub use document::resolve;
+pub use environment::Environment;
 pub use expansion::NODE_LIMIT;
+pub use interned::{InternedField, InternedStatement, InternedTerm};
 pub use laws::{
     a_label_is_free, faultless_is_expanded, forms_have_no_places, free_names_decide,
     innermost_place, mentions_are_rows, mentions_ascend, one_abbreviation, one_answer_to_a_rename,

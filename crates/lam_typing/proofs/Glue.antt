@@ -10,13 +10,13 @@ use Rattle.lam_rules.specs.Texts.{Text}
 use Rattle.lam_rules.specs.Typing.{Context, IsWellFormedEntry}
 use Rattle.lam_rules.specs.Numbers.{Keeps, IsNumberOf, type_of, fields_over}
 use Rattle.lam_rules.specs.declared.rules.Dialect.{Dialect}
-use Rattle.lam_rules.specs.declared.terms.Core.{Core}
-use Rattle.lam_rules.specs.TermViews.{terms_of}
 use Rattle.lam_rules.specs.declared.numbers.TyNo.{TyNo}
 use Rattle.lam_rules.proofs.Tables.{keeps_same, keeps_trans, keeps_length, kept_number}
 use Rattle.lam_sub.specs.Remembered.{AreRight}
 use Rattle.lam_sub.specs.declared.verdicts.Verdicts.{Verdicts}
 use Rattle.lam_sub.proofs.Keeping.{right_kept}
+use Rattle.lam_scope.specs.InternedViews.{interned_terms}
+use Rattle.lam_scope.specs.declared.interned.InternedField.{InternedField}
 use Rattle.lam_scope.specs.Places.{Binding, written, of_term, Scope, Place, places, field_places}
 use Rattle.lam_scope.specs.declared.numbers.Place.{Place as PlaceNumber}
 use Rattle.lam_typing.specs.LeastTypes.{IsLeastAt}
@@ -248,7 +248,7 @@ fields_none w items = record {
   fields = λ s low. refl;
 }
 
-pub no_fields_walked : (w : Walk) (fs : List (String Global × Core)) (items : List (String Global × TyNo)) → length fs ≡ 0 → FieldsWalked w w (terms_of fs) items items true
+pub no_fields_walked : (w : Walk) (fs : List InternedField) (items : List (String Global × TyNo)) → length fs ≡ 0 → FieldsWalked w w (interned_terms w.table fs) items items true
 no_fields_walked w [] items e = fields_none w items
 no_fields_walked w (f ∷ fs) items e = absurd (omega arith)
 
@@ -449,25 +449,25 @@ module _ (w0 w1 : Walk) (e : Term) (x found : Option TyNo) (blame : Option (Bor 
   project_parts l rule blames = ready_at w1 (entries_of w0) (project e l) (λ s. places s e) (progress_of w0) found (is_some x) (is_some (answer w1.table x)) (codes "E4") blame w0.verdicts.dialect
       (project_ready (entries_of w0) e (progress_of w0) (progress_of w1) (answer w1.table x) (answer w1.table found) w0.verdicts.dialect over.over l rule) (some_answer w1.table x) blames
 
+  -- an ascription, whose written type has had its number from before
+  pub ascribe_parts : (number : Option TyNo) → StandsWhereFound w0.table number
+      → AscribeRule (answer w1.table number) (answer w1.table x) (answer w1.table found) w1.verdicts.dialect → Blames (is_some x && is_some number) found (codes "E7") blame
+      → IsReady (entries_of w0) (ascribe e (answer w0.table number)) (λ s. places s e) (progress_of w0) (progress_of w1) (answer w1.table found) (blame_at (length w1.found.items) blame) w0.verdicts.dialect
+  ascribe_parts number stands rule blames =
+      let w = answer w0.table number in
+      let d = w0.verdicts.dialect in
+      let same = answer_keep w0.table w1.table number grows.keeps stands in
+      let seen : (is_some (answer w1.table x) && is_some w) ≡ (is_some x && is_some number) = rw (some_answer w1.table x, some_answer w0.table number) in
+      ready_at w1 (entries_of w0) (ascribe e w) (λ s. places s e) (progress_of w0) found (is_some x && is_some number) (is_some (answer w1.table x) && is_some w) (codes "E7") blame d
+      (ascribe_ready (entries_of w0) e (progress_of w0) (progress_of w1) (answer w1.table x) (answer w1.table found) d over.over w
+      (subst (λ v. AscribeRule v (answer w1.table x) (answer w1.table found) d) same
+      (subst (λ b. AscribeRule (answer w1.table number) (answer w1.table x) (answer w1.table found) b) grows.dialect rule)))
+      seen blames
+
 -- what was found, with its parts told otherwise
 over_as : (g h : Context) (e : Term) (p p' q q' : Progress) (o o' : Option Typ) (d d' : Dialect)
     → g ≡ h → p ≡ p' → q ≡ q' → o ≡ o' → d ≡ d' → WentOver g e p q o d → WentOver h e p' q' o' d'
 over_as g h e p p' q q' o o' d d' a b c f i over = rw (sym a, sym b, sym c, sym f, sym i) over
-
--- an ascription: the walk over its term, then what is written is put into the table
-pub ascribe_parts : (w0 w1 w2 : Walk) (e : Term) (w : Option Typ) (entry x found : Option TyNo) (blame : Option (Bor Text))
-    → Grows w0 w1 → WalkedOver w0 w1 e x → Keeps w1.table w2.table → progress_of w2 ≡ progress_of w1
-    → answer w2.table entry ≡ w → AscribeRule (answer w2.table entry) (answer w2.table x) (answer w2.table found) w1.verdicts.dialect → Blames (is_some x && is_some entry) found (codes "E7") blame
-    → IsReady (entries_of w0) (ascribe e w) (λ s. places s e) (progress_of w0) (progress_of w2) (answer w2.table found) (blame_at (length w2.found.items) blame) w0.verdicts.dialect
-ascribe_parts w0 w1 w2 e w entry x found blame grows over keeps same is rule blames =
-    let d = w0.verdicts.dialect in
-    let here = subst (λ p. WentOver (entries_of w0) e (progress_of w0) p (answer w2.table x) d) (sym same) (over_at w0 w1 w2.table (entries_of w0) e x d over refl refl keeps) in
-    let seen : (is_some (answer w2.table x) && is_some w) ≡ (is_some x && is_some entry) = rw (sym is, some_answer w2.table x, some_answer w2.table entry) in
-    ready_at w2 (entries_of w0) (ascribe e w) (λ s. places s e) (progress_of w0) found (is_some x && is_some entry) (is_some (answer w2.table x) && is_some w) (codes "E7") blame d
-    (ascribe_ready (entries_of w0) e (progress_of w0) (progress_of w2) (answer w2.table x) (answer w2.table found) d here w
-    (subst (λ v. AscribeRule v (answer w2.table x) (answer w2.table found) d) is
-    (subst (λ b. AscribeRule (answer w2.table entry) (answer w2.table x) (answer w2.table found) b) grows.dialect rule)))
-    seen blames
 
 -- a lambda: the walk over its body under one more entry
 pub lambda_parts : (w0 w2 w3 w5 : Walk) (e : Term) (w : Option Typ) (outcome found : Option TyNo)

@@ -15,6 +15,7 @@ pub mod Stops
 pub mod StepRules
 pub mod Sizes
 pub mod Arms
+pub mod NumberedArms
 pub mod Statements
 pub mod Finishing
 pub mod NotedParts
@@ -33,3 +34,7 @@ pub mod AlikeTerms
 pub mod AlikeTypes
 pub mod AlikePlaces
 pub mod AlikeBlames
+pub mod MovedBlames
+pub mod KeptForms
+pub mod InternedParts
+pub mod Checking

@@ -1,6 +1,7 @@
 -- How many nodes a term has, by which walks over it end.
-use Rattle.std.proofs.Common.{ℕ, ◌+◌}
+use Rattle.std.proofs.Common.{ℕ, ◌+◌, []}
 use Rattle.lam_rules.specs.Terms.{Term, if_then_else, succ, pred, is_zero, lambda, apply, ascribe, let_in, record_term, project, fix, TermFields, no_terms, term_field}
+use Rattle.lam_scope.specs.Numbered.{Numbered, NumberedFields, term_over, terms_over}
 
 abbrev mutual
   pub size_of : Term → ℕ
@@ -20,3 +21,11 @@ abbrev mutual
   pub size_of_fields : TermFields → ℕ
   size_of_fields no_terms = 0
   size_of_fields (term_field l e es) = 1 + size_of e + size_of_fields es
+
+-- of a term over the numbers of a table the same, whatever the table
+
+abbrev pub size_in : Numbered → ℕ
+size_in e = size_of (term_over [] e)
+
+abbrev pub size_in_fields : NumberedFields → ℕ
+size_in_fields es = size_of_fields (terms_over [] es)

@@ -80,7 +80,27 @@ stated_stopped w0 w1 e rest stop stopped = among_front stop (entries_of w0) (λ 
 pub defined_stopped : (w0 w1 : Walk) (e : Term) (rest : List Statement) (stop : Stop) → HasStopped stop w0 w1 e → HasStoppedAmong stop (entries_of w0) (λ s. places_of s (defines e ∷ rest)) w0 w1 w0.verdicts.dialect
 defined_stopped w0 w1 e rest stop stopped = among_front stop (entries_of w0) (λ s. places s e) (λ s. places_of (of_term e ∷ s) rest) w0 w1 w0.verdicts.dialect stopped
 
-pub err_stopped_at : (r : Result (Unit {0}) Stop) (stop : Stop) (w0 now : Walk) (statement : Statement)
+-- a statement whose numbers were put into the table first
+pub goes_on_numbered : (w0 : Walk) (t : List Typ) (w2 : Walk) (statement : Statement) → IsSoundWalk w0 → Keeps w0.table t → GoesOn (record w0 { table = t }) w2 statement → GoesOn w0 w2 statement
+goes_on_numbered w0 t w2 statement sound keeps on =
+    let d = w0.verdicts.dialect in
+    let w1 = record w0 { table = t } in
+    let g = entries_same w0 w1 sound keeps refl in
+    let p = progress_same w0 w1 sound keeps refl refl in
+    record {
+      went = λ rest end went. went_from (entries_of w1) (entries_of w0) (λ s. places_of s (statement ∷ rest)) (progress_of w1) (progress_of w0) (progress_of end) d d g p refl (on.went rest end went);
+      stopped = λ rest stop end stopped. among_from stop (entries_of w1) (entries_of w0) (λ s. places_of s (statement ∷ rest)) w1 w0 end d d g p refl (on.stopped rest stop end stopped);
+    }
+
+pub numbered_stopped : (stop : Stop) (w0 : Walk) (t : List Typ) (w2 : Walk) (statement : Statement) → IsSoundWalk w0 → Keeps w0.table t
+    → HasStoppedAt stop (record w0 { table = t }) w2 statement → HasStoppedAt stop w0 w2 statement
+numbered_stopped stop w0 t w2 statement sound keeps stopped =
+    let d = w0.verdicts.dialect in
+    let w1 = record w0 { table = t } in
+    λ rest. among_from stop (entries_of w1) (entries_of w0) (λ s. places_of s (statement ∷ rest)) w1 w0 w2 d d
+    (entries_same w0 w1 sound keeps refl) (progress_same w0 w1 sound keeps refl refl) refl (stopped rest)
+
+pub err_stopped_at : {A : Type 0} (r : Result A Stop) (stop : Stop) (w0 now : Walk) (statement : Statement)
     → IsErrAnd r (λ y. y ≡ stop) → HasStoppedAt stop w0 now statement → IfErr r (λ s. HasStoppedAt s w0 now statement)
 err_stopped_at (Ok x) stop w0 now statement is stopped = absurd is
 err_stopped_at (Err s) stop w0 now statement is stopped = subst (λ x. HasStoppedAt x w0 now statement) (sym is) stopped

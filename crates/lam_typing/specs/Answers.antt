@@ -1,10 +1,11 @@
 -- Numbers of a table that answer for places and binders: each stands for a type, or there is none.
-use Rattle.std.specs.Prelude.{List, [], ◌∷◌, map, Option, Some, None}
+use Rattle.std.specs.Prelude.{List, [], ◌∷◌, map, Option}
 use Rattle.std.specs.Option.{option_map}
 use Rattle.lam_rules.specs.Types.{Typ}
 use Rattle.lam_rules.specs.Typing.{Context}
-use Rattle.lam_rules.specs.Numbers.{type_of, Stands}
+use Rattle.lam_rules.specs.Numbers.{type_of}
 use Rattle.lam_rules.specs.declared.numbers.TyNo.{TyNo}
+use Rattle.lam_scope.specs.Numbered.{StandsIfAny}
 
 -- the type that a number stands for, if there is one
 abbrev pub answer : List Typ → Option TyNo → Option Typ
@@ -16,8 +17,7 @@ answers ts os = map (answer ts) os
 
 -- the number, if there is one, is one of the table
 abbrev pub StandsWhereFound : List Typ → Option TyNo → Type 0
-StandsWhereFound ts None = Unit {0}
-StandsWhereFound ts (Some number) = Stands ts number
+StandsWhereFound = StandsIfAny
 
 -- each number among them is one of the table
 abbrev pub AllStandIn : List Typ → List (Option TyNo) → Type 0

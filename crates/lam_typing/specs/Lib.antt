@@ -9,5 +9,6 @@ pub mod Answers
 pub mod Walk
 pub mod Entries
 pub mod Typings
+pub mod Checking
 pub mod Causes
 pub mod inner

@@ -2,7 +2,7 @@
 use Rattle.std.specs.Prelude.{◌≡◌, ◌<◌, ◌≤◌, ℕ, ◌+◌, List, [], ◌∷◌, ◌++◌, length, Bool, Option, Some, None, Result, Ok, Err, String}
 use Rattle.std.specs.declared.alloc.Global.{Global}
 use denote.Ref.{Bor}
-use Rattle.lam_rules.specs.Types.{bool, nat, unit}
+use Rattle.lam_rules.specs.Types.{Typ, bool, nat, unit}
 use Rattle.lam_rules.specs.Terms.{Term, TermFields}
 use Rattle.lam_rules.specs.Texts.{Text}
 use Rattle.lam_rules.specs.Typing.{Context}
@@ -14,6 +14,7 @@ use Rattle.lam_sub.specs.Remembered.{AreRight}
 use Rattle.lam_typing.specs.Blaming.{Blamed}
 use Rattle.lam_typing.specs.Analysis.{IsSmallType}
 use Rattle.lam_typing.specs.Answers.{answer, answers, StandsWhereFound, AllStandIn, context_under}
+use Rattle.lam_typing.specs.Entries.{IsEntryBound}
 use Rattle.lam_typing.specs.Progress.{IsLowest, Progress, Went, WentOver, next_is_too_large, enough, StoppedIn, AreFieldsAt, if_all, IsLarge}
 use Rattle.lam_scope.specs.declared.numbers.Place.{Place as PlaceNumber}
 use Rattle.lam_typing.specs.declared.blame.Blame.{Blame}
@@ -140,6 +141,10 @@ pub record GoesOn (old now : Walk) (statement : Statement) : Type 0 where
   pub stopped : (rest : List Statement) (stop : Stop) (end : Walk)
       → HasStoppedAmong stop (entries_of now) (λ s. places_of s rest) now end now.verdicts.dialect
       → HasStoppedAmong stop (entries_of old) (λ s. places_of s (statement ∷ rest)) old end old.verdicts.dialect
+
+-- the entry of what a statement binds, in each scope of which these are the entries
+abbrev pub Binds : Context → Statement → Option Typ → Dialect → Type 0
+Binds g statement entry d = (s : Scope) → IsLowest s g d → IsEntryBound s statement entry d
 
 -- it stopped in a statement, whatever follows
 abbrev pub HasStoppedAt : Stop → Walk → Walk → Statement → Type 0

@@ -4,3 +4,4 @@ pub mod Seeing
 pub mod Ends
 pub mod Grounds
 pub mod Proving
+pub mod Interning

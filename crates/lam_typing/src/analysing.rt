@@ -129,7 +129,11 @@ fn complete(
 }
 
 /// A walk that has found nothing yet.
-fn start(alloc: Global, last: Option<Place>, dialect: Dialect) -> Result<Walk, AllocError>
+pub(crate) fn start(
+    alloc: Global,
+    last: Option<Place>,
+    dialect: Dialect,
+) -> Result<Walk, AllocError>
     ensures sound { IfOk result (λ walk. IsSoundWalk walk) }
     ensures begins { IfOk result (λ walk. Begins walk last) }
     ensures dialect { IfOk result (λ walk. walk.verdicts.dialect ≡ dialect) }

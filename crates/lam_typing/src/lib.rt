@@ -2,7 +2,8 @@
 //! places are to blame for having none.
 //!
 //! What is promised stands in `specs/Contexts.antt`, `LeastTypes.antt`, `Entries.antt`, `Blaming.antt`
-//! and `Analysis.antt`, over the declarative rules alone, and of a `Typing` in `Typings.antt`. The walk
+//! and `Analysis.antt`, over the declarative rules alone, of a `Typing` in `Typings.antt`, and of a
+//! `TypeChecker` in `Checking.antt`. The walk
 //! behind it has no rule of subsumption (TAPL chapter 16): a place and a binder have one type each.
 //!
 //! Nothing here knows names, spans, texts of a document, how subtyping is decided or a join is built.
@@ -10,9 +11,11 @@
 
 mod analysing;
 mod blame;
+mod checker;
 mod entries;
 mod fault;
 mod grounds;
+mod interning;
 mod laws;
 mod noting;
 mod proving;
@@ -23,10 +26,11 @@ mod walking;
 
 pub use analysing::{analyse, analyse_to};
 pub use blame::Blame;
+pub use checker::{Checked, TypeChecker};
 pub use fault::TypingFault;
 pub use laws::{
-    blame_is_just, least_entries_are_a_context, least_types_exist, least_types_have_one_text,
-    narrowing, never_blamed, only_free_names_count, projections_are_fields, scopes_have_contexts,
-    typed_where_unblamed, untyped_has_a_cause,
+    blame_is_just, blames_move_with_places, least_entries_are_a_context, least_types_exist,
+    least_types_have_one_text, narrowing, never_blamed, only_free_names_count,
+    projections_are_fields, scopes_have_contexts, typed_where_unblamed, untyped_has_a_cause,
 };
 pub use typing::Typing;

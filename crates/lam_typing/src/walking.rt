@@ -3,26 +3,27 @@
 ghost use Rattle.std.specs.Prelude.{◌≡◌, ◌&&◌, ◌++◌, ◌<◌, length, map, IfOk, IfErr, OnOk, IsTrue, IsFalse, ℕ, List, is_some};
 ghost use Rattle.lam_rules.specs.Types.{Typ};
 ghost use Rattle.lam_rules.specs.Terms.{Term, if_then_else, variable, lambda, apply, ascribe, let_in, record_term, project, fix};
-ghost use Rattle.lam_rules.specs.TermViews.{term_of, terms_of, written_of};
-ghost use Rattle.lam_rules.specs.Typing.{IsWellFormedEntry};
-ghost use Rattle.lam_scope.specs.WellFormed.{IsWellFormedTerm, AreWellFormedTerms, IsWellFormedStatement, AreWellFormedStatements};
+ghost use Rattle.lam_scope.specs.WellFormed.{IsWellFormedStatement, AreWellFormedStatements};
 ghost use Rattle.lam_scope.specs.Places.{places_of};
 ghost use Rattle.lam_scope.specs.Views.{statement_of};
+ghost use Rattle.lam_scope.specs.Numbered.{StandsIfAny};
+ghost use Rattle.lam_scope.specs.InternedViews.{interned_term, interned_terms, interned_statement, StandIn, StandInTerms, StandInStatement};
 ghost use Rattle.lam_typing.specs.Answers.{answer, StandsWhereFound, AllStandIn, context_under};
 ghost use Rattle.lam_rules.specs.Numbers.{type_of, Stands};
 ghost use Rattle.lam_typing.specs.inner.Steps.{entry_at, IsNumeric};
 ghost use Rattle.lam_typing.specs.Analysis.{IsSmallType};
 ghost use Rattle.lam_typing.specs.Progress.{Went, blame_step, IsApplicationCode, IsLarge};
-ghost use Rattle.lam_typing.specs.Walk.{Grows, HasWalked, HasWalkedFields, HasSettled, blame_at, blames_of, IsSoundWalk, IsBehind, IsUpTo, GoesOn, HasStoppedAt, HasStoppedAmong, entries_of, progress_of};
+ghost use Rattle.lam_typing.specs.Walk.{Grows, Binds, HasWalked, HasWalkedFields, HasSettled, blame_at, blames_of, IsSoundWalk, IsBehind, IsUpTo, GoesOn, HasStoppedAt, HasStoppedAmong, entries_of, progress_of};
 ghost use Rattle.lam_typing.specs.declared.walking.Stop.TheVariants.{Memory};
 
 use crate::blame::Blame;
+use crate::interning::intern_statement;
 use crate::steps::{
-    number_of_written, type_of_apply, type_of_ascribe, type_of_fix, type_of_if, type_of_lambda,
-    type_of_let, type_of_numeric, type_of_project, type_of_record,
+    type_of_apply, type_of_ascribe, type_of_fix, type_of_if, type_of_lambda, type_of_let,
+    type_of_numeric, type_of_project, type_of_record,
 };
-use lam_rules::{Core, Shape, Ty, TyNo, TyTable};
-use lam_scope::{NODE_LIMIT, Place, Statement};
+use lam_rules::{Shape, TyNo, TyTable};
+use lam_scope::{InternedField, InternedStatement, InternedTerm, NODE_LIMIT, Place, Statement};
 use lam_sub::Verdicts;
 use std::alloc::{AllocError, AllocFailed};
 
@@ -84,83 +85,105 @@ pub(crate) fn walk_statements(walk: &mut Walk, statements: &[Statement]) -> Resu
     ensures stopped { IfErr result (λ stop. HasStoppedAmong stop (entries_of walk.old) (λ s. places_of s (map statement_of statements.now)) walk.old walk.new walk.old.verdicts.dialect) }
 {
     for i in 0..statements.len() {
-        walk_statement(walk, &statements[i])?;
+        walk_owned_statement(walk, &statements[i])?;
     }
     Ok(())
 }
 
-/// What a command states, and the entry that it puts onto the others.
-fn walk_statement(walk: &mut Walk, statement: &Statement) -> Result<(), Stop>
+/// What a command states whose written types are trees: they get numbers first.
+fn walk_owned_statement(walk: &mut Walk, statement: &Statement) -> Result<(), Stop>
     requires sound { IsSoundWalk walk.old }
     requires wf { IsWellFormedStatement (statement_of statement.now) }
     ensures grows { Grows walk.old walk.new }
     ensures goes_on { OnOk result (GoesOn walk.old walk.new (statement_of statement.now)) }
     ensures stopped { IfErr result (λ stop. HasStoppedAt stop walk.old walk.new (statement_of statement.now)) }
 {
+    let alloc = walk.verdicts.alloc;
+    let numbered = intern_statement(alloc, &mut walk.table, statement)?;
+    walk_statement(walk, &numbered)?;
+    Ok(())
+}
+
+/// What a command states, and the entry that it puts onto the others; that entry, if it puts one.
+pub(crate) fn walk_statement(
+    walk: &mut Walk,
+    statement: &InternedStatement<'_>,
+) -> Result<Option<TyNo>, Stop>
+    requires sound { IsSoundWalk walk.old }
+    requires stand { StandInStatement walk.old.table statement.now }
+    ensures grows { Grows walk.old walk.new }
+    ensures stands { IfOk result (λ entry. StandsWhereFound walk.new.table entry) }
+    ensures bound { IfOk result (λ entry. Binds (entries_of walk.old) (interned_statement walk.old.table statement.now) (answer walk.new.table entry) walk.old.verdicts.dialect) }
+    ensures goes_on { OnOk result (GoesOn walk.old walk.new (interned_statement walk.old.table statement.now)) }
+    ensures stopped { IfErr result (λ stop. HasStoppedAt stop walk.old walk.new (interned_statement walk.old.table statement.now)) }
+{
     match statement {
-        Statement::Definition(core) => {
-            let found = walk_term(walk, core)?;
+        InternedStatement::Definition(term) => {
+            let found = walk_term(walk, term)?;
             walk.entries.push(found)?;
-            Ok(())
+            Ok(found)
         }
-        Statement::Declaration(written) => {
-            let entry = number_of_written(&mut walk.table, written)?;
-            walk.entries.push(entry)?;
-            Ok(())
+        InternedStatement::Declaration(written) => {
+            // What is written has distinct labels, as all types of the table have.
+            walk.table.types_differ();
+            walk.entries.push(*written)?;
+            Ok(*written)
         }
-        Statement::Abbreviation(_) => Ok(()),
-        Statement::Evaluation(core) => {
-            walk_term(walk, core)?;
-            Ok(())
+        InternedStatement::Abbreviation(_) => Ok(None),
+        InternedStatement::Evaluation(term) => {
+            walk_term(walk, term)?;
+            Ok(None)
         }
     }
 }
 
 /// The type of a term, whose places all come behind those that were found.
 #[cycle(walk_term)]
-fn walk_term(walk: &mut Walk, term: &Core) -> Result<Option<TyNo>, Stop>
+fn walk_term(walk: &mut Walk, term: &InternedTerm<'_>) -> Result<Option<TyNo>, Stop>
     requires sound { IsSoundWalk walk.old }
-    requires wf { IsWellFormedTerm (term_of term.now) }
+    requires stand { StandIn walk.old.table term.now }
     ensures grows { Grows walk.old walk.new }
-    ensures walked { HasWalked result walk.old walk.new (term_of term.now) }
+    ensures walked { HasWalked result walk.old walk.new (interned_term walk.old.table term.now) }
 {
     match term {
-        Core::True => settle(walk, Some(walk.leaves.boolean), None),
-        Core::False => settle(walk, Some(walk.leaves.boolean), None),
-        Core::If(parts) => walk_if(walk, &parts.0, &parts.1, &parts.2),
-        Core::Num(_) => settle(walk, Some(walk.leaves.natural), None),
-        Core::Succ(operand) => walk_number(walk, operand, walk.leaves.natural),
-        Core::Pred(operand) => walk_number(walk, operand, walk.leaves.natural),
-        Core::IsZero(operand) => walk_number(walk, operand, walk.leaves.boolean),
-        Core::Var(count) => walk_variable(walk, *count),
-        Core::Free(_) => {
+        InternedTerm::True => settle(walk, Some(walk.leaves.boolean), None),
+        InternedTerm::False => settle(walk, Some(walk.leaves.boolean), None),
+        InternedTerm::If(condition, then_term, else_term) => {
+            walk_if(walk, condition, then_term, else_term)
+        }
+        InternedTerm::Num(_) => settle(walk, Some(walk.leaves.natural), None),
+        InternedTerm::Succ(operand) => walk_number(walk, operand, walk.leaves.natural),
+        InternedTerm::Pred(operand) => walk_number(walk, operand, walk.leaves.natural),
+        InternedTerm::IsZero(operand) => walk_number(walk, operand, walk.leaves.boolean),
+        InternedTerm::Var(count) => walk_variable(walk, *count),
+        InternedTerm::Free(_) => {
             let blame = blame_if(true, None, "E1");
             settle(walk, None, blame)
         }
-        Core::Abs(parts) => walk_lambda(walk, &parts.0, &parts.1),
-        Core::App(parts) => walk_apply(walk, &parts.0, &parts.1),
-        Core::Unit => settle(walk, Some(walk.leaves.unit), None),
-        Core::Ascribe(parts) => walk_ascribe(walk, &parts.0, &parts.1),
-        Core::Let(parts) => walk_let(walk, &parts.0, &parts.1),
-        Core::Record(fields) => walk_record(walk, fields),
-        Core::Proj(parts) => walk_project(walk, &parts.0, &parts.1),
-        Core::Fix(operand) => walk_fix(walk, operand),
+        InternedTerm::Abs(written, body) => walk_lambda(walk, *written, body),
+        InternedTerm::App(function, argument) => walk_apply(walk, function, argument),
+        InternedTerm::Unit => settle(walk, Some(walk.leaves.unit), None),
+        InternedTerm::Ascribe(operand, written) => walk_ascribe(walk, operand, *written),
+        InternedTerm::Let(bound, body) => walk_let(walk, bound, body),
+        InternedTerm::Record(fields) => walk_record(walk, fields),
+        InternedTerm::Proj(operand, label) => walk_project(walk, operand, label),
+        InternedTerm::Fix(operand) => walk_fix(walk, operand),
     }
 }
 
 #[cycle(walk_term)]
 fn walk_if(
     walk: &mut Walk,
-    condition: &Core,
-    then_term: &Core,
-    else_term: &Core,
+    condition: &InternedTerm<'_>,
+    then_term: &InternedTerm<'_>,
+    else_term: &InternedTerm<'_>,
 ) -> Result<Option<TyNo>, Stop>
     requires sound { IsSoundWalk walk.old }
-    requires condition { IsWellFormedTerm (term_of condition.now) }
-    requires then_term { IsWellFormedTerm (term_of then_term.now) }
-    requires else_term { IsWellFormedTerm (term_of else_term.now) }
+    requires condition { StandIn walk.old.table condition.now }
+    requires then_term { StandIn walk.old.table then_term.now }
+    requires else_term { StandIn walk.old.table else_term.now }
     ensures grows { Grows walk.old walk.new }
-    ensures walked { HasWalked result walk.old walk.new (if_then_else (term_of condition.now) (term_of then_term.now) (term_of else_term.now)) }
+    ensures walked { HasWalked result walk.old walk.new (if_then_else (interned_term walk.old.table condition.now) (interned_term walk.old.table then_term.now) (interned_term walk.old.table else_term.now)) }
 {
     let first = walk_term(walk, condition)?;
     let second = walk_term(walk, then_term)?;
@@ -180,12 +203,16 @@ fn walk_if(
 
 /// T-Succ, T-Pred and T-IsZero, by the number of the type that the whole has.
 #[cycle(walk_term)]
-fn walk_number(walk: &mut Walk, operand: &Core, outcome: TyNo) -> Result<Option<TyNo>, Stop>
+fn walk_number(
+    walk: &mut Walk,
+    operand: &InternedTerm<'_>,
+    outcome: TyNo,
+) -> Result<Option<TyNo>, Stop>
     requires sound { IsSoundWalk walk.old }
-    requires operand { IsWellFormedTerm (term_of operand.now) }
+    requires operand { StandIn walk.old.table operand.now }
     requires outcome { Stands walk.old.table outcome }
     ensures grows { Grows walk.old walk.new }
-    ensures walked { (e : Term) → IsNumeric e (term_of operand.now) (type_of walk.old.table outcome) → HasWalked result walk.old walk.new e }
+    ensures walked { (e : Term) → IsNumeric e (interned_term walk.old.table operand.now) (type_of walk.old.table outcome) → HasWalked result walk.old walk.new e }
 {
     let part = walk_term(walk, operand)?;
     let natural = walk.leaves.natural;
@@ -195,28 +222,37 @@ fn walk_number(walk: &mut Walk, operand: &Core, outcome: TyNo) -> Result<Option<
 }
 
 #[cycle(walk_term)]
-fn walk_lambda(walk: &mut Walk, written: &Option<Ty>, body: &Core) -> Result<Option<TyNo>, Stop>
+fn walk_lambda(
+    walk: &mut Walk,
+    written: Option<TyNo>,
+    body: &InternedTerm<'_>,
+) -> Result<Option<TyNo>, Stop>
     requires sound { IsSoundWalk walk.old }
-    requires written { IsWellFormedEntry (written_of written.now) }
-    requires body { IsWellFormedTerm (term_of body.now) }
+    requires written { StandsIfAny walk.old.table written }
+    requires body { StandIn walk.old.table body.now }
     ensures grows { Grows walk.old walk.new }
-    ensures walked { HasWalked result walk.old walk.new (lambda (written_of written.now) (term_of body.now)) }
+    ensures walked { HasWalked result walk.old walk.new (lambda (answer walk.old.table written) (interned_term walk.old.table body.now)) }
 {
-    let parameter = number_of_written(&mut walk.table, written)?;
-    walk.entries.push(parameter)?;
+    // What is written has distinct labels, as all types of the table have.
+    walk.table.types_differ();
+    walk.entries.push(written)?;
     let outcome = walk_term(walk, body)?;
     walk.entries.pop();
-    let found = type_of_lambda(&mut walk.table, parameter, outcome)?;
+    let found = type_of_lambda(&mut walk.table, written, outcome)?;
     settle(walk, found, None)
 }
 
 #[cycle(walk_term)]
-fn walk_apply(walk: &mut Walk, function: &Core, argument: &Core) -> Result<Option<TyNo>, Stop>
+fn walk_apply(
+    walk: &mut Walk,
+    function: &InternedTerm<'_>,
+    argument: &InternedTerm<'_>,
+) -> Result<Option<TyNo>, Stop>
     requires sound { IsSoundWalk walk.old }
-    requires function { IsWellFormedTerm (term_of function.now) }
-    requires argument { IsWellFormedTerm (term_of argument.now) }
+    requires function { StandIn walk.old.table function.now }
+    requires argument { StandIn walk.old.table argument.now }
     ensures grows { Grows walk.old walk.new }
-    ensures walked { HasWalked result walk.old walk.new (apply (term_of function.now) (term_of argument.now)) }
+    ensures walked { HasWalked result walk.old walk.new (apply (interned_term walk.old.table function.now) (interned_term walk.old.table argument.now)) }
 {
     let first = walk_term(walk, function)?;
     let second = walk_term(walk, argument)?;
@@ -227,27 +263,34 @@ fn walk_apply(walk: &mut Walk, function: &Core, argument: &Core) -> Result<Optio
 }
 
 #[cycle(walk_term)]
-fn walk_ascribe(walk: &mut Walk, operand: &Core, written: &Option<Ty>) -> Result<Option<TyNo>, Stop>
+fn walk_ascribe(
+    walk: &mut Walk,
+    operand: &InternedTerm<'_>,
+    written: Option<TyNo>,
+) -> Result<Option<TyNo>, Stop>
     requires sound { IsSoundWalk walk.old }
-    requires operand { IsWellFormedTerm (term_of operand.now) }
-    requires written { IsWellFormedEntry (written_of written.now) }
+    requires operand { StandIn walk.old.table operand.now }
+    requires written { StandsIfAny walk.old.table written }
     ensures grows { Grows walk.old walk.new }
-    ensures walked { HasWalked result walk.old walk.new (ascribe (term_of operand.now) (written_of written.now)) }
+    ensures walked { HasWalked result walk.old walk.new (ascribe (interned_term walk.old.table operand.now) (answer walk.old.table written)) }
 {
     let part = walk_term(walk, operand)?;
-    let entry = number_of_written(&mut walk.table, written)?;
-    let found = type_of_ascribe(&walk.table, &mut walk.verdicts, entry, part)?;
-    let blame = blame_if(are_both_found(part, entry), found, "E7");
+    let found = type_of_ascribe(&walk.table, &mut walk.verdicts, written, part)?;
+    let blame = blame_if(are_both_found(part, written), found, "E7");
     settle(walk, found, blame)
 }
 
 #[cycle(walk_term)]
-fn walk_let(walk: &mut Walk, bound: &Core, body: &Core) -> Result<Option<TyNo>, Stop>
+fn walk_let(
+    walk: &mut Walk,
+    bound: &InternedTerm<'_>,
+    body: &InternedTerm<'_>,
+) -> Result<Option<TyNo>, Stop>
     requires sound { IsSoundWalk walk.old }
-    requires bound { IsWellFormedTerm (term_of bound.now) }
-    requires body { IsWellFormedTerm (term_of body.now) }
+    requires bound { StandIn walk.old.table bound.now }
+    requires body { StandIn walk.old.table body.now }
     ensures grows { Grows walk.old walk.new }
-    ensures walked { HasWalked result walk.old walk.new (let_in (term_of bound.now) (term_of body.now)) }
+    ensures walked { HasWalked result walk.old walk.new (let_in (interned_term walk.old.table bound.now) (interned_term walk.old.table body.now)) }
 {
     let entry = walk_term(walk, bound)?;
     walk.entries.push(entry)?;
@@ -257,11 +300,11 @@ fn walk_let(walk: &mut Walk, bound: &Core, body: &Core) -> Result<Option<TyNo>, 
 }
 
 #[cycle(walk_term)]
-fn walk_record(walk: &mut Walk, fields: &[(String, Core)]) -> Result<Option<TyNo>, Stop>
+fn walk_record(walk: &mut Walk, fields: &[InternedField<'_>]) -> Result<Option<TyNo>, Stop>
     requires sound { IsSoundWalk walk.old }
-    requires fields { AreWellFormedTerms (terms_of fields.now) }
+    requires fields { StandInTerms walk.old.table fields.now }
     ensures grows { Grows walk.old walk.new }
-    ensures walked { HasWalked result walk.old walk.new (record_term (terms_of fields.now)) }
+    ensures walked { HasWalked result walk.old walk.new (record_term (interned_terms walk.old.table fields.now)) }
 {
     let mut parts = Vec::with_capacity(walk.verdicts.alloc, fields.len())?;
     let all = walk_fields(walk, fields, &mut parts)?;
@@ -271,11 +314,15 @@ fn walk_record(walk: &mut Walk, fields: &[(String, Core)]) -> Result<Option<TyNo
 }
 
 #[cycle(walk_term)]
-fn walk_project(walk: &mut Walk, operand: &Core, label: &str) -> Result<Option<TyNo>, Stop>
+fn walk_project(
+    walk: &mut Walk,
+    operand: &InternedTerm<'_>,
+    label: &str,
+) -> Result<Option<TyNo>, Stop>
     requires sound { IsSoundWalk walk.old }
-    requires operand { IsWellFormedTerm (term_of operand.now) }
+    requires operand { StandIn walk.old.table operand.now }
     ensures grows { Grows walk.old walk.new }
-    ensures walked { HasWalked result walk.old walk.new (project (term_of operand.now) label.now) }
+    ensures walked { HasWalked result walk.old walk.new (project (interned_term walk.old.table operand.now) label.now) }
 {
     let part = walk_term(walk, operand)?;
     let found = type_of_project(&walk.table, part, label);
@@ -284,11 +331,11 @@ fn walk_project(walk: &mut Walk, operand: &Core, label: &str) -> Result<Option<T
 }
 
 #[cycle(walk_term)]
-fn walk_fix(walk: &mut Walk, operand: &Core) -> Result<Option<TyNo>, Stop>
+fn walk_fix(walk: &mut Walk, operand: &InternedTerm<'_>) -> Result<Option<TyNo>, Stop>
     requires sound { IsSoundWalk walk.old }
-    requires operand { IsWellFormedTerm (term_of operand.now) }
+    requires operand { StandIn walk.old.table operand.now }
     ensures grows { Grows walk.old walk.new }
-    ensures walked { HasWalked result walk.old walk.new (fix (term_of operand.now)) }
+    ensures walked { HasWalked result walk.old walk.new (fix (interned_term walk.old.table operand.now)) }
 {
     let part = walk_term(walk, operand)?;
     let found = type_of_fix(&walk.table, &mut walk.verdicts, part)?;
@@ -301,23 +348,24 @@ fn walk_fix(walk: &mut Walk, operand: &Core) -> Result<Option<TyNo>, Stop>
 #[cycle(walk_term)]
 fn walk_fields(
     walk: &mut Walk,
-    fields: &[(String, Core)],
+    fields: &[InternedField<'_>],
     parts: &mut Vec<(String, TyNo)>,
 ) -> Result<bool, Stop>
     requires sound { IsSoundWalk walk.old }
-    requires wf { AreWellFormedTerms (terms_of fields.now) }
+    requires stand { StandInTerms walk.old.table fields.now }
     ensures grows { Grows walk.old walk.new }
-    ensures walked { HasWalkedFields result walk.old walk.new (terms_of fields.now) parts.old.items parts.new.items }
+    ensures walked { HasWalkedFields result walk.old walk.new (interned_terms walk.old.table fields.now) parts.old.items parts.new.items }
 {
     let Some((field, others)) = fields.split_first() else {
         return Ok(true);
     };
-    let found = walk_term(walk, &field.1)?;
+    let found = walk_term(walk, &field.term)?;
     let Some(number) = found else {
         walk_fields(walk, others, parts)?;
         return Ok(false);
     };
-    parts.push((field.0.clone()?, number))?;
+    let label = String::from_str(walk.verdicts.alloc, field.label)?;
+    parts.push((label, number))?;
     walk_fields(walk, others, parts)
 }
 

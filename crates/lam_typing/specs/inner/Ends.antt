@@ -1,8 +1,11 @@
 -- From a walk to the typing that is made of it, for private functions alone.
-use Rattle.std.specs.Prelude.{◌≡◌, ℕ, ◌+◌, List, [], length, map, take, get_or, Option, Some, None, Result, Ok, Err}
+use Rattle.std.specs.Prelude.{◌≡◌, ℕ, ◌+◌, List, [], length, map, take, get_or, Option, Some, None, Result, Ok, Err, Vec, true, false}
+use Rattle.std.specs.declared.alloc.Global.{Global}
+use Rattle.std.specs.declared.alloc.AllocError.{AllocError}
 use Rattle.lam_rules.specs.Types.{Typ}
 use Rattle.lam_rules.specs.Typing.{IsWellFormedEntry}
 use Rattle.lam_rules.specs.Numbers.{Keeps}
+use Rattle.lam_rules.specs.declared.numbers.TyNo.{TyNo}
 use Rattle.lam_scope.specs.Places.{Place, Statement}
 use Rattle.lam_scope.specs.declared.numbers.Place.{Place as PlaceNumber}
 use Rattle.lam_scope.specs.declared.numbers.Origin.{Origin}
@@ -10,6 +13,8 @@ use Rattle.lam_typing.specs.Entries.{entry_from}
 use Rattle.lam_typing.specs.Answers.{answers}
 use Rattle.lam_typing.specs.inner.Notes.{entry_told}
 use Rattle.lam_typing.specs.Typings.{entries_in}
+use Rattle.lam_typing.specs.declared.blame.Blame.{Blame}
+use Rattle.lam_typing.specs.declared.checker.Checked.{Checked}
 use Rattle.lam_typing.specs.declared.noting.Source.{Source}
 use Rattle.lam_typing.specs.declared.fault.TypingFault.{TypingFault}
 use Rattle.lam_typing.specs.declared.typing.Typing.{Typing}
@@ -50,3 +55,12 @@ IsEndOf Stop.Enough w ss origins (Ok t) = Completes w ss origins t
 IsEndOf Stop.TooLarge w ss origins (Err (TypingFault.TooLarge place)) = place.0 ≡ length w.found.items
 IsEndOf stop w ss origins (Err TypingFault.Memory) = Unit {0}
 IsEndOf _ w ss origins r = ⊥
+
+-- what is answered at the end of a walk over one command, by what the walk answered and found
+abbrev pub IsEndOfCheck : Result (Option TyNo) Stop → Vec (Option TyNo) Global → Vec Blame Global → Result Checked AllocError → Type 0
+IsEndOfCheck (Ok entry) types blames (Ok c) = c ≡ record { types = types; blames = blames; entry = entry; complete = true }
+IsEndOfCheck (Ok entry) types blames (Err refused) = ⊥
+IsEndOfCheck (Err Stop.Memory) types blames (Ok c) = ⊥
+IsEndOfCheck (Err Stop.Memory) types blames (Err refused) = Unit {0}
+IsEndOfCheck (Err stop) types blames (Ok c) = c ≡ record { types = types; blames = blames; entry = None; complete = false }
+IsEndOfCheck (Err stop) types blames (Err refused) = ⊥

@@ -1,48 +1,60 @@
-use Rattle.std.proofs.Common.{ap, subst, inl}
-use Rattle.lam_rules.specs.TermViews.{term_of, written_of}
+use Rattle.std.proofs.Common.{ap, inl, refl}
 use Rattle.lam_rules.proofs.Tables.{keeps_same}
 use Rattle.lam_scope.specs.Places.{defines, states}
-use Rattle.lam_scope.specs.WellFormed.{IsWellFormedStatement}
-use Rattle.lam_scope.specs.Views.{statement_of}
-use Rattle.lam_typing.proofs.Glue.{grows_same, grows_trans, retabled_grows, pushed_grows, put_or_not}
+use Rattle.lam_scope.specs.InternedViews.{interned_term, interned_statement}
+use Rattle.lam_typing.specs.Answers.{answer}
+use Rattle.lam_typing.proofs.Glue.{grows_trans, pushed_grows}
+use Rattle.lam_typing.proofs.KeptForms.{written_differs}
 use Rattle.lam_typing.proofs.Statements.{err_stopped_at, goes_on_defined, goes_on_declared, goes_on_stated, defined_stopped, stated_stopped}
 use Rattle.lam_typing.proofs.walking.walk_statement.Goals as goal
 
 pub returns-in_err-found-in-Definition-clause-stopped : goal.returns-in_err-found-in-Definition-clause-stopped
-returns-in_err-found-in-Definition-clause-stopped c = rw (ap statement_of c.in-Definition.is)
-    (err_stopped_at c.from_residual.result _ c.args.walk.now c.walk_term.new.walk (defines (term_of c.in-Definition.core)) c.from_residual.ensures.1
-    (λ rest. defined_stopped c.args.walk.now c.walk_term.new.walk (term_of c.in-Definition.core) rest _ c.in_err-found-in-Definition.ensures.walked))
+returns-in_err-found-in-Definition-clause-stopped c =
+    let w0 = c.args.walk.now in
+    let e = interned_term w0.table c.in-Definition.term in
+    rw (ap (interned_statement w0.table) c.in-Definition.is)
+    (err_stopped_at c.from_residual.result _ w0 c.walk_term.new.walk (defines e) c.from_residual.ensures.1
+    (λ rest. defined_stopped w0 c.walk_term.new.walk e rest _ c.in_err-found-in-Definition.ensures.walked))
 
 pub returns-in_ok-push-in-Definition-clause-grows : goal.returns-in_ok-push-in-Definition-clause-grows
 returns-in_ok-push-in-Definition-clause-grows c =
-    grows_trans c.in_ok-found-in-Definition.ensures.grows
-    (pushed_grows c.push.new.self c.in_ok-found-in-Definition.found c.in_ok-found-in-Definition.ensures.grows.sound (keeps_same c.walk_term.new.walk.table) (inl c.in_ok-push-in-Definition.ensures.items) c.in_ok-found-in-Definition.ensures.walked.stands)
+    let found = c.in_ok-found-in-Definition in
+    grows_trans found.ensures.grows
+    (pushed_grows c.push.new.self found.found found.ensures.grows.sound (keeps_same c.walk_term.new.walk.table) (inl c.in_ok-push-in-Definition.ensures.items) found.ensures.walked.stands)
 
 pub returns-in_ok-push-in-Definition-clause-goes_on : goal.returns-in_ok-push-in-Definition-clause-goes_on
-returns-in_ok-push-in-Definition-clause-goes_on c = rw (ap statement_of c.in-Definition.is)
-    (goes_on_defined c.args.walk.now c.walk_term.new.walk c.push.new.self (term_of c.in-Definition.core) c.in_ok-found-in-Definition.found c.requires.sound c.in_ok-found-in-Definition.ensures.grows c.in_ok-found-in-Definition.ensures.walked c.in_ok-push-in-Definition.ensures.items)
-
-pub returns-in_err-entry-in-Declaration-clause-grows : goal.returns-in_err-entry-in-Declaration-clause-grows
-returns-in_err-entry-in-Declaration-clause-grows c = retabled_grows (grows_same c.requires.sound) c.number_of_written.ensures.keeps
-
-pub returns-in_err-push-in-Declaration-clause-grows : goal.returns-in_err-push-in-Declaration-clause-grows
-returns-in_err-push-in-Declaration-clause-grows c =
-    pushed_grows c.push-in-Declaration.new.self c.in_ok-entry-in-Declaration.entry c.requires.sound c.number_of_written.ensures.keeps (put_or_not _ _ _ _ c.push-in-Declaration.ensures.items) c.in_ok-entry-in-Declaration.ensures.stands
+returns-in_ok-push-in-Definition-clause-goes_on c =
+    let w0 = c.args.walk.now in
+    let found = c.in_ok-found-in-Definition in
+    rw (ap (interned_statement w0.table) c.in-Definition.is)
+    (goes_on_defined w0 c.walk_term.new.walk c.push.new.self (interned_term w0.table c.in-Definition.term) found.found c.requires.sound found.ensures.grows found.ensures.walked c.in_ok-push-in-Definition.ensures.items)
 
 pub returns-in_ok-push-in-Declaration-clause-grows : goal.returns-in_ok-push-in-Declaration-clause-grows
 returns-in_ok-push-in-Declaration-clause-grows c =
-    pushed_grows c.push-in-Declaration.new.self c.in_ok-entry-in-Declaration.entry c.requires.sound c.number_of_written.ensures.keeps (inl c.in_ok-push-in-Declaration.ensures.items) c.in_ok-entry-in-Declaration.ensures.stands
+    let ts = c.args.walk.now.table in
+    let stands = rw c.in-Declaration.is at c.requires.stand in
+    pushed_grows c.push-in-Declaration.new.self c.in-Declaration.written c.requires.sound (keeps_same ts) (inl c.in_ok-push-in-Declaration.ensures.items) stands
 
 pub returns-in_ok-push-in-Declaration-clause-goes_on : goal.returns-in_ok-push-in-Declaration-clause-goes_on
-returns-in_ok-push-in-Declaration-clause-goes_on c = rw (ap statement_of c.in-Declaration.is)
-    (goes_on_declared c.args.walk.now c.number_of_written.new.table c.push-in-Declaration.new.self (written_of c.in-Declaration.written) c.in_ok-entry-in-Declaration.entry c.requires.sound
-    (subst IsWellFormedStatement (ap statement_of c.in-Declaration.is) c.requires.wf) c.number_of_written.ensures.keeps c.in_ok-push-in-Declaration.ensures.items c.in_ok-entry-in-Declaration.ensures.entry)
+returns-in_ok-push-in-Declaration-clause-goes_on c =
+    let w0 = c.args.walk.now in
+    let number = c.in-Declaration.written in
+    let stands = rw c.in-Declaration.is at c.requires.stand in
+    rw (ap (interned_statement w0.table) c.in-Declaration.is)
+    (goes_on_declared w0 w0.table c.push-in-Declaration.new.self (answer w0.table number) number c.requires.sound
+    (written_differs w0.table number c.types_differ.ensures.wf stands) (keeps_same w0.table) c.in_ok-push-in-Declaration.ensures.items refl)
 
 pub returns-in_err-walk_term-in-Evaluation-clause-stopped : goal.returns-in_err-walk_term-in-Evaluation-clause-stopped
-returns-in_err-walk_term-in-Evaluation-clause-stopped c = rw (ap statement_of c.in-Evaluation.is)
-    (err_stopped_at c.from_residual-in_err-walk_term-in-Evaluation.result _ c.args.walk.now c.walk_term-in-Evaluation.new.walk (states (term_of c.in-Evaluation.core)) c.from_residual-in_err-walk_term-in-Evaluation.ensures.1
-    (λ rest. stated_stopped c.args.walk.now c.walk_term-in-Evaluation.new.walk (term_of c.in-Evaluation.core) rest _ c.in_err-walk_term-in-Evaluation.ensures.walked))
+returns-in_err-walk_term-in-Evaluation-clause-stopped c =
+    let w0 = c.args.walk.now in
+    let e = interned_term w0.table c.in-Evaluation.term in
+    rw (ap (interned_statement w0.table) c.in-Evaluation.is)
+    (err_stopped_at c.from_residual-in_err-walk_term-in-Evaluation.result _ w0 c.walk_term-in-Evaluation.new.walk (states e) c.from_residual-in_err-walk_term-in-Evaluation.ensures.1
+    (λ rest. stated_stopped w0 c.walk_term-in-Evaluation.new.walk e rest _ c.in_err-walk_term-in-Evaluation.ensures.walked))
 
 pub returns-in_ok-walk_term-in-Evaluation-clause-goes_on : goal.returns-in_ok-walk_term-in-Evaluation-clause-goes_on
-returns-in_ok-walk_term-in-Evaluation-clause-goes_on c = rw (ap statement_of c.in-Evaluation.is)
-    (goes_on_stated c.args.walk.now c.walk_term-in-Evaluation.new.walk (term_of c.in-Evaluation.core) c.in_ok-walk_term-in-Evaluation.field-0 c.requires.sound c.in_ok-walk_term-in-Evaluation.ensures.grows c.in_ok-walk_term-in-Evaluation.ensures.walked)
+returns-in_ok-walk_term-in-Evaluation-clause-goes_on c =
+    let w0 = c.args.walk.now in
+    let found = c.in_ok-walk_term-in-Evaluation in
+    rw (ap (interned_statement w0.table) c.in-Evaluation.is)
+    (goes_on_stated w0 c.walk_term-in-Evaluation.new.walk (interned_term w0.table c.in-Evaluation.term) found.field-0 c.requires.sound found.ensures.grows found.ensures.walked)

@@ -1,0 +1,19 @@
+-- What a command sees by its environment.
+use Rattle.std.specs.Prelude.{List, Option}
+use Rattle.lam_rules.specs.Types.{Typ}
+use Rattle.lam_scope.specs.declared.environment.Environment.{Environment}
+use Rattle.lam_scope.specs.Names.{Name}
+use Rattle.lam_scope.specs.Expansions.{Abbreviation}
+use Rattle.lam_scope.specs.NumberedNames.{abbreviations_over, NamesStand}
+
+-- the binders of names, the innermost first
+abbrev pub names_seen : Environment → List (Option Name)
+names_seen e = e.names
+
+-- the abbreviations over the types of a table, the innermost first
+abbrev pub abbreviations_seen : List Typ → Environment → List Abbreviation
+abbreviations_seen ts e = abbreviations_over ts e.types
+
+-- the numbers that its type names have stand for types of the table
+abbrev pub TypeNamesStand : List Typ → Environment → Type 0
+TypeNamesStand ts e = NamesStand ts e.types

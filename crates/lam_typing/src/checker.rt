@@ -1,0 +1,152 @@
+//! The types of commands, one command at a time: each under the entries of its own free names, in one table of types
+//! that stays and grows from command to command.
+
+ghost use Rattle.std.specs.Prelude.{◌≡◌, List, IfOk};
+ghost use Rattle.std.specs.Borrow.{sem};
+ghost use Rattle.lam_rules.specs.Numbers.{Keeps};
+ghost use Rattle.lam_scope.specs.InternedViews.{interned_statement, StandInStatement};
+ghost use Rattle.lam_typing.specs.Answers.{AllStandIn, context_under};
+ghost use Rattle.lam_typing.specs.Checking.{types_in, dialect_in, IsSoundChecker, LendsTypes, IsChecked};
+ghost use Rattle.lam_typing.specs.inner.Ends.{IsEndOfCheck};
+
+use crate::analysing::start;
+use crate::blame::Blame;
+use crate::walking::{Leaves, Stop, Walk, walk_statement};
+use lam_rules::{Dialect, TyNo, TyTable};
+use lam_scope::InternedStatement;
+use lam_sub::Verdicts;
+use std::alloc::{AllocError, Global};
+use std::mem;
+
+/// Finds the types of commands, one command at a time, in one table of types.
+#[derive(Drop)]
+pub struct TypeChecker {
+    table: TyTable,
+    /// What was found of two types of the table, in the checker's dialect.
+    verdicts: Verdicts,
+    leaves: Leaves,
+}
+
+/// What was found of one command.
+#[derive(Drop)]
+pub struct Checked {
+    /// The types of its places, in their order: of all, or of those before the first that is too large.
+    pub types: Vec<Option<TyNo>>,
+    /// Those to blame among these places, which are counted from 0.
+    pub blames: Vec<Blame>,
+    /// The least entry of the name that it binds, if it binds one that has an entry.
+    pub entry: Option<TyNo>,
+    /// Whether no place is too large, so that all have been found.
+    pub complete: bool,
+}
+
+impl TypeChecker {
+    /// A checker that knows the types of constants alone. It keeps the allocator for what it finds.
+    pub fn new(alloc: Global, dialect: Dialect) -> Result<TypeChecker, AllocError>
+        ensures sound { IfOk result (λ checker. IsSoundChecker checker) }
+        ensures dialect { IfOk result (λ checker. dialect_in checker ≡ dialect) }
+    {
+        let Walk {
+            table,
+            verdicts,
+            leaves,
+            entries: _entries,
+            found: _found,
+            blames: _blames,
+            last: _last,
+        } = start(alloc, None, dialect)?;
+        Ok(TypeChecker {
+            table,
+            verdicts,
+            leaves,
+        })
+    }
+
+    /// The table that the numbers of types are of.
+    pub fn table(&self) -> &TyTable
+        ensures { result.now ≡ types_in self.now }
+    {
+        &self.table
+    }
+
+    /// The table, for types that are written in the next command. The checker stays sound where the numbers that it had
+    /// keep their types.
+    pub fn table_mut(&mut self) -> &mut TyTable
+        ensures* lends { sem 𝓛 (LendsTypes self.entry result) }
+        ensures table { result.now ≡ types_in self.old }
+    {
+        &mut self.table
+    }
+
+    /// The table, without what was known of its types.
+    pub fn into_table(self) -> TyTable
+        ensures { result ≡ types_in self }
+    {
+        self.table
+    }
+
+    /// The types of the places of a command, whose binders outside have these entries, the outermost first.
+    pub fn check(
+        &mut self,
+        entries: Vec<Option<TyNo>>,
+        statement: &InternedStatement<'_>,
+    ) -> Result<Checked, AllocError>
+        requires sound { IsSoundChecker self.old }
+        requires entries { AllStandIn (types_in self.old) entries.items }
+        requires stand { StandInStatement (types_in self.old) statement.now }
+        ensures sound { IsSoundChecker self.new }
+        ensures keeps { Keeps (types_in self.old) (types_in self.new) }
+        ensures dialect { dialect_in self.new ≡ dialect_in self.old }
+        ensures checked { IfOk result (λ checked. IsChecked (types_in self.new) (context_under (types_in self.old) entries.items) (interned_statement (types_in self.old) statement.now) checked (dialect_in self.old)) }
+    {
+        let alloc = self.verdicts.alloc;
+        let dialect = self.verdicts.dialect;
+        let mut walk = Walk {
+            table: mem::replace(&mut self.table, TyTable::new(alloc)),
+            verdicts: mem::replace(&mut self.verdicts, Verdicts::new(alloc, dialect)),
+            leaves: self.leaves,
+            entries,
+            found: Vec::new(alloc),
+            blames: Vec::new(alloc),
+            last: None,
+        };
+        let outcome = walk_statement(&mut walk, statement);
+        let Walk {
+            table,
+            verdicts,
+            leaves: _leaves,
+            entries: _entries,
+            found,
+            blames,
+            last: _last,
+        } = walk;
+        self.table = table;
+        self.verdicts = verdicts;
+        end_check(outcome, found, blames)
+    }
+}
+
+/// What is answered at the end of a walk over one command, which asked for all its places.
+fn end_check(
+    outcome: Result<Option<TyNo>, Stop>,
+    types: Vec<Option<TyNo>>,
+    blames: Vec<Blame>,
+) -> Result<Checked, AllocError>
+    ensures { IsEndOfCheck outcome types blames result }
+{
+    match outcome {
+        Ok(entry) => Ok(Checked {
+            types,
+            blames,
+            entry,
+            complete: true,
+        }),
+        Err(Stop::Memory) => Err(AllocError),
+        Err(Stop::TooLarge | Stop::Enough) => Ok(Checked {
+            types,
+            blames,
+            entry: None,
+            complete: false,
+        }),
+    }
+}
