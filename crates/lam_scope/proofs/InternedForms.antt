@@ -18,7 +18,7 @@ use Rattle.lam_scope.specs.NumberedNames.{NumberedName, abbreviations_over, Name
 use Rattle.lam_scope.specs.Views.{IsLimit}
 use Rattle.lam_scope.specs.inner.Interned.{AreTypesInterned}
 use Rattle.lam_scope.proofs.Forms.{faults_in-append, over_limit-append, ltb-capped}
-use Rattle.lam_scope.proofs.InternedShapes.{numbered_of-True, numbered_of-False, numbered_of-If, numbered_of-Num, numbered_of-Succ, numbered_of-Pred, numbered_of-IsZero, numbered_of-Var, numbered_of-Free, numbered_of-Abs, numbered_of-App, numbered_of-Unit, numbered_of-Ascribe, numbered_of-Let, numbered_of-Record, numbered_of-Proj, numbered_of-Fix}
+use Rattle.lam_scope.proofs.InternedShapes.{numbered_of-True, numbered_of-False, numbered_of-Num, numbered_of-Var, numbered_of-Free, numbered_of-Unit}
 use Rattle.lam_scope.proofs.TypeNames.{kept_names}
 
 -- some written types, and more behind them
@@ -77,7 +77,3 @@ pub ruleset written_types = (ltb-capped, append-nil, keeps_same, keeps_trans)
 pub ruleset node_forms = (term_node_of-True, term_node_of-False, term_node_of-Unit, term_node_of-Variable, term_node_of-Numeral, term_node_of-Lambda, term_node_of-If, term_node_of-Let, term_node_of-Letrec, term_node_of-Prefixed, term_node_of-Apply, term_node_of-Project, term_node_of-Ascribe, term_node_of-Record, numbered_of-True, numbered_of-False, numbered_of-Num, numbered_of-Unit, append-nil, keeps_same)
 
 pub ruleset use_forms = (numbered_of-Var, numbered_of-Free)
-
-pub ruleset prefixed_forms = (numbered_of-Fix, numbered_of-Succ, numbered_of-Pred, numbered_of-IsZero)
-
-pub ruleset letrec_forms = (numbered_of-Fix, numbered_of-Abs, numbered_of-Let)

@@ -7,6 +7,8 @@ use denote.Ref.{Bor}
 use Rattle.lam_rules.specs.Types.{Typ, Fields}
 use Rattle.lam_rules.specs.Numbers.{Keeps, fields_given, AllStand}
 use Rattle.lam_rules.specs.declared.numbers.TyNo.{TyNo}
+use Rattle.lam_syntax.specs.declared.terms.Prefix.{Prefix}
+use Rattle.lam_syntax.specs.declared.terms.Prefix.TheVariants as prefix
 use Rattle.lam_syntax.specs.Trees.{TypeTree, TypeNode, TypeFields, no_type_fields, TermNode, FieldTrees}
 use Rattle.lam_scope.specs.declared.type_fault.TypeFault.{TypeFault}
 use Rattle.lam_scope.specs.declared.scope_fault.ScopeFault.{ScopeFault}
@@ -17,7 +19,7 @@ use Rattle.lam_scope.specs.Nameless.{nameless_node, nameless_fields, written_in_
 use Rattle.lam_scope.specs.InternedViews.{interned_term, interned_terms, StandIn, StandInTerms}
 use Rattle.lam_scope.specs.Views.{IsLimit}
 use Rattle.lam_scope.specs.Expansions.{expansion, expansion_of_node, expansion_of_fields, node_faults, field_faults}
-use Rattle.lam_scope.specs.Numbered.{written_over, StandsIfAny}
+use Rattle.lam_scope.specs.Numbered.{Numbered, succ, pred, is_zero, fix, written_over, StandsIfAny}
 use Rattle.lam_scope.specs.NumberedNames.{NumberedName, abbreviations_over}
 
 -- the number that a type name is told to stand for, if it is bound and stands for a type
@@ -29,6 +31,13 @@ number_of_named (Some w) = w
 abbrev pub is_named : Option (Option TyNo) → Bool
 is_named None = false
 is_named (Some w) = true
+
+-- a word before a term, as the term of that form
+abbrev pub prefixed_numbers : Prefix → Numbered → Numbered
+prefixed_numbers prefix.Fix e = fix e
+prefixed_numbers prefix.Succ e = succ e
+prefixed_numbers prefix.Pred e = pred e
+prefixed_numbers prefix.IsZero e = is_zero e
 
 -- labelled numbers, if there are any
 abbrev pub items_in : Option (Vec (Bor (List ℕ) × TyNo) Global) → Option (List (Bor (List ℕ) × TyNo))
