@@ -1,6 +1,6 @@
 -- How nameless forms over the numbers of a table are made.
-use Rattle.std.proofs.Common.{◌≡◌, ℕ, ◌+◌, ◌<◌, Option, None, List, [], ◌∷◌, ◌++◌, length, drop, get_or, refl, ap, sym, subst, ◌∙◌, append_assoc, Result, Ok, Err, Vec}
-use Rattle.std.proofs.lemmas.List.{append-nil}
+use Rattle.std.proofs.Common.{◌≡◌, ℕ, ◌+◌, ◌<◌, ◌≤◌, Option, None, List, [], ◌∷◌, ◌++◌, length, drop, get_or, refl, ap, sym, subst, ◌∙◌, append_assoc, Result, Ok, Err, Vec}
+use Rattle.std.proofs.lemmas.List.{append-nil, drop_all}
 use Rattle.std.specs.Prelude.{OnOk}
 use Rattle.std.specs.Option.{option_or}
 use Rattle.std.specs.declared.alloc.Global.{Global}
@@ -31,7 +31,7 @@ use Rattle.lam_scope.specs.NumberedNames.{NumberedName, abbreviations_over, Name
 use Rattle.lam_scope.specs.InternedViews.{numbered_of, interned_term, interned_terms, StandIn, StandInTerms}
 use Rattle.lam_scope.specs.Views.{IsLimit}
 use Rattle.lam_scope.specs.inner.Interned.{AreTypesInterned, IsWrittenInterned, IsInterned, AreInterned}
-use Rattle.lam_scope.proofs.Forms.{faults_in-append, over_limit-append, ltb-capped, joined_terms}
+use Rattle.lam_scope.proofs.Forms.{faults_in-append, over_limit-append, ltb-capped, joined_terms, joined_terms-none}
 use Rattle.lam_scope.proofs.InternedShapes.{numbered_of-True, numbered_of-False, numbered_of-Num, numbered_of-Var, numbered_of-Free, numbered_of-Unit, numbered_of-Record}
 use Rattle.lam_scope.proofs.InternedTerms.{kept, kept_terms, kept_written}
 use Rattle.lam_scope.proofs.TypeNames.{kept_names}
@@ -246,23 +246,85 @@ stand_terms-push : (ts : List Typ) (es : List InternedField) (f : InternedField)
 stand_terms-push ts [] f all one = (one, tt)
 stand_terms-push ts (g ∷ es) f all one = (all.0, stand_terms-push ts es f all.1 one)
 
-pub terms_more : (names : List NumberedName) (xs ys : List (Option Name)) (fs : List TmField) (i : ℕ) (f : TmField) (old mid new : List Typ) (before between after all_faults : List TypeFault)
+pub terms_more : (names : List NumberedName) (xs ys : List (Option Name)) (fs : List TmField) (i : ℕ) (f : TmField) (old mid new : List Typ) (between after : List TypeFault)
     (es more : List InternedField) (e : InternedTerm) (g : InternedField) (all : TermFields) → i < length fs → f ≡ get_or fs i f → NamesStand old names → Keeps old mid → ys ≡ xs
     → StandInTerms mid es → joined_terms (interned_terms mid es) (nameless_fields (abbreviations_over old names) xs (fields_of (drop i fs))) ≡ all
     → IsInterned names ys (term_node_of f.term.node) mid new between after (Ok e) → more ≡ es ++ g ∷ [] → g.term ≡ e → g.label.now ≡ letters f.label.text
     → StandInTerms new more × (joined_terms (interned_terms new more) (nameless_fields (abbreviations_over old names) xs (fields_of (drop (i + 1) fs))) ≡ all)
-terms_more names xs ys fs i f old mid new before between after all_faults es more e g all lt is stand earlier same given so_far one pushed term label =
+terms_more names xs ys fs i f old mid new between after es more e g all lt is stand earlier same given so_far one pushed term label =
     let bs = abbreviations_over old names in
     let rest = nameless_fields bs xs (fields_of (drop (i + 1) fs)) in
     let one_form = form_between names xs ys (term_node_of f.term.node) old mid new new between after e stand earlier same one (keeps_same new) in
     let kept_all = kept_terms mid new es one.types.keeps given in (
       subst (StandInTerms new) (sym pushed) (stand_terms-push new es g kept_all.1 (subst (StandIn new) (sym term) one_form.1)),
       ap (λ v. joined_terms (interned_terms new v) rest) pushed
-      ∙ interned_terms-push new es g rest
-      ∙ (λ j. joined_terms (kept_all.0 j) (rules.term_field (label j) ((ap (interned_term new) term ∙ one_form.0) j) rest))
-      ∙ ap (λ ts. joined_terms (interned_terms mid es) (nameless_fields bs xs ts)) (sym (fields_of-drop fs i f lt is))
-      ∙ so_far,
+          ∙ interned_terms-push new es g rest
+          ∙ (λ j. joined_terms (kept_all.0 j) (rules.term_field (label j) ((ap (interned_term new) term ∙ one_form.0) j) rest))
+          ∙ ap (λ ts. joined_terms (interned_terms mid es) (nameless_fields bs xs ts)) (sym (fields_of-drop fs i f lt is))
+          ∙ so_far,
     )
+
+-- the faults of the written types of one more term
+pub term_faults_more : (names : List NumberedName) (us vs : List TypeTree) (old mid : List Typ) (between after all : List TypeFault)
+    → NamesStand old names → Keeps old mid → after ≡ between ++ faults_in (abbreviations_over mid names) us
+    → between ++ faults_in (abbreviations_over old names) (us ++ vs) ≡ all → after ++ faults_in (abbreviations_over old names) vs ≡ all
+term_faults_more names us vs old mid between after all stand earlier one so_far =
+    let bs = abbreviations_over old names in
+    let same = (kept_names old mid names earlier stand).0 in
+    ap (λ es. es ++ faults_in bs vs) (one ∙ ap (λ cs. between ++ faults_in cs us) same)
+    ∙ append_assoc between (faults_in bs us) (faults_in bs vs)
+    ∙ ap (λ es. between ++ es) (sym (faults_in-append bs us vs))
+    ∙ so_far
+
+pub term_limit_more : (names : List NumberedName) (us vs : List TypeTree) (old mid : List Typ) (all : Option Span)
+    → NamesStand old names → Keeps old mid → first_over_limit (abbreviations_over mid names) us ≡ None
+    → all ≡ first_over_limit (abbreviations_over old names) (us ++ vs) → all ≡ first_over_limit (abbreviations_over old names) vs
+term_limit_more names us vs old mid all stand earlier one so_far =
+    let bs = abbreviations_over old names in
+    let same = (kept_names old mid names earlier stand).0 in
+    so_far ∙ over_limit-append bs us vs ∙ ap (λ o. option_or o (first_over_limit bs vs)) (ap (λ cs. first_over_limit cs us) (sym same) ∙ one)
+
+pub written_next : (fs : List TmField) (i : ℕ) (f : TmField) → i < length fs → f ≡ get_or fs i f
+    → written_in_fields (fields_of (drop i fs)) ≡ written_in_node (term_node_of f.term.node) ++ written_in_fields (fields_of (drop (i + 1) fs))
+written_next fs i f lt is = ap written_in_fields (fields_of-drop fs i f lt is)
+
+-- a term of a record of which a written type is refused
+pub terms_refused : {T : Type 0} (names : List NumberedName) (xs : List (Option Name)) (fs : FieldTrees) (us vs : List TypeTree) (old mid new : List Typ) (before between after : List TypeFault) (x : ScopeFault)
+    (answer : Result (Vec InternedField Global) ScopeFault) → NamesStand old names → Keeps old mid → answer ≡ Err x
+    → first_over_limit (abbreviations_over old names) (written_in_fields fs) ≡ first_over_limit (abbreviations_over old names) (us ++ vs)
+    → AreTypesInterned {T = T} names us mid new between after (Err x) → AreInterned names xs fs old new before after answer
+terms_refused {T} names xs fs us vs old mid new before between after x answer stand earlier is so_far one =
+    let bs = abbreviations_over old names in
+    let same = (kept_names old mid names earlier stand).0 in
+    let front : IsLimit {T = T} (first_over_limit bs us) (Err x) = subst (λ cs. IsLimit {T = T} (first_over_limit cs us) (Err x)) same one.limit in
+    let whole : IsLimit {T = Vec InternedField Global} (first_over_limit bs (us ++ vs)) (Err x) =
+    subst (λ o. IsLimit {T = Vec InternedField Global} o (Err x)) (sym (over_limit-append bs us vs)) (limit_front T (Vec InternedField Global) (first_over_limit bs us) (first_over_limit bs vs) x front) in
+    let all : AreInterned names xs fs old new before after (Err x) = record {
+      types = record {
+        keeps = keeps_trans old mid new earlier one.keeps;
+        faults = tt;
+        limit = subst (λ o. IsLimit {T = Vec InternedField Global} o (Err x)) (sym so_far) whole;
+      };
+      forms = tt;
+      stand = tt;
+    } in
+    subst (λ a. AreInterned names xs fs old new before after a) (sym is) all
+
+pub terms_all : (names : List NumberedName) (xs : List (Option Name)) (fs : List TmField) (i : ℕ) (old new : List Typ) (before after : List TypeFault) (es : Vec InternedField Global) → length fs ≤ i
+    → Keeps old new → StandInTerms new es.items
+    → joined_terms (interned_terms new es.items) (nameless_fields (abbreviations_over old names) xs (fields_of (drop i fs))) ≡ nameless_fields (abbreviations_over old names) xs (fields_of fs)
+    → after ++ faults_in (abbreviations_over old names) (written_in_fields (fields_of (drop i fs))) ≡ before ++ faults_in (abbreviations_over old names) (written_in_fields (fields_of fs))
+    → first_over_limit (abbreviations_over old names) (written_in_fields (fields_of fs)) ≡ first_over_limit (abbreviations_over old names) (written_in_fields (fields_of (drop i fs)))
+    → AreInterned names xs (fields_of fs) old new before after (Ok es)
+terms_all names xs fs i old new before after es le k stand forms faults limit = record {
+  types = record {
+    keeps = k;
+    faults = sym (append-nil after) ∙ (rw (drop_all i fs le) at faults);
+    limit = rw (drop_all i fs le) at limit;
+  };
+  forms = sym (joined_terms-none (interned_terms new es.items)) ∙ (rw (drop_all i fs le) at forms);
+  stand = stand;
+}
 
 pub ruleset written_types = (ltb-capped, append-nil, keeps_same, keeps_trans)
 

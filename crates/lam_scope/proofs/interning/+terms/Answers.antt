@@ -1,12 +1,13 @@
-use Rattle.std.proofs.Common.{refl, sym, ◌∙◌, ap, ◌++◌, ◌∷◌, [], Err, append_assoc, arith}
-use Rattle.std.proofs.lemmas.List.{append-nil, drop_all}
+use Rattle.std.proofs.Common.{refl, sym, ◌∙◌, ap, ◌++◌, ◌∷◌, [], Err, append_assoc, drop, ◌+◌, arith}
+use Rattle.std.proofs.lemmas.List.{append-nil}
 use Rattle.std.proofs.lemmas.Result.{err_from_is_err_and}
 use Rattle.lam_rules.proofs.Tables.{keeps_trans}
-use Rattle.lam_syntax.specs.Views.{term_of as tree_of, type_of}
-use Rattle.lam_scope.specs.Nameless.{written_in}
+use Rattle.lam_syntax.specs.Views.{term_of as tree_of, type_of, fields_of}
+use Rattle.lam_scope.specs.Nameless.{written_in, written_in_fields, faults_in, first_over_limit}
+use Rattle.lam_scope.specs.NumberedNames.{abbreviations_over}
 use Rattle.lam_scope.proofs.TreeSizes.{field_size}
 use Rattle.lam_scope.proofs.TypeNames.{kept_names}
-use Rattle.lam_scope.proofs.InternedForms.{refused_first, refused_second, refused_third, apply_interned, ascribe_interned, if_interned, lambda_interned, let_interned, letrec_interned, record_interned, terms_more}
+use Rattle.lam_scope.proofs.InternedForms.{refused_first, refused_second, refused_third, apply_interned, ascribe_interned, if_interned, lambda_interned, let_interned, letrec_interned, record_interned, terms_more, term_faults_more, term_limit_more, written_next, terms_refused, terms_all}
 use Rattle.lam_scope.proofs.interning.+terms.Goals as goal
 
 -- an application
@@ -157,12 +158,42 @@ intern_fields-intern_term-requires t c =
 
 pub intern_fields-loop-i-preserved : goal.intern_fields-loop-i-preserved
 intern_fields-loop-i-preserved t c =
-    ?
+    let old = c.args.table.now in
+    let fs = c.args.fields.now in
+    let f = c.index-fields-i.result in
+    let one = c.in_ok-form.ensures.interned in
+    let so_far = c.loop-i.invariant in
+    let next = written_next fs c.loop-i.i f c.loop-i-test.true c.index-fields-i.is in
+    let us = written_in (tree_of f.term) in
+    let vs = written_in_fields (fields_of (drop (c.loop-i.i + 1) fs)) in
+    let bs = abbreviations_over old c.args.seen.now in
+    let more =
+    terms_more c.args.seen.now c.args.names.now c.loop-i.names fs c.loop-i.i f old c.loop-i.table c.intern_term.new.table c.loop-i.interning.faults.items c.intern_term.new.interning.faults.items
+    c.loop-i.forms.items c.push.new.self.items c.in_ok-form.form _ _ c.loop-i-test.true c.index-fields-i.is c.requires so_far.keeps so_far.names so_far.stand so_far.forms
+    one c.in_ok-push.ensures.items refl c.as_str.ensures in
+    record {
+      keeps = keeps_trans old c.loop-i.table c.intern_term.new.table so_far.keeps one.types.keeps;
+      stand = more.0;
+      forms = more.1;
+      faults = term_faults_more c.args.seen.now us vs old c.loop-i.table c.loop-i.interning.faults.items c.intern_term.new.interning.faults.items _ c.requires so_far.keeps one.types.faults
+          (ap (λ ws. c.loop-i.interning.faults.items ++ faults_in bs ws) (sym next) ∙ so_far.faults);
+      limit = term_limit_more c.args.seen.now us vs old c.loop-i.table _ c.requires so_far.keeps one.types.limit (so_far.limit ∙ ap (first_over_limit bs) next);
+      names = c.in_ok-form.ensures.names ∙ so_far.names;
+    }
 
 pub intern_fields-returns-in_err-form-clause-interned : goal.intern_fields-returns-in_err-form-clause-interned
 intern_fields-returns-in_err-form-clause-interned t c =
-    ?
+    let p = err_from_is_err_and c.from_residual-in_err-form.result c.from_residual-in_err-form.ensures.1 in
+    let old = c.args.table.now in
+    let fs = c.args.fields.now in
+    let f = c.index-fields-i.result in
+    let next = written_next fs c.loop-i.i f c.loop-i-test.true c.index-fields-i.is in
+    let us = written_in (tree_of f.term) in
+    let vs = written_in_fields (fields_of (drop (c.loop-i.i + 1) fs)) in
+    terms_refused c.args.seen.now c.args.names.now _ us vs old c.loop-i.table c.intern_term.new.table _ _ _ _ _ c.requires c.loop-i.invariant.keeps (p.1 ∙ ap (λ y. Err y) p.2)
+    (c.loop-i.invariant.limit ∙ ap (first_over_limit (abbreviations_over old c.args.seen.now)) next) c.in_err-form.ensures.interned.types
 
 pub intern_fields-returns-clause-interned : goal.intern_fields-returns-clause-interned
 intern_fields-returns-clause-interned t c =
-    ?
+    let so_far = c.loop-i.invariant in
+    terms_all c.args.seen.now c.args.names.now c.args.fields.now c.loop-i.i c.args.table.now c.loop-i.table _ _ c.loop-i.forms c.loop-i-test.false so_far.keeps so_far.stand so_far.forms so_far.faults so_far.limit
