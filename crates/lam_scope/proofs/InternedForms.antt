@@ -331,3 +331,5 @@ pub ruleset written_types = (ltb-capped, append-nil, keeps_same, keeps_trans)
 pub ruleset node_forms = (term_node_of-True, term_node_of-False, term_node_of-Unit, term_node_of-Variable, term_node_of-Numeral, term_node_of-Lambda, term_node_of-If, term_node_of-Let, term_node_of-Letrec, term_node_of-Prefixed, term_node_of-Apply, term_node_of-Project, term_node_of-Ascribe, term_node_of-Record, numbered_of-True, numbered_of-False, numbered_of-Num, numbered_of-Unit, append-nil, keeps_same)
 
 pub ruleset use_forms = (numbered_of-Var, numbered_of-Free)
+
+pub ruleset commands = (append-nil, keeps_same)

@@ -17,6 +17,7 @@
 
 mod abbreviations;
 mod binding;
+mod commands;
 mod document;
 mod environment;
 mod expansion;
@@ -52,6 +53,7 @@ mod uses_left;
 mod walk;
 
 pub use binding::bind;
+pub use commands::{Interned, intern_command};
 pub use document::resolve;
 pub use environment::Environment;
 pub use expansion::NODE_LIMIT;

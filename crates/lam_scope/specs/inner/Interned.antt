@@ -9,14 +9,15 @@ use Rattle.lam_rules.specs.Numbers.{Keeps, fields_given, AllStand}
 use Rattle.lam_rules.specs.declared.numbers.TyNo.{TyNo}
 use Rattle.lam_syntax.specs.declared.terms.Prefix.{Prefix}
 use Rattle.lam_syntax.specs.declared.terms.Prefix.TheVariants as prefix
-use Rattle.lam_syntax.specs.Trees.{TypeTree, TypeNode, TypeFields, no_type_fields, TermNode, FieldTrees}
+use Rattle.lam_syntax.specs.Trees.{TypeTree, TypeNode, TypeFields, no_type_fields, TermNode, FieldTrees, CommandTree}
 use Rattle.lam_scope.specs.declared.type_fault.TypeFault.{TypeFault}
 use Rattle.lam_scope.specs.declared.scope_fault.ScopeFault.{ScopeFault}
 use Rattle.lam_scope.specs.declared.interned.InternedTerm.{InternedTerm}
 use Rattle.lam_scope.specs.declared.interned.InternedField.{InternedField}
+use Rattle.lam_scope.specs.declared.interned.InternedStatement.{InternedStatement}
 use Rattle.lam_scope.specs.Names.{Name}
-use Rattle.lam_scope.specs.Nameless.{nameless_node, nameless_fields, written_in_node, written_in_fields, faults_in, first_over_limit}
-use Rattle.lam_scope.specs.InternedViews.{interned_term, interned_terms, StandIn, StandInTerms}
+use Rattle.lam_scope.specs.Nameless.{nameless_node, nameless_fields, written_in_node, written_in_fields, written_in_command, statement, faults_in, first_over_limit}
+use Rattle.lam_scope.specs.InternedViews.{interned_term, interned_terms, interned_statement, StandIn, StandInTerms, StandInStatement}
 use Rattle.lam_scope.specs.Views.{IsLimit}
 use Rattle.lam_scope.specs.Expansions.{expansion, expansion_of_node, expansion_of_fields, node_faults, field_faults}
 use Rattle.lam_scope.specs.Numbered.{Numbered, succ, pred, is_zero, fix, written_over, StandsIfAny}
@@ -93,3 +94,9 @@ pub record AreInterned (names : List NumberedName) (xs : List (Option Name)) (fs
   pub types : AreTypesInterned names (written_in_fields fs) old new before after answer
   pub forms : IfOk answer (λ es. interned_terms new es.items ≡ nameless_fields (abbreviations_over old names) xs fs)
   pub stand : IfOk answer (λ es. StandInTerms new es.items)
+
+-- The answer is what a command states.
+pub record IsStated (names : List NumberedName) (xs : List (Option Name)) (c : CommandTree) (old new : List Typ) (before after : List TypeFault) (answer : Result InternedStatement ScopeFault) : Type 0 where
+  pub types : AreTypesInterned names (written_in_command c) old new before after answer
+  pub form : IfOk answer (λ s. interned_statement new s ≡ statement (abbreviations_over old names) xs c)
+  pub stands : IfOk answer (λ s. StandInStatement new s)
