@@ -17,12 +17,15 @@
 
 mod abbreviations;
 mod binding;
+mod commands;
 mod document;
 mod environment;
 mod expansion;
 mod interned;
+mod interning;
 mod interning_types;
 mod laws;
+mod making;
 mod name_stack;
 mod nameless;
 mod names;
@@ -50,6 +53,7 @@ mod uses_left;
 mod walk;
 
 pub use binding::bind;
+pub use commands::{Interned, intern_command};
 pub use document::resolve;
 pub use environment::Environment;
 pub use expansion::NODE_LIMIT;

@@ -7,17 +7,20 @@ use denote.Ref.{Bor}
 use Rattle.lam_rules.specs.Types.{Typ, Fields}
 use Rattle.lam_rules.specs.Numbers.{Keeps, fields_given, AllStand}
 use Rattle.lam_rules.specs.declared.numbers.TyNo.{TyNo}
-use Rattle.lam_syntax.specs.Trees.{TypeTree, TypeNode, TypeFields, no_type_fields, TermNode, FieldTrees}
+use Rattle.lam_syntax.specs.declared.terms.Prefix.{Prefix}
+use Rattle.lam_syntax.specs.declared.terms.Prefix.TheVariants as prefix
+use Rattle.lam_syntax.specs.Trees.{TypeTree, TypeNode, TypeFields, no_type_fields, TermNode, FieldTrees, CommandTree}
 use Rattle.lam_scope.specs.declared.type_fault.TypeFault.{TypeFault}
 use Rattle.lam_scope.specs.declared.scope_fault.ScopeFault.{ScopeFault}
 use Rattle.lam_scope.specs.declared.interned.InternedTerm.{InternedTerm}
 use Rattle.lam_scope.specs.declared.interned.InternedField.{InternedField}
+use Rattle.lam_scope.specs.declared.interned.InternedStatement.{InternedStatement}
 use Rattle.lam_scope.specs.Names.{Name}
-use Rattle.lam_scope.specs.Nameless.{nameless_node, nameless_fields, written_in_node, written_in_fields, faults_in, first_over_limit}
-use Rattle.lam_scope.specs.InternedViews.{interned_term, interned_terms, StandIn, StandInTerms}
+use Rattle.lam_scope.specs.Nameless.{nameless_node, nameless_fields, written_in_node, written_in_fields, written_in_command, statement, faults_in, first_over_limit}
+use Rattle.lam_scope.specs.InternedViews.{interned_term, interned_terms, interned_statement, StandIn, StandInTerms, StandInStatement}
 use Rattle.lam_scope.specs.Views.{IsLimit}
 use Rattle.lam_scope.specs.Expansions.{expansion, expansion_of_node, expansion_of_fields, node_faults, field_faults}
-use Rattle.lam_scope.specs.Numbered.{written_over, StandsIfAny}
+use Rattle.lam_scope.specs.Numbered.{Numbered, succ, pred, is_zero, fix, written_over, StandsIfAny}
 use Rattle.lam_scope.specs.NumberedNames.{NumberedName, abbreviations_over}
 
 -- the number that a type name is told to stand for, if it is bound and stands for a type
@@ -29,6 +32,13 @@ number_of_named (Some w) = w
 abbrev pub is_named : Option (Option TyNo) → Bool
 is_named None = false
 is_named (Some w) = true
+
+-- a word before a term, as the term of that form
+abbrev pub prefixed_numbers : Prefix → Numbered → Numbered
+prefixed_numbers prefix.Fix e = fix e
+prefixed_numbers prefix.Succ e = succ e
+prefixed_numbers prefix.Pred e = pred e
+prefixed_numbers prefix.IsZero e = is_zero e
 
 -- labelled numbers, if there are any
 abbrev pub items_in : Option (Vec (Bor (List ℕ) × TyNo) Global) → Option (List (Bor (List ℕ) × TyNo))
@@ -84,3 +94,9 @@ pub record AreInterned (names : List NumberedName) (xs : List (Option Name)) (fs
   pub types : AreTypesInterned names (written_in_fields fs) old new before after answer
   pub forms : IfOk answer (λ es. interned_terms new es.items ≡ nameless_fields (abbreviations_over old names) xs fs)
   pub stand : IfOk answer (λ es. StandInTerms new es.items)
+
+-- The answer is what a command states.
+pub record IsStated (names : List NumberedName) (xs : List (Option Name)) (c : CommandTree) (old new : List Typ) (before after : List TypeFault) (answer : Result InternedStatement ScopeFault) : Type 0 where
+  pub types : AreTypesInterned names (written_in_command c) old new before after answer
+  pub form : IfOk answer (λ s. interned_statement new s ≡ statement (abbreviations_over old names) xs c)
+  pub stands : IfOk answer (λ s. StandInStatement new s)
