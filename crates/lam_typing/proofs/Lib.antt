@@ -33,3 +33,4 @@ pub mod AlikeTerms
 pub mod AlikeTypes
 pub mod AlikePlaces
 pub mod AlikeBlames
+pub mod MovedBlames

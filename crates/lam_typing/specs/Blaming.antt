@@ -83,6 +83,11 @@ AreBlamed n (p ∷ ps) blames d =
     ⊎ ((code : Text) × (rest : List Blamed) × (blames ≡ record { number = n; code = code } ∷ rest)
     × IsBlamed p.scope p.here d × IsBlamedFor p.scope p.here code d × AreBlamed (n + 1) ps rest d)
 
+-- the same blames, where the places have numbers that are so many more
+abbrev pub moved : ℕ → List Blamed → List Blamed
+moved k [] = []
+moved k (b ∷ bs) = record { number = b.number + k; code = b.code } ∷ moved k bs
+
 -- the label is none of these terms'
 abbrev pub IsNoLabelOf : Label → TermFields → Type 0
 IsNoLabelOf l no_terms = Unit {0}

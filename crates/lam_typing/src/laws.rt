@@ -1,6 +1,6 @@
 //! What holds of all terms and documents: the contracts of functions that do nothing.
 
-ghost use Rattle.std.specs.Prelude.{◌≡◌, ℕ, ◌<◌, length, List, Option, Some, codes};
+ghost use Rattle.std.specs.Prelude.{◌≡◌, ℕ, ◌+◌, ◌<◌, length, List, Option, Some, codes};
 ghost use Rattle.lam_rules.specs.Types.{Label, Typ, bool, nat, arrow, record_of, Fields, Has};
 ghost use Rattle.lam_rules.specs.Terms.{Term, true_term, false_term, unit_term, numeral, lambda, let_in, if_then_else, variable, succ, pred, is_zero, apply, ascribe, project, fix, record_term, TermFields};
 ghost use Rattle.lam_rules.specs.Subtyping.{IsBelow};
@@ -9,10 +9,10 @@ ghost use Rattle.lam_rules.specs.Typing.{Context, HasField};
 ghost use Rattle.lam_rules.specs.declared.rules.Dialect.{Dialect};
 ghost use Rattle.lam_scope.specs.Trees.{CommandTree};
 ghost use Rattle.lam_scope.specs.Labels.{place_in};
-ghost use Rattle.lam_scope.specs.Places.{Scope, Statement, places};
+ghost use Rattle.lam_scope.specs.Places.{Scope, Place, Statement, places};
 ghost use Rattle.lam_typing.specs.LeastTypes.{IsTypeAt, IsTyped, IsLeastAt, AreLeastEntries};
 ghost use Rattle.lam_scope.specs.Alike.{AreAlike};
-ghost use Rattle.lam_typing.specs.Blaming.{IsBlamed, IsBlamedFor, DifferInLabels, Blamed};
+ghost use Rattle.lam_typing.specs.Blaming.{IsBlamed, IsBlamedFor, DifferInLabels, Blamed, AreBlamed, moved};
 ghost use Rattle.lam_typing.specs.Causes.{HasCause};
 ghost use Rattle.lam_typing.specs.Contexts.{IsContext};
 ghost use Rattle.lam_typing.specs.Narrowing.{Narrows};
@@ -115,4 +115,12 @@ pub fn only_free_names_count()
     ensures least { (s r : Scope) (g h : Context) (e f : Term) (o : Option Typ) (d : Dialect) → IsLowest s g d → IsLowest r h d → AreAlike g e h f → IsLeastAt s e o d → IsLeastAt r f o d }
     ensures shown { (s r : Scope) (g h : Context) (e f : Term) (n : ℕ) (found : List (Option Typ)) (blames : List Blamed) (d : Dialect) → IsWellFormedTerm e → IsLowest s g d → IsLowest r h d → AreAlike g e h f → Shown (places s e) n found blames d → Shown (places r f) n found blames d }
     ensures stopped { (s r : Scope) (g h : Context) (e f : Term) (n : ℕ) (found : List (Option Typ)) (blames : List Blamed) (cause : Cause) (d : Dialect) → IsWellFormedTerm e → IsLowest s g d → IsLowest r h d → AreAlike g e h f → ShownFront (places s e) n found blames cause d → ShownFront (places r f) n found blames cause d }
+{}
+
+/// Places may be counted from any number: those to blame are the same, with numbers that are as many more. So what is told
+/// of a command by itself, whose places are counted from 0, is told of it in a document, where other places come before.
+pub fn blames_move_with_places()
+    ensures blamed { (n k : ℕ) (ps : List Place) (blames : List Blamed) (d : Dialect) → AreBlamed n ps blames d → AreBlamed (n + k) ps (moved k blames) d }
+    ensures shown { (ps : List Place) (k : ℕ) (found : List (Option Typ)) (blames : List Blamed) (d : Dialect) → Shown ps 0 found blames d → Shown ps k found (moved k blames) d }
+    ensures stopped { (ps : List Place) (k : ℕ) (found : List (Option Typ)) (blames : List Blamed) (cause : Cause) (d : Dialect) → ShownFront ps 0 found blames cause d → ShownFront ps k found (moved k blames) cause d }
 {}

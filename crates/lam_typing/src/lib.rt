@@ -25,8 +25,8 @@ pub use analysing::{analyse, analyse_to};
 pub use blame::Blame;
 pub use fault::TypingFault;
 pub use laws::{
-    blame_is_just, least_entries_are_a_context, least_types_exist, least_types_have_one_text,
-    narrowing, never_blamed, only_free_names_count, projections_are_fields, scopes_have_contexts,
-    typed_where_unblamed, untyped_has_a_cause,
+    blame_is_just, blames_move_with_places, least_entries_are_a_context, least_types_exist,
+    least_types_have_one_text, narrowing, never_blamed, only_free_names_count,
+    projections_are_fields, scopes_have_contexts, typed_where_unblamed, untyped_has_a_cause,
 };
 pub use typing::Typing;
