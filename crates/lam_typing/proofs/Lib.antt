@@ -34,3 +34,4 @@ pub mod AlikeTypes
 pub mod AlikePlaces
 pub mod AlikeBlames
 pub mod MovedBlames
+pub mod AlikeStatements
