@@ -53,3 +53,5 @@ pub mod ReadAround
 pub mod Projected
 pub mod CompletionLaws
 pub mod Completing
+pub mod CheckedLists
+pub mod Checked

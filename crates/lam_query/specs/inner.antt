@@ -6,3 +6,4 @@ pub mod Listed
 pub mod FieldItems
 pub mod Sight
 pub mod Reading
+pub mod Checked
