@@ -10,6 +10,8 @@ use Rattle.lam_syntax.specs.Trees.{CommandTree}
 use Rattle.lam_scope.specs.Names.{Name}
 use Rattle.lam_scope.specs.Alike.{AreAlikeStatements}
 use Rattle.lam_scope.specs.Expansions.{Abbreviation}
+use Rattle.lam_scope.specs.FreeNames.{free_type_names_in_command}
+use Rattle.lam_scope.specs.Meanings.{StandForTheSame}
 use Rattle.lam_scope.specs.Nameless.{statement, abbreviations_after, names_after, written_in_command, faults_in, first_over_limit, faults, first_too_large}
 use Rattle.lam_scope.specs.Places.{Place, Statement, places_of}
 use Rattle.lam_scope.specs.PlacedTerms.{PlacedTree, term_of, command_terms, scope_after, commands_terms, document_terms}
@@ -27,7 +29,7 @@ use Rattle.lam_typing.proofs.Together.{shown_both, shown_none}
 use Rattle.lam_query.specs.Sizes.{IsSmall, places_in}
 use Rattle.lam_query.specs.TextFaults.{written_fault, blame_fault, AreTypeFaults, small}
 use Rattle.lam_query.specs.inner.Checked.{abbreviations_behind, names_behind, scope_behind, context_after, AreChecked, IsEnvironmentFor}
-use Rattle.lam_query.proofs.CheckedLists.{names_push, scope_push, scope_bound, context_bound, lengths_after, terms_append, terms_push, command_places, too_large_append, too_large_push, next_wf}
+use Rattle.lam_query.proofs.CheckedLists.{names_push, scope_push, scope_bound, context_bound, lengths_after, terms_append, terms_push, command_places, faults_push, too_large_append, too_large_push, next_wf}
 use Rattle.lam_query.proofs.Small.{is_small}
 
 -- ---- the places of a command behind others
@@ -84,6 +86,22 @@ first_stopped before ps behind found more blames codes d shown stopped = by stop
         subst (λ xs. IsFirstTooLarge xs (length found + length more) d) (sym there)
         (subst (λ n. IsFirstTooLarge ((before ++ front) ++ q ∷ (qs ++ behind)) n d) (length-append found more) first)
 
+-- ---- the written types of one command more, in an environment in which its type names stand for the same
+
+module _ (done : List CommandTree) (c : CommandTree) (types : List Abbreviation)
+    (same : StandForTheSame (free_type_names_in_command c) (abbreviations_behind done) types) where
+  pub command_faults : faults [] (done ++ c ∷ []) ≡ faults [] done ++ faults_in types (written_in_command c)
+  command_faults = faults_push done c ∙ ap (λ fs. faults [] done ++ fs) (same_command_faults (abbreviations_behind done) types c same)
+
+  -- the first one that is too large, whatever comes after the command
+  pub written_too_large : (s : Span) (rest : List CommandTree) → first_too_large [] done ≡ None
+      → first_over_limit types (written_in_command c) ≡ Some s → first_too_large [] (done ++ c ∷ rest) ≡ Some s
+  written_too_large s rest none over =
+      too_large_append done (c ∷ rest)
+      ∙ ap (λ o. option_or o (first_too_large (abbreviations_behind done) (c ∷ rest))) none
+      ∙ ap (λ o. option_or o (first_too_large (abbreviations_after (abbreviations_behind done) c) rest))
+      (same_command_limit (abbreviations_behind done) types c same ∙ over)
+
 -- ---- one command more
 
 module _ (done : List CommandTree) (g : Context) (found : List (Option Typ)) (blames : List Blamed) (d : Dialect) (checked : AreChecked done g found blames d)
@@ -103,13 +121,6 @@ module _ (done : List CommandTree) (g : Context) (found : List (Option Typ)) (bl
 
   entries_lowest : IsLowest (scope_of_entries entries) entries d
   entries_lowest = lowest_of_entries entries d environment.wf
-
-  -- its faults, and its first written type that is too large
-  pub environment_faults : faults_in types (written_in_command c) ≡ faults_in (abbreviations_behind done) (written_in_command c)
-  environment_faults = sym (same_command_faults (abbreviations_behind done) types c environment.types_stand)
-
-  environment_limit : first_over_limit (abbreviations_behind done) (written_in_command c) ≡ first_over_limit types (written_in_command c)
-  environment_limit = same_command_limit (abbreviations_behind done) types c environment.types_stand
 
   -- the entry that it binds
   more_lowest : (entry : Option Typ) → BindsEntry (scope_of_entries entries) Alone entry d
@@ -139,18 +150,10 @@ module _ (done : List CommandTree) (g : Context) (found : List (Option Typ)) (bl
         (shown_both (places_in done) (places_of (scope_behind done) (Stated ∷ [])) 0 (length found) found more blames (moved (length found) codes) d
         (omega arith) checked.shown behind);
     none_too_large = too_large_push done c ∙ ap (λ o. option_or o (first_over_limit (abbreviations_behind done) (written_in_command c))) checked.none_too_large
-        ∙ environment_limit ∙ within;
+        ∙ same_command_limit (abbreviations_behind done) types c environment.types_stand ∙ within;
   }
 
-  -- ---- a type that is too large
-
-  pub written_too_large : (s : Span) (rest : List CommandTree) → first_over_limit types (written_in_command c) ≡ Some s
-      → first_too_large [] (done ++ c ∷ rest) ≡ Some s
-  written_too_large s rest over =
-      too_large_append done (c ∷ rest)
-      ∙ ap (λ o. option_or o (first_too_large (abbreviations_behind done) (c ∷ rest))) checked.none_too_large
-      ∙ ap (λ o. option_or o (first_too_large (abbreviations_after (abbreviations_behind done) c) rest)) (environment_limit ∙ over)
-
+  -- a place of it that is too large, whatever comes after it
   pub place_too_large : (more : List (Option Typ)) (codes : List Blamed) (rest : List CommandTree)
       → ShownFront (places_of (scope_of_entries entries) (Alone ∷ [])) 0 more codes next_is_too_large d
       → IsFirstTooLarge (places_in (done ++ c ∷ rest)) (length found + length more) d

@@ -55,3 +55,4 @@ pub mod CompletionLaws
 pub mod Completing
 pub mod CheckedLists
 pub mod Checked
+pub mod Meanings

@@ -7,3 +7,4 @@ pub mod FieldItems
 pub mod Sight
 pub mod Reading
 pub mod Checked
+pub mod Entered
