@@ -119,7 +119,8 @@ too_large_push done c = too_large_append done (c ∷ []) ∙ ap (option_or (firs
 
 -- ---- what the next command states
 
-stated_wf : (bs : List Abbreviation) (xs : List (Option Name)) (done : List CommandTree) (c : CommandTree) → AreWellFormedStatements (statements bs xs (done ++ c ∷ []))
+stated_wf : (bs : List Abbreviation) (xs : List (Option Name)) (done : List CommandTree) (c : CommandTree)
+    → AreWellFormedStatements (statements bs xs (done ++ c ∷ []))
     → IsWellFormedStatement (statement (fold abbreviations_after bs done) (fold names_after xs done) c)
 stated_wf bs xs [] c wf = wf.0
 stated_wf bs xs (b ∷ done) c wf = stated_wf (abbreviations_after bs b) (names_after xs b) done c wf.1

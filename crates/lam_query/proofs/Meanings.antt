@@ -1,9 +1,9 @@
 -- What a look-up finds of names is what they mean in an environment that is made by entering them, and how a command changes it.
-use Rattle.std.proofs.Common.{◌≡◌, zero, suc, Bool, true, false, List, [], ◌∷◌, ◌++◌, length, refl, ap, sym, subst, ◌∙◌, arith, Option, Some, None, is_some, ◌⊎◌, inl, inr, Contains}
+use Rattle.std.proofs.Common.{◌≡◌, zero, suc, Bool, true, false, List, [], ◌∷◌, ◌++◌, length, refl, ap, sym, subst, ◌∙◌, arith, Option, Some, None, is_some, get_or, ◌⊎◌, inl, inr, Contains}
 use Rattle.std.specs.Prelude.{if◌then◌else◌}
 use Rattle.std.specs.List.{AllByRecursion}
 use Rattle.std.specs.Str.{bytes_eq}
-use Rattle.std.proofs.lemmas.List.Elements.{Contains-append_left, Contains-append_right}
+use Rattle.std.proofs.lemmas.List.Elements.{recursion_from_All, Contains-get_or, Contains-append_left, Contains-append_right}
 use Rattle.std.proofs.lemmas.Slice.Eq.{bytes_eq-Decides}
 use Rattle.lam_rules.specs.Types.{Typ}
 use Rattle.lam_rules.specs.Typing.{Context, IsWellFormedEntry, IsWellFormedContext}
@@ -26,11 +26,7 @@ first_or_later y ys x (zero, lt, is) = inl is
 first_or_later y ys x (suc k, lt, is) = inr (k, omega (arith, lt), is)
 
 each : {A : Type 0} (P : A → Type 0) (xs : List A) → ((x : A) → Contains xs x → P x) → AllByRecursion P xs
-each P [] holds = tt
-each P (x ∷ xs) holds = (
-  holds x (Contains-append_left (x ∷ []) xs x (0, omega arith, refl)),
-  each P xs (λ y there. holds y (Contains-append_right (x ∷ []) xs y there)),
-)
+each P xs holds = recursion_from_All P xs (λ k d lt. holds (get_or xs k d) (Contains-get_or xs k d lt))
 
 -- ---- names put onto whatever is looked up in
 
@@ -102,7 +98,8 @@ abbrev Binders : Type 0
 Binders = List (Option Name) × Context
 
 binders_onto : (xs : List (Option Name)) (g : Context) (ps : List (Name × Option Typ))
-    → onto Binders (λ y entry s. (Some y ∷ s.0, entry ∷ s.1)) (λ x s. entry_named x s.0 s.1) (λ x y entry s. refl) (xs, g) ps ≡ (names_onto xs ps, entries_onto g ps)
+    → onto Binders (λ y entry s. (Some y ∷ s.0, entry ∷ s.1)) (λ x s. entry_named x s.0 s.1) (λ x y entry s. refl) (xs, g) ps
+    ≡ (names_onto xs ps, entries_onto g ps)
 binders_onto xs g [] = refl
 binders_onto xs g (p ∷ ps) = binders_onto (Some p.0 ∷ xs) (p.1 ∷ g) ps
 
@@ -121,7 +118,8 @@ entered_mean free list look xs g among agrees =
 
 -- it has an entry for each name
 
-onto_lengths : (xs : List (Option Name)) (g : Context) (ps : List (Name × Option Typ)) → length xs ≡ length g → length (names_onto xs ps) ≡ length (entries_onto g ps)
+onto_lengths : (xs : List (Option Name)) (g : Context) (ps : List (Name × Option Typ))
+    → length xs ≡ length g → length (names_onto xs ps) ≡ length (entries_onto g ps)
 onto_lengths xs g [] same = same
 onto_lengths xs g (p ∷ ps) same = onto_lengths (Some p.0 ∷ xs) (p.1 ∷ g) ps (ap suc same)
 
@@ -130,7 +128,8 @@ entered_lengths look list = onto_lengths [] [] (entered look list) refl
 
 -- which has distinct labels at every depth, where it is one of a context that has them
 
-named_wf : (x : Name) (xs : List (Option Name)) (g : Context) (entry : Option Typ) → IsWellFormedContext g → entry_named x xs g ≡ Some entry → IsWellFormedEntry entry
+named_wf : (x : Name) (xs : List (Option Name)) (g : Context) (entry : Option Typ)
+    → IsWellFormedContext g → entry_named x xs g ≡ Some entry → IsWellFormedEntry entry
 named_wf x [] g entry wf is = absurd cc
 named_wf x (b ∷ xs) [] entry wf is = absurd cc
 named_wf x (b ∷ xs) (other ∷ g) entry wf is = by (named_wf x xs g entry wf.1) (binds b x) is
@@ -140,7 +139,8 @@ named_wf x (b ∷ xs) (other ∷ g) entry wf is = by (named_wf x xs g entry wf.1
     by behind true here = let one : other ≡ entry = cc in subst IsWellFormedEntry one wf.0
     by behind false later = behind later
 
-onto_wf : (look : Lookup) (list : List Name) (h : Context) → ((x : Name) → Contains list x → (entry : Option Typ) → look x ≡ Some entry → IsWellFormedEntry entry)
+onto_wf : (look : Lookup) (list : List Name) (h : Context)
+    → ((x : Name) → Contains list x → (entry : Option Typ) → look x ≡ Some entry → IsWellFormedEntry entry)
     → IsWellFormedContext h → IsWellFormedContext (entries_onto h (entered look list))
 onto_wf look [] h each_wf wf = wf
 onto_wf look (x ∷ list) h each_wf wf =

@@ -40,7 +40,8 @@ pub record AreChecked (done : List CommandTree) (g : Context) (found : List (Opt
 
 -- An environment of a command's own: abbreviations, names and their entries, in which all that the command takes from outside means what it means after
 -- these commands, which have this context.
-pub record IsEnvironmentFor (c : CommandTree) (done : List CommandTree) (g : Context) (types : List Abbreviation) (names : List (Option Name)) (entries : Context) : Type 0 where
+pub record IsEnvironmentFor (c : CommandTree) (done : List CommandTree) (g : Context)
+    (types : List Abbreviation) (names : List (Option Name)) (entries : Context) : Type 0 where
   pub wf : IsWellFormedContext entries
   pub lengths : length names ≡ length entries
   pub names_mean : MeanTheSame (free_in_command c) (names_behind done) g names entries
