@@ -56,3 +56,4 @@ pub mod Completing
 pub mod CheckedLists
 pub mod Checked
 pub mod Meanings
+pub mod TermsAlone
