@@ -57,3 +57,4 @@ pub mod CheckedLists
 pub mod Checked
 pub mod Meanings
 pub mod TermsAlone
+pub mod DividedPieces

@@ -8,3 +8,4 @@ pub mod Sight
 pub mod Reading
 pub mod Checked
 pub mod Entered
+pub mod OnePiece
