@@ -98,7 +98,7 @@ first_assoc : {A : Type 0} (a b c : Option A) → option_or a (option_or b c) �
 first_assoc None b c = refl
 first_assoc (Some x) b c = refl
 
-first_or_none : {A : Type 0} (a : Option A) → option_or a None ≡ a
+pub first_or_none : {A : Type 0} (a : Option A) → option_or a None ≡ a
 first_or_none None = refl
 first_or_none (Some x) = refl
 

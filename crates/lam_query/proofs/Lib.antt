@@ -58,3 +58,7 @@ pub mod Checked
 pub mod Meanings
 pub mod TermsAlone
 pub mod DividedPieces
+pub mod Elsewhere
+pub mod PieceInDocument
+pub mod PieceOfText
+pub mod ShownByPiece

@@ -1,9 +1,9 @@
 -- Where the terms of commands stand does not depend on what the commands see: so the place of an offset in the table of one command by itself is its place
 -- among the command's terms in a document.
-use Rattle.std.proofs.Common.{◌≡◌, ℕ, ◌+◌, true, false, List, [], ◌∷◌, ◌++◌, append-nil, map, cond, refl, ap, sym, ◌∙◌, Option, Some}
+use Rattle.std.proofs.Common.{◌≡◌, ℕ, ◌+◌, true, false, List, [], ◌∷◌, ◌++◌, append-nil, length, map, cond, refl, ap, sym, ◌∙◌, Option, Some}
 use Rattle.std.specs.List.{position, position_from}
 use Rattle.std.proofs.lemmas.Iterator.Adapters.{position_from-zero}
-use Rattle.std.proofs.lemmas.List.{map-append}
+use Rattle.std.proofs.lemmas.List.{map-append, length-map}
 use Rattle.lam_rules.specs.Terms.{unit_term, fix}
 use Rattle.lam_token.specs.declared.span.Span.{Span}
 use Rattle.lam_syntax.specs.Trees as tree
@@ -14,6 +14,7 @@ use Rattle.lam_scope.specs.Nameless.{nameless, abbreviations_after, names_after}
 use Rattle.lam_scope.specs.Places.{written, of_term, Scope}
 use Rattle.lam_scope.specs.PlacedTerms.{no_word, own_word, PlacedTree, placed, PlacedTrees, no_parts, part_first, one_part, two_parts, placed_at, term_of, letrec_function, placed_term, placed_parts, placed_fields, terms_in, terms_in_each, command_terms, scope_after, commands_terms, document_terms, tree_in}
 use Rattle.lam_scope.specs.Tables.{table, place_at, place_row_numbered}
+use Rattle.lam_scope.proofs.PlacedRows.{as_many_rows}
 use Rattle.lam_query.specs.Hovers.{has_byte}
 use Rattle.lam_query.proofs.RowsAndTerms.{span_told, row_at, get_or-told}
 
@@ -127,11 +128,12 @@ same_byte o (placed t ps) = refl
 bare_numbered : (ts : List PlacedTree) (n : ℕ) → tree_in (map bare ts) n ≡ bare (tree_in ts n)
 bare_numbered ts n = get_or-told bare ts n (tree_in [] 0)
 
-pub span_numbered_alone : (ts us : List PlacedTree) (n : ℕ) → map bare ts ≡ map bare us → (term_of (tree_in ts n)).span ≡ (term_of (tree_in us n)).span
-span_numbered_alone ts us n same =
-    sym (same_span (tree_in ts n))
-    ∙ ap (λ t. (term_of t).span) (sym (bare_numbered ts n) ∙ ap (λ vs. tree_in vs n) same ∙ bare_numbered us n)
-    ∙ same_span (tree_in us n)
+pub numbered_alone : (ts us : List PlacedTree) (n : ℕ) → map bare ts ≡ map bare us → bare (tree_in ts n) ≡ bare (tree_in us n)
+numbered_alone ts us n same = sym (bare_numbered ts n) ∙ ap (λ vs. tree_in vs n) same ∙ bare_numbered us n
+
+span_alone : (ts us : List PlacedTree) (n : ℕ) → map bare ts ≡ map bare us → (term_of (tree_in ts n)).span ≡ (term_of (tree_in us n)).span
+span_alone ts us n same =
+    sym (same_span (tree_in ts n)) ∙ ap (λ t. (term_of t).span) (numbered_alone ts us n same) ∙ same_span (tree_in us n)
 
 -- ---- the number of the first term that has a byte
 
@@ -168,8 +170,17 @@ command_place bs xs s c o = place_alone bs xs s (c ∷ []) o ∙ ap (number_at o
 pub row_alone : (bs : List Abbreviation) (xs : List (Option Name)) (s : Scope) (commands : List CommandTree) (n : ℕ)
     → (place_row_numbered (table commands) n).span ≡ (term_of (tree_in (commands_terms bs xs s commands) n)).span
 row_alone bs xs s commands n =
-    span_told commands n ∙ span_numbered_alone (document_terms commands) (commands_terms bs xs s commands) n (commands_alone [] bs [] xs [] s commands)
+    span_told commands n ∙ span_alone (document_terms commands) (commands_terms bs xs s commands) n (commands_alone [] bs [] xs [] s commands)
 
 pub command_row : (bs : List Abbreviation) (xs : List (Option Name)) (s : Scope) (c : CommandTree) (n : ℕ)
     → (place_row_numbered (table (c ∷ [])) n).span ≡ (term_of (tree_in (command_terms bs xs s c) n)).span
 command_row bs xs s c n = row_alone bs xs s (c ∷ []) n ∙ ap (λ ts. (term_of (tree_in ts n)).span) (append-nil (command_terms bs xs s c))
+
+-- and as many rows as the command has terms
+pub command_size : (bs : List Abbreviation) (xs : List (Option Name)) (s : Scope) (c : CommandTree)
+    → length (command_terms bs xs s c) ≡ length (table (c ∷ [])).places
+command_size bs xs s c =
+    let own = command_terms bs xs s c in
+    let alone = command_terms [] [] [] c in
+    sym (length-map own bare) ∙ ap length (command_alone bs [] xs [] s [] c) ∙ length-map alone bare
+    ∙ ap length (sym (append-nil alone)) ∙ sym (as_many_rows (c ∷ []))
