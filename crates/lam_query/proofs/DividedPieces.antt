@@ -1,7 +1,6 @@
 -- Tokens that are divided at semicolons: their pieces are those of the parts, and so are their commands.
 use Rattle.std.proofs.Common.{◌≡◌, ◌⊎◌, Bool, true, false, cond, List, [], ◌∷◌, ◌++◌, append-nil, filter, refl, sym, ap, subst, ◌∙◌, inl, inr}
 use Rattle.std.proofs.lemmas.List.Elements.{filter-append, All-from_recursion}
-use Rattle.lam_token.specs.declared.span.Span.{Span}
 use Rattle.lam_token.specs.Lexeme.{Lexeme}
 use Rattle.lam_syntax.specs.Trees.{word, CommandTree, definition, declaration, abbreviation, evaluation}
 use Rattle.lam_syntax.specs.Grammar.{Spells}
@@ -17,25 +16,23 @@ use Rattle.lam_query.proofs.TreePlaces.{InCommand}
 
 -- ---- pieces
 
--- the runs of tokens of which the last is a semicolon, and those of others behind them
-ended : (t : Lexeme) (ts : List Lexeme) → EndInSemicolon (t ∷ ts)
-    → (run : List Lexeme) × (runs : List (List Lexeme)) × ((more : List Lexeme) → runs_of (t ∷ (ts ++ more)) ≡ (run ∷ runs) ++ runs_of more)
+-- The runs of tokens and of others behind them: these runs, and then those of the others.
+abbrev AreRunsBefore : Lexeme → List Lexeme → Type 0
+AreRunsBefore t ts =
+    (run : List Lexeme) × (runs : List (List Lexeme)) × ((more : List Lexeme) → runs_of (t ∷ (ts ++ more)) ≡ (run ∷ runs) ++ runs_of more)
+
+-- there are such runs where the last token is a semicolon
+ended : (t : Lexeme) (ts : List Lexeme) → EndInSemicolon (t ∷ ts) → AreRunsBefore t ts
 ended t [] ends = ([], [], λ more. ap (λ b. cond b ([] ∷ runs_of more) (onto_first t (runs_of more))) ends)
 ended t (u ∷ ts) ends = by (ended u ts ends) (is_semicolon t) refl
   where
-    by : ((run : List Lexeme) × (runs : List (List Lexeme)) × ((more : List Lexeme) → runs_of (u ∷ (ts ++ more)) ≡ (run ∷ runs) ++ runs_of more))
-        → (b : Bool) → is_semicolon t ≡ b
-        → (run : List Lexeme) × (runs : List (List Lexeme)) × ((more : List Lexeme) → runs_of (t ∷ (u ∷ (ts ++ more))) ≡ (run ∷ runs) ++ runs_of more)
-    by rest true is = (
-      [],
-      rest.0 ∷ rest.1,
-      λ more. let others = runs_of (u ∷ (ts ++ more)) in ap (λ b. cond b ([] ∷ others) (onto_first t others)) is ∙ ap (λ rs. [] ∷ rs) (rest.2 more),
-    )
-    by rest false is = (
-      t ∷ rest.0,
-      rest.1,
-      λ more. let others = runs_of (u ∷ (ts ++ more)) in ap (λ b. cond b ([] ∷ others) (onto_first t others)) is ∙ ap (onto_first t) (rest.2 more),
-    )
+    here : (more : List Lexeme) {b : Bool} → is_semicolon t ≡ b
+        → runs_of (t ∷ (u ∷ (ts ++ more))) ≡ cond b ([] ∷ runs_of (u ∷ (ts ++ more))) (onto_first t (runs_of (u ∷ (ts ++ more))))
+    here more is = let others = runs_of (u ∷ (ts ++ more)) in ap (λ b. cond b ([] ∷ others) (onto_first t others)) is
+
+    by : AreRunsBefore u ts → (b : Bool) → is_semicolon t ≡ b → AreRunsBefore t (u ∷ ts)
+    by rest true is = ([], rest.0 ∷ rest.1, λ more. here more is ∙ ap (λ rs. [] ∷ rs) (rest.2 more))
+    by rest false is = (t ∷ rest.0, rest.1, λ more. here more is ∙ ap (onto_first t) (rest.2 more))
 
 pub pieces_joined : (front more : List Lexeme) → EndInSemicolon front → pieces_of (front ++ more) ≡ pieces_of front ++ pieces_of more
 pieces_joined [] more ends = refl
@@ -43,17 +40,20 @@ pieces_joined (t ∷ ts) more ends =
     let rest = ended t ts ends in
     let runs = rest.0 ∷ rest.1 in
     let alone : pieces_of (t ∷ ts) ≡ filter has_tokens runs =
-    ap pieces_of (sym (append-nil (t ∷ ts))) ∙ ap (filter has_tokens) (rest.2 []) ∙ filter-append has_tokens runs ([] ∷ []) ∙ append-nil (filter has_tokens runs) in
+    ap pieces_of (sym (append-nil (t ∷ ts))) ∙ ap (filter has_tokens) (rest.2 [])
+    ∙ filter-append has_tokens runs ([] ∷ []) ∙ append-nil (filter has_tokens runs) in
     ap (filter has_tokens) (rest.2 more) ∙ filter-append has_tokens runs (runs_of more) ∙ ap (λ ps. ps ++ pieces_of more) (sym alone)
 
 -- a semicolon in front is no part of a piece
 pub semicolon_passed : (t : Lexeme) (ts : List Lexeme) → is_semicolon t ≡ true → pieces_of (t ∷ ts) ≡ pieces_of ts
 semicolon_passed t ts ends = ap (λ b. filter has_tokens (cond b ([] ∷ runs_of ts) (onto_first t (runs_of ts)))) ends
 
-pub piece_first : (piece behind : List Lexeme) → HaveNoSemicolon piece → BeginWithSemicolon behind → pieces_of (piece ++ behind) ≡ with_piece piece (pieces_of behind)
+pub piece_first : (piece behind : List Lexeme) → HaveNoSemicolon piece → BeginWithSemicolon behind
+    → pieces_of (piece ++ behind) ≡ with_piece piece (pieces_of behind)
 piece_first piece [] none begins = ap pieces_of (append-nil piece) ∙ last_piece piece (All-from_recursion GoesOn piece none)
 piece_first piece (t ∷ behind) none begins =
-    piece_ended piece behind t (All-from_recursion GoesOn piece none) begins ∙ ap (with_piece piece) (sym (semicolon_passed t behind begins))
+    piece_ended piece behind t (All-from_recursion GoesOn piece none) begins
+    ∙ ap (with_piece piece) (sym (semicolon_passed t behind begins))
 
 -- ---- commands
 
@@ -85,7 +85,8 @@ own_first (t ∷ ts) ps _ after (no_command none) are = inr (none, are)
 pub own_commands : (piece : List Lexeme) → (own : List CommandTree) × IsOwnOf piece own
 own_commands piece = by (command_or_none piece)
   where
-    by : ((c : CommandTree) × IsCommandOf piece c) ⊎ ((c : CommandTree) → IsCommandOf piece c → ⊥) → (own : List CommandTree) × IsOwnOf piece own
+    by : ((c : CommandTree) × IsCommandOf piece c) ⊎ ((c : CommandTree) → IsCommandOf piece c → ⊥)
+        → (own : List CommandTree) × IsOwnOf piece own
     by (inl is) = (is.0 ∷ [], one_command is.1)
     by (inr none) = ([], no_command none)
 
@@ -104,9 +105,10 @@ commands_around front piece behind commands before own after ends none begins ar
 pub commands_divided : (front piece behind : List Lexeme) (commands own : List CommandTree)
     → EndInSemicolon front → HaveNoSemicolon piece → BeginWithSemicolon behind → IsOwnOf piece own
     → AreCommandsOf (pieces_of (front ++ (piece ++ behind))) commands
-    → (before : List CommandTree) × (after : List CommandTree) × AreCommandsOf (pieces_of front) before × AreCommandsOf (pieces_of behind) after
-    × (commands ≡ before ++ (own ++ after))
+    → (before : List CommandTree) × (after : List CommandTree)
+    × AreCommandsOf (pieces_of front) before × AreCommandsOf (pieces_of behind) after × (commands ≡ before ++ (own ++ after))
 commands_divided front piece behind commands own ends none begins is_own are =
     let before = some_commands (pieces_of front) in
     let after = some_commands (pieces_of behind) in
-    (before.0, after.0, before.1, after.1, commands_around front piece behind commands before.0 own after.0 ends none begins before.1 is_own after.1 are)
+    let same = commands_around front piece behind commands before.0 own after.0 ends none begins before.1 is_own after.1 are in
+    (before.0, after.0, before.1, after.1, same)

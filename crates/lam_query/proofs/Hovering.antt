@@ -30,14 +30,16 @@ place_inside cs o n at =
 
 -- from the least types of all places
 
-least_of : (cs : List CommandTree) (found : List (Option Typ)) (o n : ℕ) (d : Dialect) → AreLeast (places_in cs) found d → place_at (table cs) o ≡ Some n
+least_of : (cs : List CommandTree) (found : List (Option Typ)) (o n : ℕ) (d : Dialect)
+    → AreLeast (places_in cs) found d → place_at (table cs) o ≡ Some n
     → (let p = (term_of (tree_in (document_terms cs) n)).place in IsLeastAt p.scope p.here (get_or found n None) d)
 least_of cs found o n d least at =
     subst (λ (p : Place). IsLeastAt p.scope p.here (get_or found n None) d) (place_told cs n)
     (least_at (places_in cs) found n (term_of (tree_in [] 0)).place d (place_inside cs o n at) least)
 
-pub typed_there : (cs : List CommandTree) (found : List (Option Typ)) (o n : ℕ) (t : Typ) (d : Dialect) → IsSmall cs d → AreLeast (places_in cs) found d
-    → place_at (table cs) o ≡ Some n → get_or found n None ≡ Some t → IsTypedAround cs o (tree_in (document_terms cs) n) t d
+pub typed_there : (cs : List CommandTree) (found : List (Option Typ)) (o n : ℕ) (t : Typ) (d : Dialect)
+    → IsSmall cs d → AreLeast (places_in cs) found d → place_at (table cs) o ≡ Some n → get_or found n None ≡ Some t
+    → IsTypedAround cs o (tree_in (document_terms cs) n) t d
 typed_there cs found o n t d small least at is = record {
   small = small;
   innermost = innermost_row cs o n at;
@@ -64,7 +66,8 @@ pub typed_around : (cs : List CommandTree) (resolved : Resolved) (typing : Typin
     → AreFoundOf cs resolved typing d → place_at (table cs) o ≡ Some n → get_or (found_of typing) n None ≡ Some t
     → IsTypedAround cs o (tree_in (document_terms cs) n) t d
 typed_around cs resolved typing d o n t h at found =
-    typed_there cs (found_of typing) o n t d (is_small cs (found_of typing) d h.none_too_large h.typed.least h.typed.small) h.typed.least at found
+    let small = is_small cs (found_of typing) d h.none_too_large h.typed.least h.typed.small in
+    typed_there cs (found_of typing) o n t d small h.typed.least at found
 
 pub untyped_around : (cs : List CommandTree) (resolved : Resolved) (typing : Typing) (d : Dialect) (o n : ℕ)
     → AreFoundOf cs resolved typing d → place_at (table cs) o ≡ Some n → get_or (found_of typing) n None ≡ None → IsHover cs o None d

@@ -1,4 +1,4 @@
--- The innermost term at a byte of one piece is that of the piece's own command, and its number is the number of terms before, and its number there.
+-- The innermost term at a byte of one piece is that of the piece's own command; its number is that there and the number of the terms before.
 use Rattle.std.proofs.Common.{◌≡◌, ℕ, ◌+◌, Bool, true, false, cond, List, [], ◌∷◌, ◌++◌, length, Option, Some, None, refl, ap, sym, ◌∙◌, arith}
 use Rattle.std.specs.List.{find, position, position_from}
 use Rattle.std.specs.Option.{option_map, option_or}
@@ -55,8 +55,11 @@ module _ {A : Type 0} (f : A → Bool) where
   pub position_in_front : (xs ys : List A) → position f ys ≡ None → position f (xs ++ ys) ≡ position f xs
   position_in_front xs ys none =
       position_from-zero f (xs ++ ys)
-      ∙ none_last 0 xs ys (λ m. ap (λ k. position_from f k ys) (omega arith) ∙ steps_on m 0 ys ∙ ap (option_map (λ n. m + n)) (sym (position_from-zero f ys) ∙ none))
+      ∙ none_last 0 xs ys (λ m. ap (λ k. position_from f k ys) (omega arith) ∙ steps_on m 0 ys ∙ ap (option_map (λ n. m + n)) nowhere)
       ∙ sym (position_from-zero f xs)
+    where
+      nowhere : position_from f 0 ys ≡ None
+      nowhere = sym (position_from-zero f ys) ∙ none
 
 -- ---- how many terms there are with one command more
 
@@ -79,16 +82,21 @@ module _ (before : List CommandTree) (o : ℕ) (none_before : place_at (table be
   abbrev Seen : Scope
   Seen = scope_behind before
 
+  -- a number of a term behind theirs, by that among those behind
+  abbrev Further : ℕ → ℕ
+  Further n = length (document_terms before) + n
+
   none_there : number_at o (document_terms before) ≡ None
   none_there = sym (place_alone [] [] [] before o) ∙ none_before
 
-  pub number_behind : (more : List CommandTree) → number_at o (document_terms (before ++ more))
-      ≡ option_map (λ n. length (document_terms before) + n) (number_at o (commands_terms Types Names Seen more))
+  pub number_behind : (more : List CommandTree)
+      → number_at o (document_terms (before ++ more)) ≡ option_map Further (number_at o (commands_terms Types Names Seen more))
   number_behind more =
       ap (number_at o) (terms_append before more)
       ∙ position_behind (λ t. has_byte o (term_of t)) (document_terms before) (commands_terms Types Names Seen more) none_there
 
-  innermost_behind : (more : List CommandTree) → innermost_at o (document_terms (before ++ more)) ≡ innermost_at o (commands_terms Types Names Seen more)
+  innermost_behind : (more : List CommandTree)
+      → innermost_at o (document_terms (before ++ more)) ≡ innermost_at o (commands_terms Types Names Seen more)
   innermost_behind more =
       let f : PlacedTree → Bool = λ t. has_byte o (term_of t) in
       ap (innermost_at o) (terms_append before more)
@@ -98,9 +106,10 @@ module _ (before : List CommandTree) (o : ℕ) (none_before : place_at (table be
   -- and neither have the others: there is none
   pub number_nowhere : (after : List CommandTree) → place_at (table after) o ≡ None → number_at o (document_terms (before ++ after)) ≡ None
   number_nowhere after none =
-      number_behind after ∙ ap (option_map (λ n. length (document_terms before) + n)) (sym (place_alone Types Names Seen after o) ∙ none)
+      number_behind after ∙ ap (option_map Further) (sym (place_alone Types Names Seen after o) ∙ none)
 
-  pub innermost_none : (after : List CommandTree) → place_at (table after) o ≡ None → innermost_at o (document_terms (before ++ after)) ≡ None
+  pub innermost_none : (after : List CommandTree) → place_at (table after) o ≡ None
+      → innermost_at o (document_terms (before ++ after)) ≡ None
   innermost_none after none = found_nowhere (λ t. has_byte o (term_of t)) (document_terms (before ++ after)) (number_nowhere after none)
 
   pub none_between : (after : List CommandTree) → place_at (table after) o ≡ None → place_at (table (before ++ after)) o ≡ None
@@ -118,10 +127,10 @@ module _ (before : List CommandTree) (o : ℕ) (none_before : place_at (table be
         sym (place_alone (abbreviations_after Types c) (names_after Names c) (scope_after Types Names Seen c) after o) ∙ none_after
 
     -- but for one between: it is the one of that command
-    pub number_between : number_at o (document_terms (before ++ c ∷ after)) ≡ option_map (λ n. length (document_terms before) + n) (number_at o Own)
+    pub number_between : number_at o (document_terms (before ++ c ∷ after)) ≡ option_map Further (number_at o Own)
     number_between =
         number_behind (c ∷ after)
-        ∙ ap (option_map (λ n. length (document_terms before) + n)) (position_in_front (λ t. has_byte o (term_of t)) Own Others none_in_others)
+        ∙ ap (option_map Further) (position_in_front (λ t. has_byte o (term_of t)) Own Others none_in_others)
 
     pub innermost_between : innermost_at o (document_terms (before ++ c ∷ after)) ≡ innermost_at o Own
     innermost_between =
@@ -132,8 +141,8 @@ module _ (before : List CommandTree) (o : ℕ) (none_before : place_at (table be
         ∙ first_or_none (find f Own)
 
     -- the place of the offset in the command's own table, further on by the number of the terms before
-    pub place_between : place_at (table (before ++ c ∷ after)) o ≡ option_map (λ n. length (document_terms before) + n) (place_at (table (c ∷ [])) o)
+    pub place_between : place_at (table (before ++ c ∷ after)) o ≡ option_map Further (place_at (table (c ∷ [])) o)
     place_between =
         place_alone [] [] [] (before ++ c ∷ after) o
         ∙ number_between
-        ∙ ap (option_map (λ n. length (document_terms before) + n)) (sym (command_place Types Names Seen c o))
+        ∙ ap (option_map Further) (sym (command_place Types Names Seen c o))

@@ -1,6 +1,6 @@
--- Where the terms of commands stand does not depend on what the commands see: so the place of an offset in the table of one command by itself is its place
--- among the command's terms in a document.
-use Rattle.std.proofs.Common.{◌≡◌, ℕ, ◌+◌, true, false, List, [], ◌∷◌, ◌++◌, append-nil, length, map, cond, refl, ap, sym, ◌∙◌, Option, Some}
+-- Where the terms of commands stand does not depend on what the commands see: so the place of an offset in the table of one command
+-- by itself is its place among the command's terms in a document.
+use Rattle.std.proofs.Common.{◌≡◌, ℕ, ◌+◌, Bool, true, false, List, [], ◌∷◌, ◌++◌, append-nil, length, map, cond, refl, ap, sym, ◌∙◌, Option, Some}
 use Rattle.std.specs.List.{position, position_from}
 use Rattle.std.proofs.lemmas.Iterator.Adapters.{position_from-zero}
 use Rattle.std.proofs.lemmas.List.{map-append, length-map}
@@ -38,7 +38,8 @@ module _ (bs cs : List Abbreviation) where
     same_term : (xs ys : List (Option Name)) (s r : Scope) (t : TermTree) → bare (placed_term bs xs s t) ≡ bare (placed_term cs ys r t)
     same_term xs ys s r (term_tree q n) = ap (placed_at q (own_word n) true [] [] unit_term) (same_parts xs ys s r n)
 
-    same_parts : (xs ys : List (Option Name)) (s r : Scope) (n : TermNode) → bare_parts (placed_parts bs xs s n) ≡ bare_parts (placed_parts cs ys r n)
+    same_parts : (xs ys : List (Option Name)) (s r : Scope) (n : TermNode)
+        → bare_parts (placed_parts bs xs s n) ≡ bare_parts (placed_parts cs ys r n)
     same_parts xs ys s r tree.true_term = refl
     same_parts xs ys s r tree.false_term = refl
     same_parts xs ys s r tree.unit_term = refl
@@ -71,7 +72,8 @@ module _ (bs cs : List Abbreviation) where
     same_parts xs ys s r (tree.ascribe t u) = ap one_part (same_term xs ys s r t)
     same_parts xs ys s r (tree.record_term fs) = same_fields xs ys s r fs
 
-    same_fields : (xs ys : List (Option Name)) (s r : Scope) (fs : tree.FieldTrees) → bare_parts (placed_fields bs xs s fs) ≡ bare_parts (placed_fields cs ys r fs)
+    same_fields : (xs ys : List (Option Name)) (s r : Scope) (fs : tree.FieldTrees)
+        → bare_parts (placed_fields bs xs s fs) ≡ bare_parts (placed_fields cs ys r fs)
     same_fields xs ys s r tree.no_fields = refl
     same_fields xs ys s r (tree.field l t fs) =
         let one = same_term xs ys s r t in
@@ -82,7 +84,8 @@ module _ (bs cs : List Abbreviation) where
 
 mutual
   terms_bare : (p : PlacedTree) → map bare (terms_in p) ≡ terms_in (bare p)
-  terms_bare (placed t ps) = map-append bare (terms_in_each ps) (placed t ps ∷ []) ∙ ap (λ ts. ts ++ bare (placed t ps) ∷ []) (parts_bare ps)
+  terms_bare (placed t ps) =
+      map-append bare (terms_in_each ps) (placed t ps ∷ []) ∙ ap (λ ts. ts ++ bare (placed t ps) ∷ []) (parts_bare ps)
 
   parts_bare : (ps : PlacedTrees) → map bare (terms_in_each ps) ≡ terms_in_each (bare_parts ps)
   parts_bare no_parts = refl
@@ -140,7 +143,8 @@ span_alone ts us n same =
 abbrev pub number_at : ℕ → List PlacedTree → Option ℕ
 number_at o ts = position (λ t. has_byte o (term_of t)) ts
 
-bare_from : (o n : ℕ) (ts : List PlacedTree) → position_from (λ t. has_byte o (term_of t)) n (map bare ts) ≡ position_from (λ t. has_byte o (term_of t)) n ts
+bare_from : (o n : ℕ) (ts : List PlacedTree)
+    → position_from (λ t. has_byte o (term_of t)) n (map bare ts) ≡ position_from (λ t. has_byte o (term_of t)) n ts
 bare_from o n [] = refl
 bare_from o n (t ∷ ts) =
     let here = same_byte o t in
@@ -149,7 +153,8 @@ bare_from o n (t ∷ ts) =
 
 bare_number : (o : ℕ) (ts : List PlacedTree) → number_at o (map bare ts) ≡ number_at o ts
 bare_number o ts =
-    position_from-zero (λ t. has_byte o (term_of t)) (map bare ts) ∙ bare_from o 0 ts ∙ sym (position_from-zero (λ t. has_byte o (term_of t)) ts)
+    let f : PlacedTree → Bool = λ t. has_byte o (term_of t) in
+    position_from-zero f (map bare ts) ∙ bare_from o 0 ts ∙ sym (position_from-zero f ts)
 
 pub number_alone : (o : ℕ) (ts us : List PlacedTree) → map bare ts ≡ map bare us → number_at o ts ≡ number_at o us
 number_alone o ts us same = sym (bare_number o ts) ∙ ap (number_at o) same ∙ bare_number o us
@@ -160,7 +165,8 @@ number_alone o ts us same = sym (bare_number o ts) ∙ ap (number_at o) same ∙
 pub place_alone : (bs : List Abbreviation) (xs : List (Option Name)) (s : Scope) (commands : List CommandTree) (o : ℕ)
     → place_at (table commands) o ≡ number_at o (commands_terms bs xs s commands)
 place_alone bs xs s commands o =
-    row_at commands o ∙ number_alone o (document_terms commands) (commands_terms bs xs s commands) (commands_alone [] bs [] xs [] s commands)
+    row_at commands o
+    ∙ number_alone o (document_terms commands) (commands_terms bs xs s commands) (commands_alone [] bs [] xs [] s commands)
 
 pub command_place : (bs : List Abbreviation) (xs : List (Option Name)) (s : Scope) (c : CommandTree) (o : ℕ)
     → place_at (table (c ∷ [])) o ≡ number_at o (command_terms bs xs s c)
@@ -170,7 +176,8 @@ command_place bs xs s c o = place_alone bs xs s (c ∷ []) o ∙ ap (number_at o
 pub row_alone : (bs : List Abbreviation) (xs : List (Option Name)) (s : Scope) (commands : List CommandTree) (n : ℕ)
     → (place_row_numbered (table commands) n).span ≡ (term_of (tree_in (commands_terms bs xs s commands) n)).span
 row_alone bs xs s commands n =
-    span_told commands n ∙ span_alone (document_terms commands) (commands_terms bs xs s commands) n (commands_alone [] bs [] xs [] s commands)
+    span_told commands n
+    ∙ span_alone (document_terms commands) (commands_terms bs xs s commands) n (commands_alone [] bs [] xs [] s commands)
 
 pub command_row : (bs : List Abbreviation) (xs : List (Option Name)) (s : Scope) (c : CommandTree) (n : ℕ)
     → (place_row_numbered (table (c ∷ [])) n).span ≡ (term_of (tree_in (command_terms bs xs s c) n)).span

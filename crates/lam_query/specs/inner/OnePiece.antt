@@ -34,14 +34,15 @@ pub data IsOwnOf (tokens : List Lexeme) : List CommandTree → Type 0 where
   one_command : {c : CommandTree} → IsCommandOf tokens c → IsOwnOf tokens (c ∷ [])
   no_command : ((c : CommandTree) → IsCommandOf tokens c → ⊥) → IsOwnOf tokens []
 
--- The piece that begins at a byte offset has these tokens, and at its end a semicolon behind them; or these alone, where nothing is left of the text.
+-- The piece that begins at a byte offset has these tokens, and at its end a semicolon behind them; or, where nothing is left of the text,
+-- these alone.
 pub data ArePieceTokens (start : ℕ) (piece rest : List ℕ) (tokens : List Lexeme) : Type 0 where
   before_semicolon : (t : Lexeme) → AreTokensFrom start piece (tokens ++ t ∷ []) → kind_of t ≡ Semicolon → end_of t ≡ start + length piece
       → ArePieceTokens start piece rest tokens
   at_end : AreTokensFrom start piece tokens → rest ≡ [] → ArePieceTokens start piece rest tokens
 
--- A text is what stands in front of a piece, the piece, and the rest. What stands in front is nothing, or ends with a semicolon; so does the piece, or nothing is
--- left, and it has no other semicolon.
+-- A text is what stands in front of a piece, the piece, and the rest. What stands in front is nothing, or ends with a semicolon; so does
+-- the piece, or nothing is left, and it has no other semicolon.
 pub record IsPieceOf (whole ahead piece rest : List ℕ) (tokens : List Lexeme) : Type 0 where
   pub divides : whole ≡ ahead ++ (piece ++ rest)
   pub is_front : IsUtf8 ahead
@@ -57,13 +58,15 @@ pub record IsOffsetIn (offset : ℕ) (ahead piece rest : List ℕ) : Type 0 wher
   pub from_its_start : length ahead ≤ offset
   pub to_its_end : (offset < length ahead + length piece) ⊎ (rest ≡ [])
 
--- What is shown of an offset by its piece alone, if so many terms stand before it and this was found of the types of all terms: the type of the innermost term
--- round the offset in the piece's command, by its number among all. Nothing where the piece is no command, or has no term there, or that has no type.
+-- What is shown of an offset by its piece alone, if so many terms stand before it and this was found of the types of all terms: the type
+-- of the innermost term round the offset in the piece's command, by its number among all. Nothing where the piece is no command, or has no
+-- term there, or that has no type.
 pub data IsShownByPiece (tokens : List Lexeme) (before : ℕ) (found : List (Option Typ)) (offset : ℕ) : Option Shown → Type 0 where
   by_no_command : ((c : CommandTree) → IsCommandOf tokens c → ⊥) → IsShownByPiece tokens before found offset None
-  by_no_term : {c : CommandTree} → IsCommandOf tokens c → place_at (table (c ∷ [])) offset ≡ None → IsShownByPiece tokens before found offset None
-  by_no_type : {c : CommandTree} {n : ℕ} → IsCommandOf tokens c → place_at (table (c ∷ [])) offset ≡ Some n → get_or found (before + n) None ≡ None
+  by_no_term : {c : CommandTree} → IsCommandOf tokens c → place_at (table (c ∷ [])) offset ≡ None
       → IsShownByPiece tokens before found offset None
+  by_no_type : {c : CommandTree} {n : ℕ} → IsCommandOf tokens c → place_at (table (c ∷ [])) offset ≡ Some n
+      → get_or found (before + n) None ≡ None → IsShownByPiece tokens before found offset None
   by_type : {c : CommandTree} {n : ℕ} {type : Typ} {shown : Shown} → IsCommandOf tokens c → place_at (table (c ∷ [])) offset ≡ Some n
       → get_or found (before + n) None ≡ Some type → shown.text ≡ text type → shown.span ≡ (place_row_numbered (table (c ∷ [])) n).span
       → IsShownByPiece tokens before found offset (Some shown)
