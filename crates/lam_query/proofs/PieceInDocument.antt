@@ -1,4 +1,4 @@
--- The innermost term at a byte of one piece is that of the piece's own command; its number is that there and the number of the terms before.
+-- The innermost term at a byte of one piece is that of the piece's own command; the terms before it are added to its number there.
 use Rattle.std.proofs.Common.{◌≡◌, ℕ, ◌+◌, Bool, true, false, cond, List, [], ◌∷◌, ◌++◌, length, Option, Some, None, refl, ap, sym, ◌∙◌, arith}
 use Rattle.std.specs.List.{find, position, position_from}
 use Rattle.std.specs.Option.{option_map, option_or}
