@@ -53,3 +53,12 @@ pub mod ReadAround
 pub mod Projected
 pub mod CompletionLaws
 pub mod Completing
+pub mod CheckedLists
+pub mod Checked
+pub mod Meanings
+pub mod TermsAlone
+pub mod DividedPieces
+pub mod Elsewhere
+pub mod PieceInDocument
+pub mod PieceOfText
+pub mod ShownByPiece

@@ -142,6 +142,9 @@ command_or_not : (ts : List Lexeme) → IsTaken ts ⊎ (IsTaken ts → ⊥) → 
 command_or_not ts (inl taken) = spelled_or_not ts taken (some_answer ts)
 command_or_not ts (inr untaken) = inr (λ c is. untaken is.taken)
 
+pub command_or_none : (ts : List Lexeme) → ((c : CommandTree) × IsCommandOf ts c) ⊎ ((c : CommandTree) → IsCommandOf ts c → ⊥)
+command_or_none ts = command_or_not ts (taken_or_not ts (has_bad ts) refl (cases_lt token_limit (length ts)))
+
 commands_more : (p : List Lexeme) (ps : List (List Lexeme)) (cs : List CommandTree) → ((c : CommandTree) × IsCommandOf p c) ⊎ ((c : CommandTree) → IsCommandOf p c → ⊥) → AreCommandsOf ps cs
     → (all : List CommandTree) × AreCommandsOf (p ∷ ps) all
 commands_more p ps cs (inl is) rest = (is.0 ∷ cs, inl (is.0, cs, refl, is.1, rest))
@@ -151,4 +154,4 @@ pub some_commands : (ps : List (List Lexeme)) → (cs : List CommandTree) × Are
 some_commands [] = ([], refl)
 some_commands (p ∷ ps) =
     let rest = some_commands ps in
-    commands_more p ps rest.0 (command_or_not p (taken_or_not p (has_bad p) refl (cases_lt token_limit (length p)))) rest.1
+    commands_more p ps rest.0 (command_or_none p) rest.1

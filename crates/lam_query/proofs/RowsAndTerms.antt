@@ -32,7 +32,7 @@ use Rattle.lam_query.specs.inner.RowSteps.{premise_places, row_proof, row_proofs
 pub span_told : (cs : List CommandTree) (n : ℕ) → (place_row_numbered (table cs) n).span ≡ span_numbered cs n
 span_told cs n = (row_told cs n).span
 
-get_or-told : {A B : Type 0} (f : A → B) (xs : List A) (n : ℕ) (d : A) → get_or (map f xs) n (f d) ≡ f (get_or xs n d)
+pub get_or-told : {A B : Type 0} (f : A → B) (xs : List A) (n : ℕ) (d : A) → get_or (map f xs) n (f d) ≡ f (get_or xs n d)
 get_or-told f [] n d = refl
 get_or-told f (x ∷ xs) zero d = refl
 get_or-told f (x ∷ xs) (suc n) d = get_or-told f xs n d
@@ -73,7 +73,7 @@ same_first t all o (p ∷ ps) (own ∷ ts) h =
 same_first t all o [] (own ∷ ts) h = absurd h
 same_first t all o (p ∷ ps) [] h = absurd h
 
-row_at : (cs : List CommandTree) (o : ℕ) → place_at (table cs) o ≡ position (λ t. has_byte o (term_of t)) (document_terms cs)
+pub row_at : (cs : List CommandTree) (o : ℕ) → place_at (table cs) o ≡ position (λ t. has_byte o (term_of t)) (document_terms cs)
 row_at cs o =
     let first = same_first (table cs) (document_terms cs) o (table cs).places (document_terms cs) (document_rows cs) in
     let size = as_many_rows cs in
@@ -87,14 +87,14 @@ first_is_none : (b : Bool) (m : ℕ) → cond b (Some m) None ≡ None → b ≡
 first_is_none true m e = absurd cc
 first_is_none false m e = refl
 
-found_at : {A : Type 0} (f : A → Bool) (xs : List A) (n : ℕ) (d : A) → position f xs ≡ Some n → find f xs ≡ Some (get_or xs n d)
+pub found_at : {A : Type 0} (f : A → Bool) (xs : List A) (n : ℕ) (d : A) → position f xs ≡ Some n → find f xs ≡ Some (get_or xs n d)
 found_at f xs n d at =
     let within = (position-Some f xs n d at).0 in
     find_at f xs
     ∙ ap (slice_get xs) (first_is (ltb (position_or_len f xs) (length xs)) (position_or_len f xs) n at)
     ∙ slice_get-get_or xs n d within
 
-found_nowhere : {A : Type 0} (f : A → Bool) (xs : List A) → position f xs ≡ None → find f xs ≡ None
+pub found_nowhere : {A : Type 0} (f : A → Bool) (xs : List A) → position f xs ≡ None → find f xs ≡ None
 found_nowhere f xs at =
     find_at f xs ∙ slice_get_past xs (position_or_len f xs) (ltb-false (position_or_len f xs) (length xs) (first_is_none (ltb (position_or_len f xs) (length xs)) (position_or_len f xs) at))
 

@@ -13,7 +13,7 @@ use Rattle.lam_query.proofs.TreePlaces.{InCommands}
 use Rattle.lam_query.proofs.Pieces.{InPieces, pieces_in}
 use Rattle.lam_query.proofs.Spans.{AtPlace, InTokens, Spreads, in_command}
 
-in_commands : (Q : Span → Type 0) → Spreads Q → (ps : List (List Lexeme)) (cs : List CommandTree) → InPieces (AtPlace Q) ps → AreCommandsOf ps cs → InCommands Q cs
+pub in_commands : (Q : Span → Type 0) → Spreads Q → (ps : List (List Lexeme)) (cs : List CommandTree) → InPieces (AtPlace Q) ps → AreCommandsOf ps cs → InCommands Q cs
 in_commands Q w [] cs h are = rw are tt
 in_commands Q w (p ∷ ps) cs h (inl are) = rw are.2 (in_command Q w p are.0 are.3.spelled h.0, in_commands Q w ps are.1 h.1 are.4)
 in_commands Q w (p ∷ ps) cs h (inr are) = in_commands Q w ps cs h.1 are.1

@@ -122,7 +122,7 @@ in_command_rows Q types names n k i (declaration (word x r) u) h = in_tables Q (
 in_command_rows Q types names n k i (abbreviation (word x r) u) h = in_tables Q (binder_row (Some x) r types n TypeName) (type_uses types u) tt (in_type_rows Q types u)
 in_command_rows Q types names n k i (evaluation t) h = in_term_rows Q types names n k t h
 
-in_commands_rows : (Q : Span → Type 0) (types names : List Entry) (n k i : ℕ) (cs : List CommandTree) → InCommands Q cs → InRows Q (commands_table types names n k i cs).places
+pub in_commands_rows : (Q : Span → Type 0) (types names : List Entry) (n k i : ℕ) (cs : List CommandTree) → InCommands Q cs → InRows Q (commands_table types names n k i cs).places
 in_commands_rows Q types names n k i [] h = tt
 in_commands_rows Q types names n k i (c ∷ cs) h =
     in_tables Q (command_table types names n k i c)

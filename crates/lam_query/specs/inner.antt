@@ -6,3 +6,6 @@ pub mod Listed
 pub mod FieldItems
 pub mod Sight
 pub mod Reading
+pub mod Checked
+pub mod Entered
+pub mod OnePiece

@@ -107,7 +107,7 @@ mutual
   fields_told bs xs s (tree.field (word l q) t fs) =
       told_both (places s (nameless bs xs t)) (field_places s (nameless_fields bs xs fs)) (terms_in (placed_term bs xs s t)) (terms_in_each (placed_fields bs xs s fs)) (term_told bs xs s t) (fields_told bs xs s fs)
 
-commands_told : (bs : List Abbreviation) (xs : List (Option Name)) (s : Scope) (cs : List CommandTree) → places_of s (statements bs xs cs) ≡ places_told (commands_terms bs xs s cs)
+pub commands_told : (bs : List Abbreviation) (xs : List (Option Name)) (s : Scope) (cs : List CommandTree) → places_of s (statements bs xs cs) ≡ places_told (commands_terms bs xs s cs)
 commands_told bs xs s [] = refl
 commands_told bs xs s (definition (word x r) t ∷ cs) =
     let e = nameless bs xs t in

@@ -20,7 +20,7 @@ use Rattle.lam_typing.proofs.LeastIn.{lowest}
 use Rattle.lam_typing.proofs.Growing.{length-answers}
 use Rattle.lam_typing.proofs.Together.{least_length}
 
-first_behind : (ps qs : List Place) (os : List (Option Typ)) (q : Place) (d : Dialect) → AreLeast ps os d → AreSmall os → IsTooLarge q d → IsFirstTooLarge (ps ++ q ∷ qs) (length os) d
+pub first_behind : (ps qs : List Place) (os : List (Option Typ)) (q : Place) (d : Dialect) → AreLeast ps os d → AreSmall os → IsTooLarge q d → IsFirstTooLarge (ps ++ q ∷ qs) (length os) d
 first_behind [] qs [] q d least small large = large
 first_behind (p ∷ ps) qs (o ∷ os) q d least small large = (o, least.0, small.0, first_behind ps qs os q d least.1 small.1 large)
 first_behind [] qs (o ∷ os) q d least small large = absurd least

@@ -38,3 +38,4 @@ pub mod MovedBlames
 pub mod KeptForms
 pub mod InternedParts
 pub mod Checking
+pub mod AlikeStatements

@@ -5,6 +5,8 @@ pub mod Narrowing
 pub mod WellTyped
 pub mod Analysis
 pub mod Progress
+pub mod Binds
+pub mod WrittenScopes
 pub mod Answers
 pub mod Walk
 pub mod Entries

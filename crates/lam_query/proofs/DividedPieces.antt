@@ -1,0 +1,114 @@
+-- Tokens that are divided at semicolons: their pieces are those of the parts, and so are their commands.
+use Rattle.std.proofs.Common.{◌≡◌, ◌⊎◌, Bool, true, false, cond, List, [], ◌∷◌, ◌++◌, append-nil, filter, refl, sym, ap, subst, ◌∙◌, inl, inr}
+use Rattle.std.proofs.lemmas.List.Elements.{filter-append, All-from_recursion}
+use Rattle.lam_token.specs.Lexeme.{Lexeme}
+use Rattle.lam_syntax.specs.Trees.{word, CommandTree, definition, declaration, abbreviation, evaluation}
+use Rattle.lam_syntax.specs.Grammar.{Spells}
+use Rattle.lam_syntax.specs.Answers.{is_semicolon, onto_first, runs_of, has_tokens, pieces_of}
+use Rattle.lam_syntax.specs.inner.Reads.{with_piece}
+use Rattle.lam_syntax.proofs.Runs.{GoesOn, piece_ended, last_piece}
+use Rattle.lam_query.specs.Commands.{IsCommandOf, AreCommandsOf}
+use Rattle.lam_query.specs.inner.OnePiece.{EndInSemicolon, BeginWithSemicolon, HaveNoSemicolon, IsOwnOf, one_command, no_command}
+use Rattle.lam_query.proofs.OneAnswer.{one_commands}
+use Rattle.lam_query.proofs.PieceLaws.{some_commands, command_or_none}
+use Rattle.lam_query.proofs.Spans.{term_place, in_command}
+use Rattle.lam_query.proofs.TreePlaces.{InCommand}
+
+-- ---- pieces
+
+-- The runs of tokens and of others behind them: these runs, and then those of the others.
+abbrev AreRunsBefore : Lexeme → List Lexeme → Type 0
+AreRunsBefore t ts =
+    (run : List Lexeme) × (runs : List (List Lexeme)) × ((more : List Lexeme) → runs_of (t ∷ (ts ++ more)) ≡ (run ∷ runs) ++ runs_of more)
+
+-- there are such runs where the last token is a semicolon
+ended : (t : Lexeme) (ts : List Lexeme) → EndInSemicolon (t ∷ ts) → AreRunsBefore t ts
+ended t [] ends = ([], [], λ more. ap (λ b. cond b ([] ∷ runs_of more) (onto_first t (runs_of more))) ends)
+ended t (u ∷ ts) ends = by (ended u ts ends) (is_semicolon t) refl
+  where
+    here : (more : List Lexeme) {b : Bool} → is_semicolon t ≡ b
+        → runs_of (t ∷ (u ∷ (ts ++ more))) ≡ cond b ([] ∷ runs_of (u ∷ (ts ++ more))) (onto_first t (runs_of (u ∷ (ts ++ more))))
+    here more is = let others = runs_of (u ∷ (ts ++ more)) in ap (λ b. cond b ([] ∷ others) (onto_first t others)) is
+
+    by : AreRunsBefore u ts → (b : Bool) → is_semicolon t ≡ b → AreRunsBefore t (u ∷ ts)
+    by rest true is = ([], rest.0 ∷ rest.1, λ more. here more is ∙ ap (λ rs. [] ∷ rs) (rest.2 more))
+    by rest false is = (t ∷ rest.0, rest.1, λ more. here more is ∙ ap (onto_first t) (rest.2 more))
+
+pub pieces_joined : (front more : List Lexeme) → EndInSemicolon front → pieces_of (front ++ more) ≡ pieces_of front ++ pieces_of more
+pieces_joined [] more ends = refl
+pieces_joined (t ∷ ts) more ends =
+    let rest = ended t ts ends in
+    let runs = rest.0 ∷ rest.1 in
+    let alone : pieces_of (t ∷ ts) ≡ filter has_tokens runs =
+    ap pieces_of (sym (append-nil (t ∷ ts))) ∙ ap (filter has_tokens) (rest.2 [])
+    ∙ filter-append has_tokens runs ([] ∷ []) ∙ append-nil (filter has_tokens runs) in
+    ap (filter has_tokens) (rest.2 more) ∙ filter-append has_tokens runs (runs_of more) ∙ ap (λ ps. ps ++ pieces_of more) (sym alone)
+
+-- a semicolon in front is no part of a piece
+pub semicolon_passed : (t : Lexeme) (ts : List Lexeme) → is_semicolon t ≡ true → pieces_of (t ∷ ts) ≡ pieces_of ts
+semicolon_passed t ts ends = ap (λ b. filter has_tokens (cond b ([] ∷ runs_of ts) (onto_first t (runs_of ts)))) ends
+
+pub piece_first : (piece behind : List Lexeme) → HaveNoSemicolon piece → BeginWithSemicolon behind
+    → pieces_of (piece ++ behind) ≡ with_piece piece (pieces_of behind)
+piece_first piece [] none begins = ap pieces_of (append-nil piece) ∙ last_piece piece (All-from_recursion GoesOn piece none)
+piece_first piece (t ∷ behind) none begins =
+    piece_ended piece behind t (All-from_recursion GoesOn piece none) begins
+    ∙ ap (with_piece piece) (sym (semicolon_passed t behind begins))
+
+-- ---- commands
+
+pub commands_joined : (ps qs : List (List Lexeme)) (before after : List CommandTree) → AreCommandsOf ps before → AreCommandsOf qs after
+    → AreCommandsOf (ps ++ qs) (before ++ after)
+commands_joined [] qs before after are rest = subst (λ cs. AreCommandsOf qs (cs ++ after)) (sym are) rest
+commands_joined (p ∷ ps) qs before after (inl are) rest =
+    inl (are.0, are.1 ++ after, ap (λ cs. cs ++ after) are.2, are.3, commands_joined ps qs are.1 after are.4 rest)
+commands_joined (p ∷ ps) qs before after (inr are) rest = inr (are.0, commands_joined ps qs before after are.1 rest)
+
+-- no tokens are no command
+
+placed_nowhere : (c : CommandTree) → InCommand (λ s. ⊥) c → ⊥
+placed_nowhere (definition (word x s) t) h = h.0
+placed_nowhere (declaration (word x s) u) h = h.0
+placed_nowhere (abbreviation (word x s) u) h = h.0
+placed_nowhere (evaluation t) h = term_place (λ s. ⊥) t h
+
+nothing_spelled : (c : CommandTree) → Spells [] c → ⊥
+nothing_spelled c spelled = placed_nowhere c (in_command (λ s. ⊥) (λ a b none also. none) [] c spelled tt)
+
+pub own_first : (piece : List Lexeme) (ps : List (List Lexeme)) (own after : List CommandTree) → IsOwnOf piece own → AreCommandsOf ps after
+    → AreCommandsOf (with_piece piece ps) (own ++ after)
+own_first [] ps _ after (one_command {c = c} is) are = absurd (nothing_spelled c is.spelled)
+own_first [] ps _ after (no_command none) are = are
+own_first (t ∷ ts) ps _ after (one_command {c = c} is) are = inl (c, after, refl, is, are)
+own_first (t ∷ ts) ps _ after (no_command none) are = inr (none, are)
+
+pub own_commands : (piece : List Lexeme) → (own : List CommandTree) × IsOwnOf piece own
+own_commands piece = by (command_or_none piece)
+  where
+    by : ((c : CommandTree) × IsCommandOf piece c) ⊎ ((c : CommandTree) → IsCommandOf piece c → ⊥)
+        → (own : List CommandTree) × IsOwnOf piece own
+    by (inl is) = (is.0 ∷ [], one_command is.1)
+    by (inr none) = ([], no_command none)
+
+-- the commands of tokens in front of a piece, its own and those behind it are all
+pub commands_around : (front piece behind : List Lexeme) (commands before own after : List CommandTree)
+    → EndInSemicolon front → HaveNoSemicolon piece → BeginWithSemicolon behind
+    → AreCommandsOf (pieces_of front) before → IsOwnOf piece own → AreCommandsOf (pieces_of behind) after
+    → AreCommandsOf (pieces_of (front ++ (piece ++ behind))) commands → commands ≡ before ++ (own ++ after)
+commands_around front piece behind commands before own after ends none begins are_before is_own are_after are =
+    let cut = pieces_joined front (piece ++ behind) ends ∙ ap (λ ps. pieces_of front ++ ps) (piece_first piece behind none begins) in
+    let ps = pieces_of front ++ with_piece piece (pieces_of behind) in
+    let joined = commands_joined (pieces_of front) (with_piece piece (pieces_of behind)) before (own ++ after) are_before
+    (own_first piece (pieces_of behind) own after is_own are_after) in
+    one_commands ps commands (before ++ (own ++ after)) (subst (λ qs. AreCommandsOf qs commands) cut are) joined
+
+pub commands_divided : (front piece behind : List Lexeme) (commands own : List CommandTree)
+    → EndInSemicolon front → HaveNoSemicolon piece → BeginWithSemicolon behind → IsOwnOf piece own
+    → AreCommandsOf (pieces_of (front ++ (piece ++ behind))) commands
+    → (before : List CommandTree) × (after : List CommandTree)
+    × AreCommandsOf (pieces_of front) before × AreCommandsOf (pieces_of behind) after × (commands ≡ before ++ (own ++ after))
+commands_divided front piece behind commands own ends none begins is_own are =
+    let before = some_commands (pieces_of front) in
+    let after = some_commands (pieces_of behind) in
+    let same = commands_around front piece behind commands before.0 own after.0 ends none begins before.1 is_own after.1 are in
+    (before.0, after.0, before.1, after.1, same)
