@@ -9,7 +9,7 @@ use Rattle.lam_rules.specs.contracts.table.TyTable as tables
 use Rattle.lam_scope.specs.Places.{Scope, Statement, places_of}
 use Rattle.lam_sub.specs.Remembered.{AreRight}
 use Rattle.lam_typing.specs.Answers.{answer, answers, StandsWhereFound, AllStandIn}
-use Rattle.lam_typing.specs.Entries.{IsEntryBound}
+use Rattle.lam_typing.specs.Binds.{BindsEntry}
 use Rattle.lam_typing.specs.Progress.{IsLowest, Shown, next_is_too_large, ShownFront}
 use Rattle.lam_typing.specs.Walk.{blames_of}
 use Rattle.lam_typing.specs.declared.checker.TypeChecker.{TypeChecker}
@@ -44,6 +44,6 @@ LendsTypes c t = Lends checkers.the_row tables.the_row c t (with_types c.now)
 pub record IsChecked (ts : List Typ) (g : Context) (statement : Statement) (c : Checked) (d : Dialect) : Type 0 where
   pub stand : AllStandIn ts c.types.items
   pub entry_stands : StandsWhereFound ts c.entry
-  pub entry : IsTrue c.complete → (s : Scope) → IsLowest s g d → IsEntryBound s statement (answer ts c.entry) d
+  pub entry : IsTrue c.complete → (s : Scope) → IsLowest s g d → BindsEntry s statement (answer ts c.entry) d
   pub all : IsTrue c.complete → (s : Scope) → IsLowest s g d → Shown (places_of s (statement ∷ [])) 0 (answers ts c.types.items) (blames_of c.blames.items) d
   pub front : IsFalse c.complete → (s : Scope) → IsLowest s g d → ShownFront (places_of s (statement ∷ [])) 0 (answers ts c.types.items) (blames_of c.blames.items) next_is_too_large d

@@ -2,10 +2,10 @@
 use Rattle.std.specs.Prelude.{◌≡◌, ◌<◌, ℕ, List, Option, None, get_or}
 use Rattle.lam_rules.specs.Types.{Typ}
 use Rattle.lam_rules.specs.declared.rules.Dialect.{Dialect}
-use Rattle.lam_scope.specs.Places.{Scope, written, of_term, Statement, defines, declares, abbreviates, states, place_numbered, statement_numbered}
+use Rattle.lam_scope.specs.Places.{Statement, place_numbered, statement_numbered}
 use Rattle.lam_scope.specs.declared.numbers.Origin.{Origin}
 use Rattle.lam_scope.specs.declared.numbers.Origin.TheVariants.{Lambda, Term as TermAt, Declaration, TypeName}
-use Rattle.lam_typing.specs.LeastTypes.{IsLeastAt, IsLeastEntry}
+use Rattle.lam_typing.specs.LeastTypes.{IsLeastAt}
 use Rattle.lam_scope.specs.Bindings.{lambda_type, declared_type}
 
 -- an entry is the least one of a binder that takes its type from there
@@ -14,13 +14,6 @@ IsLeastFrom ss (Lambda p) entry d = entry ≡ lambda_type (place_numbered ss p.0
 IsLeastFrom ss (TermAt p) entry d = IsLeastAt (place_numbered ss p.0).scope (place_numbered ss p.0).here entry d
 IsLeastFrom ss (Declaration i) entry d = entry ≡ declared_type (statement_numbered ss i)
 IsLeastFrom ss TypeName entry d = entry ≡ None
-
--- the entry is the least one of the name that a statement of this scope binds, or none where it binds no name
-abbrev pub IsEntryBound : Scope → Statement → Option Typ → Dialect → Type 0
-IsEntryBound s (defines e) entry d = IsLeastEntry s (of_term e) entry d
-IsEntryBound s (declares w) entry d = IsLeastEntry s (written w) entry d
-IsEntryBound s (abbreviates w) entry d = entry ≡ None
-IsEntryBound s (states e) entry d = entry ≡ None
 
 -- the term that a binder takes its type from, if from a term, is one of the first so many
 abbrev pub HasTermAmong : Origin → ℕ → Type 0

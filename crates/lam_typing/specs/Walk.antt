@@ -14,7 +14,7 @@ use Rattle.lam_sub.specs.Remembered.{AreRight}
 use Rattle.lam_typing.specs.Blaming.{Blamed}
 use Rattle.lam_typing.specs.Analysis.{IsSmallType}
 use Rattle.lam_typing.specs.Answers.{answer, answers, StandsWhereFound, AllStandIn, context_under}
-use Rattle.lam_typing.specs.Entries.{IsEntryBound}
+use Rattle.lam_typing.specs.Binds.{BindsEntry}
 use Rattle.lam_typing.specs.Progress.{IsLowest, Progress, Went, WentOver, next_is_too_large, enough, StoppedIn, AreFieldsAt, if_all, IsLarge}
 use Rattle.lam_scope.specs.declared.numbers.Place.{Place as PlaceNumber}
 use Rattle.lam_typing.specs.declared.blame.Blame.{Blame}
@@ -144,7 +144,7 @@ pub record GoesOn (old now : Walk) (statement : Statement) : Type 0 where
 
 -- the entry of what a statement binds, in each scope of which these are the entries
 abbrev pub Binds : Context → Statement → Option Typ → Dialect → Type 0
-Binds g statement entry d = (s : Scope) → IsLowest s g d → IsEntryBound s statement entry d
+Binds g statement entry d = (s : Scope) → IsLowest s g d → BindsEntry s statement entry d
 
 -- it stopped in a statement, whatever follows
 abbrev pub HasStoppedAt : Stop → Walk → Walk → Statement → Type 0
