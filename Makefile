@@ -1,10 +1,12 @@
 # `make` proves and builds the program, `make test` is the merge gate with the rows of rows/ behind it, `make rows` plays these alone,
 # `make hostile` plays sessions while memory is refused, devices fail and signals come, `make trusted` prints what has to be believed,
-# `make dear` tells what the proofs cost, `make attack` tries further wrong bodies, `make bench` prints figures.
+# `make dear` tells what the proofs cost, `make attack` tries further wrong bodies, `make bench` prints figures, `make editors` copies what
+# the editors need into the user's folders.
 PREFIX ?= $(HOME)/.local
 NAME ?=
+EDITORS ?=
 
-.PHONY: all test rows hostile install trusted dear attack bench
+.PHONY: all test rows hostile install editors trusted dear attack bench
 
 all:
 	python3 bench/build.py
@@ -22,6 +24,9 @@ hostile:
 install: all
 	install -D crates/lam_server/out/lam_server $(PREFIX)/bin/lam_server
 	python3 rows/play.py --show --program $(PREFIX)/bin/lam_server rows/example.rows
+
+editors:
+	@python3 editors/install.py $(EDITORS)
 
 trusted:
 	@python3 bench/trusted.py
