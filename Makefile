@@ -1,12 +1,14 @@
 # `make` proves and builds the program, `make test` is the merge gate with the rows of rows/ behind it, `make rows` plays these alone,
 # `make hostile` plays sessions while memory is refused, devices fail and signals come, `make trusted` prints what has to be believed,
-# `make dear` tells what the proofs cost, `make attack` tries further wrong bodies, `make bench` prints figures.
+# `make dear` tells what the proofs cost, `make attack` tries further wrong bodies, `make bench` prints figures, `make editors` copies what
+# the editors need into the user's folders.
 # `make dist` and `make deb` pack the program for machines without the toolchain, or one that is built already: PROGRAM=PATH.
 PREFIX ?= $(HOME)/.local
 NAME ?=
 PROGRAM ?=
+EDITORS ?=
 
-.PHONY: all test rows hostile install dist deb trusted dear attack bench
+.PHONY: all test rows hostile install editors dist deb trusted dear attack bench
 
 all:
 	python3 bench/build.py
@@ -24,6 +26,9 @@ hostile:
 install: all
 	install -D crates/lam_server/out/lam_server $(PREFIX)/bin/lam_server
 	python3 rows/play.py --show --program $(PREFIX)/bin/lam_server rows/example.rows
+
+editors:
+	@python3 editors/install.py $(EDITORS)
 
 dist deb: $(if $(PROGRAM),,all)
 	python3 package/package.py $@ $(if $(PROGRAM),--program "$(PROGRAM)")

@@ -14,6 +14,11 @@ def read(file):
         return it.read()
 
 
+def bodies_in(recording):
+    """The bodies that a recording has one a line: as they stand, or as a string of JSON where there are line ends in them."""
+    return [json.loads(it) if it.startswith('"') else it for it in recording.split("\n") if it]
+
+
 def hovers(uri, text, name):
     """Requests for the type at each column of each line of the text, as a client counts in UTF-16."""
     frames = []
@@ -52,23 +57,24 @@ def answers_of(output):
 
 
 def check_renames(messages, results):
-    """Where a rename was answered with edits, the editor's next change leaves the text that these edits leave, put in from the last to the first."""
+    """Where a rename was answered with edits, the editor's next changes, at most one for each edit, leave the text that these edits
+    leave, put in from the last to the first."""
     for at, message in enumerate(messages):
         answer = message.get("method") == "textDocument/rename" and results.get(message["id"])
         if not answer:
             continue
-        text = left_by(messages[:at])
-        for edit in reversed(answer["changes"][message["params"]["textDocument"]["uri"]]):
+        text, edits = left_by(messages[:at]), answer["changes"][message["params"]["textDocument"]["uri"]]
+        for edit in reversed(edits):
             places = [(edit["range"][it]["line"], edit["range"][it]["character"]) for it in ("start", "end")]
             text = edited(text, (places, edit["newText"]), "utf-16")
-        change = next(it for it in range(at, len(messages)) if messages[it].get("method") == "textDocument/didChange")
-        if left_by(messages[: change + 1]) != text:
+        changes = [it for it in range(at, len(messages)) if messages[it].get("method") == "textDocument/didChange"]
+        if all(left_by(messages[: it + 1]) != text for it in changes[: len(edits)]):
             raise Failed(f"  the edits of the rename to {message['params']['newName']!r} do not leave the editor's next text")
 
 
 def check_recording(program, script):
     """Plays the bodies; in front of the one that closes the document, a document with the saved text is opened, and both are asked about each place."""
-    bodies, saved = read(script.recording).splitlines(), read(script.saved)
+    bodies, saved = bodies_in(read(script.recording)), read(script.saved)
     messages = [json.loads(body) for body in bodies]
     close = next(at for at, it in enumerate(messages) if it.get("method") == "textDocument/didClose")
     uri = messages[close]["params"]["textDocument"]["uri"]

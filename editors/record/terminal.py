@@ -46,17 +46,18 @@ def said_by_emacs(expression):
 
 
 def prepare(server, text, init=""):
-    """The home with both configurations, the file, and a server whose input is kept in SENT."""
+    """The home with what `make editors` puts there, the file, and a server whose input is kept in SENT."""
     shutil.rmtree(ROOM, ignore_errors=True)
-    os.makedirs(f"{ROOM}/home/.config/nvim/plugin")
     os.makedirs(f"{ROOM}/home/.emacs.d")
     os.makedirs(f"{ROOM}/bin")
     # Emacs takes no requests in a folder that others may read.
     os.chmod(f"{ROOM}/home", 0o700)
-    shutil.copy(f"{HERE}/../fullsub.lua", f"{ROOM}/home/.config/nvim/plugin")
+    install = [sys.executable, f"{HERE}/../install.py", "neovim", "vim", "emacs", "kate"]
+    subprocess.run(install, env=ENVIRONMENT, stdout=subprocess.DEVNULL, check=True)
     with open(f"{ROOM}/home/.emacs.d/init.el", "w") as file:
-        file.write(f"(setq inhibit-startup-screen t make-backup-files nil)\n{init}\n")
-        file.write(f'(load "{HERE}/../fullsub-mode.el")\n')
+        file.write(f"(setq inhibit-startup-screen t make-backup-files nil native-comp-async-report-warnings-errors nil)\n{init}\n")
+    with open(f"{ROOM}/home/.vimrc", "w") as file:
+        file.write("source $VIMRUNTIME/defaults.vim\npackadd! ale\n")
     program = f"{ROOM}/bin/lam_server"
     with open(program, "w") as script:
         script.write(f'#!/bin/sh\nexec {sys.executable} {HERE}/tee.py {SENT} {server} "$@"\n')

@@ -1,0 +1,35 @@
+-- Starts the server for fullsub files. `vim.g.fullsub_command`, set in the init file, takes the place of the command below.
+
+local config = {
+  name = "lam_server",
+  cmd = vim.g.fullsub_command or { "lam_server" },
+  filetypes = { "fullsub" },
+  on_attach = function(client)
+    -- Faults are shown while a line is typed: the server keeps up with every key.
+    vim.diagnostic.config({ update_in_insert = true }, vim.lsp.diagnostic.get_namespace(client.id))
+  end,
+}
+
+-- The number of the one client, kept here since Neovim before 0.8 has no vim.lsp.start.
+local number
+
+local function start(event)
+  config.root_dir = vim.fn.fnamemodify(vim.api.nvim_buf_get_name(event.buf), ":p:h")
+  if vim.lsp.start then
+    vim.lsp.start(config, { bufnr = event.buf })
+  else
+    number = number and vim.lsp.get_client_by_id(number) and number or vim.lsp.start_client(config)
+    if number then
+      vim.lsp.buf_attach_client(event.buf, number)
+    end
+  end
+end
+
+if vim.lsp.config then
+  -- Neovim 0.11 and later start a server by themselves.
+  vim.lsp.config("lam_server", config)
+  vim.lsp.enable("lam_server")
+else
+  local group = vim.api.nvim_create_augroup("fullsub", {})
+  vim.api.nvim_create_autocmd("FileType", { group = group, pattern = "fullsub", callback = start })
+end

@@ -1,0 +1,1 @@
+autocmd BufRead,BufNewFile *.fsub setfiletype fullsub
