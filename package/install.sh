@@ -18,7 +18,8 @@ echo "lam_server is in $prefix/bin."
 case :$PATH: in *":$prefix/bin:"*) ;; *) echo "Put that folder on the PATH, for the editors too." ;; esac
 case $prefix in
 "$HOME/.local" | /usr/local | /usr) echo "Neovim 0.7 or later finds its part by itself." ;;
-*) echo "Neovim: copy $prefix/share/nvim/site/plugin/fullsub.lua to ~/.config/nvim/plugin/." ;;
+*) echo "Neovim: put this into init.vim: set packpath+=$prefix/share/nvim/site" ;;
 esac
-echo "Emacs: put this into the init file: (load \"$prefix/share/emacs/site-lisp/moorbasket/fullsub-mode.el\")"
+echo "Vim: put this into the vimrc: set packpath+=$prefix/share/vim/vimfiles"
+echo "Emacs: put this into the init file: (load \"$prefix/share/emacs/site-lisp/moorbasket/fullsub-autoloads\")"
 echo "Then open a file of $prefix/share/doc/moorbasket/examples. How to go on: man lam_server"

@@ -27,6 +27,7 @@ import manual
 ROOT = os.path.join(os.path.dirname(os.path.realpath(__file__)), "..")
 BUILT = f"{ROOT}/crates/lam_server/out/lam_server"
 DOCS = "share/doc/moorbasket"
+EMACS = "share/emacs/site-lisp/moorbasket"
 
 CONTROL = """Package: moorbasket
 Version: {version}
@@ -58,18 +59,34 @@ def libc_of(program):
     return max((tuple(map(int, it.split(b"."))) for it in re.findall(rb"\0GLIBC_(\d+\.\d+)", code)))
 
 
+def editors():
+    """What the editors need: for each file where it is installed, and where it stands here."""
+    shared = [f"vim/{name}" for name in ("autoload", "ftdetect", "ftplugin", "indent", "syntax")]
+    folders = [
+        *((f"share/nvim/site/pack/fullsub/start/fullsub/{name[4:]}", name) for name in shared),
+        ("share/nvim/site/pack/fullsub/start/fullsub", "neovim"),
+        ("share/vim/vimfiles/pack/fullsub/start/fullsub", "vim"),
+        (EMACS, "emacs"),
+        (f"{DOCS}/kate", "kate"),
+    ]
+    return {f"{target}/{os.path.relpath(it, f'{ROOT}/editors/{name}')}": it for target, name in folders for it in files_below(f"editors/{name}")}
+
+
+def files_below(folder):
+    """The files in a folder of the repository and in its folders."""
+    return [it for it in glob.glob(f"{ROOT}/{folder}/**", recursive=True) if os.path.isfile(it)]
+
+
 def installed(program):
     """What either package installs: the bytes of each file by its path."""
     files = {
         "bin/lam_server": read(program),
         "share/man/man1/lam_server.1": manual.manual(program).encode(),
         "share/bash-completion/completions/lam_server": manual.completion(program).encode(),
-        "share/nvim/site/plugin/fullsub.lua": read(f"{ROOT}/editors/fullsub.lua"),
-        "share/emacs/site-lisp/moorbasket/fullsub-mode.el": read(f"{ROOT}/editors/fullsub-mode.el"),
+        **{path: read(source) for path, source in editors().items()},
         f"{DOCS}/copyright": licences.licences().encode(),
     }
-    examples = [it for it in glob.glob(f"{ROOT}/examples/**", recursive=True) if os.path.isfile(it)]
-    for path in [f"{ROOT}/docs/EDITORS.md", f"{ROOT}/docs/LANGUAGE.md", *examples]:
+    for path in [f"{ROOT}/docs/EDITORS.md", f"{ROOT}/docs/LANGUAGE.md", *files_below("examples")]:
         files[f"{DOCS}/{os.path.relpath(path, ROOT)}"] = read(path)
     return files
 

@@ -1,5 +1,11 @@
 -- Starts the server for fullsub files. `vim.g.fullsub_command`, set in the init file, takes the place of the command below.
 
+-- Of several copies the first alone counts, so one's own goes before one that a package installed.
+if vim.g.loaded_fullsub or vim.fn.has("nvim-0.7") == 0 then
+  return
+end
+vim.g.loaded_fullsub = true
+
 local config = {
   name = "lam_server",
   cmd = vim.g.fullsub_command or { "lam_server" },
