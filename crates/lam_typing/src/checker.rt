@@ -3,10 +3,11 @@
 
 ghost use Rattle.std.specs.Prelude.{◌≡◌, List, IfOk};
 ghost use Rattle.std.specs.Borrow.{sem};
+ghost use Rattle.lam_rules.specs.Types.{Typ};
 ghost use Rattle.lam_rules.specs.Numbers.{Keeps};
 ghost use Rattle.lam_scope.specs.InternedViews.{interned_statement, StandInStatement};
 ghost use Rattle.lam_typing.specs.Answers.{AllStandIn, context_under};
-ghost use Rattle.lam_typing.specs.Checking.{types_in, dialect_in, IsSoundChecker, LendsTypes, IsChecked};
+ghost use Rattle.lam_typing.specs.Checking.{types_in, dialect_in, IsSoundChecker, with_types, LendsTypes, IsChecked};
 ghost use Rattle.lam_typing.specs.inner.Ends.{IsEndOfCheck};
 
 use crate::analysing::start;
@@ -74,6 +75,7 @@ impl TypeChecker {
     pub fn table_mut(&mut self) -> &mut TyTable
         ensures* lends { sem 𝓛 (LendsTypes self.entry result) }
         ensures table { result.now ≡ types_in self.old }
+        ensures sound { (types : List Typ) → IsSoundChecker self.old → Keeps (types_in self.old) types → IsSoundChecker (with_types self.old types) }
     {
         &mut self.table
     }
