@@ -4,6 +4,7 @@ use Rattle.std.specs.Prelude.{if◌then◌else◌}
 use Rattle.std.specs.Option.{option_map, is_some}
 use Rattle.std.specs.Str.{bytes_eq}
 use Rattle.std.proofs.lemmas.List.{append-nil, drop_all}
+use Rattle.std.proofs.Math.Bool.{or-false, or_assoc}
 use Rattle.std.proofs.lemmas.Slice.Eq.{bytes_eq-Decides}
 use Rattle.lam_syntax.specs.Trees.{TypeTree}
 use Rattle.lam_syntax.proofs.Shapes.{type_node_of-Bool, type_node_of-Nat, type_node_of-Unit, type_node_of-Top, type_node_of-Named, type_node_of-Arrow, type_node_of-Record, term_node_of-True, term_node_of-False, term_node_of-Unit, term_node_of-Variable, term_node_of-Numeral, term_node_of-Lambda, term_node_of-If, term_node_of-Let, term_node_of-Letrec, term_node_of-Prefixed, term_node_of-Apply, term_node_of-Project, term_node_of-Ascribe, term_node_of-Record}
@@ -72,12 +73,8 @@ counted_among x bs (y ∷ items) =
     ∙ ap (λ c. is_among x (letters_of items) || c) (some_counted (bytes_eq y.now x) (count x bs))
     ∙ or_moved (is_among x (letters_of items)) (bytes_eq y.now x) (is_some (count x bs))
 
-or_none : (a : Bool) → a || false ≡ a
-or_none true = refl
-or_none false = refl
-
 pub bound_among : (x : Name) (items : List (Bor (List ℕ))) → is_some (count x (bound_names items)) ≡ is_among x (letters_of items)
-bound_among x items = counted_among x [] items ∙ or_none (is_among x (letters_of items))
+bound_among x items = counted_among x [] items ∙ or-false (is_among x (letters_of items))
 
 pub bound_names-push : (items : List (Bor (List ℕ))) (y : Bor (List ℕ)) → bound_names (items ++ y ∷ []) ≡ Some y.now ∷ bound_names items
 bound_names-push items y = stacked-push (λ z. Some z.now) [] items y
@@ -103,12 +100,8 @@ others-known found x (z ∷ zs) known = by (others-known found x zs known) (byte
     by rest false same = ap (λ ys. if is_among z found then ys else z ∷ ys) rest
 
 among-push : (z x : Name) (found : List Name) → is_among z (found ++ x ∷ []) ≡ is_among z found || bytes_eq x z
-among-push z x [] = or_none (bytes_eq x z)
-among-push z x (y ∷ found) = ap (λ c. bytes_eq y z || c) (among-push z x found) ∙ regrouped (bytes_eq y z) (is_among z found) (bytes_eq x z)
-  where
-    regrouped : (a b c : Bool) → a || (b || c) ≡ (a || b) || c
-    regrouped true b c = refl
-    regrouped false b c = refl
+among-push z x [] = or-false (bytes_eq x z)
+among-push z x (y ∷ found) = ap (λ c. bytes_eq y z || c) (among-push z x found) ∙ sym (or_assoc (bytes_eq y z) (is_among z found) (bytes_eq x z))
 
 others-push : (found : List Name) (x : Name) (zs : List Name) → others (found ++ x ∷ []) zs ≡ others found (without (Some x) zs)
 others-push found x [] = refl
@@ -124,7 +117,7 @@ others-push found x (z ∷ zs) =
         either_way : (c : Bool) → (if c || true then others found (without (Some x) zs) else z ∷ others found (without (Some x) zs)) ≡ others found (without (Some x) zs)
         either_way true = refl
         either_way false = refl
-    by false = ap (λ c. if c then others found (without (Some x) zs) else z ∷ others found (without (Some x) zs)) (or_none (is_among z found))
+    by false = ap (λ c. if c then others found (without (Some x) zs) else z ∷ others found (without (Some x) zs)) (or-false (is_among z found))
 
 found_others : (found xs : List Name) → found_after found xs ≡ found ++ others found (each_once xs)
 found_others found [] = sym (append-nil found)
