@@ -5,7 +5,6 @@ use Rattle.std.specs.Str.{bytes_eq}
 use Rattle.std.specs.declared.alloc.AllocError.{AllocError}
 use Rattle.std.proofs.lemmas.List.{append-nil, drop_all}
 use Rattle.std.proofs.lemmas.Bool.{or_parts}
-use Rattle.std.proofs.lemmas.Slice.Eq.{bytes_eq-Decides}
 use Rattle.lam_token.specs.declared.span.Span.{Span}
 use Rattle.lam_rules.specs.Types as rules
 use Rattle.lam_rules.specs.Types.{Typ, Fields, Label, joined}
@@ -25,6 +24,7 @@ use Rattle.lam_scope.specs.NumberedNames.{NumberedName, abbreviations_over, Name
 use Rattle.lam_scope.specs.inner.Interned.{given_over, GivenStand, with_given, IsTypeInterned}
 use Rattle.lam_scope.proofs.InternedTerms.{kept_written}
 use Rattle.lam_scope.proofs.TypeNames.{meaning_over, is_bound_over, named_stands, kept_names}
+use Rattle.lam_scope.proofs.WellFormedForms.{apart}
 use Rattle.lam_scope.proofs.WrittenTypes.{type_fields_of-drop, type_fields_of-take}
 
 -- an arrow
@@ -150,9 +150,6 @@ field_parts l k None r u gs e = cc
 field_parts l k (Some t) None u gs e = cc
 field_parts l k (Some t) (Some hs) u gs e = (cc, cc)
 
-unlike : (l k : Label) → bytes_eq k l ≡ false → l ≢ k
-unlike l k e same = let yes_it_is : bytes_eq k l ≡ true = (bytes_eq-Decides k l).1 (sym same) in cc
-
 not_given : (bs : List Abbreviation) (ts : List Typ) (l : Label) (fs : TypeFields) (items : List (Bor (List ℕ) × TyNo)) → has_label l fs ≡ false
     → expansion_of_fields bs fs ≡ Some (fields_given ts items) → IsNotGiven l items
 not_given bs ts l fs [] none e = tt
@@ -160,8 +157,8 @@ not_given bs ts l no_type_fields (f ∷ items) none e = cc
 not_given bs ts l (type_field (word k s) t rest) (f ∷ items) none e =
     let one = these (has_label k rest) (both (rules.field k) (expansion bs t) (expansion_of_fields bs rest)) (fields_given ts (f ∷ items)) e in
     let parts = field_parts k f.0.now (expansion bs t) (expansion_of_fields bs rest) (type_of ts f.1) (fields_given ts items) one.1 in
-    let apart = or_parts (bytes_eq k l) (has_label l rest) none in
-    (subst (λ m. l ≢ m) parts.0 (unlike l k apart.0), not_given bs ts l rest items apart.1 parts.1)
+    let once = or_parts (bytes_eq k l) (has_label l rest) none in
+    (subst (λ m. l ≢ m) parts.0 (apart l k once.0), not_given bs ts l rest items once.1 parts.1)
 
 pub given_apart : (bs : List Abbreviation) (ts : List Typ) (fs : TypeFields) (items : List (Bor (List ℕ) × TyNo)) → expansion_of_fields bs fs ≡ Some (fields_given ts items) → AreGivenApart items
 given_apart bs ts fs [] e = tt

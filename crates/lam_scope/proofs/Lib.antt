@@ -45,9 +45,10 @@ pub mod FreeLabels
 pub mod EveryElement
 pub mod OwnWords
 pub mod RenameAnswers
-pub mod FreeNames
+pub mod FreeNamesDecide
 pub mod InternedShapes
 pub mod InternedTerms
 pub mod TypeNames
 pub mod InterningTypes
 pub mod InternedForms
+pub mod FoundNames

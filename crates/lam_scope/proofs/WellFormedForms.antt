@@ -49,7 +49,7 @@ record-wf : (fs : Option Fields) → AreWellFormedIfAny fs → IsWellFormedEntry
 record-wf None w = tt
 record-wf (Some fs) w = w
 
-apart : (l k : Label) → bytes_eq k l ≡ false → l ≢ k
+pub apart : (l k : Label) → bytes_eq k l ≡ false → l ≢ k
 apart l k e same = let yes_it_is : bytes_eq k l ≡ true = (bytes_eq-Decides k l).1 (sym same) in cc
 
 absent-field : (l k : Label) (t : Option Typ) (fs : Option Fields) → l ≢ k → IsAbsentIfAny l fs → IsAbsentIfAny l (both (rules.field k) t fs)

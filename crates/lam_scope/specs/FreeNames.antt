@@ -1,6 +1,6 @@
 -- The names and type names that a command takes from outside: the names that it uses and does not bind itself, and all type names that
 -- it uses, as often as used, in the order of the text.
-use Rattle.std.specs.Prelude.{List, [], ◌∷◌, ◌++◌, Option, if◌then◌else◌}
+use Rattle.std.specs.Prelude.{List, [], ◌∷◌, ◌++◌, Option, Some, if◌then◌else◌}
 use Rattle.lam_syntax.specs.Trees as tree
 use Rattle.lam_syntax.specs.Trees.{word, bound, TypeTree, type_tree, TypeNode, named, arrow, record_type, TypeFields, no_type_fields, type_field, TermTree, term_tree, TermNode, CommandTree, definition, declaration, evaluation}
 use Rattle.lam_scope.specs.Names.{Name, binds}
@@ -10,6 +10,11 @@ use Rattle.lam_scope.specs.Nameless.{written_in_command}
 abbrev pub without : Option Name → List Name → List Name
 without b [] = []
 without b (x ∷ xs) = if binds b x then without b xs else x ∷ without b xs
+
+-- each of some names once, in the order in which they come first
+abbrev pub each_once : List Name → List Name
+each_once [] = []
+each_once (x ∷ xs) = x ∷ without (Some x) (each_once xs)
 
 -- the free names of a term; a letrec's name is bound in both of its terms
 abbrev mutual

@@ -7,3 +7,5 @@ pub mod Formed
 pub mod Walked
 pub mod OwnWords
 pub mod Interned
+pub mod FoundNames
+pub mod FoundInTerms

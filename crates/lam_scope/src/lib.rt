@@ -1,7 +1,8 @@
 //! Who binds what: the binders of names and of type names, the uses of each, what each place sees, the nameless form
 //! of a document's commands and the expansions of its written types.
 //!
-//! `bind` reads the commands and borrows nothing of them. `resolve` gives the terms that typing speaks of.
+//! `bind` reads the commands and borrows nothing of them. `resolve` gives the terms that typing speaks of. `free_names` and
+//! `intern_command` read one command by itself.
 //!
 //! Binding: `walk` fills the tables of `rows`, with the binders in sight on a stack (`seen`, over `names` and
 //! `name_stack`); `room` counts the rows first. `use_chains` and `token_lists` give each binder its uses, `stretches`
@@ -12,15 +13,22 @@
 //! the `abbreviations` in sight, `uses_left` hands on the counts. `resolved` keeps the result, `search` finds a place's
 //! term in it.
 //!
+//! One command by itself: `command_names` lists the names that it asks for (`found_names` keeps each once). An
+//! `environment` has what it sees, type names with numbers of a table of types (`type_names`). `commands` gives its form
+//! over that table (`interned`): `interning` forms a term of parts (`making`), `interning_types` puts written types into
+//! the table.
+//!
 //! Nothing here knows tokens but for their spans, types of terms, subtyping, or positions in lines.
 #![tactic(auto)]
 
 mod abbreviations;
 mod binding;
+mod command_names;
 mod commands;
 mod document;
 mod environment;
 mod expansion;
+mod found_names;
 mod interned;
 mod interning;
 mod interning_types;
@@ -53,6 +61,7 @@ mod uses_left;
 mod walk;
 
 pub use binding::bind;
+pub use command_names::{FreeNames, free_names};
 pub use commands::{Interned, intern_command};
 pub use document::resolve;
 pub use environment::Environment;

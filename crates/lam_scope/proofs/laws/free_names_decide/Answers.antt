@@ -1,4 +1,4 @@
-use Rattle.lam_scope.proofs.FreeNames.{same_expansion, same_faults, same_command_faults, same_command_limit, alike_forms, alike_statements}
+use Rattle.lam_scope.proofs.FreeNamesDecide.{same_expansion, same_faults, same_command_faults, same_command_limit, alike_forms, alike_statements}
 use Rattle.lam_scope.proofs.laws.free_names_decide.Goals as goal
 
 pub returns : goal.returns
