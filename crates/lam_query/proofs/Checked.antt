@@ -15,7 +15,7 @@ use Rattle.lam_scope.specs.Meanings.{StandForTheSame}
 use Rattle.lam_scope.specs.Nameless.{statement, abbreviations_after, names_after, written_in_command, faults_in, first_over_limit, faults, first_too_large}
 use Rattle.lam_scope.specs.Places.{Place, Statement, places_of}
 use Rattle.lam_scope.specs.PlacedTerms.{PlacedTree, term_of, command_terms, scope_after, commands_terms, document_terms}
-use Rattle.lam_scope.proofs.FreeNames.{same_command_faults, same_command_limit, alike_statements}
+use Rattle.lam_scope.proofs.FreeNamesDecide.{same_command_faults, same_command_limit, alike_statements}
 use Rattle.lam_typing.specs.Analysis.{IsFirstTooLarge}
 use Rattle.lam_typing.specs.Binds.{BindsEntry, scope_with}
 use Rattle.lam_typing.specs.Blaming.{Blamed, moved}

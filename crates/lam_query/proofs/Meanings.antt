@@ -14,7 +14,7 @@ use Rattle.lam_scope.specs.Expansions.{Abbreviation, stands_for, meaning, is_bou
 use Rattle.lam_scope.specs.FreeNames.{free_in_command, free_type_names_in_command}
 use Rattle.lam_scope.specs.Meanings.{entry_named, MeanTheSame, StandForTheSame}
 use Rattle.lam_scope.specs.Nameless.{abbreviations_after, names_after}
-use Rattle.lam_scope.proofs.FreeNames.{alike_statements}
+use Rattle.lam_scope.proofs.FreeNamesDecide.{alike_statements}
 use Rattle.lam_query.specs.inner.Checked.{abbreviations_behind, names_behind, context_after, IsEnvironmentFor}
 use Rattle.lam_query.specs.inner.Entered.{Lookup, type_named, entered_first, entered, names_onto, entries_onto, abbreviations_onto, name_bound, type_name_bound, type_bound}
 use Rattle.lam_query.proofs.CheckedLists.{abbreviations_push, names_push}
