@@ -18,6 +18,10 @@
 //! over that table (`interned`): `interning` forms a term of parts (`making`), `interning_types` puts written types into
 //! the table.
 //!
+//! One command by itself: `command_names` finds the names that it takes from outside, `environment` holds what they mean,
+//! and `commands` gives its form over a table of types (`interned`, made by `interning`, `interning_types` and `making`),
+//! in which an abbreviation of thousands of nodes is one number.
+//!
 //! Nothing here knows tokens but for their spans, types of terms, subtyping, or positions in lines.
 #![tactic(auto)]
 

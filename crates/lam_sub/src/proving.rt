@@ -109,7 +109,6 @@ fn prove_sides(
 /// The steps from one record type to another, as few as will do: the fields that are asked for put
 /// in front, the others cut off, each type made wider.
 #[cycle(prove)]
-#[inline(never)]
 fn prove_record(
     alloc: Global,
     lower: &[(String, Ty)],
