@@ -69,16 +69,7 @@ fn prove(alloc: Global, lower: &Ty, upper: &Ty, dialect: Dialect) -> Result<SubP
             let Ty::Record(lower_fields) = lower else {
                 unreachable!();
             };
-            let Some(proof) = prove_record(
-                alloc,
-                &lower_fields.items,
-                &upper_fields.items,
-                dialect,
-            )?
-            else {
-                unreachable!();
-            };
-            Ok(proof)
+            prove_record(alloc, &lower_fields.items, &upper_fields.items, dialect)
         }
         _ => conclude(alloc, SubRule::BoolNat, Vec::new(alloc), lower, upper),
     }
@@ -106,25 +97,48 @@ fn prove_sides(
     Ok(premises)
 }
 
-/// The steps from one record type to another, as few as will do: the fields that are asked for put
-/// in front, the others cut off, each type made wider.
+/// The proof from one record type to another: the fields that are asked for put in front, the
+/// others cut off, each type made wider.
 #[cycle(prove)]
 fn prove_record(
     alloc: Global,
     lower: &[(String, Ty)],
     upper: &[(String, Ty)],
     dialect: Dialect,
-) -> Result<Option<SubProof>, AllocError>
+) -> Result<SubProof, AllocError>
     requires lower { AreWellFormed (fields_of lower.now) }
     requires upper { AreWellFormed (fields_of upper.now) }
     requires below { AreBelow (fields_of lower.now) (fields_of upper.now) dialect }
-    ensures { IfOk result (λ proof. LeadsTo proof (record_of (fields_of lower.now)) (record_of (fields_of upper.now)) dialect) }
+    requires differ { record_of (fields_of lower.now) ≡ record_of (fields_of upper.now) → ⊥ }
+    ensures { IfOk result (λ proof. ProvesBelow (sub_tree_of proof) (record_of (fields_of lower.now)) (record_of (fields_of upper.now)) dialect) }
 {
     let premises = prove_fields(alloc, lower, upper, dialect)?;
-    steps_between(alloc, lower, upper, premises)
+    record_proof(alloc, lower, upper, premises)
 }
 
-/// Those steps, where the premises make the type of each field that is asked for wider.
+/// That proof, where the premises make the type of each field that is asked for wider.
+#[inline(never)]
+fn record_proof(
+    alloc: Global,
+    lower: &[(String, Ty)],
+    upper: &[(String, Ty)],
+    premises: Vec<SubProof>,
+) -> Result<SubProof, AllocError>
+    requires lower { AreWellFormed (fields_of lower.now) }
+    requires upper { AreWellFormed (fields_of upper.now) }
+    requires labels { HasLabelsOf (fields_of lower.now) (fields_of upper.now) }
+    requires premises { GoesFieldByField (picked (fields_of lower.now) (fields_of upper.now)) (fields_of upper.now) (claims_of premises.items) }
+    requires proofs { (d : Dialect) × AreSubProofs (sub_trees_of premises.items) d }
+    requires differ { record_of (fields_of lower.now) ≡ record_of (fields_of upper.now) → ⊥ }
+    ensures { IfOk result (λ proof. (d : Dialect) → AreSubProofs (sub_trees_of premises.items) d → ProvesBelow (sub_tree_of proof) (record_of (fields_of lower.now)) (record_of (fields_of upper.now)) d) }
+{
+    let Some(proof) = steps_between(alloc, lower, upper, premises)? else {
+        unreachable!();
+    };
+    Ok(proof)
+}
+
+/// The steps between two record types, as few as will do.
 #[inline(never)]
 fn steps_between(
     alloc: Global,

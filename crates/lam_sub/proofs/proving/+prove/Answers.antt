@@ -1,4 +1,4 @@
-use Rattle.std.proofs.Common.{◌≡◌, ◌∙◌, ap, sym, subst, arith, string_bytes, append-nil, [], true, false, Some}
+use Rattle.std.proofs.Common.{◌≡◌, ◌∙◌, ap, sym, subst, arith, string_bytes, append-nil, [], true, false}
 use Rattle.std.proofs.lemmas.List.{drop_all}
 use Rattle.std.proofs.lemmas.Result.{IfOk-weaker}
 use Rattle.lam_rules.specs.Types.{Has, IsAbsent, arrow, record_of, IsWellFormed}
@@ -8,7 +8,6 @@ use Rattle.lam_rules.specs.SubViews.{claims_of, sub_tree_of}
 use Rattle.lam_rules.specs.declared.rules.SubRule.{SubRule}
 use Rattle.lam_rules.proofs.TypeShapes.{typ_of-Top, typ_of-Arrow}
 use Rattle.lam_rules.proofs.ByShape.{below_wf}
-use Rattle.lam_sub.specs.inner.Steps.{LeadsTo}
 use Rattle.lam_sub.proofs.LookUps.{item_has}
 use Rattle.lam_sub.proofs.Below.{no_field, field_iff, nodes_of_field, record_inside}
 use Rattle.lam_sub.proofs.Arranging.{type_under_is, below_labels}
@@ -55,8 +54,8 @@ prove_fields-returns-clause-claims t c =
 
 -- the steps between two record types
 
-pub prove_record-steps_between-requires-clause-labels : goal.prove_record-steps_between-requires-clause-labels
-prove_record-steps_between-requires-clause-labels t c = below_labels (fields_of c.args.lower.now) (fields_of c.args.upper.now) c.args.dialect c.requires.below
+pub prove_record-record_proof-requires-clause-labels : goal.prove_record-record_proof-requires-clause-labels
+prove_record-record_proof-requires-clause-labels t c = below_labels (fields_of c.args.lower.now) (fields_of c.args.upper.now) c.args.dialect c.requires.below
 
 -- the last step, by the shape of the two types
 
@@ -90,19 +89,15 @@ prove-prove_record-requires t c =
         subst (λ s. IsWellFormed s) (sym lower) wf.0,
         (
           subst (λ s. IsWellFormed s) (sym upper) wf.1,
-          record_inside (fields_of c.deref-in-Record.result.now) (fields_of c.deref-in-Record-2.result.now) c.args.dialect
-              (subst (λ s. IsBelow s (record_of (fields_of c.deref-in-Record-2.result.now)) c.args.dialect) (sym lower)
-              (subst (λ s. IsBelow (typ_of c.args.lower.now) s c.args.dialect) (sym upper) c.requires)),
+          (
+            record_inside (fields_of c.deref-in-Record.result.now) (fields_of c.deref-in-Record-2.result.now) c.args.dialect
+                (subst (λ s. IsBelow s (record_of (fields_of c.deref-in-Record-2.result.now)) c.args.dialect) (sym lower)
+                (subst (λ s. IsBelow (typ_of c.args.lower.now) s c.args.dialect) (sym upper) c.requires)),
+            λ alike. let e : c.same.result ≡ true = c.same.ensures.1 (sym lower ∙ alike ∙ upper) in cc,
+          ),
         ),
       ),
     )
-
-pub prove-unreachable-requires-in_default-2 : goal.prove-unreachable-requires-in_default-2
-prove-unreachable-requires-in_default-2 t c =
-    let lower = record_seen c.args.lower.now _ c.deref-in-Record.result.now c.in-Record-lower.is c.deref-in-Record.ensures.value in
-    let upper = record_seen c.args.upper.now _ c.deref-in-Record-2.result.now c.in-Record.is c.deref-in-Record-2.ensures.value in
-    let alike = subst (λ p. LeadsTo p (record_of (fields_of c.deref-in-Record.result.now)) (record_of (fields_of c.deref-in-Record-2.result.now)) c.args.dialect) c.in_default-2.is c.in_ok-proof-in-Record.ensures in
-    let e : c.same.result ≡ true = c.same.ensures.1 (sym lower ∙ alike ∙ upper) in cc
 
 pub prove-returns-in-Top : goal.prove-returns-in-Top
 prove-returns-in-Top t c =
@@ -129,13 +124,14 @@ prove_sides-returns-clause-by_rule t c =
     subst (λ qs. BySubRule SubRule.Arrow (claims_of qs) (arrow (typ_of c.args.lower_parameter.now) (typ_of c.args.lower_outcome.now)) (arrow (typ_of c.args.upper_parameter.now) (typ_of c.args.upper_outcome.now)))
     (sym c.in_ok-premises.ensures.items) (parameters.0, parameters.1, outcomes.0, outcomes.1)
 
-pub prove-returns-in-Some : goal.prove-returns-in-Some
-prove-returns-in-Some t c =
+pub prove-returns-in-Record-lower : goal.prove-returns-in-Record-lower
+prove-returns-in-Record-lower t c =
     let lower = record_seen c.args.lower.now _ c.deref-in-Record.result.now c.in-Record-lower.is c.deref-in-Record.ensures.value in
     let upper = record_seen c.args.upper.now _ c.deref-in-Record-2.result.now c.in-Record.is c.deref-in-Record-2.ensures.value in
-    subst (λ s. LeadsTo (Some c.in-Some.proof) s (typ_of c.args.upper.now) c.args.dialect) lower
-    (subst (λ s. LeadsTo (Some c.in-Some.proof) (record_of (fields_of c.deref-in-Record.result.now)) s c.args.dialect) upper
-    (subst (λ p. LeadsTo p (record_of (fields_of c.deref-in-Record.result.now)) (record_of (fields_of c.deref-in-Record-2.result.now)) c.args.dialect) c.in-Some.is c.in_ok-proof-in-Record.ensures))
+    IfOk-weaker c.prove_record.result _ (λ made. ProvesBelow (sub_tree_of made) (typ_of c.args.lower.now) (typ_of c.args.upper.now) c.args.dialect)
+    (λ made proves. subst (λ s. ProvesBelow (sub_tree_of made) s (typ_of c.args.upper.now) c.args.dialect) lower
+    (subst (λ s. ProvesBelow (sub_tree_of made) (record_of (fields_of c.deref-in-Record.result.now)) s c.args.dialect) upper proves))
+    c.prove_record.ensures
 
 pub prove-returns-in_default : goal.prove-returns-in_default
 prove-returns-in_default t c =
