@@ -16,6 +16,8 @@ mod derivations;
 #[cfg(test)]
 mod frames;
 #[cfg(test)]
+mod one_command;
+#[cfg(test)]
 mod rules;
 #[cfg(test)]
 mod subtyping;
