@@ -18,7 +18,7 @@ use Rattle.lam_scope.specs.PlacedTerms.{PlacedTree, term_of, command_terms, scop
 use Rattle.lam_scope.proofs.FreeNamesDecide.{same_command_faults, same_command_limit, alike_statements}
 use Rattle.lam_typing.specs.Analysis.{IsFirstTooLarge}
 use Rattle.lam_typing.specs.Binds.{BindsEntry, scope_with}
-use Rattle.lam_typing.specs.Blaming.{Blamed, moved}
+use Rattle.lam_typing.specs.Blaming.{Blamed, renumbered}
 use Rattle.lam_typing.specs.Progress.{IsLowest, Shown, next_is_too_large, NextIs, ShownFront}
 use Rattle.lam_typing.specs.WrittenScopes.{scope_of_entries}
 use Rattle.lam_typing.proofs.AlikeStatements.{lowest_of_entries, lowest_with, statement_shown, statement_stopped, statement_binds}
@@ -80,7 +80,7 @@ first_stopped before ps behind found more blames codes d shown stopped = by stop
         ap (λ xs. before ++ (xs ++ behind)) are
         ∙ ap (λ xs. before ++ xs) (append_assoc front (q ∷ qs) behind)
         ∙ sym (append_assoc before front (q ∷ (qs ++ behind))) in
-        let both = shown_both before front 0 (length found) found more blames (moved (length found) codes) d (omega arith) shown
+        let both = shown_both before front 0 (length found) found more blames (renumbered (length found) codes) d (omega arith) shown
         (shown_moved front (length found) more codes d stopped.shown) in
         let first = first_behind (before ++ front) (qs ++ behind) (found ++ more) q d both.least both.small next in
         subst (λ xs. IsFirstTooLarge xs (length found + length more) d) (sym there)
@@ -138,7 +138,7 @@ module _ (done : List CommandTree) (g : Context) (found : List (Option Typ)) (bl
       → first_over_limit types (written_in_command c) ≡ None
       → Shown (places_of (scope_of_entries entries) (Alone ∷ [])) 0 more codes d
       → BindsEntry (scope_of_entries entries) Alone entry d
-      → AreChecked (done ++ c ∷ []) (context_after g c entry) (found ++ more) (blames ++ moved (length found) codes) d
+      → AreChecked (done ++ c ∷ []) (context_after g c entry) (found ++ more) (blames ++ renumbered (length found) codes) d
   command_checked more codes entry within shown binds = record {
     lowest = more_lowest entry binds;
     lengths = ap length (names_push done c) ∙ lengths_after (names_behind done) g c entry checked.lengths;
@@ -146,8 +146,8 @@ module _ (done : List CommandTree) (g : Context) (found : List (Option Typ)) (bl
         let here = statement_shown (scope_behind done) (scope_of_entries entries) g entries d checked.lowest entries_lowest Stated Alone states_alike
         0 more codes (next_wf done c) shown in
         let behind = shown_moved (places_of (scope_behind done) (Stated ∷ [])) (length found) more codes d here in
-        subst (λ ps. Shown ps 0 (found ++ more) (blames ++ moved (length found) codes) d) (sym (places_push done c))
-        (shown_both (places_in done) (places_of (scope_behind done) (Stated ∷ [])) 0 (length found) found more blames (moved (length found) codes) d
+        subst (λ ps. Shown ps 0 (found ++ more) (blames ++ renumbered (length found) codes) d) (sym (places_push done c))
+        (shown_both (places_in done) (places_of (scope_behind done) (Stated ∷ [])) 0 (length found) found more blames (renumbered (length found) codes) d
         (omega arith) checked.shown behind);
     none_too_large = too_large_push done c ∙ ap (λ o. option_or o (first_over_limit (abbreviations_behind done) (written_in_command c))) checked.none_too_large
         ∙ same_command_limit (abbreviations_behind done) types c environment.types_stand ∙ within;

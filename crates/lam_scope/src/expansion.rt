@@ -66,6 +66,7 @@ fn collect_field_faults(
     Ok(())
 }
 
+/// Puts the fault of a label behind the others, where a field before it has the same label.
 pub(crate) fn collect_label_fault(
     field: &TyField,
     earlier: &[TyField],

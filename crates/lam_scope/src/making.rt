@@ -9,6 +9,7 @@ use lam_rules::TyNo;
 use lam_syntax::Prefix;
 use std::alloc::{AllocError, Global};
 
+/// An if: its condition, the term where that is true, and the other.
 #[tactic(auto, using(crate::proofs::InternedShapes::numbered_shapes))]
 pub(crate) fn make_if<'a>(
     alloc: Global,
@@ -24,6 +25,7 @@ pub(crate) fn make_if<'a>(
     Ok(InternedTerm::If(first, second, third))
 }
 
+/// A lambda: the number of what is written, or none where that stands for no type, and the term under the binder.
 #[tactic(auto, using(crate::proofs::InternedShapes::numbered_shapes))]
 pub(crate) fn make_lambda<'a>(
     alloc: Global,
@@ -35,6 +37,7 @@ pub(crate) fn make_lambda<'a>(
     Ok(InternedTerm::Abs(written, Box::new(alloc, body)?))
 }
 
+/// A function and its argument.
 #[tactic(auto, using(crate::proofs::InternedShapes::numbered_shapes))]
 pub(crate) fn make_application<'a>(
     alloc: Global,
@@ -48,6 +51,7 @@ pub(crate) fn make_application<'a>(
     Ok(InternedTerm::App(first, second))
 }
 
+/// A term and the number of what is ascribed to it, as in a lambda.
 #[tactic(auto, using(crate::proofs::InternedShapes::numbered_shapes))]
 pub(crate) fn make_ascription<'a>(
     alloc: Global,
@@ -59,6 +63,7 @@ pub(crate) fn make_ascription<'a>(
     Ok(InternedTerm::Ascribe(Box::new(alloc, operand)?, written))
 }
 
+/// A let: the term that is bound, and the one under its binder.
 #[tactic(auto, using(crate::proofs::InternedShapes::numbered_shapes))]
 pub(crate) fn make_let<'a>(
     alloc: Global,
@@ -86,6 +91,7 @@ pub(crate) fn make_letrec<'a>(
     make_let(alloc, fixed, body)
 }
 
+/// A record and the label that is asked of it.
 #[tactic(auto, using(crate::proofs::InternedShapes::numbered_shapes))]
 pub(crate) fn make_projection<'a>(
     alloc: Global,

@@ -84,9 +84,9 @@ AreBlamed n (p ∷ ps) blames d =
     × IsBlamed p.scope p.here d × IsBlamedFor p.scope p.here code d × AreBlamed (n + 1) ps rest d)
 
 -- the same blames, where the places have numbers that are so many more
-abbrev pub moved : ℕ → List Blamed → List Blamed
-moved k [] = []
-moved k (b ∷ bs) = record { number = b.number + k; code = b.code } ∷ moved k bs
+abbrev pub renumbered : ℕ → List Blamed → List Blamed
+renumbered k [] = []
+renumbered k (b ∷ bs) = record { number = b.number + k; code = b.code } ∷ renumbered k bs
 
 -- the label is none of these terms'
 abbrev pub IsNoLabelOf : Label → TermFields → Type 0

@@ -12,7 +12,7 @@ ghost use Rattle.lam_scope.specs.Labels.{place_in};
 ghost use Rattle.lam_scope.specs.Places.{Scope, Place, Statement, places};
 ghost use Rattle.lam_typing.specs.LeastTypes.{IsTypeAt, IsTyped, IsLeastAt, AreLeastEntries};
 ghost use Rattle.lam_scope.specs.Alike.{AreAlike};
-ghost use Rattle.lam_typing.specs.Blaming.{IsBlamed, IsBlamedFor, DifferInLabels, Blamed, AreBlamed, moved};
+ghost use Rattle.lam_typing.specs.Blaming.{IsBlamed, IsBlamedFor, DifferInLabels, Blamed, AreBlamed, renumbered};
 ghost use Rattle.lam_typing.specs.Causes.{HasCause};
 ghost use Rattle.lam_typing.specs.Contexts.{IsContext};
 ghost use Rattle.lam_typing.specs.Narrowing.{Narrows};
@@ -120,7 +120,7 @@ pub fn only_free_names_count()
 /// Places may be counted from any number: those to blame are the same, with numbers that are as many more. So what is told
 /// of a command by itself, whose places are counted from 0, is told of it in a document, where other places come before.
 pub fn blames_move_with_places()
-    ensures blamed { (n k : ℕ) (ps : List Place) (blames : List Blamed) (d : Dialect) → AreBlamed n ps blames d → AreBlamed (n + k) ps (moved k blames) d }
-    ensures shown { (ps : List Place) (k : ℕ) (found : List (Option Typ)) (blames : List Blamed) (d : Dialect) → Shown ps 0 found blames d → Shown ps k found (moved k blames) d }
-    ensures stopped { (ps : List Place) (k : ℕ) (found : List (Option Typ)) (blames : List Blamed) (cause : Cause) (d : Dialect) → ShownFront ps 0 found blames cause d → ShownFront ps k found (moved k blames) cause d }
+    ensures blamed { (n k : ℕ) (ps : List Place) (blames : List Blamed) (d : Dialect) → AreBlamed n ps blames d → AreBlamed (n + k) ps (renumbered k blames) d }
+    ensures shown { (ps : List Place) (k : ℕ) (found : List (Option Typ)) (blames : List Blamed) (d : Dialect) → Shown ps 0 found blames d → Shown ps k found (renumbered k blames) d }
+    ensures stopped { (ps : List Place) (k : ℕ) (found : List (Option Typ)) (blames : List Blamed) (cause : Cause) (d : Dialect) → ShownFront ps 0 found blames cause d → ShownFront ps k found (renumbered k blames) cause d }
 {}
