@@ -23,8 +23,8 @@ use Rattle.lam_typing.specs.Entries.{entry_from}
 use Rattle.lam_typing.specs.Typings.{found_of, entries_in, context_at, IsProofAt}
 use Rattle.lam_query.specs.Hovers.{IsShownIn}
 use Rattle.lam_query.specs.declared.answers.Step.{Step as RustStep}
-use Rattle.lam_query.specs.declared.analyses.Analysis.{Analysis}
-use Rattle.lam_query.specs.declared.analyses.Types.TheVariants.{Found}
+use Rattle.lam_query.specs.declared.documents.Document.{Document}
+use Rattle.lam_query.specs.declared.documents.Types.TheVariants.{Found}
 use Rattle.lam_scope.specs.Places.{Place, place_numbered}
 use Rattle.lam_scope.specs.PlacedTerms.{document_terms, tree_in}
 use Rattle.lam_query.specs.WellTypedDocuments.{statements_in}
@@ -34,7 +34,7 @@ use Rattle.lam_query.specs.Derivations.{ContextEntry, Derivation, IsDerivationAr
 use Rattle.lam_query.specs.inner.Contexts.{entry_shown}
 use Rattle.lam_query.specs.Within.{IsSpanOfText}
 use Rattle.lam_query.specs.Views.{StepStandsIn}
-use Rattle.lam_query.specs.Analyses.{AreFoundOf, IsAnalysisOf, commands_in}
+use Rattle.lam_query.specs.inner.Documents.{AreFoundOf, IsDocumentOf, commands_in}
 use Rattle.lam_query.proofs.RowsAndTerms.{names_told, number_told, same_proof}
 use Rattle.lam_query.proofs.Hovering.{typed_around}
 use Rattle.lam_query.proofs.Answering.{types_held, place_stands}
@@ -97,8 +97,8 @@ derivation_around cs resolved typing d o n tree derived h at proof told steps =
       steps = steps ∙ ap (steps_of 0) (same_proof cs n tree);
     }
 
-pub derived_type : (text : List ℕ) (a : Analysis) (resolved : Resolved) (typing : Typing) (o n : ℕ) (tree : TypingTree) (derived : Derivation)
-    → IsAnalysisOf text a → a.types ≡ Found resolved typing → Some n ≡ place_at (table_of a.scopes) o → IsProofAt (statements_of resolved) typing n tree
+pub derived_type : (text : List ℕ) (a : Document) (resolved : Resolved) (typing : Typing) (o n : ℕ) (tree : TypingTree) (derived : Derivation)
+    → IsDocumentOf text a → a.types ≡ Found resolved typing → Some n ≡ place_at (table_of a.scopes) o → IsProofAt (statements_of resolved) typing n tree
     → derived.context ≡ map (entry_shown (table_of a.scopes) (entries_in typing)) (visible_at (table_of a.scopes) n)
     → derived.steps ≡ steps_of 0 (row_proof (table_of a.scopes) n tree) → IsDerivedIn text o (Some derived) a.dialect
 derived_type text a resolved typing o n tree derived h is at proof told steps = record {
@@ -116,6 +116,6 @@ pub derived_nothing : (text : List ℕ) (o : ℕ) (d : Dialect) → IsShownIn te
 derived_nothing text o d h = record { commands = h.commands; are_commands = h.are_commands; answer = h.answer }
 
 -- the places of all steps begin and end between characters
-pub derived_stands : (text : List ℕ) (a : Analysis) (steps : List RustStep) → IsUtf8 text → IsAnalysisOf text a
+pub derived_stands : (text : List ℕ) (a : Document) (steps : List RustStep) → IsUtf8 text → IsDocumentOf text a
     → ((other : List ℕ) → ((n : ℕ) → IsSpanOfText other (place_row_numbered (table_of a.scopes) n).span) → All (StepStandsIn other) steps) → All (StepStandsIn text) steps
 derived_stands text a steps is_text h stand = stand text (λ n. place_stands text a n _ is_text h refl)

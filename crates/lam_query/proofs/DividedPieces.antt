@@ -1,5 +1,5 @@
 -- Tokens that are divided at semicolons: their pieces are those of the parts, and so are their commands.
-use Rattle.std.proofs.Common.{◌≡◌, ◌⊎◌, Bool, true, false, cond, List, [], ◌∷◌, ◌++◌, append-nil, filter, refl, sym, ap, subst, ◌∙◌, inl, inr}
+use Rattle.std.proofs.Common.{◌≡◌, ◌⊎◌, Bool, true, false, cond, List, [], ◌∷◌, ◌++◌, append-nil, filter, length, refl, sym, ap, subst, ◌∙◌, inl, inr, arith}
 use Rattle.std.proofs.lemmas.List.Elements.{filter-append, All-from_recursion}
 use Rattle.lam_token.specs.Lexeme.{Lexeme}
 use Rattle.lam_syntax.specs.Trees.{word, CommandTree, definition, declaration, abbreviation, evaluation}
@@ -55,6 +55,34 @@ piece_first piece (t ∷ behind) none begins =
     piece_ended piece behind t (All-from_recursion GoesOn piece none) begins
     ∙ ap (with_piece piece) (sym (semicolon_passed t behind begins))
 
+pieces_behind : (front piece behind : List Lexeme) → EndInSemicolon front → HaveNoSemicolon piece → BeginWithSemicolon behind
+    → pieces_of (front ++ (piece ++ behind)) ≡ pieces_of front ++ with_piece piece (pieces_of behind)
+pieces_behind front piece behind ends none begins =
+    pieces_joined front (piece ++ behind) ends ∙ ap (λ ps. pieces_of front ++ ps) (piece_first piece behind none begins)
+
+-- the last piece, before a semicolon and at the end
+
+pub ended_pieces : (front piece : List Lexeme) (t : Lexeme) → EndInSemicolon front → HaveNoSemicolon piece → is_semicolon t ≡ true
+    → pieces_of (front ++ (piece ++ t ∷ [])) ≡ pieces_of front ++ with_piece piece []
+ended_pieces front piece t ends none is =
+    pieces_behind front piece (t ∷ []) ends none is ∙ ap (λ ps. pieces_of front ++ with_piece piece ps) (semicolon_passed t [] is)
+
+pub last_pieces : (front piece : List Lexeme) → EndInSemicolon front → HaveNoSemicolon piece
+    → pieces_of (front ++ piece) ≡ pieces_of front ++ with_piece piece []
+last_pieces front piece ends none =
+    ap (λ ts. pieces_of (front ++ ts)) (sym (append-nil piece)) ∙ pieces_behind front piece [] ends none tt
+
+-- one token more
+
+pub semicolon_pushed : (ts : List Lexeme) (t : Lexeme) → is_semicolon t ≡ true → EndInSemicolon (ts ++ t ∷ [])
+semicolon_pushed [] t is = is
+semicolon_pushed (u ∷ []) t is = is
+semicolon_pushed (u ∷ v ∷ ts) t is = semicolon_pushed (v ∷ ts) t is
+
+pub other_pushed : (ts : List Lexeme) (t : Lexeme) → HaveNoSemicolon ts → is_semicolon t ≡ false → HaveNoSemicolon (ts ++ t ∷ [])
+other_pushed [] t none is = (is, tt)
+other_pushed (u ∷ ts) t none is = (none.0, other_pushed ts t none.1 is)
+
 -- ---- commands
 
 pub commands_joined : (ps qs : List (List Lexeme)) (before after : List CommandTree) → AreCommandsOf ps before → AreCommandsOf qs after
@@ -82,6 +110,13 @@ own_first [] ps _ after (no_command none) are = are
 own_first (t ∷ ts) ps _ after (one_command {c = c} is) are = inl (c, after, refl, is, are)
 own_first (t ∷ ts) ps _ after (no_command none) are = inr (none, are)
 
+pub own_last : (piece : List Lexeme) (own : List CommandTree) → IsOwnOf piece own → AreCommandsOf (with_piece piece []) own
+own_last piece own is = subst (AreCommandsOf (with_piece piece [])) (append-nil own) (own_first piece [] own [] is refl)
+
+pub no_tokens_own : (piece : List Lexeme) → length piece ≡ 0 → IsOwnOf piece []
+no_tokens_own [] none = no_command (λ c is. nothing_spelled c is.spelled)
+no_tokens_own (t ∷ ts) none = absurd (omega arith)
+
 pub own_commands : (piece : List Lexeme) → (own : List CommandTree) × IsOwnOf piece own
 own_commands piece = by (command_or_none piece)
   where
@@ -96,7 +131,7 @@ pub commands_around : (front piece behind : List Lexeme) (commands before own af
     → AreCommandsOf (pieces_of front) before → IsOwnOf piece own → AreCommandsOf (pieces_of behind) after
     → AreCommandsOf (pieces_of (front ++ (piece ++ behind))) commands → commands ≡ before ++ (own ++ after)
 commands_around front piece behind commands before own after ends none begins are_before is_own are_after are =
-    let cut = pieces_joined front (piece ++ behind) ends ∙ ap (λ ps. pieces_of front ++ ps) (piece_first piece behind none begins) in
+    let cut = pieces_behind front piece behind ends none begins in
     let ps = pieces_of front ++ with_piece piece (pieces_of behind) in
     let joined = commands_joined (pieces_of front) (with_piece piece (pieces_of behind)) before (own ++ after) are_before
     (own_first piece (pieces_of behind) own after is_own are_after) in

@@ -1,17 +1,18 @@
 -- The faults of pieces and of tokens, one after another.
-use Rattle.std.proofs.Common.{◌≡◌, ℕ, zero, suc, ◌-◌, ◌<◌, List, [], ◌∷◌, ◌++◌, Option, Some, None, length, map, get_or, sym, refl, ap, ◌∙◌, append_assoc, arith, codes}
-use Rattle.std.proofs.lemmas.List.{append-nil, map-append}
+use Rattle.std.proofs.Common.{◌≡◌, ℕ, zero, suc, ◌-◌, ◌<◌, List, [], ◌∷◌, ◌++◌, Option, Some, None, length, map, get_or, sym, refl, ap, ◌∙◌, subst, append_assoc, arith, codes}
+use Rattle.std.proofs.lemmas.List.{append-nil}
+use Rattle.std.proofs.lemmas.List.Elements.{filter_map-append}
 use Rattle.std.specs.Prelude.{slice_get}
 use Rattle.std.specs.List.{filter_map, cons_option}
-use Rattle.std.specs.Option.{option_to_list, option_map}
+use Rattle.std.specs.Option.{option_to_list}
 use Rattle.lam_token.specs.declared.span.Span.{Span}
 use Rattle.lam_token.specs.Lexeme.{Lexeme, span_of}
 use Rattle.lam_syntax.specs.Trees.{from_to}
 use Rattle.lam_syntax.specs.Answers.{token_limit, IsTaken, GoesWrongAt, EndsEarly}
+use Rattle.lam_syntax.specs.inner.Reads.{with_piece}
 use Rattle.lam_query.specs.declared.answers.Fault.{Fault as RustFault}
 use Rattle.lam_query.specs.Faults.{Fault}
 use Rattle.lam_query.specs.SyntaxFaults.{fault_at, fault_of_token, PieceFault, too_long, goes_wrong, ends_early, PieceFaults}
-use Rattle.lam_query.specs.inner.Reading.{AreFaultsFound, AreTokenFaultsFound}
 use Rattle.lam_query.specs.Views.{fault_of}
 
 -- one piece
@@ -35,22 +36,15 @@ early_fault ts last s some taken early at is_s = rw is_s (ends_early taken early
 
 -- piece after piece
 
-seen_more : (found : List RustFault) (o : Option RustFault) → map fault_of (found ++ option_to_list o) ≡ map fault_of found ++ option_to_list (option_map fault_of o)
-seen_more found None = map-append fault_of found []
-seen_more found (Some f) = map-append fault_of found (f ∷ [])
+pub own_fault : (piece : List Lexeme) (one : Option Fault) → (length piece ≡ 0 → ⊥) → PieceFault piece one → PieceFaults (with_piece piece []) (option_to_list one)
+own_fault [] one some is = absurd (some refl)
+own_fault (t ∷ ts) one some is = (one, [], is, refl, sym (append-nil (option_to_list one)))
 
-pub piece_more : (all : List (List Lexeme)) (found more : List RustFault) (one : Option RustFault) (piece : List Lexeme) (whole left : List (List Lexeme))
-    → whole ≡ piece ∷ left → PieceFault piece (option_map fault_of one) → more ≡ found ++ option_to_list one
-    → AreFaultsFound all found whole → AreFaultsFound all more left
-piece_more all found more one piece whole left cut fault pushed so_far = λ others rest.
-    let here : PieceFaults (piece ∷ left) (option_to_list (option_map fault_of one) ++ others) = (option_map fault_of one, others, fault, rest, refl) in
-    let all_of_them = so_far (option_to_list (option_map fault_of one) ++ others) (rw cut here) in
-    rw pushed (rw (seen_more found one) (rw (append_assoc (map fault_of found) (option_to_list (option_map fault_of one)) others) all_of_them))
-
-pub pieces_end : (all : List (List Lexeme)) (found : List RustFault) (left : List (List Lexeme)) → left ≡ [] → AreFaultsFound all found left → PieceFaults all (map fault_of found)
-pieces_end all found left none so_far =
-    let end : PieceFaults left [] = rw none refl in
-    rw (append-nil (map fault_of found)) at (so_far [] end)
+pub faults_joined : (ps qs : List (List Lexeme)) (before after : List Fault) → PieceFaults ps before → PieceFaults qs after → PieceFaults (ps ++ qs) (before ++ after)
+faults_joined [] qs before after are rest = subst (λ fs. PieceFaults qs (fs ++ after)) (sym are) rest
+faults_joined (p ∷ ps) qs before after are rest =
+    let is = ap (λ fs. fs ++ after) are.4 ∙ append_assoc (option_to_list are.0) are.1 after in
+    (are.0, are.1 ++ after, are.2, faults_joined ps qs are.1 after are.3 rest, is)
 
 -- token after token
 
@@ -58,9 +52,11 @@ consed : (o : Option Fault) (fs : List Fault) → cons_option o fs ≡ option_to
 consed None fs = refl
 consed (Some f) fs = refl
 
-pub token_noted : (all : List Lexeme) (found now : List RustFault) (t : Lexeme) (left : List Lexeme)
-    → map fault_of now ≡ map fault_of found ++ option_to_list (fault_of_token t)
-    → AreTokenFaultsFound all found (t ∷ left) → AreTokenFaultsFound all now left
-token_noted all found now t left more so_far =
-    let before = rw (consed (fault_of_token t) (filter_map fault_of_token left)) at so_far in
-    rw more (append_assoc (map fault_of found) (option_to_list (fault_of_token t)) (filter_map fault_of_token left) ∙ before)
+pub token_noted : (found now : List RustFault) (ts : List Lexeme) (t : Lexeme) → map fault_of now ≡ map fault_of found ++ option_to_list (fault_of_token t)
+    → map fault_of found ≡ filter_map fault_of_token ts → map fault_of now ≡ filter_map fault_of_token (ts ++ t ∷ [])
+token_noted found now ts t more so_far =
+    let one = consed (fault_of_token t) [] ∙ append-nil (option_to_list (fault_of_token t)) in
+    more
+    ∙ ap (λ fs. fs ++ option_to_list (fault_of_token t)) so_far
+    ∙ ap (λ fs. filter_map fault_of_token ts ++ fs) (sym one)
+    ∙ sym (filter_map-append fault_of_token ts (t ∷ []))

@@ -15,7 +15,7 @@ use Rattle.lam_typing.specs.Typings.{found_of}
 use Rattle.lam_query.specs.Sizes.{IsSizeFault, IsSmall, places_in}
 use Rattle.lam_scope.specs.PlacedTerms.{document_terms, term_of, tree_in}
 use Rattle.lam_query.specs.Hovers.{IsTypedAround, IsHover}
-use Rattle.lam_query.specs.Analyses.{AreFoundOf}
+use Rattle.lam_query.specs.inner.Documents.{AreFoundOf}
 use Rattle.lam_scope.specs.Places.{Place}
 use Rattle.lam_scope.proofs.PlacedRows.{as_many_rows}
 use Rattle.lam_query.proofs.Small.{is_small, least_at}

@@ -1,4 +1,3 @@
-pub mod CommandLists
 pub mod Flat
 pub mod OneProof
 pub mod ReadTrees
@@ -21,7 +20,6 @@ pub mod FaultPlaces
 pub mod StepPlaces
 pub mod OneAnswer
 pub mod Innermost
-pub mod PiecesRead
 pub mod PieceLaws
 pub mod ParsedPieces
 pub mod SortedFaults
@@ -58,7 +56,19 @@ pub mod Checked
 pub mod Meanings
 pub mod TermsAlone
 pub mod DividedPieces
+pub mod ReadPieces
+pub mod OneCommand
 pub mod Elsewhere
 pub mod PieceInDocument
 pub mod PieceOfText
 pub mod ShownByPiece
+pub mod AnalysisAnswers
+pub mod MarkedPieces
+pub mod Analysts
+pub mod HoverByPiece
+pub mod EachOnce
+pub mod BoundNames
+pub mod Surroundings
+pub mod Entering
+pub mod FoundOfCommand
+pub mod FoundOfText

@@ -238,7 +238,7 @@ pub entry_behind : (x : Name) (done : List CommandTree) (g : Context) (c : Comma
     → entry_named x (names_behind (done ++ c ∷ [])) (context_after g c entry) ≡ (if binds (name_bound c) x then Some entry else entry_named x (names_behind done) g)
 entry_behind x done g c entry = ap (λ xs. entry_named x xs (context_after g c entry)) (names_push done c) ∙ entry_after x (names_behind done) g c entry
 
-type_after : (x : Name) (bs : List Abbreviation) (c : CommandTree)
+pub type_after : (x : Name) (bs : List Abbreviation) (c : CommandTree)
     → type_named x (abbreviations_after bs c) ≡ (if binds (type_name_bound c) x then Some (type_bound bs c) else type_named x bs)
 type_after x bs (definition w t) = refl
 type_after x bs (declaration w u) = refl
@@ -246,7 +246,7 @@ type_after x bs (tree.abbreviation (word y s) u) = refl
 type_after x bs (evaluation t) = refl
 
 -- what its own environment tells of a type that it binds
-same_type_bound : (bs cs : List Abbreviation) (c : CommandTree) → StandForTheSame (free_type_names_in_command c) bs cs → type_bound bs c ≡ type_bound cs c
+pub same_type_bound : (bs cs : List Abbreviation) (c : CommandTree) → StandForTheSame (free_type_names_in_command c) bs cs → type_bound bs c ≡ type_bound cs c
 same_type_bound bs cs (definition w t) same = refl
 same_type_bound bs cs (declaration w u) same = refl
 same_type_bound bs cs (tree.abbreviation w u) same = alike_statements bs cs [] [] [] [] (tree.abbreviation w u) refl refl tt same

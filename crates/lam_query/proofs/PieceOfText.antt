@@ -22,10 +22,10 @@ use Rattle.lam_query.proofs.Spans.{InTokens}
 
 -- ---- no text has no tokens
 
-empty_text : (start : ℕ) → AreTokensFrom start [] []
+pub empty_text : (start : ℕ) → AreTokensFrom start [] []
 empty_text start = record { parts = []; cut = chars-nil; tokens_are = refl }
 
-no_tokens : (start : ℕ) (text : List ℕ) (tokens : List Lexeme) → text ≡ [] → AreTokensFrom start text tokens → tokens ≡ []
+pub no_tokens : (start : ℕ) (text : List ℕ) (tokens : List Lexeme) → text ≡ [] → AreTokensFrom start text tokens → tokens ≡ []
 no_tokens start text tokens none are =
     one_list_from start [] [] tokens (empty_text start) (subst (λ bytes. AreTokensFrom start bytes tokens) none are)
 

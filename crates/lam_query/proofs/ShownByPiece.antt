@@ -12,7 +12,7 @@ use Rattle.lam_query.specs.Commands.{AreCommandsOfText}
 use Rattle.lam_query.specs.Hovers.{has_byte, innermost_at, Shown, IsHover, IsShownIn}
 use Rattle.lam_query.specs.Sizes.{IsSmall, places_in}
 use Rattle.lam_query.specs.inner.Checked.{abbreviations_behind, names_behind, scope_behind}
-use Rattle.lam_query.specs.inner.OnePiece.{one_command, no_command, IsPieceOf, IsOffsetIn, IsShownByPiece, by_no_command, by_no_term, by_no_type, by_type}
+use Rattle.lam_query.specs.inner.OnePiece.{one_command, no_command, IsPieceOf, IsOffsetIn, IsShownByPiece, by_no_command, by_command, by_no_term, by_no_type, by_type}
 use Rattle.lam_query.proofs.Hovering.{typed_there, untyped_there, nothing_around}
 use Rattle.lam_query.proofs.PieceInDocument.{place_between, innermost_between, none_between}
 use Rattle.lam_query.proofs.PieceOfText.{commands_of_piece}
@@ -59,20 +59,20 @@ hover_by_piece whole ahead piece rest tokens commands before found o _ d is are 
     subst (λ cs. IsHover cs o None d) (sym around.1)
     (nothing_around (before ++ around.0) o d (none_between before o around.2 around.0 around.3))
 hover_by_piece whole ahead piece rest tokens commands before found o _ d is are are_before inside small least
-    (by_no_term {c = c} command none) =
+    (by_command {c = c} command (by_no_term none)) =
     let own = one_command command in
     let around = commands_of_piece whole ahead piece rest tokens commands before (c ∷ []) o is are are_before own inside in
     subst (λ cs. IsHover cs o None d) (sym around.1)
     (nothing_around (before ++ c ∷ around.0) o d
     (place_between before o around.2 c around.0 around.3 ∙ ap (option_map (λ m. length (document_terms before) + m)) none))
 hover_by_piece whole ahead piece rest tokens commands before found o _ d is are are_before inside small least
-    (by_no_type {c = c} {n = n} command at none) =
+    (by_command {c = c} command (by_no_type {n = n} at none)) =
     let own = one_command command in
     let around = commands_of_piece whole ahead piece rest tokens commands before (c ∷ []) o is are are_before own inside in
     untyped_there commands found o (length (document_terms before) + n) d least
     (ap (λ cs. place_at (table cs) o) around.1 ∙ there before around.0 c o around.2 around.3 n at) none
 hover_by_piece whole ahead piece rest tokens commands before found o _ d is are are_before inside small least
-    (by_type {c = c} {n = n} {type = type} {shown = shown} command at is_type is_text is_span) =
+    (by_command {c = c} command (by_type {n = n} {type = type} {shown = shown} at is_type is_text is_span)) =
     let own = one_command command in
     let around = commands_of_piece whole ahead piece rest tokens commands before (c ∷ []) o is are are_before own inside in
     let m = length (document_terms before) + n in (

@@ -24,7 +24,7 @@ use Rattle.lam_typing.specs.Typings.{found_of, entries_in, context_at, dialect_o
 use Rattle.lam_typing.proofs.Completing.{least_among}
 use Rattle.lam_typing.proofs.Sighted.{place_seen}
 use Rattle.lam_typing.proofs.Together.{least_length}
-use Rattle.lam_query.specs.Analyses.{AreFoundOf}
+use Rattle.lam_query.specs.inner.Documents.{AreFoundOf}
 use Rattle.lam_query.specs.Completions.{IsEntryAt}
 use Rattle.lam_query.specs.inner.Contexts.{entry_shown}
 use Rattle.lam_query.specs.WellTypedDocuments.{statements_in}

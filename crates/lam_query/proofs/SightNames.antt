@@ -21,9 +21,9 @@ use Rattle.lam_scope.specs.Tables.{Table, table, binder_numbered, visible_at}
 use Rattle.lam_scope.specs.TableViews.{binder_number}
 use Rattle.lam_scope.proofs.PlacedRows.{row_told}
 use Rattle.lam_typing.specs.Typings.{found_of, entries_in}
-use Rattle.lam_query.specs.declared.analyses.Types.{Types}
-use Rattle.lam_query.specs.declared.analyses.Types.TheVariants.{TooLarge, Found}
-use Rattle.lam_query.specs.Analyses.{AreTypesOf}
+use Rattle.lam_query.specs.declared.documents.Types.{Types}
+use Rattle.lam_query.specs.declared.documents.Types.TheVariants.{TooLarge, Found}
+use Rattle.lam_query.specs.inner.Documents.{AreTypesOf}
 use Rattle.lam_query.specs.Completions.{Item, AreAscending, names_in_sight, IsDetail, of_entry, untold, IsVisible, AreNames}
 use Rattle.lam_query.specs.inner.Sight.{innermost_with, innermost_after, binder_for, detail_found, item_found}
 use Rattle.lam_query.proofs.SightEntries.{binders_seen, entry_at}

@@ -9,3 +9,9 @@ pub mod Reading
 pub mod Checked
 pub mod Entered
 pub mod OnePiece
+pub mod Bound
+pub mod TypedCommands
+pub mod TypedTexts
+pub mod Marks
+pub mod Analysts
+pub mod Documents

@@ -1,36 +1,41 @@
 //! What is known of a text.
-ghost use Rattle.std.specs.Prelude.{◌≡◌, map, IfOk};
-ghost use Rattle.lam_syntax.specs.Views.{command_of};
-ghost use Rattle.lam_scope.specs.Views.{AreScopesOf};
-ghost use Rattle.lam_query.specs.Analyses.{AreTypesOf, IsAnalysisOf, dialect_of};
+ghost use Rattle.std.specs.Prelude.{◌≡◌, ◌++◌, ◌∷◌, [], ℕ, List, IfOk, OnOk};
+ghost use Rattle.std.specs.Str.{IsUtf8};
+ghost use Rattle.lam_token.specs.Lexeme.{Lexeme};
+ghost use Rattle.lam_token.specs.Cut.{AreTokensOf};
+ghost use Rattle.lam_query.specs.Analyses.{IsAnalysisOf, dialect_of};
+ghost use Rattle.lam_syntax.specs.Trees.{CommandTree};
+ghost use Rattle.lam_query.specs.inner.Analysts.{dialect_for, IsReadTo};
+ghost use Rattle.lam_query.specs.inner.Reading.{own_of};
+ghost use Rattle.lam_query.specs.inner.TypedTexts.{dialect_of_checker, IsSound, AreTypedTo};
 
 use crate::answers::Fault;
-use crate::reading::read;
+use crate::marks::Mark;
+use crate::reading::Reader;
+use crate::typed_texts::{TextChecker, TextTypes};
 use lam_rules::Dialect;
-use lam_scope::{Resolved, ScopeFault, Scopes, bind, resolve};
-use lam_syntax::Command;
-use lam_token::Span;
-use lam_typing::{Typing, TypingFault, analyse};
+use lam_syntax::{Command, is_semicolon};
+use lam_token::{Token, first_token};
 use std::alloc::{AllocError, Global};
 
-/// The commands of a text, what their names are bound to, and the types of their terms. It borrows nothing of the text:
-/// each method takes the text that the analysis is of.
+/// Where the commands of a text end, and the types of their terms. It keeps no command and borrows nothing of the text: each
+/// method takes the text that the analysis is of, and reads from it again what it is asked about.
 #[derive(Drop)]
 pub struct Analysis {
-    /// Those of the text, which all the rest is about.
-    pub(crate) commands: Vec<Command>,
     /// The faults that tokens and the grammar decide.
     pub(crate) syntax: Vec<Fault>,
-    pub(crate) scopes: Scopes,
-    pub(crate) types: Types,
+    /// The ends of the pieces, in the order of the text.
+    pub(crate) marks: Vec<Mark>,
+    pub(crate) types: TextTypes,
     pub(crate) dialect: Dialect,
 }
 
+/// An analysis while its text is read, token after token.
 #[derive(Drop)]
-pub(crate) enum Types {
-    /// The type there is too large, so none is told.
-    TooLarge(Span),
-    Found(Resolved, Typing),
+struct Analyst<'t> {
+    reader: Reader<'t>,
+    checker: TextChecker,
+    marks: Vec<Mark>,
 }
 
 impl Analysis {
@@ -39,37 +44,82 @@ impl Analysis {
         ensures of { IfOk result (λ made. IsAnalysisOf text.now made) }
         ensures dialect { IfOk result (λ made. dialect_of made ≡ dialect) }
     {
-        let parsed = read(alloc, text)?;
-        let scopes = bind(alloc, &parsed.commands)?;
-        let types = types_of(alloc, &parsed.commands, &scopes, dialect)?;
+        let mut analyst = Analyst::new(alloc, dialect)?;
+        let mut rest = text;
+        let mut start = 0;
+        while let Some((token, after)) = first_token(rest, start) {
+            rest = after;
+            start = token.end();
+            analyst.take(token)?;
+        }
+        analyst.finish(dialect)
+    }
+}
+
+impl<'t> Analyst<'t> {
+    /// Nothing was read yet.
+    fn new(alloc: Global, dialect: Dialect) -> Result<Analyst<'t>, AllocError>
+        ensures read { IfOk result (λ a. (text : List ℕ) → IsReadTo text [] a) }
+        ensures sound { IfOk result (λ a. IsSound a.checker) }
+        ensures dialect { IfOk result (λ a. dialect_for a ≡ dialect) }
+    {
+        Ok(Analyst {
+            reader: Reader::new(alloc),
+            checker: TextChecker::new(alloc, dialect)?,
+            marks: Vec::new(alloc),
+        })
+    }
+
+    /// The next token of the text.
+    fn take(&mut self, token: Token<'t>) -> Result<(), AllocError>
+        requires { IsSound self.old.checker }
+        ensures read { OnOk result ((text : List ℕ) (passed left : List Lexeme) → IsUtf8 text → AreTokensOf text (passed ++ token.entry ∷ left) → IsReadTo text passed self.old → IsReadTo text (passed ++ token.entry ∷ []) self.new) }
+        ensures sound { OnOk result (IsSound self.new.checker) }
+        ensures dialect { dialect_for self.new ≡ dialect_for self.old }
+    {
+        let end = token.end();
+        let ends = is_semicolon(&token);
+        let command = self.reader.take(token)?;
+        check(&mut self.checker, &command)?;
+        if ends {
+            let terms = self.checker.terms();
+            self.marks.push(Mark { end, terms })?;
+        }
+        Ok(())
+    }
+
+    /// No token of the text is left.
+    fn finish(self, dialect: Dialect) -> Result<Analysis, AllocError>
+        requires sound { IsSound self.checker }
+        requires dialect { dialect_for self ≡ dialect }
+        ensures of { IfOk result (λ made. (text : List ℕ) (tokens : List Lexeme) → IsUtf8 text → AreTokensOf text tokens → IsReadTo text tokens self.entry → IsAnalysisOf text made) }
+        ensures dialect { IfOk result (λ made. dialect_of made ≡ dialect) }
+    {
+        let Analyst {
+            mut reader,
+            mut checker,
+            marks,
+        } = self;
+        let last = reader.end_piece()?;
+        check(&mut checker, &last)?;
         Ok(Analysis {
-            commands: parsed.commands,
-            syntax: parsed.faults,
-            scopes,
-            types,
+            syntax: reader.into_faults()?,
+            marks,
+            types: checker.finish()?,
             dialect,
         })
     }
 }
 
-/// The types of the terms of these commands, or the place of the first type that is too large.
-fn types_of(
-    alloc: Global,
-    commands: &[Command],
-    scopes: &Scopes,
-    dialect: Dialect,
-) -> Result<Types, AllocError>
-    requires { AreScopesOf scopes.now (map command_of commands.now) }
-    ensures { IfOk result (λ types. AreTypesOf (map command_of commands.now) types dialect) }
+/// The command that was read, if there is one.
+fn check(checker: &mut TextChecker, command: &Option<Command>) -> Result<(), AllocError>
+    requires { IsSound checker.old }
+    ensures typed { OnOk result ((done : List CommandTree) → AreTypedTo done checker.old → AreTypedTo (done ++ own_of command.now) checker.new) }
+    ensures sound { OnOk result (IsSound checker.new) }
+    ensures dialect { dialect_of_checker checker.new ≡ dialect_of_checker checker.old }
 {
-    let resolved = match resolve(alloc, commands, scopes) {
-        Ok(resolved) => resolved,
-        Err(ScopeFault::TooLarge(span)) => return Ok(Types::TooLarge(span)),
-        Err(ScopeFault::Memory) => return Err(AllocError),
-    };
-    match analyse(alloc, &resolved, dialect) {
-        Ok(typing) => Ok(Types::Found(resolved, typing)),
-        Err(TypingFault::TooLarge(place)) => Ok(Types::TooLarge(scopes.span_of(place))),
-        Err(TypingFault::Memory) => Err(AllocError),
+    match command {
+        Some(command) => checker.take(command),
+        None => Ok(()),
     }
 }

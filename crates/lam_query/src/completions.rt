@@ -3,18 +3,24 @@ ghost use Rattle.std.specs.Prelude.{◌≡◌, ◌+◌, ◌<◌, ◌^◌, ℕ, L
 ghost use Rattle.lam_token.specs.Lexeme.{Lexeme, start_of};
 ghost use Rattle.lam_token.specs.Cut.{AreTokensOf};
 ghost use Rattle.lam_rules.specs.Types.{Label};
+ghost use Rattle.lam_syntax.specs.Answers.{pieces_of};
+ghost use Rattle.lam_syntax.specs.Trees.{CommandTree};
 ghost use Rattle.lam_syntax.specs.Views.{command_of};
 ghost use Rattle.lam_scope.specs.Views.{AreScopesOf};
-ghost use Rattle.lam_query.specs.Analyses.{AreTypesOf, IsAnalysisOf, commands_in, dialect_of};
+ghost use Rattle.lam_query.specs.Analyses.{IsAnalysisOf, dialect_of};
 ghost use Rattle.lam_query.specs.Completions.{dot_before, IsProjected, AreItems, AreCompletions};
 ghost use Rattle.lam_query.specs.inner.Listed.{IsProjection, AreListedFor};
+ghost use Rattle.lam_query.specs.inner.TypedTexts.{AreTypesOf};
+ghost use Rattle.lam_query.specs.Commands.{AreCommandsOf};
 ghost use Rattle.lam_query.specs.Views.{item_of};
 
-use crate::analyses::{Analysis, Types};
+use crate::analyses::Analysis;
 use crate::answers::Item;
 use crate::cursor::{dot_before, touched_word};
+use crate::documents::Document;
 use crate::fields::fields_of;
 use crate::reading::read_with_label;
+use crate::typed_texts::TextTypes;
 use lam_rules::Dialect;
 use lam_scope::{Place, Scopes, bind};
 use lam_syntax::Command;
@@ -47,7 +53,7 @@ impl Analysis {
     {
         match self.labels(alloc, text, offset)? {
             Some(items) => Ok(items),
-            None => self.names(alloc, text, offset),
+            None => names_at(alloc, text, offset, self.dialect),
         }
     }
 
@@ -59,7 +65,7 @@ impl Analysis {
         offset: usize,
     ) -> Result<Option<Vec<Item>>, AllocError>
         requires { IsAnalysisOf text.now self.now }
-        ensures some { IfOk result (λ found. IfSome found (λ items. (tokens : List Lexeme) → AreTokensOf text.now tokens → AreItems (commands_in self.now) tokens offset (map item_of items.items) (dialect_of self.now))) }
+        ensures some { IfOk result (λ found. IfSome found (λ items. (tokens : List Lexeme) (commands : List CommandTree) → AreTokensOf text.now tokens → AreCommandsOf (pieces_of tokens) commands → AreItems commands tokens offset (map item_of items.items) (dialect_of self.now))) }
         ensures none { IfOk result (λ found. IfNone found ((tokens : List Lexeme) (l : Label) → AreTokensOf text.now tokens → IsProjected tokens offset l → ⊥)) }
     {
         match dot_before(text, offset) {
@@ -79,7 +85,7 @@ impl Analysis {
         requires of { IsAnalysisOf text.now self.now }
         requires dot { (tokens : List Lexeme) → AreTokensOf text.now tokens → option_map start_of (dot_before offset tokens) ≡ Some dot }
         requires fits { dot + 1 < 2 ^ 64 }
-        ensures some { IfOk result (λ found. IfSome found (λ items. (tokens : List Lexeme) → AreTokensOf text.now tokens → AreItems (commands_in self.now) tokens offset (map item_of items.items) (dialect_of self.now))) }
+        ensures some { IfOk result (λ found. IfSome found (λ items. (tokens : List Lexeme) (commands : List CommandTree) → AreTokensOf text.now tokens → AreCommandsOf (pieces_of tokens) commands → AreItems commands tokens offset (map item_of items.items) (dialect_of self.now))) }
         ensures none { IfOk result (λ found. IfNone found ((tokens : List Lexeme) (l : Label) → AreTokensOf text.now tokens → IsProjected tokens offset l → ⊥)) }
     {
         let commands = read_with_label(alloc, text, offset, dot)?;
@@ -101,28 +107,33 @@ impl Analysis {
         scopes: &Scopes,
         place: Place,
     ) -> Result<Vec<Item>, AllocError>
-        requires types { AreTypesOf (commands_in self.now) self.now.types self.now.dialect }
         requires scopes { AreScopesOf scopes.now (map command_of commands.now) }
         requires projection { IsProjection (map command_of commands.now) place.0 }
-        ensures { IfOk result (λ items. AreListedFor (commands_in self.now) (map command_of commands.now) place.0 (map item_of items.items) self.now.dialect) }
+        ensures { IfOk result (λ items. (whole : List CommandTree) → AreTypesOf whole self.now.types self.now.dialect → AreListedFor whole (map command_of commands.now) place.0 (map item_of items.items) self.now.dialect) }
     {
         match &self.types {
-            Types::TooLarge(_) => Ok(Vec::new(alloc)),
-            Types::Found(..) => fields_of(alloc, commands, scopes, place, self.dialect),
+            TextTypes::TooLarge(_) => Ok(Vec::new(alloc)),
+            TextTypes::Typed(_) => fields_of(alloc, commands, scopes, place, self.dialect),
         }
     }
+}
 
-    /// The names in sight of the variable that the cursor touches; none where it touches none.
-    fn names(&self, alloc: Global, text: &str, offset: usize) -> Result<Vec<Item>, AllocError>
-        requires { IsAnalysisOf text.now self.now }
-        ensures { IfOk result (λ items. (tokens : List Lexeme) → AreTokensOf text.now tokens → ((l : Label) → IsProjected tokens offset l → ⊥) → AreItems (commands_in self.now) tokens offset (map item_of items.items) (dialect_of self.now)) }
-    {
-        let Some(start) = touched_word(text, offset) else {
-            return Ok(Vec::new(alloc));
-        };
-        let Some(place) = self.scopes.variable_at(&self.commands, start) else {
-            return Ok(Vec::new(alloc));
-        };
-        self.names_in_sight(alloc, place)
-    }
+/// The names in sight of the variable that the cursor touches; none where it touches none. The text is read and typed as a
+/// whole, for the binders of the command there.
+fn names_at(
+    alloc: Global,
+    text: &str,
+    offset: usize,
+    dialect: Dialect,
+) -> Result<Vec<Item>, AllocError>
+    ensures { IfOk result (λ items. (tokens : List Lexeme) (commands : List CommandTree) → AreTokensOf text.now tokens → AreCommandsOf (pieces_of tokens) commands → ((l : Label) → IsProjected tokens offset l → ⊥) → AreItems commands tokens offset (map item_of items.items) dialect) }
+{
+    let Some(start) = touched_word(text, offset) else {
+        return Ok(Vec::new(alloc));
+    };
+    let document = Document::new(alloc, text, dialect)?;
+    let Some(place) = document.scopes.variable_at(&document.commands, start) else {
+        return Ok(Vec::new(alloc));
+    };
+    document.names_in_sight(alloc, place)
 }

@@ -1,15 +1,25 @@
 //! What is shown of an offset.
-ghost use Rattle.std.specs.Prelude.{IfOk, IfSome};
+ghost use Rattle.std.specs.Prelude.{◌≤◌, ◌+◌, ◌∷◌, [], length, IfOk, IfSome};
 ghost use Rattle.std.specs.Option.{option_map};
+ghost use Rattle.lam_scope.specs.Tables.{table};
+ghost use Rattle.lam_syntax.specs.Views.{command_of};
+ghost use Rattle.lam_typing.specs.Answers.{answers, AllStandIn};
 ghost use Rattle.lam_query.specs.Analyses.{IsAnalysisOf, dialect_of};
 ghost use Rattle.lam_query.specs.Hovers.{IsShownIn};
 ghost use Rattle.lam_query.specs.Within.{IsSpanOfText};
+ghost use Rattle.lam_query.specs.inner.OnePiece.{IsShownInCommand};
 ghost use Rattle.lam_query.specs.Views.{shown_of};
 
-use crate::analyses::{Analysis, Types};
+use crate::analyses::Analysis;
 use crate::answers::Hover;
+use crate::marks::piece_around;
+use crate::reading::command_in;
+use crate::typed_texts::{TextTypes, TypedText};
 use lam_rules::Dialect;
+use lam_scope::bind;
+use lam_syntax::Command;
 use std::alloc::{AllocError, Global};
+use std::slice;
 
 /// The least type of the innermost term round an offset (counted in bytes); none where there is no such term, or it has
 /// no type, or some type of the text is too large.
@@ -38,19 +48,40 @@ impl Analysis {
         ensures shown { IfOk result (λ found. IsShownIn text.now offset (option_map shown_of found) (dialect_of self.now)) }
         ensures whole_characters { IfOk result (λ found. IfSome found (λ h. IsSpanOfText text.now h.span)) }
     {
-        let Types::Found(_, typing) = &self.types else {
+        let TextTypes::Typed(typed) = &self.types else {
             return Ok(None);
         };
-        let Some(place) = self.scopes.place_at(offset) else {
+        let piece = piece_around(&self.marks, text, offset);
+        let own = &text[piece.start..piece.end];
+        let Some(command) = command_in(alloc, own, piece.start)? else {
             return Ok(None);
         };
-        let Some(number) = typing.type_at(place) else {
-            return Ok(None);
-        };
-        let shown = typing.table().text(number)?;
-        Ok(Some(Hover {
-            text: shown,
-            span: self.scopes.span_of(place),
-        }))
+        shown_in(alloc, &command, offset, typed, piece.terms)
     }
+}
+
+/// What is shown of an offset in a command, in front of which the text has so many terms.
+fn shown_in(
+    alloc: Global,
+    command: &Command,
+    offset: usize,
+    typed: &TypedText,
+    before: usize,
+) -> Result<Option<Hover>, AllocError>
+    requires stand { AllStandIn typed.now.table typed.now.types.items }
+    requires inside { before + length (table (command_of command.now ∷ [])).places ≤ length typed.now.types.items }
+    ensures { IfOk result (λ found. IsShownInCommand (command_of command.now) before (answers typed.now.table typed.now.types.items) offset (option_map shown_of found)) }
+{
+    let scopes = bind(alloc, slice::from_ref(command))?;
+    let Some(place) = scopes.place_at(offset) else {
+        return Ok(None);
+    };
+    let Some(number) = typed.types[before + place.0] else {
+        return Ok(None);
+    };
+    let shown = typed.table.text(number)?;
+    Ok(Some(Hover {
+        text: shown,
+        span: scopes.span_of(place),
+    }))
 }

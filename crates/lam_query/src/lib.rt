@@ -7,14 +7,17 @@
 
 mod analyses;
 pub mod answers;
+mod bound;
 mod completions;
 mod contexts;
 mod cursor;
 mod definitions;
 mod derivations;
+mod documents;
 mod fields;
 mod hovers;
 mod laws;
+mod marks;
 mod reading;
 mod rebuilding;
 mod renames;
@@ -22,6 +25,8 @@ mod sight;
 mod steps;
 mod text_faults;
 mod touched;
+mod typed_commands;
+mod typed_texts;
 
 pub use analyses::Analysis;
 pub use completions::complete;

@@ -1,15 +1,17 @@
 //! What a text is read as: commands, and the faults of what is none.
-ghost use Rattle.std.specs.Prelude.{◌≡◌, ◌∷◌, ◌+◌, ◌<◌, ◌^◌, ℕ, List, map, codes, length, IfOk};
+ghost use Rattle.std.specs.Prelude.{◌≡◌, ◌∷◌, ◌++◌, ◌+◌, ◌<◌, ◌^◌, ℕ, List, [], map, codes, length, IfOk, OnOk};
 ghost use Rattle.std.specs.Option.{option_map};
 ghost use Rattle.lam_token.specs.Lexeme.{Lexeme, start_of};
 ghost use Rattle.lam_token.specs.Cut.{AreTokensOf};
+ghost use Rattle.lam_syntax.specs.Trees.{CommandTree};
 ghost use Rattle.lam_syntax.specs.Answers.{pieces_of};
 ghost use Rattle.lam_syntax.specs.Views.{command_of};
 ghost use Rattle.lam_scope.specs.Nesting.{TokensStand};
 ghost use Rattle.lam_query.specs.Commands.{AreCommandsOf};
 ghost use Rattle.lam_query.specs.Completions.{with_label};
 ghost use Rattle.lam_query.specs.SyntaxFaults.{fault_of_token, PieceFault};
-ghost use Rattle.lam_query.specs.inner.Reading.{IsCommandRead, fault_read, IsNoted, IsPieceRead, AreRead, with_name_unless, AreReadAround, IsRead};
+ghost use Rattle.lam_query.specs.inner.OnePiece.{HaveNoSemicolon, IsOwnOf, ArePieceTokens};
+ghost use Rattle.lam_query.specs.inner.Reading.{IsCommandRead, fault_read, own_of, AreRead, front_after, IsTakenBy, AreAllRead, IsNoted, IsPieceTold, AreCollected, with_name_unless, AreCollectedAround, IsRead};
 ghost use Rattle.lam_query.specs.Views.{fault_of};
 
 use crate::answers::Fault;
@@ -38,35 +40,39 @@ enum Piece {
 
 /// What was read of the tokens so far. They are kept no longer than the piece that they stand in.
 #[derive(Drop)]
-struct Reader<'t> {
+pub(crate) struct Reader<'t> {
     alloc: Global,
     /// The tokens behind the last semicolon.
     piece: Vec<Token<'t>>,
-    commands: Vec<Command>,
     token_faults: Vec<Fault>,
     piece_faults: Vec<Fault>,
+}
+
+/// A reader, and the commands that it handed out.
+#[derive(Drop)]
+struct Collector<'t> {
+    reader: Reader<'t>,
+    commands: Vec<Command>,
 }
 
 /// The commands of a text, and the faults that its tokens and the grammar decide.
 pub(crate) fn read(alloc: Global, text: &str) -> Result<Parsed, AllocError>
     ensures { IfOk result (IsRead text.now) }
 {
-    let mut reader = Reader::new(alloc);
+    let mut collector = Collector::new(alloc);
     let mut rest = text;
     let mut start = 0;
     while let Some((token, after)) = first_token(rest, start) {
         rest = after;
         start = token.end();
-        reader.take(token)?;
+        collector.take(token)?;
     }
-    reader.end_piece()?;
+    collector.end_piece()?;
     // The commands are kept as long as what is made of them.
-    reader.commands.shrink_to_fit();
-    let mut faults = reader.token_faults;
-    faults.extend_from_slice(&reader.piece_faults)?;
+    collector.commands.shrink_to_fit();
     Ok(Parsed {
-        commands: reader.commands,
-        faults,
+        commands: collector.commands,
+        faults: collector.reader.into_faults()?,
     })
 }
 
@@ -81,43 +87,131 @@ pub(crate) fn read_with_label(
     requires { dot + 1 < 2 ^ 64 }
     ensures { IfOk result (λ commands. (tokens : List Lexeme) (t : Lexeme) → AreTokensOf text.now tokens → dot ≡ start_of t → AreCommandsOf (pieces_of (with_label offset t (codes "a") tokens)) (map command_of commands.items)) }
 {
-    let mut reader = Reader::new(alloc);
+    let mut collector = Collector::new(alloc);
     let mut taken = false;
     let mut rest = text;
     let mut start = 0;
     while let Some((token, after)) = first_token(rest, start) {
         rest = after;
         start = token.end();
-        taken = reader.take_around(token, offset, dot, taken)?;
+        taken = collector.take_around(token, offset, dot, taken)?;
     }
-    reader.take_name(dot, taken)?;
-    reader.end_piece()?;
-    Ok(reader.commands)
+    collector.take_name(dot, taken)?;
+    collector.end_piece()?;
+    Ok(collector.commands)
+}
+
+/// The command that a piece of a text is, if it is one. The piece has no semicolon but the one at its end, and begins at
+/// this byte of the text.
+pub(crate) fn command_in(
+    alloc: Global,
+    piece: &str,
+    start: usize,
+) -> Result<Option<Command>, AllocError>
+    requires { start + length piece.now < 2 ^ 64 }
+    ensures { IfOk result (λ command. (rest : List ℕ) (tokens : List Lexeme) → ArePieceTokens start piece.now rest tokens → HaveNoSemicolon tokens → IsOwnOf tokens (own_of command)) }
+{
+    let mut reader = Reader::new(alloc);
+    let mut rest = piece;
+    let mut place = start;
+    while let Some((token, after)) = first_token(rest, place) {
+        rest = after;
+        place = token.end();
+        let ends = is_semicolon(&token);
+        let command = reader.take(token)?;
+        if ends {
+            return Ok(command);
+        }
+    }
+    reader.end_piece()
 }
 
 impl<'t> Reader<'t> {
     /// Nothing was read yet.
-    fn new(alloc: Global) -> Reader<'t>
-        ensures { (all : List Lexeme) → AreRead all result all }
+    pub(crate) fn new(alloc: Global) -> Reader<'t>
+        ensures read { AreRead [] [] result }
+        ensures no_piece { result.piece.items ≡ [] }
     {
         Reader {
             alloc,
             piece: Vec::new(alloc),
-            commands: Vec::new(alloc),
             token_faults: Vec::new(alloc),
             piece_faults: Vec::new(alloc),
         }
     }
 
-    /// The next token of the text.
-    fn take(&mut self, token: Token<'t>) -> Result<(), AllocError>
-        ensures { IfOk result (λ done. (all left : List Lexeme) → AreRead all self.old (token.entry ∷ left) → AreRead all self.new left) }
+    /// The next token of the text, with the command that it ends.
+    pub(crate) fn take(&mut self, token: Token<'t>) -> Result<Option<Command>, AllocError>
+        ensures read { IfOk result (λ command. (front : List Lexeme) (done : List CommandTree) → AreRead front done self.old → AreRead (front_after front self.old.piece.items token.entry) (done ++ own_of command) self.new) }
+        ensures taken { IfOk result (λ command. IsTakenBy token.entry self.old.piece.items command self.new.piece.items) }
     {
         self.note(&token)?;
         if is_semicolon(&token) {
             return self.end_piece();
         }
         self.piece.push(token)?;
+        Ok(None)
+    }
+
+    /// The fault that the token is by itself, if it is one.
+    fn note(&mut self, token: &Token<'_>) -> Result<(), AllocError>
+        ensures { OnOk result (IsNoted token.now self.old self.new) }
+    {
+        if let Some(fault) = fault_of_token(token) {
+            self.token_faults.push(fault)?;
+        }
+        Ok(())
+    }
+
+    /// No token of the piece follows: the command that it is.
+    pub(crate) fn end_piece(&mut self) -> Result<Option<Command>, AllocError>
+        ensures all { IfOk result (λ command. (front : List Lexeme) (done : List CommandTree) → AreRead front done self.old → AreAllRead (front ++ self.old.piece.items) (done ++ own_of command) self.new) }
+        ensures own { IfOk result (λ command. IsOwnOf self.old.piece.items (own_of command)) }
+        ensures told { OnOk result (IsPieceTold self.old self.new) }
+        ensures none_left { OnOk result (self.new.piece.items ≡ []) }
+    {
+        if self.piece.is_empty() {
+            return Ok(None);
+        }
+        let found = match read_piece(self.alloc, &self.piece)? {
+            Piece::Command(command) => Some(command),
+            Piece::Fault(fault) => {
+                self.piece_faults.push(fault)?;
+                None
+            }
+            Piece::Spoiled => None,
+        };
+        self.piece.clear();
+        Ok(found)
+    }
+
+    /// The faults of all tokens, and behind them those of pieces.
+    pub(crate) fn into_faults(self) -> Result<Vec<Fault>, AllocError>
+        ensures { IfOk result (λ faults. map fault_of faults.items ≡ map fault_of self.entry.token_faults.items ++ map fault_of self.entry.piece_faults.items) }
+    {
+        let mut faults = self.token_faults;
+        faults.extend_from_slice(&self.piece_faults)?;
+        Ok(faults)
+    }
+}
+
+impl<'t> Collector<'t> {
+    fn new(alloc: Global) -> Collector<'t>
+        ensures { (all : List Lexeme) → AreCollected all result all }
+    {
+        Collector {
+            reader: Reader::new(alloc),
+            commands: Vec::new(alloc),
+        }
+    }
+
+    /// The next token of the text.
+    fn take(&mut self, token: Token<'t>) -> Result<(), AllocError>
+        ensures { OnOk result ((all left : List Lexeme) → AreCollected all self.old (token.entry ∷ left) → AreCollected all self.new left) }
+    {
+        if let Some(command) = self.reader.take(token)? {
+            self.commands.push(command)?;
+        }
         Ok(())
     }
 
@@ -131,7 +225,7 @@ impl<'t> Reader<'t> {
         taken: bool,
     ) -> Result<bool, AllocError>
         requires { dot + 1 < 2 ^ 64 }
-        ensures { IfOk result (λ now. (all left : List Lexeme) (low high : ℕ) → TokensStand low (token.entry ∷ left) high → AreReadAround all offset dot taken self.old (token.entry ∷ left) → AreReadAround all offset dot now self.new left) }
+        ensures { IfOk result (λ now. (all left : List Lexeme) (low high : ℕ) → TokensStand low (token.entry ∷ left) high → AreCollectedAround all offset dot taken self.old (token.entry ∷ left) → AreCollectedAround all offset dot now self.new left) }
     {
         if is_in_front(&token, offset) {
             self.take(token)?;
@@ -148,7 +242,7 @@ impl<'t> Reader<'t> {
     /// The name that stands for a label, unless it was taken.
     fn take_name(&mut self, dot: usize, taken: bool) -> Result<(), AllocError>
         requires { dot + 1 < 2 ^ 64 }
-        ensures { IfOk result (λ done. (all left : List Lexeme) → AreRead all self.old (with_name_unless taken dot left) → AreRead all self.new left) }
+        ensures { OnOk result ((all left : List Lexeme) → AreCollected all self.old (with_name_unless taken dot left) → AreCollected all self.new left) }
     {
         if taken {
             return Ok(());
@@ -156,29 +250,13 @@ impl<'t> Reader<'t> {
         self.take(placeholder(dot))
     }
 
-    /// The fault that the token is by itself, if it is one.
-    fn note(&mut self, token: &Token<'_>) -> Result<(), AllocError>
-        ensures { IfOk result (λ done. IsNoted token.now self.old self.new) }
-    {
-        if let Some(fault) = fault_of_token(token) {
-            self.token_faults.push(fault)?;
-        }
-        Ok(())
-    }
-
     /// No token of the piece follows.
     fn end_piece(&mut self) -> Result<(), AllocError>
-        ensures { IfOk result (λ done. IsPieceRead self.old self.new) }
+        ensures { OnOk result ((all : List Lexeme) → AreCollected all self.old [] → AreAllRead all (map command_of self.new.commands.items) self.new.reader) }
     {
-        if self.piece.is_empty() {
-            return Ok(());
+        if let Some(command) = self.reader.end_piece()? {
+            self.commands.push(command)?;
         }
-        match read_piece(self.alloc, &self.piece)? {
-            Piece::Command(command) => self.commands.push(command)?,
-            Piece::Fault(fault) => self.piece_faults.push(fault)?,
-            Piece::Spoiled => {}
-        }
-        self.piece.clear();
         Ok(())
     }
 }

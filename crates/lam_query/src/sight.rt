@@ -8,19 +8,19 @@ ghost use Rattle.lam_rules.specs.Texts.{text};
 ghost use Rattle.lam_scope.specs.Names.{Name};
 ghost use Rattle.lam_scope.specs.TableViews.{binder_number};
 ghost use Rattle.lam_scope.specs.Views.{AreScopesOf, table_of};
-ghost use Rattle.lam_query.specs.Analyses.{AreTypesOf, commands_in};
+ghost use Rattle.lam_query.specs.inner.Documents.{AreTypesOf, commands_in};
 ghost use Rattle.lam_query.specs.Completions.{AreNames};
 ghost use Rattle.lam_query.specs.inner.Sight.{innermost_with, innermost_after, binder_for, detail_found, item_found, AreTexts, AreTextsFound};
 ghost use Rattle.lam_query.specs.Views.{item_of};
 
-use crate::analyses::{Analysis, Types};
 use crate::answers::Item;
+use crate::documents::{Document, Types};
 use lam_rules::{TyNo, TyTable};
 use lam_scope::{Binder, Place, Scopes};
 use std::alloc::{AllocError, Global};
 use std::collections::BTreeMap;
 
-impl Analysis {
+impl Document {
     /// The names that a place sees, each once, ascending by their bytes, with the text of the least type of its
     /// innermost binder; no text where that has none, or some type of the text is too large.
     pub(crate) fn names_in_sight(

@@ -58,15 +58,19 @@ pub record IsOffsetIn (offset : ℕ) (ahead piece rest : List ℕ) : Type 0 wher
   pub from_its_start : length ahead ≤ offset
   pub to_its_end : (offset < length ahead + length piece) ⊎ (rest ≡ [])
 
--- What is shown of an offset by its piece alone, if so many terms stand before it and this was found of the types of all terms: the type
--- of the innermost term round the offset in the piece's command, by its number among all. Nothing where the piece is no command, or has no
--- term there, or that has no type.
+-- What is shown of an offset by the command there alone, if so many terms stand before it and this was found of the types of all terms: the type
+-- of the innermost term round the offset in the command, by its number among all. Nothing where the command has no term there, or that has
+-- no type.
+pub data IsShownInCommand (c : CommandTree) (before : ℕ) (found : List (Option Typ)) (offset : ℕ) : Option Shown → Type 0 where
+  by_no_term : place_at (table (c ∷ [])) offset ≡ None → IsShownInCommand c before found offset None
+  by_no_type : {n : ℕ} → place_at (table (c ∷ [])) offset ≡ Some n
+      → get_or found (before + n) None ≡ None → IsShownInCommand c before found offset None
+  by_type : {n : ℕ} {type : Typ} {shown : Shown} → place_at (table (c ∷ [])) offset ≡ Some n
+      → get_or found (before + n) None ≡ Some type → shown.text ≡ text type → shown.span ≡ (place_row_numbered (table (c ∷ [])) n).span
+      → IsShownInCommand c before found offset (Some shown)
+
+-- What is shown of it by its piece: nothing where that is no command.
 pub data IsShownByPiece (tokens : List Lexeme) (before : ℕ) (found : List (Option Typ)) (offset : ℕ) : Option Shown → Type 0 where
   by_no_command : ((c : CommandTree) → IsCommandOf tokens c → ⊥) → IsShownByPiece tokens before found offset None
-  by_no_term : {c : CommandTree} → IsCommandOf tokens c → place_at (table (c ∷ [])) offset ≡ None
-      → IsShownByPiece tokens before found offset None
-  by_no_type : {c : CommandTree} {n : ℕ} → IsCommandOf tokens c → place_at (table (c ∷ [])) offset ≡ Some n
-      → get_or found (before + n) None ≡ None → IsShownByPiece tokens before found offset None
-  by_type : {c : CommandTree} {n : ℕ} {type : Typ} {shown : Shown} → IsCommandOf tokens c → place_at (table (c ∷ [])) offset ≡ Some n
-      → get_or found (before + n) None ≡ Some type → shown.text ≡ text type → shown.span ≡ (place_row_numbered (table (c ∷ [])) n).span
-      → IsShownByPiece tokens before found offset (Some shown)
+  by_command : {c : CommandTree} {shown : Option Shown} → IsCommandOf tokens c → IsShownInCommand c before found offset shown
+      → IsShownByPiece tokens before found offset shown

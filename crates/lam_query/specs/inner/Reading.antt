@@ -1,6 +1,6 @@
 -- What the tokens of a text are read as, one after another. For private functions alone.
-use Rattle.std.specs.Prelude.{◌≡◌, Bool, true, false, List, [], ◌∷◌, ◌++◌, ℕ, map, filter, codes, All, Option, Some, None}
-use Rattle.std.specs.Option.{option_to_list}
+use Rattle.std.specs.Prelude.{◌≡◌, ◌⊎◌, Bool, true, false, if◌then◌else◌, List, [], ◌∷◌, ◌++◌, ℕ, map, filter, codes, All, Option, Some, None}
+use Rattle.std.specs.Option.{option_map, option_to_list}
 use Rattle.std.specs.List.{filter_map}
 use Rattle.lam_token.specs.declared.kind.Kind.TheVariants as kind
 use Rattle.lam_token.specs.Lexeme.{Lexeme, lexeme_at}
@@ -10,16 +10,17 @@ use Rattle.lam_syntax.specs.Answers.{is_semicolon, pieces_of}
 use Rattle.lam_syntax.specs.inner.Reads.{with_piece}
 use Rattle.lam_syntax.specs.Views.{command_of}
 use Rattle.lam_syntax.specs.declared.terms.Command.{Command}
-use Rattle.lam_query.specs.declared.answers.Fault.{Fault as RustFault}
 use Rattle.lam_query.specs.declared.reading.Piece.{Piece}
 use Rattle.lam_query.specs.declared.reading.Piece.TheVariants as piece
 use Rattle.lam_query.specs.declared.reading.Parsed.{Parsed}
 use Rattle.lam_query.specs.declared.reading.Reader.{Reader}
+use Rattle.lam_query.specs.declared.reading.Collector.{Collector}
 use Rattle.lam_query.specs.Commands.{IsCommandOf, AreCommandsOf}
 use Rattle.lam_query.specs.Completions.{is_in_front, is_behind}
 use Rattle.lam_query.specs.Faults.{Fault}
 use Rattle.lam_query.specs.SyntaxFaults.{fault_of_token, PieceFaults, AreSyntaxFaults}
 use Rattle.lam_query.specs.Views.{fault_of}
+use Rattle.lam_query.specs.inner.OnePiece.{EndInSemicolon, HaveNoSemicolon, IsOwnOf}
 
 -- the command that the tokens spell, or they spell none
 abbrev pub IsCommandRead : List Lexeme → Piece → Type 0
@@ -31,38 +32,55 @@ abbrev pub fault_read : Piece → Option Fault
 fault_read (piece.Fault fault) = Some (fault_of fault)
 fault_read _ = None
 
--- the commands found, and those of the pieces that are left, are those of all
-abbrev pub AreFound : List (List Lexeme) → List Command → List (List Lexeme) → Type 0
-AreFound all found left = (rest : List CommandTree) → AreCommandsOf left rest → AreCommandsOf all (map command_of found ++ rest)
+-- the command that was read, if there is one
+abbrev pub own_of : Option Command → List CommandTree
+own_of command = option_to_list (option_map command_of command)
 
--- the faults found, and those of the pieces that are left, are those of all
-abbrev pub AreFaultsFound : List (List Lexeme) → List RustFault → List (List Lexeme) → Type 0
-AreFaultsFound all found left = (others : List Fault) → PieceFaults left others → PieceFaults all (map fault_of found ++ others)
+-- The tokens up to the last semicolon are these, and these are their commands; behind them stand those of the piece that is read.
+pub record AreRead (front : List Lexeme) (done : List CommandTree) (reader : Reader) : Type 0 where
+  pub ends : EndInSemicolon front
+  pub one_piece : HaveNoSemicolon reader.piece.items
+  pub commands : AreCommandsOf (pieces_of front) done
+  pub piece_faults : PieceFaults (pieces_of front) (map fault_of reader.piece_faults.items)
+  pub token_faults : map fault_of reader.token_faults.items ≡ filter_map fault_of_token (front ++ reader.piece.items)
 
--- the faults found, and those of the tokens that are left, are those of all
-abbrev pub AreTokenFaultsFound : List Lexeme → List RustFault → List Lexeme → Type 0
-AreTokenFaultsFound all found left = map fault_of found ++ filter_map fault_of_token left ≡ filter_map fault_of_token all
+-- the tokens up to the last semicolon, with one token more behind those of a piece
+abbrev pub front_after : (front piece : List Lexeme) → Lexeme → List Lexeme
+front_after front piece t = if is_semicolon t then front ++ (piece ++ t ∷ []) else front
 
--- what is known of all tokens, where these are left
-pub record AreRead (all : List Lexeme) (reader : Reader) (left : List Lexeme) : Type 0 where
-  pub one_piece : All (λ t. is_semicolon t ≡ false) reader.piece.items
-  pub commands : AreFound (pieces_of all) reader.commands.items (pieces_of (reader.piece.items ++ left))
-  pub piece_faults : AreFaultsFound (pieces_of all) reader.piece_faults.items (pieces_of (reader.piece.items ++ left))
-  pub token_faults : AreTokenFaultsFound all reader.token_faults.items left
+-- a semicolon ends the piece, and this is its command; another token stands behind the others of the piece
+abbrev pub IsTakenBy : Lexeme → (before : List Lexeme) → Option Command → (now : List Lexeme) → Type 0
+IsTakenBy t before command now =
+    ((is_semicolon t ≡ true) × IsOwnOf before (own_of command) × (now ≡ []))
+    ⊎ ((is_semicolon t ≡ false) × (command ≡ None) × (now ≡ before ++ t ∷ []))
+
+-- The piece was read to its end: its command and the others are those of all tokens, and so are the faults.
+pub record AreAllRead (tokens : List Lexeme) (all : List CommandTree) (reader : Reader) : Type 0 where
+  pub commands : AreCommandsOf (pieces_of tokens) all
+  pub faults : AreSyntaxFaults tokens (map fault_of reader.token_faults.items ++ map fault_of reader.piece_faults.items)
 
 -- the fault that the token is by itself was told, and nothing else
 pub record IsNoted (t : Lexeme) (before now : Reader) : Type 0 where
   pub token_faults : map fault_of now.token_faults.items ≡ map fault_of before.token_faults.items ++ option_to_list (fault_of_token t)
   pub piece : now.piece ≡ before.piece
-  pub commands : now.commands ≡ before.commands
   pub piece_faults : now.piece_faults ≡ before.piece_faults
 
--- the piece was read, whatever other pieces follow
-pub record IsPieceRead (before now : Reader) : Type 0 where
-  pub none_left : now.piece.items ≡ []
-  pub commands : (all left : List (List Lexeme)) → AreFound all before.commands.items (with_piece before.piece.items left) → AreFound all now.commands.items left
-  pub piece_faults : (all left : List (List Lexeme)) → AreFaultsFound all before.piece_faults.items (with_piece before.piece.items left) → AreFaultsFound all now.piece_faults.items left
+-- the faults of the piece were told, and no others
+pub record IsPieceTold (before now : Reader) : Type 0 where
+  pub faults : List Fault
+  pub are_own : PieceFaults (with_piece before.piece.items []) faults
+  pub piece_faults : map fault_of now.piece_faults.items ≡ map fault_of before.piece_faults.items ++ faults
   pub token_faults : now.token_faults ≡ before.token_faults
+
+-- Of all these tokens those that are left were not read yet; these are the commands up to the last semicolon that was read.
+pub record AreReadBut (all left : List Lexeme) (done : List CommandTree) (reader : Reader) : Type 0 where
+  pub front : List Lexeme
+  pub read : AreRead front done reader
+  pub are_all : all ≡ front ++ (reader.piece.items ++ left)
+
+-- so it is where the commands were collected
+abbrev pub AreCollected : (all : List Lexeme) → Collector → (left : List Lexeme) → Type 0
+AreCollected all c left = AreReadBut all left (map command_of c.commands.items) c.reader
 
 -- the name that stands for a label, at the byte of the dot, in front of these tokens, unless it was taken
 abbrev pub with_name_unless : (taken : Bool) → (dot : ℕ) → List Lexeme → List Lexeme
@@ -71,8 +89,8 @@ with_name_unless false dot left = lexeme_at kind.Name (codes "a") dot ∷ left
 
 -- What is known of all tokens with the name among them, where these of the text are left: those in front of the cursor and those behind it, with the name between
 -- them unless it was taken. Where it was, none in front is left.
-pub record AreReadAround (all : List Lexeme) (offset dot : ℕ) (taken : Bool) (reader : Reader) (left : List Lexeme) : Type 0 where
-  pub read : AreRead all reader (filter (is_in_front offset) left ++ with_name_unless taken dot (filter (is_behind offset) left))
+pub record AreCollectedAround (all : List Lexeme) (offset dot : ℕ) (taken : Bool) (c : Collector) (left : List Lexeme) : Type 0 where
+  pub collected : AreCollected all c (filter (is_in_front offset) left ++ with_name_unless taken dot (filter (is_behind offset) left))
   pub none_in_front : taken ≡ true → filter (is_in_front offset) left ≡ []
 
 -- the commands are those of the text's tokens, which begin and end between characters, and the faults are theirs

@@ -11,8 +11,8 @@ use Rattle.lam_scope.specs.Names.{Name, binds}
 use Rattle.lam_scope.specs.Tables.{Table, binder_numbered}
 use Rattle.lam_scope.specs.TableViews.{binder_number}
 use Rattle.lam_typing.specs.Typings.{types_of, entries_in}
-use Rattle.lam_query.specs.declared.analyses.Types.{Types}
-use Rattle.lam_query.specs.declared.analyses.Types.TheVariants.{TooLarge, Found}
+use Rattle.lam_query.specs.declared.documents.Types.{Types}
+use Rattle.lam_query.specs.declared.documents.Types.TheVariants.{TooLarge, Found}
 use Rattle.lam_query.specs.Completions.{Item}
 
 -- the innermost binder of a name, after one more binder inside of those before

@@ -2,14 +2,14 @@ use Rattle.std.proofs.Common.{◌≡◌, ◌+◌, length}
 use denote.Shadow.{shadow}
 use denote.Text.{Utf8}
 use Rattle.lam_token.proofs.SomeCut.{tokens_at}
-use Rattle.lam_query.specs.inner.Reading.{AreRead}
+use Rattle.lam_query.specs.inner.Reading.{AreCollected}
 use Rattle.lam_query.proofs.reading.read.Given as goal
 
 abbrev pub invariant-loop-token : goal.invariant-loop-token
 invariant-loop-token l = record {
   is_text : shadow (Utf8 l.rest);
   place : l.start + length l.rest ≡ length l.fn.text;
-  read : AreRead (tokens_at 0 l.fn.text) l.reader (tokens_at l.start l.rest);
+  collected : AreCollected (tokens_at 0 l.fn.text) l.collector (tokens_at l.start l.rest);
 }
 
 abbrev pub decreases-loop-token : goal.decreases-loop-token

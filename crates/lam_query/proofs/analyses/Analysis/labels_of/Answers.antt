@@ -1,18 +1,17 @@
+use Rattle.std.proofs.Common.{subst}
 use Rattle.std.proofs.lemmas.Result.{IfOk-weaker}
 use Rattle.lam_query.specs.inner.Listed.{small, large}
-use Rattle.lam_query.specs.Analyses.{commands_in}
-use Rattle.lam_query.specs.Sizes.{IsSmall}
-use Rattle.lam_typing.specs.Typings.{found_of}
-use Rattle.lam_query.proofs.Small.{is_small}
+use Rattle.lam_query.specs.inner.TypedTexts.{AreTypesOf}
+use Rattle.lam_query.proofs.Checked.{checked_small}
 use Rattle.lam_query.proofs.analyses.Analysis.labels_of.Goals as goal
 
 pub returns-in-TooLarge : goal.returns-in-TooLarge
-returns-in-TooLarge c = rw c.new.ensures.items (large _ (rw c.in-TooLarge.is at c.requires.types))
+returns-in-TooLarge c whole types = rw c.new.ensures.items (large _ (subst (λ t. AreTypesOf whole t c.args.self.now.dialect) c.in-TooLarge.is types))
 
-pub returns-in-Found : goal.returns-in-Found
-returns-in-Found c =
-    let types = rw c.in-Found.is at c.requires.types in
-    let no_fault : IsSmall (commands_in c.args.self.now) c.args.self.now.dialect
-    = is_small (commands_in c.args.self.now) (found_of c.in-Found.field-1) c.args.self.now.dialect types.none_too_large types.typed.least types.typed.small
-    in
-    IfOk-weaker c.fields_of.result _ _ (λ items listed. small no_fault listed) c.fields_of.ensures
+pub returns-in-Typed : goal.returns-in-Typed
+returns-in-Typed c =
+    IfOk-weaker c.fields_of.result _ _
+    (λ items listed whole types.
+    let typed = subst (λ t. AreTypesOf whole t c.args.self.now.dialect) c.in-Typed.is types in
+    small (checked_small whole typed.context _ typed.blames c.args.self.now.dialect typed.checked) listed)
+    c.fields_of.ensures
