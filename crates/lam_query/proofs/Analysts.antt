@@ -1,5 +1,5 @@
 -- Tokens that are read while their commands are typed: one token more, and the end of the text.
-use Rattle.std.proofs.Common.{◌≡◌, ◌≤◌, ℕ, true, false, cond, List, [], ◌∷◌, ◌++◌, append-nil, append_assoc, length, map, refl, sym, ap, subst, ◌∙◌, inl, inr, Option, Some, None}
+use Rattle.std.proofs.Common.{◌≡◌, ◌≤◌, ℕ, true, List, [], ◌∷◌, ◌++◌, append-nil, append_assoc, length, map, refl, sym, ap, subst, ◌∙◌, Some, None}
 use Rattle.std.specs.List.{All}
 use Rattle.std.specs.Str.{IsUtf8}
 use Rattle.lam_token.specs.declared.kind.Kind.{Kind}
@@ -8,7 +8,6 @@ use Rattle.lam_token.specs.Lexeme.{Lexeme, kind_of, end_of}
 use Rattle.lam_token.specs.Cut.{AreTokensOf, StandsIn}
 use Rattle.lam_syntax.specs.Trees.{CommandTree}
 use Rattle.lam_syntax.specs.Answers.{ends_piece, is_semicolon, pieces_of}
-use Rattle.lam_syntax.specs.declared.terms.Command.{Command}
 use Rattle.lam_query.specs.declared.marks.Mark.{Mark}
 use Rattle.lam_query.specs.declared.analyses.Analysis.{Analysis}
 use Rattle.lam_query.specs.declared.analyses.Analyst.{Analyst}
@@ -25,7 +24,7 @@ use Rattle.lam_query.specs.Views.{fault_of}
 use Rattle.lam_query.specs.inner.Analysts.{IsReadTo}
 use Rattle.lam_query.specs.inner.Marks.{IsPieceBetween, IsMarked, AreMarksFrom, IsFrontOf, AreMarkedIn, AreMarkedTo, AreMarksFor}
 use Rattle.lam_query.specs.inner.OnePiece.{IsOwnOf}
-use Rattle.lam_query.specs.inner.Reading.{AreRead, own_of, front_after, IsTakenBy}
+use Rattle.lam_query.specs.inner.Reading.{AreRead}
 use Rattle.lam_query.specs.inner.TypedTexts.{dialect_of_checker, IsSound, AreAllTyped, AreLimited, AreTypedTo, AreCounted, AreTypesOf, HasLimit}
 use Rattle.lam_query.proofs.Checked.{checked_small}
 use Rattle.lam_query.proofs.MarkedPieces.{piece_ends, last_piece, marked_more, none_marked}
@@ -67,93 +66,57 @@ nothing_read text a read piece sound typed marks = record {
     at (limit.Term s) = tt
     at (limit.WrittenType s) = tt
 
--- ---- one token more
+-- ---- a semicolon, which ends a piece
 
 semicolon : (k : Kind) → ends_piece k ≡ true → k ≡ kind.Semicolon
 semicolon kind.Semicolon is = refl
 semicolon k is = search
 
-module _ (text : List ℕ) (passed left : List Lexeme) (t : Lexeme) (old now : Analyst) (command : Option Command)
-    (is_text : IsUtf8 text) (are : AreTokensOf text (passed ++ t ∷ left)) (r : IsReadTo text passed old)
+module _ (text : List ℕ) (passed left : List Lexeme) (t : Lexeme) (old now : Analyst) (own : List CommandTree)
+    (is_text : IsUtf8 text) (are : AreTokensOf text (passed ++ t ∷ left)) (ends : is_semicolon t ≡ true) (r : IsReadTo text passed old)
     (read : (front : List Lexeme) (done : List CommandTree) → AreRead front done old.reader
-    → AreRead (front_after front old.reader.piece.items t) (done ++ own_of command) now.reader)
+    → AreRead (front ++ (old.reader.piece.items ++ t ∷ [])) (done ++ own) now.reader)
+    (is_own : IsOwnOf old.reader.piece.items own) (none_left : now.reader.piece.items ≡ [])
     (same : dialect_of_checker now.checker ≡ dialect_of_checker old.checker) (sound : IsSound now.checker)
-    (typed : (done : List CommandTree) → AreTypedTo done old.checker → AreTypedTo (done ++ own_of command) now.checker) where
-  abbrev Own : List CommandTree
-  Own = own_of command
-
+    (typed : (done : List CommandTree) → AreTypedTo done old.checker → AreTypedTo (done ++ own) now.checker) where
   abbrev Piece : List Lexeme
   Piece = old.reader.piece.items
 
-  semicolon_taken : (m : Mark) → is_semicolon t ≡ true → IsOwnOf Piece Own → now.reader.piece.items ≡ []
-      → m.end ≡ end_of t → now.marks.items ≡ old.marks.items ++ m ∷ []
+  pub piece_taken : (m : Mark) → m.end ≡ end_of t → now.marks.items ≡ old.marks.items ++ m ∷ []
       → ((done : List CommandTree) → AreTypedTo done now.checker → AreCounted done m.terms now.checker.limit)
       → IsReadTo text (passed ++ t ∷ []) now
-  semicolon_taken m ends own none_left end marks counted = record {
+  piece_taken m end marks counted = record {
     front = r.front ++ (Piece ++ t ∷ []);
     splits = ap (λ ts. ts ++ t ∷ []) r.splits ∙ append_assoc r.front Piece (t ∷ []) ∙ sym (append-nil _) ∙ ap (λ ts. (r.front ++ (Piece ++ t ∷ [])) ++ ts) (sym none_left);
-    done = r.done ++ Own;
-    read = subst (λ b. AreRead (cond b (r.front ++ (Piece ++ t ∷ [])) r.front) (r.done ++ Own) now.reader) ends (read r.front r.done r.read);
+    done = r.done ++ own;
+    read = read r.front r.done r.read;
     sound = sound;
     typed = typed r.done r.typed;
-    marked = at now.checker.limit (typed r.done r.typed) (counted (r.done ++ Own) (typed r.done r.typed));
+    marked = at now.checker.limit (typed r.done r.typed) (counted (r.done ++ own) (typed r.done r.typed));
   }
     where
-      at : (l : Limit) → AreLimited (r.done ++ Own) now.checker l → AreCounted (r.done ++ Own) m.terms l
-          → AreMarkedTo text (r.front ++ (Piece ++ t ∷ [])) now.marks.items (r.done ++ Own) l
+      at : (l : Limit) → AreLimited (r.done ++ own) now.checker l → AreCounted (r.done ++ own) m.terms l
+          → AreMarkedTo text (r.front ++ (Piece ++ t ∷ [])) now.marks.items (r.done ++ own) l
       at limit.NotReached all count =
-          let before = old_marks text r.front old.marks.items r.done Own old.checker now.checker same r.typed all r.marked in
+          let before = old_marks text r.front old.marks.items r.done own old.checker now.checker same r.typed all r.marked in
           let here = piece_ends text r.front Piece left before.last t is_text before.is_front r.read.one_piece (semicolon (kind_of t) ends)
           (subst (λ ts. AreTokensOf text (ts ++ t ∷ left)) r.splits are) in
-          let one : IsMarked text before.last r.done m Own = record {
+          let one : IsMarked text before.last r.done m own = record {
             forward = subst (λ n. before.last ≤ n) (sym end) here.forward;
             inside = subst (λ n. n ≤ length text) (sym end) here.inside;
             tokens = Piece;
             piece = subst (λ n. IsPieceBetween text before.last n Piece) (sym end) here.piece_is;
-            is_own = own;
+            is_own = is_own;
             terms = count;
           } in
           record {
             last = m.end;
             is_front = subst (IsFrontOf text (r.front ++ (Piece ++ t ∷ []))) (sym end) here.front_is;
-            are_marked = subst (λ ms. AreMarksFrom text 0 [] ms m.end (r.done ++ Own)) (sym marks)
-                (marked_more text 0 [] old.marks.items before.last r.done Own m before.are_marked one);
+            are_marked = subst (λ ms. AreMarksFrom text 0 [] ms m.end (r.done ++ own)) (sym marks)
+                (marked_more text 0 [] old.marks.items before.last r.done own m before.are_marked one);
           }
       at (limit.Term s) all count = tt
       at (limit.WrittenType s) all count = tt
-
-  other_taken : is_semicolon t ≡ false → command ≡ None → now.reader.piece.items ≡ Piece ++ t ∷ [] → now.marks.items ≡ old.marks.items
-      → IsReadTo text (passed ++ t ∷ []) now
-  other_taken goes_on none pushed marks = record {
-    front = r.front;
-    splits = ap (λ ts. ts ++ t ∷ []) r.splits ∙ append_assoc r.front Piece (t ∷ []) ∙ ap (λ ts. r.front ++ ts) (sym pushed);
-    done = r.done ++ Own;
-    read = subst (λ b. AreRead (cond b (r.front ++ (Piece ++ t ∷ [])) r.front) (r.done ++ Own) now.reader) goes_on (read r.front r.done r.read);
-    sound = sound;
-    typed = typed r.done r.typed;
-    marked = at now.checker.limit (typed r.done r.typed);
-  }
-    where
-      at : (l : Limit) → AreLimited (r.done ++ Own) now.checker l → AreMarkedTo text r.front now.marks.items (r.done ++ Own) l
-      at limit.NotReached all =
-          let before = old_marks text r.front old.marks.items r.done Own old.checker now.checker same r.typed all r.marked in
-          let no_own : r.done ++ Own ≡ r.done = ap (λ o. r.done ++ own_of o) none ∙ append-nil r.done in
-          subst (λ ms. AreMarkedIn text r.front ms (r.done ++ Own)) (sym marks)
-          (subst (AreMarkedIn text r.front old.marks.items) (sym no_own) before)
-      at (limit.Term s) all = tt
-      at (limit.WrittenType s) all = tt
-
-  pub ended : (m : Mark) → is_semicolon t ≡ true → IsTakenBy t Piece command now.reader.piece.items
-      → m.end ≡ end_of t → now.marks.items ≡ old.marks.items ++ m ∷ []
-      → ((done : List CommandTree) → AreTypedTo done now.checker → AreCounted done m.terms now.checker.limit)
-      → IsReadTo text (passed ++ t ∷ []) now
-  ended m ends (inl (same_ends, own, none_left)) end marks counted = semicolon_taken m ends own none_left end marks counted
-  ended m ends (inr (goes_on, none, pushed)) end marks counted = let no_way : true ≡ false = sym ends ∙ goes_on in cc
-
-  pub went_on : is_semicolon t ≡ false → IsTakenBy t Piece command now.reader.piece.items → now.marks.items ≡ old.marks.items
-      → IsReadTo text (passed ++ t ∷ []) now
-  went_on goes_on (inl (ends, own, none_left)) marks = let no_way : true ≡ false = sym ends ∙ goes_on in cc
-  went_on goes_on (inr (same, none, pushed)) marks = other_taken goes_on none pushed marks
 
 -- ---- the end of the text
 

@@ -1,5 +1,5 @@
 -- The command of a piece by itself: of its tokens no other than the last is a semicolon.
-use Rattle.std.proofs.Common.{◌≡◌, ℕ, true, false, List, [], ◌∷◌, ◌++◌, Option, Result, IfOk, append_assoc, refl, sym, ap, subst, ◌∙◌, inl, inr}
+use Rattle.std.proofs.Common.{◌≡◌, ℕ, true, false, List, [], ◌∷◌, ◌++◌, Option, Result, IfOk, append_assoc, refl, sym, ap, subst, ◌∙◌}
 use Rattle.std.proofs.lemmas.Result.{IfOk-weaker}
 use Rattle.lam_token.specs.Lexeme.{Lexeme}
 use Rattle.lam_token.proofs.Cuts.{one_list_from}
@@ -8,7 +8,7 @@ use Rattle.lam_syntax.specs.Trees.{CommandTree}
 use Rattle.lam_syntax.specs.Answers.{ends_piece, is_semicolon}
 use Rattle.lam_syntax.specs.declared.terms.Command.{Command}
 use Rattle.lam_query.specs.inner.OnePiece.{HaveNoSemicolon, IsOwnOf, ArePieceTokens, before_semicolon, at_end}
-use Rattle.lam_query.specs.inner.Reading.{own_of, IsTakenBy}
+use Rattle.lam_query.specs.inner.Reading.{own_of}
 
 -- ---- where a list of tokens has a semicolon
 
@@ -31,27 +31,18 @@ one_front (x ∷ ts) us (y ∷ vs) ws t v none none' is is' same =
     let rest = one_front ts us vs ws t v none.1 none'.1 is is' others in
     (λ i. first i ∷ rest i)
 
--- ---- a token
-
-pub semicolon_own : (t : Lexeme) (before now : List Lexeme) (command : Option Command) → is_semicolon t ≡ true → IsTakenBy t before command now → IsOwnOf before (own_of command)
-semicolon_own t before now command is (inl taken) = taken.1
-semicolon_own t before now command is (inr taken) = absurd (both t is taken.0)
-
-pub other_taken : (t : Lexeme) (before now : List Lexeme) (command : Option Command) → is_semicolon t ≡ false → IsTakenBy t before command now → now ≡ before ++ t ∷ []
-other_taken t before now command is_not (inl taken) = absurd (both t taken.0 is_not)
-other_taken t before now command is_not (inr taken) = taken.2
+-- ---- the tokens that were read of the piece
 
 -- a token more of all was read
 pub read_more : (all before now left behind : List Lexeme) (t : Lexeme) → all ≡ before ++ left → left ≡ t ∷ behind → now ≡ before ++ t ∷ [] → all ≡ now ++ behind
 read_more all before now left behind t are_all first pushed =
     are_all ∙ ap (λ ts. before ++ ts) first ∙ sym (append_assoc before (t ∷ []) behind) ∙ ap (λ ts. ts ++ behind) (sym pushed)
 
--- ---- the tokens of the piece
-
+-- its command is theirs
 module _ (start : ℕ) (piece rest : List ℕ) (tokens found : List Lexeme) (own : List CommandTree)
     (are : ArePieceTokens start piece rest tokens) (none : HaveNoSemicolon tokens) (none_found : HaveNoSemicolon found) (is_own : IsOwnOf found own) where
   -- those in front of a semicolon
-  pub ended_own : (t : Lexeme) (behind : List Lexeme) → is_semicolon t ≡ true → tokens_at start piece ≡ found ++ t ∷ behind → IsOwnOf tokens own
+  ended_own : (t : Lexeme) (behind : List Lexeme) → is_semicolon t ≡ true → tokens_at start piece ≡ found ++ t ∷ behind → IsOwnOf tokens own
   ended_own t behind is all = by are
     where
       by : ArePieceTokens start piece rest tokens → IsOwnOf tokens own
@@ -63,7 +54,7 @@ module _ (start : ℕ) (piece rest : List ℕ) (tokens found : List Lexeme) (own
           absurd (none_within found behind t (subst HaveNoSemicolon same none) is)
 
   -- all of them
-  pub last_own : tokens_at start piece ≡ found → IsOwnOf tokens own
+  last_own : tokens_at start piece ≡ found → IsOwnOf tokens own
   last_own all = by are
     where
       by : ArePieceTokens start piece rest tokens → IsOwnOf tokens own
@@ -81,3 +72,12 @@ if_last_own r start piece found none_found all own =
     IfOk-weaker r (λ command. IsOwnOf found (own_of command))
     (λ command. (rest : List ℕ) (tokens : List Lexeme) → ArePieceTokens start piece rest tokens → HaveNoSemicolon tokens → IsOwnOf tokens (own_of command))
     (λ command is rest tokens are none. last_own start piece rest tokens found (own_of command) are none none_found is all) own
+
+pub if_ended_own : {E : Type 0} (r : Result (Option Command) E) (start : ℕ) (piece : List ℕ) (found behind : List Lexeme) (t : Lexeme)
+    → HaveNoSemicolon found → is_semicolon t ≡ true → tokens_at start piece ≡ found ++ t ∷ behind
+    → IfOk r (λ command. IsOwnOf found (own_of command))
+    → IfOk r (λ command. (rest : List ℕ) (tokens : List Lexeme) → ArePieceTokens start piece rest tokens → HaveNoSemicolon tokens → IsOwnOf tokens (own_of command))
+if_ended_own r start piece found behind t none_found ends all own =
+    IfOk-weaker r (λ command. IsOwnOf found (own_of command))
+    (λ command. (rest : List ℕ) (tokens : List Lexeme) → ArePieceTokens start piece rest tokens → HaveNoSemicolon tokens → IsOwnOf tokens (own_of command))
+    (λ command is rest tokens are none. ended_own start piece rest tokens found (own_of command) are none none_found is t behind ends all) own

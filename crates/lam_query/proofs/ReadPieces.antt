@@ -1,11 +1,12 @@
 -- Tokens and pieces while they are read, one after another.
-use Rattle.std.proofs.Common.{◌≡◌, true, false, cond, List, [], ◌∷◌, ◌++◌, Option, Some, None, Result, Ok, Err, IfOk, OnOk, length, map, refl, sym, ap, ◌∙◌, subst, append_assoc, append-nil, inl, inr}
+use Rattle.std.proofs.Common.{◌≡◌, true, false, List, [], ◌∷◌, ◌++◌, Some, None, length, map, refl, sym, ap, ◌∙◌, subst, append_assoc, append-nil}
 use Rattle.std.proofs.lemmas.List.{map-append}
 use Rattle.std.specs.List.{filter_map}
-use Rattle.lam_token.specs.Lexeme.{Lexeme}
+use Rattle.std.specs.Option.{option_to_list}
+use Rattle.lam_token.specs.declared.kind.Kind.TheVariants as kind
+use Rattle.lam_token.specs.Lexeme.{Lexeme, lexeme}
 use Rattle.lam_syntax.specs.Trees.{CommandTree}
 use Rattle.lam_syntax.specs.Answers.{is_semicolon, pieces_of}
-use Rattle.lam_syntax.specs.declared.terms.Command.{Command}
 use Rattle.lam_syntax.specs.inner.Reads.{with_piece}
 use Rattle.lam_syntax.proofs.Runs.{no_piece}
 use Rattle.lam_query.specs.declared.answers.Fault.{Fault as RustFault}
@@ -15,7 +16,7 @@ use Rattle.lam_query.specs.Faults.{Fault}
 use Rattle.lam_query.specs.SyntaxFaults.{fault_of_token, PieceFault, PieceFaults}
 use Rattle.lam_query.specs.Views.{fault_of}
 use Rattle.lam_query.specs.inner.OnePiece.{EndInSemicolon, HaveNoSemicolon, IsOwnOf}
-use Rattle.lam_query.specs.inner.Reading.{own_of, AreRead, front_after, IsTakenBy, AreAllRead, IsNoted, IsPieceTold, AreReadBut}
+use Rattle.lam_query.specs.inner.Reading.{AreRead, AreAllRead, IsNoted, AreReadBut}
 use Rattle.lam_query.proofs.DividedPieces.{ended_pieces, last_pieces, semicolon_pushed, other_pushed, commands_joined, own_last}
 use Rattle.lam_query.proofs.FaultLists.{own_fault, faults_joined, token_noted}
 
@@ -30,6 +31,13 @@ nothing_read reader piece piece_faults token_faults = record {
 }
 
 -- ---- the end of a piece
+
+-- the faults of the piece were told, and no others
+pub record IsPieceTold (before now : Reader) : Type 0 where
+  pub faults : List Fault
+  pub are_own : PieceFaults (with_piece before.piece.items []) faults
+  pub piece_faults : map fault_of now.piece_faults.items ≡ map fault_of before.piece_faults.items ++ faults
+  pub token_faults : now.token_faults ≡ before.token_faults
 
 -- a fault of its own, and none
 
@@ -90,101 +98,71 @@ all_read front done own before now is_own told h =
 
 -- ---- a token
 
-front_ended : (front piece : List Lexeme) (t : Lexeme) → is_semicolon t ≡ true → front_after front piece t ≡ front ++ (piece ++ t ∷ [])
-front_ended front piece t is = ap (λ b. cond b (front ++ (piece ++ t ∷ [])) front) is
+semicolon_faultless : (t : Lexeme) → is_semicolon t ≡ true → fault_of_token t ≡ None
+semicolon_faultless (lexeme kind.BadCharacter text span) is = absurd cc
+semicolon_faultless (lexeme kind.BadComment text span) is = absurd cc
+semicolon_faultless t is = refl
 
-front_kept : (front piece : List Lexeme) (t : Lexeme) → is_semicolon t ≡ false → front_after front piece t ≡ front
-front_kept front piece t is = ap (λ b. cond b (front ++ (piece ++ t ∷ [])) front) is
-
-semicolon_read : (front : List Lexeme) (done own : List CommandTree) (t : Lexeme) (before noted now : Reader) → is_semicolon t ≡ true
-    → IsNoted t before noted → IsOwnOf noted.piece.items own → IsPieceTold noted now → now.piece.items ≡ []
+pub semicolon_read : (front : List Lexeme) (done own : List CommandTree) (t : Lexeme) (before now : Reader) → is_semicolon t ≡ true
+    → IsOwnOf before.piece.items own → IsPieceTold before now → now.piece.items ≡ []
     → AreRead front done before → AreRead (front ++ (before.piece.items ++ t ∷ [])) (done ++ own) now
-semicolon_read front done own t before noted now ends is is_own told none_left h =
+semicolon_read front done own t before now ends is_own told none_left h =
     let piece = before.piece.items in
+    let found = map fault_of before.token_faults.items in
     let all = front ++ (piece ++ t ∷ []) in
-    let same : noted.piece.items ≡ piece = ap (λ v. v.items) is.piece in
     let cut = ended_pieces front piece t h.ends h.one_piece ends in
     let behind : (front ++ piece) ++ t ∷ [] ≡ all = append_assoc front piece (t ∷ []) in
     let tokens : (front ++ piece) ++ t ∷ [] ≡ all ++ now.piece.items = behind ∙ sym (append-nil all) ∙ ap (λ ts. all ++ ts) (sym none_left) in
-    let piece_faults : map fault_of now.piece_faults.items ≡ map fault_of before.piece_faults.items ++ told.faults =
-    told.piece_faults ∙ ap (λ v. map fault_of v.items ++ told.faults) is.piece_faults in
+    let noted : found ≡ found ++ option_to_list (fault_of_token t) = sym (append-nil found) ∙ ap (λ f. found ++ option_to_list f) (sym (semicolon_faultless t ends)) in
     record {
       ends = subst EndInSemicolon behind (semicolon_pushed (front ++ piece) t ends);
       one_piece = subst HaveNoSemicolon (sym none_left) tt;
-      commands = commands_read front piece (pieces_of all) done own cut h.commands (subst (λ ts. IsOwnOf ts own) same is_own);
+      commands = commands_read front piece (pieces_of all) done own cut h.commands is_own;
       piece_faults = faults_read front piece (pieces_of all) (map fault_of before.piece_faults.items) told.faults (map fault_of now.piece_faults.items) cut h.piece_faults
-          (subst (λ ts. PieceFaults (with_piece ts []) told.faults) same told.are_own) piece_faults;
+          told.are_own told.piece_faults;
       token_faults =
           ap (λ v. map fault_of v.items) told.token_faults
-          ∙ token_noted before.token_faults.items noted.token_faults.items (front ++ piece) t is.token_faults h.token_faults
+          ∙ token_noted before.token_faults.items before.token_faults.items (front ++ piece) t noted h.token_faults
           ∙ ap (filter_map fault_of_token) tokens;
     }
 
-pub if_semicolon_read : {E : Type 0} (r : Result (Option Command) E) (t : Lexeme) (before noted now : Reader) → is_semicolon t ≡ true → IsNoted t before noted
-    → IfOk r (λ command. IsOwnOf noted.piece.items (own_of command)) → OnOk r (IsPieceTold noted now) → OnOk r (now.piece.items ≡ [])
-    → IfOk r (λ command. (front : List Lexeme) (done : List CommandTree) → AreRead front done before
-    → AreRead (front_after front before.piece.items t) (done ++ own_of command) now)
-if_semicolon_read (Ok command) t before noted now ends is own told none_left = λ front done h.
-    subst (λ ts. AreRead ts (done ++ own_of command) now) (sym (front_ended front before.piece.items t ends))
-    (semicolon_read front done (own_of command) t before noted now ends is own told none_left h)
-if_semicolon_read (Err e) t before noted now ends is own told none_left = tt
-
-pub if_semicolon_taken : {E : Type 0} (r : Result (Option Command) E) (t : Lexeme) (before noted now : Reader) → is_semicolon t ≡ true → IsNoted t before noted
-    → IfOk r (λ command. IsOwnOf noted.piece.items (own_of command)) → OnOk r (now.piece.items ≡ [])
-    → IfOk r (λ command. IsTakenBy t before.piece.items command now.piece.items)
-if_semicolon_taken (Ok command) t before noted now ends is own none_left =
-    inl (ends, subst (λ v. IsOwnOf v.items (own_of command)) is.piece own, none_left)
-if_semicolon_taken (Err e) t before noted now ends is own none_left = tt
-
 pub other_read : (front : List Lexeme) (done : List CommandTree) (t : Lexeme) (before noted now : Reader) → is_semicolon t ≡ false → IsNoted t before noted
-    → now.piece.items ≡ noted.piece.items ++ t ∷ [] → now.piece_faults ≡ noted.piece_faults → now.token_faults ≡ noted.token_faults
-    → AreRead front done before → AreRead (front_after front before.piece.items t) (done ++ []) now
+    → now.piece.items ≡ before.piece.items ++ t ∷ [] → now.piece_faults ≡ noted.piece_faults → now.token_faults ≡ noted.token_faults
+    → AreRead front done before → AreRead front done now
 other_read front done t before noted now goes_on is pushed piece_faults token_faults h =
     let piece = before.piece.items in
-    let pushed' : now.piece.items ≡ piece ++ t ∷ [] = pushed ∙ ap (λ v. v.items ++ t ∷ []) is.piece in
-    let tokens : (front ++ piece) ++ t ∷ [] ≡ front ++ now.piece.items = append_assoc front piece (t ∷ []) ∙ ap (λ ts. front ++ ts) (sym pushed') in
-    let read : AreRead front done now = record {
+    let tokens : (front ++ piece) ++ t ∷ [] ≡ front ++ now.piece.items = append_assoc front piece (t ∷ []) ∙ ap (λ ts. front ++ ts) (sym pushed) in
+    record {
       ends = h.ends;
-      one_piece = subst HaveNoSemicolon (sym pushed') (other_pushed piece t h.one_piece goes_on);
+      one_piece = subst HaveNoSemicolon (sym pushed) (other_pushed piece t h.one_piece goes_on);
       commands = h.commands;
       piece_faults = subst (λ v. PieceFaults (pieces_of front) (map fault_of v.items)) (sym (piece_faults ∙ is.piece_faults)) h.piece_faults;
       token_faults =
           ap (λ v. map fault_of v.items) token_faults
           ∙ token_noted before.token_faults.items noted.token_faults.items (front ++ piece) t is.token_faults h.token_faults
           ∙ ap (filter_map fault_of_token) tokens;
-    } in
-    subst (λ ts. AreRead ts (done ++ []) now) (sym (front_kept front piece t goes_on)) (subst (λ cs. AreRead front cs now) (sym (append-nil done)) read)
+    }
 
 -- ---- all tokens, of which some are left
-
--- the tokens in front of those that are left, and these, stay the same
-tokens_kept : (front before now left : List Lexeme) (t : Lexeme) (command : Option Command) → IsTakenBy t before command now
-    → front_after front before t ++ (now ++ left) ≡ front ++ (before ++ t ∷ left)
-tokens_kept front before now left t command (inl is) =
-    let all = front ++ (before ++ t ∷ []) in
-    ap (λ ts. ts ++ (now ++ left)) (front_ended front before t is.0)
-    ∙ ap (λ ts. all ++ (ts ++ left)) is.2
-    ∙ append_assoc front (before ++ t ∷ []) left
-    ∙ ap (λ ts. front ++ ts) (append_assoc before (t ∷ []) left)
-tokens_kept front before now left t command (inr is) =
-    ap (λ ts. ts ++ (now ++ left)) (front_kept front before t is.0)
-    ∙ ap (λ ts. front ++ (ts ++ left)) is.2
-    ∙ ap (λ ts. front ++ ts) (append_assoc before (t ∷ []) left)
 
 -- nothing was read of them yet
 pub all_left : (all : List Lexeme) (reader : Reader) → reader.piece.items ≡ [] → AreRead [] [] reader → AreReadBut all all [] reader
 all_left all reader no_piece h = record { front = []; read = h; are_all = ap (λ ts. ts ++ all) (sym no_piece) }
 
--- a token more was read
-pub read_on : (all left : List Lexeme) (done : List CommandTree) (t : Lexeme) (command : Option Command) (before now : Reader)
-    → ((front : List Lexeme) (done : List CommandTree) → AreRead front done before → AreRead (front_after front before.piece.items t) (done ++ own_of command) now)
-    → IsTakenBy t before.piece.items command now.piece.items
-    → AreReadBut all (t ∷ left) done before → AreReadBut all left (done ++ own_of command) now
-read_on all left done t command before now read taken h = record {
-  front = front_after h.front before.piece.items t;
-  read = read h.front done h.read;
-  are_all = h.are_all ∙ sym (tokens_kept h.front before.piece.items now.piece.items left t command taken);
-}
+-- a semicolon more was read
+pub semicolon_passed : (all left : List Lexeme) (done own : List CommandTree) (t : Lexeme) (before now : Reader)
+    → ((front : List Lexeme) (done : List CommandTree) → AreRead front done before → AreRead (front ++ (before.piece.items ++ t ∷ [])) (done ++ own) now)
+    → now.piece.items ≡ [] → AreReadBut all (t ∷ left) done before → AreReadBut all left (done ++ own) now
+semicolon_passed all left done own t before now read no_piece h =
+    let piece = before.piece.items in
+    let front = h.front ++ (piece ++ t ∷ []) in
+    let kept : front ++ left ≡ h.front ++ (piece ++ t ∷ left) =
+    append_assoc h.front (piece ++ t ∷ []) left ∙ ap (λ ts. h.front ++ ts) (append_assoc piece (t ∷ []) left) in
+    record {
+      front = front;
+      read = read h.front done h.read;
+      are_all = h.are_all ∙ sym kept ∙ ap (λ ts. front ++ (ts ++ left)) (sym no_piece);
+    }
 
 -- none is left
 pub none_left : (all : List Lexeme) (done own : List CommandTree) (before now : Reader)

@@ -1,9 +1,10 @@
 //! What is known of a text.
-ghost use Rattle.std.specs.Prelude.{◌≡◌, ◌++◌, ◌∷◌, [], ℕ, List, IfOk, OnOk};
+ghost use Rattle.std.specs.Prelude.{true, ◌≡◌, ◌++◌, ◌∷◌, [], ℕ, List, IfOk, OnOk};
 ghost use Rattle.std.specs.Str.{IsUtf8};
 ghost use Rattle.lam_token.specs.Lexeme.{Lexeme};
 ghost use Rattle.lam_token.specs.Cut.{AreTokensOf};
 ghost use Rattle.lam_query.specs.Analyses.{IsAnalysisOf, dialect_of};
+ghost use Rattle.lam_syntax.specs.Answers.{is_semicolon};
 ghost use Rattle.lam_syntax.specs.Trees.{CommandTree};
 ghost use Rattle.lam_query.specs.inner.Analysts.{dialect_for, IsReadTo};
 ghost use Rattle.lam_query.specs.inner.Reading.{own_of};
@@ -77,14 +78,26 @@ impl<'t> Analyst<'t> {
         ensures sound { OnOk result (IsSound self.new.checker) }
         ensures dialect { dialect_for self.new ≡ dialect_for self.old }
     {
-        let end = token.end();
-        let ends = is_semicolon(&token);
-        let command = self.reader.take(token)?;
-        check(&mut self.checker, &command)?;
-        if ends {
-            let terms = self.checker.terms();
-            self.marks.push(Mark { end, terms })?;
+        if is_semicolon(&token) {
+            return self.end_piece(&token);
         }
+        self.reader.push(token)
+    }
+
+    /// The semicolon behind a piece.
+    fn end_piece(&mut self, semicolon: &Token<'t>) -> Result<(), AllocError>
+        requires sound { IsSound self.old.checker }
+        requires semicolon { is_semicolon semicolon.now ≡ true }
+        ensures read { OnOk result ((text : List ℕ) (passed left : List Lexeme) → IsUtf8 text → AreTokensOf text (passed ++ semicolon.now ∷ left) → IsReadTo text passed self.old → IsReadTo text (passed ++ semicolon.now ∷ []) self.new) }
+        ensures sound { OnOk result (IsSound self.new.checker) }
+        ensures dialect { dialect_for self.new ≡ dialect_for self.old }
+    {
+        let command = self.reader.end_piece()?;
+        check(&mut self.checker, &command)?;
+        self.marks.push(Mark {
+            end: semicolon.end(),
+            terms: self.checker.terms(),
+        })?;
         Ok(())
     }
 

@@ -1,17 +1,17 @@
 //! What a text is read as: commands, and the faults of what is none.
-ghost use Rattle.std.specs.Prelude.{◌≡◌, ◌∷◌, ◌++◌, ◌+◌, ◌<◌, ◌^◌, ℕ, List, [], map, codes, length, IfOk, OnOk};
+ghost use Rattle.std.specs.Prelude.{true, false, ◌≡◌, ◌∷◌, ◌++◌, ◌+◌, ◌<◌, ◌^◌, ℕ, List, [], map, codes, length, IfOk, OnOk};
 ghost use Rattle.std.specs.Option.{option_map};
 ghost use Rattle.lam_token.specs.Lexeme.{Lexeme, start_of};
 ghost use Rattle.lam_token.specs.Cut.{AreTokensOf};
 ghost use Rattle.lam_syntax.specs.Trees.{CommandTree};
-ghost use Rattle.lam_syntax.specs.Answers.{pieces_of};
+ghost use Rattle.lam_syntax.specs.Answers.{is_semicolon, pieces_of};
 ghost use Rattle.lam_syntax.specs.Views.{command_of};
 ghost use Rattle.lam_scope.specs.Nesting.{TokensStand};
 ghost use Rattle.lam_query.specs.Commands.{AreCommandsOf};
 ghost use Rattle.lam_query.specs.Completions.{with_label};
 ghost use Rattle.lam_query.specs.SyntaxFaults.{fault_of_token, PieceFault};
 ghost use Rattle.lam_query.specs.inner.OnePiece.{HaveNoSemicolon, IsOwnOf, ArePieceTokens};
-ghost use Rattle.lam_query.specs.inner.Reading.{IsCommandRead, fault_read, own_of, AreRead, front_after, IsTakenBy, AreAllRead, IsNoted, IsPieceTold, AreCollected, with_name_unless, AreCollectedAround, IsRead};
+ghost use Rattle.lam_query.specs.inner.Reading.{IsCommandRead, fault_read, own_of, AreRead, AreAllRead, IsNoted, AreCollected, with_name_unless, AreCollectedAround, IsRead};
 ghost use Rattle.lam_query.specs.Views.{fault_of};
 
 use crate::answers::Fault;
@@ -117,11 +117,10 @@ pub(crate) fn command_in(
     while let Some((token, after)) = first_token(rest, place) {
         rest = after;
         place = token.end();
-        let ends = is_semicolon(&token);
-        let command = reader.take(token)?;
-        if ends {
-            return Ok(command);
+        if is_semicolon(&token) {
+            return reader.end_piece();
         }
+        reader.push(token)?;
     }
     reader.end_piece()
 }
@@ -140,17 +139,15 @@ impl<'t> Reader<'t> {
         }
     }
 
-    /// The next token of the text, with the command that it ends.
-    pub(crate) fn take(&mut self, token: Token<'t>) -> Result<Option<Command>, AllocError>
-        ensures read { IfOk result (λ command. (front : List Lexeme) (done : List CommandTree) → AreRead front done self.old → AreRead (front_after front self.old.piece.items token.entry) (done ++ own_of command) self.new) }
-        ensures taken { IfOk result (λ command. IsTakenBy token.entry self.old.piece.items command self.new.piece.items) }
+    /// The next token of the text, which is no semicolon.
+    pub(crate) fn push(&mut self, token: Token<'t>) -> Result<(), AllocError>
+        requires { is_semicolon token ≡ false }
+        ensures read { OnOk result ((front : List Lexeme) (done : List CommandTree) → AreRead front done self.old → AreRead front done self.new) }
+        ensures pushed { OnOk result (self.new.piece.items ≡ self.old.piece.items ++ token.entry ∷ []) }
     {
         self.note(&token)?;
-        if is_semicolon(&token) {
-            return self.end_piece();
-        }
         self.piece.push(token)?;
-        Ok(None)
+        Ok(())
     }
 
     /// The fault that the token is by itself, if it is one.
@@ -163,11 +160,11 @@ impl<'t> Reader<'t> {
         Ok(())
     }
 
-    /// No token of the piece follows: the command that it is.
+    /// No token of the piece follows, but a semicolon or the end of the text: the command that the piece is.
     pub(crate) fn end_piece(&mut self) -> Result<Option<Command>, AllocError>
         ensures all { IfOk result (λ command. (front : List Lexeme) (done : List CommandTree) → AreRead front done self.old → AreAllRead (front ++ self.old.piece.items) (done ++ own_of command) self.new) }
+        ensures read { IfOk result (λ command. (front : List Lexeme) (done : List CommandTree) (t : Lexeme) → is_semicolon t ≡ true → AreRead front done self.old → AreRead (front ++ (self.old.piece.items ++ t ∷ [])) (done ++ own_of command) self.new) }
         ensures own { IfOk result (λ command. IsOwnOf self.old.piece.items (own_of command)) }
-        ensures told { OnOk result (IsPieceTold self.old self.new) }
         ensures none_left { OnOk result (self.new.piece.items ≡ []) }
     {
         if self.piece.is_empty() {
@@ -209,10 +206,11 @@ impl<'t> Collector<'t> {
     fn take(&mut self, token: Token<'t>) -> Result<(), AllocError>
         ensures { OnOk result ((all left : List Lexeme) → AreCollected all self.old (token.entry ∷ left) → AreCollected all self.new left) }
     {
-        if let Some(command) = self.reader.take(token)? {
-            self.commands.push(command)?;
+        if is_semicolon(&token) {
+            let command = self.reader.end_piece()?;
+            return self.keep(command);
         }
-        Ok(())
+        self.reader.push(token)
     }
 
     /// The next token of the text, unless it is a word that the cursor touches or has the cursor inside of it; before the
@@ -254,7 +252,16 @@ impl<'t> Collector<'t> {
     fn end_piece(&mut self) -> Result<(), AllocError>
         ensures { OnOk result ((all : List Lexeme) → AreCollected all self.old [] → AreAllRead all (map command_of self.new.commands.items) self.new.reader) }
     {
-        if let Some(command) = self.reader.end_piece()? {
+        let command = self.reader.end_piece()?;
+        self.keep(command)
+    }
+
+    /// The command of a piece, if it is one.
+    fn keep(&mut self, command: Option<Command>) -> Result<(), AllocError>
+        ensures reader { self.new.reader ≡ self.old.reader }
+        ensures kept { OnOk result (map command_of self.new.commands.items ≡ map command_of self.old.commands.items ++ own_of command) }
+    {
+        if let Some(command) = command {
             self.commands.push(command)?;
         }
         Ok(())

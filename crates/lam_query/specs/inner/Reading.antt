@@ -1,13 +1,12 @@
 -- What the tokens of a text are read as, one after another. For private functions alone.
-use Rattle.std.specs.Prelude.{◌≡◌, ◌⊎◌, Bool, true, false, if◌then◌else◌, List, [], ◌∷◌, ◌++◌, ℕ, map, filter, codes, All, Option, Some, None}
+use Rattle.std.specs.Prelude.{◌≡◌, Bool, true, false, List, [], ◌∷◌, ◌++◌, ℕ, map, filter, codes, All, Option, Some, None}
 use Rattle.std.specs.Option.{option_map, option_to_list}
 use Rattle.std.specs.List.{filter_map}
 use Rattle.lam_token.specs.declared.kind.Kind.TheVariants as kind
 use Rattle.lam_token.specs.Lexeme.{Lexeme, lexeme_at}
 use Rattle.lam_token.specs.Cut.{AreTokensOf, StandsIn}
 use Rattle.lam_syntax.specs.Trees.{CommandTree}
-use Rattle.lam_syntax.specs.Answers.{is_semicolon, pieces_of}
-use Rattle.lam_syntax.specs.inner.Reads.{with_piece}
+use Rattle.lam_syntax.specs.Answers.{pieces_of}
 use Rattle.lam_syntax.specs.Views.{command_of}
 use Rattle.lam_syntax.specs.declared.terms.Command.{Command}
 use Rattle.lam_query.specs.declared.reading.Piece.{Piece}
@@ -20,7 +19,7 @@ use Rattle.lam_query.specs.Completions.{is_in_front, is_behind}
 use Rattle.lam_query.specs.Faults.{Fault}
 use Rattle.lam_query.specs.SyntaxFaults.{fault_of_token, PieceFaults, AreSyntaxFaults}
 use Rattle.lam_query.specs.Views.{fault_of}
-use Rattle.lam_query.specs.inner.OnePiece.{EndInSemicolon, HaveNoSemicolon, IsOwnOf}
+use Rattle.lam_query.specs.inner.OnePiece.{EndInSemicolon, HaveNoSemicolon}
 
 -- the command that the tokens spell, or they spell none
 abbrev pub IsCommandRead : List Lexeme → Piece → Type 0
@@ -44,16 +43,6 @@ pub record AreRead (front : List Lexeme) (done : List CommandTree) (reader : Rea
   pub piece_faults : PieceFaults (pieces_of front) (map fault_of reader.piece_faults.items)
   pub token_faults : map fault_of reader.token_faults.items ≡ filter_map fault_of_token (front ++ reader.piece.items)
 
--- the tokens up to the last semicolon, with one token more behind those of a piece
-abbrev pub front_after : (front piece : List Lexeme) → Lexeme → List Lexeme
-front_after front piece t = if is_semicolon t then front ++ (piece ++ t ∷ []) else front
-
--- a semicolon ends the piece, and this is its command; another token stands behind the others of the piece
-abbrev pub IsTakenBy : Lexeme → (before : List Lexeme) → Option Command → (now : List Lexeme) → Type 0
-IsTakenBy t before command now =
-    ((is_semicolon t ≡ true) × IsOwnOf before (own_of command) × (now ≡ []))
-    ⊎ ((is_semicolon t ≡ false) × (command ≡ None) × (now ≡ before ++ t ∷ []))
-
 -- The piece was read to its end: its command and the others are those of all tokens, and so are the faults.
 pub record AreAllRead (tokens : List Lexeme) (all : List CommandTree) (reader : Reader) : Type 0 where
   pub commands : AreCommandsOf (pieces_of tokens) all
@@ -64,13 +53,6 @@ pub record IsNoted (t : Lexeme) (before now : Reader) : Type 0 where
   pub token_faults : map fault_of now.token_faults.items ≡ map fault_of before.token_faults.items ++ option_to_list (fault_of_token t)
   pub piece : now.piece ≡ before.piece
   pub piece_faults : now.piece_faults ≡ before.piece_faults
-
--- the faults of the piece were told, and no others
-pub record IsPieceTold (before now : Reader) : Type 0 where
-  pub faults : List Fault
-  pub are_own : PieceFaults (with_piece before.piece.items []) faults
-  pub piece_faults : map fault_of now.piece_faults.items ≡ map fault_of before.piece_faults.items ++ faults
-  pub token_faults : now.token_faults ≡ before.token_faults
 
 -- Of all these tokens those that are left were not read yet; these are the commands up to the last semicolon that was read.
 pub record AreReadBut (all left : List Lexeme) (done : List CommandTree) (reader : Reader) : Type 0 where

@@ -4,9 +4,9 @@ use Rattle.std.proofs.lemmas.Bool.{eqb-true, eqb-false}
 use Rattle.std.proofs.lemmas.List.{nil_from_length}
 use Rattle.lam_query.specs.declared.reading.Reader.{Reader}
 use Rattle.lam_query.specs.inner.OnePiece.{IsOwnOf, one_command, no_command}
-use Rattle.lam_query.specs.inner.Reading.{own_of, IsPieceTold}
+use Rattle.lam_query.specs.inner.Reading.{own_of}
 use Rattle.lam_query.proofs.DividedPieces.{no_tokens_own}
-use Rattle.lam_query.proofs.ReadPieces.{no_tokens_told, none_more, one_more, all_read}
+use Rattle.lam_query.proofs.ReadPieces.{IsPieceTold, no_tokens_told, none_more, one_more, all_read, semicolon_read}
 use Rattle.lam_query.proofs.reading.Reader.end_piece.Goals as goal
 use Rattle.lam_query.proofs.reading.Reader.end_piece.Goals.{in-Command, in-Fault+in_ok-push-in-Fault, in-Spoiled}
 
@@ -19,8 +19,8 @@ returns-then-is_empty c =
     let told = no_tokens_told self none in
     record {
       all = λ front done h. all_read front done [] self self own told h;
+      read = λ front done t ends h. semicolon_read front done [] t self self ends own told (nil_from_length piece.items none) h;
       own = own;
-      told = told;
       none_left = nil_from_length piece.items none;
     }
 
@@ -47,7 +47,7 @@ returns c =
     ] in
     record {
       all = λ front done h. all_read front done (own_of found) before now own told h;
+      read = λ front done t ends h. semicolon_read front done (own_of found) t before now ends own told c.clear.ensures.items h;
       own = own;
-      told = told;
       none_left = c.clear.ensures.items;
     }
