@@ -9,10 +9,8 @@ use Rattle.std.proofs.lemmas.Slice.Eq.{bytes_eq-Decides}
 use Rattle.lam_syntax.specs.Trees.{TypeTree}
 use Rattle.lam_syntax.proofs.Shapes.{type_node_of-Bool, type_node_of-Nat, type_node_of-Unit, type_node_of-Top, type_node_of-Named, type_node_of-Arrow, type_node_of-Record, term_node_of-True, term_node_of-False, term_node_of-Unit, term_node_of-Variable, term_node_of-Numeral, term_node_of-Lambda, term_node_of-If, term_node_of-Let, term_node_of-Letrec, term_node_of-Prefixed, term_node_of-Apply, term_node_of-Project, term_node_of-Ascribe, term_node_of-Record}
 use Rattle.lam_scope.specs.Names.{Name, binds, count}
-use Rattle.lam_scope.specs.Stacks.{stacked}
 use Rattle.lam_scope.specs.FreeNames.{without, each_once, free_type_names_in, free_type_names_in_types}
-use Rattle.lam_scope.specs.inner.FoundNames.{letters_of, bound_names, is_among, with_name, found_after, free_under}
-use Rattle.lam_scope.proofs.StackViews.{stacked-push}
+use Rattle.lam_scope.specs.inner.FoundNames.{letters_of, is_among, with_name, found_after, free_under}
 use Rattle.lam_scope.proofs.Walks.{fields_of-drop}
 use Rattle.lam_scope.proofs.WrittenTypes.{type_fields_of-drop}
 
@@ -58,26 +56,7 @@ pub free_under-one : (bs : List (Option Name)) (x : Name) → free_under bs (x �
 free_under-one [] x = refl
 free_under-one (b ∷ bs) x = one_left bs (binds b x) x (free_under-one bs x) ∙ ap (λ c. if c then [] else x ∷ []) (sym (some_counted (binds b x) (count x bs)))
 
--- names that are kept as binders
-
-or_moved : (a b c : Bool) → a || (b || c) ≡ (b || a) || c
-or_moved true true c = refl
-or_moved true false c = refl
-or_moved false true c = refl
-or_moved false false c = refl
-
-counted_among : (x : Name) (bs : List (Option Name)) (items : List (Bor (List ℕ))) → is_some (count x (stacked (λ y. Some y.now) bs items)) ≡ is_among x (letters_of items) || is_some (count x bs)
-counted_among x bs [] = refl
-counted_among x bs (y ∷ items) =
-    counted_among x (Some y.now ∷ bs) items
-    ∙ ap (λ c. is_among x (letters_of items) || c) (some_counted (bytes_eq y.now x) (count x bs))
-    ∙ or_moved (is_among x (letters_of items)) (bytes_eq y.now x) (is_some (count x bs))
-
-pub bound_among : (x : Name) (items : List (Bor (List ℕ))) → is_some (count x (bound_names items)) ≡ is_among x (letters_of items)
-bound_among x items = counted_among x [] items ∙ or-false (is_among x (letters_of items))
-
-pub bound_names-push : (items : List (Bor (List ℕ))) (y : Bor (List ℕ)) → bound_names (items ++ y ∷ []) ≡ Some y.now ∷ bound_names items
-bound_names-push items y = stacked-push (λ z. Some z.now) [] items y
+-- one more name
 
 pub letters_of-push : (items : List (Bor (List ℕ))) (y : Bor (List ℕ)) → letters_of (items ++ y ∷ []) ≡ letters_of items ++ y.now ∷ []
 letters_of-push [] y = refl
@@ -136,7 +115,7 @@ others-none (x ∷ xs) = ap (λ ys. x ∷ ys) (others-none xs)
 pub found-once : (xs : List Name) → found_after [] xs ≡ each_once xs
 found-once xs = found_others [] xs ∙ others-none (each_once xs)
 
-pub ruleset found_names = (bound_among, bound_names-push, letters_of-push)
+pub ruleset found_names = (letters_of-push)
 
 pub ruleset once = (found-once)
 

@@ -1,6 +1,7 @@
 pub mod WrittenTypes
 pub mod StackViews
 pub mod NameStacks
+pub mod FewNames
 pub mod Lookups
 pub mod NewNames
 pub mod KeptForms

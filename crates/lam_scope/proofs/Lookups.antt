@@ -22,13 +22,13 @@ value_of (Some n) = n
 
 -- the first of a list has the name, or another behind it
 
-pub split : (b : Bool) (o : Option ℕ) (n : ℕ) → (if b then Some 0 else option_map suc o) ≡ Some n
+split : (b : Bool) (o : Option ℕ) (n : ℕ) → (if b then Some 0 else option_map suc o) ≡ Some n
     → ((b ≡ true) × (n ≡ 0)) ⊎ ((b ≡ false) × ((m : ℕ) × (o ≡ Some m) × (n ≡ suc m)))
 split true o n e = inl (refl, sym (ap value_of e))
 split false None n e = cc
 split false (Some m) n e = inr (refl, (m, refl, sym (ap value_of e)))
 
-pub split_none : (b : Bool) (o : Option ℕ) → (if b then Some 0 else option_map suc o) ≡ None → (b ≡ false) × (o ≡ None)
+split_none : (b : Bool) (o : Option ℕ) → (if b then Some 0 else option_map suc o) ≡ None → (b ≡ false) × (o ≡ None)
 split_none true o e = cc
 split_none false None e = (refl, refl)
 split_none false (Some m) e = cc
@@ -90,7 +90,7 @@ no_meaning_by_count x (stands_for y t ∷ bs) none =
     let inner = no_meaning_by_count x bs both.1 in
     (ap (λ b. if b then true else is_bound x bs) both.0 ∙ inner.0, ap (λ b. if b then t else meaning x bs) both.0 ∙ inner.1)
 
-pub count-within : (x : Name) (bs : List (Option Name)) (n : ℕ) → count x bs ≡ Some n → n < length bs
+count-within : (x : Name) (bs : List (Option Name)) (n : ℕ) → count x bs ≡ Some n → n < length bs
 count-within x [] n e = cc
 count-within x (b ∷ bs) n e = by (λ m rest. count-within x bs m rest) (split (binds b x) (count x bs) n e)
   where

@@ -22,10 +22,6 @@ numbered_name_of t = record { name = t.name.now; number = t.number }
 abbrev pub numbered_names_of : List TypeName → List NumberedName
 numbered_names_of = stacked numbered_name_of []
 
--- their letters
-abbrev pub names_numbered : List NumberedName → List (Option Name)
-names_numbered = map (λ t. Some t.name)
-
 -- what the innermost one of that name is told to stand for, if there is one
 abbrev pub number_named : Name → List NumberedName → Option (Option TyNo)
 number_named x [] = None

@@ -1,4 +1,5 @@
 pub mod NameStacks
+pub mod FewNames
 pub mod UseChains
 pub mod ProofIrrelevance
 pub mod Found

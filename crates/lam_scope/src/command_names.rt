@@ -9,8 +9,9 @@ ghost use Rattle.lam_scope.specs.Nameless.{written_in, written_in_node, written_
 ghost use Rattle.lam_scope.specs.inner.FoundNames.{found_after};
 ghost use Rattle.lam_scope.specs.inner.FoundInTerms.{AreFound};
 
+use crate::few_names::FewNames;
 use crate::found_names::FoundNames;
-use crate::names::{Names, name_of, text_of};
+use crate::names::{name_of, text_of};
 use lam_syntax::{
     Application, Ascription, Binder, Command, Conditional, Identifier, Lambda, Let, Letrec, Tm,
     TmField, TmNode, TyField, TyNode, WrittenTy,
@@ -30,7 +31,7 @@ pub struct FreeNames<'a> {
 pub(crate) struct Finding<'a> {
     names: FoundNames<'a>,
     type_names: FoundNames<'a>,
-    bound: Names<'a>,
+    bound: FewNames<'a>,
 }
 
 /// The names and type names that a command takes from outside.
@@ -42,7 +43,7 @@ pub fn free_names<'a>(alloc: Global, command: &'a Command) -> Result<FreeNames<'
     let mut finding = Finding {
         names: FoundNames::new(alloc),
         type_names: FoundNames::new(alloc),
-        bound: Names::new(alloc),
+        bound: FewNames::new(alloc),
     };
     find_in_command(&mut finding, command)?;
     Ok(FreeNames {

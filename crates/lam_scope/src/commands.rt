@@ -11,10 +11,10 @@ ghost use Rattle.lam_scope.specs.Views.{IsLimit};
 ghost use Rattle.lam_scope.specs.inner.Interned.{IsStated};
 
 use crate::environment::Environment;
+use crate::few_names::FewNames;
 use crate::interned::InternedStatement;
 use crate::interning::{intern_term, intern_written};
 use crate::interning_types::Interning;
-use crate::names::Names;
 use crate::scope_fault::ScopeFault;
 use crate::type_fault::TypeFault;
 use crate::type_names::TypeNames;
@@ -67,7 +67,7 @@ fn state<'a>(
     interning: &mut Interning,
     table: &mut TyTable,
     seen: &TypeNames<'_>,
-    names: &mut Names<'a>,
+    names: &mut FewNames<'a>,
     command: &'a Command,
 ) -> Result<InternedStatement<'a>, ScopeFault>
     requires { NamesStand table.old seen.now }

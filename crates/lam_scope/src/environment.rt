@@ -5,7 +5,7 @@ ghost use Rattle.lam_scope.specs.Expansions.{stands_for};
 ghost use Rattle.lam_scope.specs.Numbered.{written_over, StandsIfAny};
 ghost use Rattle.lam_scope.specs.Environments.{names_seen, abbreviations_seen, TypeNamesStand};
 
-use crate::names::Names;
+use crate::few_names::FewNames;
 use crate::type_names::{TypeName, TypeNames};
 use lam_rules::TyNo;
 use std::alloc::{AllocError, Global};
@@ -13,7 +13,7 @@ use std::alloc::{AllocError, Global};
 /// The names that a command sees, and the type names with the number, in a table of types, of what each stands for.
 #[derive(Drop)]
 pub struct Environment<'a> {
-    pub(crate) names: Names<'a>,
+    pub(crate) names: FewNames<'a>,
     pub(crate) types: TypeNames<'a>,
 }
 
@@ -25,7 +25,7 @@ impl<'a> Environment<'a> {
         ensures stand { (ts : List Typ) → TypeNamesStand ts result }
     {
         Environment {
-            names: Names::new(alloc),
+            names: FewNames::new(alloc),
             types: TypeNames::new(alloc),
         }
     }

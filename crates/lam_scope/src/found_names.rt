@@ -1,8 +1,7 @@
 //! Names that are found one after the other, each kept where it comes first.
 ghost use Rattle.std.specs.Prelude.{◌≡◌, [], OnOk};
-ghost use Rattle.lam_scope.specs.inner.FoundNames.{letters_of, bound_names, with_name};
+ghost use Rattle.lam_scope.specs.inner.FoundNames.{letters_of, is_among, with_name};
 
-use crate::names::Names;
 use std::alloc::{AllocError, Global};
 use std::marker::Model;
 
@@ -10,20 +9,16 @@ use std::marker::Model;
 #[derive(Drop)]
 pub(crate) struct FoundNames<'a> {
     items: Vec<&'a str>,
-    /// The same names, so that no look-up walks them.
-    names: Names<'a>,
 }
 
 impl<'a> Model for FoundNames<'a> {
-    ghost use Rattle.std.specs.Prelude.{◌≡◌, List};
+    ghost use Rattle.std.specs.Prelude.{List};
     ghost use Rattle.lam_scope.specs.Names.{Name};
-    ghost use Rattle.lam_scope.specs.inner.FoundNames.{letters_of, bound_names};
+    ghost use Rattle.lam_scope.specs.inner.FoundNames.{letters_of};
 
     ghost Value = { List Name };
 
     ghost view = { λ f. letters_of f.items.items };
-
-    ghost invariant = { λ f. f.names ≡ bound_names f.items.items };
 }
 
 impl<'a> FoundNames<'a> {
@@ -33,15 +28,19 @@ impl<'a> FoundNames<'a> {
     {
         FoundNames {
             items: Vec::new(alloc),
-            names: Names::new(alloc),
         }
     }
 
     /// A name, which may have been found before.
+    #[tactic(auto, using(crate::proofs::FoundNames::found_names))]
     pub(crate) fn add(&mut self, name: &'a str) -> Result<(), AllocError>
         ensures { OnOk result (self.new ≡ with_name name.now self.old) }
     {
-        add_in(&mut self.items, &mut self.names, name)
+        if contains(&self.items, name) {
+            return Ok(());
+        }
+        self.items.push(name)?;
+        Ok(())
     }
 
     /// The names.
@@ -52,22 +51,14 @@ impl<'a> FoundNames<'a> {
     }
 }
 
-#[tactic(auto, using(crate::proofs::FoundNames::found_names))]
-fn add_in<'a>(
-    items: &mut Vec<&'a str>,
-    names: &mut Names<'a>,
-    name: &'a str,
-) -> Result<(), AllocError>
-    requires { names.old ≡ bound_names items.old.items }
-    ensures names { names.new ≡ bound_names items.new.items }
-    ensures added { OnOk result (letters_of items.new.items ≡ with_name name.now (letters_of items.old.items)) }
+/// Whether a name is one of these.
+fn contains(items: &[&str], name: &str) -> bool
+    ensures { result ≡ is_among name.now (letters_of items.now) }
 {
-    if names.count(name).is_some() {
-        return Ok(());
+    for i in 0..items.len() {
+        if items[i] == name {
+            return true;
+        }
     }
-    // With its room made first the push cannot fail, and leave a name that is no item.
-    items.reserve(1)?;
-    names.enter(Some(name))?;
-    items.push(name)?;
-    Ok(())
+    false
 }

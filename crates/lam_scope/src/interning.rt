@@ -15,13 +15,14 @@ ghost use Rattle.lam_scope.specs.InternedViews.{interned_term, StandIn};
 ghost use Rattle.lam_scope.specs.inner.Interned.{IsWrittenInterned, IsInterned, AreInterned};
 
 use crate::expansion::NODE_LIMIT;
+use crate::few_names::FewNames;
 use crate::interned::{InternedField, InternedTerm};
 use crate::interning_types::{Interning, intern_type};
 use crate::making::{
     make_application, make_ascription, make_if, make_lambda, make_let, make_letrec, make_prefixed,
     make_projection,
 };
-use crate::names::{Names, name_of, text_of};
+use crate::names::{name_of, text_of};
 use crate::scope_fault::ScopeFault;
 use crate::type_names::TypeNames;
 use lam_rules::{TyNo, TyTable};
@@ -38,7 +39,7 @@ pub(crate) fn intern_term<'a>(
     interning: &mut Interning,
     table: &mut TyTable,
     seen: &TypeNames<'_>,
-    names: &mut Names<'a>,
+    names: &mut FewNames<'a>,
     term: &'a Tm,
 ) -> Result<InternedTerm<'a>, ScopeFault>
     requires { NamesStand table.old seen.now }
@@ -100,7 +101,7 @@ fn intern_under<'a>(
     interning: &mut Interning,
     table: &mut TyTable,
     seen: &TypeNames<'_>,
-    names: &mut Names<'a>,
+    names: &mut FewNames<'a>,
     binder: &'a Binder,
     body: &'a Tm,
 ) -> Result<InternedTerm<'a>, ScopeFault>
@@ -119,7 +120,7 @@ fn lambda_of<'a>(
     interning: &mut Interning,
     table: &mut TyTable,
     seen: &TypeNames<'_>,
-    names: &mut Names<'a>,
+    names: &mut FewNames<'a>,
     term: &'a Lambda,
 ) -> Result<InternedTerm<'a>, ScopeFault>
     requires { NamesStand table.old seen.now }
@@ -136,7 +137,7 @@ fn if_of<'a>(
     interning: &mut Interning,
     table: &mut TyTable,
     seen: &TypeNames<'_>,
-    names: &mut Names<'a>,
+    names: &mut FewNames<'a>,
     term: &'a Conditional,
 ) -> Result<InternedTerm<'a>, ScopeFault>
     requires { NamesStand table.old seen.now }
@@ -154,7 +155,7 @@ fn let_of<'a>(
     interning: &mut Interning,
     table: &mut TyTable,
     seen: &TypeNames<'_>,
-    names: &mut Names<'a>,
+    names: &mut FewNames<'a>,
     term: &'a Let,
 ) -> Result<InternedTerm<'a>, ScopeFault>
     requires { NamesStand table.old seen.now }
@@ -171,7 +172,7 @@ fn letrec_of<'a>(
     interning: &mut Interning,
     table: &mut TyTable,
     seen: &TypeNames<'_>,
-    names: &mut Names<'a>,
+    names: &mut FewNames<'a>,
     term: &'a Letrec,
 ) -> Result<InternedTerm<'a>, ScopeFault>
     requires { NamesStand table.old seen.now }
@@ -189,7 +190,7 @@ fn prefixed_of<'a>(
     interning: &mut Interning,
     table: &mut TyTable,
     seen: &TypeNames<'_>,
-    names: &mut Names<'a>,
+    names: &mut FewNames<'a>,
     prefix: Prefix,
     operand: &'a Tm,
 ) -> Result<InternedTerm<'a>, ScopeFault>
@@ -206,7 +207,7 @@ fn apply_of<'a>(
     interning: &mut Interning,
     table: &mut TyTable,
     seen: &TypeNames<'_>,
-    names: &mut Names<'a>,
+    names: &mut FewNames<'a>,
     term: &'a Application,
 ) -> Result<InternedTerm<'a>, ScopeFault>
     requires { NamesStand table.old seen.now }
@@ -223,7 +224,7 @@ fn project_of<'a>(
     interning: &mut Interning,
     table: &mut TyTable,
     seen: &TypeNames<'_>,
-    names: &mut Names<'a>,
+    names: &mut FewNames<'a>,
     term: &'a Projection,
 ) -> Result<InternedTerm<'a>, ScopeFault>
     requires { NamesStand table.old seen.now }
@@ -240,7 +241,7 @@ fn ascribe_of<'a>(
     interning: &mut Interning,
     table: &mut TyTable,
     seen: &TypeNames<'_>,
-    names: &mut Names<'a>,
+    names: &mut FewNames<'a>,
     term: &'a Ascription,
 ) -> Result<InternedTerm<'a>, ScopeFault>
     requires { NamesStand table.old seen.now }
@@ -257,7 +258,7 @@ fn record_of<'a>(
     interning: &mut Interning,
     table: &mut TyTable,
     seen: &TypeNames<'_>,
-    names: &mut Names<'a>,
+    names: &mut FewNames<'a>,
     fields: &'a [TmField],
 ) -> Result<InternedTerm<'a>, ScopeFault>
     requires { NamesStand table.old seen.now }
@@ -273,7 +274,7 @@ fn intern_fields<'a>(
     interning: &mut Interning,
     table: &mut TyTable,
     seen: &TypeNames<'_>,
-    names: &mut Names<'a>,
+    names: &mut FewNames<'a>,
     fields: &'a [TmField],
 ) -> Result<Vec<InternedField<'a>>, ScopeFault>
     requires { NamesStand table.old seen.now }
@@ -294,7 +295,7 @@ fn intern_fields<'a>(
 
 /// The count of a use, or its name where it is unbound.
 #[tactic(auto, using(crate::proofs::InternedForms::use_forms))]
-fn use_of<'a>(names: &Names<'_>, name: &'a Identifier) -> InternedTerm<'a>
+fn use_of<'a>(names: &FewNames<'_>, name: &'a Identifier) -> InternedTerm<'a>
     ensures form { (ts : List Typ) → interned_term ts result ≡ use_counted (letters name.now.text) (count (letters name.now.text) names.now) }
     ensures stands { (ts : List Typ) → StandIn ts result }
 {

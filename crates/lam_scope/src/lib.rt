@@ -13,14 +13,10 @@
 //! the `abbreviations` in sight, `uses_left` hands on the counts. `resolved` keeps the result, `search` finds a place's
 //! term in it.
 //!
-//! One command by itself: `command_names` lists the names that it asks for (`found_names` keeps each once). An
-//! `environment` has what it sees, type names with numbers of a table of types (`type_names`). `commands` gives its form
-//! over that table (`interned`): `interning` forms a term of parts (`making`), `interning_types` puts written types into
-//! the table.
-//!
-//! One command by itself: `command_names` finds the names that it takes from outside, `environment` holds what they mean,
-//! and `commands` gives its form over a table of types (`interned`, made by `interning`, `interning_types` and `making`),
-//! in which an abbreviation of thousands of nodes is one number.
+//! One command by itself: `command_names` lists the names that it takes from outside (`found_names` keeps each once). An
+//! `environment` has what it sees, names (`few_names`) and type names with numbers of a table of types (`type_names`).
+//! `commands` gives its form over that table (`interned`), in which an abbreviation of thousands of nodes is one number:
+//! `interning` forms a term of parts (`making`), `interning_types` puts written types into the table.
 //!
 //! Nothing here knows tokens but for their spans, types of terms, subtyping, or positions in lines.
 #![tactic(auto)]
@@ -32,6 +28,7 @@ mod commands;
 mod document;
 mod environment;
 mod expansion;
+mod few_names;
 mod found_names;
 mod interned;
 mod interning;

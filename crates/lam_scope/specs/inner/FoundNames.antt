@@ -1,18 +1,13 @@
 -- Names that are found one after the other, each kept where it comes first. For private contracts only.
-use Rattle.std.specs.Prelude.{ℕ, List, [], ◌∷◌, ◌++◌, map, Bool, false, ◌||◌, Option, Some, if◌then◌else◌}
+use Rattle.std.specs.Prelude.{ℕ, List, [], ◌∷◌, ◌++◌, map, Bool, false, ◌||◌, Option, if◌then◌else◌}
 use Rattle.std.specs.Str.{bytes_eq}
 use denote.Ref.{Bor}
 use Rattle.lam_scope.specs.Names.{Name}
-use Rattle.lam_scope.specs.Stacks.{stacked}
 use Rattle.lam_scope.specs.FreeNames.{without}
 
 -- the letters of names
 abbrev pub letters_of : List (Bor (List ℕ)) → List Name
 letters_of = map (λ x. x.now)
-
--- the names as binders, the last one first
-abbrev pub bound_names : List (Bor (List ℕ)) → List (Option Name)
-bound_names = stacked (λ x. Some x.now) []
 
 -- whether a name is one of some
 abbrev pub is_among : Name → List Name → Bool

@@ -1,12 +1,14 @@
 use Rattle.std.proofs.Common.{sym, ◌∙◌}
-use Rattle.lam_scope.proofs.TypeNames.{type_name_within, type_name_found, type_name_missed}
+use Rattle.lam_scope.proofs.TypeNames.{sought_here, sought_further, sought_in_vain}
 use Rattle.lam_scope.proofs.type_names.find_in.Goals as goal
 
-pub item_under-found-requires : goal.item_under-found-requires
-item_under-found-requires c = type_name_within c.args.stack.now c.args.names.now c.args.name.now c.in-Some.count c.requires (sym c.count.ensures ∙ c.in-Some.is)
+pub returns-then-eq : goal.returns-then-eq
+returns-then-eq c =
+    sym (c.loop-i.invariant ∙ sought_here c.args.name.now c.args.stack.now c.loop-i.i _ c.loop-i-test.true c.item_under-seen.ensures (sym c.eq.ensures ∙ c.if-eq.true))
 
-pub returns-in-None : goal.returns-in-None
-returns-in-None c = type_name_missed c.args.stack.now c.args.names.now c.args.name.now c.requires (sym c.count.ensures ∙ c.in-None.is)
+pub loop-i-preserved : goal.loop-i-preserved
+loop-i-preserved c =
+    c.loop-i.invariant ∙ sought_further c.args.name.now c.args.stack.now c.loop-i.i _ c.loop-i-test.true c.item_under-seen.ensures (sym c.eq.ensures ∙ c.if-eq.false)
 
-pub returns-in-Some : goal.returns-in-Some
-returns-in-Some c = type_name_found c.args.stack.now c.args.names.now c.args.name.now c.in-Some.count _ c.requires (sym c.count.ensures ∙ c.in-Some.is) c.item_under-found.ensures
+pub returns : goal.returns
+returns c = sym (c.loop-i.invariant ∙ sought_in_vain c.args.name.now c.args.stack.now c.loop-i.i c.loop-i-test.false)

@@ -1,0 +1,85 @@
+//! The binders of names that a term of one command sees.
+ghost use Rattle.std.specs.Prelude.{◌≡◌, ◌∷◌, [], OnOk, OnErr};
+ghost use Rattle.std.specs.Option.{option_map};
+ghost use Rattle.lam_scope.specs.Names.{binds, count};
+ghost use Rattle.lam_scope.specs.Stacks.{outside};
+ghost use Rattle.lam_scope.specs.inner.FewNames.{few_names};
+
+use crate::stacks::item_under;
+use std::alloc::{AllocError, Global};
+use std::marker::Model;
+
+/// The names of the binders that a term of one command sees, searched from the innermost outwards: a command has few. A
+/// clause sees them as a list, the innermost first.
+#[derive(Drop)]
+pub(crate) struct FewNames<'a> {
+    /// The innermost last.
+    stack: Vec<Option<&'a str>>,
+}
+
+impl<'a> Model for FewNames<'a> {
+    ghost use Rattle.std.specs.Prelude.{List, Option};
+    ghost use Rattle.lam_scope.specs.Names.{Name};
+    ghost use Rattle.lam_scope.specs.inner.FewNames.{few_names};
+
+    ghost Value = { List (Option Name) };
+
+    ghost view = { λ n. few_names n.stack.items };
+}
+
+impl<'a> FewNames<'a> {
+    /// No binder is seen.
+    pub(crate) fn new(alloc: Global) -> FewNames<'a>
+        ensures { result ≡ [] }
+    {
+        FewNames {
+            stack: Vec::new(alloc),
+        }
+    }
+
+    /// One more binder is seen, inside of the others. An underscore has no name.
+    #[tactic(auto, using(crate::proofs::FewNames::entered))]
+    pub(crate) fn enter(&mut self, name: Option<&'a str>) -> Result<(), AllocError>
+        ensures entered { OnOk result (self.new ≡ option_map (λ x. x.now) name.entry ∷ self.old) }
+        ensures unchanged { OnErr result (self.new ≡ self.old) }
+    {
+        self.stack.push(name)?;
+        Ok(())
+    }
+
+    /// The innermost binder is seen no more.
+    pub(crate) fn leave(&mut self)
+        ensures { self.new ≡ outside self.old }
+    {
+        self.stack.pop();
+    }
+
+    /// How many binders stand between a use of the name and its own.
+    pub(crate) fn count(&self, name: &str) -> Option<usize>
+        ensures { result ≡ count name.now self.now }
+    {
+        count_in(&self.stack, name)
+    }
+}
+
+fn count_in(stack: &[Option<&str>], name: &str) -> Option<usize>
+    ensures { result ≡ count name.now (few_names stack.now) }
+{
+    for between in 0..stack.len() {
+        let binder = item_under(stack, between);
+        if is_named(*binder, name) {
+            return Some(between);
+        }
+    }
+    None
+}
+
+/// Whether a binder has this name.
+fn is_named(binder: Option<&str>, name: &str) -> bool
+    ensures { result ≡ binds (option_map (λ x. x.now) binder.entry) name.now }
+{
+    match binder {
+        None => false,
+        Some(own) => own == name,
+    }
+}
