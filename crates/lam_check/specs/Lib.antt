@@ -1,0 +1,3 @@
+pub mod Paints
+pub mod Lines
+pub mod Reports
