@@ -1,2 +1,3 @@
 pub mod LineEnds
 pub mod Writing
+pub mod Drawing

@@ -1,3 +1,5 @@
 pub mod Paints
 pub mod Lines
 pub mod Reports
+pub mod Drawings
+pub mod inner

@@ -1,7 +1,9 @@
 //! The words of the command line.
+use crate::forms::Form;
 use clap::error::ErrorKind;
-use clap::{Arg, ArgAction, Command, Error};
+use clap::{Arg, ArgAction, ArgMatches, Command, Error};
 use lam_rules::Dialect;
+use lam_text::Position;
 use std::alloc::{AllocError, Global};
 use thiserror::Error as FaultError;
 
@@ -20,6 +22,10 @@ static INPUT_ALONE: [&str; 1] = [INPUT];
 const ABOUT: &str = "Checks texts in the typed lambda calculus with records and subtyping: \
     tells each fault with its line and column.";
 
+const LATEX: &str = "Draws the tree in LaTeX, with the package bussproofs";
+
+const HTML: &str = "Draws the tree in HTML, in parts that fold";
+
 const STATUSES: &str = "Exit status: 0 without a fault, 1 with one, 2 for a wrong command line, \
     4 for a file that cannot be read or an output that cannot be written, 5 for want of memory.";
 
@@ -27,6 +33,15 @@ const STATUSES: &str = "Exit status: 0 without a fault, 1 with one, 2 for a wron
 #[derive(Clone, Copy, Debug)]
 pub struct Asked {
     pub dialect: Dialect,
+    /// What is shown of each file.
+    pub shown: Shown,
+}
+
+#[derive(Clone, Copy, Debug)]
+pub enum Shown {
+    Faults,
+    /// Why the term there has its type, in this form.
+    Derivation(Position, Form),
 }
 
 /// Why the words ask for nothing.
@@ -56,12 +71,51 @@ pub fn read_args<'a>(
     };
     let asked = Asked {
         dialect: chosen(matches.get_str("dialect")),
+        shown: match what_is_shown(&matches) {
+            Ok(shown) => shown,
+            Err(text) => {
+                return match String::from_str(alloc, text) {
+                    Ok(text) => Err(ArgsFault::Usage(text)),
+                    Err(_) => Err(ArgsFault::Memory),
+                };
+            }
+        },
     };
     let names = matches.get_strs("FILE").unwrap_or(INPUT_ALONE.as_slice());
     match Vec::from_slice(alloc, names) {
         Ok(files) => Ok((asked, files)),
         Err(_) => Err(ArgsFault::Memory),
     }
+}
+
+/// What the words ask to be shown.
+fn what_is_shown(matches: &ArgMatches<'_>) -> Result<Shown, &'static str> {
+    let Some(word) = matches.get_str("why") else {
+        return Ok(Shown::Faults);
+    };
+    let Some(place) = place_of(word) else {
+        return Err("error: --why takes a line and a column, both from 1, as 3:14\n");
+    };
+    Ok(Shown::Derivation(place, form_of(matches)))
+}
+
+fn form_of(matches: &ArgMatches<'_>) -> Form {
+    if matches.get_flag("html") {
+        return Form::Html;
+    }
+    if matches.get_flag("latex") {
+        return Form::Latex;
+    }
+    Form::Text
+}
+
+/// The place of a line and a column that are written with a colon between them, both counted from 1.
+fn place_of(word: &str) -> Option<Position> {
+    let (line, column) = word.split_once(':')?;
+    Some(Position {
+        line: line.parse::<u64>().ok()?.checked_sub(1)?,
+        character: column.parse::<u64>().ok()?.checked_sub(1)?,
+    })
 }
 
 /// The rules that a value of `--dialect` names.
@@ -86,6 +140,9 @@ fn named<'a>(words: &'a [&'a str]) -> &'a [&'a str] {
 fn command<'a>(alloc: Global) -> Result<Command<'a>, AllocError> {
     let command = Command::new(alloc, NAME).about(ABOUT).after_help(STATUSES);
     let command = command.arg(dialect(alloc))?;
+    let command = command.arg(why(alloc))?;
+    let command = command.arg(flag(alloc, "latex", LATEX)?)?;
+    let command = command.arg(flag(alloc, "html", HTML)?)?;
     command.arg(files(alloc))
 }
 
@@ -96,6 +153,22 @@ fn dialect<'a>(alloc: Global) -> Arg<'a> {
         .value_parser(DIALECTS.as_slice())
         .default_value("1")
         .help("The subtyping rules: 1 for the book's, 2 for these and Bool below Nat")
+}
+
+fn why<'a>(alloc: Global) -> Arg<'a> {
+    Arg::new(alloc, "why")
+        .long("why")
+        .value_name("LINE:COLUMN")
+        .help("Shows why the innermost term there has its type, as a tree")
+}
+
+/// A form of the tree.
+fn flag<'a>(alloc: Global, name: &'a str, help: &'a str) -> Result<Arg<'a>, AllocError> {
+    let form = Arg::new(alloc, name)
+        .long(name)
+        .action(ArgAction::SetTrue)
+        .help(help);
+    form.requires_arg("why")
 }
 
 fn files<'a>(alloc: Global) -> Arg<'a> {

@@ -5,15 +5,20 @@
 #![tactic(auto)]
 
 mod args;
+mod drawings;
 mod files;
+mod forms;
 mod lines;
 mod messages;
 mod paint;
 mod reports;
 
-use args::{ArgsFault, Asked, read_args};
+use args::{ArgsFault, Asked, Shown, read_args};
+use drawings::drawing;
 use files::{ReadFault, text_of};
+use forms::Form;
 use lam_rules::Dialect;
+use lam_text::Position;
 use paint::Paint;
 use reports::report;
 use std::alloc::{AllocError, Global};
@@ -128,7 +133,10 @@ fn check<R: AllocGlobal + Files + Input + Print + Eprint>(
             return DEVICE;
         }
     };
-    tell_faults(rt, asked.dialect, name, &text, paint)
+    match asked.shown {
+        Shown::Faults => tell_faults(rt, asked.dialect, name, &text, paint),
+        Shown::Derivation(place, form) => tell_why(rt, asked.dialect, name, &text, place, form),
+    }
 }
 
 /// Prints the report on a text. The status to end with on its account.
@@ -148,6 +156,26 @@ fn tell_faults<R: AllocGlobal + Print + Eprint>(
         FAULTY
     };
     status.max(tell(rt, &checked.report))
+}
+
+/// Prints why the term at a place has its type. The status to end with on its account.
+fn tell_why<R: AllocGlobal + Print + Eprint>(
+    rt: &R,
+    dialect: Dialect,
+    name: &str,
+    text: &str,
+    place: Position,
+    form: Form,
+) -> u8 {
+    match drawing(rt.alloc(), text, place, dialect, form) {
+        Ok(Some(drawing)) => tell(rt, &drawing),
+        Ok(None) => {
+            let name = shown_name(name);
+            let _ = eprintln!(rt; "lam_check: {name}: no term with a type is there");
+            FAULTY
+        }
+        Err(_) => want_of_memory(rt),
+    }
 }
 
 /// Prints a text. The status to end with on its account.
