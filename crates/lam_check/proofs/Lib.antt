@@ -1,3 +1,5 @@
 pub mod LineEnds
 pub mod Writing
 pub mod Drawing
+pub mod TypeLists
+pub mod PiecesRead

@@ -2,4 +2,5 @@ pub mod Paints
 pub mod Lines
 pub mod Reports
 pub mod Drawings
+pub mod Types
 pub mod inner

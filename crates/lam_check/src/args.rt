@@ -40,6 +40,7 @@ pub struct Asked {
 #[derive(Clone, Copy, Debug)]
 pub enum Shown {
     Faults,
+    FaultsAndTypes,
     /// Why the term there has its type, in this form.
     Derivation(Position, Form),
 }
@@ -91,6 +92,9 @@ pub fn read_args<'a>(
 /// What the words ask to be shown.
 fn what_is_shown(matches: &ArgMatches<'_>) -> Result<Shown, &'static str> {
     let Some(word) = matches.get_str("why") else {
+        if matches.get_flag("types") {
+            return Ok(Shown::FaultsAndTypes);
+        }
         return Ok(Shown::Faults);
     };
     let Some(place) = place_of(word) else {
@@ -140,6 +144,7 @@ fn named<'a>(words: &'a [&'a str]) -> &'a [&'a str] {
 fn command<'a>(alloc: Global) -> Result<Command<'a>, AllocError> {
     let command = Command::new(alloc, NAME).about(ABOUT).after_help(STATUSES);
     let command = command.arg(dialect(alloc))?;
+    let command = command.arg(types(alloc))?;
     let command = command.arg(why(alloc))?;
     let command = command.arg(flag(alloc, "latex", LATEX)?)?;
     let command = command.arg(flag(alloc, "html", HTML)?)?;
@@ -153,6 +158,13 @@ fn dialect<'a>(alloc: Global) -> Arg<'a> {
         .value_parser(DIALECTS.as_slice())
         .default_value("1")
         .help("The subtyping rules: 1 for the book's, 2 for these and Bool below Nat")
+}
+
+fn types<'a>(alloc: Global) -> Arg<'a> {
+    Arg::new(alloc, "types")
+        .long("types")
+        .action(ArgAction::SetTrue)
+        .help("Shows the least type of each command")
 }
 
 fn why<'a>(alloc: Global) -> Arg<'a> {

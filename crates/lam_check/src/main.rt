@@ -5,6 +5,7 @@
 #![tactic(auto)]
 
 mod args;
+mod commands;
 mod drawings;
 mod files;
 mod forms;
@@ -12,6 +13,7 @@ mod lines;
 mod messages;
 mod paint;
 mod reports;
+mod types;
 
 use args::{ArgsFault, Asked, Shown, read_args};
 use drawings::drawing;
@@ -26,6 +28,7 @@ use std::env::{self, Env};
 use std::io::{self, ErrorKind, IsTerminal};
 use std::process::ExitCode;
 use std::rt::Files;
+use types::types_text;
 
 // How the program ends. Where there is more than one reason, the greatest number counts.
 const FAULTLESS: u8 = 0;
@@ -135,6 +138,10 @@ fn check<R: AllocGlobal + Files + Input + Print + Eprint>(
     };
     match asked.shown {
         Shown::Faults => tell_faults(rt, asked.dialect, name, &text, paint),
+        Shown::FaultsAndTypes => {
+            let faults = tell_faults(rt, asked.dialect, name, &text, paint);
+            faults.max(tell_types(rt, asked.dialect, &text))
+        }
         Shown::Derivation(place, form) => tell_why(rt, asked.dialect, name, &text, place, form),
     }
 }
@@ -156,6 +163,14 @@ fn tell_faults<R: AllocGlobal + Print + Eprint>(
         FAULTY
     };
     status.max(tell(rt, &checked.report))
+}
+
+/// Prints the types of a text. The status to end with on their account.
+fn tell_types<R: AllocGlobal + Print + Eprint>(rt: &R, dialect: Dialect, text: &str) -> u8 {
+    match types_text(rt.alloc(), text, dialect) {
+        Ok(types) => tell(rt, &types),
+        Err(_) => want_of_memory(rt),
+    }
 }
 
 /// Prints why the term at a place has its type. The status to end with on its account.
