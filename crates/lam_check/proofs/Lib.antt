@@ -3,3 +3,4 @@ pub mod Writing
 pub mod Drawing
 pub mod TypeLists
 pub mod PiecesRead
+pub mod Floatless

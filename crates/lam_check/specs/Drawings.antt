@@ -169,8 +169,12 @@ pub record IsDrawing (form : Form) (text : List ℕ) (offset : ℕ) (drawing : T
   pub right : IsDerivedIn text offset (Some derived) d
   pub draws : Draws form text derived drawing
 
--- The drawing of why the innermost term round a place has its type, where columns count characters; none where no type is shown there, or the text has no such
--- place.
+-- Why the innermost term round a place has its type, where columns count characters; none where no type is shown there, or the text has no such place.
+abbrev pub IsDerivedAt : List ℕ → Position → Option Derivation → Dialect → Type 0
+IsDerivedAt text place (Some derived) d = IsDerivedIn text (offset_of Utf32 text place) (Some derived) d
+IsDerivedAt text place None d = IsDerivedIn text (offset_of Utf32 text place) None d ⊎ (place ≢ position_of Utf32 text (offset_of Utf32 text place))
+
+-- its drawing
 abbrev pub IsDrawnAt : Form → List ℕ → Position → Option Text → Dialect → Type 0
 IsDrawnAt form text place (Some drawing) d = IsDrawing form text (offset_of Utf32 text place) drawing d
-IsDrawnAt form text place None d = IsDerivedIn text (offset_of Utf32 text place) None d ⊎ (place ≢ position_of Utf32 text (offset_of Utf32 text place))
+IsDrawnAt form text place None d = IsDerivedAt text place None d

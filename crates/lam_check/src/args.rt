@@ -43,6 +43,8 @@ pub enum Shown {
     FaultsAndTypes,
     /// Why the term there has its type, in this form.
     Derivation(Position, Form),
+    FaultsJson,
+    DerivationJson(Position),
 }
 
 /// Why the words ask for nothing.
@@ -92,6 +94,9 @@ pub fn read_args<'a>(
 /// What the words ask to be shown.
 fn what_is_shown(matches: &ArgMatches<'_>) -> Result<Shown, &'static str> {
     let Some(word) = matches.get_str("why") else {
+        if matches.get_flag("json") {
+            return Ok(Shown::FaultsJson);
+        }
         if matches.get_flag("types") {
             return Ok(Shown::FaultsAndTypes);
         }
@@ -100,6 +105,9 @@ fn what_is_shown(matches: &ArgMatches<'_>) -> Result<Shown, &'static str> {
     let Some(place) = place_of(word) else {
         return Err("error: --why takes a line and a column, both from 1, as 3:14\n");
     };
+    if matches.get_flag("json") {
+        return Ok(Shown::DerivationJson(place));
+    }
     Ok(Shown::Derivation(place, form_of(matches)))
 }
 
@@ -148,6 +156,7 @@ fn command<'a>(alloc: Global) -> Result<Command<'a>, AllocError> {
     let command = command.arg(why(alloc))?;
     let command = command.arg(flag(alloc, "latex", LATEX)?)?;
     let command = command.arg(flag(alloc, "html", HTML)?)?;
+    let command = command.arg(json(alloc)?)?;
     command.arg(files(alloc))
 }
 
@@ -181,6 +190,16 @@ fn flag<'a>(alloc: Global, name: &'a str, help: &'a str) -> Result<Arg<'a>, Allo
         .action(ArgAction::SetTrue)
         .help(help);
     form.requires_arg("why")
+}
+
+fn json<'a>(alloc: Global) -> Result<Arg<'a>, AllocError> {
+    let json = Arg::new(alloc, "json")
+        .long("json")
+        .action(ArgAction::SetTrue)
+        .help("Writes a line of JSON for each file, in the shapes of the language server");
+    let json = json.conflicts_with("types")?;
+    let json = json.conflicts_with("latex")?;
+    json.conflicts_with("html")
 }
 
 fn files<'a>(alloc: Global) -> Arg<'a> {

@@ -1,14 +1,14 @@
 //! Derivations as they are drawn.
-ghost use Rattle.std.specs.Prelude.{◌≡◌, ◌+◌, ◌*◌, ◌^◌, ◌<◌, ◌≤◌, ◌++◌, ℕ, All, IfOk, OnOk, chars, encode_utf8_all, length, map, option_map, replicate, string_bytes};
+ghost use Rattle.std.specs.Prelude.{◌≡◌, ◌+◌, ◌*◌, ◌^◌, ◌<◌, ◌≤◌, ◌++◌, ℕ, All, IfOk, IfSome, OnOk, chars, encode_utf8_all, length, map, option_map, replicate, string_bytes};
 ghost use Rattle.std.specs.List.{repeat};
 ghost use Rattle.lam_query.specs.Steps.{Proof, Proofs, steps_of, steps_before, number_of_steps, last_steps};
-ghost use Rattle.lam_query.specs.Views.{step_of, StepStandsIn};
+ghost use Rattle.lam_query.specs.Views.{step_of, derivation_of, StepStandsIn};
 ghost use Rattle.lam_query.specs.Within.{IsSpanOfText};
-ghost use Rattle.lam_check.specs.Drawings.{term_text, claim_text, rule_text, before, behind, html_head, latex_claim, drawn, drawn_each, IsDrawnAt, latex_step, arity, axiom_text, written, pack_text, flat};
+ghost use Rattle.lam_check.specs.Drawings.{term_text, claim_text, rule_text, before, behind, html_head, latex_claim, drawn, drawn_each, IsDerivedAt, IsDrawnAt, latex_step, arity, axiom_text, written, pack_text, flat};
 ghost use Rattle.lam_check.specs.inner.Drawing.{Stands, AllStand};
 
 use crate::forms::{Form, Markup, push_written};
-use lam_query::answers::Step;
+use lam_query::answers::{Derivation, Step};
 use lam_query::derivation;
 use lam_rules::{Dialect, plain_text_of};
 use lam_text::{Doc, Encoding, Position};
@@ -26,12 +26,7 @@ pub fn drawing(
 ) -> Result<Option<String>, AllocError>
     ensures { IfOk result (λ found. IsDrawnAt form text.now place (option_map (λ s. string_bytes s) found) dialect) }
 {
-    let doc = Doc::new(alloc, text, Encoding::Utf32)?;
-    let offset = doc.offset_of(place);
-    if doc.position_of(offset) != place {
-        return Ok(None);
-    }
-    let Some(derived) = derivation(alloc, text, offset, dialect)? else {
+    let Some(derived) = derivation_at(alloc, text, place, dialect)? else {
         return Ok(None);
     };
     let mut out = String::new(alloc);
@@ -39,6 +34,25 @@ pub fn drawing(
     push_proof(alloc, &mut out, form, text, &derived.steps)?;
     out.push_str(form.tail())?;
     Ok(Some(out))
+}
+
+/// Why the innermost term round a place has its type; none where no type is shown there, or the text has no such place.
+/// The place counts characters.
+pub fn derivation_at(
+    alloc: Global,
+    text: &str,
+    place: Position,
+    dialect: Dialect,
+) -> Result<Option<Derivation>, AllocError>
+    ensures derived { IfOk result (λ found. IsDerivedAt text.now place (option_map derivation_of found) dialect) }
+    ensures whole_characters { IfOk result (λ found. IfSome found (λ d. All (StepStandsIn text.now) d.steps.items)) }
+{
+    let doc = Doc::new(alloc, text, Encoding::Utf32)?;
+    let offset = doc.offset_of(place);
+    if doc.position_of(offset) != place {
+        return Ok(None);
+    }
+    derivation(alloc, text, offset, dialect)
 }
 
 /// Draws the proof that has these steps.

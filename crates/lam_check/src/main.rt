@@ -6,23 +6,27 @@
 
 mod args;
 mod commands;
+mod derivation_values;
+mod diagnostic_values;
 mod drawings;
 mod files;
 mod forms;
+mod json;
 mod lines;
 mod messages;
+mod objects;
 mod paint;
+mod ranges;
 mod reports;
 mod types;
 
 use args::{ArgsFault, Asked, Shown, read_args};
 use drawings::drawing;
 use files::{ReadFault, text_of};
-use forms::Form;
+use json::{faults_json, why_json};
 use lam_rules::Dialect;
-use lam_text::Position;
 use paint::Paint;
-use reports::report;
+use reports::{Checked, report};
 use std::alloc::{AllocError, Global};
 use std::env::{self, Env};
 use std::io::{self, ErrorKind, IsTerminal};
@@ -142,7 +146,21 @@ fn check<R: AllocGlobal + Files + Input + Print + Eprint>(
             let faults = tell_faults(rt, asked.dialect, name, &text, paint);
             faults.max(tell_types(rt, asked.dialect, &text))
         }
-        Shown::Derivation(place, form) => tell_why(rt, asked.dialect, name, &text, place, form),
+        Shown::FaultsJson => {
+            let name = shown_name(name);
+            tell_checked(rt, faults_json(rt.alloc(), name, &text, asked.dialect))
+        }
+        Shown::DerivationJson(place) => {
+            let found = why_json(rt.alloc(), shown_name(name), &text, place, asked.dialect);
+            tell_found(rt, name, found)
+        }
+        Shown::Derivation(place, form) => {
+            tell_found(
+                rt,
+                name,
+                drawing(rt.alloc(), &text, place, asked.dialect, form),
+            )
+        }
     }
 }
 
@@ -154,7 +172,15 @@ fn tell_faults<R: AllocGlobal + Print + Eprint>(
     text: &str,
     paint: Paint,
 ) -> u8 {
-    let Ok(checked) = report(rt.alloc(), shown_name(name), text, dialect, paint) else {
+    tell_checked(
+        rt,
+        report(rt.alloc(), shown_name(name), text, dialect, paint),
+    )
+}
+
+/// Prints what was told of the faults of a text. The status to end with on its account.
+fn tell_checked<R: Print + Eprint>(rt: &R, told: Result<Checked, AllocError>) -> u8 {
+    let Ok(checked) = told else {
         return want_of_memory(rt);
     };
     let status = if checked.count == 0 {
@@ -173,17 +199,14 @@ fn tell_types<R: AllocGlobal + Print + Eprint>(rt: &R, dialect: Dialect, text: &
     }
 }
 
-/// Prints why the term at a place has its type. The status to end with on its account.
-fn tell_why<R: AllocGlobal + Print + Eprint>(
+/// Prints why the term at a place has its type, if that was found. The status to end with on its account.
+fn tell_found<R: Print + Eprint>(
     rt: &R,
-    dialect: Dialect,
     name: &str,
-    text: &str,
-    place: Position,
-    form: Form,
+    found: Result<Option<String>, AllocError>,
 ) -> u8 {
-    match drawing(rt.alloc(), text, place, dialect, form) {
-        Ok(Some(drawing)) => tell(rt, &drawing),
+    match found {
+        Ok(Some(told)) => tell(rt, &told),
         Ok(None) => {
             let name = shown_name(name);
             let _ = eprintln!(rt; "lam_check: {name}: no term with a type is there");
