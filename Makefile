@@ -1,4 +1,4 @@
-# `make` proves and builds the program, `make test` is the merge gate with the rows of rows/ behind it, `make rows` plays these alone,
+# `make` proves and builds the programs, `make test` is the merge gate with the rows of rows/ behind it, `make rows` plays these alone,
 # `make hostile` plays sessions while memory is refused, devices fail and signals come, `make trusted` prints what has to be believed,
 # `make dear` tells what the proofs cost, `make attack` tries further wrong bodies, `make bench` prints figures, `make editors` copies what
 # the editors need into the user's folders.
@@ -25,6 +25,7 @@ hostile:
 
 install: all
 	install -D crates/lam_server/out/lam_server $(PREFIX)/bin/lam_server
+	install -D crates/lam_check/out/lam_check $(PREFIX)/bin/lam_check
 	python3 rows/play.py --show --program $(PREFIX)/bin/lam_server rows/example.rows
 
 editors:

@@ -1,5 +1,5 @@
 #!/usr/bin/env python3
-"""build.py: proves the crates that the program stands on, side by side, and builds it; says how far it is and how long is left.
+"""build.py: proves the crates that the programs stand on, side by side, and builds them; says how far it is and how long is left.
 
 As many crates are proved at a time as there are processors, each once those below it are, those with the longest chain above
 them first. Each is proved by one process, since each process reads the libraries anew; where fewer crates are ready than there are
@@ -14,7 +14,7 @@ import subprocess
 import sys
 import time
 
-PROGRAM = "lam_server"
+PROGRAMS = ("lam_server", "lam_check")
 ROOT = os.path.join(os.path.dirname(os.path.realpath(__file__)), "..")
 # Seconds of one processor for a line, while nothing was measured yet.
 SECONDS_A_LINE = 0.06
@@ -32,7 +32,7 @@ def crates():
 
 
 def needed(below):
-    """The program and all that it stands on, the lowest first."""
+    """The programs and all that they stand on, the lowest first."""
     found = []
 
     def add(name):
@@ -41,7 +41,8 @@ def needed(below):
         if name not in found:
             found.append(name)
 
-    add(PROGRAM)
+    for program in PROGRAMS:
+        add(program)
     return found
 
 
@@ -56,7 +57,7 @@ def lines(name):
 
 
 def chains(below, work):
-    """For each crate how long it is, with the longest chain of crates from it up to the program."""
+    """For each crate how long it is, with the longest chain of crates from it up to a program."""
     length = {}
     for name in reversed(needed(below)):
         length[name] = work[name] + max((length[it] for it in work if name in below[it]), default=0)
@@ -65,7 +66,7 @@ def chains(below, work):
 
 def prove(name, jobs):
     """Proves a crate by that many processes, and keeps what it printed for where it fails."""
-    words = ["rt", "run", "--jobs", str(jobs), "--", "--help"] if name == PROGRAM else ["rt", "lib", "--jobs", str(jobs)]
+    words = ["rt", "run", "--jobs", str(jobs), "--", "--help"] if name in PROGRAMS else ["rt", "lib", "--jobs", str(jobs)]
     done = subprocess.run(words, cwd=f"{ROOT}/crates/{name}", stdout=subprocess.PIPE, stderr=subprocess.STDOUT, text=True, errors="replace", check=False)
     if done.returncode:
         print(done.stdout[-6000:], file=sys.stderr)

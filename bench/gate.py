@@ -16,7 +16,7 @@ ROOT = os.path.join(os.path.dirname(os.path.realpath(__file__)), "..")
 COUNT = re.compile(r"(\d+) passed, (\d+) failed$")
 
 # What is played after `rt ci`, against the program that it built.
-BEHIND = (("rows", "rows/play.py"), ("refused memory", "bench/memory.py"), ("devices, signals, sizes and depth", "bench/process.py"))
+BEHIND = (("rows", "rows/play.py"), ("rows of the checker", "rows/check.py"), ("refused memory", "bench/memory.py"), ("devices, signals, sizes and depth", "bench/process.py"))
 
 # What one check takes of memory at most, in bytes.
 A_CHECK = 5 << 30

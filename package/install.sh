@@ -14,7 +14,7 @@ find bin share -type f | while IFS= read -r file; do
   case $file in bin/*) mode=755 ;; *) mode=644 ;; esac
   install -D -m "$mode" "$file" "$prefix/$file"
 done
-echo "lam_server is in $prefix/bin."
+echo "lam_server and lam_check are in $prefix/bin."
 case :$PATH: in *":$prefix/bin:"*) ;; *) echo "Put that folder on the PATH, for the editors too." ;; esac
 case $prefix in
 "$HOME/.local" | /usr/local | /usr) echo "Neovim 0.7 or later finds its part by itself." ;;

@@ -46,6 +46,13 @@ def spelled(option):
     return ", ".join(both) + (f" \\fI{value}\\fR" if value else "")
 
 
+def checker_manual():
+    """The manual page of the checker, which stands in lam_check.1.in whole but for the version and its date."""
+    number, date = version()
+    with open(f"{HERE}/lam_check.1.in", encoding="utf-8") as it:
+        return it.read().replace("@VERSION@", number).replace("@DATE@", date)
+
+
 def manual(program):
     """The manual page."""
     parts = read_help(program)

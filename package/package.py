@@ -2,7 +2,7 @@
 """package.py dist|deb [--program PATH]: packs the built program for machines that have no toolchain.
 
 `dist` writes dist/moorbasket-VERSION.tar.gz, which has an install.sh; `deb` writes dist/moorbasket_VERSION_amd64.deb, and needs dpkg-deb.
-Both have the same files below bin/ and share/: the program byte for byte, its manual page, what the editors need, examples and docs.
+Both have the same files below bin/ and share/: the programs byte for byte, their manual pages, what the editors need, examples and docs.
 The bytes of a package hang on these files and on VERSION alone: each file has the date that stands there and belongs to root. To see that
 it is so, the package is made a second time, a second later, in another order and under other settings; if the bytes differ none is written.
 """
@@ -26,6 +26,7 @@ import manual
 
 ROOT = os.path.join(os.path.dirname(os.path.realpath(__file__)), "..")
 BUILT = f"{ROOT}/crates/lam_server/out/lam_server"
+CHECKER = f"{ROOT}/crates/lam_check/out/lam_check"
 DOCS = "share/doc/moorbasket"
 EMACS = "share/emacs/site-lisp/moorbasket"
 
@@ -77,11 +78,13 @@ def files_below(folder):
     return [it for it in glob.glob(f"{ROOT}/{folder}/**", recursive=True) if os.path.isfile(it)]
 
 
-def installed(program):
+def installed(program, checker):
     """What either package installs: the bytes of each file by its path."""
     files = {
         "bin/lam_server": read(program),
+        "bin/lam_check": read(checker),
         "share/man/man1/lam_server.1": manual.manual(program).encode(),
+        "share/man/man1/lam_check.1": manual.checker_manual().encode(),
         "share/bash-completion/completions/lam_server": manual.completion(program).encode(),
         **{path: read(source) for path, source in editors().items()},
         f"{DOCS}/copyright": licences.licences().encode(),
@@ -92,7 +95,7 @@ def installed(program):
 
 
 def mode_of(path):
-    return 0o755 if path.endswith((".sh", "bin/lam_server")) else 0o644
+    return 0o755 if path.endswith((".sh", "bin/lam_server", "bin/lam_check")) else 0o644
 
 
 def folders_of(files):
@@ -122,8 +125,8 @@ def dist(files, libc, number, seconds, _):
 def deb(files, libc, number, seconds, backwards):
     """The Debian package's bytes."""
     files = {f"usr/{path}": code for path, code in files.items()}
-    page = "usr/share/man/man1/lam_server.1"
-    files[f"{page}.gz"] = gzip.compress(files.pop(page), mtime=0)
+    for page in ("usr/share/man/man1/lam_server.1", "usr/share/man/man1/lam_check.1"):
+        files[f"{page}.gz"] = gzip.compress(files.pop(page), mtime=0)
     start = "etc/emacs/site-start.d/50moorbasket.el"
     files[start] = read(f"{ROOT}/package/50moorbasket.el")
     control = CONTROL.format(version=number, libc=libc, size=sum(map(len, files.values())) // 1024 + 1)
@@ -151,9 +154,11 @@ def main():
     words = argparse.ArgumentParser(description=__doc__.partition(":")[0])
     words.add_argument("kind", choices=["dist", "deb"])
     words.add_argument("--program", default=BUILT, help="the built program; where none is named, that of `make`")
+    words.add_argument("--checker", default=CHECKER, help="the built checker; where none is named, that of `make`")
     asked = words.parse_args()
-    if not os.path.isfile(asked.program):
-        sys.exit(f"there is no program {asked.program}: run make, or name one by --program")
+    for built in (asked.program, asked.checker):
+        if not os.path.isfile(built):
+            sys.exit(f"there is no program {built}: run make, or name one by --program or --checker")
     number, date = manual.version()
     seconds = calendar.timegm(time.strptime(date, "%Y-%m-%d"))
     make, name = {"dist": (dist, f"moorbasket-{number}.tar.gz"), "deb": (deb, f"moorbasket_{number}_amd64.deb")}[asked.kind]
@@ -162,8 +167,8 @@ def main():
         os.umask(umask)
         os.environ["TZ"] = zone
         time.tzset()
-        libc = ".".join(map(str, libc_of(asked.program)))
-        made.append(make(installed(asked.program), libc, number, seconds, backwards))
+        libc = ".".join(map(str, max(map(libc_of, (asked.program, asked.checker)))))
+        made.append(make(installed(asked.program, asked.checker), libc, number, seconds, backwards))
         time.sleep(1.1)
     if made[0] != made[1]:
         sys.exit(f"{name} made twice does not have the same bytes")

@@ -1,0 +1,6 @@
+pub mod LineEnds
+pub mod Writing
+pub mod Drawing
+pub mod TypeLists
+pub mod PiecesRead
+pub mod Floatless

@@ -1,0 +1,118 @@
+-- Where a line stands in a document, and how far lines and columns go.
+use Rattle.std.proofs.Common.{◌≡◌, ℕ, zero, suc, ◌+◌, ◌-◌, ◌*◌, ◌<◌, ◌≤◌, List, [], ◌∷◌, ◌++◌, length, take, drop, refl, ap, sym, ◌∙◌, inl, inr, arith}
+use Rattle.std.proofs.lemmas.Bool.{cases_lt, le-leb}
+use Rattle.std.proofs.lemmas.List.{length-append, take_at, length-take}
+use Rattle.std.proofs.lemmas.Str.{encodes-chars}
+use Rattle.std.specs.Str.{chars, chars_after, continuation_len, lead_bits, IsUtf8}
+use Rattle.lam_text.specs.declared.units.Encoding.{Encoding}
+use Rattle.lam_text.specs.declared.units.Encoding.TheVariants.{Utf32}
+use Rattle.lam_text.specs.declared.places.Position.{Position}
+use Rattle.lam_text.specs.Units.{units_of, units, units_in, front_within, bytes_within}
+use Rattle.lam_text.specs.Lines.{Line, Ended, Lines, Cut, line_bytes, end_bytes, Spell, IsCutOf, lines_of}
+use Rattle.lam_text.specs.Positions.{offset_in, offset_on, offset_of, position_in, position_on, position_of}
+use Rattle.lam_text.specs.inner.Rows.{start_in, content_in}
+use Rattle.lam_text.proofs.Cuts.{IsCutOf-lines_of}
+use Rattle.lam_text.proofs.Walks.{units-cons, units-le-length}
+use Rattle.lam_text.proofs.Lookups.{some_end}
+use Rattle.lam_text.proofs.LawLemmas.{front_within-units}
+use Rattle.lam_text.proofs.RowLemmas.{Row, row_of, offset_in-row, offset_in-past, position_in-bounds, position_in-character, length-line_bytes}
+use Rattle.lam_check.specs.Lines.{line_in, line_on, line_of}
+
+-- ---- what a line holds
+
+content_line : (lines : List Line) (last : List ℕ) (n : ℕ) → n ≤ length lines → line_in lines last n ≡ content_in lines last n
+content_line [] last zero h = refl
+content_line [] last (suc n) h = absurd (omega arith)
+content_line (line ∷ lines) last zero h = refl
+content_line (line ∷ lines) last (suc n) h = content_line lines last n (omega arith)
+
+no_line : (lines : List Line) (last : List ℕ) (n : ℕ) → length lines < n → line_in lines last n ≡ []
+no_line [] last zero h = absurd (omega arith)
+no_line [] last (suc n) h = refl
+no_line (line ∷ lines) last zero h = absurd (omega arith)
+no_line (line ∷ lines) last (suc n) h = no_line lines last n (omega arith)
+
+-- ---- the ends of a line
+
+all_within : (encoding : Encoding) (room : ℕ) (cs : List ℕ) → units encoding cs ≤ room → front_within encoding room cs ≡ cs
+all_within encoding room [] h = refl
+all_within encoding room (c ∷ cs) h =
+    let all = units-cons encoding c cs in
+    rw (le-leb (units_of encoding c) room (omega arith), all_within encoding (room - units_of encoding c) cs (omega arith)) refl
+
+none_within : (encoding : Encoding) (line : List ℕ) → bytes_within encoding 0 line ≡ 0
+none_within encoding line = rw (front_within-units encoding [] (chars line)) refl
+
+whole_within : (encoding : Encoding) (room : ℕ) (line : List ℕ) → IsUtf8 line → length line ≤ room → bytes_within encoding room line ≡ length line
+whole_within encoding room line utf8 h =
+    let whole = encodes-chars line utf8 in
+    let few : units encoding (chars line) ≤ room = omega (arith, units-le-length encoding (chars line), ap length whole) in
+    rw (all_within encoding room (chars line) few, whole) refl
+
+-- the text between the first column of a line and one past its end is what the line holds
+pub record Slice (text : List ℕ) (low high : ℕ) (line : List ℕ) : Type 0 where
+  pub ordered : low ≤ high
+  pub is : take (high - low) (drop low text) ≡ line
+
+pub slice_of_line : (encoding : Encoding) (text : List ℕ) (n far : ℕ) → IsUtf8 text → length text ≤ far →
+    Slice text (offset_of encoding text (record { line = n; character = 0 })) (offset_of encoding text (record { line = n; character = far })) (line_of text n)
+unfolding offset_of line_of
+slice_of_line encoding text n far utf8 h = go (lines_of text) (IsCutOf-lines_of text) where
+  inside : (lines : List Line) (last : List ℕ) → Spell lines last text → n ≤ length lines
+      → Slice text (offset_in encoding lines last n 0) (offset_in encoding lines last n far) (line_in lines last n)
+  inside lines last cut few =
+      let row = row_of lines last text n cut utf8 few in
+      let line = content_in lines last n in
+      let start = start_in lines n in
+      let low : offset_in encoding lines last n 0 ≡ start = offset_in-row encoding lines last n 0 few ∙ rw (none_within encoding line) (omega arith) in
+      let high : offset_in encoding lines last n far ≡ start + length line =
+      offset_in-row encoding lines last n far few ∙ rw (whole_within encoding far line row.utf8_content (omega (arith, row.sizes))) refl in
+      let long : start + length line - start ≡ length line = omega arith in
+      rw (low, high, content_line lines last n few) (record { ordered = omega arith; is = rw long (ap (take (length line)) row.splits ∙ take_at line row.after (length line) refl) })
+
+  past : (lines : List Line) (last : List ℕ) → Spell lines last text → length lines < n
+      → Slice text (offset_in encoding lines last n 0) (offset_in encoding lines last n far) (line_in lines last n)
+  past lines last cut many =
+      let none : length text - length text ≡ 0 = omega arith in
+      rw (offset_in-past encoding lines last text n 0 cut many, offset_in-past encoding lines last text n far cut many, no_line lines last n many)
+      (record { ordered = omega arith; is = rw none refl })
+
+  go : (lines : Lines) → IsCutOf text lines
+      → Slice text (offset_on encoding lines (record { line = n; character = 0 })) (offset_on encoding lines (record { line = n; character = far })) (line_on lines n)
+  go (Cut lines last) cut = elim (cases_lt (length lines) n) [ inl many ↦ past lines last cut many | inr few ↦ inside lines last cut few ]
+
+-- ---- how far lines and columns go
+
+lines_few : (lines : List Line) (last text : List ℕ) → Spell lines last text → length lines ≤ length text
+lines_few [] last text spell = omega arith
+lines_few (Ended bytes ending ∷ lines) last text spell =
+    omega (arith, lines_few lines last spell.0 spell.4, ap length spell.1, length-line_bytes bytes ending spell.0, length-append bytes (end_bytes ending), some_end ending)
+
+chars_after_few : (n c : ℕ) (bytes : List ℕ) → length (chars_after n c bytes) ≤ length bytes + 1
+chars_after_few zero c [] = omega arith
+chars_after_few zero c (b ∷ bytes) = omega (arith, chars_after_few (continuation_len b) (lead_bits b) bytes)
+chars_after_few (suc n) c [] = omega arith
+chars_after_few (suc n) c (b ∷ bytes) = omega (arith, chars_after_few n (c * 64 + (b - 128)) bytes)
+
+chars_few : (bytes : List ℕ) → length (chars bytes) ≤ length bytes
+unfolding chars
+chars_few [] = omega arith
+chars_few (b ∷ bytes) = omega (arith, chars_after_few (continuation_len b) (lead_bits b) bytes)
+
+units_few : (cs : List ℕ) → units Utf32 cs ≡ length cs
+units_few [] = refl
+units_few (c ∷ cs) = omega (arith, units-cons Utf32 c cs, units_few cs)
+
+pub place_bounds : (text : List ℕ) (offset : ℕ) → IsUtf8 text → ((position_of Utf32 text offset).line ≤ length text) × ((position_of Utf32 text offset).character ≤ length text)
+unfolding position_of
+place_bounds text offset utf8 = go (lines_of text) (IsCutOf-lines_of text) where
+  go : (lines : Lines) → IsCutOf text lines → ((position_on Utf32 lines offset).line ≤ length text) × ((position_on Utf32 lines offset).character ≤ length text)
+  go (Cut lines last) cut =
+      let n = (position_in Utf32 lines last offset).line in
+      let bounds = position_in-bounds Utf32 lines last offset in
+      let row = row_of lines last text n cut utf8 bounds.0 in
+      let line = content_in lines last n in
+      let front = take (offset - start_in lines n) line in (
+        omega (arith, bounds.0, lines_few lines last text cut),
+        omega (arith, position_in-character Utf32 lines last offset, units_few (chars front), chars_few front, length-take (offset - start_in lines n) line, row.sizes),
+      )

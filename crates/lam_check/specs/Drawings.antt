@@ -1,0 +1,180 @@
+-- Derivations as they are drawn.
+use Rattle.std.specs.Prelude.{◌≡◌, ◌≢◌, ◌⊎◌, ℕ, suc, ◌+◌, ◌*◌, ◌/◌, ◌-◌, ◌==◌, Bool, List, [], ◌∷◌, ◌++◌, Option, Some, None, codes, chars, encode_utf8, encode_utf8_all, flat_map, map, replicate, slice_range, if◌then◌else◌}
+use Rattle.std.specs.Char.{is_control}
+use Rattle.std.specs.List.{list_any, repeat}
+use Rattle.lam_token.specs.declared.span.Span.{Span}
+use Rattle.lam_rules.specs.Rules.{name_of_sub_rule, name_of_type_rule}
+use Rattle.lam_rules.specs.Texts.{Text, plain_text}
+use Rattle.lam_rules.specs.declared.rules.Dialect.{Dialect}
+use Rattle.lam_text.specs.Positions.{offset_of, position_of}
+use Rattle.lam_text.specs.declared.places.Position.{Position}
+use Rattle.lam_text.specs.declared.units.Encoding.TheVariants.{Utf32}
+use Rattle.lam_query.specs.Derivations.{Derivation, IsDerivedIn}
+use Rattle.lam_query.specs.Steps.{Conclusion, typing, subtyping, Proof, concludes, Proofs, no_proofs, proof_first, steps_of}
+use Rattle.lam_check.specs.declared.forms.Form.{Form}
+use Rattle.lam_check.specs.declared.forms.Form.TheVariants as forms
+use Rattle.lam_check.specs.declared.forms.Markup.{Markup}
+use Rattle.lam_check.specs.declared.forms.Markup.TheVariants as marks
+
+-- ---- what a step says
+
+-- a character of a term on one line: a blank for a line end or any other control character
+abbrev pub flat : ℕ → ℕ
+flat c = if is_control c then 32 else c
+
+-- the term at a span, on one line
+abbrev pub term_text : List ℕ → Span → Text
+term_text text s = encode_utf8_all (map flat (chars (slice_range text s.start s.end)))
+
+-- `TERM : TYPE` or `TYPE <: TYPE`, with the fields of each record type in their own order
+abbrev pub claim_text : List ℕ → Conclusion → Text
+claim_text text (typing rule s type) = term_text text s ++ codes " : " ++ plain_text type
+claim_text text (subtyping rule lower upper) = plain_text lower ++ codes " <: " ++ plain_text upper
+
+-- the name of its rule
+abbrev pub rule_text : Conclusion → Text
+rule_text (typing rule s type) = name_of_type_rule rule
+rule_text (subtyping rule lower upper) = name_of_sub_rule rule
+
+-- ---- characters as they are written in each form
+
+-- in HTML
+abbrev pub html_character : ℕ → Text
+html_character c = if c == 38 then codes "&amp;" else (if c == 60 then codes "&lt;" else (if c == 62 then codes "&gt;" else encode_utf8 c))
+
+-- whether LaTeX takes a backslash before it
+abbrev pub is_special : ℕ → Bool
+is_special c = list_any (λ d. d == c) (codes "#$%&_{}")
+
+-- in LaTeX
+abbrev pub latex_character : ℕ → Text
+latex_character c =
+    if c == 92 then codes "\\textbackslash{}" else (if c == 94 then codes "\\^{}" else (if c == 126 then codes "\\~{}"
+    else (if is_special c then 92 ∷ c ∷ [] else encode_utf8 c)))
+
+-- a text as a form writes its characters
+abbrev pub written : Form → Text → Text
+written forms.Text text = text
+written forms.Html text = flat_map html_character (chars text)
+written forms.Latex text = flat_map latex_character (chars text)
+
+-- ---- the pieces of a drawing
+
+-- what stands round the texts of steps
+unfoldable pub markup : Markup → Text
+markup marks.HtmlOpen = codes "<details open><summary>"
+markup marks.HtmlRule = codes " <i>"
+markup marks.HtmlLine = codes "</i></summary>\n"
+markup marks.HtmlEnd = codes "</details>\n"
+markup marks.LatexAxiom = codes "\\AxiomC{}\n"
+markup marks.LatexPack = codes "\\noLine\n\\QuinaryInfC{}\n"
+markup marks.LatexRule = codes "\\RightLabel{\\scriptsize "
+markup marks.LatexLine = codes "}\n\\"
+markup marks.LatexTerm = codes "InfC{\\texttt{"
+markup marks.LatexEnd = codes "}}\n"
+
+-- the head of a part that folds
+abbrev pub html_head : List ℕ → Conclusion → Text
+html_head text c = markup marks.HtmlOpen ++ written forms.Html (claim_text text c) ++ markup marks.HtmlRule ++ rule_text c ++ markup marks.HtmlLine
+
+-- what stands before the premises of a step: its line, behind two blanks for each step that it is a premise of; in HTML the head of a part that folds
+abbrev pub before : Form → List ℕ → (depth : ℕ) → Conclusion → Text
+before forms.Text text depth c = replicate (2 * depth) 32 ++ claim_text text c ++ codes "  (" ++ rule_text c ++ codes ")\n"
+before forms.Html text depth c = html_head text c
+before forms.Latex text depth c = []
+
+-- LaTeX draws a step from five premises at most: of more, five are put side by side, as often as needed, and count as one
+abbrev pub packs : ℕ → ℕ
+packs n = (n - 2) / 4
+
+-- how many premises are left then
+abbrev pub left : ℕ → ℕ
+left n = n - 4 * packs n
+
+-- how the command for a step from so many premises begins
+abbrev pub arity : ℕ → Text
+arity n = if n == 2 then codes "Binary" else (if n == 3 then codes "Trinary" else (if n == 4 then codes "Quaternary" else (if n == 5 then codes "Quinary" else codes "Unary")))
+
+-- nothing, as the premise of a step that has none
+abbrev pub axiom_text : ℕ → Text
+axiom_text n = if n == 0 then markup marks.LatexAxiom else []
+
+-- five premises side by side
+abbrev pub pack_text : Text
+pack_text = markup marks.LatexPack
+
+-- what a step says, below so many premises, with the name of its rule beside the line
+abbrev pub latex_claim : List ℕ → ℕ → Conclusion → Text
+latex_claim text n c =
+    markup marks.LatexRule ++ rule_text c ++ markup marks.LatexLine ++ arity n ++ markup marks.LatexTerm ++ written forms.Latex (claim_text text c) ++ markup marks.LatexEnd
+
+-- a step in LaTeX, from so many premises
+abbrev pub latex_step : List ℕ → ℕ → Conclusion → Text
+latex_step text n c = axiom_text n ++ repeat (packs n) pack_text ++ latex_claim text (left n) c
+
+-- what stands behind the premises of a step, of which there are so many
+abbrev pub behind : Form → List ℕ → ℕ → Conclusion → Text
+behind forms.Text text n c = []
+behind forms.Html text n c = markup marks.HtmlEnd
+behind forms.Latex text n c = latex_step text n c
+
+-- ---- whole drawings
+
+abbrev pub count : Proofs → ℕ
+count no_proofs = 0
+count (proof_first p ps) = suc (count ps)
+
+abbrev mutual
+  -- a proof, as a step that has this many steps below it: each step once, with its premises from left to right
+  pub drawn : Form → List ℕ → (depth : ℕ) → Proof → Text
+  drawn form text depth (concludes c ps) = before form text depth c ++ drawn_each form text (depth + 1) ps ++ behind form text (count ps) c
+
+  -- the proofs of premises
+  pub drawn_each : Form → List ℕ → (depth : ℕ) → Proofs → Text
+  drawn_each form text depth no_proofs = []
+  drawn_each form text depth (proof_first p ps) = drawn form text depth p ++ drawn_each form text depth ps
+
+-- ---- whole documents
+
+-- a line with its end
+abbrev pub line : Text → Text
+line text = text ++ 10 ∷ []
+
+-- what a document in a form begins with: nothing but for a style in HTML, and for the package that draws in LaTeX
+unfoldable pub head : Form → Text
+head forms.Text = []
+head forms.Html =
+    line (codes "<!DOCTYPE html>") ++ line (codes "<html>") ++ line (codes "<head>") ++ line (codes "<meta charset=utf-8>") ++ line (codes "<title>Derivation</title>")
+    ++ line (codes "<style>") ++ line (codes "body { font-family: monospace; margin: 2em; }")
+    ++ line (codes "details { border-left: 1px solid #bbb; margin-left: 0.5em; padding-left: 1em; }")
+    ++ line (codes "summary { cursor: pointer; padding: 0.15em 0; }") ++ line (codes "summary i { color: #666; padding-left: 1em; }")
+    ++ line (codes "</style>") ++ line (codes "</head>") ++ line (codes "<body>")
+head forms.Latex = line (codes "\\documentclass[border=8pt]{standalone}") ++ line (codes "\\usepackage{bussproofs}") ++ line (codes "\\begin{document}")
+
+-- what it ends with
+unfoldable pub tail : Form → Text
+tail forms.Text = []
+tail forms.Html = line (codes "</body>") ++ line (codes "</html>")
+tail forms.Latex = line (codes "\\DisplayProof") ++ line (codes "\\end{document}")
+
+-- the proof that is drawn is the one whose steps the derivation has
+pub record Draws (form : Form) (text : List ℕ) (derived : Derivation) (drawing : Text) : Type 0 where
+  pub proof : Proof
+  pub steps : derived.steps ≡ steps_of 0 proof
+  pub is : drawing ≡ head form ++ drawn form text 0 proof ++ tail form
+
+-- a drawing of why the innermost term round an offset has its type
+pub record IsDrawing (form : Form) (text : List ℕ) (offset : ℕ) (drawing : Text) (d : Dialect) : Type 0 where
+  pub derived : Derivation
+  pub right : IsDerivedIn text offset (Some derived) d
+  pub draws : Draws form text derived drawing
+
+-- Why the innermost term round a place has its type, where columns count characters; none where no type is shown there, or the text has no such place.
+abbrev pub IsDerivedAt : List ℕ → Position → Option Derivation → Dialect → Type 0
+IsDerivedAt text place (Some derived) d = IsDerivedIn text (offset_of Utf32 text place) (Some derived) d
+IsDerivedAt text place None d = IsDerivedIn text (offset_of Utf32 text place) None d ⊎ (place ≢ position_of Utf32 text (offset_of Utf32 text place))
+
+-- its drawing
+abbrev pub IsDrawnAt : Form → List ℕ → Position → Option Text → Dialect → Type 0
+IsDrawnAt form text place (Some drawing) d = IsDrawing form text (offset_of Utf32 text place) drawing d
+IsDrawnAt form text place None d = IsDerivedAt text place None d

@@ -1,0 +1,45 @@
+-- Answers as lines of JSON, in the shapes in which the language server sends them. Columns of their ranges count units of UTF-16.
+use Rattle.std.specs.Prelude.{◌≡◌, ℕ, List, [], ◌∷◌, ◌++◌, Option, Some, None, codes, length}
+use Rattle.serde_json.specs.Data.{Data, string, array, object, member, no_members}
+use Rattle.serde_json.specs.Written.{compact_text}
+use Rattle.lam_rules.specs.Texts.{Text}
+use Rattle.lam_rules.specs.declared.rules.Dialect.{Dialect}
+use Rattle.lam_text.specs.Positions.{offset_of}
+use Rattle.lam_text.specs.declared.places.Position.{Position}
+use Rattle.lam_text.specs.declared.units.Encoding.TheVariants.{Utf16, Utf32}
+use Rattle.lam_query.specs.Derivations.{Derivation, IsDerivedIn}
+use Rattle.lam_query.specs.Faults.{Fault}
+use Rattle.lam_query.specs.TextFaults.{AreFaults}
+use Rattle.lam_session.specs.Derivations.{derivation_value}
+use Rattle.lam_session.specs.Diagnostics.{diagnostics}
+use Rattle.lam_check.specs.Drawings.{IsDerivedAt}
+
+-- a value on a line of its own
+abbrev pub json_line : Data → Text
+json_line value = compact_text value ++ 10 ∷ []
+
+-- the diagnostics of a file
+abbrev pub faults_value : (name : Text) → (text : List ℕ) → List Fault → Data
+faults_value name text faults = object (member (codes "diagnostics") (array (diagnostics Utf16 text faults)) (member (codes "file") (string name) no_members))
+
+-- The line has exactly the faults of the text, in their order; and so many there are.
+pub record IsFaultsLine (name : Text) (text : List ℕ) (d : Dialect) (written : Text) (count : ℕ) : Type 0 where
+  pub faults : List Fault
+  pub are_faults : AreFaults text faults d
+  pub shown : written ≡ json_line (faults_value name text faults)
+  pub counted : count ≡ length faults
+
+-- a derivation of a file
+abbrev pub why_value : (name : Text) → (text : List ℕ) → Derivation → Data
+why_value name text derived = object (member (codes "derivation") (derivation_value Utf16 text (Some derived)) (member (codes "file") (string name) no_members))
+
+-- the line has a derivation of the type of the innermost term round an offset
+pub record IsWhyLine (name : Text) (text : List ℕ) (offset : ℕ) (written : Text) (d : Dialect) : Type 0 where
+  pub derived : Derivation
+  pub right : IsDerivedIn text offset (Some derived) d
+  pub shown : written ≡ json_line (why_value name text derived)
+
+-- such a line for a place, where columns count characters; none where no type is shown there, or the text has no such place
+abbrev pub IsWhyAt : (name : Text) → (text : List ℕ) → Position → Option Text → Dialect → Type 0
+IsWhyAt name text place (Some written) d = IsWhyLine name text (offset_of Utf32 text place) written d
+IsWhyAt name text place None d = IsDerivedAt text place None d

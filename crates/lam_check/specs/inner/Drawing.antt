@@ -1,0 +1,25 @@
+-- A list of steps while it is drawn.
+use Rattle.std.specs.Prelude.{◌≡◌, ℕ, ◌+◌, ◌≤◌, List, ◌++◌, drop}
+use Rattle.lam_rules.specs.Texts.{Text}
+use Rattle.lam_query.specs.Steps.{Step, Proof, Proofs, steps_of, steps_of_each, last_steps, number_of_steps}
+use Rattle.lam_check.specs.declared.forms.Form.{Form}
+use Rattle.lam_check.specs.Drawings.{drawn_each}
+
+-- the steps of a proof stand in a list from this number on
+pub record Stands (steps : List Step) (start : ℕ) (p : Proof) : Type 0 where
+  pub after : List Step
+  pub are : drop start steps ≡ steps_of start p ++ after
+
+-- those of several proofs, one behind the other
+pub record AllStand (steps : List Step) (start : ℕ) (ps : Proofs) : Type 0 where
+  pub after : List Step
+  pub are : drop start steps ≡ steps_of_each start ps ++ after
+
+-- What is left to be drawn: the proofs that end in these steps, all before this end. What is written and they make the whole.
+pub record AreLeft (form : Form) (text : List ℕ) (depth : ℕ) (steps : List Step) (end : ℕ) (numbers : List ℕ) (written whole : Text) : Type 0 where
+  pub start : ℕ
+  pub proofs : Proofs
+  pub stand : AllStand steps start proofs
+  pub are_last : numbers ≡ last_steps start proofs
+  pub within : start + number_of_steps proofs ≤ end
+  pub parts : written ++ drawn_each form text depth proofs ≡ whole

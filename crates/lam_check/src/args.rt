@@ -1,0 +1,226 @@
+//! The words of the command line.
+use crate::forms::Form;
+use clap::error::ErrorKind;
+use clap::{Arg, ArgAction, ArgMatches, Command, Error};
+use lam_rules::Dialect;
+use lam_text::Position;
+use std::alloc::{AllocError, Global};
+use thiserror::Error as FaultError;
+
+const NAME: &str = "lam_check";
+
+static NAME_ALONE: [&str; 1] = [NAME];
+
+/// The names of the dialects that there are.
+static DIALECTS: [&str; 2] = ["1", "2"];
+
+/// The name of standard input.
+pub const INPUT: &str = "-";
+
+static INPUT_ALONE: [&str; 1] = [INPUT];
+
+const ABOUT: &str = "Checks texts in the typed lambda calculus with records and subtyping: \
+    tells each fault with its line and column.";
+
+const LATEX: &str = "Draws the tree in LaTeX, with the package bussproofs";
+
+const HTML: &str = "Draws the tree in HTML, in parts that fold";
+
+const STATUSES: &str = "Exit status: 0 without a fault, 1 with one, 2 for a wrong command line, \
+    4 for a file that cannot be read or an output that cannot be written, 5 for want of memory.";
+
+/// What is asked for.
+#[derive(Clone, Copy, Debug)]
+pub struct Asked {
+    pub dialect: Dialect,
+    /// What is shown of each file.
+    pub shown: Shown,
+}
+
+#[derive(Clone, Copy, Debug)]
+pub enum Shown {
+    Faults,
+    FaultsAndTypes,
+    /// Why the term there has its type, in this form.
+    Derivation(Position, Form),
+    FaultsJson,
+    DerivationJson(Position),
+}
+
+/// Why the words ask for nothing.
+#[derive(Debug, Drop, FaultError)]
+pub enum ArgsFault {
+    /// Help was asked for: its text, for standard output.
+    #[error("{0}")]
+    Help(String),
+    /// The words are no command line of this program: what is wrong, for standard error.
+    #[error("{0}")]
+    Usage(String),
+    #[error("F7 Memory")]
+    Memory,
+}
+
+/// What the words ask for, and of which files. The first word names the program.
+pub fn read_args<'a>(
+    alloc: Global,
+    words: &'a [&'a str],
+) -> Result<(Asked, Vec<&'a str>), ArgsFault> {
+    let Ok(command) = command(alloc) else {
+        return Err(ArgsFault::Memory);
+    };
+    let matches = match command.try_get_matches_from(named(words)) {
+        Ok(matches) => matches,
+        Err(error) => return Err(fault_of(alloc, &error)),
+    };
+    let asked = Asked {
+        dialect: chosen(matches.get_str("dialect")),
+        shown: match what_is_shown(&matches) {
+            Ok(shown) => shown,
+            Err(text) => {
+                return match String::from_str(alloc, text) {
+                    Ok(text) => Err(ArgsFault::Usage(text)),
+                    Err(_) => Err(ArgsFault::Memory),
+                };
+            }
+        },
+    };
+    let names = matches.get_strs("FILE").unwrap_or(INPUT_ALONE.as_slice());
+    match Vec::from_slice(alloc, names) {
+        Ok(files) => Ok((asked, files)),
+        Err(_) => Err(ArgsFault::Memory),
+    }
+}
+
+/// What the words ask to be shown.
+fn what_is_shown(matches: &ArgMatches<'_>) -> Result<Shown, &'static str> {
+    let Some(word) = matches.get_str("why") else {
+        if matches.get_flag("json") {
+            return Ok(Shown::FaultsJson);
+        }
+        if matches.get_flag("types") {
+            return Ok(Shown::FaultsAndTypes);
+        }
+        return Ok(Shown::Faults);
+    };
+    let Some(place) = place_of(word) else {
+        return Err("error: --why takes a line and a column, both from 1, as 3:14\n");
+    };
+    if matches.get_flag("json") {
+        return Ok(Shown::DerivationJson(place));
+    }
+    Ok(Shown::Derivation(place, form_of(matches)))
+}
+
+fn form_of(matches: &ArgMatches<'_>) -> Form {
+    if matches.get_flag("html") {
+        return Form::Html;
+    }
+    if matches.get_flag("latex") {
+        return Form::Latex;
+    }
+    Form::Text
+}
+
+/// The place of a line and a column that are written with a colon between them, both counted from 1.
+fn place_of(word: &str) -> Option<Position> {
+    let (line, column) = word.split_once(':')?;
+    Some(Position {
+        line: line.parse::<u64>().ok()?.checked_sub(1)?,
+        character: column.parse::<u64>().ok()?.checked_sub(1)?,
+    })
+}
+
+/// The rules that a value of `--dialect` names.
+fn chosen(name: Option<&str>) -> Dialect {
+    let Some(word) = name else {
+        return Dialect::One;
+    };
+    if word == "2" {
+        return Dialect::Two;
+    }
+    Dialect::One
+}
+
+/// The words, or where there is none the program's name.
+fn named<'a>(words: &'a [&'a str]) -> &'a [&'a str] {
+    if words.is_empty() {
+        return NAME_ALONE.as_slice();
+    }
+    words
+}
+
+fn command<'a>(alloc: Global) -> Result<Command<'a>, AllocError> {
+    let command = Command::new(alloc, NAME).about(ABOUT).after_help(STATUSES);
+    let command = command.arg(dialect(alloc))?;
+    let command = command.arg(types(alloc))?;
+    let command = command.arg(why(alloc))?;
+    let command = command.arg(flag(alloc, "latex", LATEX)?)?;
+    let command = command.arg(flag(alloc, "html", HTML)?)?;
+    let command = command.arg(json(alloc)?)?;
+    command.arg(files(alloc))
+}
+
+fn dialect<'a>(alloc: Global) -> Arg<'a> {
+    Arg::new(alloc, "dialect")
+        .long("dialect")
+        .value_name("DIALECT")
+        .value_parser(DIALECTS.as_slice())
+        .default_value("1")
+        .help("The subtyping rules: 1 for the book's, 2 for these and Bool below Nat")
+}
+
+fn types<'a>(alloc: Global) -> Arg<'a> {
+    Arg::new(alloc, "types")
+        .long("types")
+        .action(ArgAction::SetTrue)
+        .help("Shows the least type of each command")
+}
+
+fn why<'a>(alloc: Global) -> Arg<'a> {
+    Arg::new(alloc, "why")
+        .long("why")
+        .value_name("LINE:COLUMN")
+        .help("Shows why the innermost term there has its type, as a tree")
+}
+
+/// A form of the tree.
+fn flag<'a>(alloc: Global, name: &'a str, help: &'a str) -> Result<Arg<'a>, AllocError> {
+    let form = Arg::new(alloc, name)
+        .long(name)
+        .action(ArgAction::SetTrue)
+        .help(help);
+    form.requires_arg("why")
+}
+
+fn json<'a>(alloc: Global) -> Result<Arg<'a>, AllocError> {
+    let json = Arg::new(alloc, "json")
+        .long("json")
+        .action(ArgAction::SetTrue)
+        .help("Writes a line of JSON for each file, in the shapes of the language server");
+    let json = json.conflicts_with("types")?;
+    let json = json.conflicts_with("latex")?;
+    json.conflicts_with("html")
+}
+
+fn files<'a>(alloc: Global) -> Arg<'a> {
+    Arg::new(alloc, "FILE")
+        .num_args(0..)
+        .action(ArgAction::Append)
+        .help("The files to check; standard input where none is named, or for -")
+}
+
+/// A text that memory cut short is no text: the kind is looked at first.
+fn fault_of(alloc: Global, error: &Error) -> ArgsFault {
+    let kind = error.kind();
+    if kind == ErrorKind::OutOfMemory {
+        return ArgsFault::Memory;
+    }
+    let Ok(text) = format!(in alloc; "{error}") else {
+        return ArgsFault::Memory;
+    };
+    if kind == ErrorKind::DisplayHelp {
+        ArgsFault::Help(text)
+    } else {
+        ArgsFault::Usage(text)
+    }
+}

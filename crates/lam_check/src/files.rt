@@ -1,0 +1,55 @@
+//! Texts of files.
+use crate::args::INPUT;
+use std::alloc::{AllocError, Global};
+use std::fs;
+use std::io::{self, ErrorKind, Read};
+use std::rt::Files;
+use thiserror::Error;
+
+/// How many bytes a text has at most: 64 MiB.
+const LIMIT: u64 = 1 << 26;
+
+/// Why there is no text of a file.
+#[derive(Debug, Drop, Error)]
+pub enum ReadFault {
+    #[error("{0}")]
+    Device(io::Error),
+    #[error("it has more than 64 MiB")]
+    TooLarge,
+    #[error("it is not UTF-8 from byte {0} on")]
+    NotUtf8(usize),
+    #[error("want of memory")]
+    Memory,
+}
+
+/// The text of a file, or of standard input where the name is `-`.
+pub fn text_of<R: Files + Input>(rt: &R, alloc: Global, name: &str) -> Result<String, ReadFault> {
+    let bytes = if name == INPUT {
+        bytes_of(alloc, rt.reader())?
+    } else {
+        match fs::open(rt, name) {
+            Ok(file) => bytes_of(alloc, file)?,
+            Err(error) => return Err(device_fault(error)),
+        }
+    };
+    if bytes.len() as u64 > LIMIT {
+        return Err(ReadFault::TooLarge);
+    }
+    String::from_utf8(bytes).map_err(|error| ReadFault::NotUtf8(error.utf8_error().valid_up_to()))
+}
+
+/// The bytes that a reader has, up to one more than a text may have.
+fn bytes_of<R: Read + Drop>(alloc: Global, reader: R) -> Result<Vec<u8>, ReadFault> {
+    let mut bytes = Vec::new(alloc);
+    match reader.take(LIMIT + 1).read_to_end(&mut bytes) {
+        Ok(_) => Ok(bytes),
+        Err(error) => Err(device_fault(error)),
+    }
+}
+
+fn device_fault(error: io::Error) -> ReadFault {
+    if error.kind() == ErrorKind::OutOfMemory {
+        return ReadFault::Memory;
+    }
+    ReadFault::Device(error)
+}

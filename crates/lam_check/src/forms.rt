@@ -1,0 +1,149 @@
+//! The forms in which a derivation is drawn, and how each writes its characters.
+ghost use Rattle.std.specs.Prelude.{◌≡◌, ◌++◌, OnOk, string_bytes};
+ghost use Rattle.lam_check.specs.Drawings.{head, tail, markup, written, html_character, latex_character, is_special};
+
+use std::alloc::AllocError;
+
+#[derive(Clone, Copy, Debug, PartialEq, Eq)]
+pub enum Form {
+    /// Lines, each premise further in than what follows from it.
+    Text,
+    /// Parts in one another that fold.
+    Html,
+    /// Commands of the package bussproofs.
+    Latex,
+}
+
+impl Form {
+    /// What a whole document in this form begins with.
+    #[tactic(auto, unfolding(crate::specs::Drawings::head))]
+    pub fn head(self) -> &'static str
+        ensures { result.now ≡ head self }
+    {
+        match self {
+            Form::Text => "",
+            Form::Html => HTML_HEAD,
+            Form::Latex => {
+                "\\documentclass[border=8pt]{standalone}\n\\usepackage{bussproofs}\n\\begin{document}\n"
+            }
+        }
+    }
+
+    /// What it ends with.
+    #[tactic(auto, unfolding(crate::specs::Drawings::tail))]
+    pub fn tail(self) -> &'static str
+        ensures { result.now ≡ tail self }
+    {
+        match self {
+            Form::Text => "",
+            Form::Html => "</body>\n</html>\n",
+            Form::Latex => "\\DisplayProof\n\\end{document}\n",
+        }
+    }
+}
+
+const HTML_HEAD: &str = "<!DOCTYPE html>\n<html>\n<head>\n<meta charset=utf-8>\n\
+    <title>Derivation</title>\n<style>\n\
+    body { font-family: monospace; margin: 2em; }\n\
+    details { border-left: 1px solid #bbb; margin-left: 0.5em; padding-left: 1em; }\n\
+    summary { cursor: pointer; padding: 0.15em 0; }\n\
+    summary i { color: #666; padding-left: 1em; }\n\
+    </style>\n</head>\n<body>\n";
+
+/// What stands round the texts of steps.
+#[derive(Clone, Copy, Debug, PartialEq, Eq)]
+pub enum Markup {
+    HtmlOpen,
+    HtmlRule,
+    HtmlLine,
+    HtmlEnd,
+    LatexAxiom,
+    LatexPack,
+    LatexRule,
+    LatexLine,
+    LatexTerm,
+    LatexEnd,
+}
+
+impl Markup {
+    #[tactic(auto, unfolding(crate::specs::Drawings::markup))]
+    pub fn text(self) -> &'static str
+        ensures { result.now ≡ markup self }
+    {
+        match self {
+            Markup::HtmlOpen => "<details open><summary>",
+            Markup::HtmlRule => " <i>",
+            Markup::HtmlLine => "</i></summary>\n",
+            Markup::HtmlEnd => "</details>\n",
+            Markup::LatexAxiom => "\\AxiomC{}\n",
+            Markup::LatexPack => "\\noLine\n\\QuinaryInfC{}\n",
+            Markup::LatexRule => "\\RightLabel{\\scriptsize ",
+            Markup::LatexLine => "}\n\\",
+            Markup::LatexTerm => "InfC{\\texttt{",
+            Markup::LatexEnd => "}}\n",
+        }
+    }
+}
+
+/// Puts a text behind what is written, in the characters of a form.
+pub fn push_written(out: &mut String, form: Form, text: &str) -> Result<(), AllocError>
+    ensures { OnOk result (string_bytes out.new ≡ string_bytes out.old ++ written form text.now) }
+{
+    match form {
+        Form::Text => out.push_str(text),
+        Form::Html => push_html(out, text),
+        Form::Latex => push_latex(out, text),
+    }
+}
+
+fn push_html(out: &mut String, text: &str) -> Result<(), AllocError>
+    ensures { OnOk result (string_bytes out.new ≡ string_bytes out.old ++ written Form.Html text.now) }
+{
+    for c in text.chars() {
+        push_html_character(out, c)?;
+    }
+    Ok(())
+}
+
+fn push_html_character(out: &mut String, c: char) -> Result<(), AllocError>
+    ensures { OnOk result (string_bytes out.new ≡ string_bytes out.old ++ html_character c) }
+{
+    match c {
+        '&' => out.push_str("&amp;"),
+        '<' => out.push_str("&lt;"),
+        '>' => out.push_str("&gt;"),
+        _ => out.push(c),
+    }
+}
+
+fn push_latex(out: &mut String, text: &str) -> Result<(), AllocError>
+    ensures { OnOk result (string_bytes out.new ≡ string_bytes out.old ++ written Form.Latex text.now) }
+{
+    for c in text.chars() {
+        push_latex_character(out, c)?;
+    }
+    Ok(())
+}
+
+fn push_latex_character(out: &mut String, c: char) -> Result<(), AllocError>
+    ensures { OnOk result (string_bytes out.new ≡ string_bytes out.old ++ latex_character c) }
+{
+    match c {
+        '\\' => out.push_str("\\textbackslash{}"),
+        '^' => out.push_str("\\^{}"),
+        '~' => out.push_str("\\~{}"),
+        _ => {
+            if is_special(c) {
+                out.push('\\')?;
+            }
+            out.push(c)
+        }
+    }
+}
+
+/// Whether LaTeX takes a backslash before it.
+fn is_special(c: char) -> bool
+    ensures { result ≡ is_special c }
+{
+    matches!(c, '#' | '$' | '%' | '&' | '_' | '{' | '}')
+}

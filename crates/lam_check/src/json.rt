@@ -1,0 +1,96 @@
+//! Answers as lines of JSON, in the shapes in which the language server sends them.
+ghost use Rattle.std.specs.Prelude.{◌≡◌, ◌++◌, ◌∷◌, [], List, map, option_map, All, IfOk, string_bytes, codes, false};
+ghost use Rattle.serde_json.specs.Data.{Data, array};
+ghost use Rattle.serde_json.specs.View.{view, items_of};
+ghost use Rattle.serde_json.specs.Written.{has_float};
+ghost use Rattle.lam_text.specs.declared.units.Encoding.{Encoding as Units};
+ghost use Rattle.lam_query.specs.Views.{fault_of, derivation_of, StepStandsIn};
+ghost use Rattle.lam_query.specs.Within.{IsSpanOfText};
+ghost use Rattle.lam_session.specs.Diagnostics.{diagnostics};
+ghost use Rattle.lam_check.specs.Json.{json_line, faults_value, IsFaultsLine, why_value, IsWhyAt};
+
+use crate::derivation_values::derivation_value;
+use crate::diagnostic_values::diagnostics;
+use crate::drawings::derivation_at;
+use crate::objects::Object;
+use crate::reports::Checked;
+use lam_query::answers::{Derivation, Fault};
+use lam_query::faults;
+use lam_rules::Dialect;
+use lam_text::{Doc, Encoding, Position};
+use serde_json::Value;
+use std::alloc::{AllocError, Global};
+
+/// The diagnostics of a text that goes by this name.
+pub fn faults_json(
+    alloc: Global,
+    name: &str,
+    text: &str,
+    dialect: Dialect,
+) -> Result<Checked, AllocError>
+    ensures { IfOk result (λ c. IsFaultsLine name.now text.now dialect (string_bytes c.report) c.count) }
+{
+    let found = faults(alloc, text, dialect)?;
+    let doc = Doc::new(alloc, text, Encoding::Utf16)?;
+    let value = faults_value(alloc, name, &doc, &found)?;
+    Ok(Checked {
+        report: line_of(alloc, &value)?,
+        count: found.len(),
+    })
+}
+
+fn faults_value(alloc: Global, name: &str, doc: &Doc, faults: &[Fault]) -> Result<Value, AllocError>
+    requires encoding { doc.now.encoding ≡ Units.Utf16 }
+    requires whole_characters { All (λ f. IsSpanOfText doc.now.text f.span) faults.now }
+    ensures { IfOk result (λ value. view value ≡ faults_value name.now doc.now.text (map fault_of faults.now)) }
+{
+    let values = array_of(diagnostics(alloc, doc, faults)?);
+    Object::new(alloc)
+        .value("diagnostics", Ok(values))
+        .text("file", name)
+        .finish()
+}
+
+fn array_of(values: Vec<Value>) -> Value
+    ensures { view result ≡ array (items_of (map view values.items)) }
+{
+    Value::Array(values)
+}
+
+/// Why the innermost term round a place has its type; none where no type is shown.
+pub fn why_json(
+    alloc: Global,
+    name: &str,
+    text: &str,
+    place: Position,
+    dialect: Dialect,
+) -> Result<Option<String>, AllocError>
+    ensures { IfOk result (λ found. IsWhyAt name.now text.now place (option_map (λ s. string_bytes s) found) dialect) }
+{
+    let Some(derived) = derivation_at(alloc, text, place, dialect)? else {
+        return Ok(None);
+    };
+    let doc = Doc::new(alloc, text, Encoding::Utf16)?;
+    let value = why_value(alloc, name, &doc, derived)?;
+    Ok(Some(line_of(alloc, &value)?))
+}
+
+fn why_value(alloc: Global, name: &str, doc: &Doc, derived: Derivation) -> Result<Value, AllocError>
+    requires encoding { doc.now.encoding ≡ Units.Utf16 }
+    requires whole_characters { All (StepStandsIn doc.now.text) derived.steps.items }
+    ensures { IfOk result (λ value. view value ≡ why_value name.now doc.now.text (derivation_of derived)) }
+{
+    Object::new(alloc)
+        .value("derivation", derivation_value(alloc, doc, Some(derived)))
+        .text("file", name)
+        .finish()
+}
+
+/// A value on a line of its own.
+fn line_of(alloc: Global, value: &Value) -> Result<String, AllocError>
+    ensures { IfOk result (λ line. has_float (view value.now) ≡ false → string_bytes line ≡ json_line (view value.now)) }
+{
+    let mut line = value.to_string(alloc)?;
+    line.push_str("\n")?;
+    Ok(line)
+}

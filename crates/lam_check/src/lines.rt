@@ -1,0 +1,78 @@
+//! Lines of a text as they are shown, with a mark under some of their characters.
+ghost use Rattle.std.specs.Prelude.{◌≡◌, ◌++◌, OnOk, string_bytes};
+ghost use Rattle.lam_text.specs.declared.units.Encoding.{Encoding};
+ghost use Rattle.lam_check.specs.Lines.{line_of, shown, blank, shown_line, blanks, marks};
+
+use lam_text::{Doc, Encoding, Position};
+use std::alloc::AllocError;
+
+/// What a line holds, by its number from 0, its end left out; nothing where there is no such line.
+pub fn line_of(doc: &Doc, number: u64) -> &str
+    ensures { result.now ≡ line_of doc.now.text number }
+{
+    let text = doc.text();
+    let start = doc.offset_of(Position {
+        line: number,
+        character: 0,
+    });
+    let end = doc.offset_of(Position {
+        line: number,
+        character: text.len() as u64,
+    });
+    &text[start..end]
+}
+
+/// A character as it is shown.
+fn shown(c: char) -> char
+    ensures { result ≡ shown c }
+{
+    if c == '\t' {
+        return c;
+    }
+    if c.is_control() {
+        return '\u{fffd}';
+    }
+    c
+}
+
+/// What stands under a character in front of a mark.
+fn blank(c: char) -> char
+    ensures { result ≡ blank c }
+{
+    if c == '\t' { c } else { ' ' }
+}
+
+/// Puts the characters of a line behind what is written.
+pub fn push_shown(out: &mut String, line: &str) -> Result<(), AllocError>
+    ensures { OnOk result (string_bytes out.new ≡ string_bytes out.old ++ shown_line line.now) }
+{
+    for c in line.chars() {
+        out.push(shown(c))?;
+    }
+    Ok(())
+}
+
+/// Puts what stands under the first so many characters of a line behind what is written.
+pub fn push_blanks(out: &mut String, line: &str, count: u64) -> Result<(), AllocError>
+    ensures { OnOk result (string_bytes out.new ≡ string_bytes out.old ++ blanks count line.now) }
+{
+    let mut left = count;
+    for c in line.chars() {
+        if left == 0 {
+            return Ok(());
+        }
+        out.push(blank(c))?;
+        left -= 1;
+    }
+    Ok(())
+}
+
+/// Puts a mark under so many characters behind what is written.
+pub fn push_marks(out: &mut String, count: u64) -> Result<(), AllocError>
+    ensures { OnOk result (string_bytes out.new ≡ string_bytes out.old ++ marks count) }
+{
+    for i in 0..count {
+        out.push('^')?;
+    }
+    Ok(())
+}

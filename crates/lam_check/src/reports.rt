@@ -1,0 +1,186 @@
+//! What is wrong with a text and where, as a person reads it.
+ghost use Rattle.std.specs.Prelude.{◌≡◌, ◌+◌, ◌++◌, ◌^◌, ◌<◌, ◌-◌, ℕ, List, [], ◌∷◌, flat_map, map, codes, decimal, length, All, IfOk, OnOk, string_bytes};
+ghost use Rattle.lam_text.specs.declared.units.Encoding.{Encoding};
+ghost use Rattle.lam_query.specs.Views.{fault_of};
+ghost use Rattle.lam_query.specs.Within.{IsSpanOfText};
+ghost use Rattle.lam_check.specs.Lines.{line_of};
+ghost use Rattle.lam_check.specs.Paints.{painted};
+ghost use Rattle.std.specs.Str.{IsCharBoundary};
+ghost use Rattle.lam_check.specs.Reports.{IsReport, place_of, place_text, head, excerpt, between, fault_report, last_column, width};
+
+use crate::lines::{line_of, push_blanks, push_marks, push_shown};
+use crate::messages::message_of;
+use crate::paint::Paint;
+use lam_query::answers::Fault;
+use lam_query::faults;
+use lam_rules::Dialect;
+use lam_text::{Doc, Encoding, Position};
+use std::alloc::{AllocError, Global};
+
+/// The faults of a text, one below the other, and how many there are.
+#[derive(Drop)]
+pub struct Checked {
+    pub report: String,
+    pub count: usize,
+}
+
+/// The report on a text that goes by this name: exactly its faults, in the order of the text, each with the line and the
+/// column where it starts, counted in characters from 1, with its code and message, and with a mark under its line.
+pub fn report(
+    alloc: Global,
+    name: &str,
+    text: &str,
+    dialect: Dialect,
+    paint: Paint,
+) -> Result<Checked, AllocError>
+    ensures { IfOk result (λ r. IsReport paint name.now text.now dialect (string_bytes r.report) r.count) }
+{
+    let found = faults(alloc, text, dialect)?;
+    let doc = Doc::new(alloc, text, Encoding::Utf32)?;
+    let mut out = String::new(alloc);
+    push_faults(&mut out, name, &doc, &found, paint)?;
+    Ok(Checked {
+        report: out,
+        count: found.len(),
+    })
+}
+
+fn push_faults(
+    out: &mut String,
+    name: &str,
+    doc: &Doc,
+    faults: &[Fault],
+    paint: Paint,
+) -> Result<(), AllocError>
+    requires encoding { doc.now.encoding ≡ Encoding.Utf32 }
+    requires whole_characters { All (λ f. IsSpanOfText doc.now.text f.span) faults.now }
+    ensures { OnOk result (string_bytes out.new ≡ string_bytes out.old ++ flat_map (fault_report paint name.now doc.now.text) (map fault_of faults.now)) }
+{
+    for fault in faults {
+        push_fault(out, name, doc, fault, paint)?;
+    }
+    Ok(())
+}
+
+fn push_fault(
+    out: &mut String,
+    name: &str,
+    doc: &Doc,
+    fault: &Fault,
+    paint: Paint,
+) -> Result<(), AllocError>
+    requires encoding { doc.now.encoding ≡ Encoding.Utf32 }
+    requires whole_characters { IsSpanOfText doc.now.text fault.now.span }
+    ensures { OnOk result (string_bytes out.new ≡ string_bytes out.old ++ fault_report paint name.now doc.now.text (fault_of fault.now)) }
+{
+    let start = place_of(doc, fault.span.start);
+    let end = place_of(doc, fault.span.end);
+    push_head(out, name, fault.code, start, paint)?;
+    out.push_str("\n")?;
+    push_excerpt(out, line_of(doc, start.line), start, end, paint)?;
+    out.push_str("\n")
+}
+
+/// Where the character at an offset stands.
+fn place_of(doc: &Doc, offset: usize) -> Position
+    requires encoding { doc.now.encoding ≡ Encoding.Utf32 }
+    requires boundary { IsCharBoundary doc.now.text offset }
+    ensures place { result ≡ place_of doc.now.text offset }
+    ensures line { result.line + 1 < 2 ^ 64 }
+    ensures column { result.character + 1 < 2 ^ 64 }
+{
+    // No line and no column is past the length of the text.
+    let _past = past(doc.text());
+    doc.position_of(offset)
+}
+
+/// One more than the length of a text.
+fn past(text: &str) -> usize
+    ensures { result ≡ length text.now + 1 }
+{
+    text.len() + 1
+}
+
+/// The line that says where the fault is and what it is.
+fn push_head(
+    out: &mut String,
+    name: &str,
+    code: &str,
+    start: Position,
+    paint: Paint,
+) -> Result<(), AllocError>
+    requires line { start.line + 1 < 2 ^ 64 }
+    requires column { start.character + 1 < 2 ^ 64 }
+    ensures { OnOk result (string_bytes out.new ≡ string_bytes out.old ++ head paint name.now code.now start) }
+{
+    out.push_str(name)?;
+    out.push_str(":")?;
+    push_place(out, start)?;
+    out.push_str(": ")?;
+    push_code(out, code, paint)?;
+    out.push_str(": ")?;
+    out.push_str(message_of(code))
+}
+
+/// A line and a column, counted from 1.
+fn push_place(out: &mut String, place: Position) -> Result<(), AllocError>
+    requires line { place.line + 1 < 2 ^ 64 }
+    requires column { place.character + 1 < 2 ^ 64 }
+    ensures { OnOk result (string_bytes out.new ≡ string_bytes out.old ++ place_text place) }
+{
+    push_number(out, place.line + 1)?;
+    out.push_str(":")?;
+    push_number(out, place.character + 1)
+}
+
+fn push_number(out: &mut String, number: u64) -> Result<(), AllocError>
+    ensures { OnOk result (string_bytes out.new ≡ string_bytes out.old ++ decimal number) }
+{
+    write!(out, "{number}")
+}
+
+fn push_code(out: &mut String, code: &str, paint: Paint) -> Result<(), AllocError>
+    ensures { OnOk result (string_bytes out.new ≡ string_bytes out.old ++ painted paint (codes "error[" ++ code.now ++ codes "]")) }
+{
+    out.push_str(paint.brush())?;
+    out.push_str("error[")?;
+    out.push_str(code)?;
+    out.push_str("]")?;
+    out.push_str(paint.rest())
+}
+
+/// The line where a fault starts, and the mark under it.
+fn push_excerpt(
+    out: &mut String,
+    line: &str,
+    start: Position,
+    end: Position,
+    paint: Paint,
+) -> Result<(), AllocError>
+    ensures { OnOk result (string_bytes out.new ≡ string_bytes out.old ++ excerpt paint line.now start end) }
+{
+    push_shown(out, line)?;
+    out.push_str("\n")?;
+    push_blanks(out, line, start.character)?;
+    out.push_str(paint.brush())?;
+    push_marks(out, width(line, start, end))?;
+    out.push_str(paint.rest())
+}
+
+/// How many characters of the line are marked.
+fn width(line: &str, start: Position, end: Position) -> u64
+    ensures { result ≡ width line.now start end }
+{
+    last_column(line, start, end)
+        .saturating_sub(start.character)
+        .max(1)
+}
+
+fn last_column(line: &str, start: Position, end: Position) -> u64
+    ensures { result ≡ last_column line.now start end }
+{
+    if end.line == start.line {
+        return end.character;
+    }
+    line.chars().count() as u64
+}
