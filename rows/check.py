@@ -95,6 +95,7 @@ CASES = [
     Case("a derivation as JSON", ["--json", "--why", "1:1", "a"], {"a": "0"}, line({"derivation": STEPS, "file": "a"}), 0),
     Case("no such option", ["--nope"], {}, "", 2, None),
     Case("no place", ["--why", "1", "a"], {"a": "0"}, "", 2, "error: --why takes a line and a column, both from 1, as 3:14\n"),
+    Case("LaTeX and HTML", ["--latex", "--html", "--why", "1:1", "a"], {"a": "0"}, "", 2, None),
     Case("JSON and HTML", ["--json", "--html", "--why", "1:1", "a"], {"a": "0"}, "", 2, None),
 ]
 

@@ -8,7 +8,7 @@ use Rattle.lam_text.specs.declared.units.Encoding.{Encoding}
 use Rattle.lam_query.specs.Derivations.{ContextEntry, Derivation}
 use Rattle.lam_query.specs.Faults.{Fault}
 use Rattle.lam_query.specs.Steps.{Conclusion, typing, subtyping, Step}
-use Rattle.lam_session.specs.Derivations.{type_value, entry_value, premises_value, conclusion_value, step_value, derivation_value}
+use Rattle.lam_session.specs.Derivations.{type_value, entry_value, conclusion_value, step_value, derivation_value}
 use Rattle.lam_session.specs.Diagnostics.{diagnostics}
 use Rattle.lam_rules.specs.Texts.{Text}
 use Rattle.lam_text.specs.declared.units.Encoding.TheVariants.{Utf16}

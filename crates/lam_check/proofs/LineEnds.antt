@@ -1,21 +1,20 @@
 -- Where a line stands in a document, and how far lines and columns go.
-use Rattle.std.proofs.Common.{◌≡◌, ℕ, zero, suc, ◌+◌, ◌-◌, ◌*◌, ◌<◌, ◌≤◌, List, [], ◌∷◌, ◌++◌, length, take, drop, refl, ap, sym, ◌∙◌, inl, inr, arith}
+use Rattle.std.proofs.Common.{◌≡◌, ℕ, zero, suc, ◌+◌, ◌-◌, ◌*◌, ◌<◌, ◌≤◌, List, [], ◌∷◌, length, take, drop, refl, ap, ◌∙◌, inl, inr, arith}
 use Rattle.std.proofs.lemmas.Bool.{cases_lt, le-leb}
 use Rattle.std.proofs.lemmas.List.{length-append, take_at, length-take}
 use Rattle.std.proofs.lemmas.Str.{encodes-chars}
 use Rattle.std.specs.Str.{chars, chars_after, continuation_len, lead_bits, IsUtf8}
 use Rattle.lam_text.specs.declared.units.Encoding.{Encoding}
 use Rattle.lam_text.specs.declared.units.Encoding.TheVariants.{Utf32}
-use Rattle.lam_text.specs.declared.places.Position.{Position}
-use Rattle.lam_text.specs.Units.{units_of, units, units_in, front_within, bytes_within}
-use Rattle.lam_text.specs.Lines.{Line, Ended, Lines, Cut, line_bytes, end_bytes, Spell, IsCutOf, lines_of}
+use Rattle.lam_text.specs.Units.{units_of, units, front_within, bytes_within}
+use Rattle.lam_text.specs.Lines.{Line, Ended, Lines, Cut, end_bytes, Spell, IsCutOf, lines_of}
 use Rattle.lam_text.specs.Positions.{offset_in, offset_on, offset_of, position_in, position_on, position_of}
 use Rattle.lam_text.specs.inner.Rows.{start_in, content_in}
 use Rattle.lam_text.proofs.Cuts.{IsCutOf-lines_of}
 use Rattle.lam_text.proofs.Walks.{units-cons, units-le-length}
 use Rattle.lam_text.proofs.Lookups.{some_end}
 use Rattle.lam_text.proofs.LawLemmas.{front_within-units}
-use Rattle.lam_text.proofs.RowLemmas.{Row, row_of, offset_in-row, offset_in-past, position_in-bounds, position_in-character, length-line_bytes}
+use Rattle.lam_text.proofs.RowLemmas.{row_of, offset_in-row, offset_in-past, position_in-bounds, position_in-character, length-line_bytes}
 use Rattle.lam_check.specs.Lines.{line_in, line_on, line_of}
 
 -- ---- what a line holds

@@ -1,6 +1,5 @@
 -- From what is known behind some commands to what is known behind one command more.
-use Rattle.std.proofs.Common.{◌≡◌, ℕ, zero, suc, ◌+◌, ◌-◌, ◌<◌, true, List, [], ◌∷◌, ◌++◌, length, map, take, drop, fold, get_or, refl, ap, sym, subst, ◌∙◌, Option, Some, None, arith, append_assoc, append-nil, codes, string_bytes, IsTrue, IsFalse}
-use Rattle.std.specs.List.{AllByRecursion}
+use Rattle.std.proofs.Common.{◌≡◌, ℕ, zero, suc, ◌+◌, ◌-◌, ◌<◌, List, [], ◌∷◌, ◌++◌, length, map, take, drop, fold, get_or, refl, ap, sym, subst, ◌∙◌, Option, Some, None, arith, append_assoc, append-nil, codes, string_bytes, IsTrue, IsFalse}
 use Rattle.std.proofs.lemmas.List.{drop_more, take_more, take-append-drop, map-append}
 use Rattle.lam_token.specs.declared.span.Span.{Span}
 use Rattle.lam_rules.specs.Types.{Typ}
@@ -17,9 +16,9 @@ use Rattle.lam_syntax.specs.Views.{command_of}
 use Rattle.lam_syntax.specs.declared.terms.Command.{Command}
 use Rattle.lam_scope.specs.Names.{Name}
 use Rattle.lam_scope.specs.Environments.{names_seen, abbreviations_seen, TypeNamesStand}
-use Rattle.lam_scope.specs.Expansions.{Abbreviation, stands_for, expansion}
+use Rattle.lam_scope.specs.Expansions.{Abbreviation, expansion}
 use Rattle.lam_scope.specs.InternedViews.{interned_statement, StandInStatement}
-use Rattle.lam_scope.specs.Meanings.{MeanTheSame, StandForTheSame, entry_named}
+use Rattle.lam_scope.specs.Meanings.{MeanTheSame, StandForTheSame}
 use Rattle.lam_scope.specs.Nameless.{nameless, statement, abbreviations_after, names_after, written_in_command, first_over_limit, first_too_large}
 use Rattle.lam_scope.specs.Numbered.{written_over}
 use Rattle.lam_scope.specs.Places.{Scope, Place, Statement, places, places_of, abbreviates}
@@ -36,13 +35,13 @@ use Rattle.lam_typing.specs.Blaming.{Blamed, renumbered}
 use Rattle.lam_typing.specs.Binds.{BindsEntry}
 use Rattle.lam_typing.specs.Checking.{types_in, dialect_in, IsChecked, IsSoundChecker}
 use Rattle.lam_typing.specs.LeastTypes.{IsLeastAt}
-use Rattle.lam_typing.specs.Progress.{IsLowest, Shown}
+use Rattle.lam_typing.specs.Progress.{IsLowest}
 use Rattle.lam_typing.specs.Walk.{blames_of}
 use Rattle.lam_typing.specs.WrittenScopes.{scope_of_entries}
 use Rattle.lam_typing.specs.declared.checker.Checked.{Checked}
 use Rattle.lam_typing.specs.declared.checker.TypeChecker.{TypeChecker}
 use Rattle.lam_typing.proofs.AlikeStatements.{lowest_of_entries}
-use Rattle.lam_typing.proofs.Growing.{answer_keep, answers_keep, all_stand_keep, context_keep, all_stand_push, context-push}
+use Rattle.lam_typing.proofs.Growing.{answer_keep, all_stand_keep, context_keep, all_stand_push, context-push}
 use Rattle.lam_query.specs.Sizes.{IsSizeFault, of_written_type, of_term, places_in, span_numbered}
 use Rattle.lam_query.specs.inner.Checked.{abbreviations_behind, names_behind, scope_from, scope_behind, context_after, AreChecked, IsEnvironmentFor}
 use Rattle.lam_query.proofs.Checked.{checked_small, written_too_large, command_checked, place_too_large}

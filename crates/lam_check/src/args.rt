@@ -155,7 +155,8 @@ fn command<'a>(alloc: Global) -> Result<Command<'a>, AllocError> {
     let command = command.arg(types(alloc))?;
     let command = command.arg(why(alloc))?;
     let command = command.arg(flag(alloc, "latex", LATEX)?)?;
-    let command = command.arg(flag(alloc, "html", HTML)?)?;
+    let html = flag(alloc, "html", HTML)?;
+    let command = command.arg(html.conflicts_with("latex")?)?;
     let command = command.arg(json(alloc)?)?;
     command.arg(files(alloc))
 }

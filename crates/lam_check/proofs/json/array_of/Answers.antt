@@ -1,5 +1,4 @@
 use Rattle.serde_json.proofs.Views.{view-Array}
-use Rattle.lam_check.proofs.Floatless.{diagnostics_plain, value_plain}
 use Rattle.lam_check.proofs.json.array_of.Goals as goal
 
 pub returns : goal.returns

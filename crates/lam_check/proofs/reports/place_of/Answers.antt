@@ -1,7 +1,5 @@
-use Rattle.std.proofs.Common.{◌≡◌, ◌+◌, ◌≤◌, length, arith, ap, ◌∙◌}
-use Rattle.lam_text.specs.declared.units.Encoding.{Encoding}
+use Rattle.std.proofs.Common.{◌≡◌, ◌≤◌, length, arith}
 use Rattle.lam_text.specs.declared.units.Encoding.TheVariants.{Utf32}
-use Rattle.lam_text.specs.declared.places.Position.{Position}
 use Rattle.lam_text.specs.Positions.{position_of}
 use Rattle.lam_check.proofs.LineEnds.{place_bounds}
 use Rattle.lam_check.proofs.reports.place_of.Goals as goal

@@ -1,4 +1,4 @@
-use Rattle.std.proofs.Common.{◌≡◌, map, take, arith, ap}
+use Rattle.std.proofs.Common.{◌≡◌, map, take, arith}
 use Rattle.std.proofs.lemmas.List.{take_all}
 use Rattle.lam_syntax.specs.Views.{command_of}
 use Rattle.lam_check.specs.Types.{too_large}

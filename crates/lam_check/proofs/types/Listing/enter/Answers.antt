@@ -1,4 +1,4 @@
-use Rattle.std.proofs.Common.{◌-◌, length, ap, refl, ◌∙◌}
+use Rattle.std.proofs.Common.{◌-◌, length, ap}
 use Rattle.std.proofs.lemmas.Result.{on_ok_weaker}
 use Rattle.lam_check.specs.inner.TypeLines.{table_in}
 use Rattle.lam_check.proofs.TypeLists.{stands_at}

@@ -1,9 +1,6 @@
-use Rattle.std.proofs.Common.{◌≡◌, [], Some, refl, subst, sym, ap}
-use Rattle.lam_typing.specs.Answers.{AllStandIn, context_under}
+use Rattle.std.proofs.Common.{[]}
 use Rattle.lam_typing.specs.Checking.{types_in, dialect_in}
-use Rattle.lam_query.specs.inner.Checked.{AreChecked}
 use Rattle.lam_query.proofs.Checked.{none_checked}
-use Rattle.lam_check.proofs.TypeLists.{listed}
 use Rattle.lam_check.proofs.types.Listing.new.Goals as goal
 
 pub returns-clause-listing : goal.returns-clause-listing

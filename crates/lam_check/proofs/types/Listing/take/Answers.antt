@@ -1,11 +1,11 @@
-use Rattle.std.proofs.Common.{◌≡◌, ◌+◌, List, ◌∷◌, map, take, drop, Some, None, sym, subst, refl, ◌∙◌}
+use Rattle.std.proofs.Common.{◌+◌, List, map, take, drop, sym, subst, refl}
 use Rattle.lam_token.specs.declared.span.Span.{Span}
 use Rattle.lam_syntax.specs.Trees.{CommandTree}
 use Rattle.lam_syntax.specs.Views.{command_of}
 use Rattle.lam_scope.proofs.InternedTerms.{kept_statement}
 use Rattle.lam_typing.specs.Checking.{types_in, dialect_in}
 use Rattle.lam_query.specs.Sizes.{IsSizeFault}
-use Rattle.lam_check.specs.inner.TypeLines.{IsStated, IsOverLimit, IsStatedOr}
+use Rattle.lam_check.specs.inner.TypeLines.{IsStated, IsOverLimit}
 use Rattle.lam_check.proofs.TypeLists.{IsFound, commands_split, commands_push, entries_stand_now, types_stand_now, found_too_large, written_too_large_here, listed}
 use Rattle.lam_check.proofs.types.Listing.take.Goals as goal
 use Rattle.lam_check.proofs.types.Listing.take.Goals.{In-Some, In_ok-checked}
