@@ -20,14 +20,14 @@ pub const INPUT: &str = "-";
 static INPUT_ALONE: [&str; 1] = [INPUT];
 
 const ABOUT: &str = "Checks texts in the typed lambda calculus with records and subtyping: \
-    tells each fault with its line and column.";
+    shows each error with its line and column.";
 
 const LATEX: &str = "Draws the tree in LaTeX, with the package bussproofs";
 
 const HTML: &str = "Draws the tree in HTML, in parts that fold";
 
-const STATUSES: &str = "Exit status: 0 without a fault, 1 with one, 2 for a wrong command line, \
-    4 for a file that cannot be read or an output that cannot be written, 5 for want of memory.";
+const STATUSES: &str = "Exit status: 0 without an error in a file, 1 with one, 2 on a usage error, \
+    4 if a file cannot be read or the output cannot be written, 5 when it runs out of memory.";
 
 /// What is asked for.
 #[derive(Clone, Copy, Debug)]

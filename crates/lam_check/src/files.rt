@@ -18,7 +18,7 @@ pub enum ReadFault {
     TooLarge,
     #[error("it is not UTF-8 from byte {0} on")]
     NotUtf8(usize),
-    #[error("want of memory")]
+    #[error("out of memory")]
     Memory,
 }
 

@@ -234,6 +234,6 @@ fn shown_name(name: &str) -> &str {
 
 /// Says that memory was refused. The status to end with.
 fn want_of_memory<R: Eprint>(rt: &R) -> u8 {
-    let _ = eprintln!(rt; "lam_check: want of memory");
+    let _ = eprintln!(rt; "lam_check: out of memory");
     MEMORY
 }

@@ -24,9 +24,9 @@ static DIALECTS: [&str; 2] = ["1", "2"];
 const ABOUT: &str = "A language server for the typed lambda calculus with records and subtyping. \
     It speaks LSP 3.17 on standard input and output.";
 
-const STATUSES: &str = "Exit status: 0 after shutdown and exit, 1 at an end without them, 2 for a \
-    wrong command line, 3 for bytes that are no frame, 4 for a device that failed, 5 for want of \
-    memory.";
+const STATUSES: &str = "Exit status: 0 after shutdown and exit, 1 if the input ends without them, \
+    2 on a usage error, 3 if the input is not made of frames, 4 if reading or writing fails, 5 when \
+    it runs out of memory.";
 
 /// Why the words start no run.
 #[derive(Debug, Drop, FaultError)]
