@@ -2,10 +2,11 @@
 # `make hostile` plays sessions while memory is refused, devices fail and signals come, `make trusted` prints what has to be believed,
 # `make dear` tells what the proofs cost, `make attack` tries further wrong bodies, `make bench` prints figures, `make editors` copies what
 # the editors need into the user's folders.
-# `make dist` and `make deb` pack the program for machines without the toolchain, or one that is built already: PROGRAM=PATH.
+# `make dist` and `make deb` pack the programs for machines without the toolchain, or those that are built already: PROGRAM=PATH CHECKER=PATH.
 PREFIX ?= $(HOME)/.local
 NAME ?=
 PROGRAM ?=
+CHECKER ?=
 EDITORS ?=
 
 .PHONY: all test rows hostile install editors dist deb trusted dear attack bench
@@ -32,7 +33,7 @@ editors:
 	@python3 editors/install.py $(EDITORS)
 
 dist deb: $(if $(PROGRAM),,all)
-	python3 package/package.py $@ $(if $(PROGRAM),--program "$(PROGRAM)")
+	python3 package/package.py $@ $(if $(PROGRAM),--program "$(PROGRAM)") $(if $(CHECKER),--checker "$(CHECKER)")
 
 trusted:
 	@python3 bench/trusted.py
