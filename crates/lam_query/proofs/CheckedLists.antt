@@ -94,7 +94,7 @@ faults_push done c = faults_joined [] done (c ∷ []) ∙ ap (λ fs. faults [] d
 
 -- ---- the first written type that is too large
 
-first_assoc : {A : Type 0} (a b c : Option A) → option_or a (option_or b c) ≡ option_or (option_or a b) c
+pub first_assoc : {A : Type 0} (a b c : Option A) → option_or a (option_or b c) ≡ option_or (option_or a b) c
 first_assoc None b c = refl
 first_assoc (Some x) b c = refl
 

@@ -1,5 +1,5 @@
 -- Lists that are made item by item.
-use Rattle.std.proofs.Common.{◌≡◌, ℕ, ◌+◌, ◌<◌, ◌≤◌, List, [], ◌∷◌, ◌++◌, map, length, drop, get_or, ◌∙◌, ap, sym, suc, add-one, drop-cons, append_assoc, append-nil}
+use Rattle.std.proofs.Common.{◌≡◌, ℕ, ◌+◌, ◌<◌, ◌≤◌, List, [], ◌∷◌, ◌++◌, map, length, drop, get_or, ◌∙◌, sym, suc, add-one, drop-cons, append_assoc, append-nil}
 use Rattle.std.proofs.lemmas.List.{map-append}
 use Rattle.std.proofs.Math.ListN.{drop_of_length-le}
 
@@ -16,9 +16,3 @@ one_collected f g all i d done now y lt is seen before =
 pub all_collected : {A B C : Type 0} (f : B → C) (g : A → C) (all : List A) (i : ℕ) (done : List B)
     → length all ≤ i → IsCollected f g done (drop i all) all → map f done ≡ map g all
 all_collected f g all i done le h = let k = rw (drop_of_length-le all le) at h in sym (append-nil (map f done)) ∙ k
-
--- what was made is put behind other items
-pub put_behind : {A B C : Type 0} (f : B → C) (g : A → C) (old now read made : List B) (given told : List A)
-    → now ≡ old ++ read → read ≡ made → map f made ≡ map g given → given ≡ told → map f now ≡ map f old ++ map g told
-put_behind f g old now read made given told is reads seen gives =
-    ap (map f) is ∙ map-append f old read ∙ ap (λ xs. map f old ++ xs) (ap (map f) reads ∙ seen ∙ ap (map g) gives)

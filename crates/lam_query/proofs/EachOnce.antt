@@ -1,10 +1,10 @@
 -- Each of some names once: they are the same names.
-use Rattle.std.proofs.Common.{◌≡◌, ◌⊎◌, inl, inr, List, [], ◌∷◌, Bool, true, false, Some, refl, sym, ap, subst, ◌∙◌, Contains}
+use Rattle.std.proofs.Common.{◌≡◌, ◌⊎◌, inl, inr, List, [], ◌∷◌, Bool, true, false, Option, Some, refl, sym, ap, subst, ◌∙◌, Contains}
 use Rattle.std.specs.Prelude.{if◌then◌else◌}
 use Rattle.std.specs.Str.{bytes_eq}
 use Rattle.std.proofs.lemmas.Slice.Eq.{bytes_eq-Decides}
 use Rattle.lam_scope.specs.FreeNames.{without, each_once}
-use Rattle.lam_scope.specs.Names.{Name}
+use Rattle.lam_scope.specs.Names.{Name, binds}
 use Rattle.lam_scope.proofs.Contained.{first_in, later_in, first_or_later}
 
 -- a name stays where another is taken away
@@ -32,3 +32,25 @@ once_there (y ∷ xs) x there = by (λ rest. once_there xs x rest) (bytes_eq y x
     by once same is (inl here) = first here
     by once true is (inr later) = first ((bytes_eq-Decides y x).0 is)
     by once false is (inr later) = later_in y x (without (Some y) (each_once xs)) (other_stays y x (each_once xs) is (once later))
+
+-- what is left where a name is taken away was there
+rest_there : (o : Option Name) (x : Name) (xs : List Name) → Contains (without o xs) x → Contains xs x
+rest_there o x [] there = there
+rest_there o x (z ∷ xs) there = by (λ rest. rest_there o x xs rest) (binds o z) there
+  where
+    by : (Contains (without o xs) x → Contains xs x) → (same : Bool) → Contains (if same then without o xs else z ∷ without o xs) x → Contains (z ∷ xs) x
+    by among true rest = later_in z x xs (among rest)
+    by among false rest = one (first_or_later z x (without o xs) rest)
+      where
+        one : (z ≡ x) ⊎ Contains (without o xs) x → Contains (z ∷ xs) x
+        one (inl here) = subst (λ n. Contains (z ∷ xs) n) here (first_in z xs)
+        one (inr later) = later_in z x xs (among later)
+
+-- each of those that come once is among all
+pub there_once : (xs : List Name) (x : Name) → Contains (each_once xs) x → Contains xs x
+there_once [] x there = there
+there_once (y ∷ xs) x there = by (λ once. there_once xs x once) (first_or_later y x (without (Some y) (each_once xs)) there)
+  where
+    by : (Contains (each_once xs) x → Contains xs x) → (y ≡ x) ⊎ Contains (without (Some y) (each_once xs)) x → Contains (y ∷ xs) x
+    by among (inl here) = subst (λ n. Contains (y ∷ xs) n) here (first_in y xs)
+    by among (inr later) = later_in y x xs (among (rest_there (Some y) x (each_once xs) later))

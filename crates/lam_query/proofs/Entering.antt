@@ -15,8 +15,9 @@ use Rattle.lam_scope.specs.Numbered.{StandsIfAny}
 use Rattle.lam_typing.specs.Answers.{answer, AllStandIn, context_under}
 use Rattle.lam_typing.proofs.Growing.{context-push, all_stand_push}
 use Rattle.lam_query.specs.declared.bound.Bound.{Bound}
+use Rattle.lam_query.specs.declared.bound.Meanings.{Meanings}
 use Rattle.lam_query.specs.declared.bound.Surroundings.{Surroundings}
-use Rattle.lam_query.specs.inner.Bound.{Numbers, number_of, found_over, NumbersStandIn, IsSurroundedBy}
+use Rattle.lam_query.specs.inner.Bound.{number_of, found_over, NumbersStandIn, IsSurroundedBy}
 use Rattle.lam_query.specs.inner.Entered.{entered_first, entered, names_onto, entries_onto, abbreviations_onto}
 
 -- the names that are borrowed
@@ -24,7 +25,7 @@ abbrev pub names_in : List (Bor (List ℕ)) → List Name
 names_in = map (λ x. x.now)
 
 -- those of them that are bound, over the types of a table
-abbrev pub found_of : List Typ → Numbers → List (Bor (List ℕ)) → List (Name × Option Typ)
+abbrev pub found_of : List Typ → Meanings → List (Bor (List ℕ)) → List (Name × Option Typ)
 found_of ts known names = entered (found_over ts known) (names_in names)
 
 -- the name of that index
@@ -33,7 +34,7 @@ name_at names i d = (get_or names i d).now
 
 -- one name more
 
-module _ (known : Numbers) (names : List (Bor (List ℕ))) (i : ℕ) (d : Bor (List ℕ)) (inside : i < length names) where
+module _ (known : Meanings) (names : List (Bor (List ℕ))) (i : ℕ) (d : Bor (List ℕ)) (inside : i < length names) where
   next_found : (ts : List Typ) (o : Option (Option TyNo)) → o ≡ number_of known (name_at names i d)
       → found_of ts known (drop i names) ≡ entered_first (name_at names i d) (option_map (answer ts) o) (found_of ts known (drop (i + 1) names))
   next_found ts o here =
@@ -41,20 +42,20 @@ module _ (known : Numbers) (names : List (Bor (List ℕ))) (i : ℕ) (d : Bor (L
       ∙ ap (λ p. entered_first (name_at names i d) (option_map (answer ts) p) (found_of ts known (drop (i + 1) names))) (sym here)
 
 -- what is kept for a name stands for a type
-kept_stands : (ts : List Typ) (known : Numbers) (x : Name) (number : Option TyNo) → NumbersStandIn ts known → Some number ≡ number_of known x → StandsIfAny ts number
+kept_stands : (ts : List Typ) (known : Meanings) (x : Name) (number : Option TyNo) → NumbersStandIn ts known → Some number ≡ number_of known x → StandsIfAny ts number
 kept_stands ts known x number stand here = subst (λ o. IfSome o (StandsIfAny ts)) (sym here) (stand x)
 
 -- ---- names, with their entries
 
 -- what is left of the names comes to all of them, behind those that were entered
-pub record AreEntered (known : Numbers) (names left : List (Bor (List ℕ))) (old now : Environment) (entries : List (Option TyNo)) : Type 0 where
+pub record AreEntered (known : Meanings) (names left : List (Bor (List ℕ))) (old now : Environment) (entries : List (Option TyNo)) : Type 0 where
   pub names_all : (ts : List Typ) → names_onto (names_seen now) (found_of ts known left) ≡ names_onto (names_seen old) (found_of ts known names)
   pub entries_all : (ts : List Typ) → entries_onto (context_under ts entries) (found_of ts known left) ≡ entries_onto [] (found_of ts known names)
   pub stand : (ts : List Typ) → NumbersStandIn ts known → AllStandIn ts entries
   pub type_names : (ts : List Typ) → abbreviations_seen ts now ≡ abbreviations_seen ts old
   pub type_names_stand : (ts : List Typ) → TypeNamesStand ts old → TypeNamesStand ts now
 
-module _ (known : Numbers) (names : List (Bor (List ℕ))) (i : ℕ) (d : Bor (List ℕ)) (inside : i < length names) where
+module _ (known : Meanings) (names : List (Bor (List ℕ))) (i : ℕ) (d : Bor (List ℕ)) (inside : i < length names) where
   pub unknown_passed : (old now : Environment) (entries : List (Option TyNo)) → None ≡ number_of known (name_at names i d)
       → AreEntered known names (drop i names) old now entries → AreEntered known names (drop (i + 1) names) old now entries
   unknown_passed old now entries here so_far = record {
@@ -87,13 +88,13 @@ module _ (known : Numbers) (names : List (Bor (List ℕ))) (i : ℕ) (d : Bor (L
 
 -- ---- type names, with what they stand for
 
-pub record AreTypesEntered (known : Numbers) (names left : List (Bor (List ℕ))) (old now : Environment) : Type 0 where
+pub record AreTypesEntered (known : Meanings) (names left : List (Bor (List ℕ))) (old now : Environment) : Type 0 where
   pub types_all : (ts : List Typ)
       → abbreviations_onto (abbreviations_seen ts now) (found_of ts known left) ≡ abbreviations_onto (abbreviations_seen ts old) (found_of ts known names)
   pub stand : (ts : List Typ) → NumbersStandIn ts known → TypeNamesStand ts old → TypeNamesStand ts now
   pub names_same : names_seen now ≡ names_seen old
 
-module _ (known : Numbers) (names : List (Bor (List ℕ))) (i : ℕ) (d : Bor (List ℕ)) (inside : i < length names) where
+module _ (known : Meanings) (names : List (Bor (List ℕ))) (i : ℕ) (d : Bor (List ℕ)) (inside : i < length names) where
   pub unknown_type_passed : (old now : Environment) → None ≡ number_of known (name_at names i d)
       → AreTypesEntered known names (drop i names) old now → AreTypesEntered known names (drop (i + 1) names) old now
   unknown_type_passed old now here so_far = record {

@@ -3,14 +3,15 @@ use Rattle.std.proofs.Common.{◌≡◌, ℕ, zero, suc, List, [], ◌∷◌, �
 use Rattle.std.specs.Prelude.{slice_get}
 use Rattle.std.specs.List.{All, AllByRecursion, filter_map, cons_option}
 use Rattle.std.specs.Option.{option_to_list}
-use Rattle.std.proofs.lemmas.List.{length-map, map-append, get_or-map}
+use Rattle.std.specs.Str.{IsUtf8}
+use Rattle.std.proofs.lemmas.List.{length-map, get_or-map}
 use Rattle.std.proofs.lemmas.List.Elements.{All-from_recursion}
 use Rattle.std.proofs.lemmas.List.Sorted.{All-permutation}
 use Rattle.lam_rules.specs.declared.rules.Dialect.{Dialect}
 use Rattle.lam_token.specs.declared.kind.Kind.TheVariants as kind
 use Rattle.lam_token.specs.declared.span.Span.{Span}
 use Rattle.lam_token.specs.Lexeme.{Lexeme, lexeme, span_of}
-use Rattle.lam_token.specs.Cut as token
+use Rattle.lam_token.proofs.Cuts as token
 use Rattle.lam_syntax.specs.Trees.{CommandTree}
 use Rattle.lam_syntax.specs.Answers.{pieces_of}
 use Rattle.lam_scope.specs.declared.type_fault.TypeFault.{TypeFault}
@@ -20,23 +21,24 @@ use Rattle.lam_scope.specs.Tables.{no_span}
 use Rattle.lam_typing.specs.Blaming.{Blamed}
 use Rattle.lam_scope.proofs.EveryElement.{every_append}
 use Rattle.lam_query.specs.declared.answers.Fault.{Fault as RustFault}
-use Rattle.lam_query.specs.Faults.{Fault, AreInOrder}
+use Rattle.lam_query.specs.Faults.{Fault}
 use Rattle.lam_query.specs.Sizes.{IsSizeFault, of_written_type, of_term}
 use Rattle.lam_query.specs.SyntaxFaults.{fault_of_token, PieceFault, too_long, spoiled, a_command, goes_wrong, ends_early, PieceFaults, AreSyntaxFaults}
-use Rattle.lam_query.specs.TextFaults.{written_fault, blame_fault, AreTypeFaults, too_large, small}
+use Rattle.lam_query.specs.TextFaults.{written_fault, blame_fault, AreTypeFaults, too_large, small, AreFaults}
 use Rattle.lam_query.specs.Views.{fault_of}
 use Rattle.lam_query.specs.Within.{IsSpanOfText}
+use Rattle.lam_query.proofs.Answering.{starts_stand}
 use Rattle.lam_query.proofs.RowsAndTerms.{span_told}
 use Rattle.lam_query.proofs.TreePlaces.{InCommands}
 use Rattle.lam_query.proofs.Spans.{AtPlace, InTokens, Spreads}
 use Rattle.lam_query.proofs.Pieces.{InPieces, pieces_in}
-use Rattle.lam_query.proofs.TextPlaces.{tokens_stand, stands_spread}
+use Rattle.lam_query.proofs.TextPlaces.{tokens_stand, stands_spread, commands_stand}
 use Rattle.lam_query.proofs.Within.{InFaults, in_faults, in_place, in_too_large}
 
 abbrev InFault : (Span → Type 0) → Fault → Type 0
 InFault Q f = Q f.span
 
-abbrev pub InFaultList : (Span → Type 0) → List Fault → Type 0
+abbrev InFaultList : (Span → Type 0) → List Fault → Type 0
 InFaultList Q = AllByRecursion (InFault Q)
 
 token_in : (Q : Span → Type 0) (ts : List Lexeme) (k : ℕ) (t : Lexeme) → InTokens Q ts → slice_get ts k ≡ Some t → Q (span_of t)
@@ -95,16 +97,14 @@ unviewed Q fs h = λ k default lt.
     let one = h k (fault_of default) (omega arith) in
     rw (get_or-map fault_of fs k default (fault_of default) lt) at one
 
-pub faults_stand : (text : List ℕ) (cs : List CommandTree) (d : Dialect) (tokens : List Lexeme) (of_syntax types all ordered : List RustFault)
-    → IsSpanOfText text no_span → All (token.StandsIn text) tokens → InCommands (IsSpanOfText text) cs
-    → AreSyntaxFaults tokens (map fault_of of_syntax) → AreTypeFaults cs (map fault_of types) d
-    → all ≡ of_syntax ++ types → AreInOrder (map fault_of all) (map fault_of ordered) → All (λ f. IsSpanOfText text f.span) ordered
-faults_stand text cs d tokens of_syntax types all ordered past h within syntax of_types joined order =
-    let first = in_syntax (IsSpanOfText text) (stands_spread text) tokens (map fault_of of_syntax) (tokens_stand text tokens h) syntax in
-    let second = in_types (IsSpanOfText text) cs (map fault_of types) d past within of_types in
-    let every = every_append (InFault (IsSpanOfText text)) (map fault_of of_syntax) (map fault_of types) first second in
-    let whole : map fault_of all ≡ map fault_of of_syntax ++ map fault_of types = rw joined (map-append fault_of of_syntax types) in
-    let same = rw whole at order.same in
+pub faults_stand : (text : List ℕ) (ordered : List RustFault) (d : Dialect) → IsUtf8 text → AreFaults text (map fault_of ordered) d
+    → All (λ f. IsSpanOfText text f.span) ordered
+faults_stand text ordered d is_text are =
+    let stand = token.tokens_stand text are.tokens is_text are.are_tokens in
+    let within = commands_stand text are.tokens are.commands stand are.are_commands in
+    let first = in_syntax (IsSpanOfText text) (stands_spread text) are.tokens are.of_syntax (tokens_stand text are.tokens stand) are.are_of_syntax in
+    let second = in_types (IsSpanOfText text) are.commands are.of_types d (starts_stand text is_text) within are.are_of_types in
+    let every = every_append (InFault (IsSpanOfText text)) are.of_syntax are.of_types first second in
     unviewed (IsSpanOfText text) ordered
-    (All-permutation (λ f. IsSpanOfText text f.span) (map fault_of of_syntax ++ map fault_of types) (map fault_of ordered) same
-    (All-from_recursion (λ f. IsSpanOfText text f.span) (map fault_of of_syntax ++ map fault_of types) every))
+    (All-permutation (λ f. IsSpanOfText text f.span) (are.of_syntax ++ are.of_types) (map fault_of ordered) are.in_order.same
+    (All-from_recursion (λ f. IsSpanOfText text f.span) (are.of_syntax ++ are.of_types) every))

@@ -1,42 +1,55 @@
--- What is shown of an offset, from what an analysis holds: its piece is read again.
-use Rattle.std.proofs.Common.{◌≡◌, ℕ, ◌+◌, ◌<◌, ◌≤◌, true, get_or, List, [], ◌∷◌, ◌++◌, length, length-append, take, drop, slice_range, Option, Some, None, sym, ap, subst, ◌∙◌, arith}
-use Rattle.std.specs.Option.{option_map}
+-- What is shown of an offset, from the rows of an analysis: its piece is read again.
+use Rattle.std.proofs.Common.{◌≡◌, ℕ, ◌+◌, ◌<◌, ◌≤◌, true, false, get_or, List, [], ◌∷◌, ◌++◌, length, length-append, take, drop, slice_range, Option, Some, None, refl, sym, ap, subst, ◌∙◌, arith}
+use Rattle.std.specs.Option.{option_map, option_or, is_some}
 use Rattle.std.specs.Prelude.{IfSome}
-use Rattle.std.specs.Str.{IsUtf8}
-use Rattle.std.proofs.lemmas.List.{get_or-map, length-map, length-take-le}
+use Rattle.std.specs.Str.{IsUtf8, IsCharBoundary}
+use Rattle.std.proofs.lemmas.Grind.{flat_map-append}
+use Rattle.std.proofs.lemmas.List.{get_or_default, get_or-append-add, get_or_append_left, get_or_at, get_or-map, length-map, length-take-le, map-append}
 use Rattle.std.proofs.lemmas.List.Quantifiers.{position-Some}
+use Rattle.lam_token.specs.declared.span.Span.{Span}
+use Rattle.lam_token.specs.Lexeme.{Lexeme}
 use Rattle.lam_token.proofs.Cuts.{tokens_stand}
 use Rattle.lam_rules.specs.Types.{Typ}
+use Rattle.lam_rules.specs.declared.numbers.TyNo.{TyNo}
 use Rattle.lam_rules.specs.declared.rules.Dialect.{Dialect}
 use Rattle.lam_syntax.specs.Trees.{CommandTree}
-use Rattle.lam_scope.specs.Nameless.{abbreviations_after, names_after}
-use Rattle.lam_scope.specs.PlacedTerms.{term_of, command_terms, scope_after, commands_terms, document_terms}
-use Rattle.lam_rules.specs.declared.numbers.TyNo.{TyNo}
+use Rattle.lam_syntax.proofs.Complete.{one_tree}
 use Rattle.lam_scope.specs.Numbered.{StandsIfAny}
+use Rattle.lam_scope.specs.PlacedTerms.{term_of, command_terms, document_terms}
 use Rattle.lam_scope.specs.Tables.{is_over, table, no_span, TextPlace, place_at, place_row_numbered}
 use Rattle.lam_typing.specs.Answers.{answer, answers, AllStandIn}
+use Rattle.lam_typing.specs.Checking.{types_in}
 use Rattle.lam_typing.proofs.Growing.{stands_at}
 use Rattle.lam_typing.proofs.Together.{least_length}
 use Rattle.lam_query.specs.declared.analyses.Analysis.{Analysis}
-use Rattle.lam_query.specs.declared.marks.PlacedPiece.{PlacedPiece}
-use Rattle.lam_query.specs.declared.typed_texts.TypedText.{TypedText}
-use Rattle.lam_query.specs.declared.typed_texts.TextTypes.TheVariants.{Typed}
+use Rattle.lam_query.specs.declared.answers.Hover.{Hover}
+use Rattle.lam_query.specs.declared.bound.Bound.{Bound}
+use Rattle.lam_query.specs.declared.rows.CommandRow.{CommandRow}
+use Rattle.lam_query.specs.declared.rows.Found.{Found}
+use Rattle.lam_query.specs.declared.rows.Found.TheVariants.{LargeWrittenType, LargeTerm, Types}
+use Rattle.lam_query.specs.declared.rows.FoundTypes.{FoundTypes}
+use Rattle.lam_query.specs.declared.rows.PlacedRow.{PlacedRow}
+use Rattle.lam_query.specs.declared.rows.Row.{Row}
 use Rattle.lam_query.specs.Analyses.{IsAnalysisOf}
+use Rattle.lam_query.specs.Commands.{AreCommandsOfText}
 use Rattle.lam_query.specs.Hovers.{Shown, IsShownIn}
 use Rattle.lam_query.specs.Sizes.{places_in}
 use Rattle.lam_query.specs.Views.{shown_of}
 use Rattle.lam_query.specs.Within.{IsSpanOfText}
-use Rattle.lam_query.specs.declared.answers.Hover.{Hover}
 use Rattle.lam_query.specs.inner.Checked.{abbreviations_behind, names_behind, scope_behind}
-use Rattle.lam_query.specs.inner.Marks.{IsPlacedAround, AreMarksFor, AreMarksOf}
-use Rattle.lam_query.specs.inner.OnePiece.{IsOwnOf, one_command, no_command, ArePieceTokens, IsShownInCommand, IsShownByPiece, by_no_command, by_command}
-use Rattle.lam_query.specs.inner.TypedTexts.{IsTextTyped, AreTypesOf}
+use Rattle.lam_query.specs.inner.Entered.{Lookup}
+use Rattle.lam_query.specs.inner.OnePiece.{HaveNoSemicolon, IsOwnOf, IsOffsetIn, one_command, no_command, ArePieceTokens, IsShownInCommand, by_no_term, by_no_type, by_type, IsShownByPiece, by_no_command, by_command}
+use Rattle.lam_query.specs.inner.Rows.{Front, nothing, front_with, IsKeptOf, IsRow, AreRowsFrom, StandInFound, found_of, large_written_type, large_term, types_of_found, types_listed, types_found, first_in, first_large, all_types, AreAllTyped, IsRowAround}
 use Rattle.lam_query.proofs.Answering.{starts_stand}
 use Rattle.lam_query.proofs.Checked.{checked_small}
-use Rattle.lam_query.proofs.CheckedLists.{terms_append}
-use Rattle.lam_query.proofs.PieceOfText.{commands_of_piece}
+use Rattle.lam_query.proofs.CheckedLists.{terms_push}
+use Rattle.lam_query.proofs.Hovering.{too_large_around}
+use Rattle.lam_query.proofs.KnownRows.{known_through, size_told}
 use Rattle.lam_query.proofs.RowsAndTerms.{innermost_number, span_told}
+use Rattle.lam_query.proofs.RowLists.{rows_push}
+use Rattle.lam_query.proofs.RowPieces.{begins_between, ends_between}
 use Rattle.lam_query.proofs.ShownByPiece.{shown_by_piece}
+use Rattle.lam_query.proofs.SpelledRows.{spelled_through, whole_spelled}
 use Rattle.lam_query.proofs.TermsAlone.{command_size}
 use Rattle.lam_query.proofs.TextPlaces.{commands_stand}
 use Rattle.lam_query.proofs.Within.{in_place}
@@ -59,82 +72,323 @@ pub hover_stands : (text : List ℕ) (o : ℕ) (found : Option Hover) (d : Diale
 hover_stands text o None d is_text is = tt
 hover_stands text o (Some h) d is_text is = shown_stands text o (shown_of h) d is_text is
 
--- ---- by the piece
+-- ---- rows in which no type is too large
 
--- how many terms there are up to a command among others
-terms_within : (before : List CommandTree) (c : CommandTree) (after : List CommandTree)
-    → length (document_terms before) + length (table (c ∷ [])).places ≤ length (document_terms (before ++ c ∷ after))
-terms_within before c after =
-    let bs = abbreviations_behind before in
-    let xs = names_behind before in
-    let s = scope_behind before in
-    let own = command_terms bs xs s c in
-    let others = commands_terms (abbreviations_after bs c) (names_after xs c) (scope_after bs xs s c) after in
-    omega (arith, ap length (terms_append before (c ∷ after)), length-append (document_terms before) (own ++ others), length-append own others, command_size bs xs s c)
+none_from : (x : Option Span) → is_some x ≡ false → x ≡ None
+none_from None is = refl
+none_from (Some s) is = absurd cc
 
--- what an analysis holds of types and of pieces, where no type is too large
-pub types_typed : (text : List ℕ) (a : Analysis) (t : TypedText) → (h : IsAnalysisOf text a) → a.types ≡ Typed t → IsTextTyped h.commands t a.dialect
-types_typed text a t h is = subst (λ types. AreTypesOf h.commands types a.dialect) is h.types
+none_of_both : (x y : Option Span) → option_or x y ≡ None → (x ≡ None) × (y ≡ None)
+none_of_both None y none = (refl, none)
+none_of_both (Some s) y none = absurd cc
 
-pub all_marked : (text : List ℕ) (a : Analysis) (t : TypedText) → IsAnalysisOf text a → a.types ≡ Typed t → AreMarksOf text a.marks.items
-all_marked text a t h is = subst (AreMarksFor text a.marks.items) is h.marks
+none_in_parts : (f : Option Found → Option Span) (front : List Row) (r : Row) (behind : List Row) → first_in f (front ++ r ∷ behind) ≡ None
+    → (first_in f front ≡ None) × (f (found_of r) ≡ None)
+none_in_parts f [] r behind none = (refl, (none_of_both (f (found_of r)) (first_in f behind) none).0)
+none_in_parts f (s ∷ front) r behind none =
+    let both = none_of_both (f (found_of s)) (first_in f (front ++ r ∷ behind)) none in
+    let rest = none_in_parts f front r behind both.1 in
+    (ap (λ x. option_or x (first_in f front)) both.0 ∙ rest.0, rest.1)
 
-module _ (text : List ℕ) (a : Analysis) (t : TypedText) (o : ℕ) (p : PlacedPiece) (h : IsAnalysisOf text a) (is : a.types ≡ Typed t)
-    (around : IsPlacedAround text o p) where
-  abbrev Found : List (Option Typ)
-  Found = answers t.table t.types.items
+-- a row among others: none in front of it, and none of its own
+record IsSmallAmong (front : List Row) (r : Row) : Type 0 where
+  ahead : first_large front ≡ None
+  written : large_written_type (found_of r) ≡ None
+  term : large_term (found_of r) ≡ None
 
-  typed : IsTextTyped h.commands t a.dialect
-  typed = types_typed text a t h is
+small_among : (front : List Row) (r : Row) (behind : List Row) → first_large (front ++ r ∷ behind) ≡ None → IsSmallAmong front r
+small_among front r behind none =
+    let both = none_of_both (first_in large_written_type (front ++ r ∷ behind)) (first_in large_term (front ++ r ∷ behind)) none in
+    let written = none_in_parts large_written_type front r behind both.0 in
+    let term = none_in_parts large_term front r behind both.1 in
+    record { ahead = ap (λ x. option_or x (first_in large_term front)) written.0 ∙ term.0; written = written.1; term = term.1 }
 
-  -- the tokens that the piece has
-  pub own_tokens : ArePieceTokens p.start (slice_range text p.start p.end) (drop p.end text) around.tokens
-  own_tokens =
-      subst (λ n. ArePieceTokens n (slice_range text p.start p.end) (drop p.end text) around.tokens)
-      (length-take-le p.start text (omega (arith, around.forward, around.inside))) around.piece.are_own
+none_pushed : (f : Option Found → Option Span) (front : List Row) (r : Row) → first_in f front ≡ None → f (found_of r) ≡ None → first_in f (front ++ r ∷ []) ≡ None
+none_pushed f [] r none own = ap (λ x. option_or x None) own
+none_pushed f (s ∷ front) r none own =
+    let both = none_of_both (f (found_of s)) (first_in f front) none in
+    ap (λ x. option_or x (first_in f (front ++ r ∷ []))) both.0 ∙ none_pushed f front r both.1 own
 
-  shown : (s : Option Shown) → IsShownByPiece around.tokens p.terms Found o s → IsShownIn text o s a.dialect
-  shown s by_piece =
-      shown_by_piece text (take p.start text) (slice_range text p.start p.end) (drop p.end text) around.tokens h.commands around.before Found o s a.dialect
-      around.piece h.are_commands around.are_before around.is_there
-      (checked_small h.commands typed.context Found typed.blames a.dialect typed.checked) typed.checked.shown.least
-      (subst (λ n. IsShownByPiece around.tokens n Found o s) around.counted by_piece)
+-- ---- what is kept of the command of a row
 
-  -- the piece is no command
-  pub nothing_shown : IsOwnOf around.tokens [] → IsShownIn text o None a.dialect
-  nothing_shown (no_command none) = shown None (by_no_command none)
+stand_of : (ts : List Typ) (found : Found) (t : FoundTypes) → StandInFound ts found → types_of_found (Some found) ≡ Some t → AllStandIn ts t.types.items
+stand_of ts (LargeWrittenType s) t stand is = absurd cc
+stand_of ts (LargeTerm s) t stand is = absurd cc
+stand_of ts (Types u) t stand is = let same : u ≡ t = cc in subst (λ v. AllStandIn ts v.types.items) same stand.0
 
-  -- it is this one
-  pub command_shown : (c : CommandTree) (s : Option Shown) → IsOwnOf around.tokens (c ∷ []) → IsShownInCommand c p.terms Found o s → IsShownIn text o s a.dialect
-  command_shown c s (one_command is_own) in_command = shown s (by_command is_own in_command)
+-- the numbers of its types stand in the table
+kept_stand : (names types : Lookup) (own : List CommandTree) (ts : List Typ) (r : Option CommandRow) (b : Bound) (d : Dialect) (t : FoundTypes)
+    → IsKeptOf names types own ts r b d → types_of_found (option_map (λ c. c.found) r) ≡ Some t → AllStandIn ts t.types.items
+kept_stand names types [] ts None b d t kept is = absurd cc
+kept_stand names types [] ts (Some r) b d t kept is = absurd kept
+kept_stand names types (c ∷ []) ts None b d t kept is = absurd kept
+kept_stand names types (c ∷ []) ts (Some r) b d t kept is = stand_of ts r.found t kept.0.stand is
+kept_stand names types (c ∷ e ∷ own) ts None b d t kept is = absurd kept
+kept_stand names types (c ∷ e ∷ own) ts (Some r) b d t kept is = absurd kept
 
-  -- its terms are among those of which a type was found
-  pub types_inside : (c : CommandTree) → IsOwnOf around.tokens (c ∷ []) → p.terms + length (table (c ∷ [])).places ≤ length t.types.items
-  types_inside c own =
-      let whole = commands_of_piece text (take p.start text) (slice_range text p.start p.end) (drop p.end text) around.tokens h.commands around.before (c ∷ []) o
-      around.piece h.are_commands around.are_before own around.is_there in
-      let all : length t.types.items ≡ length (document_terms h.commands) =
-      sym (length-map t.types.items _) ∙ sym (least_length (places_in h.commands) Found a.dialect typed.checked.shown.least) ∙ length-map (document_terms h.commands) _ in
-      let some = terms_within around.before c whole.0 in
-      omega (arith, all, ap (λ cs. length (document_terms cs)) whole.1, some, around.counted)
+some_type : (found : Found) → types_of_found (Some found) ≡ None → large_written_type (Some found) ≡ None → large_term (Some found) ≡ None → ⊥
+some_type (LargeWrittenType s) none written term = absurd cc
+some_type (LargeTerm s) none written term = absurd cc
+some_type (Types t) none written term = absurd cc
 
--- ---- in a command
+-- without types it is none
+kept_none : (names types : Lookup) (own : List CommandTree) (ts : List Typ) (r : Option CommandRow) (b : Bound) (d : Dialect)
+    → IsKeptOf names types own ts r b d → types_of_found (option_map (λ c. c.found) r) ≡ None
+    → large_written_type (option_map (λ c. c.found) r) ≡ None → large_term (option_map (λ c. c.found) r) ≡ None → own ≡ []
+kept_none names types [] ts r b d kept none written term = refl
+kept_none names types (c ∷ []) ts None b d kept none written term = absurd kept
+kept_none names types (c ∷ []) ts (Some r) b d kept none written term = absurd (some_type r.found none written term)
+kept_none names types (c ∷ e ∷ own) ts None b d kept none written term = absurd kept
+kept_none names types (c ∷ e ∷ own) ts (Some r) b d kept none written term = absurd kept
+
+own_same : (tokens : List Lexeme) (own others : List CommandTree) → IsOwnOf tokens own → IsOwnOf tokens others → own ≡ others
+own_same tokens _ _ (one_command h) (one_command k) = ap (λ c. c ∷ []) (one_tree h.spelled k.spelled)
+own_same tokens _ _ (one_command {c = c} h) (no_command k) = absurd (k c h)
+own_same tokens _ _ (no_command h) (one_command {c = c} k) = absurd (h c k)
+own_same tokens _ _ (no_command h) (no_command k) = refl
+
+-- ---- types by their numbers
+
+-- there are as many as terms
+typed_terms : (f : Front) (rows : List Row) (ts : List Typ) (d : Dialect) → AreAllTyped f rows ts d → length (all_types rows) ≡ length (document_terms f.commands)
+typed_terms f rows ts d known =
+    sym (length-map (all_types rows) (answer ts))
+    ∙ sym (least_length (places_in f.commands) (answers ts (all_types rows)) d known.checked.shown.least)
+    ∙ length-map (document_terms f.commands) _
+
+types_joined : (front behind : List Row) → all_types (front ++ behind) ≡ all_types front ++ all_types behind
+types_joined front behind = flat_map-append (λ r. types_found (found_of r)) front behind
+
+-- those of a row among all
+own_types : (ts : List Typ) (front : List Row) (r : Row) (behind : List Row) (n : ℕ) → n < length (types_found (found_of r))
+    → get_or (answers ts (all_types (front ++ r ∷ behind))) (length (all_types front) + n) None ≡ get_or (answers ts (types_found (found_of r))) n None
+own_types ts front r behind n lt =
+    let own = types_found (found_of r) in
+    let ahead = answers ts (all_types front) in
+    let all : answers ts (all_types (front ++ r ∷ behind)) ≡ ahead ++ (answers ts own ++ answers ts (all_types behind)) =
+    ap (answers ts) (types_joined front (r ∷ behind)) ∙ map-append (answer ts) (all_types front) (own ++ all_types behind)
+    ∙ ap (λ os. ahead ++ os) (map-append (answer ts) own (all_types behind)) in
+    ap (λ os. get_or os (length (all_types front) + n) None) all
+    ∙ ap (λ k. get_or (ahead ++ (answers ts own ++ answers ts (all_types behind))) (k + n) None) (sym (length-map (all_types front) (answer ts)))
+    ∙ get_or-append-add ahead (answers ts own ++ answers ts (all_types behind)) n None
+    ∙ get_or_append_left (answers ts own) (answers ts (all_types behind)) None n (omega (arith, lt, length-map own (answer ts)))
 
 -- any place, for look-ups that find one
 no_place : TextPlace
 no_place = record { span = no_span; derived = true; terms = []; inner = None }
 
+place_inside : (c : CommandTree) (o n : ℕ) → place_at (table (c ∷ [])) o ≡ Some n → n < length (table (c ∷ [])).places
+place_inside c o n at = (position-Some (is_over o) (table (c ∷ [])).places n no_place at).0
+
+-- what a command shows by its own types it shows by all types, behind those in front
+shown_among : (c : CommandTree) (before : ℕ) (own all : List (Option Typ)) (o : ℕ) (shown : Option Shown)
+    → ((n : ℕ) → n < length (table (c ∷ [])).places → get_or all (before + n) None ≡ get_or own (0 + n) None)
+    → IsShownInCommand c 0 own o shown → IsShownInCommand c before all o shown
+shown_among c before own all o _ same (by_no_term none) = by_no_term none
+shown_among c before own all o _ same (by_no_type {n = n} at none) = by_no_type at (same n (place_inside c o n at) ∙ none)
+shown_among c before own all o _ same (by_type {n = n} at found text span) = by_type at (same n (place_inside c o n at) ∙ found) text span
+
+-- ---- where some type is too large
+
+pub large_shown : (text : List ℕ) (a : Analysis) (o : ℕ) → IsAnalysisOf text a → is_some a.large ≡ true → IsShownIn text o None a.dialect
+large_shown text a o h some = by a.large refl some
+  where
+    by : (large : Option Span) → a.large ≡ large → is_some large ≡ true → IsShownIn text o None a.dialect
+    by None is large = absurd cc
+    by (Some s) is large =
+        let of = whole_spelled text a.rows.items h.front (types_in a.types) a.bound a.dialect h.is_text h.rows h.whole in
+        record {
+          commands = h.front.commands;
+          are_commands = record { tokens = of.tokens; are_tokens = of.are_tokens; are_commands = of.are_commands };
+          answer = too_large_around h.front.commands s o a.dialect
+              (size_told text a.rows.items h.front (types_in a.types) a.bound a.dialect s h.rows (sym h.large ∙ is));
+        }
+
+-- ---- by the piece
+
+-- the row round the offset
+module _ (text : List ℕ) (a : Analysis) (o : ℕ) (p : PlacedRow) (h : IsAnalysisOf text a) (rows : List Row) (rows_are : rows ≡ a.rows.items)
+    (there : (text : List ℕ) (f : Front) (ts : List Typ) (b : Bound) (d : Dialect) → AreRowsFrom text nothing rows f ts b d → f.end ≡ length text
+    → IsRowAround text o rows p ts b d) where
+  abbrev Numbers : List Typ
+  Numbers = types_in a.types
+
+  around : IsRowAround text o a.rows.items p Numbers a.bound a.dialect
+  around =
+      subst (λ rs. IsRowAround text o rs p Numbers a.bound a.dialect) rows_are
+      (there text h.front Numbers a.bound a.dialect (subst (λ rs. AreRowsFrom text nothing rs h.front Numbers a.bound a.dialect) (sym rows_are) h.rows) h.whole)
+
+  -- it is this one
+  module _ (r e : Row) (is : r ≡ get_or a.rows.items p.number e) where
+    same : around.row ≡ r
+    same =
+        sym (get_or_at around.before around.row around.after e p.number (sym around.counted)) ∙ ap (λ rs. get_or rs p.number e) (sym around.are) ∙ sym is
+
+    are : a.rows.items ≡ around.before ++ r ∷ around.after
+    are = around.are ∙ ap (λ s. around.before ++ s ∷ around.after) same
+
+    here : IsRow text around.front around.own r Numbers a.bound a.dialect
+    here = subst (λ s. IsRow text around.front around.own s Numbers a.bound a.dialect) same around.is_row
+
+    pub is_forward : p.start ≤ r.end
+    is_forward = omega (arith, around.starts, here.forward)
+
+    -- it begins and ends between characters
+
+    pub starts_between : IsCharBoundary text p.start
+    starts_between =
+        subst (IsCharBoundary text) (sym around.starts) (begins_between text around.front.end r.end here.tokens h.is_text here.forward here.inside here.piece)
+
+    pub stops_between : IsCharBoundary text r.end
+    stops_between = ends_between text around.front.end r.end here.tokens h.is_text here.forward here.inside here.piece
+
+    -- what its piece alone is read as
+    abbrev ReadAs : List CommandTree → Type 0
+    ReadAs own = (rest : List ℕ) (tokens : List Lexeme) → ArePieceTokens p.start (slice_range text p.start r.end) rest tokens → HaveNoSemicolon tokens
+        → IsOwnOf tokens own
+
+    read_own : (own : List CommandTree) → ReadAs own → IsOwnOf here.tokens own
+    read_own own read = read (drop r.end text) here.tokens tokens_there here.piece.one_piece
+      where
+        tokens_there : ArePieceTokens p.start (slice_range text p.start r.end) (drop r.end text) here.tokens
+        tokens_there =
+            subst (λ n. ArePieceTokens n (slice_range text n r.end) (drop r.end text) here.tokens) (sym around.starts)
+            (subst (λ n. ArePieceTokens n (slice_range text around.front.end r.end) (drop r.end text) here.tokens)
+            (length-take-le around.front.end text (omega (arith, here.forward, here.inside))) here.piece.are_own)
+
+    -- no type is too large
+    module _ (not_large : is_some a.large ≡ false) where
+      small : first_large a.rows.items ≡ None
+      small = sym h.large ∙ none_from a.large not_large
+
+      small_there : IsSmallAmong around.before r
+      small_there = small_among around.before r around.after (ap first_large (sym are) ∙ small)
+
+      known : AreAllTyped h.front a.rows.items Numbers a.dialect
+      known = known_through text a.rows.items h.front Numbers a.bound a.dialect h.rows small
+
+      ahead : AreAllTyped around.front around.before Numbers a.dialect
+      ahead = known_through text around.before around.front Numbers a.bound a.dialect around.rows_before small_there.ahead
+
+      commands : AreCommandsOfText text h.front.commands
+      commands =
+          let of = whole_spelled text a.rows.items h.front Numbers a.bound a.dialect h.is_text h.rows h.whole in
+          record { tokens = of.tokens; are_tokens = of.are_tokens; are_commands = of.are_commands }
+
+      commands_ahead : AreCommandsOfText (take around.front.end text) around.front.commands
+      commands_ahead =
+          let of = spelled_through text around.before around.front Numbers a.bound a.dialect h.is_text around.rows_before in
+          record { tokens = of.tokens; are_tokens = of.are_tokens; are_commands = of.are_commands }
+
+      shown : (s : Option Shown) → IsShownByPiece here.tokens (length (document_terms around.front.commands)) (answers Numbers (all_types a.rows.items)) o s
+          → IsShownIn text o s a.dialect
+      shown s by_piece =
+          shown_by_piece text (take around.front.end text) (slice_range text around.front.end r.end) (drop r.end text) here.tokens
+          h.front.commands around.front.commands (answers Numbers (all_types a.rows.items)) o s a.dialect here.piece commands commands_ahead
+          (subst (λ s. IsOffsetIn o (take around.front.end text) (slice_range text around.front.end s.end) (drop s.end text)) same around.is_there)
+          (checked_small h.front.commands known.context (answers Numbers (all_types a.rows.items)) known.blames a.dialect known.checked)
+          known.checked.shown.least by_piece
+
+      no_own_shown : IsOwnOf here.tokens [] → IsShownIn text o None a.dialect
+      no_own_shown (no_command none) = shown None (by_no_command none)
+
+      -- the piece is no command
+      pub no_command_shown : ReadAs [] → IsShownIn text o None a.dialect
+      no_command_shown read = no_own_shown (read_own [] read)
+
+      -- no types are kept
+      pub no_types_shown : types_of_found (found_of r) ≡ None → IsShownIn text o None a.dialect
+      no_types_shown without =
+          let no_own = kept_none around.front.names around.front.types around.own Numbers r.command a.bound a.dialect here.kept without
+          small_there.written small_there.term in
+          no_own_shown (subst (IsOwnOf here.tokens) no_own here.is_own)
+
+      -- these are
+      module _ (t : FoundTypes) (kept : types_of_found (found_of r) ≡ Some t) where
+        pub types_stand : AllStandIn Numbers t.types.items
+        types_stand = kept_stand around.front.names around.front.types around.own Numbers r.command a.bound a.dialect t here.kept kept
+
+        listed : types_found (found_of r) ≡ t.types.items
+        listed = ap types_listed kept
+
+        -- the piece is this command
+        module _ (c : CommandTree) (read : ReadAs (c ∷ [])) where
+          own : around.own ≡ c ∷ []
+          own = own_same here.tokens around.own (c ∷ []) here.is_own (read_own (c ∷ []) read)
+
+          abbrev Through : Front
+          Through = front_with around.front (c ∷ []) Numbers r
+
+          small_through : first_large (around.before ++ r ∷ []) ≡ None
+          small_through =
+              let both = none_of_both (first_in large_written_type around.before) (first_in large_term around.before) small_there.ahead in
+              ap (λ x. option_or x (first_in large_term (around.before ++ r ∷ []))) (none_pushed large_written_type around.before r both.0 small_there.written)
+              ∙ none_pushed large_term around.before r both.1 small_there.term
+
+          through : AreAllTyped Through (around.before ++ r ∷ []) Numbers a.dialect
+          through =
+              known_through text (around.before ++ r ∷ []) Through Numbers a.bound a.dialect
+              (rows_push text nothing around.before around.front (c ∷ []) r Numbers a.bound a.dialect around.rows_before
+              (subst (λ cs. IsRow text around.front cs r Numbers a.bound a.dialect) own here))
+              small_through
+
+          -- it has as many terms as types
+          as_many : length (table (c ∷ [])).places ≡ length t.types.items
+          as_many =
+              let bs = abbreviations_behind around.front.commands in
+              let xs = names_behind around.front.commands in
+              let s = scope_behind around.front.commands in
+              omega (
+                arith,
+                typed_terms around.front around.before Numbers a.dialect ahead,
+                typed_terms Through (around.before ++ r ∷ []) Numbers a.dialect through,
+                ap length (types_joined around.before (r ∷ [])),
+                length-append (all_types around.before) (all_types (r ∷ [])),
+                ap (λ os. length (os ++ [])) listed,
+                length-append t.types.items [],
+                ap length (terms_push around.front.commands c),
+                length-append (document_terms around.front.commands) (command_terms bs xs s c),
+                command_size bs xs s c,
+              )
+
+          pub types_inside : length (table (c ∷ [])).places ≤ length t.types.items
+          types_inside = omega (arith, as_many)
+
+          same_types : (n : ℕ) → n < length (table (c ∷ [])).places
+              → get_or (answers Numbers (all_types a.rows.items)) (length (document_terms around.front.commands) + n) None
+              ≡ get_or (answers Numbers t.types.items) (0 + n) None
+          same_types n lt =
+              ap (λ rs. get_or (answers Numbers (all_types rs)) (length (document_terms around.front.commands) + n) None) are
+              ∙ ap (λ k. get_or (answers Numbers (all_types (around.before ++ r ∷ around.after))) (k + n) None)
+              (sym (typed_terms around.front around.before Numbers a.dialect ahead))
+              ∙ own_types Numbers around.before r around.after n (omega (arith, lt, as_many, ap length listed))
+              ∙ ap (λ os. get_or (answers Numbers os) n None) listed ∙ ap (λ k. get_or (answers Numbers t.types.items) k None) (omega arith)
+
+          pub command_shown : (s : Option Shown) → IsShownInCommand c 0 (answers Numbers t.types.items) o s → IsShownIn text o s a.dialect
+          command_shown s in_command = by (read_own (c ∷ []) read)
+            where
+              among : IsShownInCommand c (length (document_terms around.front.commands)) (answers Numbers (all_types a.rows.items)) o s
+              among =
+                  shown_among c (length (document_terms around.front.commands)) (answers Numbers t.types.items) (answers Numbers (all_types a.rows.items)) o s
+                  same_types in_command
+
+              by : IsOwnOf here.tokens (c ∷ []) → IsShownIn text o s a.dialect
+              by (one_command is_command) = shown s (by_command is_command among)
+
+-- ---- in a command
+
 -- the type that was found of the term at a byte, and that its number stands
-module _ (t : TypedText) (c : CommandTree) (before o n : ℕ) (number : Option TyNo) (stand : AllStandIn t.table t.types.items)
-    (inside : before + length (table (c ∷ [])).places ≤ length t.types.items) (at : place_at (table (c ∷ [])) o ≡ Some n)
-    (is : number ≡ get_or t.types.items (before + n) number) where
-  within : before + n < length t.types.items
-  within =
-      let lt = (position-Some (is_over o) (table (c ∷ [])).places n no_place at).0 in
-      omega (arith, inside, lt)
+module _ (ts : List Typ) (types : List (Option TyNo)) (c : CommandTree) (o n : ℕ) (number e : Option TyNo) (stand : AllStandIn ts types)
+    (inside : length (table (c ∷ [])).places ≤ length types) (at : place_at (table (c ∷ [])) o ≡ Some n) (is : get_or types n e ≡ number) where
+  within : n < length types
+  within = omega (arith, inside, place_inside c o n at)
 
-  pub number_stands : StandsIfAny t.table number
-  number_stands = stands_at t.table t.types.items (before + n) number within is stand
+  there : number ≡ get_or types n number
+  there = sym is ∙ get_or_default types n e number within
 
-  pub found_there : get_or (answers t.table t.types.items) (before + n) None ≡ answer t.table number
-  found_there = get_or-map (answer t.table) t.types.items (before + n) number None within ∙ ap (answer t.table) (sym is)
+  pub number_stands : StandsIfAny ts number
+  number_stands = stands_at ts types n number within there stand
+
+  pub found_there : get_or (answers ts types) (0 + n) None ≡ answer ts number
+  found_there =
+      ap (λ k. get_or (answers ts types) k None) (omega arith) ∙ get_or-map (answer ts) types n number None within ∙ ap (answer ts) (sym there)

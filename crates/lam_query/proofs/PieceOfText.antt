@@ -36,7 +36,7 @@ ends_piece_at end [] ends = tt
 ends_piece_at end (t ∷ []) ends = ap ends_piece ends.0
 ends_piece_at end (t ∷ u ∷ ts) ends = ends_piece_at end (u ∷ ts) ends
 
-front_ends : (ahead : List ℕ) (front : List Lexeme) → AreTokensOf ahead front → (ahead ≡ []) ⊎ EndsInSemicolon ahead front
+pub front_ends : (ahead : List ℕ) (front : List Lexeme) → AreTokensOf ahead front → (ahead ≡ []) ⊎ EndsInSemicolon ahead front
     → EndInSemicolon front
 front_ends ahead front are (inl none) = subst EndInSemicolon (sym (no_tokens 0 ahead front none are)) tt
 front_ends ahead front are (inr ends) = ends_piece_at (length ahead) front ends
@@ -48,7 +48,7 @@ front_before ahead front o are (inr ends) le =
     let stand = text_stands ahead front are in
     all_end o 0 stand.0 (length ahead) front le stand.1 ends
 
-front_joined : (ahead more : List ℕ) (front others : List Lexeme) → IsUtf8 ahead → AreTokensOf ahead front
+pub front_joined : (ahead more : List ℕ) (front others : List Lexeme) → IsUtf8 ahead → AreTokensOf ahead front
     → (ahead ≡ []) ⊎ EndsInSemicolon ahead front → AreTokensFrom (length ahead) more others → AreTokensOf (ahead ++ more) (front ++ others)
 front_joined [] more front others is_text are ends are_others =
     subst (λ ts. AreTokensOf more (ts ++ others)) (sym (no_tokens 0 [] front refl are)) are_others

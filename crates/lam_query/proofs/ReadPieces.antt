@@ -98,7 +98,7 @@ all_read front done own before now is_own told h =
 
 -- ---- a token
 
-semicolon_faultless : (t : Lexeme) → is_semicolon t ≡ true → fault_of_token t ≡ None
+pub semicolon_faultless : (t : Lexeme) → is_semicolon t ≡ true → fault_of_token t ≡ None
 semicolon_faultless (lexeme kind.BadCharacter text span) is = absurd cc
 semicolon_faultless (lexeme kind.BadComment text span) is = absurd cc
 semicolon_faultless t is = refl

@@ -47,7 +47,7 @@ module _ (before after : List CommandTree) (c : CommandTree) (o : ℕ)
 
 -- ---- what is shown
 
-pub hover_by_piece : (whole ahead piece rest : List ℕ) (tokens : List Lexeme) (commands before : List CommandTree)
+hover_by_piece : (whole ahead piece rest : List ℕ) (tokens : List Lexeme) (commands before : List CommandTree)
     (found : List (Option Typ)) (o : ℕ) (shown : Option Shown) (d : Dialect)
     → IsPieceOf whole ahead piece rest tokens → AreCommandsOfText whole commands → AreCommandsOfText ahead before
     → IsOffsetIn o ahead piece rest

@@ -2,6 +2,7 @@ pub mod Commands
 pub mod Within
 pub mod Faults
 pub mod Sizes
+pub mod CommandTypes
 pub mod SyntaxFaults
 pub mod TextFaults
 pub mod Touched

@@ -7,9 +7,12 @@ use Rattle.lam_rules.specs.declared.types.Ty.{Ty}
 use Rattle.lam_query.specs.declared.answers.Fault.{Fault as RustFault}
 use Rattle.lam_query.specs.declared.answers.Hover.{Hover}
 use Rattle.lam_query.specs.declared.answers.Item.{Item as RustItem}
+use Rattle.lam_query.specs.declared.answers.CommandType.{CommandType as RustCommandType}
+use Rattle.lam_query.specs.declared.answers.CommandType.TheVariants as shows
 use Rattle.lam_query.specs.declared.answers.Derivation.{Derivation as RustDerivation}
 use Rattle.lam_query.specs.declared.answers.Step.{Step as RustStep}
 use Rattle.lam_query.specs.declared.answers.Step.TheVariants as rust
+use Rattle.lam_query.specs.CommandTypes.{CommandType, of_name, of_type_name, of_term}
 use Rattle.lam_query.specs.Faults.{Fault}
 use Rattle.lam_query.specs.Within.{IsSpanOfText}
 use Rattle.lam_query.specs.Steps.{Step, typing, subtyping}
@@ -24,6 +27,12 @@ fault_of f = record { code = f.code.now; span = f.span }
 -- the text and the span of a `Hover`
 abbrev pub shown_of : Hover → Shown
 shown_of h = record { text = string_bytes h.text; span = h.span }
+
+-- what a `CommandType` says
+abbrev pub command_type_of : RustCommandType → CommandType
+command_type_of (shows.Name x type) = of_name (string_bytes x) (option_map (λ t. string_bytes t) type)
+command_type_of (shows.TypeName x type) = of_type_name (string_bytes x) (option_map (λ t. string_bytes t) type)
+command_type_of (shows.Term type) = of_term (option_map (λ t. string_bytes t) type)
 
 -- what an `Item` says
 abbrev pub item_of : RustItem → Item

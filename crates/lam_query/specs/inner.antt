@@ -11,7 +11,9 @@ pub mod Entered
 pub mod OnePiece
 pub mod Bound
 pub mod TypedCommands
-pub mod TypedTexts
-pub mod Marks
+pub mod Pieces
+pub mod Rows
 pub mod Analysts
+pub mod Fronts
+pub mod ShownCommands
 pub mod Documents

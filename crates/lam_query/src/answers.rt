@@ -28,6 +28,17 @@ pub struct Item {
     pub field: bool,
 }
 
+/// What a command shows: texts of types, as a hover shows them, or none where there is no type.
+#[derive(Drop, Debug)]
+pub enum CommandType {
+    /// A name, and the least type of the term or the written type that it is bound to.
+    Name(String, Option<String>),
+    /// A type name, and the type that it stands for.
+    TypeName(String, Option<String>),
+    /// The least type of a term.
+    Term(Option<String>),
+}
+
 /// A proof that a term has a type.
 #[derive(Drop)]
 pub struct Derivation {

@@ -1,12 +1,14 @@
 //! What the commands in front of a command have bound, and what the command sees of it.
-ghost use Rattle.std.specs.Prelude.{◌≡◌, List, [], map, Some, IfOk, OnOk};
+ghost use Rattle.std.specs.Prelude.{◌≡◌, ℕ, List, [], map, Some, None, IfOk, OnOk};
 ghost use Rattle.lam_rules.specs.Types.{Typ};
-ghost use Rattle.lam_rules.specs.Typing.{Context};
 ghost use Rattle.lam_scope.specs.Environments.{names_seen, abbreviations_seen, TypeNamesStand};
+ghost use Rattle.lam_scope.specs.Names.{Name};
 ghost use Rattle.lam_syntax.specs.Letters.{letters};
+ghost use Rattle.lam_syntax.specs.Trees.{CommandTree};
 ghost use Rattle.lam_syntax.specs.Views.{command_of};
 ghost use Rattle.lam_typing.specs.Answers.{AllStandIn, context_under};
-ghost use Rattle.lam_query.specs.inner.Bound.{found_over, NumbersStandIn, AllStand, IsBoundBy, IsSurroundedBy, IsSetIn, IsBoundAfter};
+ghost use Rattle.lam_query.specs.declared.bound.Binding.TheVariants.{Name as NameNumber};
+ghost use Rattle.lam_query.specs.inner.Bound.{numbered, number_of, AreNumbered, HaveNumbers, KeepsNumbers, IsBinding, found_over, NumbersStandIn, AllStand, IsSurroundedBy, IsSetIn, IsBoundAfter};
 ghost use Rattle.lam_query.specs.inner.Entered.{entered, names_onto, entries_onto, abbreviations_onto};
 
 use lam_rules::TyNo;
@@ -19,8 +21,23 @@ use std::collections::HashMap;
 /// numbers of a table of types.
 #[derive(Drop)]
 pub(crate) struct Bound {
-    names: HashMap<String, Option<TyNo>>,
-    type_names: HashMap<String, Option<TyNo>>,
+    pub(crate) names: Meanings,
+    pub(crate) type_names: Meanings,
+}
+
+/// What names mean. A name that was bound once has a number for good.
+#[derive(Drop)]
+pub(crate) struct Meanings {
+    numbers: HashMap<String, usize>,
+    /// By the numbers of names: nothing where the name is unbound by now, or else its entry, which may be none.
+    entries: Vec<Option<Option<TyNo>>>,
+}
+
+/// What a command binds, by its number.
+#[derive(Clone, Copy)]
+pub(crate) enum Binding {
+    Name(usize),
+    TypeName(usize),
 }
 
 /// What a command takes from outside: its names and type names, and the entries of the names, the outermost first.
@@ -31,15 +48,27 @@ pub(crate) struct Surroundings<'a> {
 }
 
 impl Bound {
-    /// Nothing is bound.
+    /// Nothing is bound, and no name has a number.
     pub(crate) fn new(alloc: Global) -> Bound
-        ensures bound { (ts : List Typ) → IsBoundBy [] [] ts result }
+        ensures bound { (x : Name) → (number_of result.names x ≡ None) × (number_of result.type_names x ≡ None) }
+        ensures numbers { HaveNumbers result }
         ensures stand { (ts : List Typ) → AllStand ts result }
     {
         Bound {
-            names: HashMap::new(alloc),
-            type_names: HashMap::new(alloc),
+            names: Meanings::new(alloc),
+            type_names: Meanings::new(alloc),
         }
+    }
+
+    /// Nothing is bound any more. The numbers of names stay.
+    pub(crate) fn clear(&mut self)
+        ensures bound { (x : Name) → (number_of self.new.names x ≡ None) × (number_of self.new.type_names x ≡ None) }
+        ensures keeps { KeepsNumbers self.old self.new }
+        ensures numbers { HaveNumbers self.old → HaveNumbers self.new }
+        ensures stand { (ts : List Typ) → AllStand ts self.new }
+    {
+        self.names.clear();
+        self.type_names.clear();
     }
 
     /// What a command sees of the names and type names that it asks for.
@@ -60,20 +89,127 @@ impl Bound {
         })
     }
 
-    /// The name of a command has this entry for the commands behind it, or its type name stands for this type.
+    /// The name of a command has this entry for the commands behind it, or its type name stands for this type. Answers with the
+    /// number of the name.
     pub(crate) fn bind(
         &mut self,
         alloc: Global,
         command: &Command,
         number: Option<TyNo>,
-    ) -> Result<(), AllocError>
-        ensures { OnOk result (IsBoundAfter (command_of command.now) number self.old self.new) }
+    ) -> Result<Option<Binding>, AllocError>
+        requires { HaveNumbers self.old }
+        ensures binding { IfOk result (IsBinding self.new (command_of command.now)) }
+        ensures bound { OnOk result (IsBoundAfter (command_of command.now) number self.old self.new) }
+        ensures keeps { OnOk result (KeepsNumbers self.old self.new) }
+        ensures numbers { OnOk result (HaveNumbers self.new) }
     {
         match command {
-            Command::Definition(name, _) => set(alloc, &mut self.names, name, number),
-            Command::Declaration(name, _) => set(alloc, &mut self.names, name, number),
-            Command::Abbreviation(name, _) => set(alloc, &mut self.type_names, name, number),
-            Command::Evaluation(_) => Ok(()),
+            Command::Definition(name, _) => self.bind_name(alloc, name, number),
+            Command::Declaration(name, _) => self.bind_name(alloc, name, number),
+            Command::Abbreviation(name, _) => {
+                let place = self.type_names.number_of(alloc, name.text.as_str())?;
+                self.type_names.set(place, number);
+                Ok(Some(Binding::TypeName(place)))
+            }
+            Command::Evaluation(_) => Ok(None),
+        }
+    }
+
+    fn bind_name(
+        &mut self,
+        alloc: Global,
+        name: &Identifier,
+        number: Option<TyNo>,
+    ) -> Result<Option<Binding>, AllocError>
+        requires { HaveNumbers self.old }
+        ensures binding { IfOk result (λ b. (n : ℕ) × (b ≡ Some (NameNumber n)) × (numbered self.new.names (letters name.now.text) ≡ Some n)) }
+        ensures bound { OnOk result (IsSetIn (Some (letters name.now.text)) number self.old.names self.new.names) }
+        ensures type_names { self.new.type_names ≡ self.old.type_names }
+        ensures keeps { OnOk result ((x : Name) (n : ℕ) → numbered self.old.names x ≡ Some n → numbered self.new.names x ≡ Some n) }
+        ensures numbers { OnOk result (AreNumbered self.new.names) }
+    {
+        let place = self.names.number_of(alloc, name.text.as_str())?;
+        self.names.set(place, number);
+        Ok(Some(Binding::Name(place)))
+    }
+
+    /// Binds again what a command bound before, by its number.
+    pub(crate) fn rebind(&mut self, binding: Option<Binding>, number: Option<TyNo>)
+        requires { HaveNumbers self.old }
+        ensures bound { (c : CommandTree) → IsBinding self.old c binding → IsBoundAfter c number self.old self.new }
+        ensures keeps { KeepsNumbers self.old self.new }
+        ensures numbers { HaveNumbers self.new }
+    {
+        match binding {
+            Some(Binding::Name(place)) => self.names.set(place, number),
+            Some(Binding::TypeName(place)) => self.type_names.set(place, number),
+            None => {}
+        }
+    }
+}
+
+impl Meanings {
+    /// Nothing is bound, and no name has a number.
+    fn new(alloc: Global) -> Meanings
+        ensures numbered { (x : Name) → numbered result x ≡ None }
+        ensures numbers { AreNumbered result }
+    {
+        Meanings {
+            numbers: HashMap::new(alloc),
+            entries: Vec::new(alloc),
+        }
+    }
+
+    /// What is bound for a name.
+    fn get(&self, name: &str) -> Option<Option<TyNo>>
+        ensures { result ≡ number_of self.now name.now }
+    {
+        match self.numbers.get(name) {
+            Some(place) => match self.entries.get(*place) {
+                Some(entry) => *entry,
+                None => None,
+            },
+            None => None,
+        }
+    }
+
+    /// The number of a name, which may be a new one.
+    fn number_of(&mut self, alloc: Global, name: &str) -> Result<usize, AllocError>
+        requires { AreNumbered self.old }
+        ensures number { IfOk result (λ n. numbered self.new name.now ≡ Some n) }
+        ensures keeps { (x : Name) (n : ℕ) → numbered self.old x ≡ Some n → numbered self.new x ≡ Some n }
+        ensures same { (x : Name) → number_of self.new x ≡ number_of self.old x }
+        ensures numbers { OnOk result (AreNumbered self.new) }
+    {
+        if let Some(place) = self.numbers.get(name) {
+            return Ok(*place);
+        }
+        let place = self.entries.len();
+        self.entries.push(None)?;
+        self.numbers.insert(String::from_str(alloc, name)?, place)?;
+        Ok(place)
+    }
+
+    /// The name of a number has this entry from now on.
+    fn set(&mut self, place: usize, entry: Option<TyNo>)
+        requires { AreNumbered self.old }
+        ensures set { (x : Name) → numbered self.old x ≡ Some place → IsSetIn (Some x) entry self.old self.new }
+        ensures numbered { (x : Name) → numbered self.new x ≡ numbered self.old x }
+        ensures numbers { AreNumbered self.new }
+    {
+        if place < self.entries.len() {
+            self.entries[place] = Some(entry);
+        }
+    }
+
+    /// Nothing is bound any more.
+    fn clear(&mut self)
+        ensures bound { (x : Name) → number_of self.new x ≡ None }
+        ensures numbered { (x : Name) → numbered self.new x ≡ numbered self.old x }
+        ensures numbers { AreNumbered self.old → AreNumbered self.new }
+    {
+        for i in 0..self.entries.len() {
+            self.entries[i] = None;
         }
     }
 }
@@ -81,7 +217,7 @@ impl Bound {
 /// Enters those of the names that are bound, one by one, and answers with their entries.
 fn enter_names<'a>(
     alloc: Global,
-    known: &HashMap<String, Option<TyNo>>,
+    known: &Meanings,
     environment: &mut Environment<'a>,
     names: &[&'a str],
 ) -> Result<Vec<Option<TyNo>>, AllocError>
@@ -96,7 +232,7 @@ fn enter_names<'a>(
         let name = names[i];
         if let Some(entry) = known.get(name) {
             environment.enter_name(name)?;
-            entries.push(*entry)?;
+            entries.push(entry)?;
         }
     }
     Ok(entries)
@@ -104,7 +240,7 @@ fn enter_names<'a>(
 
 /// Enters those of the type names that are bound, one by one.
 fn enter_type_names<'a>(
-    known: &HashMap<String, Option<TyNo>>,
+    known: &Meanings,
     environment: &mut Environment<'a>,
     names: &[&'a str],
 ) -> Result<(), AllocError>
@@ -115,22 +251,8 @@ fn enter_type_names<'a>(
     for i in 0..names.len() {
         let name = names[i];
         if let Some(number) = known.get(name) {
-            environment.enter_type_name(name, *number)?;
+            environment.enter_type_name(name, number)?;
         }
     }
-    Ok(())
-}
-
-/// The name has this number from now on.
-fn set(
-    alloc: Global,
-    known: &mut HashMap<String, Option<TyNo>>,
-    name: &Identifier,
-    number: Option<TyNo>,
-) -> Result<(), AllocError>
-    ensures { OnOk result (IsSetIn (Some (letters name.now.text)) number known.old known.new) }
-{
-    let name = String::from_str(alloc, name.text.as_str())?;
-    known.insert(name, number)?;
     Ok(())
 }

@@ -10,7 +10,7 @@ ghost use Rattle.lam_scope.specs.Views.{AreScopesOf};
 ghost use Rattle.lam_query.specs.Analyses.{IsAnalysisOf, dialect_of};
 ghost use Rattle.lam_query.specs.Completions.{dot_before, IsProjected, AreItems, AreCompletions};
 ghost use Rattle.lam_query.specs.inner.Listed.{IsProjection, AreListedFor};
-ghost use Rattle.lam_query.specs.inner.TypedTexts.{AreTypesOf};
+ghost use Rattle.lam_query.specs.inner.Rows.{IsSizedBy};
 ghost use Rattle.lam_query.specs.Commands.{AreCommandsOf};
 ghost use Rattle.lam_query.specs.Views.{item_of};
 
@@ -20,7 +20,6 @@ use crate::cursor::{dot_before, touched_word};
 use crate::documents::Document;
 use crate::fields::fields_of;
 use crate::reading::read_with_label;
-use crate::typed_texts::TextTypes;
 use lam_rules::Dialect;
 use lam_scope::{Place, Scopes, bind};
 use lam_syntax::Command;
@@ -109,11 +108,11 @@ impl Analysis {
     ) -> Result<Vec<Item>, AllocError>
         requires scopes { AreScopesOf scopes.now (map command_of commands.now) }
         requires projection { IsProjection (map command_of commands.now) place.0 }
-        ensures { IfOk result (λ items. (whole : List CommandTree) → AreTypesOf whole self.now.types self.now.dialect → AreListedFor whole (map command_of commands.now) place.0 (map item_of items.items) self.now.dialect) }
+        ensures { IfOk result (λ items. (whole : List CommandTree) → IsSizedBy whole self.now.large self.now.dialect → AreListedFor whole (map command_of commands.now) place.0 (map item_of items.items) self.now.dialect) }
     {
-        match &self.types {
-            TextTypes::TooLarge(_) => Ok(Vec::new(alloc)),
-            TextTypes::Typed(_) => fields_of(alloc, commands, scopes, place, self.dialect),
+        match self.large {
+            Some(_) => Ok(Vec::new(alloc)),
+            None => fields_of(alloc, commands, scopes, place, self.dialect),
         }
     }
 }

@@ -1,7 +1,7 @@
 //! What is shown of an offset.
 ghost use Rattle.std.specs.Prelude.{◌≤◌, ◌+◌, ◌∷◌, [], length, IfOk, IfSome};
 ghost use Rattle.std.specs.Option.{option_map};
-ghost use Rattle.lam_scope.specs.Tables.{table};
+ghost use Rattle.lam_scope.specs.Tables.{table as table_of};
 ghost use Rattle.lam_syntax.specs.Views.{command_of};
 ghost use Rattle.lam_typing.specs.Answers.{answers, AllStandIn};
 ghost use Rattle.lam_query.specs.Analyses.{IsAnalysisOf, dialect_of};
@@ -12,10 +12,9 @@ ghost use Rattle.lam_query.specs.Views.{shown_of};
 
 use crate::analyses::Analysis;
 use crate::answers::Hover;
-use crate::marks::piece_around;
 use crate::reading::command_in;
-use crate::typed_texts::{TextTypes, TypedText};
-use lam_rules::Dialect;
+use crate::rows::row_around;
+use lam_rules::{Dialect, TyNo, TyTable};
 use lam_scope::bind;
 use lam_syntax::Command;
 use std::alloc::{AllocError, Global};
@@ -48,38 +47,44 @@ impl Analysis {
         ensures shown { IfOk result (λ found. IsShownIn text.now offset (option_map shown_of found) (dialect_of self.now)) }
         ensures whole_characters { IfOk result (λ found. IfSome found (λ h. IsSpanOfText text.now h.span)) }
     {
-        let TextTypes::Typed(typed) = &self.types else {
+        if self.large.is_some() {
+            return Ok(None);
+        }
+        let Some(place) = row_around(&self.rows, offset) else {
             return Ok(None);
         };
-        let piece = piece_around(&self.marks, text, offset);
-        let own = &text[piece.start..piece.end];
-        let Some(command) = command_in(alloc, own, piece.start)? else {
+        let row = &self.rows[place.number];
+        let Some(types) = row.types() else {
             return Ok(None);
         };
-        shown_in(alloc, &command, offset, typed, piece.terms)
+        let piece = &text[place.start..row.end];
+        let Some(command) = command_in(alloc, piece, place.start)? else {
+            return Ok(None);
+        };
+        shown_in(alloc, &command, offset, self.types.table(), types)
     }
 }
 
-/// What is shown of an offset in a command, in front of which the text has so many terms.
+/// What is shown of an offset in a command, whose terms have these types.
 fn shown_in(
     alloc: Global,
     command: &Command,
     offset: usize,
-    typed: &TypedText,
-    before: usize,
+    table: &TyTable,
+    types: &[Option<TyNo>],
 ) -> Result<Option<Hover>, AllocError>
-    requires stand { AllStandIn typed.now.table typed.now.types.items }
-    requires inside { before + length (table (command_of command.now ∷ [])).places ≤ length typed.now.types.items }
-    ensures { IfOk result (λ found. IsShownInCommand (command_of command.now) before (answers typed.now.table typed.now.types.items) offset (option_map shown_of found)) }
+    requires stand { AllStandIn table.now types.now }
+    requires inside { length (table_of (command_of command.now ∷ [])).places ≤ length types.now }
+    ensures { IfOk result (λ found. IsShownInCommand (command_of command.now) 0 (answers table.now types.now) offset (option_map shown_of found)) }
 {
     let scopes = bind(alloc, slice::from_ref(command))?;
     let Some(place) = scopes.place_at(offset) else {
         return Ok(None);
     };
-    let Some(number) = typed.types[before + place.0] else {
+    let Some(number) = types[place.0] else {
         return Ok(None);
     };
-    let shown = typed.table.text(number)?;
+    let shown = table.text(number)?;
     Ok(Some(Hover {
         text: shown,
         span: scopes.span_of(place),

@@ -1,5 +1,5 @@
-//! The answers about a text: its faults; the type at an offset, and a derivation of it; where the name there comes from,
-//! who uses it, and whether and where it can have another; and what can stand at an offset.
+//! The answers about a text: its faults; what each of its commands shows; the type at an offset, and a derivation of it;
+//! where the name there comes from, who uses it, and whether and where it can have another; and what can stand at an offset.
 //!
 //! Each answer is a function of the text, an offset and the dialect, but for the derivation, which may be any that the
 //! rules accept. Offsets and spans are bytes of the text's UTF-8.
@@ -15,18 +15,19 @@ mod definitions;
 mod derivations;
 mod documents;
 mod fields;
+mod fronts;
 mod hovers;
 mod laws;
-mod marks;
 mod reading;
 mod rebuilding;
 mod renames;
+mod rows;
 mod sight;
 mod steps;
 mod text_faults;
 mod touched;
 mod typed_commands;
-mod typed_texts;
+mod types_of_commands;
 
 pub use analyses::Analysis;
 pub use completions::complete;
@@ -40,4 +41,6 @@ pub use laws::{
 };
 pub use rebuilding::proof_of_steps;
 pub use renames::{RenameFault, rename};
+pub use steps::steps_of_proof;
 pub use text_faults::faults;
+pub use types_of_commands::command_types;

@@ -19,6 +19,7 @@ use crate::cursor::{is_behind, is_in_front};
 use lam_syntax::{Command, ParseFault, is_semicolon, parse};
 use lam_token::{Kind, Span, Token, first_token, placeholder};
 use std::alloc::{AllocError, Global};
+use std::mem;
 
 /// What was read of a text.
 #[derive(Drop)]
@@ -180,6 +181,17 @@ impl<'t> Reader<'t> {
         };
         self.piece.clear();
         Ok(found)
+    }
+
+    /// The faults of all tokens, and behind them those of pieces, which it keeps no longer.
+    pub(crate) fn take_faults(&mut self) -> Result<Vec<Fault>, AllocError>
+        ensures faults { IfOk result (λ faults. map fault_of faults.items ≡ map fault_of self.old.token_faults.items ++ map fault_of self.old.piece_faults.items) }
+        ensures none_left { OnOk result ((self.new.token_faults.items ≡ []) × (self.new.piece_faults.items ≡ [])) }
+        ensures piece { self.new.piece ≡ self.old.piece }
+    {
+        let mut faults = mem::replace(&mut self.token_faults, Vec::new(self.alloc));
+        faults.append(&mut self.piece_faults)?;
+        Ok(faults)
     }
 
     /// The faults of all tokens, and behind them those of pieces.

@@ -5,9 +5,11 @@ ghost use Rattle.lam_rules.specs.SubViews.{sub_tree_of, sub_trees_of};
 ghost use Rattle.lam_rules.specs.TypingViews.{typing_tree_of, typings_of};
 ghost use Rattle.lam_scope.specs.Tables.{place_row_numbered};
 ghost use Rattle.lam_scope.specs.TableViews.{place_number};
-ghost use Rattle.lam_scope.specs.Views.{table_of};
+ghost use Rattle.lam_scope.specs.PlacedTerms.{document_terms, tree_in};
+ghost use Rattle.lam_scope.specs.Views.{table_of, AreScopesOf};
+ghost use Rattle.lam_syntax.specs.Trees.{CommandTree};
 ghost use Rattle.lam_query.specs.declared.answers.Step.{Step as RustStep};
-ghost use Rattle.lam_query.specs.Steps.{Proofs, steps_of, steps_before, sub_proof, sub_proofs, with_side};
+ghost use Rattle.lam_query.specs.Steps.{Proofs, steps_of, steps_before, typing_proof, sub_proof, sub_proofs, with_side};
 ghost use Rattle.lam_query.specs.inner.RowSteps.{premise_places, row_proof, row_proofs};
 ghost use Rattle.lam_query.specs.Within.{IsSpanOfText};
 ghost use Rattle.lam_query.specs.Views.{step_of, StepStandsIn};
@@ -19,13 +21,15 @@ use lam_scope::{Place, Scopes};
 use std::alloc::{AllocError, Global};
 
 /// The steps of a proof about the term at a place, each behind those of its premises; the last one concludes the proof.
-pub(crate) fn steps_of_proof(
+pub fn steps_of_proof(
     alloc: Global,
     scopes: &Scopes,
     place: Place,
     proof: &TypeProof,
 ) -> Result<Vec<Step>, AllocError>
     ensures steps { IfOk result (λ listed. map step_of listed.items ≡ steps_of 0 (row_proof (table_of scopes.now) place.0 (typing_tree_of proof.now))) }
+    ensures of_term { IfOk result (λ listed. (commands : List CommandTree) → AreScopesOf scopes.now commands
+        → map step_of listed.items ≡ steps_of 0 (typing_proof (tree_in (document_terms commands) place.0) (typing_tree_of proof.now))) }
     ensures whole_characters { IfOk result (λ listed. (text : List ℕ) → ((n : ℕ) → IsSpanOfText text (place_row_numbered (table_of scopes.now) n).span) → All (StepStandsIn text) listed.items) }
 {
     let mut listed = Vec::new(alloc);

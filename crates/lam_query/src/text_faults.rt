@@ -1,17 +1,15 @@
 //! The faults of a text.
-ghost use Rattle.std.specs.Prelude.{List, map, All, IfOk, OnOk};
-ghost use Rattle.lam_rules.specs.declared.rules.Dialect.{Dialect};
-ghost use Rattle.lam_syntax.specs.Trees.{CommandTree};
+ghost use Rattle.std.specs.Prelude.{◌≡◌, ◌++◌, map, All, IfOk, OnOk};
 ghost use Rattle.lam_query.specs.Analyses.{IsAnalysisOf, dialect_of};
 ghost use Rattle.lam_query.specs.Faults.{AreInOrder};
-ghost use Rattle.lam_query.specs.TextFaults.{AreFaults, AreTypeFaults};
+ghost use Rattle.lam_query.specs.TextFaults.{AreFaults};
 ghost use Rattle.lam_query.specs.Within.{IsSpanOfText};
 ghost use Rattle.lam_query.specs.Views.{fault_of};
-ghost use Rattle.lam_query.specs.inner.TypedTexts.{AreTypesOf};
+ghost use Rattle.lam_query.specs.inner.Rows.{all_syntax, all_faults};
 
 use crate::analyses::Analysis;
 use crate::answers::Fault;
-use crate::typed_texts::TextTypes;
+use crate::rows::Row;
 use lam_rules::Dialect;
 use std::alloc::{AllocError, Global};
 
@@ -30,28 +28,35 @@ impl Analysis {
         ensures faults { IfOk result (λ found. AreFaults text.now (map fault_of found.items) (dialect_of self.now)) }
         ensures whole_characters { IfOk result (λ found. All (λ f. IsSpanOfText text.now f.span) found.items) }
     {
-        let of_types = type_faults(alloc, &self.types)?;
         let mut found = Vec::new(alloc);
-        found.extend_from_slice(&self.syntax)?;
-        found.extend_from_slice(&of_types)?;
+        push_syntax(&mut found, &self.rows)?;
+        match self.large {
+            Some(span) => found.push(Fault { code: "L1", span })?,
+            None => push_type_faults(&mut found, &self.rows)?,
+        }
         put_in_order(&mut found)?;
         Ok(found)
     }
 }
 
-/// The faults that types decide: where one is too large, that alone.
-fn type_faults(alloc: Global, types: &TextTypes) -> Result<Vec<Fault>, AllocError>
-    ensures { IfOk result (λ found. (commands : List CommandTree) (d : Dialect) → AreTypesOf commands types.now d → AreTypeFaults commands (map fault_of found.items) d) }
+/// The faults that tokens and the grammar decide, row after row.
+fn push_syntax(found: &mut Vec<Fault>, rows: &[Row]) -> Result<(), AllocError>
+    ensures { OnOk result (map fault_of found.new.items ≡ map fault_of found.old.items ++ all_syntax rows.now) }
 {
-    let mut found = Vec::new(alloc);
-    match types {
-        TextTypes::TooLarge(span) => found.push(Fault {
-            code: "L1",
-            span: *span,
-        })?,
-        TextTypes::Typed(typed) => found.extend_from_slice(&typed.faults)?,
+    for i in 0..rows.len() {
+        found.extend_from_slice(&rows[i].syntax)?;
     }
-    Ok(found)
+    Ok(())
+}
+
+/// The faults that types decide, row after row.
+fn push_type_faults(found: &mut Vec<Fault>, rows: &[Row]) -> Result<(), AllocError>
+    ensures { OnOk result (map fault_of found.new.items ≡ map fault_of found.old.items ++ all_faults rows.now) }
+{
+    for i in 0..rows.len() {
+        found.extend_from_slice(rows[i].faults())?;
+    }
+    Ok(())
 }
 
 /// Puts faults in order: by their start, then by their end, then by their code.

@@ -1,93 +1,75 @@
 //! One command, typed behind those in front of it.
-ghost use Rattle.std.specs.Prelude.{◌≡◌, List, Option, IfOk};
-ghost use Rattle.lam_rules.specs.Types.{Typ};
-ghost use Rattle.lam_rules.specs.Typing.{Context};
+ghost use Rattle.std.specs.Prelude.{◌≡◌, ◌++◌, ◌∷◌, [], map, IfOk};
 ghost use Rattle.lam_rules.specs.Numbers.{Keeps};
 ghost use Rattle.lam_scope.specs.Nameless.{written_in_command, first_over_limit};
+ghost use Rattle.lam_scope.specs.Tables.{table, place_row_numbered};
 ghost use Rattle.lam_scope.specs.Views.{IsLimit};
-ghost use Rattle.lam_syntax.specs.Trees.{CommandTree};
 ghost use Rattle.lam_syntax.specs.Views.{command_of};
-ghost use Rattle.lam_typing.specs.Blaming.{Blamed};
 ghost use Rattle.lam_typing.specs.Checking.{types_in, dialect_in, IsSoundChecker};
-ghost use Rattle.lam_query.specs.inner.Bound.{AllStand, AreTypeNamesOf, IsBoundBy};
-ghost use Rattle.lam_query.specs.inner.Checked.{abbreviations_behind, AreChecked};
-ghost use Rattle.lam_query.specs.inner.TypedCommands.{IsStatedIn, AreWrittenIn, StandInStated, IsTypedBy, StandInTypes, bound_number};
+ghost use Rattle.lam_typing.specs.Walk.{blames_of};
+ghost use Rattle.lam_query.specs.SyntaxFaults.{fault_at};
+ghost use Rattle.lam_query.specs.TextFaults.{written_fault};
+ghost use Rattle.lam_query.specs.Views.{fault_of};
+ghost use Rattle.lam_query.specs.inner.Analysts.{IsBoundAs};
+ghost use Rattle.lam_query.specs.inner.Bound.{AllStand};
+ghost use Rattle.lam_query.specs.inner.Entered.{Lookup};
+ghost use Rattle.lam_query.specs.inner.Rows.{own_fault, IsFoundOf};
+ghost use Rattle.lam_query.specs.inner.TypedCommands.{types_around, IsStatedBy, bound_number};
 
+use crate::answers::Fault;
 use crate::bound::{Bound, Surroundings};
+use crate::rows::{Found, FoundTypes};
 use lam_rules::TyNo;
-use lam_scope::{Interned, InternedStatement, ScopeFault, TypeFault, intern_command};
+use lam_scope::{Interned, InternedStatement, Place, ScopeFault, TypeFault, bind, intern_command};
 use lam_syntax::Command;
 use lam_token::Span;
 use lam_typing::{Blame, TypeChecker};
 use std::alloc::{AllocError, Global};
+use std::slice;
 
 /// A command without names, over a table of types.
 #[derive(Drop)]
-pub(crate) struct Stated<'a> {
-    pub(crate) statement: InternedStatement<'a>,
+struct Stated<'a> {
+    statement: InternedStatement<'a>,
     /// Those of its written types, in the order of the text.
-    pub(crate) faults: Vec<TypeFault>,
+    faults: Vec<TypeFault>,
     /// The entries of the names that it sees, the outermost first.
-    pub(crate) entries: Vec<Option<TyNo>>,
+    entries: Vec<Option<TyNo>>,
 }
 
-/// What is found of a command.
-#[derive(Drop)]
-pub(crate) enum CommandTypes {
-    /// Its first written type that is too large is here.
-    LargeWrittenType(Span),
-    /// The first of its terms whose type is too large has this number among them.
-    LargeTerm(usize),
-    Typed(TypedCommand),
-}
-
-/// The types of a command in which none is too large.
-#[derive(Drop)]
-pub(crate) struct TypedCommand {
-    /// Of its terms, in the order of their numbers.
-    pub(crate) types: Vec<Option<TyNo>>,
-    /// The terms that are to blame, by their numbers among those of the command.
-    pub(crate) blames: Vec<Blame>,
-    /// Those of its written types, in the order of the text.
-    pub(crate) faults: Vec<TypeFault>,
-    /// The entry of its name, or what its type name stands for.
-    pub(crate) bound: Option<TyNo>,
-}
-
-/// The types of a command, where this is bound in front of it.
-pub(crate) fn type_command(
+/// What is found of a command, where this is bound in front of it.
+pub(crate) fn found_of(
     alloc: Global,
     types: &mut TypeChecker,
     bound: &Bound,
     command: &Command,
-) -> Result<CommandTypes, AllocError>
+) -> Result<Found, AllocError>
     requires sound { IsSoundChecker types.old }
     requires stand { AllStand (types_in types.old) bound.now }
     ensures sound { IsSoundChecker types.new }
     ensures keeps { Keeps (types_in types.old) (types_in types.new) }
     ensures dialect { dialect_in types.new ≡ dialect_in types.old }
-    ensures stand { IfOk result (StandInTypes (types_in types.new)) }
-    ensures typed { (done : List CommandTree) (g : Context) (found : List (Option Typ)) (blames : List Blamed) → AreChecked done g found blames (dialect_in types.old) → IsBoundBy done g (types_in types.old) bound.now → IfOk result (λ t. IsTypedBy done g found blames (command_of command.now) (types_in types.new) t (dialect_in types.old)) }
+    ensures found { IfOk result (λ f. (names others : Lookup) → IsBoundAs names others (types_in types.old) bound.now → IsFoundOf names others (command_of command.now) (types_in types.new) f (dialect_in types.old)) }
 {
     let stated = match state_command(alloc, types, bound, command) {
         Ok(stated) => stated,
-        Err(ScopeFault::TooLarge(span)) => return Ok(CommandTypes::LargeWrittenType(span)),
+        Err(ScopeFault::TooLarge(span)) => return Ok(Found::LargeWrittenType(span)),
         Err(ScopeFault::Memory) => return Err(AllocError),
     };
     let checked = types.check(stated.entries, &stated.statement)?;
     if !checked.complete {
-        return Ok(CommandTypes::LargeTerm(checked.types.len()));
+        let span = span_of_term(alloc, command, checked.types.len())?;
+        return Ok(Found::LargeTerm(span));
     }
-    Ok(CommandTypes::Typed(TypedCommand {
+    Ok(Found::Types(FoundTypes {
+        faults: faults_of(alloc, command, &stated.faults, &checked.blames)?,
         types: checked.types,
-        blames: checked.blames,
-        faults: stated.faults,
         bound: bound_number(&stated.statement, checked.entry),
     }))
 }
 
-/// A command as it stands behind those that bound this. Its written types are put into the table.
-pub(crate) fn state_command<'a>(
+/// A command without names, where this is bound in front of it. Its written types are put into the table.
+fn state_command<'a>(
     alloc: Global,
     types: &mut TypeChecker,
     bound: &Bound,
@@ -98,10 +80,8 @@ pub(crate) fn state_command<'a>(
     ensures sound { IsSoundChecker types.new }
     ensures keeps { Keeps (types_in types.old) (types_in types.new) }
     ensures dialect { dialect_in types.new ≡ dialect_in types.old }
-    ensures stand { IfOk result (StandInStated (types_in types.new)) }
-    ensures limit { (done : List CommandTree) → AreTypeNamesOf done (types_in types.old) bound.now → IsLimit (first_over_limit (abbreviations_behind done) (written_in_command (command_of command.now))) result }
-    ensures written { (done : List CommandTree) → AreTypeNamesOf done (types_in types.old) bound.now → IfOk result (AreWrittenIn done (command_of command.now) (types_in types.new)) }
-    ensures stated { (done : List CommandTree) (g : Context) (found : List (Option Typ)) (blames : List Blamed) → AreChecked done g found blames (dialect_in types.old) → IsBoundBy done g (types_in types.old) bound.now → IfOk result (IsStatedIn done g (command_of command.now) (types_in types.new)) }
+    ensures limit { IsLimit (first_over_limit (types_around (types_in types.old) bound.now (command_of command.now)) (written_in_command (command_of command.now))) result }
+    ensures stated { IfOk result (IsStatedBy (types_in types.old) bound.now (command_of command.now) (types_in types.new)) }
 {
     let Surroundings {
         mut environment,
@@ -121,11 +101,77 @@ pub(crate) fn state_command<'a>(
 }
 
 /// What a type name stands for, if the command binds one, or else this entry.
-pub(crate) fn bound_number(statement: &InternedStatement<'_>, entry: Option<TyNo>) -> Option<TyNo>
+fn bound_number(statement: &InternedStatement<'_>, entry: Option<TyNo>) -> Option<TyNo>
     ensures { result ≡ bound_number statement.now entry }
 {
     match statement {
         InternedStatement::Abbreviation(number) => *number,
         _ => entry,
     }
+}
+
+/// The faults of the written types of a command, and behind them those of its terms.
+fn faults_of(
+    alloc: Global,
+    command: &Command,
+    written: &[TypeFault],
+    blames: &[Blame],
+) -> Result<Vec<Fault>, AllocError>
+    ensures { IfOk result (λ found. map fault_of found.items ≡ map written_fault written.now ++ map (own_fault (command_of command.now)) (blames_of blames.now)) }
+{
+    let mut found = written_faults(alloc, written)?;
+    let mut blamed = blame_faults(alloc, command, blames)?;
+    found.append(&mut blamed)?;
+    Ok(found)
+}
+
+/// Where the term of a number among those of a command is in the text.
+fn span_of_term(alloc: Global, command: &Command, number: usize) -> Result<Span, AllocError>
+    ensures { IfOk result (λ s. s ≡ (place_row_numbered (table (command_of command.now ∷ [])) number).span) }
+{
+    let scopes = bind(alloc, slice::from_ref(command))?;
+    Ok(scopes.span_of(Place(number)))
+}
+
+/// The faults of written types, in the order of the text.
+fn written_faults(alloc: Global, faults: &[TypeFault]) -> Result<Vec<Fault>, AllocError>
+    ensures { IfOk result (λ found. map fault_of found.items ≡ map written_fault faults.now) }
+{
+    let mut found = Vec::with_capacity(alloc, faults.len())?;
+    for i in 0..faults.len() {
+        found.push(written_fault(faults[i]))?;
+    }
+    Ok(found)
+}
+
+fn written_fault(fault: TypeFault) -> Fault
+    ensures { fault_of result ≡ written_fault fault }
+{
+    match fault {
+        TypeFault::UnboundTypeName(span) => Fault { code: "Y1", span },
+        TypeFault::RepeatedLabel(span) => Fault { code: "Y2", span },
+    }
+}
+
+/// The faults of the terms of a command that are to blame, with their codes.
+fn blame_faults(
+    alloc: Global,
+    command: &Command,
+    blames: &[Blame],
+) -> Result<Vec<Fault>, AllocError>
+    ensures { IfOk result (λ found. map fault_of found.items ≡ map (λ b. fault_at b.code.now (place_row_numbered (table (command_of command.now ∷ [])) b.place.0).span) blames.now) }
+{
+    let mut found = Vec::with_capacity(alloc, blames.len())?;
+    if blames.is_empty() {
+        return Ok(found);
+    }
+    let scopes = bind(alloc, slice::from_ref(command))?;
+    for i in 0..blames.len() {
+        let blame = &blames[i];
+        found.push(Fault {
+            code: blame.code,
+            span: scopes.span_of(blame.place),
+        })?;
+    }
+    Ok(found)
 }

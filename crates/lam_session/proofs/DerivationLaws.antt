@@ -1,44 +1,16 @@
 -- What holds of the replies to a request for a derivation.
-use Rattle.std.proofs.Common.{◌≡◌, ◌⊎◌, inl, inr, ℕ, List, [], ◌∷◌, map, false, Option, None, Some, refl, sym, subst, ◌∙◌}
-use Rattle.serde_json.specs.Data.{Data, number, unsigned}
-use Rattle.serde_json.specs.View.{items_of}
-use Rattle.serde_json.specs.Written.{has_float, items_have_float}
+use Rattle.std.proofs.Common.{◌≡◌, ◌⊎◌, inl, inr, ℕ, List, false, Option, None, Some, refl, sym, subst, ◌∙◌}
+use Rattle.serde_json.specs.Data.{Data}
+use Rattle.serde_json.specs.Written.{has_float}
 use Rattle.lam_rpc.specs.Reply.{result_reply}
-use Rattle.lam_rules.specs.Types.{Typ}
 use Rattle.lam_rules.specs.declared.rules.Dialect.{Dialect}
 use Rattle.lam_text.specs.declared.units.Encoding.{Encoding}
-use Rattle.lam_query.specs.Steps.{Conclusion, typing, subtyping, Step}
-use Rattle.lam_query.specs.Derivations.{ContextEntry, Derivation, IsDerivedIn}
+use Rattle.lam_query.specs.Derivations.{Derivation, IsDerivedIn}
 use Rattle.lam_query.proofs.OneAnswer.{one_hover}
 use Rattle.lam_query.proofs.SomeAnswers.{some_derivation, shown_of_derived, nothing_derived}
-use Rattle.lam_session.specs.Derivations.{type_value, entry_value, conclusion_value, step_value, derivation_value, IsDerivationReply, GivesDerivation}
+use Rattle.lam_session.specs.Derivations.{derivation_value, IsDerivationReply, GivesDerivation}
+use Rattle.lam_session.proofs.Floatless.{derivation_floatless}
 use Rattle.lam_session.proofs.ReplyLemmas.{HasNoMethod, result_plain, result_has_no_method}
-
--- ---- no value holds a float
-
-type_plain : (o : Option Typ) → has_float (type_value o) ≡ false
-type_plain None = refl
-type_plain (Some t) = refl
-
-entries_plain : (es : List ContextEntry) → items_have_float (items_of (map entry_value es)) ≡ false
-entries_plain [] = refl
-entries_plain (e ∷ es) = rw (type_plain e.type, entries_plain es) refl
-
-premises_plain : (numbers : List ℕ) → items_have_float (items_of (map (λ n. number (unsigned n)) numbers)) ≡ false
-premises_plain [] = refl
-premises_plain (n ∷ ns) = premises_plain ns
-
-conclusion_plain : (encoding : Encoding) (text premises : List ℕ) (c : Conclusion) → has_float (conclusion_value encoding text premises c) ≡ false
-conclusion_plain encoding text premises (typing rule span type) = rw (premises_plain premises) refl
-conclusion_plain encoding text premises (subtyping rule lower upper) = rw (premises_plain premises) refl
-
-steps_plain : (encoding : Encoding) (text : List ℕ) (steps : List Step) → items_have_float (items_of (map (step_value encoding text) steps)) ≡ false
-steps_plain encoding text [] = refl
-steps_plain encoding text (s ∷ ss) = rw (conclusion_plain encoding text s.premises s.conclusion, steps_plain encoding text ss) refl
-
-value_plain : (encoding : Encoding) (text : List ℕ) (derived : Option Derivation) → has_float (derivation_value encoding text derived) ≡ false
-value_plain encoding text None = refl
-value_plain encoding text (Some d) = rw (entries_plain d.context, steps_plain encoding text d.steps) refl
 
 -- ---- a derivation is given where a type is shown, and none where none is
 
@@ -70,7 +42,7 @@ module _ (encoding : Encoding) (d : Dialect) (text : List ℕ) (offset : ℕ) (i
   alike_replies one other h k = alike h.derived k.derived one other h.right k.right h.replied k.replied
 
   pub plain : (reply : Data) → has_float id ≡ false → Shows reply → has_float reply ≡ false
-  plain reply no_float h = subst (λ (r : Data). has_float r ≡ false) (sym h.replied) (result_plain id (derivation_value encoding text h.derived) no_float (value_plain encoding text h.derived))
+  plain reply no_float h = subst (λ (r : Data). has_float r ≡ false) (sym h.replied) (result_plain id (derivation_value encoding text h.derived) no_float (derivation_floatless encoding text h.derived))
 
   pub no_method : (reply : Data) → Shows reply → HasNoMethod reply
   no_method reply h = subst HasNoMethod (sym h.replied) (result_has_no_method id (derivation_value encoding text h.derived))

@@ -1,3 +1,4 @@
+pub mod Floatless
 pub mod ReplyLemmas
 pub mod HoverLaws
 pub mod DerivationLaws
@@ -15,6 +16,6 @@ pub mod ChangeSteps
 pub mod AloneRuns
 pub mod OneAnswer
 pub mod TwoRuns
-pub mod Values
+pub mod ValueLists
 pub mod Messages
 pub mod FaultMessages

@@ -26,12 +26,12 @@ use Rattle.lam_session.specs.State.{State, open_in}
 use Rattle.lam_rpc.specs.Fields.{named_uri, listed_changes}
 use Rattle.lam_session.specs.Does.{Does}
 use Rattle.lam_session.specs.Documents.{OpenDocument, OpenDocuments, open_text}
-use Rattle.lam_query.specs.Faults.{Fault}
 use Rattle.lam_session.specs.Asked.{PlaceAsked, asked_place, asked_at}
 use Rattle.lam_session.specs.Questions.{RepliesOpen, RepliesAt, Asks}
 use Rattle.lam_session.specs.declared.questions.Question.{Question}
 use Rattle.lam_session.specs.Diagnostics.{diagnostics}
 use Rattle.lam_session.specs.Sync.{published, opened_text, given_version, Holds, OpensAs, ChangesText, ChangesAs, ClosesOpen, ClosesAs}
+use Rattle.lam_session.proofs.Floatless.{diagnostics_floatless}
 use Rattle.lam_session.proofs.QuestionLaws.{laws}
 use Rattle.lam_session.proofs.ReplyLemmas.{refusal_plain}
 use Rattle.lam_session.specs.Step.{Heeds, Passes, Serves, Awaits, Requested, Noticed, Receives, ReceivesIn, Steps}
@@ -80,11 +80,6 @@ requested_plain Running s id method params sent next h d = serves_plain s id met
 requested_plain Down s id method params sent next h d = does_plain _ _ sent next (refused_plain id ShutDown h) d
 requested_plain (Over status) s id method params sent next h d = does_plain _ _ sent next tt d
 
--- no fault's value holds a float
-diagnostics_plain : (encoding : Encoding) (text : List ℕ) (faults : List Fault) → items_have_float (diagnostics encoding text faults) ≡ false
-diagnostics_plain encoding text [] = refl
-diagnostics_plain encoding text (f ∷ fs) = diagnostics_plain encoding text fs
-
 published_plain : (uri : List ℕ) (version : Option ℤ) (faults : Items) → items_have_float faults ≡ false → NoFloats (published uri version faults ∷ [])
 published_plain uri None faults h = (rw h refl, tt)
 published_plain uri (Some (pos n)) faults h = (rw h refl, tt)
@@ -92,7 +87,7 @@ published_plain uri (Some (negsuc n)) faults h = (rw h refl, tt)
 
 holds_plain : (s : State) (document : OpenDocument) (sent : List Data) (next : State) → Holds s document sent next → NoFloats sent
 holds_plain s document sent next d =
-    subst NoFloats (sym d.0.told) (published_plain document.uri document.version (diagnostics s.encoding document.text d.0.faults) (diagnostics_plain s.encoding document.text d.0.faults))
+    subst NoFloats (sym d.0.told) (published_plain document.uri document.version (diagnostics s.encoding document.text d.0.faults) (diagnostics_floatless s.encoding document.text d.0.faults))
 
 opens_plain : (s : State) (uri text : Option (List ℕ)) (version : Option ℤ) (sent : List Data) (next : State) → OpensAs s uri text version sent next → NoFloats sent
 opens_plain s None text version sent next d = does_plain _ _ sent next tt d

@@ -2,7 +2,7 @@
 use Rattle.std.specs.Prelude.{◌≡◌, IfOk}
 use Rattle.serde_json.specs.Data.{Members}
 use Rattle.serde_json.specs.View.{members_view}
-use Rattle.lam_session.specs.declared.objects.Object.{Object}
+use Rattle.lam_session.specs.declared.values.objects.Object.{Object}
 
 -- these are the members so far, unless memory was refused
 abbrev pub Has : Object → Members → Type 0

@@ -8,7 +8,7 @@ ghost use Rattle.lam_session.specs.Objects.{Has};
 ghost use Rattle.lam_session.specs.Completions.{item_kind, item_members, item_value, IsCompletionReply};
 
 use crate::document::Document;
-use crate::objects::Object;
+use crate::values::Object;
 use lam_query::answers::Item;
 use lam_rpc::ok_reply;
 use lam_text::Position;

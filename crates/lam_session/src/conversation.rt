@@ -10,7 +10,6 @@ ghost use Rattle.lam_session.specs.Step.{Steps, Requested, Awaits, Noticed, Heed
 ghost use Rattle.lam_session.specs.Sync.{Tells, Opens, Changes, ChangesText, Closes};
 ghost use Rattle.lam_session.specs.inner.Told.{IsTold};
 
-use crate::diagnostics::diagnostics;
 use crate::documents::Documents;
 use crate::initialize::{chosen, initialize_answer};
 use crate::methods::{NoticeMethod, RequestMethod, notice_method, request_method};
@@ -18,6 +17,7 @@ use crate::questions::{Question, reply_to};
 use crate::refusals::{Refusal, refused};
 use crate::states::Life;
 use crate::sync::{given_version, opened_text, published};
+use crate::values::diagnostic_values;
 use lam_rpc::{ChangesFault, Incoming, ok_reply, read_changes, read_uri};
 use lam_rules::Dialect;
 use lam_text::{Change, Encoding};
@@ -335,7 +335,7 @@ impl Conversation {
             unreachable!()
         };
         let faults = document.faults(self.alloc)?;
-        let diagnostics = diagnostics(self.alloc, document.doc(), &faults)?;
+        let diagnostics = diagnostic_values(self.alloc, document.doc(), &faults)?;
         published(self.alloc, uri, version, diagnostics)
     }
 }

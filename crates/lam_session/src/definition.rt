@@ -6,7 +6,7 @@ ghost use Rattle.lam_query.specs.Within.{IsSpanOfText};
 ghost use Rattle.lam_session.specs.Definitions.{definition_value, IsDefinitionReply};
 
 use crate::document::Document;
-use crate::ranges::location_value;
+use crate::values::location_value;
 use lam_rpc::ok_reply;
 use lam_text::{Doc, Position};
 use lam_token::Span;

@@ -68,7 +68,8 @@ impl Document {
         })
     }
 
-    /// Changes the text, and analyses it anew. After an error nothing is known of the text, which may be the changed one.
+    /// Changes the text. What is known of the old text is kept as far as the changes do not touch it. After an error the text is
+    /// as it was, and nothing is known of it.
     pub fn change(
         &mut self,
         alloc: Global,
@@ -81,16 +82,11 @@ impl Document {
           analysed = true;
         }) }
     {
-        self.analysis = None;
-        self.doc.apply(changes)?;
+        let next = self.doc.after(changes)?;
+        let known = self.analysis.take();
+        let analysis = analysed(alloc, known, self.doc.text(), next.text(), self.dialect)?;
+        self.doc = next;
         self.version = version;
-        self.analyse(alloc)
-    }
-
-    fn analyse(&mut self, alloc: Global) -> Result<(), AllocError>
-        ensures { OnOk result (self.new ≡ record self.old { analysed = true }) }
-    {
-        let analysis = Analysis::new(alloc, self.doc.text(), self.dialect)?;
         self.analysis = Some(analysis);
         Ok(())
     }
@@ -197,5 +193,23 @@ impl Document {
     {
         let offset = self.doc.offset_of(position);
         self.analysis().rename(alloc, self.doc.text(), offset, new)
+    }
+}
+
+/// The analysis of a text that an old one was changed to, from that of the old one where it is known.
+fn analysed(
+    alloc: Global,
+    known: Option<Analysis>,
+    old: &str,
+    new: &str,
+    dialect: Dialect,
+) -> Result<Analysis, AllocError>
+    requires { IfSome known (λ analysis. IsAnalysisOf old.now analysis × (dialect_of analysis ≡ dialect)) }
+    ensures of { IfOk result (IsAnalysisOf new.now) }
+    ensures dialect { IfOk result (λ analysis. dialect_of analysis ≡ dialect) }
+{
+    match known {
+        Some(analysis) => analysis.changed(alloc, old, new),
+        None => Analysis::new(alloc, new, dialect),
     }
 }

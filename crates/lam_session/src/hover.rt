@@ -7,8 +7,7 @@ ghost use Rattle.lam_query.specs.Within.{IsSpanOfText};
 ghost use Rattle.lam_session.specs.Hovers.{plain_contents, hover_value, IsHoverReply};
 
 use crate::document::Document;
-use crate::objects::Object;
-use crate::ranges::range_value;
+use crate::values::{Object, range_value};
 use lam_query::answers::Hover;
 use lam_rpc::ok_reply;
 use lam_text::{Doc, Position};

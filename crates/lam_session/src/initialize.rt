@@ -3,7 +3,7 @@ ghost use Rattle.std.specs.Prelude.{◌≡◌, IfOk, option_map};
 ghost use Rattle.serde_json.specs.View.{view, items_view};
 ghost use Rattle.lam_session.specs.Initialize.{encoding_name, encoding_named, encoding_of, offered, first_known, chosen, completion_options, document_sync, capabilities, initialize_answer};
 
-use crate::objects::Object;
+use crate::values::Object;
 use lam_text::Encoding;
 use serde_json::Value;
 use std::alloc::{AllocError, Global};

@@ -8,7 +8,7 @@ ghost use Rattle.lam_session.specs.Ranges.{location_value};
 ghost use Rattle.lam_session.specs.References.{told_declared, is_declared, references_value, IsReferencesReply};
 
 use crate::document::Document;
-use crate::ranges::location_value;
+use crate::values::location_value;
 use lam_rpc::ok_reply;
 use lam_text::{Doc, Position};
 use lam_token::Span;

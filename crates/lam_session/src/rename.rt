@@ -9,9 +9,8 @@ ghost use Rattle.lam_session.specs.Asked.{given_name};
 ghost use Rattle.lam_session.specs.Renames.{new_name, edit_value, rename_value, refusal_of, IsRenameReply};
 
 use crate::document::Document;
-use crate::objects::Object;
-use crate::ranges::range_value;
 use crate::refusals::{Refusal, refused};
+use crate::values::{Object, range_value};
 use lam_query::RenameFault;
 use lam_rpc::ok_reply;
 use lam_text::{Doc, Position};

@@ -4,7 +4,7 @@ ghost use Rattle.serde_json.specs.Data.{string, array, object, member};
 ghost use Rattle.serde_json.specs.View.{view, items_view};
 ghost use Rattle.lam_session.specs.Sync.{opened_text, given_version, version_member, published};
 
-use crate::objects::Object;
+use crate::values::Object;
 use lam_rpc::notice;
 use serde_json::Value;
 use std::alloc::{AllocError, Global};

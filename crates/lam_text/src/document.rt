@@ -98,15 +98,23 @@ impl Doc {
         ensures encoding { self.new.encoding ≡ self.old.encoding }
         ensures unchanged { OnErr result (self.new ≡ self.old) }
     {
+        *self = self.after(changes)?;
+        Ok(())
+    }
+
+    /// The document after these changes, of which each is about the text as it is by then.
+    pub fn after(&self, changes: &[Change]) -> Result<Doc, AllocError>
+        ensures text { IfOk result (λ doc. doc.text ≡ text_after self.now.encoding self.now.text changes.now) }
+        ensures encoding { IfOk result (λ doc. doc.encoding ≡ self.now.encoding) }
+    {
         let Some((first, rest)) = changes.split_first() else {
-            return Ok(());
+            return Doc::new(self.alloc, self.text.as_str(), self.encoding);
         };
         let mut next = self.changed(first)?;
         for change in rest {
             next = next.changed(change)?;
         }
-        *self = next;
-        Ok(())
+        Ok(next)
     }
 
     /// The document after one change.

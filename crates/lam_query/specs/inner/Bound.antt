@@ -1,55 +1,68 @@
--- What commands have bound, in maps from names to numbers of a table of types. For private functions alone.
-use Rattle.std.specs.Prelude.{◌≡◌, List, [], Option, Some, String, string_bytes, IfSome, if◌then◌else◌}
-use Rattle.std.specs.Option.{option_map}
+-- What commands have bound: names and type names as numbers, and what is kept for each as a number of a table of types. For private functions alone.
+use Rattle.std.specs.Prelude.{◌≡◌, ◌<◌, ℕ, List, [], length, get_or, Option, Some, None, string_bytes, IfSome, if◌then◌else◌}
+use Rattle.std.specs.Option.{option_map, option_and_then}
 use Rattle.std.specs.Str.{bytes_eq}
-use Rattle.std.specs.HashMap.{HashMap, get_by}
-use Rattle.std.specs.declared.alloc.Global.{Global}
-use Rattle.std.specs.declared.hash.FoldHasher.{FoldHasher}
-use Rattle.std.specs.declared.hash.BuildHasherDefault.{BuildHasherDefault}
+use Rattle.std.specs.HashMap.{get_by}
 use Rattle.lam_rules.specs.Types.{Typ}
-use Rattle.lam_rules.specs.Typing.{Context}
 use Rattle.lam_rules.specs.declared.numbers.TyNo.{TyNo}
 use Rattle.lam_syntax.specs.Trees.{CommandTree}
 use Rattle.lam_scope.specs.Environments.{names_seen, abbreviations_seen, TypeNamesStand}
 use Rattle.lam_scope.specs.FreeNames.{each_once, free_in_command, free_type_names_in_command}
-use Rattle.lam_scope.specs.Meanings.{entry_named}
 use Rattle.lam_scope.specs.Names.{Name, binds}
 use Rattle.lam_scope.specs.Numbered.{StandsIfAny}
 use Rattle.lam_typing.specs.Answers.{answer, AllStandIn, context_under}
+use Rattle.lam_query.specs.declared.bound.Binding.{Binding}
+use Rattle.lam_query.specs.declared.bound.Binding.TheVariants as binding
 use Rattle.lam_query.specs.declared.bound.Bound.{Bound}
+use Rattle.lam_query.specs.declared.bound.Meanings.{Meanings}
 use Rattle.lam_query.specs.declared.bound.Surroundings.{Surroundings}
-use Rattle.lam_query.specs.inner.Checked.{abbreviations_behind, names_behind}
-use Rattle.lam_query.specs.inner.Entered.{Lookup, type_named, entered, names_onto, entries_onto, abbreviations_onto, name_bound, type_name_bound}
+use Rattle.lam_query.specs.inner.Entered.{Lookup, entered, names_onto, entries_onto, abbreviations_onto, name_bound, type_name_bound}
 
--- the number that is kept for each name, which may be none
-abbrev pub Numbers : Type 0
-Numbers = HashMap (String Global) (Option TyNo) (BuildHasherDefault FoldHasher)
+-- the number of a name, if it has one
+abbrev pub numbered : Meanings → Name → Option ℕ
+numbered m x = get_by (λ k. bytes_eq x (string_bytes k)) m.numbers
+
+-- what is kept under a number: nothing where the name is unbound
+abbrev pub kept_under : Meanings → ℕ → Option (Option TyNo)
+kept_under m n = get_or m.entries.items n None
 
 -- what is kept for a name
-abbrev pub number_of : Numbers → Name → Option (Option TyNo)
-number_of m x = get_by (λ k. bytes_eq x (string_bytes k)) m
+abbrev pub number_of : Meanings → Name → Option (Option TyNo)
+number_of m x = option_and_then (kept_under m) (numbered m x)
+
+-- each name has a number of its own, which has a place for what is kept
+pub record AreNumbered (m : Meanings) : Type 0 where
+  pub inside : (x : Name) (n : ℕ) → numbered m x ≡ Some n → n < length m.entries.items
+  pub own : (x y : Name) (n : ℕ) → numbered m x ≡ Some n → numbered m y ≡ Some n → x ≡ y
+
+-- so it is of names and of type names
+pub record HaveNumbers (b : Bound) : Type 0 where
+  pub names : AreNumbered b.names
+  pub type_names : AreNumbered b.type_names
+
+-- names keep the numbers that they have
+pub record KeepsNumbers (old now : Bound) : Type 0 where
+  pub names : (x : Name) (n : ℕ) → numbered old.names x ≡ Some n → numbered now.names x ≡ Some n
+  pub type_names : (x : Name) (n : ℕ) → numbered old.type_names x ≡ Some n → numbered now.type_names x ≡ Some n
+
+-- the number of what a command binds
+abbrev pub IsBinding : Bound → CommandTree → Option Binding → Type 0
+IsBinding b c None = (name_bound c ≡ None) × (type_name_bound c ≡ None)
+IsBinding b c (Some (binding.Name n)) = (x : Name) × (name_bound c ≡ Some x) × (type_name_bound c ≡ None) × (numbered b.names x ≡ Some n)
+IsBinding b c (Some (binding.TypeName n)) = (x : Name) × (name_bound c ≡ None) × (type_name_bound c ≡ Some x) × (numbered b.type_names x ≡ Some n)
 
 -- what that is over the types of a table
-abbrev pub found_over : List Typ → Numbers → Lookup
+abbrev pub found_over : List Typ → Meanings → Lookup
 found_over ts m x = option_map (answer ts) (number_of m x)
 
 -- each number that is kept stands for a type of the table
-abbrev pub NumbersStandIn : List Typ → Numbers → Type 0
+abbrev pub NumbersStandIn : List Typ → Meanings → Type 0
 NumbersStandIn ts m = (x : Name) → IfSome (number_of m x) (StandsIfAny ts)
 
 -- so do those of names and of type names
 pub record AllStand (ts : List Typ) (b : Bound) : Type 0 where
   pub names : NumbersStandIn ts b.names
   pub type_names : NumbersStandIn ts b.type_names
-
--- the type names are those that these commands bound, with what they stand for
-abbrev pub AreTypeNamesOf : List CommandTree → List Typ → Bound → Type 0
-AreTypeNamesOf done ts b = (x : Name) → found_over ts b.type_names x ≡ type_named x (abbreviations_behind done)
-
--- so are the names, with their entries in this context, and the type names
-pub record IsBoundBy (done : List CommandTree) (g : Context) (ts : List Typ) (b : Bound) : Type 0 where
-  pub names : (x : Name) → found_over ts b.names x ≡ entry_named x (names_behind done) g
-  pub type_names : AreTypeNamesOf done ts b
 
 -- The free names of a command that are bound, each entered once, with their entries; and its type names.
 pub record IsSurroundedBy (ts : List Typ) (b : Bound) (c : CommandTree) (s : Surroundings) : Type 0 where
@@ -60,7 +73,7 @@ pub record IsSurroundedBy (ts : List Typ) (b : Bound) (c : CommandTree) (s : Sur
   pub entries_stand : AllStandIn ts s.entries.items
 
 -- one more name has this number, if there is one
-abbrev pub IsSetIn : Option Name → Option TyNo → Numbers → Numbers → Type 0
+abbrev pub IsSetIn : Option Name → Option TyNo → Meanings → Meanings → Type 0
 IsSetIn b number old now = (x : Name) → number_of now x ≡ (if binds b x then Some number else number_of old x)
 
 -- what a command binds has this number

@@ -15,12 +15,12 @@ loop-i-preserved c =
       | in-Some+in_ok-enter_name+in_ok-push w ↦
           rw (w.environment-is, w.entries-is)
           (name_entered c.args.known.now c.args.names.now c.loop-i.i (record { ref_ptr = (0, 0); now = [] }) c.loop-i-test.true
-          c.args.environment.now c.loop-i.environment w.enter_name.new.self c.loop-i.entries.items w.push.new.self.items w.in-Some.entry.now
-          w.in-Some.ensures.value w.in_ok-enter_name.ensures.entered w.in_ok-enter_name.ensures.type_names w.in_ok-enter_name.ensures.stand w.in_ok-push.ensures.items
+          c.args.environment.now c.loop-i.environment w.enter_name.new.self c.loop-i.entries.items w.push.new.self.items w.in-Some.entry
+          w.in-Some.ensures w.in_ok-enter_name.ensures.entered w.in_ok-enter_name.ensures.type_names w.in_ok-enter_name.ensures.stand w.in_ok-push.ensures.items
           c.loop-i.invariant)
       | in_default w ↦
           rw (w.environment-is, w.entries-is)
           (unknown_passed c.args.known.now c.args.names.now c.loop-i.i (record { ref_ptr = (0, 0); now = [] }) c.loop-i-test.true
           c.args.environment.now c.loop-i.environment c.loop-i.entries.items
-          w.in_default.ensures.value c.loop-i.invariant)
+          w.in_default.ensures c.loop-i.invariant)
     ]

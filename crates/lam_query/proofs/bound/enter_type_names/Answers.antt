@@ -9,12 +9,12 @@ loop-i-preserved c =
       | in-Some+in_ok-enter_type_name w ↦
           rw w.environment-is
           (type_name_entered c.args.known.now c.args.names.now c.loop-i.i (record { ref_ptr = (0, 0); now = [] }) c.loop-i-test.true
-          c.args.environment.now c.loop-i.environment w.enter_type_name.new.self w.in-Some.number.now
-          w.in-Some.ensures.value w.in_ok-enter_type_name.ensures.entered w.in_ok-enter_type_name.ensures.stand w.in_ok-enter_type_name.ensures.names
+          c.args.environment.now c.loop-i.environment w.enter_type_name.new.self w.in-Some.number
+          w.in-Some.ensures w.in_ok-enter_type_name.ensures.entered w.in_ok-enter_type_name.ensures.stand w.in_ok-enter_type_name.ensures.names
           c.loop-i.invariant)
       | in_default w ↦
           rw w.environment-is
           (unknown_type_passed c.args.known.now c.args.names.now c.loop-i.i (record { ref_ptr = (0, 0); now = [] }) c.loop-i-test.true
           c.args.environment.now c.loop-i.environment
-          w.in_default.ensures.value c.loop-i.invariant)
+          w.in_default.ensures c.loop-i.invariant)
     ]

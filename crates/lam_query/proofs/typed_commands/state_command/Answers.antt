@@ -3,7 +3,7 @@ use Rattle.std.proofs.lemmas.Result.{err_from_is_err_and}
 use Rattle.lam_rules.specs.Numbers.{Keeps}
 use Rattle.lam_syntax.specs.Views.{command_of}
 use Rattle.lam_typing.specs.Checking.{types_in}
-use Rattle.lam_query.proofs.Surroundings.{seen_names_stand, limit_behind, refused_behind, stated_stand, written_behind, stated_behind}
+use Rattle.lam_query.proofs.Surroundings.{seen_names_stand, seen_limit, seen_limit_err, is_stated}
 use Rattle.lam_query.proofs.typed_commands.state_command.Goals as goal
 
 pub intern_command-requires : goal.intern_command-requires
@@ -17,38 +17,27 @@ returns-in_err-statement-clause-sound c =
     (subst (λ old. Keeps old c.intern_command.new.table) c.table_mut.ensures.table c.in_err-statement.ensures.keeps)
 
 pub returns-in_err-statement-clause-limit : goal.returns-in_err-statement-clause-limit
-returns-in_err-statement-clause-limit c = λ done are.
+returns-in_err-statement-clause-limit c =
     let p = err_from_is_err_and c.from_residual-in_err-statement.result c.from_residual-in_err-statement.ensures.1 in
-    refused_behind (types_in c.args.types.now) c.table_mut.result.now c.table_mut.ensures.table c.args.bound.now (command_of c.args.command.now)
+    let same = p.1 ∙ ap (λ y. Err y) p.2 in
+    seen_limit_err (types_in c.args.types.now) c.table_mut.result.now c.table_mut.ensures.table c.args.bound.now (command_of c.args.command.now)
     c.in_ok-environment.field-0 (c.in_ok-environment.ensures (types_in c.args.types.now) c.requires.stand)
-    done c.in_err-statement.field-0.0 c.from_residual-in_err-statement.result are (p.1 ∙ ap (λ y. Err y) p.2) c.in_err-statement.ensures.limit
+    c.in_err-statement.field-0.0 c.from_residual-in_err-statement.result same c.in_err-statement.ensures.limit
 
 pub returns-clause-sound : goal.returns-clause-sound
 returns-clause-sound c =
     c.table_mut.ensures.sound c.intern_command.new.table c.requires.sound
     (subst (λ old. Keeps old c.intern_command.new.table) c.table_mut.ensures.table c.in_ok-statement.ensures.keeps)
 
-pub returns-clause-stand : goal.returns-clause-stand
-returns-clause-stand c =
-    stated_stand (types_in c.args.types.now) c.table_mut.result.now c.table_mut.ensures.table c.args.bound.now (command_of c.args.command.now)
-    c.in_ok-environment.field-0 (c.in_ok-environment.ensures (types_in c.args.types.now) c.requires.stand)
-    c.intern_command.new.table _ c.in_ok-statement.ensures.keeps refl c.in_ok-statement.ensures.stand
-
 pub returns-clause-limit : goal.returns-clause-limit
-returns-clause-limit c = λ done are.
-    limit_behind (types_in c.args.types.now) c.table_mut.result.now c.table_mut.ensures.table c.args.bound.now (command_of c.args.command.now)
+returns-clause-limit c =
+    seen_limit (types_in c.args.types.now) c.table_mut.result.now c.table_mut.ensures.table c.args.bound.now (command_of c.args.command.now)
     c.in_ok-environment.field-0 (c.in_ok-environment.ensures (types_in c.args.types.now) c.requires.stand)
-    done are
     ∙ c.in_ok-statement.ensures.limit
 
-pub returns-clause-written : goal.returns-clause-written
-returns-clause-written c = λ done are.
-    written_behind (types_in c.args.types.now) c.table_mut.result.now c.table_mut.ensures.table c.args.bound.now (command_of c.args.command.now)
-    c.in_ok-environment.field-0 (c.in_ok-environment.ensures (types_in c.args.types.now) c.requires.stand)
-    c.intern_command.new.table _ c.in_ok-statement.ensures.keeps refl c.in_ok-statement.ensures.statement done are c.in_ok-statement.ensures.faults
-
 pub returns-clause-stated : goal.returns-clause-stated
-returns-clause-stated c = λ done g found blames checked bound.
-    stated_behind (types_in c.args.types.now) c.table_mut.result.now c.table_mut.ensures.table c.args.bound.now (command_of c.args.command.now)
+returns-clause-stated c =
+    is_stated (types_in c.args.types.now) c.table_mut.result.now c.table_mut.ensures.table c.args.bound.now (command_of c.args.command.now)
     c.in_ok-environment.field-0 (c.in_ok-environment.ensures (types_in c.args.types.now) c.requires.stand)
-    c.intern_command.new.table _ c.in_ok-statement.ensures.keeps refl c.in_ok-statement.ensures.statement done g checked.lowest.wf bound
+    c.intern_command.new.table _ c.in_ok-statement.ensures.keeps refl
+    c.in_ok-statement.ensures.statement c.in_ok-statement.ensures.stand c.in_ok-statement.ensures.faults

@@ -4,7 +4,7 @@ use Rattle.serde_json.specs.View.{items_of}
 use Rattle.serde_json.proofs.Views.{view-Array}
 use Rattle.lam_query.specs.Views.{item_of}
 use Rattle.lam_session.specs.Completions.{item_value}
-use Rattle.lam_session.proofs.Values.{value_more, all_shown}
+use Rattle.lam_session.proofs.ValueLists.{value_more, all_shown}
 use Rattle.lam_session.proofs.completion.items_value.Goals as goal
 
 pub loop-item-preserved : goal.loop-item-preserved

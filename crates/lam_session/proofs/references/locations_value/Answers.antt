@@ -3,7 +3,7 @@ use Rattle.serde_json.specs.Data.{array}
 use Rattle.serde_json.specs.View.{items_of}
 use Rattle.serde_json.proofs.Views.{view-Array}
 use Rattle.lam_session.specs.Ranges.{location_value}
-use Rattle.lam_session.proofs.Values.{number_more, all_shown}
+use Rattle.lam_session.proofs.ValueLists.{number_more, all_shown}
 use Rattle.lam_session.proofs.references.locations_value.Goals as goal
 
 pub loop-span-preserved : goal.loop-span-preserved

@@ -1,61 +1,74 @@
-use Rattle.std.proofs.Common.{subst}
+use Rattle.std.proofs.Common.{subst, sym, ◌∙◌}
+use Rattle.std.specs.Option.{option_map}
+use Rattle.std.specs.Result.{IfOk}
 use Rattle.std.proofs.lemmas.Result.{IfOk-weaker}
+use Rattle.lam_query.specs.Hovers.{IsShownIn}
+use Rattle.lam_query.specs.Views.{shown_of}
 use Rattle.lam_query.specs.inner.OnePiece.{IsOwnOf}
 use Rattle.lam_query.specs.inner.Reading.{own_of}
-use Rattle.lam_query.proofs.HoverByPiece.{own_tokens, nothing_shown, command_shown, types_inside, hover_stands}
-use Rattle.lam_query.proofs.MarkedPieces.{begins_between, ends_between}
+use Rattle.lam_query.proofs.HoverByPiece.{large_shown, starts_between, stops_between, is_forward, no_command_shown, no_types_shown, types_stand, types_inside, command_shown, hover_stands}
 use Rattle.lam_query.proofs.analyses.Analysis.hover.Goals as goal
 
-pub range-own-requires-clause-start_boundary : goal.range-own-requires-clause-start_boundary
-range-own-requires-clause-start_boundary c = λ positive.
-    begins_between c.args.text.now c.args.offset c.piece_around-piece.result c.utf8.text c.piece_around-piece.ensures
+pub returns-then-is_some-clause-shown : goal.returns-then-is_some-clause-shown
+returns-then-is_some-clause-shown c = large_shown c.args.text.now c.args.self.now c.args.offset c.requires (sym c.is_some.ensures ∙ c.if-is_some.true)
 
-pub range-own-requires-clause-end_boundary : goal.range-own-requires-clause-end_boundary
-range-own-requires-clause-end_boundary c =
-    ends_between c.args.text.now c.args.offset c.piece_around-piece.result c.utf8.text c.piece_around-piece.ensures
+pub returns-in_default-types-clause-shown : goal.returns-in_default-types-clause-shown
+returns-in_default-types-clause-shown c =
+    no_types_shown c.args.text.now c.args.self.now c.args.offset c.in-Some.place c.requires _ c.deref.ensures.value c.in-Some.ensures.some
+    c.index-row.result.now _ c.index-row.ensures (sym c.is_some.ensures ∙ c.if-is_some.false) c.in_default-types.ensures.none
+
+pub range-piece-requires-clause-start_le_end : goal.range-piece-requires-clause-start_le_end
+range-piece-requires-clause-start_le_end c =
+    is_forward c.args.text.now c.args.self.now c.args.offset c.in-Some.place c.requires _ c.deref.ensures.value c.in-Some.ensures.some
+    c.index-row.result.now _ c.index-row.ensures
+
+pub range-piece-requires-clause-start_boundary : goal.range-piece-requires-clause-start_boundary
+range-piece-requires-clause-start_boundary c = λ positive.
+    starts_between c.args.text.now c.args.self.now c.args.offset c.in-Some.place c.requires _ c.deref.ensures.value c.in-Some.ensures.some
+    c.index-row.result.now _ c.index-row.ensures
+
+pub range-piece-requires-clause-end_boundary : goal.range-piece-requires-clause-end_boundary
+range-piece-requires-clause-end_boundary c =
+    stops_between c.args.text.now c.args.self.now c.args.offset c.in-Some.place c.requires _ c.deref.ensures.value c.in-Some.ensures.some
+    c.index-row.result.now _ c.index-row.ensures
 
 pub returns-in_default-2-clause-shown : goal.returns-in_default-2-clause-shown
 returns-in_default-2-clause-shown c =
-    let text = c.args.text.now in
-    let around = c.piece_around-piece.ensures in
-    let is = c.in-Typed.is in
-    let own = rw c.range-own.ensures.value at c.in_ok-command.ensures in
-    let none = own _ around.tokens (own_tokens text c.args.self.now c.in-Typed.typed c.args.offset c.piece_around-piece.result c.requires is around) around.piece.one_piece in
-    nothing_shown text c.args.self.now c.in-Typed.typed c.args.offset c.piece_around-piece.result c.requires is around
-    (subst (λ command. IsOwnOf around.tokens (own_of command)) c.in_default-2.is none)
+    let read = rw c.range-piece.ensures.value at c.in_ok-command.ensures in
+    no_command_shown c.args.text.now c.args.self.now c.args.offset c.in-Some.place c.requires _ c.deref.ensures.value c.in-Some.ensures.some
+    c.index-row.result.now _ c.index-row.ensures (sym c.is_some.ensures ∙ c.if-is_some.false)
+    (λ rest tokens are none. subst (λ command. IsOwnOf tokens (own_of command)) c.in_default-2.is (read rest tokens are none))
+
+pub shown_in-requires-clause-stand : goal.shown_in-requires-clause-stand
+shown_in-requires-clause-stand c =
+    let kept = c.in-Some-types.ensures.some in
+    rw (c.table.ensures, kept.2)
+    (types_stand c.args.text.now c.args.self.now c.args.offset c.in-Some.place c.requires _ c.deref.ensures.value c.in-Some.ensures.some
+    c.index-row.result.now _ c.index-row.ensures (sym c.is_some.ensures ∙ c.if-is_some.false) kept.0 kept.1)
 
 pub shown_in-requires-clause-inside : goal.shown_in-requires-clause-inside
 shown_in-requires-clause-inside c =
-    let text = c.args.text.now in
-    let around = c.piece_around-piece.ensures in
-    let is = c.in-Typed.is in
-    let own = rw c.range-own.ensures.value at c.in_ok-command.ensures in
-    let some = own _ around.tokens (own_tokens text c.args.self.now c.in-Typed.typed c.args.offset c.piece_around-piece.result c.requires is around) around.piece.one_piece in
-    types_inside text c.args.self.now c.in-Typed.typed c.args.offset c.piece_around-piece.result c.requires is around _
-    (subst (λ command. IsOwnOf around.tokens (own_of command)) c.in-Some.is some)
+    let kept = c.in-Some-types.ensures.some in
+    let read = rw c.range-piece.ensures.value at c.in_ok-command.ensures in
+    rw kept.2
+    (types_inside c.args.text.now c.args.self.now c.args.offset c.in-Some.place c.requires _ c.deref.ensures.value c.in-Some.ensures.some
+    c.index-row.result.now _ c.index-row.ensures (sym c.is_some.ensures ∙ c.if-is_some.false) kept.0 kept.1 _
+    (λ rest tokens are none. subst (λ command. IsOwnOf tokens (own_of command)) c.in-Some-2.is (read rest tokens are none)))
 
-pub returns-clause-shown : goal.returns-clause-shown
-returns-clause-shown c =
+pub returns : goal.returns
+returns c =
     let text = c.args.text.now in
-    let around = c.piece_around-piece.ensures in
-    let is = c.in-Typed.is in
-    let own = rw c.range-own.ensures.value at c.in_ok-command.ensures in
-    let some = own _ around.tokens (own_tokens text c.args.self.now c.in-Typed.typed c.args.offset c.piece_around-piece.result c.requires is around) around.piece.one_piece in
-    let command = subst (λ command. IsOwnOf around.tokens (own_of command)) c.in-Some.is some in
-    IfOk-weaker c.shown_in.result _ _
-    (λ found shown. command_shown text c.args.self.now c.in-Typed.typed c.args.offset c.piece_around-piece.result c.requires is around _ _ command shown)
-    c.shown_in.ensures
-
-pub returns-clause-whole_characters : goal.returns-clause-whole_characters
-returns-clause-whole_characters c =
-    let text = c.args.text.now in
-    let around = c.piece_around-piece.ensures in
-    let is = c.in-Typed.is in
-    let own = rw c.range-own.ensures.value at c.in_ok-command.ensures in
-    let some = own _ around.tokens (own_tokens text c.args.self.now c.in-Typed.typed c.args.offset c.piece_around-piece.result c.requires is around) around.piece.one_piece in
-    let command = subst (λ command. IsOwnOf around.tokens (own_of command)) c.in-Some.is some in
-    IfOk-weaker c.shown_in.result _ _
+    let d = c.args.self.now.dialect in
+    let kept = c.in-Some-types.ensures.some in
+    let read = rw c.range-piece.ensures.value at c.in_ok-command.ensures in
+    let shown : IfOk c.shown_in.result (λ found. IsShownIn text c.args.offset (option_map shown_of found) d) = IfOk-weaker c.shown_in.result _ _
     (λ found shown.
-    hover_stands text c.args.offset found c.args.self.now.dialect c.utf8.text
-    (command_shown text c.args.self.now c.in-Typed.typed c.args.offset c.piece_around-piece.result c.requires is around _ _ command shown))
-    c.shown_in.ensures
+    command_shown text c.args.self.now c.args.offset c.in-Some.place c.requires _ c.deref.ensures.value c.in-Some.ensures.some
+    c.index-row.result.now _ c.index-row.ensures (sym c.is_some.ensures ∙ c.if-is_some.false) kept.0 kept.1 _
+    (λ rest tokens are none. subst (λ command. IsOwnOf tokens (own_of command)) c.in-Some-2.is (read rest tokens are none)) _
+    (rw (c.table.ensures, kept.2) at shown))
+    c.shown_in.ensures in
+    record {
+      shown = shown;
+      whole_characters = IfOk-weaker c.shown_in.result _ _ (λ found is. hover_stands text c.args.offset found d c.utf8.text is) shown;
+    }

@@ -1,7 +1,7 @@
 use Rattle.std.proofs.Common.{ap, sym, ◌∙◌}
 use Rattle.std.specs.Option.{option_map}
 use Rattle.lam_scope.specs.TableViews.{place_number}
-use Rattle.lam_query.proofs.AnalysisAnswers.{types_hold}
+use Rattle.lam_query.proofs.AnalysisAnswers.{sizes_hold}
 use Rattle.lam_query.proofs.Completing.{no_label, is_projection, labels_listed}
 use Rattle.lam_query.proofs.analyses.Analysis.labels_behind.Goals as goal
 
@@ -18,6 +18,6 @@ labels_of-requires-clause-projection c =
 pub returns-clause-some : goal.returns-clause-some
 returns-clause-some c tokens commands are are_commands =
     let there = rw c.deref-2.ensures.value at (sym c.projection_at.ensures ∙ ap (option_map place_number) c.in-Some.is) in
-    let types = types_hold c.args.text.now c.args.self.now tokens commands c.requires.of are are_commands in
-    let listed = rw c.deref-in-Some.ensures.value at (c.in_ok-items-in-Some.ensures commands types) in
+    let sized = sizes_hold c.args.text.now c.args.self.now tokens commands c.requires.of are are_commands in
+    let listed = rw c.deref-in-Some.ensures.value at (c.in_ok-items-in-Some.ensures commands sized) in
     labels_listed c.args.text.now c.args.offset c.args.dot _ c.requires.dot c.in_ok-commands.ensures c.in-Some.place.0 there commands _ _ listed tokens are

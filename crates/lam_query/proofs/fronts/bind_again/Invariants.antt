@@ -1,0 +1,6 @@
+use Rattle.std.proofs.Common.{drop}
+use Rattle.lam_query.proofs.ReboundNames.{AreRebound}
+use Rattle.lam_query.proofs.fronts.bind_again.Given as goal
+
+abbrev pub invariant-loop-i : goal.invariant-loop-i
+invariant-loop-i l = AreRebound l.rows (drop l.i l.rows) l.fn.bound l.bound

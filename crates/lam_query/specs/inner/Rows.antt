@@ -1,0 +1,292 @@
+-- What is kept of each piece of a text. For private functions alone.
+use Rattle.std.specs.Prelude.{◌≡◌, ◌≤◌, ◌<◌, ◌+◌, ℕ, List, [], ◌∷◌, ◌++◌, length, map, flat_map, take, drop, slice_range, All, Contains, Option, Some, None, if◌then◌else◌}
+use Rattle.std.specs.Option.{option_map, option_or}
+use Rattle.std.specs.List.Sorted.{IsPermutation}
+use Rattle.lam_token.specs.declared.kind.Kind.TheVariants.{Semicolon}
+use Rattle.lam_token.specs.declared.span.Span.{Span}
+use Rattle.lam_token.specs.Cut.{AreTokensFrom, AreTokensOf}
+use Rattle.lam_token.specs.Lexeme.{Lexeme, kind_of, end_of as token_end}
+use Rattle.lam_rules.specs.Types.{Typ}
+use Rattle.lam_rules.specs.Typing.{Context}
+use Rattle.lam_rules.specs.declared.numbers.TyNo.{TyNo}
+use Rattle.lam_rules.specs.declared.rules.Dialect.{Dialect}
+use Rattle.lam_syntax.specs.Answers.{pieces_of}
+use Rattle.lam_syntax.specs.Trees.{CommandTree}
+use Rattle.lam_scope.specs.Expansions.{Abbreviation}
+use Rattle.lam_scope.specs.FreeNames.{free_in_command, free_type_names_in_command}
+use Rattle.lam_scope.specs.Meanings.{entry_named}
+use Rattle.lam_scope.specs.Nameless.{written_in_command, faults_in, faults, first_over_limit}
+use Rattle.lam_scope.specs.Names.{Name, binds}
+use Rattle.lam_scope.specs.Numbered.{StandsIfAny}
+use Rattle.lam_scope.specs.Tables.{table, place_row_numbered}
+use Rattle.lam_typing.specs.Analysis.{IsFirstTooLarge}
+use Rattle.lam_typing.specs.Answers.{answer, answers, AllStandIn}
+use Rattle.lam_typing.specs.Blaming.{Blamed, renumbered}
+use Rattle.lam_query.specs.declared.bound.Bound.{Bound}
+use Rattle.lam_query.specs.declared.rows.Row.{Row}
+use Rattle.lam_query.specs.declared.rows.CommandRow.{CommandRow}
+use Rattle.lam_query.specs.declared.rows.Found.{Found}
+use Rattle.lam_query.specs.declared.rows.Found.TheVariants.{LargeWrittenType, LargeTerm, Types}
+use Rattle.lam_query.specs.declared.rows.FoundTypes.{FoundTypes}
+use Rattle.lam_query.specs.declared.rows.PlacedRow.{PlacedRow}
+use Rattle.lam_query.specs.Commands.{AreCommandsOf}
+use Rattle.lam_query.specs.Faults.{Fault}
+use Rattle.lam_query.specs.Sizes.{places_in, IsSizeFault, IsSmall}
+use Rattle.lam_query.specs.SyntaxFaults.{fault_at, AreSyntaxFaults}
+use Rattle.lam_query.specs.TextFaults.{written_fault, blame_fault}
+use Rattle.lam_query.specs.Views.{fault_of}
+use Rattle.lam_query.specs.inner.Bound.{IsBinding}
+use Rattle.lam_query.specs.inner.Checked.{abbreviations_behind, names_behind, context_after, AreChecked}
+use Rattle.lam_query.specs.inner.Entered.{Lookup, type_named, name_bound, type_name_bound, type_bound}
+use Rattle.lam_query.specs.inner.Pieces.{IsPieceBetween}
+use Rattle.lam_query.specs.inner.OnePiece.{IsOwnOf, IsOffsetIn}
+
+-- ---- what is found of names
+
+-- nothing is bound
+abbrev pub unbound : Lookup
+unbound x = None
+
+-- one more name has this entry, if there is one
+abbrev pub with_entry : Option Name → Option Typ → Lookup → Lookup
+with_entry b entry look x = if binds b x then Some entry else look x
+
+-- the same is found of these names
+abbrev pub AgreeOn : List Name → Lookup → Lookup → Type 0
+AgreeOn xs f g = (x : Name) → Contains xs x → f x ≡ g x
+
+-- the entries of names behind these commands, which have this context
+abbrev pub entries_of : List CommandTree → Context → Lookup
+entries_of done g x = entry_named x (names_behind done) g
+
+-- what type names stand for where these abbreviations are in sight
+abbrev pub types_of : List Abbreviation → Lookup
+types_of bs x = type_named x bs
+
+-- of all that a command takes from outside the same is found behind these commands
+pub record SeesAs (c : CommandTree) (of_names of_types : Lookup) (done : List CommandTree) (g : Context) : Type 0 where
+  pub names : AgreeOn (free_in_command c) of_names (entries_of done g)
+  pub types : AgreeOn (free_type_names_in_command c) of_types (types_of (abbreviations_behind done))
+
+-- ---- one command
+
+-- its written types, where these abbreviations are in sight: the first that is too large; or none is, and this is what its type name stands for
+abbrev pub IsWrittenIn : List Abbreviation → CommandTree → List Typ → Found → Type 0
+IsWrittenIn bs c ts (LargeWrittenType s) = first_over_limit bs (written_in_command c) ≡ Some s
+IsWrittenIn bs c ts (LargeTerm s) = (first_over_limit bs (written_in_command c) ≡ None) × (type_name_bound c ≡ None)
+IsWrittenIn bs c ts (Types t) =
+    (first_over_limit bs (written_in_command c) ≡ None) × ((x : Name) → type_name_bound c ≡ Some x → answer ts t.bound ≡ type_bound bs c)
+
+-- behind so many terms, its first term whose type is too large is the first of the document, whatever comes behind the command; it is here
+pub record IsLargeTermAt (done : List CommandTree) (before : ℕ) (c : CommandTree) (s : Span) (d : Dialect) : Type 0 where
+  pub number : ℕ
+  pub inside : number < length (table (c ∷ [])).places
+  pub first : (rest : List CommandTree) → IsFirstTooLarge (places_in (done ++ c ∷ rest)) (before + number) d
+  pub span : s ≡ (place_row_numbered (table (c ∷ [])) number).span
+
+-- the fault of a term of one command that is to blame
+abbrev pub own_fault : CommandTree → Blamed → Fault
+own_fault c b = fault_at b.code (place_row_numbered (table (c ∷ [])) b.number).span
+
+-- with what is known of the commands before it these types and faults are known of all
+pub record AreTypesFound (done : List CommandTree) (g : Context) (found : List (Option Typ)) (blames : List Blamed)
+    (c : CommandTree) (ts : List Typ) (t : FoundTypes) (d : Dialect) : Type 0 where
+  pub own : List Blamed
+  pub inside : All (λ b. b.number < length (table (c ∷ [])).places) own
+  pub checked : AreChecked (done ++ c ∷ []) (context_after g c (answer ts t.bound)) (found ++ answers ts t.types.items) (blames ++ renumbered (length found) own) d
+  pub faults : map fault_of t.faults.items ≡ map written_fault (faults_in (abbreviations_behind done) (written_in_command c)) ++ map (own_fault c) own
+
+-- what was found of it behind these commands
+abbrev pub IsFoundIn : (done : List CommandTree) (g : Context) (found : List (Option Typ)) (blames : List Blamed)
+    → CommandTree → List Typ → Found → Dialect → Type 0
+IsFoundIn done g found blames c ts (LargeWrittenType s) d = Unit {0}
+IsFoundIn done g found blames c ts (LargeTerm s) d = IsLargeTermAt done (length found) c s d
+IsFoundIn done g found blames c ts (Types t) d = AreTypesFound done g found blames c ts t d
+
+-- the numbers in it stand for types of the table
+abbrev pub StandInFound : List Typ → Found → Type 0
+StandInFound ts (Types t) = AllStandIn ts t.types.items × StandsIfAny ts t.bound
+StandInFound ts f = Unit {0}
+
+-- This was found of a command where names and type names mean this. It holds behind all commands that give the names which the command
+-- takes from outside these meanings.
+pub record IsFoundOf (names types : Lookup) (c : CommandTree) (ts : List Typ) (f : Found) (d : Dialect) : Type 0 where
+  pub stand : StandInFound ts f
+  pub written : (bs : List Abbreviation) → AgreeOn (free_type_names_in_command c) types (types_of bs) → IsWrittenIn bs c ts f
+  pub found : (done : List CommandTree) (g : Context) (found : List (Option Typ)) (blames : List Blamed)
+      → AreChecked done g found blames d → SeesAs c names types done g → IsFoundIn done g found blames c ts f d
+
+-- the number of what it binds
+abbrev pub bound_by : Found → Option TyNo
+bound_by (Types t) = t.bound
+bound_by f = None
+
+-- ---- one piece
+
+-- what stands in front of a byte of a text: its commands, and what they give names and type names to mean
+pub record Front : Type 0 where
+  pub end : ℕ
+  pub commands : List CommandTree
+  pub names : Lookup
+  pub types : Lookup
+
+-- nothing
+abbrev pub nothing : Front
+nothing = record { end = 0; commands = []; names = unbound; types = unbound }
+
+-- what the command of a piece gives names to mean
+abbrev pub names_with : List CommandTree → List Typ → Option CommandRow → Lookup → Lookup
+names_with (c ∷ []) ts (Some r) names = with_entry (name_bound c) (answer ts (bound_by r.found)) names
+names_with own ts r names = names
+
+-- and type names
+abbrev pub types_with : List CommandTree → List Typ → Option CommandRow → Lookup → Lookup
+types_with (c ∷ []) ts (Some r) types = with_entry (type_name_bound c) (answer ts (bound_by r.found)) types
+types_with own ts r types = types
+
+-- with a piece that has these commands
+abbrev pub front_with : Front → List CommandTree → List Typ → Row → Front
+front_with f own ts r = record {
+  end = r.end;
+  commands = f.commands ++ own;
+  names = names_with own ts r.command f.names;
+  types = types_with own ts r.command f.types;
+}
+
+-- what is kept of the one command of a piece; of no command nothing is kept
+abbrev pub IsKeptOf : (names types : Lookup) → List CommandTree → List Typ → Option CommandRow → Bound → Dialect → Type 0
+IsKeptOf names types [] ts None b d = Unit {0}
+IsKeptOf names types (c ∷ []) ts (Some r) b d = IsFoundOf names types c ts r.found d × IsBinding b c r.binds
+IsKeptOf names types own ts r b d = ⊥
+
+-- The row of the piece that begins where the front ends. These are its commands: one, or none.
+pub record IsRow (text : List ℕ) (f : Front) (own : List CommandTree) (r : Row) (ts : List Typ) (b : Bound) (d : Dialect) : Type 0 where
+  pub forward : f.end ≤ r.end
+  pub inside : r.end ≤ length text
+  pub tokens : List Lexeme
+  pub piece : IsPieceBetween text f.end r.end tokens
+  pub is_own : IsOwnOf tokens own
+  pub syntax : AreSyntaxFaults tokens (map fault_of r.syntax.items)
+  pub kept : IsKeptOf f.names f.types own ts r.command b d
+
+-- ---- piece after piece
+
+-- the rows of the pieces between one front and another
+abbrev pub AreRowsFrom : (text : List ℕ) → Front → List Row → Front → List Typ → Bound → Dialect → Type 0
+AreRowsFrom text f [] last ts b d = f ≡ last
+AreRowsFrom text f (r ∷ rows) last ts b d =
+    (own : List CommandTree) × IsRow text f own r ts b d × AreRowsFrom text (front_with f own ts r) rows last ts b d
+
+-- a semicolon ends the piece from one byte to another
+abbrev pub IsEnded : (text : List ℕ) (start end : ℕ) → Type 0
+IsEnded text start end =
+    (tokens : List Lexeme) × (t : Lexeme) × AreTokensFrom start (slice_range text start end) (tokens ++ t ∷ []) × (kind_of t ≡ Semicolon) × (token_end t ≡ end)
+
+-- a semicolon ends the piece of each row
+abbrev pub AllEnded : (text : List ℕ) (start : ℕ) → List Row → Type 0
+AllEnded text start [] = Unit {0}
+AllEnded text start (r ∷ rows) = IsEnded text start r.end × AllEnded text r.end rows
+
+-- ---- what rows tell
+
+-- the byte behind the last piece
+abbrev pub end_of : List Row → ℕ
+end_of [] = 0
+end_of (r ∷ []) = r.end
+end_of (r ∷ s ∷ rows) = end_of (s ∷ rows)
+
+-- what was found of its command
+abbrev pub found_of : Row → Option Found
+found_of r = option_map (λ c. c.found) r.command
+
+-- where a written type is too large
+abbrev pub large_written_type : Option Found → Option Span
+large_written_type (Some (LargeWrittenType s)) = Some s
+large_written_type f = None
+
+-- where a term has a type that is too large
+abbrev pub large_term : Option Found → Option Span
+large_term (Some (LargeTerm s)) = Some s
+large_term f = None
+
+-- the types of terms that were found
+abbrev pub types_listed : Option FoundTypes → List (Option TyNo)
+types_listed None = []
+types_listed (Some t) = t.types.items
+
+-- and the faults
+abbrev pub faults_listed : Option FoundTypes → List Fault
+faults_listed None = []
+faults_listed (Some t) = map fault_of t.faults.items
+
+-- its types, where none is too large
+abbrev pub types_of_found : Option Found → Option FoundTypes
+types_of_found (Some (Types t)) = Some t
+types_of_found f = None
+
+-- the types of its terms
+abbrev pub types_found : Option Found → List (Option TyNo)
+types_found f = types_listed (types_of_found f)
+
+-- the faults that types decide
+abbrev pub faults_found : Option Found → List Fault
+faults_found f = faults_listed (types_of_found f)
+
+-- the first that a row has of something
+abbrev pub first_in : (Option Found → Option Span) → List Row → Option Span
+first_in f [] = None
+first_in f (r ∷ rows) = option_or (f (found_of r)) (first_in f rows)
+
+-- where the one type is that is too large: the first written type, and where there is none the first term
+abbrev pub first_large : List Row → Option Span
+first_large rows = option_or (first_in large_written_type rows) (first_in large_term rows)
+
+-- the commands have this size fault, or none
+abbrev pub IsSizedBy : List CommandTree → Option Span → Dialect → Type 0
+IsSizedBy commands (Some s) d = IsSizeFault commands s d
+IsSizedBy commands None d = IsSmall commands d
+
+-- the types of all terms
+abbrev pub all_types : List Row → List (Option TyNo)
+all_types rows = flat_map (λ r. types_found (found_of r)) rows
+
+-- all faults that types decide, row after row
+abbrev pub all_faults : List Row → List Fault
+all_faults rows = flat_map (λ r. faults_found (found_of r)) rows
+
+-- all faults that tokens and the grammar decide, row after row
+abbrev pub all_syntax : List Row → List Fault
+all_syntax rows = flat_map (λ r. map fault_of r.syntax.items) rows
+
+-- None of the types up to a front is too large, and this is known of its commands and of what names mean behind them. Their faults are those
+-- of the rows; where a term stands does not depend on the commands behind it.
+pub record AreAllTyped (f : Front) (rows : List Row) (ts : List Typ) (d : Dialect) : Type 0 where
+  pub context : Context
+  pub blames : List Blamed
+  pub checked : AreChecked f.commands context (answers ts (all_types rows)) blames d
+  pub names : (x : Name) → f.names x ≡ entries_of f.commands context x
+  pub types : (x : Name) → f.types x ≡ types_of (abbreviations_behind f.commands) x
+  pub faults : (rest : List CommandTree) → IsPermutation (map written_fault (faults [] f.commands) ++ map (blame_fault (f.commands ++ rest)) blames) (all_faults rows)
+
+-- the tokens up to a front spell its commands, and their faults are those of the rows
+pub record AreSpelled (text : List ℕ) (f : Front) (rows : List Row) : Type 0 where
+  pub tokens : List Lexeme
+  pub are_tokens : AreTokensOf (take f.end text) tokens
+  pub are_commands : AreCommandsOf (pieces_of tokens) f.commands
+  pub of_syntax : List Fault
+  pub are_of_syntax : AreSyntaxFaults tokens of_syntax
+  pub same : IsPermutation of_syntax (all_syntax rows)
+
+-- The piece that has an offset, by the number of its row; the last one has all offsets from its start on.
+pub record IsRowAround (text : List ℕ) (offset : ℕ) (rows : List Row) (p : PlacedRow) (ts : List Typ) (b : Bound) (d : Dialect) : Type 0 where
+  pub before : List Row
+  pub row : Row
+  pub after : List Row
+  pub are : rows ≡ before ++ row ∷ after
+  pub counted : p.number ≡ length before
+  pub front : Front
+  pub rows_before : AreRowsFrom text nothing before front ts b d
+  pub starts : p.start ≡ front.end
+  pub own : List CommandTree
+  pub is_row : IsRow text front own row ts b d
+  pub is_there : IsOffsetIn offset (take front.end text) (slice_range text front.end row.end) (drop row.end text)

@@ -1,0 +1,10 @@
+//! Answers as values of JSON, in the shapes of LSP 3.17.
+mod derivations;
+mod diagnostics;
+mod objects;
+mod ranges;
+
+pub use derivations::derivation_value;
+pub use diagnostics::{diagnostic_values, message_of};
+pub use objects::Object;
+pub(crate) use ranges::{location_value, range_value};
