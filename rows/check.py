@@ -2,13 +2,14 @@
 """check.py [--program PATH]: runs the built checker on files, and looks at what it writes and how it ends.
 
 A case has its options, the text of each file, what it must write and its status; what it must write on standard error is given where it
-writes there. A file's text is `bytes` where it is no text. Each case prints a line only where it is wrong. The last line is
+writes there, and that this is a terminal where it is one. A file's text is `bytes` where it is no text. Each case prints a line only where it is wrong. The last line is
 'N passed, M failed'.
 """
 
 import argparse
 import json
 import os
+import pty
 import subprocess
 import sys
 import tempfile
@@ -46,6 +47,37 @@ DIAGNOSTIC = {
 STEPS = {"context": [], "steps": [{"from": [], "range": {"end": {"character": 1, "line": 0}, "start": {"character": 0, "line": 0}}, "rule": "T-Num", "type": "Nat"}]}
 
 
+def line(value):
+    """A line of JSON as the checker writes it."""
+    return json.dumps(value, separators=(",", ":")) + "\n"
+
+
+def place(row, start, end):
+    """A range on one line."""
+    return {"end": {"character": end, "line": row}, "start": {"character": start, "line": row}}
+
+
+WIDE = "{x:Nat, name:Bool}"
+PROOF = [
+    {"from": [], "range": place(2, 0, 4), "rule": "T-Var", "type": "{x:Nat}->Nat"},
+    {"from": [], "range": place(2, 5, 10), "rule": "T-Var", "type": WIDE},
+    {"from": [], "lower": WIDE, "rule": "S-RcdWidth", "upper": "{x:Nat}"},
+    {"from": [1, 2], "range": place(2, 5, 10), "rule": "T-Sub", "type": "{x:Nat}"},
+    {"from": [0, 3], "range": place(2, 0, 10), "rule": "T-App", "type": "Nat"},
+]
+NAMES = [{"name": "point", "type": WIDE}, {"name": "next", "type": "{x:Nat}->Nat"}]
+ACCEPTED = f"d: accepted: point:{WIDE}, next:{{x:Nat}}->Nat |- next point : Nat\n"
+BELOW = "step {} does not follow by its rule from its premises"
+
+
+def sent(change=None, names=None, steps=None):
+    """A line with the derivation of the call in the file `a`, with one step changed."""
+    told = [dict(step) for step in (PROOF if steps is None else steps)]
+    if change:
+        told[change[0]].update(change[1])
+    return line({"derivation": {"context": NAMES if names is None else names, "steps": told}, "file": "a"})
+
+
 @dataclass
 class Case:
     """A run of the checker."""
@@ -57,11 +89,7 @@ class Case:
     status: int
     told: str = ""
     given: bytes = b""
-
-
-def line(value):
-    """A line of JSON as the checker writes it."""
-    return json.dumps(value, separators=(",", ":")) + "\n"
+    terminal: bool = False
 
 
 def refused(name, why):
@@ -91,13 +119,61 @@ CASES = [
     Case("a derivation as a tree", ["--why", "3:5", "a"], {"a": CALL}, TREE, 0),
     Case("a derivation in LaTeX", ["--why", "1:1", "--latex", "a"], {"a": "{a=0}"}, LATEX, 0),
     Case("a place outside", ["--why", "9:1", "a"], {"a": "0"}, "", 1, refused("a", "no term with a type is there")),
+    Case("a place past the end of a line", ["--why", "1:3", "a"], {"a": "0\n0"}, "", 1, refused("a", "no term with a type is there")),
+    Case("a place past the end of a line, as JSON", ["--json", "--why", "1:3", "a"], {"a": "0\n0"}, "", 1, refused("a", "no term with a type is there")),
+    Case("control characters in a name", ["a\x1b[2J\n"], {"a\x1b[2J\n": "x"}, "a\ufffd[2J\ufffd:1:1: error[E1]: unbound name\nx\n^\n", 1),
+    Case("control characters in the name of a file that is gone", ["gone\x1b[2J\n"], {}, "", 4, refused("gone\ufffd[2J\ufffd", "No such file or directory (os error 2)")),
+    Case("control characters in the name of a file without such a term", ["--why", "2:1", "a\x1b[2J"], {"a\x1b[2J": "0"}, "", 1, refused("a\ufffd[2J", "no term with a type is there")),
+    Case("control characters in a name, as JSON", ["--json", "a\x1b[2J"], {"a\x1b[2J": "0"}, line({"diagnostics": [], "file": "a\x1b[2J"}), 0),
+    Case("a count of many files on a terminal", ["a"] * 201, {"a": "0"}, "", 0, "lam_check: 100 of 201 files are checked\nlam_check: 200 of 201 files are checked\n", terminal=True),
+    Case("no count of a hundred files", ["a"] * 100, {"a": "0"}, "", 0, terminal=True),
+    Case("no count where there is no terminal", ["a"] * 201, {"a": "0"}, "", 0),
     Case("a diagnostic as JSON", ["--json", "a"], {"a": "0;   x"}, line({"diagnostics": [DIAGNOSTIC], "file": "a"}), 1),
     Case("a derivation as JSON", ["--json", "--why", "1:1", "a"], {"a": "0"}, line({"derivation": STEPS, "file": "a"}), 0),
+    Case("a derivation is verified", ["--verify", "d"], {"a": CALL, "d": sent()}, ACCEPTED, 0),
+    Case("of a text that is named", ["--verify", "--of", "b", "d"], {"b": CALL, "d": json.dumps({"context": NAMES, "steps": PROOF}, indent=1)}, ACCEPTED, 0),
+    Case("of no text", ["--verify", "d"], {"d": line({"context": NAMES, "steps": PROOF})}, "d: it names no file that it is of: name it with --of\n", 1),
+    Case("what is sent is verified, line by line", ["--verify", "d"], {"a": CALL, "d": sent() + sent((4, {"type": "Bool"}))}, ACCEPTED + "d: " + BELOW.format(4) + "\n", 1),
+    Case("a numeral is verified", ["--verify", "d"], {"a": "0", "d": line({"derivation": STEPS, "file": "a"})}, "d: accepted: 0 : Nat\n", 0),
+    Case("another type", ["--verify", "d"], {"a": CALL, "d": sent((1, {"type": "{x:Nat}"}))}, "d: " + BELOW.format(1) + "\n", 1),
+    Case("another supertype", ["--verify", "d"], {"a": CALL, "d": sent((2, {"upper": "{x:Bool}"}))}, "d: " + BELOW.format(2) + "\n", 1),
+    Case("another rule", ["--verify", "d"], {"a": CALL, "d": sent((2, {"rule": "S-RcdDepth"}))}, "d: " + BELOW.format(2) + "\n", 1),
+    Case("a premise is dropped", ["--verify", "d"], {"a": CALL, "d": sent((3, {"from": [1]}))}, "d: the steps that step 3 follows from are not the last ones before it\n", 1),
+    Case("steps are cut", ["--verify", "d"], {"a": CALL, "d": sent(steps=PROOF[:4])}, "d: step 3 is the last one, and no typing that follows from all others\n", 1),
+    Case("another range", ["--verify", "d"], {"a": CALL, "d": sent((0, {"range": place(2, 0, 3)}))}, "d: step 0 has the range of another term\n", 1),
+    Case("a range outside", ["--verify", "d"], {"a": CALL, "d": sent((0, {"range": place(9, 0, 4)}))}, "d: step 0 has a range that is not in the text\n", 1),
+    Case("another text", ["--verify", "d"], {"a": CALL.replace("next p", "nest p"), "d": sent()}, "d: " + BELOW.format(0) + "\n", 1),
+    Case("other names", ["--verify", "d"], {"a": CALL, "d": sent(names=NAMES[:1])}, "d: the context has other names than those that the term sees\n", 1),
+    Case("no such rule", ["--verify", "d"], {"a": CALL, "d": sent((0, {"rule": "T-Foo"}))}, "d: step 0 names a rule that there is not\n", 1),
+    Case("no type", ["--verify", "d"], {"a": CALL, "d": sent((0, {"type": "{x:Nat"}))}, "d: step 0 has a type that is none of the language\n", 1),
+    Case("no derivation", ["--verify", "d"], {"a": CALL, "d": line({"derivation": None, "file": "a"})}, "d: it is no derivation: an object of `context` and `steps`, both lists\n", 1),
+    Case("JSON is cut", ["--verify", "d"], {"a": CALL, "d": sent()[:14]}, "d: it is no JSON: EOF while parsing at line 1 column 14\n", 1),
+    Case("derivations not in UTF-8", ["--verify", "d"], {"d": b"\xff"}, "", 4, refused("d", "it is not UTF-8 from byte 0 on")),
+    Case("a text that is gone", ["--verify", "d"], {"d": sent()}, "", 4, refused("a", "No such file or directory (os error 2)")),
+    Case("verifying and types", ["--verify", "--types", "a"], {"a": "0"}, "", 2, None),
+    Case("a text of nothing", ["--of", "a", "a"], {"a": "0"}, "", 2, None),
     Case("no such option", ["--nope"], {}, "", 2, None),
     Case("no place", ["--why", "1", "a"], {"a": "0"}, "", 2, "error: --why takes a line and a column, both from 1, as 3:14\n"),
     Case("LaTeX and HTML", ["--latex", "--html", "--why", "1:1", "a"], {"a": "0"}, "", 2, None),
     Case("JSON and HTML", ["--json", "--html", "--why", "1:1", "a"], {"a": "0"}, "", 2, None),
 ]
+
+
+def ended(program, case, room):
+    """A run, and what it wrote on standard error."""
+    words = [program, *case.words]
+    if not case.terminal:
+        run = subprocess.run(words, cwd=room, input=case.given, capture_output=True, check=False, timeout=60)
+        return run, run.stderr.decode()
+    near, far = pty.openpty()
+    run = subprocess.run(words, cwd=room, input=case.given, stdout=subprocess.PIPE, stderr=far, check=False, timeout=60)
+    os.close(far)
+    try:
+        told = os.read(near, 4096)
+    except OSError:  # nothing was written
+        told = b""
+    os.close(near)
+    return run, told.decode().replace("\r\n", "\n")
 
 
 def wrong(program, case):
@@ -106,8 +182,8 @@ def wrong(program, case):
         for name, text in case.files.items():
             with open(f"{room}/{name}", "wb") as it:
                 it.write(text if isinstance(text, bytes) else text.encode())
-        run = subprocess.run([program, *case.words], cwd=room, input=case.given, capture_output=True, check=False, timeout=60)
-    for kind, seen, wanted in (("status", run.returncode, case.status), ("output", run.stdout.decode(), case.written), ("standard error", run.stderr.decode(), case.told)):
+        run, told = ended(program, case, room)
+    for kind, seen, wanted in (("status", run.returncode, case.status), ("output", run.stdout.decode(), case.written), ("standard error", told, case.told)):
         if wanted is not None and seen != wanted:
             return f"{kind} is {seen!r} and not {wanted!r}"
     return None

@@ -1,6 +1,7 @@
 pub mod LineEnds
+pub mod PiecesRead
 pub mod Writing
 pub mod Drawing
-pub mod TypeLists
-pub mod PiecesRead
-pub mod Floatless
+pub mod PlainTypes
+pub mod ReadValues
+pub mod Verifying

@@ -1,5 +1,5 @@
 -- Derivations as they are drawn.
-use Rattle.std.specs.Prelude.{◌≡◌, ◌≢◌, ◌⊎◌, ℕ, suc, ◌+◌, ◌*◌, ◌/◌, ◌-◌, ◌==◌, Bool, List, [], ◌∷◌, ◌++◌, Option, Some, None, codes, chars, encode_utf8, encode_utf8_all, flat_map, map, replicate, slice_range, if◌then◌else◌}
+use Rattle.std.specs.Prelude.{◌≡◌, ◌⊎◌, ℕ, suc, ◌+◌, ◌*◌, ◌/◌, ◌-◌, ◌==◌, Bool, List, [], ◌∷◌, ◌++◌, Option, Some, None, codes, chars, encode_utf8, encode_utf8_all, flat_map, map, replicate, slice_range, if◌then◌else◌}
 use Rattle.std.specs.Char.{is_control}
 use Rattle.std.specs.List.{list_any, repeat}
 use Rattle.lam_token.specs.declared.span.Span.{Span}
@@ -163,18 +163,22 @@ pub record Draws (form : Form) (text : List ℕ) (derived : Derivation) (drawing
   pub steps : derived.steps ≡ steps_of 0 proof
   pub is : drawing ≡ head form ++ drawn form text 0 proof ++ tail form
 
--- a drawing of why the innermost term round an offset has its type
-pub record IsDrawing (form : Form) (text : List ℕ) (offset : ℕ) (drawing : Text) (d : Dialect) : Type 0 where
+-- the text has this place, where columns count characters: the offset that stands for it is at this very place
+abbrev pub HasPlace : List ℕ → Position → Type 0
+HasPlace text place = place ≡ position_of Utf32 text (offset_of Utf32 text place)
+
+-- why the innermost term round a place of the text has its type; none where no type is shown there, or the text has no such place
+abbrev pub IsDerivedAt : List ℕ → Position → Option Derivation → Dialect → Type 0
+IsDerivedAt text place (Some derived) d = HasPlace text place × IsDerivedIn text (offset_of Utf32 text place) (Some derived) d
+IsDerivedAt text place None d = IsDerivedIn text (offset_of Utf32 text place) None d ⊎ (HasPlace text place → ⊥)
+
+-- a drawing of it
+pub record IsDrawing (form : Form) (text : List ℕ) (place : Position) (drawing : Text) (d : Dialect) : Type 0 where
   pub derived : Derivation
-  pub right : IsDerivedIn text offset (Some derived) d
+  pub right : IsDerivedAt text place (Some derived) d
   pub draws : Draws form text derived drawing
 
--- Why the innermost term round a place has its type, where columns count characters; none where no type is shown there, or the text has no such place.
-abbrev pub IsDerivedAt : List ℕ → Position → Option Derivation → Dialect → Type 0
-IsDerivedAt text place (Some derived) d = IsDerivedIn text (offset_of Utf32 text place) (Some derived) d
-IsDerivedAt text place None d = IsDerivedIn text (offset_of Utf32 text place) None d ⊎ (place ≢ position_of Utf32 text (offset_of Utf32 text place))
-
--- its drawing
+-- such a drawing; none where there is nothing to draw
 abbrev pub IsDrawnAt : Form → List ℕ → Position → Option Text → Dialect → Type 0
-IsDrawnAt form text place (Some drawing) d = IsDrawing form text (offset_of Utf32 text place) drawing d
+IsDrawnAt form text place (Some drawing) d = IsDrawing form text place drawing d
 IsDrawnAt form text place None d = IsDerivedAt text place None d

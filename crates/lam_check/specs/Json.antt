@@ -4,10 +4,9 @@ use Rattle.serde_json.specs.Data.{Data, string, array, object, member, no_member
 use Rattle.serde_json.specs.Written.{compact_text}
 use Rattle.lam_rules.specs.Texts.{Text}
 use Rattle.lam_rules.specs.declared.rules.Dialect.{Dialect}
-use Rattle.lam_text.specs.Positions.{offset_of}
 use Rattle.lam_text.specs.declared.places.Position.{Position}
-use Rattle.lam_text.specs.declared.units.Encoding.TheVariants.{Utf16, Utf32}
-use Rattle.lam_query.specs.Derivations.{Derivation, IsDerivedIn}
+use Rattle.lam_text.specs.declared.units.Encoding.TheVariants.{Utf16}
+use Rattle.lam_query.specs.Derivations.{Derivation}
 use Rattle.lam_query.specs.Faults.{Fault}
 use Rattle.lam_query.specs.TextFaults.{AreFaults}
 use Rattle.lam_session.specs.Derivations.{derivation_value}
@@ -33,13 +32,13 @@ pub record IsFaultsLine (name : Text) (text : List ℕ) (d : Dialect) (written :
 abbrev pub why_value : (name : Text) → (text : List ℕ) → Derivation → Data
 why_value name text derived = object (member (codes "derivation") (derivation_value Utf16 text (Some derived)) (member (codes "file") (string name) no_members))
 
--- the line has a derivation of the type of the innermost term round an offset
-pub record IsWhyLine (name : Text) (text : List ℕ) (offset : ℕ) (written : Text) (d : Dialect) : Type 0 where
+-- the line has a derivation of the type of the innermost term round a place, where columns count characters
+pub record IsWhyLine (name : Text) (text : List ℕ) (place : Position) (written : Text) (d : Dialect) : Type 0 where
   pub derived : Derivation
-  pub right : IsDerivedIn text offset (Some derived) d
+  pub right : IsDerivedAt text place (Some derived) d
   pub shown : written ≡ json_line (why_value name text derived)
 
--- such a line for a place, where columns count characters; none where no type is shown there, or the text has no such place
+-- such a line; none where no type is shown there, or the text has no such place
 abbrev pub IsWhyAt : (name : Text) → (text : List ℕ) → Position → Option Text → Dialect → Type 0
-IsWhyAt name text place (Some written) d = IsWhyLine name text (offset_of Utf32 text place) written d
+IsWhyAt name text place (Some written) d = IsWhyLine name text place written d
 IsWhyAt name text place None d = IsDerivedAt text place None d

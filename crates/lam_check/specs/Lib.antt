@@ -4,4 +4,6 @@ pub mod Reports
 pub mod Drawings
 pub mod Types
 pub mod Json
+pub mod Readable
+pub mod Verified
 pub mod inner

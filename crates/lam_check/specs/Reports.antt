@@ -16,6 +16,7 @@ use Rattle.lam_check.specs.Lines.{line_of, shown_line, blanks, marks}
 abbrev pub place_of : List ℕ → (offset : ℕ) → Position
 place_of text offset = position_of Utf32 text offset
 
+-- a line and a column as they are written, both from 1
 abbrev pub place_text : Position → Text
 place_text p = decimal (p.line + 1) ++ codes ":" ++ decimal (p.character + 1)
 
@@ -27,9 +28,9 @@ last_column line start end = if end.line == start.line then end.character else l
 abbrev pub width : (line : List ℕ) → (start end : Position) → ℕ
 width line start end = max 1 (last_column line start end - start.character)
 
--- `FILE:LINE:COLUMN: error[CODE]: MESSAGE`
+-- `FILE:LINE:COLUMN: error[CODE]: MESSAGE`, the file's name as a line is shown
 abbrev pub head : Paint → (name : Text) → (code : Text) → Position → Text
-head paint name code start = name ++ codes ":" ++ place_text start ++ codes ": " ++ painted paint (codes "error[" ++ code ++ codes "]") ++ codes ": " ++ message_of code
+head paint name code start = shown_line name ++ codes ":" ++ place_text start ++ codes ": " ++ painted paint (codes "error[" ++ code ++ codes "]") ++ codes ": " ++ message_of code
 
 -- the line where the fault starts, and the mark under it
 abbrev pub excerpt : Paint → (line : List ℕ) → (start end : Position) → Text

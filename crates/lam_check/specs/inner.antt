@@ -1,3 +1,4 @@
 pub mod Drawing
-pub mod TypeLines
-pub mod Objects
+pub mod Verifying
+pub mod PlainTypes
+pub mod Read

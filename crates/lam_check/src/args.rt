@@ -31,10 +31,12 @@ const STATUSES: &str = "Exit status: 0 without an error in a file, 1 with one, 2
 
 /// What is asked for.
 #[derive(Clone, Copy, Debug)]
-pub struct Asked {
+pub struct Asked<'a> {
     pub dialect: Dialect,
     /// What is shown of each file.
     pub shown: Shown,
+    /// The file that the derivations are of, where it is named.
+    pub source: Option<&'a str>,
 }
 
 #[derive(Clone, Copy, Debug)]
@@ -45,6 +47,8 @@ pub enum Shown {
     Derivation(Position, Form),
     FaultsJson,
     DerivationJson(Position),
+    /// Whether the derivations that it has are right.
+    Verdicts,
 }
 
 /// Why the words ask for nothing.
@@ -64,7 +68,7 @@ pub enum ArgsFault {
 pub fn read_args<'a>(
     alloc: Global,
     words: &'a [&'a str],
-) -> Result<(Asked, Vec<&'a str>), ArgsFault> {
+) -> Result<(Asked<'a>, Vec<&'a str>), ArgsFault> {
     let Ok(command) = command(alloc) else {
         return Err(ArgsFault::Memory);
     };
@@ -72,17 +76,14 @@ pub fn read_args<'a>(
         Ok(matches) => matches,
         Err(error) => return Err(fault_of(alloc, &error)),
     };
+    let shown = match what_is_shown(&matches) {
+        Ok(shown) => shown,
+        Err(text) => return Err(usage(alloc, text)),
+    };
     let asked = Asked {
         dialect: chosen(matches.get_str("dialect")),
-        shown: match what_is_shown(&matches) {
-            Ok(shown) => shown,
-            Err(text) => {
-                return match String::from_str(alloc, text) {
-                    Ok(text) => Err(ArgsFault::Usage(text)),
-                    Err(_) => Err(ArgsFault::Memory),
-                };
-            }
-        },
+        shown,
+        source: matches.get_str("of"),
     };
     let names = matches.get_strs("FILE").unwrap_or(INPUT_ALONE.as_slice());
     match Vec::from_slice(alloc, names) {
@@ -91,8 +92,19 @@ pub fn read_args<'a>(
     }
 }
 
+/// That the words are no command line of this program, as this text says.
+fn usage(alloc: Global, text: &str) -> ArgsFault {
+    match String::from_str(alloc, text) {
+        Ok(text) => ArgsFault::Usage(text),
+        Err(_) => ArgsFault::Memory,
+    }
+}
+
 /// What the words ask to be shown.
 fn what_is_shown(matches: &ArgMatches<'_>) -> Result<Shown, &'static str> {
+    if matches.get_flag("verify") {
+        return Ok(Shown::Verdicts);
+    }
     let Some(word) = matches.get_str("why") else {
         if matches.get_flag("json") {
             return Ok(Shown::FaultsJson);
@@ -158,6 +170,8 @@ fn command<'a>(alloc: Global) -> Result<Command<'a>, AllocError> {
     let html = flag(alloc, "html", HTML)?;
     let command = command.arg(html.conflicts_with("latex")?)?;
     let command = command.arg(json(alloc)?)?;
+    let command = command.arg(verify(alloc)?)?;
+    let command = command.arg(of(alloc)?)?;
     command.arg(files(alloc))
 }
 
@@ -201,6 +215,23 @@ fn json<'a>(alloc: Global) -> Result<Arg<'a>, AllocError> {
     let json = json.conflicts_with("types")?;
     let json = json.conflicts_with("latex")?;
     json.conflicts_with("html")
+}
+
+fn verify<'a>(alloc: Global) -> Result<Arg<'a>, AllocError> {
+    let verify = Arg::new(alloc, "verify")
+        .long("verify")
+        .action(ArgAction::SetTrue)
+        .help("Checks derivations that the files have as JSON, as --json --why writes them");
+    let verify = verify.conflicts_with("types")?;
+    let verify = verify.conflicts_with("why")?;
+    verify.conflicts_with("json")
+}
+
+fn of<'a>(alloc: Global) -> Result<Arg<'a>, AllocError> {
+    let of = Arg::new(alloc, "of").long("of").value_name("SOURCE").help(
+        "The file that the derivations are of, where they name none or another",
+    );
+    of.requires_arg("verify")
 }
 
 fn files<'a>(alloc: Global) -> Arg<'a> {

@@ -288,7 +288,7 @@ fn push_claim(
 }
 
 /// What a step says.
-fn claim_of(alloc: Global, text: &str, step: &Step) -> Result<String, AllocError>
+pub fn claim_of(alloc: Global, text: &str, step: &Step) -> Result<String, AllocError>
     requires { StepStandsIn text.now step.now }
     ensures { IfOk result (λ claim. string_bytes claim ≡ claim_text text.now (step_of step.now).conclusion) }
 {

@@ -66,6 +66,7 @@ pub enum Markup {
 }
 
 impl Markup {
+    /// Its characters.
     #[tactic(auto, unfolding(crate::specs::Drawings::markup))]
     pub fn text(self) -> &'static str
         ensures { result.now ≡ markup self }

@@ -1,22 +1,18 @@
 //! Answers as lines of JSON, in the shapes in which the language server sends them.
-ghost use Rattle.std.specs.Prelude.{◌≡◌, ◌++◌, ◌∷◌, [], List, map, option_map, All, IfOk, string_bytes, codes, false};
-ghost use Rattle.serde_json.specs.Data.{Data, array};
-ghost use Rattle.serde_json.specs.View.{view, items_of};
+ghost use Rattle.std.specs.Prelude.{◌≡◌, map, option_map, All, IfOk, string_bytes, false};
+ghost use Rattle.serde_json.specs.View.{view};
 ghost use Rattle.serde_json.specs.Written.{has_float};
 ghost use Rattle.lam_text.specs.declared.units.Encoding.{Encoding as Units};
 ghost use Rattle.lam_query.specs.Views.{fault_of, derivation_of, StepStandsIn};
 ghost use Rattle.lam_query.specs.Within.{IsSpanOfText};
-ghost use Rattle.lam_session.specs.Diagnostics.{diagnostics};
 ghost use Rattle.lam_check.specs.Json.{json_line, faults_value, IsFaultsLine, why_value, IsWhyAt};
 
-use crate::derivation_values::derivation_value;
-use crate::diagnostic_values::diagnostics;
 use crate::drawings::derivation_at;
-use crate::objects::Object;
 use crate::reports::Checked;
 use lam_query::answers::{Derivation, Fault};
 use lam_query::faults;
 use lam_rules::Dialect;
+use lam_session::values::{Object, derivation_value, diagnostic_values};
 use lam_text::{Doc, Encoding, Position};
 use serde_json::Value;
 use std::alloc::{AllocError, Global};
@@ -42,19 +38,14 @@ pub fn faults_json(
 fn faults_value(alloc: Global, name: &str, doc: &Doc, faults: &[Fault]) -> Result<Value, AllocError>
     requires encoding { doc.now.encoding ≡ Units.Utf16 }
     requires whole_characters { All (λ f. IsSpanOfText doc.now.text f.span) faults.now }
-    ensures { IfOk result (λ value. view value ≡ faults_value name.now doc.now.text (map fault_of faults.now)) }
+    ensures value { IfOk result (λ value. view value ≡ faults_value name.now doc.now.text (map fault_of faults.now)) }
+    ensures no_float { IfOk result (λ value. has_float (view value) ≡ false) }
 {
-    let values = array_of(diagnostics(alloc, doc, faults)?);
+    let values = diagnostic_values(alloc, doc, faults)?;
     Object::new(alloc)
-        .value("diagnostics", Ok(values))
+        .value("diagnostics", Ok(Value::from(values)))
         .text("file", name)
         .finish()
-}
-
-fn array_of(values: Vec<Value>) -> Value
-    ensures { view result ≡ array (items_of (map view values.items)) }
-{
-    Value::Array(values)
 }
 
 /// Why the innermost term round a place has its type; none where no type is shown.
@@ -78,10 +69,12 @@ pub fn why_json(
 fn why_value(alloc: Global, name: &str, doc: &Doc, derived: Derivation) -> Result<Value, AllocError>
     requires encoding { doc.now.encoding ≡ Units.Utf16 }
     requires whole_characters { All (StepStandsIn doc.now.text) derived.steps.items }
-    ensures { IfOk result (λ value. view value ≡ why_value name.now doc.now.text (derivation_of derived)) }
+    ensures value { IfOk result (λ value. view value ≡ why_value name.now doc.now.text (derivation_of derived)) }
+    ensures no_float { IfOk result (λ value. has_float (view value) ≡ false) }
 {
+    let value = derivation_value(alloc, doc, Some(derived))?;
     Object::new(alloc)
-        .value("derivation", derivation_value(alloc, doc, Some(derived)))
+        .value("derivation", Ok(value))
         .text("file", name)
         .finish()
 }

@@ -1,10 +1,10 @@
 //! Lines of a text as they are shown, with a mark under some of their characters.
-ghost use Rattle.std.specs.Prelude.{◌≡◌, ◌++◌, OnOk, string_bytes};
+ghost use Rattle.std.specs.Prelude.{◌≡◌, ◌++◌, IfOk, OnOk, string_bytes};
 ghost use Rattle.lam_text.specs.declared.units.Encoding.{Encoding};
 ghost use Rattle.lam_check.specs.Lines.{line_of, shown, blank, shown_line, blanks, marks};
 
 use lam_text::{Doc, Encoding, Position};
-use std::alloc::AllocError;
+use std::alloc::{AllocError, Global};
 
 /// What a line holds, by its number from 0, its end left out; nothing where there is no such line.
 pub fn line_of(doc: &Doc, number: u64) -> &str
@@ -40,6 +40,15 @@ fn blank(c: char) -> char
     ensures { result ≡ blank c }
 {
     if c == '\t' { c } else { ' ' }
+}
+
+/// A line as it is shown.
+pub fn shown_line(alloc: Global, line: &str) -> Result<String, AllocError>
+    ensures { IfOk result (λ shown. string_bytes shown ≡ shown_line line.now) }
+{
+    let mut out = String::new(alloc);
+    push_shown(&mut out, line)?;
+    Ok(out)
 }
 
 /// Puts the characters of a line behind what is written.

@@ -6,29 +6,34 @@
 
 mod args;
 mod commands;
-mod derivation_values;
-mod diagnostic_values;
 mod drawings;
 mod files;
+mod first_faults;
 mod forms;
 mod json;
 mod lines;
-mod messages;
-mod objects;
 mod paint;
-mod ranges;
+mod plain_types;
+mod read_derivations;
+mod read_values;
 mod reports;
+mod sent;
 mod types;
+mod verdicts;
+mod verify;
 
 use args::{ArgsFault, Asked, Shown, read_args};
 use drawings::drawing;
 use files::{ReadFault, text_of};
 use json::{faults_json, why_json};
 use lam_rules::Dialect;
+use lines::shown_line;
 use paint::Paint;
 use reports::{Checked, report};
+use sent::tell_verdicts;
 use std::alloc::{AllocError, Global};
 use std::env::{self, Env};
+use std::fmt::Display;
 use std::io::{self, ErrorKind, IsTerminal};
 use std::process::ExitCode;
 use std::rt::Files;
@@ -45,13 +50,27 @@ const DEVICE: u8 = 4;
 
 const MEMORY: u8 = 5;
 
+/// So many files are checked between two counts.
+const COUNTED: usize = 100;
+
+/// How what is told is shown.
+#[derive(Clone, Copy)]
+struct Looks {
+    paint: Paint,
+    /// Whether it is told how many files are checked.
+    counts: bool,
+}
+
 fn main(rt: HostRuntime) -> ExitCode {
     let words: Vec<String> = match words(&rt) {
         Ok(words) => words,
         Err(error) => return ExitCode::from(refuse(&rt, &error)),
     };
-    let paint = paint_for(&rt, rt.stdout().is_terminal());
-    ExitCode::from(start(&rt, words.as_slice(), paint))
+    let looks = Looks {
+        paint: paint_for(&rt, rt.stdout().is_terminal()),
+        counts: rt.stderr().is_terminal(),
+    };
+    ExitCode::from(start(&rt, words.as_slice(), looks))
 }
 
 fn words<R: AllocGlobal + Env>(rt: &R) -> io::Result<Vec<String>> {
@@ -88,7 +107,7 @@ fn refuse<R: Eprint>(rt: &R, error: &io::Error) -> u8 {
 fn start<R: AllocGlobal + Files + Input + Print + Eprint>(
     rt: &R,
     words: &[String],
-    paint: Paint,
+    looks: Looks,
 ) -> u8 {
     let slices: Result<Vec<&str>, AllocError> = words
         .iter()
@@ -98,7 +117,7 @@ fn start<R: AllocGlobal + Files + Input + Print + Eprint>(
         return want_of_memory(rt);
     };
     match read_args(rt.alloc(), slices.as_slice()) {
-        Ok((asked, names)) => check_all(rt, asked, names.as_slice(), paint),
+        Ok((asked, names)) => check_all(rt, asked, names.as_slice(), looks),
         Err(ArgsFault::Help(text)) => {
             let _ = print!(rt; "{text}");
             FAULTLESS
@@ -116,13 +135,22 @@ fn check_all<R: AllocGlobal + Files + Input + Print + Eprint>(
     rt: &R,
     asked: Asked,
     names: &[&str],
-    paint: Paint,
+    looks: Looks,
 ) -> u8 {
     let mut status = FAULTLESS;
-    for name in names {
-        status = status.max(check(rt, asked, name, paint));
+    let counts = looks.counts && names.len() > COUNTED;
+    for (i, name) in names.iter().enumerate() {
+        if counts && i > 0 && i % COUNTED == 0 {
+            tell_count(rt, i, names.len());
+        }
+        status = status.max(check(rt, asked, name, looks.paint));
     }
     status
+}
+
+/// Says how many files are checked.
+fn tell_count<R: Eprint>(rt: &R, checked: usize, all: usize) {
+    let _ = eprintln!(rt; "lam_check: {checked} of {all} files are checked");
 }
 
 /// Checks a file. The status to end with on its account.
@@ -135,10 +163,7 @@ fn check<R: AllocGlobal + Files + Input + Print + Eprint>(
     let text = match text_of(rt, rt.alloc(), name) {
         Ok(text) => text,
         Err(ReadFault::Memory) => return want_of_memory(rt),
-        Err(fault) => {
-            let _ = eprintln!(rt; "lam_check: {name}: {fault}");
-            return DEVICE;
-        }
+        Err(fault) => return tell_of(rt, name, &fault, DEVICE),
     };
     match asked.shown {
         Shown::Faults => tell_faults(rt, asked.dialect, name, &text, paint),
@@ -154,6 +179,7 @@ fn check<R: AllocGlobal + Files + Input + Print + Eprint>(
             let found = why_json(rt.alloc(), shown_name(name), &text, place, asked.dialect);
             tell_found(rt, name, found)
         }
+        Shown::Verdicts => tell_verdicts(rt, asked, name, &text),
         Shown::Derivation(place, form) => {
             tell_found(
                 rt,
@@ -200,20 +226,25 @@ fn tell_types<R: AllocGlobal + Print + Eprint>(rt: &R, dialect: Dialect, text: &
 }
 
 /// Prints why the term at a place has its type, if that was found. The status to end with on its account.
-fn tell_found<R: Print + Eprint>(
+fn tell_found<R: AllocGlobal + Print + Eprint>(
     rt: &R,
     name: &str,
     found: Result<Option<String>, AllocError>,
 ) -> u8 {
     match found {
         Ok(Some(told)) => tell(rt, &told),
-        Ok(None) => {
-            let name = shown_name(name);
-            let _ = eprintln!(rt; "lam_check: {name}: no term with a type is there");
-            FAULTY
-        }
+        Ok(None) => tell_of(rt, name, &"no term with a type is there", FAULTY),
         Err(_) => want_of_memory(rt),
     }
+}
+
+/// Says on standard error what is the matter with a file. The status to end with on its account.
+fn tell_of<R: AllocGlobal + Eprint, D: Display>(rt: &R, name: &str, matter: &D, status: u8) -> u8 {
+    let Ok(shown) = shown_line(rt.alloc(), shown_name(name)) else {
+        return want_of_memory(rt);
+    };
+    let _ = eprintln!(rt; "lam_check: {shown}: {matter}");
+    status
 }
 
 /// Prints a text. The status to end with on its account.

@@ -9,11 +9,11 @@ ghost use Rattle.std.specs.Str.{IsCharBoundary};
 ghost use Rattle.lam_check.specs.Reports.{IsReport, place_of, place_text, head, excerpt, between, fault_report, last_column, width};
 
 use crate::lines::{line_of, push_blanks, push_marks, push_shown};
-use crate::messages::message_of;
 use crate::paint::Paint;
 use lam_query::answers::Fault;
 use lam_query::faults;
 use lam_rules::Dialect;
+use lam_session::values::message_of;
 use lam_text::{Doc, Encoding, Position};
 use std::alloc::{AllocError, Global};
 
@@ -113,7 +113,7 @@ fn push_head(
     requires column { start.character + 1 < 2 ^ 64 }
     ensures { OnOk result (string_bytes out.new ≡ string_bytes out.old ++ head paint name.now code.now start) }
 {
-    out.push_str(name)?;
+    push_shown(out, name)?;
     out.push_str(":")?;
     push_place(out, start)?;
     out.push_str(": ")?;

@@ -1,4 +1,12 @@
+use Rattle.std.proofs.Common.{refl, ap, ◌∙◌}
+use Rattle.std.proofs.lemmas.Result.{IfOk-weaker}
+use Rattle.serde_json.specs.Written.{has_float}
 use Rattle.lam_check.proofs.json.why_value.Goals as goal
 
 pub returns : goal.returns
-returns c = c.finish.ensures _ (c.text.ensures _ (c.value.ensures _ _ c.new.ensures (rw c.requires.encoding at c.derivation_value.ensures)))
+returns c =
+    let built = c.text.ensures _ (c.value.ensures _ _ c.new.ensures refl) in
+    record {
+      value = c.finish.ensures _ (c.text.ensures _ (c.value.ensures _ _ c.new.ensures (rw c.requires.encoding at c.in_ok-value.ensures.value)));
+      no_float = IfOk-weaker c.finish.result _ _ (λ value told. ap has_float told ∙ rw c.in_ok-value.ensures.no_float refl) (c.finish.ensures _ built);
+    }

@@ -1,8 +1,9 @@
-use Rattle.std.proofs.Common.{◌≡◌, map, take}
-use Rattle.lam_syntax.specs.Views.{command_of}
-use Rattle.lam_typing.specs.Checking.{dialect_in}
-use Rattle.lam_check.specs.inner.TypeLines.{IsListing}
+use Rattle.std.proofs.Common.{◌≡◌, ◌++◌, map, flat_map, drop, string_bytes}
+use Rattle.lam_query.specs.Views.{command_type_of}
+use Rattle.lam_check.specs.Types.{line_of_type}
 use Rattle.lam_check.proofs.types.lines_of.Given as goal
 
-abbrev pub invariant-loop-i : goal.invariant-loop-i
-invariant-loop-i l = IsListing (map command_of (take l.i l.commands)) l.listing × (dialect_in l.listing.checker ≡ l.fn.dialect)
+-- what is written, and the lines of the commands that are left, are all
+abbrev pub invariant-loop-shown : goal.invariant-loop-shown
+invariant-loop-shown l =
+    string_bytes l.lines ++ flat_map line_of_type (map command_type_of (drop l.shown-index l.types)) ≡ flat_map line_of_type (map command_type_of l.types)

@@ -1,0 +1,130 @@
+-- What is read of values, one after another.
+use Rattle.std.proofs.Common.{◌≡◌, Option, Some, None, Result, Ok, Err, eqb, ℕ, ◌+◌, ◌<◌, ◌≤◌, zero, suc, List, [], ◌∷◌, ◌++◌, length, get_or, map, take, Bool, true, false, not, ◌&&◌, refl, sym, ap, subst, ◌∙◌, arith, true≢false}
+use Rattle.std.proofs.lemmas.List.{take_more, take_all, map-append}
+use Rattle.std.proofs.lemmas.Simd.{map-map}
+use Rattle.std.specs.Str.{IsCharBoundary, IsUtf8}
+use Rattle.std.specs.Option.{option_and_then}
+use Rattle.std.proofs.lemmas.Bool.{eq-eqb}
+use Rattle.serde_json.specs.Data.{Data, array, object, member, no_members, item, no_items}
+use Rattle.serde_json.specs.Find.{as_array, as_number, as_u64}
+use Rattle.serde_json.specs.View.{view, items_of, items_view}
+use Rattle.serde_json.specs.declared.value.Value.{Value}
+use Rattle.lam_text.specs.declared.places.Position.{Position}
+use Rattle.lam_text.specs.declared.units.Encoding.{Encoding}
+use Rattle.lam_text.specs.Positions.{position_of, offset_of, IsInsideCrLf}
+use Rattle.lam_text.proofs.LawLemmas.{comes_back}
+use Rattle.lam_query.specs.Derivations.{ContextEntry}
+use Rattle.lam_query.specs.Steps.{Step}
+use Rattle.lam_session.specs.Derivations.{entry_value, step_value}
+use Rattle.lam_session.specs.Ranges.{position_value}
+use Rattle.lam_check.specs.Readable.{IsReadableEntry, AreReadableEntries, IsReadableConclusion, AreReadableSteps}
+use Rattle.lam_check.specs.declared.read_derivations.Unread.{Unread}
+use Rattle.lam_check.specs.inner.Read.{IsUnread, number_value}
+
+-- ---- the values so far
+
+abbrev pub AreReadTo : {A : Type 0} → (A → Data) → List Value → ℕ → List A → Type 0
+AreReadTo f values i items = map view (take i values) ≡ map f items
+
+pub one_more : {A : Type 0} (f : A → Data) (values : List Value) (i : ℕ) (v : Value) (items more : List A) (x : A)
+    → i < length values → v ≡ get_or values i v → view v ≡ f x → more ≡ items ++ x ∷ [] → AreReadTo f values i items → AreReadTo f values (i + 1) more
+one_more f values i v items more x inside at is pushed so_far =
+    ap (map view) (take_more values i v inside)
+    ∙ map-append view (take i values) (get_or values i v ∷ [])
+    ∙ (λ k. so_far k ++ ((ap view (sym at) ∙ is) k) ∷ [])
+    ∙ sym (map-append f items (x ∷ []))
+    ∙ ap (map f) (sym pushed)
+
+pub all_read : {A : Type 0} (f : A → Data) (values : List Value) (i : ℕ) (items : List A) → length values ≤ i → AreReadTo f values i items → map view values ≡ map f items
+all_read f values i items past so_far = ap (map view) (sym (take_all i values past)) ∙ so_far
+
+pub all_read_through : {A B : Type 0} (f : B → Data) (g : A → B) (values : List Value) (i : ℕ) (items : List A) → length values ≤ i → AreReadTo (λ x. f (g x)) values i items
+    → map view values ≡ map f (map g items)
+all_read_through f g values i items past so_far = all_read (λ x. f (g x)) values i items past so_far ∙ sym (map-map f g items)
+
+-- ---- one of the values
+
+pub number_there : (values : List Value) (ns : List ℕ) (i : ℕ) (v : Value) → i < length values → map view values ≡ map number_value ns → (n : ℕ) × (view (get_or values i v) ≡ number_value n)
+number_there [] ns i v inside are = absurd (omega arith)
+number_there (w ∷ values) [] i v inside are = let clash : view w ∷ map view values ≡ [] = are in absurd cc
+number_there (w ∷ values) (n ∷ ns) zero v inside are = let both : view w ∷ map view values ≡ number_value n ∷ map number_value ns = are in (n, cc)
+number_there (w ∷ values) (n ∷ ns) (suc i) v inside are =
+    let both : view w ∷ map view values ≡ number_value n ∷ map number_value ns = are in
+    let rest : map view values ≡ map number_value ns = cc in
+    number_there values ns i v (omega arith) rest
+
+pub entry_there : (values : List Value) (es : List ContextEntry) (i : ℕ) (v : Value) → i < length values → AreReadableEntries es → map view values ≡ map entry_value es
+    → (e : ContextEntry) × IsReadableEntry e.type × (view (get_or values i v) ≡ entry_value e)
+entry_there [] es i v inside readable are = absurd (omega arith)
+entry_there (w ∷ values) [] i v inside readable are = let clash : view w ∷ map view values ≡ [] = are in absurd cc
+entry_there (w ∷ values) (e ∷ es) zero v inside readable are = let both : view w ∷ map view values ≡ entry_value e ∷ map entry_value es = are in (e, readable.0, cc)
+entry_there (w ∷ values) (e ∷ es) (suc i) v inside readable are =
+    let both : view w ∷ map view values ≡ entry_value e ∷ map entry_value es = are in
+    let rest : map view values ≡ map entry_value es = cc in
+    entry_there values es i v (omega arith) readable.1 rest
+
+pub step_there : (encoding : Encoding) (text : List ℕ) (values : List Value) (steps : List Step) (i : ℕ) (v : Value) → i < length values → AreReadableSteps text steps
+    → map view values ≡ map (step_value encoding text) steps → (s : Step) × IsReadableConclusion text s.conclusion × (view (get_or values i v) ≡ step_value encoding text s)
+step_there encoding text [] steps i v inside readable are = absurd (omega arith)
+step_there encoding text (w ∷ values) [] i v inside readable are = let clash : view w ∷ map view values ≡ [] = are in absurd cc
+step_there encoding text (w ∷ values) (s ∷ steps) zero v inside readable are =
+    let both : view w ∷ map view values ≡ step_value encoding text s ∷ map (step_value encoding text) steps = are in
+    (s, readable.0, cc)
+step_there encoding text (w ∷ values) (s ∷ steps) (suc i) v inside readable are =
+    let both : view w ∷ map view values ≡ step_value encoding text s ∷ map (step_value encoding text) steps = are in
+    let rest : map view values ≡ map (step_value encoding text) steps = cc in
+    step_there encoding text values steps i v (omega arith) readable.1 rest
+
+-- ---- positions
+
+pub position_is : (encoding : Encoding) (text : List ℕ) (value : Data) (offset : ℕ) (p : Position) → IsUtf8 text → IsCharBoundary text offset → ¬ (IsInsideCrLf text offset)
+    → value ≡ position_value p → value ≡ position_value (position_of encoding text offset) → position_of encoding text (offset_of encoding text p) ≡ p
+position_is encoding text value offset p is_text boundary outside is there =
+    let both : position_value p ≡ position_value (position_of encoding text offset) = sym is ∙ there in
+    let character : p.character ≡ (position_of encoding text offset).character = cc in
+    let line : p.line ≡ (position_of encoding text offset).line = cc in
+    let same : p ≡ position_of encoding text offset = λ i. record { line = line i; character = character i } in
+    ap (λ q. position_of encoding text (offset_of encoding text q)) same ∙ ap (position_of encoding text) (comes_back encoding text offset is_text boundary outside) ∙ sym same
+
+pub not_other_place : (a b : Position) → true ≡ not (eqb a.line b.line && eqb a.character b.character) → a ≡ b → ⊥
+not_other_place a b differ same =
+    let here : true ≡ not (eqb b.line b.line && eqb b.character b.character) = subst (λ (p : Position). true ≡ not (eqb p.line b.line && eqb p.character b.character)) same differ in
+    let line = eq-eqb b.line b.line refl in
+    let character = eq-eqb b.character b.character refl in
+    true≢false (here ∙ (λ i. not (line i && character i)))
+
+-- ---- what was not read
+
+pub not_a_number : (d : Data) (n : ℕ) → d ≡ number_value n → None ≡ option_and_then as_u64 (as_number d) → ⊥
+not_a_number d n is none = let clash : None ≡ Some n = none ∙ ap (λ e. option_and_then as_u64 (as_number e)) is in absurd cc
+
+pub unread_before : {T P Q : Type 0} (r : Result T Unread) → (Q → P) → IsUnread r P → IsUnread r Q
+unread_before (Ok x) f h = tt
+unread_before (Err e) f h = λ other q. h other (f q)
+
+items_same : (xs ys : List Data) → items_of xs ≡ items_of ys → xs ≡ ys
+items_same [] [] e = refl
+items_same [] (y ∷ ys) e = let clash : no_items ≡ item y (items_of ys) = e in absurd cc
+items_same (x ∷ xs) [] e = let clash : item x (items_of xs) ≡ no_items = e in absurd cc
+items_same (x ∷ xs) (y ∷ ys) e =
+    let whole : item x (items_of xs) ≡ item y (items_of ys) = e in
+    let first : x ≡ y = cc in
+    let rest : items_of xs ≡ items_of ys = cc in
+    let others = items_same xs ys rest in
+    λ i. first i ∷ others i
+
+pub listed : (value : Data) (values : List Value) (xs : List Data) → Some (items_view values) ≡ as_array value → value ≡ array (items_of xs) → map view values ≡ xs
+listed value values xs found is =
+    let both : Some (items_of (map view values)) ≡ Some (items_of xs) = found ∙ ap as_array is in
+    let same : items_of (map view values) ≡ items_of xs = cc in
+    items_same (map view values) xs same
+
+pub listed_there : (value : Data) (values there : List Value) (xs : List Data) → Some (items_view values) ≡ as_array value → there ≡ values → value ≡ array (items_of xs) → map view there ≡ xs
+listed_there value values there xs found same is = ap (map view) same ∙ listed value values xs found is
+
+pub two_views : {d w x y z : Data} {k l : List ℕ} → d ≡ object (member k w (member l x no_members)) → d ≡ object (member k y (member l z no_members)) → (w ≡ y) × (x ≡ z)
+two_views {w = w} {x = x} {y = y} {z = z} {k = k} {l = l} e f =
+    let both : object (member k w (member l x no_members)) ≡ object (member k y (member l z no_members)) = sym e ∙ f in
+    let first : w ≡ y = cc in
+    let second : x ≡ z = cc in
+    (first, second)

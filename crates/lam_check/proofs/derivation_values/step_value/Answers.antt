@@ -1,4 +1,0 @@
-use Rattle.lam_check.proofs.derivation_values.step_value.Goals as goal
-
-pub returns-in-Sub : goal.returns-in-Sub
-returns-in-Sub c = rw c.in-Sub.is (rw c.deref-in-Sub.ensures.value at (c.subtyping_value.ensures c.args.doc.now.encoding c.args.doc.now.text))

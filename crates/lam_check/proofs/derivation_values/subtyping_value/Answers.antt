@@ -1,5 +1,0 @@
-use Rattle.lam_check.proofs.derivation_values.subtyping_value.Goals as goal
-
-pub returns : goal.returns
-returns c = λ encoding text.
-    c.finish.ensures _ (c.value-3.ensures _ _ (rw c.name.ensures at (c.text.ensures _ (c.value-2.ensures _ _ (c.value.ensures _ _ c.new.ensures c.premises_value.ensures) c.text_value.ensures))) c.text_value-2.ensures)

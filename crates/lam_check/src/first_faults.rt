@@ -1,0 +1,353 @@
+//! What is wrong first with a derivation that is not of a term of the text. Nothing rests on it but what is said.
+use crate::commands::commands_of;
+use crate::verify::{ends_at, entries_of, has_names, is_same};
+use lam_query::answers::{Derivation, Step};
+use lam_query::{proof_of_steps, steps_of_proof};
+use lam_rules::{
+    Core, Dialect, SubProof, Ty, TypeProof, TypeRule, check_sub, check_type, copy_of, wf,
+};
+use lam_scope::{Place, Resolved, ScopeFault, Scopes, bind, resolve};
+use std::alloc::{AllocError, Global};
+use thiserror::Error;
+
+/// What is wrong first.
+#[derive(Clone, Copy, Debug, PartialEq, Eq, Error)]
+pub enum FirstFault {
+    #[error("it has no step")]
+    NoStep,
+    #[error("its steps follow from each other on more than 16,384 levels")]
+    TooDeep,
+    #[error("the steps that step {0} follows from are not the last ones before it")]
+    Premises(usize),
+    #[error("step {0} is the last one, and no typing that follows from all others")]
+    Loose(usize),
+    #[error("the text has a type of more than 4,096 nodes")]
+    TooLarge,
+    #[error("step {0} is about no term of the text")]
+    NoTerm(usize),
+    #[error("the context has other names than those that the term sees")]
+    Names,
+    #[error("entry {0} of the context has a label twice in a record type")]
+    Entry(usize),
+    #[error("step {0} does not follow by its rule from its premises")]
+    Step(usize),
+    #[error("step {0} has the range of another term")]
+    Range(usize),
+}
+
+/// How many levels of steps a derivation may have, so that what goes down them has room. No derivation that is made has more:
+/// its term has at most 2,000 tokens, and its types at most 4,096 nodes.
+const LEVELS: usize = 16_384;
+
+/// A place in a text, and what is known of the text.
+#[derive(Clone, Copy)]
+struct Ground<'a> {
+    scopes: &'a Scopes,
+    resolved: &'a Resolved,
+    place: Place,
+}
+
+/// Whether steps follow from steps on more levels than there is room for.
+pub fn is_too_deep(alloc: Global, steps: &[Step]) -> Result<bool, AllocError> {
+    let mut levels: Vec<usize> = Vec::with_capacity(alloc, steps.len())?;
+    for i in 0..steps.len() {
+        let level = level_over(&levels, premises_of(&steps[i]));
+        if level > LEVELS {
+            return Ok(true);
+        }
+        levels.push(level)?;
+    }
+    Ok(false)
+}
+
+/// The level over those of the premises.
+fn level_over(levels: &[usize], premises: &[usize]) -> usize {
+    let mut highest = 0;
+    for premise in premises {
+        if let Some(level) = levels.get(*premise) {
+            highest = highest.max(*level);
+        }
+    }
+    highest.saturating_add(1)
+}
+
+/// What is wrong first with a derivation that is not of a term of the text.
+pub fn first_fault(
+    alloc: Global,
+    text: &str,
+    derivation: &Derivation,
+    dialect: Dialect,
+) -> Result<FirstFault, AllocError> {
+    if let Some(fault) = misplaced(alloc, &derivation.steps)? {
+        return Ok(fault);
+    }
+    let last = derivation.steps.len().saturating_sub(1);
+    let Some(proof) = proof_of_steps(alloc, &derivation.steps)? else {
+        return Ok(FirstFault::Loose(last));
+    };
+    let commands = commands_of(alloc, text)?;
+    let scopes = bind(alloc, &commands)?;
+    let resolved = match resolve(alloc, &commands, &scopes) {
+        Ok(resolved) => resolved,
+        Err(ScopeFault::TooLarge(_)) => return Ok(FirstFault::TooLarge),
+        Err(ScopeFault::Memory) => return Err(AllocError),
+    };
+    let Some(place) = place_of(&scopes, &resolved, &derivation.steps) else {
+        return Ok(FirstFault::NoTerm(last));
+    };
+    let ground = Ground {
+        scopes: &scopes,
+        resolved: &resolved,
+        place,
+    };
+    fault_at(alloc, &ground, derivation, &proof, dialect)
+}
+
+/// The first step that does not have proofs right before it as its premises, one behind the other; or that the last step does
+/// not follow from all others.
+fn misplaced(alloc: Global, steps: &[Step]) -> Result<Option<FirstFault>, AllocError> {
+    if steps.is_empty() {
+        return Ok(Some(FirstFault::NoStep));
+    }
+    // Where the proof of each step begins.
+    let mut starts: Vec<usize> = Vec::with_capacity(alloc, steps.len())?;
+    for i in 0..steps.len() {
+        let Some(start) = start_of(&starts, i, premises_of(&steps[i])) else {
+            return Ok(Some(FirstFault::Premises(i)));
+        };
+        starts.push(start)?;
+    }
+    match starts.last() {
+        Some(0) => Ok(None),
+        _ => Ok(Some(FirstFault::Loose(steps.len() - 1))),
+    }
+}
+
+/// Where the proof of the step of this number begins, if its premises stand right before it.
+fn start_of(starts: &[usize], number: usize, premises: &[usize]) -> Option<usize> {
+    let mut start = number;
+    for premise in premises.iter().rev() {
+        if start.checked_sub(1)? != *premise {
+            return None;
+        }
+        start = *starts.get(*premise)?;
+    }
+    Some(start)
+}
+
+fn premises_of(step: &Step) -> &[usize] {
+    match step {
+        Step::Typing { premises, .. } => premises,
+        Step::Sub { premises, .. } => premises,
+    }
+}
+
+/// The first place that has the range of the last step.
+fn place_of(scopes: &Scopes, resolved: &Resolved, steps: &[Step]) -> Option<Place> {
+    for i in 0..resolved.place_count() {
+        if ends_at(scopes, Place(i), steps) {
+            return Some(Place(i));
+        }
+    }
+    None
+}
+
+/// What is wrong first with a derivation that is said to be of the term at a place.
+fn fault_at(
+    alloc: Global,
+    ground: &Ground<'_>,
+    derivation: &Derivation,
+    proof: &TypeProof,
+    dialect: Dialect,
+) -> Result<FirstFault, AllocError> {
+    let last = derivation.steps.len().saturating_sub(1);
+    if !has_names(alloc, ground.scopes, ground.place, &derivation.context)? {
+        return Ok(FirstFault::Names);
+    }
+    let context = entries_of(alloc, &derivation.context)?;
+    if let Some(number) = ill_formed(&context) {
+        return Ok(FirstFault::Entry(number));
+    }
+    if ground.place.0 >= ground.resolved.place_count() {
+        return Ok(FirstFault::NoTerm(last));
+    }
+    let term = ground.resolved.core_at(ground.place);
+    if !check_type(&context, term, proof, dialect) {
+        let number = step_at_fault(alloc, context, term, proof, &derivation.steps, dialect)?;
+        return Ok(FirstFault::Step(number));
+    }
+    let steps = steps_of_proof(alloc, ground.scopes, ground.place, proof)?;
+    Ok(FirstFault::Range(first_other(&derivation.steps, &steps)))
+}
+
+/// The first entry whose type has a label twice in a record type.
+fn ill_formed(context: &[Option<Ty>]) -> Option<usize> {
+    for i in 0..context.len() {
+        if let Some(ty) = &context[i] {
+            if !wf(ty) {
+                return Some(i);
+            }
+        }
+    }
+    None
+}
+
+/// The number of the first step that is another one in the second list.
+fn first_other(steps: &[Step], others: &[Step]) -> usize {
+    for i in 0..steps.len().min(others.len()) {
+        if !is_same(&steps[i], &others[i]) {
+            return i;
+        }
+    }
+    0
+}
+
+/// The number of the first step that does not follow, of a proof that is none for the term. It goes down to the first premise
+/// that is no proof, as long as there is one.
+fn step_at_fault(
+    alloc: Global,
+    mut context: Vec<Option<Ty>>,
+    mut term: &Core,
+    mut proof: &TypeProof,
+    steps: &[Step],
+    dialect: Dialect,
+) -> Result<usize, AllocError> {
+    let mut number = steps.len().saturating_sub(1);
+    for _ in 0..steps.len() {
+        let Some(k) = premise_at_fault(alloc, &mut context, term, proof, dialect)? else {
+            return Ok(sub_step_at_fault(proof, steps, number, dialect));
+        };
+        let (Some(part), Some(premise)) = (part_of(term, proof.rule, k), proof.typing.get(k)) else {
+            return Ok(number);
+        };
+        if let Some(entry) = entry_for(alloc, term, proof, k)? {
+            context.push(entry)?;
+        }
+        term = part;
+        proof = premise;
+        number = premise_number(steps, number, k);
+    }
+    Ok(number)
+}
+
+/// Which of the premises of typing is the first that is no proof. The context is the same at the end.
+fn premise_at_fault(
+    alloc: Global,
+    context: &mut Vec<Option<Ty>>,
+    term: &Core,
+    proof: &TypeProof,
+    dialect: Dialect,
+) -> Result<Option<usize>, AllocError> {
+    for k in 0..proof.typing.len() {
+        let Some(part) = part_of(term, proof.rule, k) else {
+            return Ok(None);
+        };
+        let under = match entry_for(alloc, term, proof, k)? {
+            Some(entry) => {
+                context.push(entry)?;
+                true
+            }
+            None => false,
+        };
+        let follows = check_type(context, part, &proof.typing[k], dialect);
+        if under {
+            let _ = context.pop();
+        }
+        if !follows {
+            return Ok(Some(k));
+        }
+    }
+    Ok(None)
+}
+
+/// The term that a premise is about, if the term has so many parts.
+fn part_of(term: &Core, rule: TypeRule, k: usize) -> Option<&Core> {
+    if rule == TypeRule::Sub {
+        return if k == 0 { Some(term) } else { None };
+    }
+    match (term, k) {
+        (Core::If(parts), 0) => Some(&parts.0),
+        (Core::If(parts), 1) => Some(&parts.1),
+        (Core::If(parts), 2) => Some(&parts.2),
+        (Core::Succ(part), 0) => Some(part),
+        (Core::Pred(part), 0) => Some(part),
+        (Core::IsZero(part), 0) => Some(part),
+        (Core::Abs(parts), 0) => Some(&parts.1),
+        (Core::App(parts), 0) => Some(&parts.0),
+        (Core::App(parts), 1) => Some(&parts.1),
+        (Core::Ascribe(parts), 0) => Some(&parts.0),
+        (Core::Let(parts), 0) => Some(&parts.0),
+        (Core::Let(parts), 1) => Some(&parts.1),
+        (Core::Record(fields), k) => Some(&fields.get(k)?.1),
+        (Core::Proj(parts), 0) => Some(&parts.0),
+        (Core::Fix(part), 0) => Some(part),
+        _ => None,
+    }
+}
+
+/// The entry of the binder that a premise stands under, if there is one between it and the term.
+fn entry_for(
+    alloc: Global,
+    term: &Core,
+    proof: &TypeProof,
+    k: usize,
+) -> Result<Option<Option<Ty>>, AllocError> {
+    if proof.rule == TypeRule::Sub {
+        return Ok(None);
+    }
+    match (term, k) {
+        (Core::Abs(parts), 0) => match &parts.0 {
+            Some(ty) => Ok(Some(Some(copy_of(alloc, ty)?))),
+            None => Ok(Some(None)),
+        },
+        (Core::Let(_), 1) => match proof.typing.first() {
+            Some(bound) => Ok(Some(Some(copy_of(alloc, &bound.ty)?))),
+            None => Ok(None),
+        },
+        _ => Ok(None),
+    }
+}
+
+/// The number of a premise of the step of a number.
+fn premise_number(steps: &[Step], number: usize, k: usize) -> usize {
+    match steps.get(number) {
+        Some(step) => match premises_of(step).get(k) {
+            Some(premise) => *premise,
+            None => number,
+        },
+        None => number,
+    }
+}
+
+/// The number of the first step of subtyping that does not follow, or else that of the step of typing itself.
+fn sub_step_at_fault(proof: &TypeProof, steps: &[Step], number: usize, dialect: Dialect) -> usize {
+    let Some(side) = &proof.sub else {
+        return number;
+    };
+    if check_sub(side, dialect) {
+        return number;
+    }
+    let mut number = premise_number(steps, number, proof.typing.len());
+    let mut proof: &SubProof = side;
+    for _ in 0..steps.len() {
+        let Some(k) = sub_premise_at_fault(proof, dialect) else {
+            return number;
+        };
+        let Some(premise) = proof.premises.get(k) else {
+            return number;
+        };
+        proof = premise;
+        number = premise_number(steps, number, k);
+    }
+    number
+}
+
+/// Which of the premises of subtyping is the first that is no proof.
+fn sub_premise_at_fault(proof: &SubProof, dialect: Dialect) -> Option<usize> {
+    for k in 0..proof.premises.len() {
+        if !check_sub(&proof.premises[k], dialect) {
+            return Some(k);
+        }
+    }
+    None
+}

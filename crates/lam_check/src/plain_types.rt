@@ -1,0 +1,176 @@
+//! Types, read back from their plain texts.
+ghost use Rattle.std.specs.Prelude.{◌≡◌, ◌≢◌, ◌<◌, ◌≤◌, ◌++◌, All, length, codes, IfOk, IfSome, IfNone, IsSomeAnd};
+ghost use Rattle.std.specs.Str.{byte};
+ghost use Rattle.lam_rules.specs.ReadableLabels.{HasReadableLabels, HaveReadableLabels};
+ghost use Rattle.lam_rules.specs.TypeViews.{typ_of};
+ghost use Rattle.lam_rules.specs.Types.{Typ, Fields, bool, nat, unit, top, record_of, nodes, nodes_in};
+ghost use Rattle.lam_rules.specs.Texts.{Text, left_of_arrow, plain_text, plain_fields};
+ghost use Rattle.lam_check.specs.inner.PlainTypes.{NoArrow, IsTypeRead, levels_on_left};
+
+use lam_rules::{Ty, make_arrow, make_record, plain_text_of};
+use std::alloc::{AllocError, Global};
+
+/// How deep a type may nest that is read: no type of a document nests deeper, since none has more nodes.
+const LEVELS: usize = 4_096;
+
+/// The type that has this text, with the fields of each record in their own order. There is none where its labels could be
+/// read in two ways, or it had more than 4,096 nodes.
+pub fn type_of_text(alloc: Global, text: &str) -> Result<Option<Ty>, AllocError>
+    ensures some { IfOk result (λ found. IfSome found (λ ty. plain_text (typ_of ty) ≡ text.now)) }
+    ensures none { IfOk result (λ found. IfNone found ((t : Typ) → HasReadableLabels t → nodes t ≤ 4096 → text.now ≡ plain_text t → ⊥)) }
+{
+    let Some((ty, _)) = type_at(alloc, text, LEVELS)? else {
+        return Ok(None);
+    };
+    let again = plain_text_of(alloc, &ty)?;
+    if again.as_str() != text {
+        return Ok(None);
+    }
+    Ok(Some(ty))
+}
+
+/// The type at the start of a text, and what is left of the text.
+#[cycle(types)]
+fn type_at<'t>(
+    alloc: Global,
+    text: &'t str,
+    levels: usize,
+) -> Result<Option<(Ty, &'t str)>, AllocError>
+    ensures shorter { IfOk result (λ found. IfSome found (λ f. length f.1.now ≤ length text.now)) }
+    ensures read { IfOk result (λ found. (t : Typ) (rest : Text) → HasReadableLabels t → nodes t ≤ levels → NoArrow rest
+        → text.now ≡ plain_text t ++ rest → IsTypeRead found t rest) }
+{
+    if levels == 0 {
+        return Ok(None);
+    }
+    let Some((parameter, rest)) = operand_at(alloc, text, levels)? else {
+        return Ok(None);
+    };
+    let Some(further) = behind(rest, "->") else {
+        return Ok(Some((parameter, rest)));
+    };
+    let Some((outcome, rest)) = type_at(alloc, further, levels - 1)? else {
+        return Ok(None);
+    };
+    Ok(Some((make_arrow(alloc, parameter, outcome)?, rest)))
+}
+
+/// The type at the start of a text, up to an arrow that is not in parentheses.
+#[cycle(types)]
+fn operand_at<'t>(
+    alloc: Global,
+    text: &'t str,
+    levels: usize,
+) -> Result<Option<(Ty, &'t str)>, AllocError>
+    requires { 0 < levels }
+    ensures shorter { IfOk result (λ found. IfSome found (λ f. length f.1.now ≤ length text.now)) }
+    ensures read { IfOk result (λ found. (t : Typ) (rest : Text) → HasReadableLabels t → levels_on_left t ≤ levels
+        → text.now ≡ left_of_arrow t (plain_text t) ++ rest → IsTypeRead found t rest) }
+{
+    if let Some(rest) = behind(text, "(") {
+        return type_in_parentheses(alloc, rest, levels - 1);
+    }
+    if let Some(rest) = behind(text, "{") {
+        return record_at(alloc, rest, levels - 1);
+    }
+    Ok(word_at(text))
+}
+
+fn word_at<'t>(text: &'t str) -> Option<(Ty, &'t str)>
+    ensures shorter { IfSome result (λ f. length f.1.now ≤ length text.now) }
+    ensures bool { (rest : Text) → text.now ≡ codes "Bool" ++ rest → IsTypeRead result bool rest }
+    ensures nat { (rest : Text) → text.now ≡ codes "Nat" ++ rest → IsTypeRead result nat rest }
+    ensures unit { (rest : Text) → text.now ≡ codes "Unit" ++ rest → IsTypeRead result unit rest }
+    ensures top { (rest : Text) → text.now ≡ codes "Top" ++ rest → IsTypeRead result top rest }
+{
+    if let Some(rest) = behind(text, "Bool") {
+        return Some((Ty::Bool, rest));
+    }
+    if let Some(rest) = behind(text, "Nat") {
+        return Some((Ty::Nat, rest));
+    }
+    if let Some(rest) = behind(text, "Unit") {
+        return Some((Ty::Unit, rest));
+    }
+    match behind(text, "Top") {
+        Some(rest) => Some((Ty::Top, rest)),
+        None => None,
+    }
+}
+
+/// The type at the start of a text that has a parenthesis behind it.
+#[cycle(types)]
+fn type_in_parentheses<'t>(
+    alloc: Global,
+    text: &'t str,
+    levels: usize,
+) -> Result<Option<(Ty, &'t str)>, AllocError>
+    ensures shorter { IfOk result (λ found. IfSome found (λ f. length f.1.now ≤ length text.now)) }
+    ensures read { IfOk result (λ found. (t : Typ) (rest : Text) → HasReadableLabels t → nodes t ≤ levels
+        → text.now ≡ plain_text t ++ (codes ")" ++ rest) → IsTypeRead found t rest) }
+{
+    let Some((ty, rest)) = type_at(alloc, text, levels)? else {
+        return Ok(None);
+    };
+    match behind(rest, ")") {
+        Some(rest) => Ok(Some((ty, rest))),
+        None => Ok(None),
+    }
+}
+
+/// The record type behind whose first brace a text begins.
+#[cycle(types)]
+fn record_at<'t>(
+    alloc: Global,
+    text: &'t str,
+    levels: usize,
+) -> Result<Option<(Ty, &'t str)>, AllocError>
+    ensures shorter { IfOk result (λ found. IfSome found (λ f. length f.1.now ≤ length text.now)) }
+    ensures read { IfOk result (λ found. (fs : Fields) (rest : Text) → HaveReadableLabels fs → nodes_in fs ≤ levels
+        → text.now ≡ plain_fields fs ++ (codes "}" ++ rest) → IsTypeRead found (record_of fs) rest) }
+{
+    let mut fields = Vec::new(alloc);
+    let mut rest = text;
+    loop {
+        if let Some(left) = behind(rest, "}") {
+            return Ok(Some((make_record(fields), left)));
+        }
+        let Some((label, further)) = around_colon(rest) else {
+            return Ok(None);
+        };
+        let Some((ty, further)) = type_at(alloc, further, levels)? else {
+            return Ok(None);
+        };
+        fields.push((String::from_str(alloc, label)?, ty))?;
+        rest = behind_comma(further);
+    }
+}
+
+/// What stands in front of the first colon, and behind it.
+fn around_colon<'t>(text: &'t str) -> Option<(&'t str, &'t str)>
+    ensures shorter { IfSome result (λ x. length x.1.now < length text.now) }
+    ensures around { (label rest : Text) → All (λ b. b ≢ byte ":") label → text.now ≡ label ++ (codes ":" ++ rest)
+        → IsSomeAnd result (λ x. (x.0.now ≡ label) × (x.1.now ≡ rest)) }
+{
+    text.split_once(':')
+}
+
+/// What is behind a comma and a blank, if these come first.
+fn behind_comma<'t>(text: &'t str) -> &'t str
+    ensures shorter { length result.now ≤ length text.now }
+    ensures comma { (rest : Text) → text.now ≡ codes ", " ++ rest → result.now ≡ rest }
+    ensures none { ((rest : Text) → text.now ≢ codes ", " ++ rest) → result.now ≡ text.now }
+{
+    match behind(text, ", ") {
+        Some(rest) => rest,
+        None => text,
+    }
+}
+
+/// What is behind the front of a text, if it has this front.
+fn behind<'t>(text: &'t str, front: &str) -> Option<&'t str>
+    ensures some { IfSome result (λ rest. text.now ≡ front.now ++ rest.now) }
+    ensures none { IfNone result ((rest : Text) → text.now ≢ front.now ++ rest) }
+{
+    text.strip_prefix(front)
+}

@@ -1,0 +1,387 @@
+//! Derivations, read back from values of JSON.
+ghost use Rattle.std.specs.Prelude.{◌≡◌, ℕ, List, Option, codes, map, All, IfOk, IfSome, IfNone};
+ghost use Rattle.std.specs.Str.{IsCharBoundary, IsUtf8};
+ghost use Rattle.serde_json.specs.Data.{string, object, member, no_members};
+ghost use Rattle.serde_json.specs.View.{view};
+ghost use Rattle.lam_rules.specs.Types.{Typ};
+ghost use Rattle.lam_rules.specs.TypeViews.{typ_of};
+ghost use Rattle.lam_rules.specs.TermViews.{written_of};
+ghost use Rattle.lam_rules.specs.Texts.{plain_text};
+ghost use Rattle.lam_rules.specs.Rules.{name_of_sub_rule, name_of_type_rule};
+ghost use Rattle.lam_text.specs.Positions.{position_of, IsInsideCrLf};
+ghost use Rattle.lam_text.specs.declared.units.Encoding.{Encoding};
+ghost use Rattle.lam_query.specs.Views.{derivation_of, entry_of, step_of, StepStandsIn};
+ghost use Rattle.lam_query.specs.Within.{IsSpanOfText};
+ghost use Rattle.lam_query.specs.Derivations.{ContextEntry, Derivation as DerivationTree};
+ghost use Rattle.lam_query.specs.Steps.{Step as StepTree, typing, subtyping};
+ghost use Rattle.lam_session.specs.Derivations.{derivation_value, entry_value, premises_value, conclusion_value, step_value, type_value};
+ghost use Rattle.lam_session.specs.Ranges.{position_value, range_value};
+ghost use Rattle.lam_check.specs.Readable.{IsReadable, AreReadableEntries, AreReadableSteps, IsReadableConclusion, IsReadableEntry, IsReadableSpan, IsReadableType};
+ghost use Rattle.lam_check.specs.inner.Read.{IsUnread, number_value, typing_members, subtyping_members};
+
+use crate::plain_types::type_of_text;
+use crate::read_values::{four_members, two_members};
+use lam_query::answers::{Derivation, Step};
+use lam_rules::{SubRule, Ty, TypeRule};
+use lam_text::{Doc, Position};
+use lam_token::Span;
+use serde_json::Value;
+use std::alloc::{AllocError, Global};
+use thiserror::Error;
+
+/// Why a value is no derivation of a text.
+#[derive(Clone, Copy, Debug, PartialEq, Eq, Error)]
+pub enum Unread {
+    #[error("it is no derivation: an object of `context` and `steps`, both lists")]
+    Derivation,
+    #[error("entry {0} of the context is no object of `name` and `type`")]
+    Entry(usize),
+    #[error("entry {0} of the context has no type of the language")]
+    EntryType(usize),
+    #[error("step {0} has no object of `from`, `range`, `rule` and `type`, or of `from`, `lower`, `rule` and `upper`")]
+    Step(usize),
+    #[error("step {0} names a rule that there is not")]
+    Rule(usize),
+    #[error("step {0} has a type that is none of the language")]
+    Type(usize),
+    #[error("step {0} has a range that is not in the text")]
+    Range(usize),
+    #[error("step {0} follows `from` no list of numbers of steps")]
+    From(usize),
+    #[error("out of memory")]
+    Memory,
+}
+
+/// The derivation of a text that a value is.
+pub fn derivation_in(alloc: Global, doc: &Doc, value: &Value) -> Result<Derivation, Unread>
+    requires { IsUtf8 doc.now.text }
+    ensures read { IfOk result (λ d. view value.now ≡ derivation_value doc.now.encoding doc.now.text (Some (derivation_of d))) }
+    ensures unread { IsUnread result ((d : DerivationTree) × IsReadable doc.now.text d × (view value.now ≡ derivation_value doc.now.encoding doc.now.text (Some d))) }
+    ensures whole_characters { IfOk result (λ d. All (StepStandsIn doc.now.text) d.steps.items) }
+{
+    let Some((context, steps)) = two_members(value, "context", "steps") else {
+        return Err(Unread::Derivation);
+    };
+    let Some(context) = context.as_array() else {
+        return Err(Unread::Derivation);
+    };
+    let Some(steps) = steps.as_array() else {
+        return Err(Unread::Derivation);
+    };
+    let context = match context_in(alloc, context) {
+        Ok(context) => context,
+        Err(fault) => return Err(fault),
+    };
+    match steps_in(alloc, doc, steps) {
+        Ok(steps) => Ok(Derivation { context, steps }),
+        Err(fault) => Err(fault),
+    }
+}
+
+fn context_in(alloc: Global, values: &[Value]) -> Result<Vec<(String, Option<Ty>)>, Unread>
+    ensures read { IfOk result (λ context. map view values.now ≡ map entry_value (map entry_of context.items)) }
+    ensures unread { IsUnread result ((context : List ContextEntry) × AreReadableEntries context × (map view values.now ≡ map entry_value context)) }
+{
+    let mut context = Vec::new(alloc);
+    for i in 0..values.len() {
+        let value = &values[i];
+        let entry = match entry_in(alloc, i, value) {
+            Ok(entry) => entry,
+            Err(fault) => return Err(fault),
+        };
+        let Ok(()) = context.push(entry) else {
+            return Err(Unread::Memory);
+        };
+    }
+    Ok(context)
+}
+
+/// The entry of this number of a context.
+fn entry_in(alloc: Global, number: usize, value: &Value) -> Result<(String, Option<Ty>), Unread>
+    ensures read { IfOk result (λ entry. view value.now ≡ entry_value (entry_of entry)) }
+    ensures unread { IsUnread result ((entry : ContextEntry) × IsReadableEntry entry.type × (view value.now ≡ entry_value entry)) }
+{
+    let Some((name, ty)) = two_members(value, "name", "type") else {
+        return Err(Unread::Entry(number));
+    };
+    let Some(name) = name.as_str() else {
+        return Err(Unread::Entry(number));
+    };
+    let ty = entry_type_in(alloc, number, ty)?;
+    match String::from_str(alloc, name) {
+        Ok(name) => Ok((name, ty)),
+        Err(_) => Err(Unread::Memory),
+    }
+}
+
+/// The type of the entry of this number, or that it has none.
+fn entry_type_in(alloc: Global, number: usize, value: &Value) -> Result<Option<Ty>, Unread>
+    ensures read { IfOk result (λ ty. view value.now ≡ type_value (written_of ty)) }
+    ensures unread { IsUnread result ((type : Option Typ) × IsReadableEntry type × (view value.now ≡ type_value type)) }
+{
+    if value.is_null() {
+        return Ok(None);
+    }
+    match type_in(alloc, value) {
+        Ok(Some(ty)) => Ok(Some(ty)),
+        Ok(None) => Err(Unread::EntryType(number)),
+        Err(_) => Err(Unread::Memory),
+    }
+}
+
+/// The type whose text a value is.
+fn type_in(alloc: Global, value: &Value) -> Result<Option<Ty>, AllocError>
+    ensures some { IfOk result (λ found. IfSome found (λ ty. view value.now ≡ string (plain_text (typ_of ty)))) }
+    ensures none { IfOk result (λ found. IfNone found ((t : Typ) → IsReadableType t → view value.now ≡ string (plain_text t) → ⊥)) }
+{
+    match value.as_str() {
+        Some(text) => type_of_text(alloc, text),
+        None => Ok(None),
+    }
+}
+
+fn steps_in(alloc: Global, doc: &Doc, values: &[Value]) -> Result<Vec<Step>, Unread>
+    requires { IsUtf8 doc.now.text }
+    ensures read { IfOk result (λ steps. map view values.now ≡ map (step_value doc.now.encoding doc.now.text) (map step_of steps.items)) }
+    ensures unread { IsUnread result ((steps : List StepTree) × AreReadableSteps doc.now.text steps × (map view values.now ≡ map (step_value doc.now.encoding doc.now.text) steps)) }
+    ensures whole_characters { IfOk result (λ steps. All (StepStandsIn doc.now.text) steps.items) }
+{
+    let mut steps = Vec::new(alloc);
+    for i in 0..values.len() {
+        let value = &values[i];
+        let step = match step_in(alloc, doc, i, value) {
+            Ok(step) => step,
+            Err(fault) => return Err(fault),
+        };
+        let Ok(()) = steps.push(step) else {
+            return Err(Unread::Memory);
+        };
+    }
+    Ok(steps)
+}
+
+/// The step of this number.
+fn step_in(alloc: Global, doc: &Doc, number: usize, value: &Value) -> Result<Step, Unread>
+    requires { IsUtf8 doc.now.text }
+    ensures read { IfOk result (λ step. view value.now ≡ step_value doc.now.encoding doc.now.text (step_of step)) }
+    ensures unread { IsUnread result ((step : StepTree) × IsReadableConclusion doc.now.text step.conclusion × (view value.now ≡ step_value doc.now.encoding doc.now.text step)) }
+    ensures whole_characters { IfOk result (λ step. StepStandsIn doc.now.text step) }
+{
+    if let Some((from, range, rule, ty)) = four_members(value, "from", "range", "rule", "type") {
+        return typing_in(alloc, doc, number, from, range, rule, ty);
+    }
+    let Some((from, lower, rule, upper)) = four_members(value, "from", "lower", "rule", "upper")
+    else {
+        return Err(Unread::Step(number));
+    };
+    subtyping_in(alloc, number, from, lower, rule, upper)
+}
+
+/// The step of typing that has these members.
+fn typing_in(
+    alloc: Global,
+    doc: &Doc,
+    number: usize,
+    from: &Value,
+    range: &Value,
+    rule: &Value,
+    ty: &Value,
+) -> Result<Step, Unread>
+    requires { IsUtf8 doc.now.text }
+    ensures read { IfOk result (λ step. typing_members (view from.now) (view range.now) (view rule.now) (view ty.now) ≡ step_value doc.now.encoding doc.now.text (step_of step)) }
+    ensures unread { IsUnread result ((step : StepTree) × IsReadableConclusion doc.now.text step.conclusion
+        × (typing_members (view from.now) (view range.now) (view rule.now) (view ty.now) ≡ step_value doc.now.encoding doc.now.text step)) }
+    ensures whole_characters { IfOk result (λ step. StepStandsIn doc.now.text step) }
+{
+    let Some(rule) = type_rule_in(rule) else {
+        return Err(Unread::Rule(number));
+    };
+    let premises = premises_in(alloc, number, from)?;
+    let Some(span) = span_in(doc, range) else {
+        return Err(Unread::Range(number));
+    };
+    let ty = step_type_in(alloc, number, ty)?;
+    Ok(Step::Typing {
+        rule,
+        span,
+        ty,
+        premises,
+    })
+}
+
+/// The step of subtyping that has these members.
+fn subtyping_in(
+    alloc: Global,
+    number: usize,
+    from: &Value,
+    lower: &Value,
+    rule: &Value,
+    upper: &Value,
+) -> Result<Step, Unread>
+    ensures read { IfOk result (λ step. (encoding : Encoding) (text : List ℕ)
+        → subtyping_members (view from.now) (view lower.now) (view rule.now) (view upper.now) ≡ step_value encoding text (step_of step)) }
+    ensures unread { (encoding : Encoding) (text : List ℕ) → IsUnread result ((step : StepTree) × IsReadableConclusion text step.conclusion
+        × (subtyping_members (view from.now) (view lower.now) (view rule.now) (view upper.now) ≡ step_value encoding text step)) }
+    ensures whole_characters { IfOk result (λ step. (text : List ℕ) → StepStandsIn text step) }
+{
+    let Some(rule) = sub_rule_in(rule) else {
+        return Err(Unread::Rule(number));
+    };
+    let premises = premises_in(alloc, number, from)?;
+    let lower = step_type_in(alloc, number, lower)?;
+    let upper = step_type_in(alloc, number, upper)?;
+    Ok(Step::Sub {
+        rule,
+        lower,
+        upper,
+        premises,
+    })
+}
+
+/// The type that a value is in the step of this number.
+fn step_type_in(alloc: Global, number: usize, value: &Value) -> Result<Ty, Unread>
+    ensures read { IfOk result (λ ty. view value.now ≡ string (plain_text (typ_of ty))) }
+    ensures unread { IsUnread result ((t : Typ) × IsReadableType t × (view value.now ≡ string (plain_text t))) }
+{
+    match type_in(alloc, value) {
+        Ok(Some(ty)) => Ok(ty),
+        Ok(None) => Err(Unread::Type(number)),
+        Err(_) => Err(Unread::Memory),
+    }
+}
+
+/// The numbers of the steps that the step of this number follows from.
+fn premises_in(alloc: Global, number: usize, value: &Value) -> Result<Vec<usize>, Unread>
+    ensures read { IfOk result (λ numbers. view value.now ≡ premises_value numbers.items) }
+    ensures unread { IsUnread result ((numbers : List ℕ) × (view value.now ≡ premises_value numbers)) }
+{
+    match value.as_array() {
+        Some(values) => numbers_in(alloc, number, values),
+        None => Err(Unread::From(number)),
+    }
+}
+
+fn numbers_in(alloc: Global, number: usize, values: &[Value]) -> Result<Vec<usize>, Unread>
+    ensures read { IfOk result (λ numbers. map view values.now ≡ map number_value numbers.items) }
+    ensures unread { IsUnread result ((numbers : List ℕ) × (map view values.now ≡ map number_value numbers)) }
+{
+    let mut numbers = Vec::new(alloc);
+    for i in 0..values.len() {
+        let value = &values[i];
+        let Some(premise) = value.as_u64() else {
+            return Err(Unread::From(number));
+        };
+        let Ok(()) = numbers.push(premise as usize) else {
+            return Err(Unread::Memory);
+        };
+    }
+    Ok(numbers)
+}
+
+/// The span of the text whose range a value is.
+fn span_in(doc: &Doc, value: &Value) -> Option<Span>
+    requires { IsUtf8 doc.now.text }
+    ensures some { IfSome result (λ span. view value.now ≡ range_value doc.now.encoding doc.now.text span) }
+    ensures none { IfNone result ((span : Span) → IsReadableSpan doc.now.text span → view value.now ≡ range_value doc.now.encoding doc.now.text span → ⊥) }
+    ensures whole_characters { IfSome result (λ span. IsSpanOfText doc.now.text span) }
+{
+    let Some((end, start)) = two_members(value, "end", "start") else {
+        return None;
+    };
+    let end = offset_in(doc, end)?;
+    let start = offset_in(doc, start)?;
+    Some(Span { start, end })
+}
+
+/// The offset whose position a value is.
+fn offset_in(doc: &Doc, value: &Value) -> Option<usize>
+    requires { IsUtf8 doc.now.text }
+    ensures some { IfSome result (λ offset. view value.now ≡ position_value (position_of doc.now.encoding doc.now.text offset)) }
+    ensures none { IfNone result ((offset : ℕ) → IsCharBoundary doc.now.text offset → ¬ (IsInsideCrLf doc.now.text offset)
+        → view value.now ≡ position_value (position_of doc.now.encoding doc.now.text offset) → ⊥) }
+    ensures boundary { IfSome result (λ offset. IsCharBoundary doc.now.text offset) }
+{
+    let position = position_in(value)?;
+    let offset = doc.offset_of(position);
+    if doc.position_of(offset) != position {
+        return None;
+    }
+    Some(offset)
+}
+
+fn position_in(value: &Value) -> Option<Position>
+    ensures some { IfSome result (λ position. view value.now ≡ position_value position) }
+    ensures none { IfNone result ((position : Position) → view value.now ≡ position_value position → ⊥) }
+{
+    let Some((character, line)) = two_members(value, "character", "line") else {
+        return None;
+    };
+    let line = line.as_u64()?;
+    let character = character.as_u64()?;
+    Some(Position { line, character })
+}
+
+/// The rule of typing whose name a value is.
+fn type_rule_in(value: &Value) -> Option<TypeRule>
+    ensures some { IfSome result (λ rule. view value.now ≡ string (name_of_type_rule rule)) }
+    ensures none { IfNone result ((rule : TypeRule) → view value.now ≡ string (name_of_type_rule rule) → ⊥) }
+{
+    match value.as_str() {
+        Some(name) => type_rule_named(name),
+        None => None,
+    }
+}
+
+fn type_rule_named(name: &str) -> Option<TypeRule>
+    ensures some { IfSome result (λ rule. name.now ≡ name_of_type_rule rule) }
+    ensures none { IfNone result ((rule : TypeRule) → name.now ≡ name_of_type_rule rule → ⊥) }
+{
+    match name {
+        "T-True" => Some(TypeRule::True),
+        "T-False" => Some(TypeRule::False),
+        "T-If" => Some(TypeRule::If),
+        "T-Num" => Some(TypeRule::Num),
+        "T-Succ" => Some(TypeRule::Succ),
+        "T-Pred" => Some(TypeRule::Pred),
+        "T-IsZero" => Some(TypeRule::IsZero),
+        "T-Var" => Some(TypeRule::Var),
+        "T-Abs" => Some(TypeRule::Abs),
+        "T-App" => Some(TypeRule::App),
+        "T-Unit" => Some(TypeRule::Unit),
+        "T-Ascribe" => Some(TypeRule::Ascribe),
+        "T-Let" => Some(TypeRule::Let),
+        "T-Rcd" => Some(TypeRule::Rcd),
+        "T-Proj" => Some(TypeRule::Proj),
+        "T-Fix" => Some(TypeRule::Fix),
+        "T-Sub" => Some(TypeRule::Sub),
+        _ => None,
+    }
+}
+
+/// The rule of subtyping whose name a value is.
+fn sub_rule_in(value: &Value) -> Option<SubRule>
+    ensures some { IfSome result (λ rule. view value.now ≡ string (name_of_sub_rule rule)) }
+    ensures none { IfNone result ((rule : SubRule) → view value.now ≡ string (name_of_sub_rule rule) → ⊥) }
+{
+    match value.as_str() {
+        Some(name) => sub_rule_named(name),
+        None => None,
+    }
+}
+
+fn sub_rule_named(name: &str) -> Option<SubRule>
+    ensures some { IfSome result (λ rule. name.now ≡ name_of_sub_rule rule) }
+    ensures none { IfNone result ((rule : SubRule) → name.now ≡ name_of_sub_rule rule → ⊥) }
+{
+    match name {
+        "S-Refl" => Some(SubRule::Refl),
+        "S-Trans" => Some(SubRule::Trans),
+        "S-Top" => Some(SubRule::Top),
+        "S-Arrow" => Some(SubRule::Arrow),
+        "S-RcdWidth" => Some(SubRule::RcdWidth),
+        "S-RcdDepth" => Some(SubRule::RcdDepth),
+        "S-RcdPerm" => Some(SubRule::RcdPerm),
+        "S-BoolNat" => Some(SubRule::BoolNat),
+        _ => None,
+    }
+}

@@ -1,0 +1,101 @@
+//! Files of derivations that were sent: each is read, with the text that it is of.
+use crate::args::Asked;
+use crate::files::{ReadFault, text_of};
+use crate::verdicts::{sent_of, verdict};
+use crate::{DEVICE, FAULTLESS, FAULTY, shown_name, tell, tell_checked, want_of_memory};
+use serde_json::{Category, Error, Value};
+use std::rt::Files;
+
+/// Prints whether the derivations of a file are right: one that is the whole file, or else one on each line. The status to
+/// end with on its account.
+pub fn tell_verdicts<R: AllocGlobal + Files + Input + Print + Eprint>(
+    rt: &R,
+    asked: Asked<'_>,
+    name: &str,
+    text: &str,
+) -> u8 {
+    let fault = match Value::from_str(rt.alloc(), text) {
+        Ok(value) => return tell_verdict(rt, asked, name, &value),
+        Err(fault) => fault,
+    };
+    let Some((first, rest)) = text.split_once('\n') else {
+        return tell_no_json(rt, name, &fault);
+    };
+    match Value::from_str(rt.alloc(), first) {
+        Ok(value) => {
+            let status = tell_verdict(rt, asked, name, &value);
+            status.max(tell_lines(rt, asked, name, rest))
+        }
+        Err(_) => tell_no_json(rt, name, &fault),
+    }
+}
+
+/// Prints whether the derivations are right that stand on lines. The status to end with on their account.
+fn tell_lines<R: AllocGlobal + Files + Input + Print + Eprint>(
+    rt: &R,
+    asked: Asked<'_>,
+    name: &str,
+    lines: &str,
+) -> u8 {
+    let mut status = FAULTLESS;
+    for line in lines.lines() {
+        let own = match Value::from_str(rt.alloc(), line) {
+            Ok(value) => tell_verdict(rt, asked, name, &value),
+            Err(fault) => tell_no_json(rt, name, &fault),
+        };
+        status = status.max(own);
+    }
+    status
+}
+
+/// Prints whether a derivation is right. The status to end with on its account.
+fn tell_verdict<R: AllocGlobal + Files + Input + Print + Eprint>(
+    rt: &R,
+    asked: Asked<'_>,
+    name: &str,
+    value: &Value,
+) -> u8 {
+    let (derivation, file) = sent_of(value);
+    let Some(source) = asked.source.or(file) else {
+        return tell_line(
+            rt,
+            name,
+            "it names no file that it is of: name it with --of",
+        );
+    };
+    let text = match text_of(rt, rt.alloc(), source) {
+        Ok(text) => text,
+        Err(ReadFault::Memory) => return want_of_memory(rt),
+        Err(fault) => {
+            let _ = eprintln!(rt; "lam_check: {source}: {fault}");
+            return DEVICE;
+        }
+    };
+    let told = verdict(
+        rt.alloc(),
+        shown_name(name),
+        &text,
+        derivation,
+        asked.dialect,
+    );
+    tell_checked(rt, told)
+}
+
+/// Says why a text is no JSON. The status to end with.
+fn tell_no_json<R: AllocGlobal + Print + Eprint>(rt: &R, name: &str, fault: &Error) -> u8 {
+    if fault.classify() == Category::Memory {
+        return want_of_memory(rt);
+    }
+    match format!(in rt.alloc(); "it is no JSON: {fault}") {
+        Ok(what) => tell_line(rt, name, &what),
+        Err(_) => want_of_memory(rt),
+    }
+}
+
+/// Prints what is wrong with a file. The status to end with.
+fn tell_line<R: AllocGlobal + Print + Eprint>(rt: &R, name: &str, what: &str) -> u8 {
+    match format!(in rt.alloc(); "{}: {what}\n", shown_name(name)) {
+        Ok(line) => FAULTY.max(tell(rt, &line)),
+        Err(_) => want_of_memory(rt),
+    }
+}

@@ -1,0 +1,276 @@
+//! Derivations, held against the text that they are about.
+//!
+//! Nothing of what made a derivation is trusted: its steps are built into a tree, the checker of proofs takes the tree for a
+//! term of the text, and the steps of the tree, with the ranges of that term's parts, have to be those that were given.
+ghost use Rattle.std.specs.Prelude.{◌≡◌, ◌<◌, ◌↔◌, IsTrue, List, [], length, Some, map, reverse, IfOk};
+ghost use Rattle.lam_rules.specs.TermViews.{written_of};
+ghost use Rattle.lam_rules.specs.Typing.{TypingTree};
+ghost use Rattle.lam_rules.specs.TypingViews.{context_of, typing_tree_of};
+ghost use Rattle.lam_rules.specs.TypeViews.{typ_of};
+ghost use Rattle.lam_rules.specs.declared.types.Ty.{Ty as RustTy};
+ghost use Rattle.lam_scope.specs.Names.{shown_name};
+ghost use Rattle.lam_scope.specs.Places.{places_of};
+ghost use Rattle.lam_scope.specs.PlacedTerms.{document_terms, tree_in};
+ghost use Rattle.lam_scope.specs.Tables.{binder_numbered, visible_at};
+ghost use Rattle.lam_scope.specs.TableViews.{binder_number};
+ghost use Rattle.lam_scope.specs.Views.{table_of, statements_of, AreScopesOf};
+ghost use Rattle.lam_syntax.specs.Trees.{CommandTree};
+ghost use Rattle.lam_query.specs.Steps.{steps_of, typing_proof, typing, subtyping};
+ghost use Rattle.lam_query.specs.Views.{derivation_of, entry_of, step_of};
+ghost use Rattle.lam_check.specs.Verified.{IsProofAt, IsVerified};
+ghost use Rattle.lam_check.specs.inner.Verifying.{AreFormsOf, MakeTree, IsOfSomeTerm, span_in};
+
+use crate::commands::commands_of;
+use lam_query::answers::{Derivation, Step};
+use lam_query::{proof_of_steps, steps_of_proof};
+use lam_rules::{Dialect, SubRule, Ty, TypeProof, TypeRule, check_type, copy_of, same};
+use lam_scope::{Binder, Place, Resolved, ScopeFault, Scopes, bind, resolve};
+use lam_token::Span;
+use std::alloc::{AllocError, Global};
+
+/// Whether a derivation is of a term of the text.
+pub fn is_verified(
+    alloc: Global,
+    text: &str,
+    derivation: &Derivation,
+    dialect: Dialect,
+) -> Result<bool, AllocError>
+    ensures { IfOk result (λ verified. IsTrue verified ↔ IsVerified text.now (derivation_of derivation.now) dialect) }
+{
+    let Some(proof) = proof_of_steps(alloc, &derivation.steps)? else {
+        return Ok(false);
+    };
+    let commands = commands_of(alloc, text)?;
+    let scopes = bind(alloc, &commands)?;
+    let resolved = match resolve(alloc, &commands, &scopes) {
+        Ok(resolved) => resolved,
+        Err(ScopeFault::TooLarge(_)) => return Ok(false),
+        Err(ScopeFault::Memory) => return Err(AllocError),
+    };
+    let entries = entries_of(alloc, &derivation.context)?;
+    is_of_some_term(
+        alloc, &scopes, &resolved, derivation, &entries, &proof, dialect,
+    )
+}
+
+/// The types of a context.
+pub fn entries_of(
+    alloc: Global,
+    context: &[(String, Option<Ty>)],
+) -> Result<Vec<Option<Ty>>, AllocError>
+    ensures { IfOk result (λ entries. map written_of entries.items ≡ map (λ e. e.type) (map entry_of context.now)) }
+{
+    let mut entries = Vec::with_capacity(alloc, context.len())?;
+    for i in 0..context.len() {
+        let entry = &context[i];
+        entries.push(copy_of_entry(alloc, &entry.1)?)?;
+    }
+    Ok(entries)
+}
+
+fn copy_of_entry(alloc: Global, entry: &Option<Ty>) -> Result<Option<Ty>, AllocError>
+    ensures { IfOk result (λ made. written_of made ≡ written_of entry.now) }
+{
+    match entry {
+        Some(ty) => Ok(Some(copy_of(alloc, ty)?)),
+        None => Ok(None),
+    }
+}
+
+/// Whether a derivation is of one of the terms. These are the types of its context, and the tree of its steps.
+fn is_of_some_term(
+    alloc: Global,
+    scopes: &Scopes,
+    resolved: &Resolved,
+    derivation: &Derivation,
+    entries: &[Option<Ty>],
+    proof: &TypeProof,
+    dialect: Dialect,
+) -> Result<bool, AllocError>
+    requires entries { map written_of entries.now ≡ map (λ e. e.type) (derivation_of derivation.now).context }
+    requires tree { MakeTree (derivation_of derivation.now).steps (typing_tree_of proof.now) }
+    ensures { IfOk result (λ is_one. (commands : List CommandTree) → AreFormsOf commands scopes.now resolved.now
+        → (IsTrue is_one ↔ IsOfSomeTerm commands (derivation_of derivation.now) dialect)) }
+{
+    for i in 0..resolved.place_count() {
+        let place = Place(i);
+        if is_of_term(
+            alloc, scopes, resolved, derivation, entries, proof, place, dialect,
+        )? {
+            return Ok(true);
+        }
+    }
+    Ok(false)
+}
+
+/// Whether it is of the term at a place.
+pub fn is_of_term(
+    alloc: Global,
+    scopes: &Scopes,
+    resolved: &Resolved,
+    derivation: &Derivation,
+    entries: &[Option<Ty>],
+    proof: &TypeProof,
+    place: Place,
+    dialect: Dialect,
+) -> Result<bool, AllocError>
+    requires inside { place.0 < length (places_of [] (statements_of resolved.now)) }
+    requires entries { map written_of entries.now ≡ map (λ e. e.type) (derivation_of derivation.now).context }
+    requires tree { MakeTree (derivation_of derivation.now).steps (typing_tree_of proof.now) }
+    ensures { IfOk result (λ is_it. (commands : List CommandTree) → AreFormsOf commands scopes.now resolved.now
+        → (IsTrue is_it ↔ IsProofAt commands place.0 (derivation_of derivation.now) dialect)) }
+{
+    if !ends_at(scopes, place, &derivation.steps) {
+        return Ok(false);
+    }
+    if !has_names(alloc, scopes, place, &derivation.context)? {
+        return Ok(false);
+    }
+    if !check_type(entries, resolved.core_at(place), proof, dialect) {
+        return Ok(false);
+    }
+    let steps = steps_of_proof(alloc, scopes, place, proof)?;
+    Ok(are_same(&derivation.steps, &steps))
+}
+
+/// Whether the last step has the span of the term at a place, as it has where the steps are about that term.
+pub fn ends_at(scopes: &Scopes, place: Place, steps: &[Step]) -> bool
+    ensures { (commands : List CommandTree) (tree : TypingTree) → AreScopesOf scopes.now commands
+        → map step_of steps.now ≡ steps_of 0 (typing_proof (tree_in (document_terms commands) place.0) tree) → IsTrue result }
+{
+    match steps.last() {
+        Some(step) => is_at(step, scopes.span_of(place)),
+        None => false,
+    }
+}
+
+/// Whether a step is one of typing and has this span.
+fn is_at(step: &Step, span: Span) -> bool
+    ensures { span_in (Some (step_of step.now).conclusion) ≡ Some span → IsTrue result }
+{
+    match step {
+        Step::Typing { span: own, .. } => *own == span,
+        Step::Sub { .. } => false,
+    }
+}
+
+/// Whether a context lists the names of the binders that a place sees.
+pub fn has_names(
+    alloc: Global,
+    scopes: &Scopes,
+    place: Place,
+    context: &[(String, Option<Ty>)],
+) -> Result<bool, AllocError>
+    ensures { IfOk result (λ has. IsTrue has
+        ↔ (map (λ e. e.name) (map entry_of context.now) ≡ map (λ b. shown_name (binder_numbered (table_of scopes.now) b).name) (visible_at (table_of scopes.now) place.0))) }
+{
+    let binders = scopes.visible_at(alloc, place)?;
+    Ok(are_named(scopes, &binders, context))
+}
+
+fn are_named(scopes: &Scopes, binders: &[Binder], context: &[(String, Option<Ty>)]) -> bool
+    ensures { IsTrue result
+        ↔ (map (λ e. e.name) (map entry_of context.now) ≡ map (λ b. shown_name (binder_numbered (table_of scopes.now) b).name) (map binder_number binders.now)) }
+{
+    if context.len() != binders.len() {
+        return false;
+    }
+    for i in 0..binders.len() {
+        let entry = &context[i];
+        if entry.0.as_str() != scopes.name_of(binders[i]) {
+            return false;
+        }
+    }
+    true
+}
+
+/// Whether two lists have the same steps.
+fn are_same(left: &[Step], right: &[Step]) -> bool
+    ensures { IsTrue result ↔ (map step_of left.now ≡ map step_of right.now) }
+{
+    if left.len() != right.len() {
+        return false;
+    }
+    for i in 0..left.len() {
+        let step = &left[i];
+        let other = &right[i];
+        if !is_same(step, other) {
+            return false;
+        }
+    }
+    true
+}
+
+/// Whether two steps are one.
+pub fn is_same(left: &Step, right: &Step) -> bool
+    ensures { IsTrue result ↔ (step_of left.now ≡ step_of right.now) }
+{
+    match left {
+        Step::Typing {
+            rule,
+            span,
+            ty,
+            premises,
+        } => is_typing(right, *rule, *span, ty, premises),
+        Step::Sub {
+            rule,
+            lower,
+            upper,
+            premises,
+        } => is_subtyping(right, *rule, lower, upper, premises),
+    }
+}
+
+fn is_typing(step: &Step, rule: TypeRule, span: Span, ty: &Ty, premises: &[usize]) -> bool
+    ensures { IsTrue result ↔ (record { conclusion = typing rule span (typ_of ty.now); premises = premises.now } ≡ step_of step.now) }
+{
+    let Step::Typing {
+        rule: own_rule,
+        span: own_span,
+        ty: own_ty,
+        premises: own_premises,
+    } = step
+    else {
+        return false;
+    };
+    if rule != *own_rule {
+        return false;
+    }
+    if span != *own_span {
+        return false;
+    }
+    if !same(ty, own_ty) {
+        return false;
+    }
+    are_equal(premises, own_premises)
+}
+
+fn is_subtyping(step: &Step, rule: SubRule, lower: &Ty, upper: &Ty, premises: &[usize]) -> bool
+    ensures { IsTrue result ↔ (record { conclusion = subtyping rule (typ_of lower.now) (typ_of upper.now); premises = premises.now } ≡ step_of step.now) }
+{
+    let Step::Sub {
+        rule: own_rule,
+        lower: own_lower,
+        upper: own_upper,
+        premises: own_premises,
+    } = step
+    else {
+        return false;
+    };
+    if rule != *own_rule {
+        return false;
+    }
+    if !same(lower, own_lower) {
+        return false;
+    }
+    if !same(upper, own_upper) {
+        return false;
+    }
+    are_equal(premises, own_premises)
+}
+
+fn are_equal(left: &[usize], right: &[usize]) -> bool
+    ensures { IsTrue result ↔ (left.now ≡ right.now) }
+{
+    left == right
+}
