@@ -9,6 +9,7 @@ abbrev pub IsUnread : {T : Type 0} → Result T Unread → Type 0 → Type 0
 IsUnread (Ok x) P = Unit {0}
 IsUnread (Err e) P = ¬ (e ≡ Memory) → P → ⊥
 
+-- a number, as a value of JSON
 abbrev pub number_value : ℕ → Data
 number_value n = number (unsigned n)
 
