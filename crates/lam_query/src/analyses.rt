@@ -67,10 +67,11 @@ impl Analysis {
         ensures of { IfOk result (λ made. IsAnalysisOf new.now made) }
         ensures dialect { IfOk result (λ made. dialect_of made ≡ dialect_of self) }
     {
-        if self.is_worn() {
-            return Analysis::new(alloc, new, self.dialect);
-        }
         let dialect = self.dialect;
+        if self.is_worn() {
+            drop(self);
+            return Analysis::new(alloc, new, dialect);
+        }
         let kept = rows_within(&self.rows, common_front(old, new));
         let mut analyst = Analyst::behind(alloc, self, kept);
         analyst.read(new)?;
