@@ -1,7 +1,8 @@
 #!/usr/bin/env python3
 """gate.py: the merge gate. It looks whether docs/TRUSTED.md lists what has to be believed, runs `rt ci`, that is every proof from nothing,
-the tests and the edits that must fail, then plays the rows against the program as both compilers build it, plays sessions while memory is
-refused to it, does to it what a machine does to a process, and prints what all of it took. The last line counts all of this: 'N passed, M failed'."""
+the tests and the edits that must fail, then plays the rows against the program as both compilers build it, edits random documents in it and
+compares its answers with those about the same texts opened anew, plays sessions while memory is refused to it, does to it what a machine
+does to a process, and prints what all of it took. The last line counts all of this: 'N passed, M failed'."""
 
 import os
 import re
@@ -16,7 +17,13 @@ ROOT = os.path.join(os.path.dirname(os.path.realpath(__file__)), "..")
 COUNT = re.compile(r"(\d+) passed, (\d+) failed$")
 
 # What is played after `rt ci`, against the program that it built.
-BEHIND = (("rows", "rows/play.py"), ("rows of the checker", "rows/check.py"), ("refused memory", "bench/memory.py"), ("devices, signals, sizes and depth", "bench/process.py"))
+BEHIND = (
+    ("rows", "rows/play.py"),
+    ("rows of the checker", "rows/check.py"),
+    ("sessions of random edits", "bench/edits.py"),
+    ("refused memory", "bench/memory.py"),
+    ("devices, signals, sizes and depth", "bench/process.py"),
+)
 
 # What one check takes of memory at most, in bytes.
 A_CHECK = 5 << 30

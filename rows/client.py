@@ -12,6 +12,7 @@ from texts import Mistake, edited, expanded
 SECONDS = 60
 
 FAULT = re.compile(r"[BPLYE]\d$")
+HEADER = re.compile(rb"Content-Length: (\d+)\r\n\r\n")
 STEP = re.compile(r"(\d+) +([ST]-\w+) +(.*?)(?: from ([\d ]+))?$")
 RENAME = re.compile(r'("(?:[^"\\]|\\.)*"|\S+) (at|refused) (.+)$')
 MESSAGES = {
@@ -421,14 +422,14 @@ def ran(program, script, given, **started):
 
 def bodies_of(output):
     """The bodies of an output that is frames, and what stands behind the last whole one."""
-    bodies = []
-    while found := re.match(rb"Content-Length: (\d+)\r\n\r\n", output):
+    bodies, start = [], 0
+    while found := HEADER.match(output, start):
         end = found.end() + int(found[1])
         if end > len(output):
             break
         bodies.append(output[found.end() : end].decode(errors="replace"))
-        output = output[end:]
-    return bodies, output
+        start = end
+    return bodies, output[start:]
 
 
 def compare(script, wanted, output):

@@ -1,0 +1,451 @@
+#!/usr/bin/env python3
+"""edits.py [PROGRAM ..] [--count N] [--seed N]: makes random edits in random documents, and compares what the built program answers about
+the document that was edited with what it answers about the same text opened anew.
+
+After each edit the text is opened as a second document of the session, which is closed again, and after some edits in a process of its own.
+Compared are the published diagnostics and, at two places, the type, the derivation, the definition, the references, a rename and the
+completions, byte for byte. Sessions are in both dialects and the three encodings; bench/texts_at_random.py makes the documents. The same
+seed makes the same edits.
+
+At the first difference the text before, the edit and both answers are printed. A session counts once. The last line is
+'N passed, M failed'.
+"""
+
+import argparse
+import collections
+import os
+import re
+import subprocess
+import sys
+import time
+from dataclasses import dataclass
+from random import Random
+
+HERE = os.path.dirname(os.path.realpath(__file__))
+sys.path.insert(0, os.path.join(HERE, "..", "rows"))
+
+from client import SECONDS, bodies_of, compact, framed, position, span
+from play import built
+from texts import ENCODINGS, LINE_END, edited, units
+from texts_at_random import NAMES, TOKENS, TYPE_NAMES, Writer, document, doubled, laid_out
+
+# How many edits a session has. In one of so many its documents are long: there it types so many commands that it makes all anew.
+LENGTH = 100
+LONG = 5
+
+# At so many places a type is asked for, at two of them all else.
+PLACES = 8
+
+# A text is opened in a process of its own behind one edit in so many.
+APART = 40
+
+# A longer text is given up for another one.
+LONGEST = 20_000
+
+# What is answered about is called so in every session; the other document has a name as long.
+EDITED, ANEW = "file:///edited", "file:///opened"
+
+WORD = re.compile(r"[^\W\d][\w']*")
+
+# The rate of each shape of an edit; two edits in five go back to an earlier text.
+BACK = 0.4
+SHAPES = {
+    "characters put in": 5,
+    "characters taken out": 4,
+    "characters replaced": 2,
+    "semicolons and comments": 8,
+    "commands": 12,
+    "words exchanged": 10,
+    "types at the limit": 7,
+    "at the end": 4,
+    "rough places": 2,
+    "several places": 6,
+    "whole text": 10,
+}
+
+
+def place_of(text, at, encoding):
+    """The line and the column of this character, as a client counts; of the second one of a line end, those of its first."""
+    at -= text[max(at - 1, 0) : at + 1] == "\r\n"
+    ends = [found.end() for found in LINE_END.finditer(text[:at])]
+    return len(ends), units(text[ends[-1] if ends else 0 : at], encoding)
+
+
+def ranged(start, end, text):
+    return {"range": span(start, end), "text": text}
+
+
+def between(old, new):
+    """Which characters of the old text the new one has not, and what it has in their place."""
+    start = len(os.path.commonprefix([old, new]))
+    rest = len(os.path.commonprefix([old[start:][::-1], new[start:][::-1]]))
+    return start, len(old) - rest, new[start : len(new) - rest]
+
+
+@dataclass
+class Edit:
+    """An edit: its shape, the text before it, the changes that a client sends, and the text behind it."""
+
+    shape: str
+    before: str
+    changes: list
+    after: str
+
+
+class Editor:
+    """Edits one document at random, and knows its earlier texts."""
+
+    def __init__(self, random, encoding, is_long):
+        self.random, self.encoding, self.is_long = random, encoding, is_long
+        self.texts = [document(random, is_long)]
+        self.makes = {
+            "characters put in": self.put_in,
+            "characters taken out": self.take_out,
+            "characters replaced": self.replace,
+            "semicolons and comments": self.mark,
+            "commands": self.commands,
+            "words exchanged": self.exchange,
+            "types at the limit": self.double,
+            "at the end": self.append,
+        }
+
+    def edit(self):
+        """Makes the next edit."""
+        before, is_too_long = self.texts[-1], len(self.texts[-1]) > LONGEST
+        if not is_too_long and len(self.texts) > 1 and self.random.random() < BACK:
+            shape, (changes, after) = "back to an earlier text", self.back(before)
+        else:
+            shape = "whole text" if is_too_long else self.random.choices(list(SHAPES), SHAPES.values())[0]
+            changes, after = self.made(shape, before)
+        self.texts.append(after)
+        return Edit(shape, before, changes, after)
+
+    def made(self, shape, text):
+        """The changes of an edit of this shape, and the text behind them."""
+        if shape == "whole text":
+            return self.whole(text)
+        if shape == "rough places":
+            return self.rough(text)
+        if shape == "several places":
+            changes = []
+            for _ in range(self.random.randrange(2, 5)):
+                shapes = {name: rate for name, rate in SHAPES.items() if name != shape}
+                more, text = self.made(self.random.choices(list(shapes), shapes.values())[0], text)
+                changes += more
+            return changes, text
+        return self.changed(text, self.makes[shape](text))
+
+    def changed(self, text, spots):
+        """The changes of these spots, one after the other, and the text behind them. A spot is two characters' numbers and a new text."""
+        changes = []
+        for start, end, new in spots:
+            places = [place_of(text, at, self.encoding) for at in (start, end)]
+            changes.append(ranged(*places, new))
+            start, end = (at - (text[max(at - 1, 0) : at + 1] == "\r\n") for at in (start, end))
+            text = text[:start] + new + text[end:]
+        return changes, text
+
+    # Where edits are, and what they put there.
+
+    def spot(self, text):
+        """The number of a character, more often at the border of a word or a command than within."""
+        borders = [found.start() for found in re.finditer(r"\b|(?<=;)|(?=;)|$", text)]
+        return self.random.choice(borders) if self.random.random() < 0.5 else self.random.randrange(len(text) + 1)
+
+    def some(self):
+        """A few tokens or characters."""
+        return "".join(self.random.choices(TOKENS, k=self.random.choice((1, 1, 1, 2, 3, 6))))
+
+    def pieces(self, text):
+        """From where to where the pieces between semicolons are, those in comments too."""
+        ends = [found.end() for found in re.finditer(";", text)] + [len(text)]
+        return list(zip([0, *ends], ends))
+
+    def command(self, text):
+        """A new command, which may use names of the text."""
+        writer = Writer(self.random, faulty=self.random.choice((0, 0, 20)))
+        writer.names = {it: writer.some_type() for it in self.random.choices(self.words(text), k=3)}
+        return writer.command() + self.random.choice((";", ";", ";\n", ";\r\n", ""))
+
+    def words(self, text):
+        return WORD.findall(text) or list(NAMES)
+
+    # The shapes.
+
+    def put_in(self, text):
+        at = self.spot(text)
+        return [(at, at, self.some())]
+
+    def take_out(self, text):
+        start = self.spot(text)
+        length = self.random.choice((1, 1, 1, 2, 3, 8, self.random.randrange(len(text) + 1)))
+        return [(start, min(start + length, len(text)), "")]
+
+    def replace(self, text):
+        return [(start, end, self.some()) for start, end, _ in self.take_out(text)]
+
+    def mark(self, text):
+        """Puts in a semicolon or a comment's sign, or takes one out."""
+        found = [it.span() for it in re.finditer(r";|/\*|\*/", text)]
+        if found and self.random.random() < 0.5:
+            return [(*self.random.choice(found), "")]
+        at = self.spot(text)
+        return [(at, at, self.random.choice((";", ";", "/*", "*/", "/* ; */", "*/ /*")))]
+
+    def commands(self, text):
+        """Puts in a command, takes one out, replaces one, or swaps two."""
+        pieces = self.pieces(text)
+        start, end = self.random.choice(pieces)
+        kind = self.random.randrange(5)
+        if kind == 0:
+            return [(start, start, self.command(text))]
+        if kind == 1:
+            return [(start, end, "")]
+        if kind == 2:
+            return [(start, end, self.command(text))]
+        if kind == 3:
+            return [(start, start, "".join(self.command(text) for _ in range(self.random.randrange(2, 6))))]
+        (first, middle), (last, end) = sorted((self.random.choice(pieces), (start, end)))
+        return [(last, end, text[first:middle]), (first, middle, text[last:end])] if middle <= last else []
+
+    def exchange(self, text):
+        """Writes another word of the text in place of a word, or exchanges two."""
+        found = list(WORD.finditer(text))
+        if not found:
+            return self.put_in(text)
+        one, other = self.random.choice(found), self.random.choice(found)
+        if self.random.random() < 0.3 and one.end() <= other.start():
+            return [(*other.span(), one[0]), (*one.span(), other[0])]
+        likes = [it[0] for it in found if it[0][0].isupper() == one[0][0].isupper()]
+        return [(*one.span(), self.random.choice((*likes, self.random.choice(NAMES), self.random.choice(TYPE_NAMES))))]
+
+    def double(self, text):
+        """Lets a type come or go that is about as large as types may be."""
+        found = [it.span() for it in re.finditer(r"(?<=[=:{,])\s*(T|x)\d+\b", text)]
+        at, kind = self.random.choice(self.pieces(text))[0], self.random.randrange(5)
+        if not found or kind == 0:
+            return [(at, at, laid_out(self.random, doubled(self.random)))]
+        (start, end), word = self.random.choice(found), text[slice(*self.random.choice(found))].strip()
+        if kind == 1:
+            new = "Nat" if word[0] == "T" else "0"
+            return [(start, end, new)]
+        if kind == 2:
+            return [(start, end, word)]
+        new = f"{word} = {{a:{word}, b:{word}}};" if word[0] == "T" else f"{word} = {{a={word}, b={word}}};"
+        return [(at, at, new)]
+
+    def append(self, text):
+        """Edits behind the last semicolon."""
+        start, end = self.pieces(text)[-1]
+        kind = self.random.randrange(4)
+        if kind == 0:
+            return [(end, end, self.some())]
+        if kind == 1:
+            return [(end, end, self.command(text))]
+        return [(start, end, "")] if kind == 2 else [(max(end - 1, 0), end, "")]
+
+    def rough(self, text):
+        """Changes between any places, behind the ends of lines and within characters too, the first one perhaps behind the other."""
+        start, end = self.rough_place(text), self.rough_place(text)
+        if self.random.random() < 0.7:
+            end = start[0], start[1] + self.random.randrange(4)
+        new = self.some()
+        return [ranged(start, end, new)], edited(text, ((start, end), new), self.encoding)
+
+    def rough_place(self, text):
+        line, column = place_of(text, self.random.randrange(len(text) + 1), self.encoding)
+        return line + self.random.choice((0, 0, 0, 1)), column + self.random.choice((0, 1, 1, 2, 300))
+
+    def whole(self, text):
+        """Sends a whole text: another one, the same one, this one changed, or none."""
+        kind = self.random.randrange(8)
+        new = text if kind == 0 else "" if kind == 1 else document(self.random, self.is_long)
+        if kind == 2:
+            new = self.changed(text, self.commands(text))[1]
+        if kind == 3:
+            new = self.changed(text, self.mark(text))[1]
+        return [{"text": new}], new
+
+    def back(self, text):
+        """Goes back to an earlier text, mostly to the last one, by the change between both, or as a whole."""
+        earlier = self.texts[-2] if self.random.random() < 0.6 else self.random.choice(self.texts[-20:])
+        if self.random.random() < 0.1:
+            return [{"text": earlier}], earlier
+        start, end, new = between(text, earlier)
+        return self.changed(text, [self.whole_line_ends(text, earlier, start, end, new)])
+
+    def whole_line_ends(self, text, earlier, start, end, new):
+        """The spot with all of the line ends that it begins or ends in, which have no place within."""
+        if text[max(start - 1, 0) : start + 1] == "\r\n":
+            start, new = start - 1, "\r" + new
+        if text[max(end - 1, 0) : end + 1] == "\r\n":
+            end, new = end + 1, new + "\n"
+        return start, end, new
+
+
+class Talk:
+    """What a client says to one run of the program."""
+
+    def __init__(self, dialect, encoding):
+        self.dialect, self.frames = dialect, []
+        self.say("initialize", {"capabilities": {"general": {"positionEncodings": [encoding]}}}, 0)
+
+    def say(self, method, params, number=None):
+        message = {"jsonrpc": "2.0", "method": method, "params": params}
+        self.frames.append(framed(compact({**message, "id": number} if number is not None else message)))
+
+    def open(self, uri, text, version):
+        document = {"uri": uri, "languageId": "fullsub", "version": version, "text": text}
+        self.say("textDocument/didOpen", {"textDocument": document})
+
+    def change(self, uri, changes, version):
+        self.say("textDocument/didChange", {"textDocument": {"uri": uri, "version": version}, "contentChanges": changes})
+
+    def ask(self, uri, questions, version):
+        for at, (method, params) in enumerate(questions):
+            self.say(method, {"textDocument": {"uri": uri}, **params}, f"{uri} {version} {at}")
+
+    def close(self, uri):
+        self.say("textDocument/didClose", {"textDocument": {"uri": uri}})
+
+    def answers(self, program):
+        """All that the program answers, and how it ends where that is not by itself."""
+        self.say("shutdown", None, 1)
+        self.say("exit", None)
+        words = [os.path.abspath(program), "--dialect", self.dialect]
+        done = subprocess.run(words, input=b"".join(self.frames), capture_output=True, timeout=SECONDS, check=False)
+        bodies, rest = bodies_of(done.stdout)
+        told = done.stderr.decode(errors="replace").strip()
+        return bodies, f"status {done.returncode}, {told!r}" if done.returncode or rest or told else None
+
+
+class Session:
+    """A document that is edited so many times, in the dialect and the encoding of the session's number."""
+
+    def __init__(self, seed, number, length):
+        self.random = Random(f"{seed} {number}")
+        self.dialect, self.encoding = "12"[number % 2], ENCODINGS[number // 2 % 3]
+        self.number, self.talk = number, Talk(self.dialect, self.encoding)
+        self.editor = Editor(self.random, self.encoding, is_long=number % LONG == LONG - 1)
+        self.talk.open(EDITED, self.editor.texts[0], 0)
+        self.edits = []
+        for version in range(1, length + 1):
+            edit = self.editor.edit()
+            questions = self.questions(edit)
+            self.edits.append((edit, questions))
+            self.talk.change(EDITED, edit.changes, version)
+            self.talk.ask(EDITED, questions, version)
+            self.talk.open(ANEW, edit.after, version)
+            self.talk.ask(ANEW, questions, version)
+            self.talk.close(ANEW)
+
+    def questions(self, edit):
+        """What is asked behind an edit, types at some places and all else at two: methods, and their params but for the document."""
+        asked, places = [], [{"position": position(it)} for it in self.places(edit)]
+        for where in places[2:]:
+            asked.append(("textDocument/hover", where))
+        for where in places[:2]:
+            new = self.random.choice((*NAMES, *TYPE_NAMES, *self.editor.words(edit.after)[:50], "fresh", "Fresh", "in", "0", ""))
+            asked += [(f"textDocument/{it}", where) for it in ("hover", "completion", "definition")]
+            asked.append(("textDocument/references", {**where, "context": {"includeDeclaration": self.random.random() < 0.5}}))
+            asked.append(("textDocument/rename", {**where, "newName": new}))
+            asked.append(("fullsub/derivation", where))
+        return asked
+
+    def places(self, edit):
+        """Places of characters: of words, behind dots, near the edit, and any; some are behind the end of their line."""
+        text = edit.after
+        any_of = list(range(len(text) + 1))
+        words = [it.start() for it in WORD.finditer(text)] or any_of
+        dots = [it.end() for it in re.finditer(r"\.", text)] or any_of
+        front = between(edit.before, text)[0]
+        near = any_of[max(front - 3, 0) : front + 6]
+        for spots in self.random.choices((words, dots, near, any_of), (10, 2, 4, 4), k=PLACES):
+            line, column = place_of(text, self.random.choice(spots), self.encoding)
+            yield line, column + self.random.choice((*9 * (0,), 1, 300))
+
+    def played(self, program, counts):
+        """Plays the session; what is wrong, or nothing. Counts what was edited and answered."""
+        bodies, end = self.talk.answers(program)
+        at, title = 2, f"session {self.number}, dialect {self.dialect}, {self.encoding}"
+        for version, (edit, questions) in enumerate(self.edits, 1):
+            length = len(questions) + 1
+            ours, others = bodies[at : at + length], bodies[at + length : at + 2 * length]
+            at += 2 * length + 1
+            told = difference(edit, questions, ours, [it.replace(ANEW, EDITED) for it in others], "a second document")
+            if not told and version % APART == self.number % APART:
+                told = difference(edit, questions, ours, self.apart(program, edit, questions, version), "a process of its own")
+            if told:
+                return f"{title}, edit {version}:\n{told}\n  it ended with {end or 'status 0'}"
+            count(counts, edit, questions, ours)
+        return f"{title}: {len(bodies)} answers, {end}" if end or len(bodies) != at + 1 else None
+
+    def apart(self, program, edit, questions, version):
+        """What is answered about the text in a process of its own."""
+        talk = Talk(self.dialect, self.encoding)
+        talk.open(EDITED, edit.after, version)
+        talk.ask(EDITED, questions, version)
+        return talk.answers(program)[0][1:-1]
+
+
+def difference(edit, questions, ours, others, where):
+    """How the answers differ, or nothing."""
+    asked = [("diagnostics", {}), *questions]
+    if len(ours) == len(others) == len(asked) and ours == others:
+        return None
+    at = next((at for at, _ in enumerate(asked) if ours[at : at + 1] != others[at : at + 1]), 0)
+    shown = {
+        "text before": compact(edit.before),
+        "edit": f"{edit.shape}, {compact(edit.changes)}",
+        "asked": compact(asked[at]),
+        "of the edited document": (ours[at : at + 1] or ["nothing"])[0],
+        f"opened anew, in {where}": (others[at : at + 1] or ["nothing"])[0],
+    }
+    return "\n".join(f"  {name}: {it}" for name, it in shown.items())
+
+
+def count(counts, edit, questions, answers):
+    """Counts the edit's shape, the codes of its text's diagnostics, and the answers that tell something."""
+    counts["edits"][edit.shape] += 1
+    counts["texts"].update(set(re.findall(r'"code":"(\w+)"', answers[0])) or {"no diagnostic"})
+    for (method, _), answer in zip(questions, answers[1:]):
+        counts["answers"][method.partition("/")[2]] += not re.search(r'"error":|"result":(null|\[\])', answer)
+
+
+def lines_of(counts):
+    """What was counted, for the reader to judge the test by."""
+    for name, counted in counts.items():
+        yield f"  {name}: " + ", ".join(f"{it} {number:,}" for it, number in sorted(counted.items(), key=lambda it: -it[1]))
+
+
+def count_right(program, given):
+    """Plays sessions up to the first difference; prints it and what was counted, and returns how many are right and how many wrong."""
+    start, right, told = time.monotonic(), 0, None
+    counts = {it: collections.Counter() for it in ("edits", "texts", "answers")}
+    for number in range(-(-given.count // LENGTH)):
+        session = Session(given.seed, number, min(LENGTH, given.count - number * LENGTH))
+        told = session.played(program, counts)
+        if told:
+            print(told)
+            break
+        right += 1
+    print(f"{os.path.relpath(program)}: {counts['edits'].total()} edits, {1 if told else 0} differences; seed {given.seed}")
+    for line in lines_of(counts):
+        print(line)
+    print(f"  {time.monotonic() - start:.1f} s", flush=True)
+    return right, 1 if told else 0
+
+
+def main():
+    words = argparse.ArgumentParser(description=__doc__)
+    words.add_argument("programs", metavar="PROGRAM", nargs="*", help="a program to play against (else those that the gate built)")
+    words.add_argument("--count", type=int, default=2000, help="how many edits are made (else 2000)")
+    words.add_argument("--seed", type=int, default=7, help="what the random numbers are made of (else 7)")
+    given = words.parse_args()
+    right, wrong = map(sum, zip(*(count_right(it, given) for it in built(given.programs))))
+    print(f"{right} passed, {wrong} failed")
+    return 1 if wrong or not right else 0
+
+
+if __name__ == "__main__":
+    sys.exit(main())
