@@ -61,7 +61,8 @@ impl Analysis {
         analyst.finish(text, dialect)
     }
 
-    /// Of a text that the old one was changed to. The pieces in front of the change are kept.
+    /// Of a new text, from that of the old one: the pieces in front of the change are kept. After an error nothing is left of
+    /// the old analysis.
     pub fn changed(self, alloc: Global, old: &str, new: &str) -> Result<Analysis, AllocError>
         requires { IsAnalysisOf old.now self }
         ensures of { IfOk result (λ made. IsAnalysisOf new.now made) }
