@@ -28,12 +28,33 @@ TREE = """next point : Nat  (T-App)
 """
 LATEX = r"""\documentclass[border=8pt]{standalone}
 \usepackage{bussproofs}
+\makeatletter
+% five proofs side by side as one, with the next line over them all
+\def\Five{\prepQuinary
+\setbox\myBoxA=\hbox{\theHypSeparation}%
+\global\lcurScoreEnd=\rrrcurScoreEnd
+\global\advance\lcurScoreEnd by\wd\rrcurBox
+\global\advance\lcurScoreEnd by\wd\rcurBox
+\global\advance\lcurScoreEnd by\wd\lcurBox
+\global\advance\lcurScoreEnd by\wd\ccurBox
+\global\advance\lcurScoreEnd by4\wd\myBoxA
+\global\setbox\lcurBox=\hbox{\box\lcurBox\unhcopy\myBoxA\box\ccurBox
+\unhcopy\myBoxA\box\rcurBox\unhcopy\myBoxA\box\rrcurBox\unhcopy\myBoxA\box\rrrcurBox}%
+\ignorespaces}
+% the number of a character without a command, and the name of a command without a glyph
+\def\UTFviii@undefined@err#1{\expandafter\Numbered\string#1\relax}
+\def\Numbered#1:#2\relax{[U+\UTFviii@hexnumber{\decode@UTFviii#2\relax}]}
+\def\TextSymbolUnavailable#1{[\string#1]}
+\def\Without#1{\DeclareTextCommand#1{OT1}{\TextSymbolUnavailable#1}}
+\Without\textendash\Without\textemdash\Without\textquotedblleft\Without\l\Without\L
+\makeatother
 \begin{document}
+\frenchspacing
 \AxiomC{}
 \RightLabel{\scriptsize T-Num}
 \UnaryInfC{\texttt{0 : Nat}}
 \RightLabel{\scriptsize T-Rcd}
-\UnaryInfC{\texttt{\{a=0\} : \{a:Nat\}}}
+\UnaryInfC{\texttt{\char123{}a=0\char125{} : \char123{}a:Nat\char125{}}}
 \DisplayProof
 \end{document}
 """

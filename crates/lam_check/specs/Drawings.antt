@@ -44,13 +44,15 @@ html_character c = if c == 38 then codes "&amp;" else (if c == 60 then codes "&l
 
 -- whether LaTeX takes a backslash before it
 abbrev pub is_special : ℕ → Bool
-is_special c = list_any (λ d. d == c) (codes "#$%&_{}")
+is_special c = list_any (λ d. d == c) (codes "#$%&")
 
--- in LaTeX
+-- in LaTeX: some by their place in the typewriter font of TeX, where the straight quote and the grave accent have another than in ASCII
 abbrev pub latex_character : ℕ → Text
 latex_character c =
-    if c == 92 then codes "\\textbackslash{}" else (if c == 94 then codes "\\^{}" else (if c == 126 then codes "\\~{}"
-    else (if is_special c then 92 ∷ c ∷ [] else encode_utf8 c)))
+    if c == 92 then codes "\\char92{}" else (if c == 94 then codes "\\char94{}" else (if c == 95 then codes "\\char95{}"
+    else (if c == 123 then codes "\\char123{}" else (if c == 125 then codes "\\char125{}" else (if c == 126 then codes "\\char126{}"
+    else (if c == 39 then codes "\\char13{}" else (if c == 96 then codes "\\char18{}"
+    else (if is_special c then 92 ∷ c ∷ [] else encode_utf8 c))))))))
 
 -- a text as a form writes its characters
 abbrev pub written : Form → Text → Text
@@ -67,7 +69,7 @@ markup marks.HtmlRule = codes " <i>"
 markup marks.HtmlLine = codes "</i></summary>\n"
 markup marks.HtmlEnd = codes "</details>\n"
 markup marks.LatexAxiom = codes "\\AxiomC{}\n"
-markup marks.LatexPack = codes "\\noLine\n\\QuinaryInfC{}\n"
+markup marks.LatexPack = codes "\\Five\n"
 markup marks.LatexRule = codes "\\RightLabel{\\scriptsize "
 markup marks.LatexLine = codes "}\n\\"
 markup marks.LatexTerm = codes "InfC{\\texttt{"
@@ -140,16 +142,50 @@ abbrev mutual
 abbrev pub line : Text → Text
 line text = text ++ 10 ∷ []
 
--- what a document in a form begins with: nothing but for a style in HTML, and for the package that draws in LaTeX
+-- what a document in a form begins with: nothing but for a style in HTML; in LaTeX the package that draws, the command for five proofs side by side,
+-- and how a character is shown that LaTeX does not know
 unfoldable pub head : Form → Text
 head forms.Text = []
 head forms.Html =
-    line (codes "<!DOCTYPE html>") ++ line (codes "<html>") ++ line (codes "<head>") ++ line (codes "<meta charset=utf-8>") ++ line (codes "<title>Derivation</title>")
-    ++ line (codes "<style>") ++ line (codes "body { font-family: monospace; margin: 2em; }")
+    line (codes "<!DOCTYPE html>")
+    ++ line (codes "<html>")
+    ++ line (codes "<head>")
+    ++ line (codes "<meta charset=utf-8>")
+    ++ line (codes "<title>Derivation</title>")
+    ++ line (codes "<style>")
+    ++ line (codes "body { font-family: monospace; margin: 2em; }")
     ++ line (codes "details { border-left: 1px solid #bbb; margin-left: 0.5em; padding-left: 1em; }")
-    ++ line (codes "summary { cursor: pointer; padding: 0.15em 0; }") ++ line (codes "summary i { color: #666; padding-left: 1em; }")
-    ++ line (codes "</style>") ++ line (codes "</head>") ++ line (codes "<body>")
-head forms.Latex = line (codes "\\documentclass[border=8pt]{standalone}") ++ line (codes "\\usepackage{bussproofs}") ++ line (codes "\\begin{document}")
+    ++ line (codes "summary { cursor: pointer; padding: 0.15em 0 0.15em 1.1em; text-indent: -1.1em; overflow-wrap: anywhere; }")
+    ++ line (codes "details:not(:has(> details)) > summary { cursor: default; list-style: none; text-indent: 0; }")
+    ++ line (codes "summary i { color: #666; padding-left: 1em; white-space: nowrap; }")
+    ++ line (codes "</style>")
+    ++ line (codes "</head>")
+    ++ line (codes "<body>")
+head forms.Latex =
+    line (codes "\\documentclass[border=8pt]{standalone}")
+    ++ line (codes "\\usepackage{bussproofs}")
+    ++ line (codes "\\makeatletter")
+    ++ line (codes "% five proofs side by side as one, with the next line over them all")
+    ++ line (codes "\\def\\Five{\\prepQuinary")
+    ++ line (codes "\\setbox\\myBoxA=\\hbox{\\theHypSeparation}%")
+    ++ line (codes "\\global\\lcurScoreEnd=\\rrrcurScoreEnd")
+    ++ line (codes "\\global\\advance\\lcurScoreEnd by\\wd\\rrcurBox")
+    ++ line (codes "\\global\\advance\\lcurScoreEnd by\\wd\\rcurBox")
+    ++ line (codes "\\global\\advance\\lcurScoreEnd by\\wd\\lcurBox")
+    ++ line (codes "\\global\\advance\\lcurScoreEnd by\\wd\\ccurBox")
+    ++ line (codes "\\global\\advance\\lcurScoreEnd by4\\wd\\myBoxA")
+    ++ line (codes "\\global\\setbox\\lcurBox=\\hbox{\\box\\lcurBox\\unhcopy\\myBoxA\\box\\ccurBox")
+    ++ line (codes "\\unhcopy\\myBoxA\\box\\rcurBox\\unhcopy\\myBoxA\\box\\rrcurBox\\unhcopy\\myBoxA\\box\\rrrcurBox}%")
+    ++ line (codes "\\ignorespaces}")
+    ++ line (codes "% the number of a character without a command, and the name of a command without a glyph")
+    ++ line (codes "\\def\\UTFviii@undefined@err#1{\\expandafter\\Numbered\\string#1\\relax}")
+    ++ line (codes "\\def\\Numbered#1:#2\\relax{[U+\\UTFviii@hexnumber{\\decode@UTFviii#2\\relax}]}")
+    ++ line (codes "\\def\\TextSymbolUnavailable#1{[\\string#1]}")
+    ++ line (codes "\\def\\Without#1{\\DeclareTextCommand#1{OT1}{\\TextSymbolUnavailable#1}}")
+    ++ line (codes "\\Without\\textendash\\Without\\textemdash\\Without\\textquotedblleft\\Without\\l\\Without\\L")
+    ++ line (codes "\\makeatother")
+    ++ line (codes "\\begin{document}")
+    ++ line (codes "\\frenchspacing")
 
 -- what it ends with
 unfoldable pub tail : Form → Text

@@ -23,9 +23,7 @@ impl Form {
         match self {
             Form::Text => "",
             Form::Html => HTML_HEAD,
-            Form::Latex => {
-                "\\documentclass[border=8pt]{standalone}\n\\usepackage{bussproofs}\n\\begin{document}\n"
-            }
+            Form::Latex => LATEX_HEAD,
         }
     }
 
@@ -42,13 +40,45 @@ impl Form {
     }
 }
 
-const HTML_HEAD: &str = "<!DOCTYPE html>\n<html>\n<head>\n<meta charset=utf-8>\n\
-    <title>Derivation</title>\n<style>\n\
+const HTML_HEAD: &str = "<!DOCTYPE html>\n\
+    <html>\n\
+    <head>\n\
+    <meta charset=utf-8>\n\
+    <title>Derivation</title>\n\
+    <style>\n\
     body { font-family: monospace; margin: 2em; }\n\
     details { border-left: 1px solid #bbb; margin-left: 0.5em; padding-left: 1em; }\n\
-    summary { cursor: pointer; padding: 0.15em 0; }\n\
-    summary i { color: #666; padding-left: 1em; }\n\
-    </style>\n</head>\n<body>\n";
+    summary { cursor: pointer; padding: 0.15em 0 0.15em 1.1em; text-indent: -1.1em; overflow-wrap: anywhere; }\n\
+    details:not(:has(> details)) > summary { cursor: default; list-style: none; text-indent: 0; }\n\
+    summary i { color: #666; padding-left: 1em; white-space: nowrap; }\n\
+    </style>\n\
+    </head>\n\
+    <body>\n";
+
+const LATEX_HEAD: &str = "\\documentclass[border=8pt]{standalone}\n\
+    \\usepackage{bussproofs}\n\
+    \\makeatletter\n\
+    % five proofs side by side as one, with the next line over them all\n\
+    \\def\\Five{\\prepQuinary\n\
+    \\setbox\\myBoxA=\\hbox{\\theHypSeparation}%\n\
+    \\global\\lcurScoreEnd=\\rrrcurScoreEnd\n\
+    \\global\\advance\\lcurScoreEnd by\\wd\\rrcurBox\n\
+    \\global\\advance\\lcurScoreEnd by\\wd\\rcurBox\n\
+    \\global\\advance\\lcurScoreEnd by\\wd\\lcurBox\n\
+    \\global\\advance\\lcurScoreEnd by\\wd\\ccurBox\n\
+    \\global\\advance\\lcurScoreEnd by4\\wd\\myBoxA\n\
+    \\global\\setbox\\lcurBox=\\hbox{\\box\\lcurBox\\unhcopy\\myBoxA\\box\\ccurBox\n\
+    \\unhcopy\\myBoxA\\box\\rcurBox\\unhcopy\\myBoxA\\box\\rrcurBox\\unhcopy\\myBoxA\\box\\rrrcurBox}%\n\
+    \\ignorespaces}\n\
+    % the number of a character without a command, and the name of a command without a glyph\n\
+    \\def\\UTFviii@undefined@err#1{\\expandafter\\Numbered\\string#1\\relax}\n\
+    \\def\\Numbered#1:#2\\relax{[U+\\UTFviii@hexnumber{\\decode@UTFviii#2\\relax}]}\n\
+    \\def\\TextSymbolUnavailable#1{[\\string#1]}\n\
+    \\def\\Without#1{\\DeclareTextCommand#1{OT1}{\\TextSymbolUnavailable#1}}\n\
+    \\Without\\textendash\\Without\\textemdash\\Without\\textquotedblleft\\Without\\l\\Without\\L\n\
+    \\makeatother\n\
+    \\begin{document}\n\
+    \\frenchspacing\n";
 
 /// What stands round the texts of steps.
 #[derive(Clone, Copy, Debug, PartialEq, Eq)]
@@ -77,7 +107,7 @@ impl Markup {
             Markup::HtmlLine => "</i></summary>\n",
             Markup::HtmlEnd => "</details>\n",
             Markup::LatexAxiom => "\\AxiomC{}\n",
-            Markup::LatexPack => "\\noLine\n\\QuinaryInfC{}\n",
+            Markup::LatexPack => "\\Five\n",
             Markup::LatexRule => "\\RightLabel{\\scriptsize ",
             Markup::LatexLine => "}\n\\",
             Markup::LatexTerm => "InfC{\\texttt{",
@@ -130,9 +160,14 @@ fn push_latex_character(out: &mut String, c: char) -> Result<(), AllocError>
     ensures { OnOk result (string_bytes out.new ≡ string_bytes out.old ++ latex_character c) }
 {
     match c {
-        '\\' => out.push_str("\\textbackslash{}"),
-        '^' => out.push_str("\\^{}"),
-        '~' => out.push_str("\\~{}"),
+        '\\' => out.push_str("\\char92{}"),
+        '^' => out.push_str("\\char94{}"),
+        '_' => out.push_str("\\char95{}"),
+        '{' => out.push_str("\\char123{}"),
+        '}' => out.push_str("\\char125{}"),
+        '~' => out.push_str("\\char126{}"),
+        '\'' => out.push_str("\\char13{}"),
+        '`' => out.push_str("\\char18{}"),
         _ => {
             if is_special(c) {
                 out.push('\\')?;
@@ -146,5 +181,5 @@ fn push_latex_character(out: &mut String, c: char) -> Result<(), AllocError>
 fn is_special(c: char) -> bool
     ensures { result ≡ is_special c }
 {
-    matches!(c, '#' | '$' | '%' | '&' | '_' | '{' | '}')
+    matches!(c, '#' | '$' | '%' | '&')
 }
