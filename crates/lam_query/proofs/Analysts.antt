@@ -12,21 +12,17 @@ use Rattle.lam_token.specs.Divided.{EndsInSemicolon}
 use Rattle.lam_token.proofs.Cuts.{one_list}
 use Rattle.lam_token.proofs.Divided.{divided}
 use Rattle.lam_token.proofs.SomeCut.{tokens_at, are_tokens_at}
-use Rattle.lam_rules.specs.Types.{Typ}
 use Rattle.lam_rules.specs.Numbers.{Keeps}
 use Rattle.lam_rules.proofs.Tables.{keeps_same}
 use Rattle.lam_syntax.specs.Trees.{CommandTree}
 use Rattle.lam_syntax.specs.Answers.{ends_piece, is_semicolon}
 use Rattle.lam_scope.specs.Names.{Name}
-use Rattle.lam_scope.specs.Numbered.{StandsIfAny}
 use Rattle.lam_typing.specs.Checking.{types_in, dialect_in, IsSoundChecker}
 use Rattle.lam_query.specs.declared.analyses.Analysis.{Analysis}
 use Rattle.lam_query.specs.declared.analyses.Analyst.{Analyst}
 use Rattle.lam_query.specs.declared.answers.Fault.{Fault as RustFault}
 use Rattle.lam_query.specs.declared.reading.Reader.{Reader}
 use Rattle.lam_query.specs.declared.rows.CommandRow.{CommandRow}
-use Rattle.lam_query.specs.declared.rows.Found.{Found}
-use Rattle.lam_query.specs.declared.rows.Found.TheVariants.{LargeWrittenType, LargeTerm, Types}
 use Rattle.lam_query.specs.declared.rows.Row.{Row}
 use Rattle.lam_query.specs.Analyses.{IsAnalysisOf}
 use Rattle.lam_query.specs.SyntaxFaults.{AreSyntaxFaults}
@@ -38,9 +34,10 @@ use Rattle.lam_query.specs.inner.OnePiece.{IsOwnOf}
 use Rattle.lam_query.specs.inner.Pieces.{IsFrontOf}
 use Rattle.lam_query.specs.inner.Reading.{AreRead, AreAllRead}
 use Rattle.lam_query.specs.inner.Entered.{Lookup}
-use Rattle.lam_query.specs.inner.Rows.{nothing, front_with, StandInFound, IsFoundOf, bound_by, AreRowsFrom, IsEnded, AllEnded, end_of, first_large}
+use Rattle.lam_query.specs.inner.Rows.{nothing, front_with, IsFoundOf, bound_by, AreRowsFrom, IsEnded, AllEnded, end_of, first_large}
 use Rattle.lam_query.proofs.BoundNames.{unbound_as, stand_kept, bound_as_kept, bound_as_after, stand_after}
 use Rattle.lam_query.proofs.PieceOfText.{no_tokens}
+use Rattle.lam_query.proofs.ReboundNames.{bound_stands}
 use Rattle.lam_query.proofs.KeptFronts.{no_front, rows_kept}
 use Rattle.lam_query.proofs.RowPieces.{EndsPiece, piece_ends, last_piece}
 use Rattle.lam_query.proofs.RowLists.{rows_split, rows_push, rows_keep, rows_end, ended_push}
@@ -115,11 +112,6 @@ sound_behind old kept a made h types stand numbers =
     record { types = rw types h.sound; stand = rw types (stand old split.0 ts a.dialect split.1); numbers = numbers }
 
 -- ---- a command more
-
-bound_stands : (ts : List Typ) (f : Found) → StandInFound ts f → StandsIfAny ts (bound_by f)
-bound_stands ts (LargeWrittenType s) stand = tt
-bound_stands ts (LargeTerm s) stand = tt
-bound_stands ts (Types t) stand = stand.1
 
 module _ (c : CommandTree) (row : CommandRow) (old now : Analyst) (sound : IsSound old) (types : IsSoundChecker now.types)
     (found : (names others : Lookup) → IsBoundAs names others (types_in old.types) old.bound → IsFoundOf names others c (types_in now.types) row.found (dialect_in old.types))

@@ -33,7 +33,7 @@ pub record AreRebound (rows left : List Row) (old now : Bound) : Type 0 where
 -- ---- one row more
 
 -- the number of what a command binds stands for a type, if it is there
-bound_stands : (ts : List Typ) (f : Found) → StandInFound ts f → StandsIfAny ts (bound_by f)
+pub bound_stands : (ts : List Typ) (f : Found) → StandInFound ts f → StandsIfAny ts (bound_by f)
 bound_stands ts (LargeWrittenType s) stand = tt
 bound_stands ts (LargeTerm s) stand = tt
 bound_stands ts (Types t) stand = stand.1
