@@ -1,7 +1,6 @@
 -- What is read of plain texts of types.
-use Rattle.std.proofs.Common.{◌≡◌, ◌≢◌, ℕ, ◌+◌, ◌-◌, ◌<◌, ◌≤◌, zero, suc, List, [], ◌∷◌, ◌++◌, length, get_or, All, MatchOption, IsSomeAnd, Option, Some, None, Bor, Bool, true, false, not, true≢false, String, string_bytes, codes, refl, sym, ap, subst, ◌∙◌, append_assoc, append-nil, arith}
-use Rattle.std.specs.Str.{byte, bytes_eq}
-use Rattle.std.proofs.lemmas.Slice.Eq.{bytes_eq-Decides}
+use Rattle.std.proofs.Common.{◌≡◌, ◌≢◌, ℕ, ◌+◌, ◌-◌, ◌<◌, ◌≤◌, zero, suc, List, [], ◌∷◌, ◌++◌, length, get_or, All, MatchOption, IsSomeAnd, Option, Some, None, Bor, String, string_bytes, codes, refl, sym, ap, subst, ◌∙◌, append_assoc, append-nil, arith}
+use Rattle.std.specs.Str.{byte}
 use Rattle.std.proofs.lemmas.List.{append_cancel_left}
 use Rattle.std.proofs.lemmas.List.Elements.{All-head, All-tail}
 use Rattle.std.proofs.lemmas.Str.Pattern.{IsSplitOnceResult, split_after}
@@ -275,8 +274,3 @@ not_read found t none read = subst (λ f. IsTypeRead f t []) none read
 
 pub type_read : (found : Option (Ty × Bor Text)) (f : Ty × Bor Text) (t : Typ) → found ≡ Some f → IsTypeRead found t [] → typ_of f.0 ≡ t
 type_read found f t is read = let there : IsTypeRead (Some f) t [] = subst (λ g. IsTypeRead g t []) is read in there.0
-
-pub not_other : (x y : Text) → true ≡ not (bytes_eq x y) → x ≡ y → ⊥
-not_other x y differ same =
-    let equal : bytes_eq x y ≡ true = (bytes_eq-Decides x y).1 same in
-    true≢false (differ ∙ ap not equal)

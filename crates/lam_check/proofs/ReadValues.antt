@@ -1,5 +1,5 @@
 -- What is read of values, one after another.
-use Rattle.std.proofs.Common.{◌≡◌, Option, Some, None, Result, Ok, Err, eqb, ℕ, ◌+◌, ◌<◌, ◌≤◌, zero, suc, List, [], ◌∷◌, ◌++◌, length, get_or, map, take, Bool, true, false, not, ◌&&◌, refl, sym, ap, subst, ◌∙◌, arith, true≢false}
+use Rattle.std.proofs.Common.{◌≡◌, Some, None, Result, Ok, Err, eqb, ℕ, ◌+◌, ◌<◌, ◌≤◌, zero, suc, List, [], ◌∷◌, ◌++◌, length, get_or, map, take, true, not, ◌&&◌, refl, sym, ap, subst, ◌∙◌, arith, true≢false}
 use Rattle.std.proofs.lemmas.List.{take_more, take_all, map-append}
 use Rattle.std.proofs.lemmas.Simd.{map-map}
 use Rattle.std.specs.Str.{IsCharBoundary, IsUtf8}

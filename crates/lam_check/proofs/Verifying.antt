@@ -8,7 +8,7 @@ use Rattle.std.proofs.lemmas.Slice.Eq.{bytes_eq-Decides}
 use Rattle.lam_rules.specs.Texts.{Text}
 use Rattle.lam_rules.specs.TermViews.{written_of}
 use Rattle.lam_rules.specs.Types.{Typ}
-use Rattle.lam_rules.specs.Typing.{Context, TypingTree, typing_step, IsTyping}
+use Rattle.lam_rules.specs.Typing.{TypingTree, typing_step, IsTyping}
 use Rattle.lam_rules.specs.Terms.{Term}
 use Rattle.lam_rules.specs.TypingViews.{context_of}
 use Rattle.lam_rules.specs.declared.rules.Dialect.{Dialect}
@@ -18,7 +18,7 @@ use Rattle.lam_token.specs.declared.span.Span.{Span}
 use Rattle.lam_scope.specs.Names.{shown_name}
 use Rattle.lam_scope.specs.Places.{Place, places_of, place_numbered}
 use Rattle.lam_scope.specs.PlacedTerms.{PlacedTree, document_terms, term_of, tree_in}
-use Rattle.lam_scope.specs.Tables.{table, place_row_numbered, binder_numbered, visible_at}
+use Rattle.lam_scope.specs.Tables.{place_row_numbered, binder_numbered, visible_at}
 use Rattle.lam_scope.specs.Views.{table_of, statements_of, AreScopesOf}
 use Rattle.lam_scope.specs.declared.resolved.Resolved.{Resolved}
 use Rattle.lam_scope.specs.declared.scopes.Scopes.{Scopes}
@@ -28,7 +28,7 @@ use Rattle.lam_query.specs.declared.answers.Step.{Step as RustStep}
 use Rattle.lam_query.specs.Views.{step_of}
 use Rattle.lam_query.specs.Derivations.{Derivation, names_seen}
 use Rattle.lam_query.specs.ProofTrees.{typing_tree_in}
-use Rattle.lam_query.specs.Steps.{Conclusion, typing, Step, concludes, steps_of, steps_of_each, last_steps, typing_proof, typing_proofs, premise_terms, with_side}
+use Rattle.lam_query.specs.Steps.{Conclusion, typing, Step, steps_of, steps_of_each, last_steps, typing_proof, typing_proofs, premise_terms, with_side}
 use Rattle.lam_query.specs.WellTypedDocuments.{statements_in}
 use Rattle.lam_scope.specs.Nameless.{first_too_large}
 use Rattle.lam_query.specs.Commands.{AreCommandsOfText}
@@ -36,7 +36,7 @@ use Rattle.lam_query.proofs.OneAnswer.{one_document}
 use Rattle.lam_query.proofs.OneProof.{one_proof_of_steps}
 use Rattle.lam_query.proofs.ReadTrees.{tree_read}
 use Rattle.lam_query.proofs.RowsAndTerms.{span_told, names_told, number_told}
-use Rattle.lam_check.specs.Verified.{IsProofOf, IsProofAt, IsVerified}
+use Rattle.lam_check.specs.Verified.{IsProofAt, IsVerified}
 use Rattle.lam_check.specs.inner.Verifying.{AreFormsOf, MakeTree, IsOfSomeTerm, span_in}
 
 -- the context of entries

@@ -1,4 +1,4 @@
-use Rattle.std.proofs.Common.{◌≡◌, ◌≤◌, length, ap, sym, subst, ◌∙◌, arith}
+use Rattle.std.proofs.Common.{◌≤◌, length, ap, sym, subst, ◌∙◌, arith}
 use Rattle.lam_rules.specs.Types.{record_of}
 use Rattle.lam_rules.specs.TypeViews.{fields_of}
 use Rattle.lam_check.proofs.PlainTypes.{no_level, front_read, no_front, whole_read, arrow_read, no_outcome, whole_arrow, field_left, none_left, no_label, IsFieldRead, field_read, no_field, fields_left}

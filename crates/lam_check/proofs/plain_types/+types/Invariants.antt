@@ -1,4 +1,4 @@
-use Rattle.std.proofs.Common.{◌≡◌, ℕ, ◌+◌, ◌*◌, ◌≤◌, ◌++◌, length, codes}
+use Rattle.std.proofs.Common.{◌≡◌, ◌+◌, ◌*◌, ◌≤◌, ◌++◌, length, codes}
 use denote.Text.{Utf8}
 use denote.Shadow.{shadow}
 use Rattle.lam_rules.specs.ReadableLabels.{HaveReadableLabels}

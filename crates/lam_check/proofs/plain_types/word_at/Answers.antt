@@ -1,4 +1,4 @@
-use Rattle.std.proofs.Common.{codes, sym}
+use Rattle.std.proofs.Common.{codes}
 use Rattle.lam_rules.proofs.TypeShapes.{typ_of-Bool, typ_of-Nat, typ_of-Unit, typ_of-Top}
 use Rattle.lam_check.proofs.PlainTypes.{cut}
 use Rattle.lam_check.proofs.plain_types.word_at.Goals as goal

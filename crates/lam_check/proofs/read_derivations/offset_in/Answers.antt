@@ -1,4 +1,4 @@
-use Rattle.std.proofs.Common.{◌≡◌, ap, ◌∙◌}
+use Rattle.std.proofs.Common.{ap, ◌∙◌}
 use Rattle.serde_json.specs.View.{view}
 use Rattle.lam_text.specs.Positions.{position_of}
 use Rattle.lam_check.proofs.ReadValues.{position_is, not_other_place}

@@ -1,6 +1,4 @@
-use Rattle.std.proofs.Common.{subst, map}
 use Rattle.serde_json.specs.View.{view}
-use Rattle.serde_json.specs.declared.value.Value.{Value}
 use Rattle.lam_check.proofs.ReadValues.{unread_before, listed_there}
 use Rattle.lam_check.proofs.read_derivations.premises_in.Goals as goal
 

@@ -1,4 +1,4 @@
-use Rattle.std.proofs.Common.{◌≡◌, Option, Some, None, ap, sym, ◌∙◌}
+use Rattle.std.proofs.Common.{◌≡◌, Some, None, ap, sym, ◌∙◌}
 use Rattle.lam_token.specs.declared.span.Span.{Span}
 use Rattle.lam_scope.specs.PlacedTerms.{document_terms, term_of, tree_in}
 use Rattle.lam_check.proofs.Verifying.{last_is, span_there}

@@ -1,4 +1,4 @@
-use Rattle.std.proofs.Common.{ap, sym, ◌∙◌, ◌∷◌, [], arith}
+use Rattle.std.proofs.Common.{arith}
 use Rattle.lam_rules.specs.TermViews.{written_of}
 use Rattle.lam_query.specs.Views.{entry_of}
 use Rattle.lam_check.proofs.Verifying.{entries_more, entries_all}

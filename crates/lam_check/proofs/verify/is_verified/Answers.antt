@@ -1,4 +1,4 @@
-use Rattle.std.proofs.Common.{◌≡◌, [], map, Some, ap, sym, subst, ◌∙◌}
+use Rattle.std.proofs.Common.{[], map, ap, sym, subst, ◌∙◌}
 use Rattle.lam_syntax.specs.Views.{command_of}
 use Rattle.lam_scope.specs.Nameless.{first_too_large, statements}
 use Rattle.lam_scope.specs.PlacedTerms.{document_terms, tree_in}
