@@ -73,7 +73,7 @@ pub(crate) fn read(alloc: Global, text: &str) -> Result<Parsed, AllocError>
     collector.commands.shrink_to_fit();
     Ok(Parsed {
         commands: collector.commands,
-        faults: collector.reader.into_faults()?,
+        faults: collector.reader.take_faults()?,
     })
 }
 
@@ -191,15 +191,6 @@ impl<'t> Reader<'t> {
     {
         let mut faults = mem::replace(&mut self.token_faults, Vec::new(self.alloc));
         faults.append(&mut self.piece_faults)?;
-        Ok(faults)
-    }
-
-    /// The faults of all tokens, and behind them those of pieces.
-    pub(crate) fn into_faults(self) -> Result<Vec<Fault>, AllocError>
-        ensures { IfOk result (λ faults. map fault_of faults.items ≡ map fault_of self.entry.token_faults.items ++ map fault_of self.entry.piece_faults.items) }
-    {
-        let mut faults = self.token_faults;
-        faults.extend_from_slice(&self.piece_faults)?;
         Ok(faults)
     }
 }

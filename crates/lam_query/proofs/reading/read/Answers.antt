@@ -28,5 +28,5 @@ returns c =
       are_tokens = are;
       whole = tokens_stand _ _ c.utf8.text are;
       commands = rw c.shrink_to_fit.ensures.items read.commands;
-      faults = rw c.in_ok-into_faults.ensures read.faults;
+      faults = rw c.in_ok-take_faults.ensures.faults read.faults;
     }
