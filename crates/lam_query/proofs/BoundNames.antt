@@ -10,14 +10,15 @@ use Rattle.lam_scope.specs.Names.{Name, binds}
 use Rattle.lam_scope.specs.Numbered.{StandsIfAny}
 use Rattle.lam_typing.specs.Answers.{answer}
 use Rattle.lam_typing.proofs.Growing.{answer_keep, stands_keep}
-use Rattle.lam_query.specs.declared.bound.Binding.{Binding}
-use Rattle.lam_query.specs.declared.bound.Binding.TheVariants as binding
+use Rattle.lam_query.specs.declared.bound.NameNo.{NameNo}
+use Rattle.lam_query.specs.declared.bound.NameNo.TheVariants as binding
 use Rattle.lam_query.specs.declared.bound.Bound.{Bound}
 use Rattle.lam_query.specs.declared.bound.Meanings.{Meanings}
 use Rattle.lam_query.specs.inner.Analysts.{IsBoundAs}
 use Rattle.lam_query.specs.inner.Bound.{number_of, KeepsNumbers, IsBinding, found_over, NumbersStandIn, AllStand, IsSetIn, IsBoundAfter}
 use Rattle.lam_query.specs.inner.Entered.{Lookup, name_bound, type_name_bound}
-use Rattle.lam_query.specs.inner.Rows.{unbound, with_entry}
+use Rattle.lam_query.specs.inner.Kept.{Found, written_too_large, term_too_large, typed, bound_by}
+use Rattle.lam_query.specs.inner.Rows.{unbound, with_entry, StandInFound}
 
 -- ---- nothing is bound
 
@@ -27,7 +28,7 @@ unbound_as ts b none = record { names = λ x. rw (none x).0 refl; types = λ x. 
 -- ---- a table that grows
 
 module _ (ts us : List Typ) (keeps : Keeps ts us) where
-  answer_kept : (o : Option (Option TyNo)) → IfSome o (StandsIfAny ts) → option_map (answer us) o ≡ option_map (answer ts) o
+  pub answer_kept : (o : Option (Option TyNo)) → IfSome o (StandsIfAny ts) → option_map (answer us) o ≡ option_map (answer ts) o
   answer_kept None stands = refl
   answer_kept (Some number) stands = ap Some (answer_keep ts us number keeps stands)
 
@@ -89,9 +90,24 @@ stand_after c ts number old now stand after stands = record {
   type_names = numbers_after ts (type_name_bound c) number old.type_names now.type_names stands stand.type_names after.type_names;
 }
 
+-- the number of what a command binds stands for a type, if it is there
+pub bound_stands : (ts : List Typ) (f : Found) → StandInFound ts f → StandsIfAny ts (bound_by f)
+bound_stands ts (written_too_large s) stand = tt
+bound_stands ts (term_too_large s) stand = tt
+bound_stands ts (typed t) stand = stand.1
+
 -- ---- names keep their numbers
 
-pub binding_kept : (old now : Bound) (c : CommandTree) (o : Option Binding) → KeepsNumbers old now → IsBinding old c o → IsBinding now c o
+pub numbers_same : (b : Bound) → KeepsNumbers b b
+numbers_same b = record { names = λ x n is. is; type_names = λ x n is. is }
+
+pub numbers_trans : (a b c : Bound) → KeepsNumbers a b → KeepsNumbers b c → KeepsNumbers a c
+numbers_trans a b c first second = record {
+  names = λ x n is. second.names x n (first.names x n is);
+  type_names = λ x n is. second.type_names x n (first.type_names x n is);
+}
+
+pub binding_kept : (old now : Bound) (c : CommandTree) (o : Option NameNo) → KeepsNumbers old now → IsBinding old c o → IsBinding now c o
 binding_kept old now c None keeps is = is
 binding_kept old now c (Some (binding.Name n)) keeps (x, name, no_type, number) = (x, name, no_type, keeps.names x n number)
 binding_kept old now c (Some (binding.TypeName n)) keeps (x, no_name, name, number) = (x, no_name, name, keeps.type_names x n number)

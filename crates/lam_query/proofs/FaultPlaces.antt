@@ -5,11 +5,12 @@ use Rattle.std.specs.List.{All, AllByRecursion, filter_map, cons_option}
 use Rattle.std.specs.Option.{option_to_list}
 use Rattle.std.specs.Str.{IsUtf8}
 use Rattle.std.proofs.lemmas.List.{length-map, get_or-map}
-use Rattle.std.proofs.lemmas.List.Elements.{All-from_recursion}
+use Rattle.std.proofs.lemmas.List.Elements.{All-append, All-from_recursion}
 use Rattle.std.proofs.lemmas.List.Sorted.{All-permutation}
 use Rattle.lam_rules.specs.declared.rules.Dialect.{Dialect}
 use Rattle.lam_token.specs.declared.kind.Kind.TheVariants as kind
 use Rattle.lam_token.specs.declared.span.Span.{Span}
+use Rattle.lam_token.specs.Cut.{AreTokensOf, StandsIn}
 use Rattle.lam_token.specs.Lexeme.{Lexeme, lexeme, span_of}
 use Rattle.lam_token.proofs.Cuts as token
 use Rattle.lam_syntax.specs.Trees.{CommandTree}
@@ -21,6 +22,7 @@ use Rattle.lam_scope.specs.Tables.{no_span}
 use Rattle.lam_typing.specs.Blaming.{Blamed}
 use Rattle.lam_scope.proofs.EveryElement.{every_append}
 use Rattle.lam_query.specs.declared.answers.Fault.{Fault as RustFault}
+use Rattle.lam_query.specs.Commands.{AreCommandsOf}
 use Rattle.lam_query.specs.Faults.{Fault}
 use Rattle.lam_query.specs.Sizes.{IsSizeFault, of_written_type, of_term}
 use Rattle.lam_query.specs.SyntaxFaults.{fault_of_token, PieceFault, too_long, spoiled, a_command, goes_wrong, ends_early, PieceFaults, AreSyntaxFaults}
@@ -97,14 +99,31 @@ unviewed Q fs h = λ k default lt.
     let one = h k (fault_of default) (omega arith) in
     rw (get_or-map fault_of fs k default (fault_of default) lt) at one
 
+-- ---- by the tokens of a text
+
+module _ (text : List ℕ) (tokens : List Lexeme) (is_text : IsUtf8 text) (are_tokens : AreTokensOf text tokens) where
+  stand : All (StandsIn text) tokens
+  stand = token.tokens_stand text tokens is_text are_tokens
+
+  pub syntax_stands : (fs : List Fault) → AreSyntaxFaults tokens fs → All (λ f. IsSpanOfText text f.span) fs
+  syntax_stands fs are =
+      All-from_recursion (λ f. IsSpanOfText text f.span) fs
+      (in_syntax (IsSpanOfText text) (stands_spread text) tokens fs (tokens_stand text tokens stand) are)
+
+  module _ (commands : List CommandTree) (are_commands : AreCommandsOf (pieces_of tokens) commands) (d : Dialect) where
+    pub types_stand : (fs : List Fault) → AreTypeFaults commands fs d → All (λ f. IsSpanOfText text f.span) fs
+    types_stand fs are =
+        All-from_recursion (λ f. IsSpanOfText text f.span) fs
+        (in_types (IsSpanOfText text) commands fs d (starts_stand text is_text) (commands_stand text tokens commands stand are_commands) are)
+
+    pub size_stands : (s : Span) → IsSizeFault commands s d → IsSpanOfText text s
+    size_stands s size = size_in (IsSpanOfText text) commands s d (starts_stand text is_text) (commands_stand text tokens commands stand are_commands) size
+
 pub faults_stand : (text : List ℕ) (ordered : List RustFault) (d : Dialect) → IsUtf8 text → AreFaults text (map fault_of ordered) d
     → All (λ f. IsSpanOfText text f.span) ordered
 faults_stand text ordered d is_text are =
-    let stand = token.tokens_stand text are.tokens is_text are.are_tokens in
-    let within = commands_stand text are.tokens are.commands stand are.are_commands in
-    let first = in_syntax (IsSpanOfText text) (stands_spread text) are.tokens are.of_syntax (tokens_stand text are.tokens stand) are.are_of_syntax in
-    let second = in_types (IsSpanOfText text) are.commands are.of_types d (starts_stand text is_text) within are.are_of_types in
-    let every = every_append (InFault (IsSpanOfText text)) are.of_syntax are.of_types first second in
     unviewed (IsSpanOfText text) ordered
     (All-permutation (λ f. IsSpanOfText text f.span) (are.of_syntax ++ are.of_types) (map fault_of ordered) are.in_order.same
-    (All-from_recursion (λ f. IsSpanOfText text f.span) (are.of_syntax ++ are.of_types) every))
+    (All-append (λ f. IsSpanOfText text f.span) are.of_syntax are.of_types
+    (syntax_stands text are.tokens is_text are.are_tokens are.of_syntax are.are_of_syntax)
+    (types_stand text are.tokens is_text are.are_tokens are.commands are.are_commands d are.of_types are.are_of_types)))

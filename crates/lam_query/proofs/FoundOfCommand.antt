@@ -37,16 +37,15 @@ use Rattle.lam_typing.proofs.AlikeStatements.{lowest_of_entries}
 use Rattle.lam_typing.proofs.Growing.{answer_keep, stands_keep, length-answers}
 use Rattle.lam_typing.proofs.Together.{least_length}
 use Rattle.lam_query.specs.declared.bound.Bound.{Bound}
-use Rattle.lam_query.specs.declared.rows.Found.TheVariants as found
-use Rattle.lam_query.specs.declared.rows.FoundTypes.{FoundTypes}
+use Rattle.lam_query.specs.inner.Kept as found
 use Rattle.lam_query.specs.declared.typed_commands.Stated.{Stated}
 use Rattle.lam_query.specs.Sizes.{places_in}
 use Rattle.lam_query.specs.SyntaxFaults.{fault_at}
 use Rattle.lam_query.specs.TextFaults.{written_fault}
-use Rattle.lam_query.specs.Views.{fault_of}
 use Rattle.lam_query.specs.inner.Analysts.{IsBoundAs}
 use Rattle.lam_query.specs.inner.Checked.{abbreviations_behind, context_after, AreChecked}
 use Rattle.lam_query.specs.inner.Entered.{Lookup, type_name_bound, type_bound}
+use Rattle.lam_query.specs.inner.Kept.{FoundTypes}
 use Rattle.lam_query.specs.inner.Rows.{AgreeOn, types_of, own_fault, IsFoundOf}
 use Rattle.lam_query.specs.inner.TypedCommands.{types_around, names_around, entries_around, IsStatedBy, bound_number}
 use Rattle.lam_query.proofs.Checked.{command_checked, place_too_large}
@@ -169,7 +168,7 @@ module _ (names others : Lookup) (ts : List Typ) (b : Bound) (c : CommandTree) (
   limit_same bs agree = same_command_limit bs (types_around ts b c) c (types_same names others ts b c bound bs agree)
 
   pub large_written_type : (now : List Typ) (s : Span) (d : Dialect) → first_over_limit (types_around ts b c) (written_in_command c) ≡ Some s
-      → IsFoundOf names others c now (found.LargeWrittenType s) d
+      → IsFoundOf names others c now (found.written_too_large s) d
   large_written_type now s d over = record {
     stand = tt;
     written = λ bs agree. limit_same bs agree ∙ over;
@@ -209,7 +208,7 @@ module _ (names others : Lookup) (ts : List Typ) (b : Bound) (c : CommandTree) (
     stopped cut_off wf = is.front cut_off (scope_of_entries Entries) (lowest_of_entries Entries d wf)
 
     pub large_term : (n : ℕ) (place : Span) → n ≡ length r.types.items → place ≡ (place_row_numbered (table (c ∷ [])) n).span → IsFalse r.complete
-        → IsFoundOf names others c now (found.LargeTerm place) d
+        → IsFoundOf names others c now (found.term_too_large place) d
     large_term n place counted there cut_off = record {
       stand = tt;
       written = λ bs agree. (limit_same bs agree ∙ within, names_no_type ts b c More Codes d (stopped cut_off));
@@ -230,9 +229,9 @@ module _ (names others : Lookup) (ts : List Typ) (b : Bound) (c : CommandTree) (
           };
     }
 
-    pub all_types : (t : FoundTypes) → Keeps mid now → t.types.items ≡ r.types.items → t.bound ≡ bound_number s.statement r.entry
-        → map fault_of t.faults.items ≡ map written_fault s.faults.items ++ map (own_fault c) Codes → IsTrue r.complete
-        → IsFoundOf names others c now (found.Types t) d
+    pub all_types : (t : FoundTypes) → Keeps mid now → t.types ≡ r.types.items → t.bound ≡ bound_number s.statement r.entry
+        → t.faults ≡ map written_fault s.faults.items ++ map (own_fault c) Codes → IsTrue r.complete
+        → IsFoundOf names others c now (found.typed t) d
     all_types t keeps types same faults complete = record {
       stand = (
         subst (AllStandIn now) (sym types) is.stand,
@@ -259,8 +258,8 @@ module _ (names others : Lookup) (ts : List Typ) (b : Bound) (c : CommandTree) (
                 let entry : context_after g c (answer now r.entry) ≡ context_after g c (answer now t.bound) =
                 context_same (types_around ts b c) (names_around ts b c) mid now g s.statement c r.entry stated.states
                 ∙ ap (λ n. context_after g c (answer now n)) (sym same) in
-                let more : More ≡ answers now t.types.items = ap (answers now) (sym types) in
-                subst (λ h. AreChecked (done ++ c ∷ []) h (found ++ answers now t.types.items) (blames ++ renumbered (length found) Codes) d) entry
+                let more : More ≡ answers now t.types = ap (answers now) (sym types) in
+                subst (λ h. AreChecked (done ++ c ∷ []) h (found ++ answers now t.types) (blames ++ renumbered (length found) Codes) d) entry
                 (subst (λ os. AreChecked (done ++ c ∷ []) (context_after g c (answer now r.entry)) (found ++ os) (blames ++ renumbered (length found) Codes) d) more
                 (command_checked done g found blames d checked c (types_around ts b c) (names_around ts b c) Entries environment More Codes (answer now r.entry)
                 within every (is.entry complete (scope_of_entries Entries) (lowest_of_entries Entries d environment.wf))));

@@ -4,7 +4,7 @@ use Rattle.std.specs.Option.{option_map, option_or, is_some}
 use Rattle.std.specs.Prelude.{IfSome}
 use Rattle.std.specs.Str.{IsUtf8, IsCharBoundary}
 use Rattle.std.proofs.lemmas.Grind.{flat_map-append}
-use Rattle.std.proofs.lemmas.List.{get_or_default, get_or-append-add, get_or_append_left, get_or_at, get_or-map, length-map, length-take-le, map-append}
+use Rattle.std.proofs.lemmas.List.{get_or_default, get_or-append-add, get_or_append_left, get_or_at, get_or-map, length-map, length-take-le, map-append, take_at}
 use Rattle.std.proofs.lemmas.List.Quantifiers.{position-Some}
 use Rattle.lam_token.specs.declared.span.Span.{Span}
 use Rattle.lam_token.specs.Lexeme.{Lexeme}
@@ -23,13 +23,8 @@ use Rattle.lam_typing.proofs.Growing.{stands_at}
 use Rattle.lam_typing.proofs.Together.{least_length}
 use Rattle.lam_query.specs.declared.analyses.Analysis.{Analysis}
 use Rattle.lam_query.specs.declared.answers.Hover.{Hover}
-use Rattle.lam_query.specs.declared.bound.Bound.{Bound}
-use Rattle.lam_query.specs.declared.rows.CommandRow.{CommandRow}
-use Rattle.lam_query.specs.declared.rows.Found.{Found}
-use Rattle.lam_query.specs.declared.rows.Found.TheVariants.{LargeWrittenType, LargeTerm, Types}
-use Rattle.lam_query.specs.declared.rows.FoundTypes.{FoundTypes}
 use Rattle.lam_query.specs.declared.rows.PlacedRow.{PlacedRow}
-use Rattle.lam_query.specs.declared.rows.Row.{Row}
+use Rattle.lam_query.specs.declared.rows.Row.{Row as RustRow}
 use Rattle.lam_query.specs.Analyses.{IsAnalysisOf}
 use Rattle.lam_query.specs.Commands.{AreCommandsOfText}
 use Rattle.lam_query.specs.Hovers.{Shown, IsShownIn}
@@ -39,7 +34,9 @@ use Rattle.lam_query.specs.Within.{IsSpanOfText}
 use Rattle.lam_query.specs.inner.Checked.{abbreviations_behind, names_behind, scope_behind}
 use Rattle.lam_query.specs.inner.Entered.{Lookup}
 use Rattle.lam_query.specs.inner.OnePiece.{HaveNoSemicolon, IsOwnOf, IsOffsetIn, one_command, no_command, ArePieceTokens, IsShownInCommand, by_no_term, by_no_type, by_type, IsShownByPiece, by_no_command, by_command}
-use Rattle.lam_query.specs.inner.Rows.{Front, nothing, front_with, IsKeptOf, IsRow, AreRowsFrom, StandInFound, found_of, large_written_type, large_term, types_of_found, types_listed, types_found, first_in, first_large, all_types, AreAllTyped, IsRowAround}
+use Rattle.lam_query.specs.inner.Kept.{CommandRow, Found, written_too_large, term_too_large, typed, FoundTypes, Row, row_of, rows_of, found_in, large_written_type, large_term, types_of_found, types_listed, types_found, bytes_of, first_in, first_large, all_types, found_types_after, found_after, command_row_after, row_after, placed}
+use Rattle.lam_query.specs.inner.PieceRows.{outset}
+use Rattle.lam_query.specs.inner.Rows.{Front, nothing, front_with, IsKeptOf, IsRow, AreRowsFrom, StandInFound, AreAllTyped, IsRowAround}
 use Rattle.lam_query.proofs.Answering.{starts_stand}
 use Rattle.lam_query.proofs.Checked.{checked_small}
 use Rattle.lam_query.proofs.CheckedLists.{terms_push}
@@ -47,7 +44,10 @@ use Rattle.lam_query.proofs.Hovering.{too_large_around}
 use Rattle.lam_query.proofs.KnownRows.{known_through, size_told}
 use Rattle.lam_query.proofs.RowsAndTerms.{innermost_number, span_told}
 use Rattle.lam_query.proofs.RowLists.{rows_push}
+use Rattle.lam_query.proofs.PieceRowLists.{as_many as as_many_rows}
 use Rattle.lam_query.proofs.RowPieces.{begins_between, ends_between}
+use Rattle.lam_query.proofs.RowsInText.{AreInText, in_text}
+use Rattle.lam_query.proofs.RowsPlaced.{placed_append, as_many_placed, placed_ends, around_row}
 use Rattle.lam_query.proofs.ShownByPiece.{shown_by_piece}
 use Rattle.lam_query.proofs.SpelledRows.{spelled_through, whole_spelled}
 use Rattle.lam_query.proofs.TermsAlone.{command_size}
@@ -83,18 +83,18 @@ none_of_both None y none = (refl, none)
 none_of_both (Some s) y none = absurd cc
 
 none_in_parts : (f : Option Found → Option Span) (front : List Row) (r : Row) (behind : List Row) → first_in f (front ++ r ∷ behind) ≡ None
-    → (first_in f front ≡ None) × (f (found_of r) ≡ None)
-none_in_parts f [] r behind none = (refl, (none_of_both (f (found_of r)) (first_in f behind) none).0)
+    → (first_in f front ≡ None) × (f (found_in r) ≡ None)
+none_in_parts f [] r behind none = (refl, (none_of_both (f (found_in r)) (first_in f behind) none).0)
 none_in_parts f (s ∷ front) r behind none =
-    let both = none_of_both (f (found_of s)) (first_in f (front ++ r ∷ behind)) none in
+    let both = none_of_both (f (found_in s)) (first_in f (front ++ r ∷ behind)) none in
     let rest = none_in_parts f front r behind both.1 in
     (ap (λ x. option_or x (first_in f front)) both.0 ∙ rest.0, rest.1)
 
 -- a row among others: none in front of it, and none of its own
 record IsSmallAmong (front : List Row) (r : Row) : Type 0 where
   ahead : first_large front ≡ None
-  written : large_written_type (found_of r) ≡ None
-  term : large_term (found_of r) ≡ None
+  written : large_written_type (found_in r) ≡ None
+  term : large_term (found_in r) ≡ None
 
 small_among : (front : List Row) (r : Row) (behind : List Row) → first_large (front ++ r ∷ behind) ≡ None → IsSmallAmong front r
 small_among front r behind none =
@@ -103,43 +103,43 @@ small_among front r behind none =
     let term = none_in_parts large_term front r behind both.1 in
     record { ahead = ap (λ x. option_or x (first_in large_term front)) written.0 ∙ term.0; written = written.1; term = term.1 }
 
-none_pushed : (f : Option Found → Option Span) (front : List Row) (r : Row) → first_in f front ≡ None → f (found_of r) ≡ None → first_in f (front ++ r ∷ []) ≡ None
+none_pushed : (f : Option Found → Option Span) (front : List Row) (r : Row) → first_in f front ≡ None → f (found_in r) ≡ None → first_in f (front ++ r ∷ []) ≡ None
 none_pushed f [] r none own = ap (λ x. option_or x None) own
 none_pushed f (s ∷ front) r none own =
-    let both = none_of_both (f (found_of s)) (first_in f front) none in
+    let both = none_of_both (f (found_in s)) (first_in f front) none in
     ap (λ x. option_or x (first_in f (front ++ r ∷ []))) both.0 ∙ none_pushed f front r both.1 own
 
 -- ---- what is kept of the command of a row
 
-stand_of : (ts : List Typ) (found : Found) (t : FoundTypes) → StandInFound ts found → types_of_found (Some found) ≡ Some t → AllStandIn ts t.types.items
-stand_of ts (LargeWrittenType s) t stand is = absurd cc
-stand_of ts (LargeTerm s) t stand is = absurd cc
-stand_of ts (Types u) t stand is = let same : u ≡ t = cc in subst (λ v. AllStandIn ts v.types.items) same stand.0
+stand_of : (ts : List Typ) (found : Found) (t : FoundTypes) → StandInFound ts found → types_of_found (Some found) ≡ Some t → AllStandIn ts t.types
+stand_of ts (written_too_large s) t stand is = absurd cc
+stand_of ts (term_too_large s) t stand is = absurd cc
+stand_of ts (typed u) t stand is = let same : u ≡ t = cc in subst (λ v. AllStandIn ts v.types) same stand.0
 
 -- the numbers of its types stand in the table
-kept_stand : (names types : Lookup) (own : List CommandTree) (ts : List Typ) (r : Option CommandRow) (b : Bound) (d : Dialect) (t : FoundTypes)
-    → IsKeptOf names types own ts r b d → types_of_found (option_map (λ c. c.found) r) ≡ Some t → AllStandIn ts t.types.items
-kept_stand names types [] ts None b d t kept is = absurd cc
-kept_stand names types [] ts (Some r) b d t kept is = absurd kept
-kept_stand names types (c ∷ []) ts None b d t kept is = absurd kept
-kept_stand names types (c ∷ []) ts (Some r) b d t kept is = stand_of ts r.found t kept.0.stand is
-kept_stand names types (c ∷ e ∷ own) ts None b d t kept is = absurd kept
-kept_stand names types (c ∷ e ∷ own) ts (Some r) b d t kept is = absurd kept
+kept_stand : (names types : Lookup) (own : List CommandTree) (ts : List Typ) (r : Option CommandRow) (d : Dialect) (t : FoundTypes)
+    → IsKeptOf names types own ts r d → types_of_found (option_map (λ c. c.found) r) ≡ Some t → AllStandIn ts t.types
+kept_stand names types [] ts None d t kept is = absurd cc
+kept_stand names types [] ts (Some r) d t kept is = absurd kept
+kept_stand names types (c ∷ []) ts None d t kept is = absurd kept
+kept_stand names types (c ∷ []) ts (Some r) d t kept is = stand_of ts r.found t kept.stand is
+kept_stand names types (c ∷ e ∷ own) ts None d t kept is = absurd kept
+kept_stand names types (c ∷ e ∷ own) ts (Some r) d t kept is = absurd kept
 
 some_type : (found : Found) → types_of_found (Some found) ≡ None → large_written_type (Some found) ≡ None → large_term (Some found) ≡ None → ⊥
-some_type (LargeWrittenType s) none written term = absurd cc
-some_type (LargeTerm s) none written term = absurd cc
-some_type (Types t) none written term = absurd cc
+some_type (written_too_large s) none written term = absurd cc
+some_type (term_too_large s) none written term = absurd cc
+some_type (typed t) none written term = absurd cc
 
 -- without types it is none
-kept_none : (names types : Lookup) (own : List CommandTree) (ts : List Typ) (r : Option CommandRow) (b : Bound) (d : Dialect)
-    → IsKeptOf names types own ts r b d → types_of_found (option_map (λ c. c.found) r) ≡ None
+kept_none : (names types : Lookup) (own : List CommandTree) (ts : List Typ) (r : Option CommandRow) (d : Dialect)
+    → IsKeptOf names types own ts r d → types_of_found (option_map (λ c. c.found) r) ≡ None
     → large_written_type (option_map (λ c. c.found) r) ≡ None → large_term (option_map (λ c. c.found) r) ≡ None → own ≡ []
-kept_none names types [] ts r b d kept none written term = refl
-kept_none names types (c ∷ []) ts None b d kept none written term = absurd kept
-kept_none names types (c ∷ []) ts (Some r) b d kept none written term = absurd (some_type r.found none written term)
-kept_none names types (c ∷ e ∷ own) ts None b d kept none written term = absurd kept
-kept_none names types (c ∷ e ∷ own) ts (Some r) b d kept none written term = absurd kept
+kept_none names types [] ts r d kept none written term = refl
+kept_none names types (c ∷ []) ts None d kept none written term = absurd kept
+kept_none names types (c ∷ []) ts (Some r) d kept none written term = absurd (some_type r.found none written term)
+kept_none names types (c ∷ e ∷ own) ts None d kept none written term = absurd kept
+kept_none names types (c ∷ e ∷ own) ts (Some r) d kept none written term = absurd kept
 
 own_same : (tokens : List Lexeme) (own others : List CommandTree) → IsOwnOf tokens own → IsOwnOf tokens others → own ≡ others
 own_same tokens _ _ (one_command h) (one_command k) = ap (λ c. c ∷ []) (one_tree h.spelled k.spelled)
@@ -157,13 +157,13 @@ typed_terms f rows ts d known =
     ∙ length-map (document_terms f.commands) _
 
 types_joined : (front behind : List Row) → all_types (front ++ behind) ≡ all_types front ++ all_types behind
-types_joined front behind = flat_map-append (λ r. types_found (found_of r)) front behind
+types_joined front behind = flat_map-append (λ r. types_found (found_in r)) front behind
 
 -- those of a row among all
-own_types : (ts : List Typ) (front : List Row) (r : Row) (behind : List Row) (n : ℕ) → n < length (types_found (found_of r))
-    → get_or (answers ts (all_types (front ++ r ∷ behind))) (length (all_types front) + n) None ≡ get_or (answers ts (types_found (found_of r))) n None
+own_types : (ts : List Typ) (front : List Row) (r : Row) (behind : List Row) (n : ℕ) → n < length (types_found (found_in r))
+    → get_or (answers ts (all_types (front ++ r ∷ behind))) (length (all_types front) + n) None ≡ get_or (answers ts (types_found (found_in r))) n None
 own_types ts front r behind n lt =
-    let own = types_found (found_of r) in
+    let own = types_found (found_in r) in
     let ahead = answers ts (all_types front) in
     let all : answers ts (all_types (front ++ r ∷ behind)) ≡ ahead ++ (answers ts own ++ answers ts (all_types behind)) =
     ap (answers ts) (types_joined front (r ∷ behind)) ∙ map-append (answer ts) (all_types front) (own ++ all_types behind)
@@ -190,103 +190,191 @@ shown_among c before own all o _ same (by_type {n = n} at found text span) = by_
 
 -- ---- where some type is too large
 
-pub large_shown : (text : List ℕ) (a : Analysis) (o : ℕ) → IsAnalysisOf text a → is_some a.large ≡ true → IsShownIn text o None a.dialect
-large_shown text a o h some = by a.large refl some
+-- the rows of an analysis, where they stand in its text
+abbrev rows_in : Analysis → List Row
+rows_in a = placed 0 (rows_of a.rows.items)
+
+commands_of : (text : List ℕ) (a : Analysis) → IsAnalysisOf text a → (there : AreInText text a) → AreCommandsOfText text there.front.commands
+commands_of text a h there =
+    let of = whole_spelled text (rows_in a) there.front (types_in a.types) a.dialect h.is_text there.rows there.whole in
+    record { tokens = of.tokens; are_tokens = of.are_tokens; are_commands = of.are_commands }
+
+pub large_shown : (text : List ℕ) (a : Analysis) (o : ℕ) → IsAnalysisOf text a → is_some a.told.large ≡ true → IsShownIn text o None a.dialect
+large_shown text a o h some = by a.told.large refl some
   where
-    by : (large : Option Span) → a.large ≡ large → is_some large ≡ true → IsShownIn text o None a.dialect
+    by : (large : Option Span) → a.told.large ≡ large → is_some large ≡ true → IsShownIn text o None a.dialect
     by None is large = absurd cc
     by (Some s) is large =
-        let of = whole_spelled text a.rows.items h.front (types_in a.types) a.bound a.dialect h.is_text h.rows h.whole in
+        let there = in_text text a h in
         record {
-          commands = h.front.commands;
-          are_commands = record { tokens = of.tokens; are_tokens = of.are_tokens; are_commands = of.are_commands };
-          answer = too_large_around h.front.commands s o a.dialect
-              (size_told text a.rows.items h.front (types_in a.types) a.bound a.dialect s h.rows (sym h.large ∙ is));
+          commands = there.front.commands;
+          are_commands = commands_of text a h there;
+          answer = too_large_around there.front.commands s o a.dialect
+              (size_told text (rows_in a) there.front (types_in a.types) a.dialect s there.rows (sym h.large ∙ is));
         }
 
 -- ---- by the piece
 
+-- types stay where a row is placed
+
+types_of_placed : (n : ℕ) (f : Option Found) → types_of_found (option_map (found_after n) f) ≡ option_map (found_types_after n) (types_of_found f)
+types_of_placed n None = refl
+types_of_placed n (Some (written_too_large s)) = refl
+types_of_placed n (Some (term_too_large s)) = refl
+types_of_placed n (Some (typed t)) = refl
+
+found_in_placed : (n : ℕ) (o : Option CommandRow)
+    → option_map (λ k. k.found) (option_map (command_row_after n) o) ≡ option_map (found_after n) (option_map (λ k. k.found) o)
+found_in_placed n None = refl
+found_in_placed n (Some k) = refl
+
+types_placed : (n : ℕ) (r : Row) → types_of_found (found_in (row_after n r)) ≡ option_map (found_types_after n) (types_of_found (found_in r))
+types_placed n r = ap types_of_found (found_in_placed n r.command) ∙ types_of_placed n (found_in r)
+
+-- the last piece has a row
+pub some_row : (text : List ℕ) (a : Analysis) → IsAnalysisOf text a → a.rows.items ≡ [] → ⊥
+some_row text a h none =
+    let many = as_many_rows outset (h.ended ++ h.last ∷ []) (rows_of a.rows.items) h.sight (types_in a.types) a.bound a.dialect h.rows in
+    absurd (omega (arith, many, length-map a.rows.items row_of, ap length none, length-append h.ended (h.last ∷ [])))
+
 -- the row round the offset
-module _ (text : List ℕ) (a : Analysis) (o : ℕ) (p : PlacedRow) (h : IsAnalysisOf text a) (rows : List Row) (rows_are : rows ≡ a.rows.items)
-    (there : (text : List ℕ) (f : Front) (ts : List Typ) (b : Bound) (d : Dialect) → AreRowsFrom text nothing rows f ts b d → f.end ≡ length text
-    → IsRowAround text o rows p ts b d) where
+module _ (text : List ℕ) (a : Analysis) (o : ℕ) (p : PlacedRow) (h : IsAnalysisOf text a) (rows : List RustRow) (rows_are : rows ≡ a.rows.items)
+    (there : (text : List ℕ) (f : Front) (ts : List Typ) (d : Dialect) → AreRowsFrom text nothing (placed 0 (rows_of rows)) f ts d → f.end ≡ length text
+    → IsRowAround text o (placed 0 (rows_of rows)) p ts d) where
   abbrev Numbers : List Typ
   Numbers = types_in a.types
 
-  around : IsRowAround text o a.rows.items p Numbers a.bound a.dialect
+  abbrev Rows : List Row
+  Rows = rows_in a
+
+  all : AreInText text a
+  all = in_text text a h
+
+  around : IsRowAround text o Rows p Numbers a.dialect
   around =
-      subst (λ rs. IsRowAround text o rs p Numbers a.bound a.dialect) rows_are
-      (there text h.front Numbers a.bound a.dialect (subst (λ rs. AreRowsFrom text nothing rs h.front Numbers a.bound a.dialect) (sym rows_are) h.rows) h.whole)
+      subst (λ rs. IsRowAround text o (placed 0 (rows_of rs)) p Numbers a.dialect) rows_are
+      (there text all.front Numbers a.dialect (subst (λ rs. AreRowsFrom text nothing (placed 0 (rows_of rs)) all.front Numbers a.dialect) (sym rows_are) all.rows) all.whole)
+
+  pub number_inside : p.number < length a.rows.items
+  number_inside = omega (
+    arith,
+    around.counted,
+    ap length around.are,
+    length-append around.before (around.row ∷ around.after),
+    as_many_placed 0 (rows_of a.rows.items),
+    length-map a.rows.items row_of,
+  )
 
   -- it is this one
-  module _ (r e : Row) (is : r ≡ get_or a.rows.items p.number e) where
-    same : around.row ≡ r
-    same =
-        sym (get_or_at around.before around.row around.after e p.number (sym around.counted)) ∙ ap (λ rs. get_or rs p.number e) (sym around.are) ∙ sym is
+  module _ (r e : RustRow) (is : r ≡ get_or a.rows.items p.number e) where
+    abbrev Ahead : List Row
+    Ahead = rows_of (take p.number a.rows.items)
 
-    are : a.rows.items ≡ around.before ++ r ∷ around.after
+    abbrev Behind : List Row
+    Behind = rows_of (drop (p.number + 1) a.rows.items)
+
+    abbrev There : Row
+    There = row_after p.start (row_of r)
+
+    parts : Rows ≡ placed 0 Ahead ++ placed (bytes_of Ahead + 0) (row_of (get_or a.rows.items p.number e) ∷ Behind)
+    parts =
+        ap (placed 0) (around_row a.rows.items p.number e number_inside) ∙ placed_append 0 Ahead (row_of (get_or a.rows.items p.number e) ∷ Behind)
+
+    as_many_ahead : length (placed 0 Ahead) ≡ p.number
+    as_many_ahead = omega (
+      arith,
+      number_inside,
+      as_many_placed 0 Ahead,
+      length-map (take p.number a.rows.items) row_of,
+      length-take-le p.number a.rows.items (omega (arith, number_inside)),
+    )
+
+    same_ahead : around.before ≡ placed 0 Ahead
+    same_ahead =
+        sym (take_at around.before (around.row ∷ around.after) p.number (sym around.counted)) ∙ ap (take p.number) (sym around.are ∙ parts)
+        ∙ take_at (placed 0 Ahead) (placed (bytes_of Ahead + 0) (row_of (get_or a.rows.items p.number e) ∷ Behind)) p.number as_many_ahead
+
+    starts : bytes_of Ahead + 0 ≡ p.start
+    starts =
+        let end =
+        placed_ends text nothing Ahead around.front Numbers a.dialect
+        (subst (λ rs. AreRowsFrom text nothing rs around.front Numbers a.dialect) same_ahead around.rows_before) in
+        omega (arith, end, around.starts)
+
+    same : around.row ≡ There
+    same =
+        sym (get_or_at around.before around.row around.after around.row p.number (sym around.counted))
+        ∙ ap (λ rs. get_or rs p.number around.row) (sym around.are ∙ parts)
+        ∙ get_or_at (placed 0 Ahead) (row_after (bytes_of Ahead + 0) (row_of (get_or a.rows.items p.number e)))
+        (placed ((get_or a.rows.items p.number e).end + (bytes_of Ahead + 0)) Behind) around.row p.number as_many_ahead
+        ∙ (λ j. row_after (starts j) (row_of (sym is j)))
+
+    are : Rows ≡ around.before ++ There ∷ around.after
     are = around.are ∙ ap (λ s. around.before ++ s ∷ around.after) same
 
-    here : IsRow text around.front around.own r Numbers a.bound a.dialect
-    here = subst (λ s. IsRow text around.front around.own s Numbers a.bound a.dialect) same around.is_row
+    here : IsRow text around.front around.own There Numbers a.dialect
+    here = subst (λ s. IsRow text around.front around.own s Numbers a.dialect) same around.is_row
 
-    pub is_forward : p.start ≤ r.end
-    is_forward = omega (arith, around.starts, here.forward)
+    -- it ends in the text
+
+    end_is : There.end ≡ p.start + r.end
+    end_is = omega arith
+
+    pub ends_inside : p.start + r.end ≤ length text
+    ends_inside = omega (arith, here.inside)
 
     -- it begins and ends between characters
 
     pub starts_between : IsCharBoundary text p.start
     starts_between =
-        subst (IsCharBoundary text) (sym around.starts) (begins_between text around.front.end r.end here.tokens h.is_text here.forward here.inside here.piece)
+        subst (IsCharBoundary text) (sym around.starts)
+        (begins_between text around.front.end There.end here.tokens h.is_text here.forward here.inside here.piece)
 
-    pub stops_between : IsCharBoundary text r.end
-    stops_between = ends_between text around.front.end r.end here.tokens h.is_text here.forward here.inside here.piece
+    pub stops_between : IsCharBoundary text (p.start + r.end)
+    stops_between =
+        subst (IsCharBoundary text) end_is (ends_between text around.front.end There.end here.tokens h.is_text here.forward here.inside here.piece)
 
     -- what its piece alone is read as
     abbrev ReadAs : List CommandTree → Type 0
-    ReadAs own = (rest : List ℕ) (tokens : List Lexeme) → ArePieceTokens p.start (slice_range text p.start r.end) rest tokens → HaveNoSemicolon tokens
+    ReadAs own = (rest : List ℕ) (tokens : List Lexeme) → ArePieceTokens p.start (slice_range text p.start (p.start + r.end)) rest tokens → HaveNoSemicolon tokens
         → IsOwnOf tokens own
 
     read_own : (own : List CommandTree) → ReadAs own → IsOwnOf here.tokens own
-    read_own own read = read (drop r.end text) here.tokens tokens_there here.piece.one_piece
+    read_own own read = read (drop There.end text) here.tokens tokens_there here.piece.one_piece
       where
-        tokens_there : ArePieceTokens p.start (slice_range text p.start r.end) (drop r.end text) here.tokens
+        tokens_there : ArePieceTokens p.start (slice_range text p.start (p.start + r.end)) (drop There.end text) here.tokens
         tokens_there =
-            subst (λ n. ArePieceTokens n (slice_range text n r.end) (drop r.end text) here.tokens) (sym around.starts)
-            (subst (λ n. ArePieceTokens n (slice_range text around.front.end r.end) (drop r.end text) here.tokens)
-            (length-take-le around.front.end text (omega (arith, here.forward, here.inside))) here.piece.are_own)
+            subst (λ m. ArePieceTokens p.start (slice_range text p.start m) (drop There.end text) here.tokens) end_is
+            (subst (λ n. ArePieceTokens n (slice_range text n There.end) (drop There.end text) here.tokens) (sym around.starts)
+            (subst (λ n. ArePieceTokens n (slice_range text around.front.end There.end) (drop There.end text) here.tokens)
+            (length-take-le around.front.end text (omega (arith, here.forward, here.inside))) here.piece.are_own))
 
     -- no type is too large
-    module _ (not_large : is_some a.large ≡ false) where
-      small : first_large a.rows.items ≡ None
-      small = sym h.large ∙ none_from a.large not_large
+    module _ (not_large : is_some a.told.large ≡ false) where
+      small : first_large Rows ≡ None
+      small = sym h.large ∙ none_from a.told.large not_large
 
-      small_there : IsSmallAmong around.before r
-      small_there = small_among around.before r around.after (ap first_large (sym are) ∙ small)
+      small_there : IsSmallAmong around.before There
+      small_there = small_among around.before There around.after (ap first_large (sym are) ∙ small)
 
-      known : AreAllTyped h.front a.rows.items Numbers a.dialect
-      known = known_through text a.rows.items h.front Numbers a.bound a.dialect h.rows small
+      known : AreAllTyped all.front Rows Numbers a.dialect
+      known = known_through text Rows all.front Numbers a.dialect all.rows small
 
       ahead : AreAllTyped around.front around.before Numbers a.dialect
-      ahead = known_through text around.before around.front Numbers a.bound a.dialect around.rows_before small_there.ahead
-
-      commands : AreCommandsOfText text h.front.commands
-      commands =
-          let of = whole_spelled text a.rows.items h.front Numbers a.bound a.dialect h.is_text h.rows h.whole in
-          record { tokens = of.tokens; are_tokens = of.are_tokens; are_commands = of.are_commands }
+      ahead = known_through text around.before around.front Numbers a.dialect around.rows_before small_there.ahead
 
       commands_ahead : AreCommandsOfText (take around.front.end text) around.front.commands
       commands_ahead =
-          let of = spelled_through text around.before around.front Numbers a.bound a.dialect h.is_text around.rows_before in
+          let of = spelled_through text around.before around.front Numbers a.dialect h.is_text around.rows_before in
           record { tokens = of.tokens; are_tokens = of.are_tokens; are_commands = of.are_commands }
 
-      shown : (s : Option Shown) → IsShownByPiece here.tokens (length (document_terms around.front.commands)) (answers Numbers (all_types a.rows.items)) o s
+      shown : (s : Option Shown) → IsShownByPiece here.tokens (length (document_terms around.front.commands)) (answers Numbers (all_types Rows)) o s
           → IsShownIn text o s a.dialect
       shown s by_piece =
-          shown_by_piece text (take around.front.end text) (slice_range text around.front.end r.end) (drop r.end text) here.tokens
-          h.front.commands around.front.commands (answers Numbers (all_types a.rows.items)) o s a.dialect here.piece commands commands_ahead
-          (subst (λ s. IsOffsetIn o (take around.front.end text) (slice_range text around.front.end s.end) (drop s.end text)) same around.is_there)
-          (checked_small h.front.commands known.context (answers Numbers (all_types a.rows.items)) known.blames a.dialect known.checked)
+          shown_by_piece text (take around.front.end text) (slice_range text around.front.end There.end) (drop There.end text) here.tokens
+          all.front.commands around.front.commands (answers Numbers (all_types Rows)) o s a.dialect here.piece (commands_of text a h all) commands_ahead
+          (subst (λ (s : Row). IsOffsetIn o (take around.front.end text) (slice_range text around.front.end s.end) (drop s.end text)) same around.is_there)
+          (checked_small all.front.commands known.context (answers Numbers (all_types Rows)) known.blames a.dialect known.checked)
           known.checked.shown.least by_piece
 
       no_own_shown : IsOwnOf here.tokens [] → IsShownIn text o None a.dialect
@@ -297,19 +385,23 @@ module _ (text : List ℕ) (a : Analysis) (o : ℕ) (p : PlacedRow) (h : IsAnaly
       no_command_shown read = no_own_shown (read_own [] read)
 
       -- no types are kept
-      pub no_types_shown : types_of_found (found_of r) ≡ None → IsShownIn text o None a.dialect
+      pub no_types_shown : types_of_found (found_in (row_of r)) ≡ None → IsShownIn text o None a.dialect
       no_types_shown without =
-          let no_own = kept_none around.front.names around.front.types around.own Numbers r.command a.bound a.dialect here.kept without
-          small_there.written small_there.term in
+          let no_own = kept_none around.front.names around.front.types around.own Numbers There.command a.dialect here.kept
+          (types_placed p.start (row_of r) ∙ ap (option_map (found_types_after p.start)) without) small_there.written small_there.term in
           no_own_shown (subst (IsOwnOf here.tokens) no_own here.is_own)
 
       -- these are
-      module _ (t : FoundTypes) (kept : types_of_found (found_of r) ≡ Some t) where
-        pub types_stand : AllStandIn Numbers t.types.items
-        types_stand = kept_stand around.front.names around.front.types around.own Numbers r.command a.bound a.dialect t here.kept kept
+      module _ (t : FoundTypes) (kept : types_of_found (found_in (row_of r)) ≡ Some t) where
+        kept_there : types_of_found (found_in There) ≡ Some (found_types_after p.start t)
+        kept_there = types_placed p.start (row_of r) ∙ ap (option_map (found_types_after p.start)) kept
 
-        listed : types_found (found_of r) ≡ t.types.items
-        listed = ap types_listed kept
+        pub types_stand : AllStandIn Numbers t.types
+        types_stand =
+            kept_stand around.front.names around.front.types around.own Numbers There.command a.dialect (found_types_after p.start t) here.kept kept_there
+
+        listed : types_found (found_in There) ≡ t.types
+        listed = ap types_listed kept_there
 
         -- the piece is this command
         module _ (c : CommandTree) (read : ReadAs (c ∷ [])) where
@@ -317,23 +409,23 @@ module _ (text : List ℕ) (a : Analysis) (o : ℕ) (p : PlacedRow) (h : IsAnaly
           own = own_same here.tokens around.own (c ∷ []) here.is_own (read_own (c ∷ []) read)
 
           abbrev Through : Front
-          Through = front_with around.front (c ∷ []) Numbers r
+          Through = front_with around.front (c ∷ []) Numbers There
 
-          small_through : first_large (around.before ++ r ∷ []) ≡ None
+          small_through : first_large (around.before ++ There ∷ []) ≡ None
           small_through =
               let both = none_of_both (first_in large_written_type around.before) (first_in large_term around.before) small_there.ahead in
-              ap (λ x. option_or x (first_in large_term (around.before ++ r ∷ []))) (none_pushed large_written_type around.before r both.0 small_there.written)
-              ∙ none_pushed large_term around.before r both.1 small_there.term
+              ap (λ x. option_or x (first_in large_term (around.before ++ There ∷ []))) (none_pushed large_written_type around.before There both.0 small_there.written)
+              ∙ none_pushed large_term around.before There both.1 small_there.term
 
-          through : AreAllTyped Through (around.before ++ r ∷ []) Numbers a.dialect
+          through : AreAllTyped Through (around.before ++ There ∷ []) Numbers a.dialect
           through =
-              known_through text (around.before ++ r ∷ []) Through Numbers a.bound a.dialect
-              (rows_push text nothing around.before around.front (c ∷ []) r Numbers a.bound a.dialect around.rows_before
-              (subst (λ cs. IsRow text around.front cs r Numbers a.bound a.dialect) own here))
+              known_through text (around.before ++ There ∷ []) Through Numbers a.dialect
+              (rows_push text nothing around.before around.front (c ∷ []) There Numbers a.dialect around.rows_before
+              (subst (λ cs. IsRow text around.front cs There Numbers a.dialect) own here))
               small_through
 
           -- it has as many terms as types
-          as_many : length (table (c ∷ [])).places ≡ length t.types.items
+          as_many : length (table (c ∷ [])).places ≡ length t.types
           as_many =
               let bs = abbreviations_behind around.front.commands in
               let xs = names_behind around.front.commands in
@@ -341,35 +433,35 @@ module _ (text : List ℕ) (a : Analysis) (o : ℕ) (p : PlacedRow) (h : IsAnaly
               omega (
                 arith,
                 typed_terms around.front around.before Numbers a.dialect ahead,
-                typed_terms Through (around.before ++ r ∷ []) Numbers a.dialect through,
-                ap length (types_joined around.before (r ∷ [])),
-                length-append (all_types around.before) (all_types (r ∷ [])),
+                typed_terms Through (around.before ++ There ∷ []) Numbers a.dialect through,
+                ap length (types_joined around.before (There ∷ [])),
+                length-append (all_types around.before) (all_types (There ∷ [])),
                 ap (λ os. length (os ++ [])) listed,
-                length-append t.types.items [],
+                length-append t.types [],
                 ap length (terms_push around.front.commands c),
                 length-append (document_terms around.front.commands) (command_terms bs xs s c),
                 command_size bs xs s c,
               )
 
-          pub types_inside : length (table (c ∷ [])).places ≤ length t.types.items
+          pub types_inside : length (table (c ∷ [])).places ≤ length t.types
           types_inside = omega (arith, as_many)
 
           same_types : (n : ℕ) → n < length (table (c ∷ [])).places
-              → get_or (answers Numbers (all_types a.rows.items)) (length (document_terms around.front.commands) + n) None
-              ≡ get_or (answers Numbers t.types.items) (0 + n) None
+              → get_or (answers Numbers (all_types Rows)) (length (document_terms around.front.commands) + n) None
+              ≡ get_or (answers Numbers t.types) (0 + n) None
           same_types n lt =
               ap (λ rs. get_or (answers Numbers (all_types rs)) (length (document_terms around.front.commands) + n) None) are
-              ∙ ap (λ k. get_or (answers Numbers (all_types (around.before ++ r ∷ around.after))) (k + n) None)
+              ∙ ap (λ k. get_or (answers Numbers (all_types (around.before ++ There ∷ around.after))) (k + n) None)
               (sym (typed_terms around.front around.before Numbers a.dialect ahead))
-              ∙ own_types Numbers around.before r around.after n (omega (arith, lt, as_many, ap length listed))
-              ∙ ap (λ os. get_or (answers Numbers os) n None) listed ∙ ap (λ k. get_or (answers Numbers t.types.items) k None) (omega arith)
+              ∙ own_types Numbers around.before There around.after n (omega (arith, lt, as_many, ap length listed))
+              ∙ ap (λ os. get_or (answers Numbers os) n None) listed ∙ ap (λ k. get_or (answers Numbers t.types) k None) (omega arith)
 
-          pub command_shown : (s : Option Shown) → IsShownInCommand c 0 (answers Numbers t.types.items) o s → IsShownIn text o s a.dialect
+          pub command_shown : (s : Option Shown) → IsShownInCommand c 0 (answers Numbers t.types) o s → IsShownIn text o s a.dialect
           command_shown s in_command = by (read_own (c ∷ []) read)
             where
-              among : IsShownInCommand c (length (document_terms around.front.commands)) (answers Numbers (all_types a.rows.items)) o s
+              among : IsShownInCommand c (length (document_terms around.front.commands)) (answers Numbers (all_types Rows)) o s
               among =
-                  shown_among c (length (document_terms around.front.commands)) (answers Numbers t.types.items) (answers Numbers (all_types a.rows.items)) o s
+                  shown_among c (length (document_terms around.front.commands)) (answers Numbers t.types) (answers Numbers (all_types Rows)) o s
                   same_types in_command
 
               by : IsOwnOf here.tokens (c ∷ []) → IsShownIn text o s a.dialect

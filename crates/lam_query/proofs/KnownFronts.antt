@@ -16,13 +16,12 @@ use Rattle.lam_scope.specs.Names.{Name, binds}
 use Rattle.lam_scope.specs.Nameless.{faults, first_too_large}
 use Rattle.lam_typing.specs.Analysis.{IsFirstTooLarge}
 use Rattle.lam_typing.specs.Answers.{answer, answers}
-use Rattle.lam_query.specs.declared.rows.CommandRow.{CommandRow}
-use Rattle.lam_query.specs.declared.rows.Row.{Row}
 use Rattle.lam_query.specs.Sizes.{places_in, span_numbered}
 use Rattle.lam_query.specs.TextFaults.{written_fault, blame_fault}
 use Rattle.lam_query.specs.inner.Checked.{abbreviations_behind, AreChecked}
 use Rattle.lam_query.specs.inner.Entered.{Lookup, type_named, type_name_bound, type_bound}
-use Rattle.lam_query.specs.inner.Rows.{types_of, entries_of, with_entry, Front, nothing, front_with, found_of, types_found, faults_found, all_types, all_faults, AreAllTyped}
+use Rattle.lam_query.specs.inner.Kept.{CommandRow, Row, found_in, types_found, faults_found, all_types, all_faults}
+use Rattle.lam_query.specs.inner.Rows.{types_of, entries_of, with_entry, Front, nothing, front_with, AreAllTyped}
 use Rattle.lam_query.proofs.Checked.{none_checked}
 use Rattle.lam_query.proofs.CheckedLists.{abbreviations_push}
 use Rattle.lam_query.proofs.Meanings.{type_after}
@@ -62,14 +61,14 @@ nothing_known ts d = record {
 -- ---- lists
 
 -- the types of one row more come behind the others
-pub types_more : (ts : List Typ) (rows : List Row) (r : Row) → answers ts (all_types (rows ++ r ∷ [])) ≡ answers ts (all_types rows) ++ answers ts (types_found (found_of r))
+pub types_more : (ts : List Typ) (rows : List Row) (r : Row) → answers ts (all_types (rows ++ r ∷ [])) ≡ answers ts (all_types rows) ++ answers ts (types_found (found_in r))
 types_more ts rows r =
-    ap (answers ts) (flat_map-append (λ q. types_found (found_of q)) rows (r ∷ []) ∙ ap (λ os. all_types rows ++ os) (append-nil (types_found (found_of r))))
-    ∙ map-append (answer ts) (all_types rows) (types_found (found_of r))
+    ap (answers ts) (flat_map-append (λ q. types_found (found_in q)) rows (r ∷ []) ∙ ap (λ os. all_types rows ++ os) (append-nil (types_found (found_in r))))
+    ∙ map-append (answer ts) (all_types rows) (types_found (found_in r))
 
 -- so do its faults
-pub faults_more : (rows : List Row) (r : Row) → all_faults (rows ++ r ∷ []) ≡ all_faults rows ++ faults_found (found_of r)
-faults_more rows r = flat_map-append (λ q. faults_found (found_of q)) rows (r ∷ []) ∙ ap (λ fs. all_faults rows ++ fs) (append-nil (faults_found (found_of r)))
+pub faults_more : (rows : List Row) (r : Row) → all_faults (rows ++ r ∷ []) ≡ all_faults rows ++ faults_found (found_in r)
+faults_more rows r = flat_map-append (λ q. faults_found (found_in q)) rows (r ∷ []) ∙ ap (λ fs. all_faults rows ++ fs) (append-nil (faults_found (found_in r)))
 
 -- two lists in the middle change places
 pub middle_swapped : {X : Type 0} (a b c e : List X) → IsPermutation ((a ++ b) ++ (c ++ e)) ((a ++ c) ++ (b ++ e))

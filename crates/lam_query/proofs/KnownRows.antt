@@ -9,12 +9,11 @@ use Rattle.lam_syntax.specs.Trees.{CommandTree}
 use Rattle.lam_scope.specs.Nameless.{faults, first_too_large}
 use Rattle.lam_typing.specs.Analysis.{IsFirstTooLarge}
 use Rattle.lam_typing.specs.Answers.{answers}
-use Rattle.lam_query.specs.declared.bound.Bound.{Bound}
-use Rattle.lam_query.specs.declared.rows.Row.{Row}
 use Rattle.lam_query.specs.Faults.{Fault}
 use Rattle.lam_query.specs.Sizes.{places_in, span_numbered, IsSizeFault, of_written_type, of_term}
 use Rattle.lam_query.specs.TextFaults.{written_fault, blame_fault, AreTypeFaults}
-use Rattle.lam_query.specs.inner.Rows.{Front, nothing, front_with, AreRowsFrom, found_of, large_written_type, large_term, first_in, first_large, IsSizedBy, all_types, all_faults, AreAllTyped}
+use Rattle.lam_query.specs.inner.Kept.{Row, found_in, large_written_type, large_term, first_in, first_large, all_types, all_faults}
+use Rattle.lam_query.specs.inner.Rows.{Front, nothing, front_with, AreRowsFrom, IsSizedBy, AreAllTyped}
 use Rattle.lam_query.proofs.Checked.{checked_small, checked_faults}
 use Rattle.lam_query.proofs.CheckedLists.{first_assoc, first_or_none}
 use Rattle.lam_query.proofs.CommandsToCome.{none_come}
@@ -31,22 +30,22 @@ same_known f rows others ts w v t u d same written term known =
     (subst (λ o. IsKnownBy f others ts o t d) written (subst (λ rs. IsKnownBy f rs ts w t d) same known))
 
 -- behind rows of which it is known
-rows_more : (text : List ℕ) (done rows : List Row) (f last : Front) (ts : List Typ) (b : Bound) (d : Dialect) (w t : Option Span)
-    → AreRowsFrom text f rows last ts b d → IsKnownBy f done ts w t d
+rows_more : (text : List ℕ) (done rows : List Row) (f last : Front) (ts : List Typ) (d : Dialect) (w t : Option Span)
+    → AreRowsFrom text f rows last ts d → IsKnownBy f done ts w t d
     → IsKnownBy last (done ++ rows) ts (option_or w (first_in large_written_type rows)) (option_or t (first_in large_term rows)) d
-rows_more text done [] f last ts b d w t same known =
+rows_more text done [] f last ts d w t same known =
     subst (λ g. IsKnownBy g (done ++ []) ts (option_or w None) (option_or t None) d) same
     (same_known f done (done ++ []) ts w (option_or w None) t (option_or t None) d
     (sym (append-nil done)) (sym (first_or_none w)) (sym (first_or_none t)) known)
-rows_more text done (r ∷ rows) f last ts b d w t (own, is, are) known =
+rows_more text done (r ∷ rows) f last ts d w t (own, is, are) known =
     same_known last _ _ ts _ _ _ _ d (append_assoc done (r ∷ []) rows)
-    (sym (first_assoc w (large_written_type (found_of r)) (first_in large_written_type rows)))
-    (sym (first_assoc t (large_term (found_of r)) (first_in large_term rows)))
-    (rows_more text (done ++ r ∷ []) rows (front_with f own ts r) last ts b d _ _ are (row_more f done own r ts b d w t known is.kept))
+    (sym (first_assoc w (large_written_type (found_in r)) (first_in large_written_type rows)))
+    (sym (first_assoc t (large_term (found_in r)) (first_in large_term rows)))
+    (rows_more text (done ++ r ∷ []) rows (front_with f own ts r) last ts d _ _ are (row_more f done own r ts d w t known is.kept))
 
-module _ (text : List ℕ) (rows : List Row) (f : Front) (ts : List Typ) (b : Bound) (d : Dialect) (are : AreRowsFrom text nothing rows f ts b d) where
+module _ (text : List ℕ) (rows : List Row) (f : Front) (ts : List Typ) (d : Dialect) (are : AreRowsFrom text nothing rows f ts d) where
   all_known : IsKnownBy f rows ts (first_in large_written_type rows) (first_in large_term rows) d
-  all_known = rows_more text [] rows nothing f ts b d None None are (nothing_known ts d)
+  all_known = rows_more text [] rows nothing f ts d None None are (nothing_known ts d)
 
 -- ---- at the end
 
@@ -75,24 +74,24 @@ large_ends f rows ts d None None s known is = absurd cc
 
 -- ---- of all rows
 
-pub known_through : (text : List ℕ) (rows : List Row) (f : Front) (ts : List Typ) (b : Bound) (d : Dialect) → AreRowsFrom text nothing rows f ts b d
+pub known_through : (text : List ℕ) (rows : List Row) (f : Front) (ts : List Typ) (d : Dialect) → AreRowsFrom text nothing rows f ts d
     → first_large rows ≡ None → AreAllTyped f rows ts d
-known_through text rows f ts b d are none =
-    typed_ends f rows ts d (first_in large_written_type rows) (first_in large_term rows) (all_known text rows f ts b d are) none
+known_through text rows f ts d are none =
+    typed_ends f rows ts d (first_in large_written_type rows) (first_in large_term rows) (all_known text rows f ts d are) none
 
-pub size_told : (text : List ℕ) (rows : List Row) (f : Front) (ts : List Typ) (b : Bound) (d : Dialect) (s : Span) → AreRowsFrom text nothing rows f ts b d
+pub size_told : (text : List ℕ) (rows : List Row) (f : Front) (ts : List Typ) (d : Dialect) (s : Span) → AreRowsFrom text nothing rows f ts d
     → first_large rows ≡ Some s → IsSizeFault f.commands s d
-size_told text rows f ts b d s are is =
-    large_ends f rows ts d (first_in large_written_type rows) (first_in large_term rows) s (all_known text rows f ts b d are) is
+size_told text rows f ts d s are is =
+    large_ends f rows ts d (first_in large_written_type rows) (first_in large_term rows) s (all_known text rows f ts d are) is
 
-pub sized : (text : List ℕ) (rows : List Row) (f : Front) (ts : List Typ) (b : Bound) (d : Dialect) → AreRowsFrom text nothing rows f ts b d
+pub sized : (text : List ℕ) (rows : List Row) (f : Front) (ts : List Typ) (d : Dialect) → AreRowsFrom text nothing rows f ts d
     → IsSizedBy f.commands (first_large rows) d
-sized text rows f ts b d are = by (first_large rows) refl
+sized text rows f ts d are = by (first_large rows) refl
   where
     by : (o : Option Span) → first_large rows ≡ o → IsSizedBy f.commands o d
-    by (Some s) is = size_told text rows f ts b d s are is
+    by (Some s) is = size_told text rows f ts d s are is
     by None none =
-        let known = known_through text rows f ts b d are none in
+        let known = known_through text rows f ts d are none in
         checked_small f.commands known.context (answers ts (all_types rows)) known.blames d known.checked
 
 -- where no type is too large, the faults of the rows are those that types decide

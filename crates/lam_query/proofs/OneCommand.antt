@@ -15,7 +15,7 @@ use Rattle.lam_query.specs.inner.Reading.{own_of}
 both : (t : Lexeme) → is_semicolon t ≡ true → is_semicolon t ≡ false → ⊥
 both t is is_not = let clash : true ≡ false = sym is ∙ is_not in absurd cc
 
-none_within : (ts us : List Lexeme) (t : Lexeme) → HaveNoSemicolon (ts ++ t ∷ us) → is_semicolon t ≡ true → ⊥
+pub none_within : (ts us : List Lexeme) (t : Lexeme) → HaveNoSemicolon (ts ++ t ∷ us) → is_semicolon t ≡ true → ⊥
 none_within [] us t none is = both t is none.0
 none_within (u ∷ ts) us t none is = none_within ts us t none.1 is
 

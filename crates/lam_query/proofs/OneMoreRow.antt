@@ -17,18 +17,12 @@ use Rattle.lam_typing.specs.Analysis.{IsFirstTooLarge}
 use Rattle.lam_typing.specs.Answers.{answer, answers}
 use Rattle.lam_typing.specs.Blaming.{Blamed, renumbered}
 use Rattle.lam_typing.proofs.Together.{least_length}
-use Rattle.lam_query.specs.declared.bound.Bound.{Bound}
-use Rattle.lam_query.specs.declared.bound.Binding.{Binding}
-use Rattle.lam_query.specs.declared.rows.CommandRow.{CommandRow}
-use Rattle.lam_query.specs.declared.rows.Found.{Found}
-use Rattle.lam_query.specs.declared.rows.Found.TheVariants.{LargeWrittenType, LargeTerm, Types}
-use Rattle.lam_query.specs.declared.rows.FoundTypes.{FoundTypes}
-use Rattle.lam_query.specs.declared.rows.Row.{Row}
 use Rattle.lam_query.specs.Sizes.{places_in, span_numbered}
 use Rattle.lam_query.specs.TextFaults.{written_fault, blame_fault}
 use Rattle.lam_query.specs.inner.Checked.{abbreviations_behind, context_after, AreChecked}
 use Rattle.lam_query.specs.inner.Entered.{name_bound, type_name_bound, type_bound}
-use Rattle.lam_query.specs.inner.Rows.{with_entry, own_fault, IsWrittenIn, IsLargeTermAt, AreTypesFound, IsFoundIn, IsFoundOf, IsKeptOf, Front, front_with, found_of, large_written_type, large_term, all_types, all_faults, AreAllTyped}
+use Rattle.lam_query.specs.inner.Kept.{CommandRow, Found, written_too_large, term_too_large, typed, FoundTypes, Row, found_in, large_written_type, large_term, all_types, all_faults}
+use Rattle.lam_query.specs.inner.Rows.{with_entry, own_fault, IsWrittenIn, IsLargeTermAt, AreTypesFound, IsFoundIn, IsFoundOf, IsKeptOf, Front, front_with, AreAllTyped}
 use Rattle.lam_query.proofs.CheckedLists.{faults_push}
 use Rattle.lam_query.proofs.FoundOfCommand.{none_written, written_stops}
 use Rattle.lam_query.proofs.CommandsToCome.{one_comes, one_more, term_span, blames_told}
@@ -65,7 +59,7 @@ module _ (f : Front) (rows : List Row) (r : Row) (c : CommandTree) (ts : List Ty
         ∙ length-map (document_terms f.commands) (λ t. (term_of t).place)
 
     -- a term of it is too large
-    term_known : (s : Span) → IsWrittenIn (abbreviations_behind f.commands) c ts (LargeTerm s)
+    term_known : (s : Span) → IsWrittenIn (abbreviations_behind f.commands) c ts (term_too_large s)
         → IsLargeTermAt f.commands (length (answers ts (all_types rows))) c s d
         → IsTermTooLarge (f.commands ++ c ∷ []) (with_entry (type_name_bound c) None f.types) s d
     term_known s written large =
@@ -83,11 +77,11 @@ module _ (f : Front) (rows : List Row) (r : Row) (c : CommandTree) (ts : List Ty
         }
 
     -- none is
-    module _ (binding : Option Binding) (t : FoundTypes) (written : IsWrittenIn (abbreviations_behind f.commands) c ts (Types t))
+    module _ (k : CommandRow) (t : FoundTypes) (written : IsWrittenIn (abbreviations_behind f.commands) c ts (typed t))
         (more : AreTypesFound f.commands known.context (answers ts (all_types rows)) known.blames c ts t d) where
       -- the row
       abbrev Typed : Row
-      Typed = with_command r (Some (record { binds = binding; found = Types t }))
+      Typed = with_command r (Some (record k { found = typed t }))
 
       -- those to blame, numbered in the document
       abbrev Codes : List Blamed
@@ -140,9 +134,9 @@ module _ (f : Front) (rows : List Row) (r : Row) (c : CommandTree) (ts : List Ty
       by : (found : Found) → IsWrittenIn (abbreviations_behind f.commands) c ts found
           → IsKnownBy (front_with f (c ∷ []) ts (with_command r (Some (record k { found = found })))) (rows ++ with_command r (Some (record k { found = found })) ∷ []) ts
           (large_written_type (Some found)) (Some s) d
-      by (LargeWrittenType u) written = written_known u known.written written
-      by (LargeTerm u) written = term_still s None known written.0 (none_binding (type_name_bound c) None _ written.1)
-      by (Types t) written = term_still s t.bound known written.0 written.1
+      by (written_too_large u) written = written_known u known.written written
+      by (term_too_large u) written = term_still s None known written.0 (none_binding (type_name_bound c) None _ written.1)
+      by (typed t) written = term_still s t.bound known written.0 written.1
   command_known None None k known is =
       by k.found (is.written (abbreviations_behind f.commands) (λ x there. known.types x))
       (is.found f.commands known.context (answers ts (all_types rows)) known.blames known.checked
@@ -152,24 +146,24 @@ module _ (f : Front) (rows : List Row) (r : Row) (c : CommandTree) (ts : List Ty
           → IsFoundIn f.commands known.context (answers ts (all_types rows)) known.blames c ts found d
           → IsKnownBy (front_with f (c ∷ []) ts (with_command r (Some (record k { found = found })))) (rows ++ with_command r (Some (record k { found = found })) ∷ []) ts
           (large_written_type (Some found)) (large_term (Some found)) d
-      by (LargeWrittenType u) written here = written_known u known.checked.none_too_large written
-      by (LargeTerm u) written here = term_known known u written here
-      by (Types t) written here = all_typed known k.binds t written here
+      by (written_too_large u) written here = written_known u known.checked.none_too_large written
+      by (term_too_large u) written here = term_known known u written here
+      by (typed t) written here = all_typed known k t written here
 
 -- ---- a piece
 
 -- that is a command, or none
-piece_known : (f : Front) (rows : List Row) (r : Row) (own : List CommandTree) (command : Option CommandRow) (ts : List Typ) (b : Bound) (d : Dialect)
-    (w t : Option Span) → IsKnownBy f rows ts w t d → IsKeptOf f.names f.types own ts command b d
+piece_known : (f : Front) (rows : List Row) (r : Row) (own : List CommandTree) (command : Option CommandRow) (ts : List Typ) (d : Dialect)
+    (w t : Option Span) → IsKnownBy f rows ts w t d → IsKeptOf f.names f.types own ts command d
     → IsKnownBy (front_with f own ts (with_command r command)) (rows ++ with_command r command ∷ []) ts
-    (option_or w (large_written_type (found_of (with_command r command)))) (option_or t (large_term (found_of (with_command r command)))) d
-piece_known f rows r [] None ts b d w t known kept = no_command_known f rows r ts d w t known
-piece_known f rows r [] (Some k) ts b d w t known kept = absurd kept
-piece_known f rows r (c ∷ []) None ts b d w t known kept = absurd kept
-piece_known f rows r (c ∷ []) (Some k) ts b d w t known kept = command_known f rows r c ts d w t k known kept.0
-piece_known f rows r (c ∷ e ∷ cs) command ts b d w t known kept = absurd kept
+    (option_or w (large_written_type (found_in (with_command r command)))) (option_or t (large_term (found_in (with_command r command)))) d
+piece_known f rows r [] None ts d w t known kept = no_command_known f rows r ts d w t known
+piece_known f rows r [] (Some k) ts d w t known kept = absurd kept
+piece_known f rows r (c ∷ []) None ts d w t known kept = absurd kept
+piece_known f rows r (c ∷ []) (Some k) ts d w t known kept = command_known f rows r c ts d w t k known kept
+piece_known f rows r (c ∷ e ∷ cs) command ts d w t known kept = absurd kept
 
-pub row_more : (f : Front) (rows : List Row) (own : List CommandTree) (r : Row) (ts : List Typ) (b : Bound) (d : Dialect) (w t : Option Span)
-    → IsKnownBy f rows ts w t d → IsKeptOf f.names f.types own ts r.command b d
-    → IsKnownBy (front_with f own ts r) (rows ++ r ∷ []) ts (option_or w (large_written_type (found_of r))) (option_or t (large_term (found_of r))) d
-row_more f rows own r ts b d w t known kept = piece_known f rows r own r.command ts b d w t known kept
+pub row_more : (f : Front) (rows : List Row) (own : List CommandTree) (r : Row) (ts : List Typ) (d : Dialect) (w t : Option Span)
+    → IsKnownBy f rows ts w t d → IsKeptOf f.names f.types own ts r.command d
+    → IsKnownBy (front_with f own ts r) (rows ++ r ∷ []) ts (option_or w (large_written_type (found_in r))) (option_or t (large_term (found_in r))) d
+row_more f rows own r ts d w t known kept = piece_known f rows r own r.command ts d w t known kept

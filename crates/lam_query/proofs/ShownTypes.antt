@@ -28,9 +28,9 @@ use Rattle.lam_typing.specs.LeastTypes.{IsLeastAt}
 use Rattle.lam_typing.specs.Progress.{IsLowest}
 use Rattle.lam_typing.specs.declared.checker.TypeChecker.{TypeChecker}
 use Rattle.lam_query.specs.declared.bound.Bound.{Bound}
-use Rattle.lam_query.specs.declared.rows.Found.{Found}
-use Rattle.lam_query.specs.declared.rows.Found.TheVariants.{LargeWrittenType, LargeTerm, Types}
-use Rattle.lam_query.specs.declared.rows.FoundTypes.{FoundTypes}
+use Rattle.lam_query.specs.declared.rows.Found.{Found as RustFound}
+use Rattle.lam_query.specs.declared.rows.Found.TheVariants as rust
+use Rattle.lam_query.specs.declared.rows.FoundTypes.{FoundTypes as RustFoundTypes}
 use Rattle.lam_query.specs.CommandTypes.{CommandType, of_name, of_type_name, of_term, IsCommandType, AreCommandTypesFrom}
 use Rattle.lam_query.specs.Sizes.{IsSizeFault, of_written_type, of_term as of_large_term, places_in, span_numbered}
 use Rattle.lam_query.specs.inner.Analysts.{IsBoundAs}
@@ -38,6 +38,7 @@ use Rattle.lam_query.specs.inner.Bound.{found_over, AllStand, IsBoundAfter}
 use Rattle.lam_query.specs.inner.Checked.{abbreviations_behind, names_behind, scope_from, scope_behind, context_after, AreChecked}
 use Rattle.lam_query.specs.inner.ShownCommands.{IsKnown, shown_by, last_number}
 use Rattle.lam_query.specs.inner.Entered.{Lookup, type_name_bound, type_bound}
+use Rattle.lam_query.specs.inner.Kept.{Found, written_too_large, term_too_large, typed, FoundTypes, found_of}
 use Rattle.lam_query.specs.inner.Rows.{entries_of, types_of, StandInFound, IsWrittenIn, IsLargeTermAt, AreTypesFound, IsFoundOf, IsFoundIn}
 use Rattle.lam_query.proofs.BoundNames.{bound_as_kept, bound_as_after}
 use Rattle.lam_query.proofs.Checked.{places_push}
@@ -104,27 +105,27 @@ module _ (done : List CommandTree) (g : Context) (found : List (Option Typ)) (bl
   )
 
   -- so its type is the last one that was found
-  whole_least : (e : TermTree) (t : FoundTypes) → AreTypesFound done g found blames (evaluation e) ts t d → IsLeastAt S (nameless BS XS e) (answer ts (last_number t.types.items)) d
-  whole_least e t typed =
-      let os = t.types.items in
+  whole_least : (e : TermTree) (t : FoundTypes) → AreTypesFound done g found blames (evaluation e) ts t d → IsLeastAt S (nameless BS XS e) (answer ts (last_number t.types)) d
+  whole_least e t are =
+      let os = t.types in
       let c = evaluation e in
-      let all = subst (λ ps. AreLeast ps (found ++ answers ts os) d) (places_push done c) typed.checked.shown.least in
+      let all = subst (λ ps. AreLeast ps (found ++ answers ts os) d) (places_push done c) are.checked.shown.least in
       let own = least_behind (places_in done) (places_of S (statement BS XS c ∷ [])) found (answers ts os) d all checked.shown.least in
       let whole = whole_last e in
       subst (λ o. IsLeastAt S (nameless BS XS e) o d) (answer_last ts os)
       (least_last whole.0 (record { scope = S; here = nameless BS XS e }) (answers ts os) d (subst (λ ps. AreLeast ps (answers ts os) d) whole.1 own))
 
   bound_lowest : (c : CommandTree) (t : FoundTypes) → AreTypesFound done g found blames c ts t d → IsLowest (scope_after BS XS S c) (context_after g c (answer ts t.bound)) d
-  bound_lowest c t typed = subst (λ s. IsLowest s (context_after g c (answer ts t.bound)) d) (scope_push done c) typed.checked.lowest
+  bound_lowest c t are = subst (λ s. IsLowest s (context_after g c (answer ts t.bound)) d) (scope_push done c) are.checked.lowest
 
   is_shown : (c : CommandTree) (t : FoundTypes) → ((x : Name) → type_name_bound c ≡ Some x → answer ts t.bound ≡ type_bound BS c)
       → AreTypesFound done g found blames c ts t d
-      → IsCommandType BS XS S c (shown_by c (answer ts t.bound) (answer ts (last_number t.types.items))) d
-  is_shown (definition (word x r) e) t binding typed =
-      (answer ts t.bound, entry_least (nameless BS XS e) S (answer ts t.bound) g d (bound_lowest (definition (word x r) e) t typed), refl)
-  is_shown (declaration (word x r) u) t binding typed = ap (λ o. of_name x (option_map text o)) (bound_lowest (declaration (word x r) u) t typed).is_context.0
-  is_shown (tree.abbreviation (word x r) u) t binding typed = ap (λ o. of_type_name x (option_map text o)) (binding x refl)
-  is_shown (evaluation e) t binding typed = (answer ts (last_number t.types.items), whole_least e t typed, refl)
+      → IsCommandType BS XS S c (shown_by c (answer ts t.bound) (answer ts (last_number t.types))) d
+  is_shown (definition (word x r) e) t binding are =
+      (answer ts t.bound, entry_least (nameless BS XS e) S (answer ts t.bound) g d (bound_lowest (definition (word x r) e) t are), refl)
+  is_shown (declaration (word x r) u) t binding are = ap (λ o. of_name x (option_map text o)) (bound_lowest (declaration (word x r) u) t are).is_context.0
+  is_shown (tree.abbreviation (word x r) u) t binding are = ap (λ o. of_type_name x (option_map text o)) (binding x refl)
+  is_shown (evaluation e) t binding are = (answer ts (last_number t.types), whole_least e t are, refl)
 
 -- ---- the commands that are left
 
@@ -170,38 +171,38 @@ module _ (done : List CommandTree) (c : CommandTree) (old now : TypeChecker) (b 
     pub found_here : IsFoundIn done known.context known.found known.blames c (types_in now) f (dialect_in old)
     found_here = is.found done known.context known.found known.blames known.checked (record { names = λ x there. refl; types = λ x there. refl })
 
-  module _ (t : FoundTypes) (is : IsFoundOf Names TypeNames c (types_in now) (Types t) (dialect_in old)) where
+  module _ (t : FoundTypes) (is : IsFoundOf Names TypeNames c (types_in now) (typed t) (dialect_in old)) where
     pub next_shown : IsCommandType (abbreviations_behind done) (names_behind done) (scope_behind done) c
-        (shown_by c (answer (types_in now) t.bound) (answer (types_in now) (last_number t.types.items))) (dialect_in old)
+        (shown_by c (answer (types_in now) t.bound) (answer (types_in now) (last_number t.types))) (dialect_in old)
     next_shown =
         is_shown done known.context known.found known.blames (dialect_in old) (types_in now) known.checked c t
-        (written_here (Types t) is).1 (found_here (Types t) is)
+        (written_here (typed t) is).1 (found_here (typed t) is)
 
     pub next_known : (after : Bound) → Keeps (types_in old) (types_in now) → dialect_in now ≡ dialect_in old → AllStand (types_in old) b
         → IsBoundAfter c t.bound b after → IsKnown (done ++ c ∷ []) now after
     next_known after keeps dialect stand binds =
         let ts = types_in now in
         let bound = bound_as_after Names TypeNames c ts t.bound b after (bound_as_kept Names TypeNames (types_in old) ts b keeps stand known.bound) binds in
-        let more = found_here (Types t) is in
+        let more = found_here (typed t) is in
         record {
           context = context_after known.context c (answer ts t.bound);
-          found = known.found ++ answers ts t.types.items;
+          found = known.found ++ answers ts t.types;
           blames = known.blames ++ renumbered (length known.found) more.own;
           checked =
               subst
-              (AreChecked (done ++ c ∷ []) (context_after known.context c (answer ts t.bound)) (known.found ++ answers ts t.types.items)
+              (AreChecked (done ++ c ∷ []) (context_after known.context c (answer ts t.bound)) (known.found ++ answers ts t.types)
               (known.blames ++ renumbered (length known.found) more.own)) (sym dialect) more.checked;
           bound = record {
             names = λ x. bound.names x ∙ sym (entry_behind x done known.context c (answer ts t.bound));
-            types = λ x. bound.types x ∙ types_behind done c ts t.bound TypeNames (λ y. refl) (written_here (Types t) is).1 x;
+            types = λ x. bound.types x ∙ types_behind done c ts t.bound TypeNames (λ y. refl) (written_here (typed t) is).1 x;
           };
         }
 
 -- the numbers that were found stand for types of the table
-pub found_stand : (c : CommandTree) (ts us : List Typ) (b : Bound) (f : Found) (t : FoundTypes) (d : Dialect) → f ≡ Types t
-    → ((names others : Lookup) → IsBoundAs names others ts b → IsFoundOf names others c us f d) → AllStandIn us t.types.items × StandsIfAny us t.bound
+pub found_stand : (c : CommandTree) (ts us : List Typ) (b : Bound) (f : RustFound) (t : RustFoundTypes) (d : Dialect) → f ≡ rust.Types t
+    → ((names others : Lookup) → IsBoundAs names others ts b → IsFoundOf names others c us (found_of f) d) → AllStandIn us t.types.items × StandsIfAny us t.bound
 found_stand c ts us b f t d is found =
-    subst (StandInFound us) is (found (found_over ts b.names) (found_over ts b.type_names) (record { names = λ x. refl; types = λ x. refl })).stand
+    subst (λ g. StandInFound us (found_of g)) is (found (found_over ts b.names) (found_over ts b.type_names) (record { names = λ x. refl; types = λ x. refl })).stand
 
 -- ---- a type that is too large, whatever comes behind the command
 
@@ -214,12 +215,12 @@ term_large done c rest k at d large = by (first_too_large [] (done ++ c ∷ rest
     by None is = (span_numbered (done ++ c ∷ rest) (k + large.number), of_large_term (k + large.number) is (large.first rest))
     by (Some s) is = (s, of_written_type is)
 
-pub untyped_large : (done : List CommandTree) (c : CommandTree) (old now : TypeChecker) (b : Bound) (known : IsKnown done old b) (f : Found)
-    → ((t : FoundTypes) → f ≡ Types t → ⊥)
-    → IsFoundOf (entries_of done known.context) (types_of (abbreviations_behind done)) c (types_in now) f (dialect_in old)
+pub untyped_large : (done : List CommandTree) (c : CommandTree) (old now : TypeChecker) (b : Bound) (known : IsKnown done old b) (f : RustFound)
+    → ((t : RustFoundTypes) → f ≡ rust.Types t → ⊥)
+    → IsFoundOf (entries_of done known.context) (types_of (abbreviations_behind done)) c (types_in now) (found_of f) (dialect_in old)
     → (rest : List CommandTree) → (s : Span) × IsSizeFault (done ++ c ∷ rest) s (dialect_in old)
-untyped_large done c old now b known (LargeWrittenType s) untyped is rest =
-    (s, of_written_type (written_stops done c s rest known.checked.none_too_large (written_here done c old now b known (LargeWrittenType s) is)))
-untyped_large done c old now b known (LargeTerm s) untyped is rest =
-    term_large done c rest (length known.found) s (dialect_in old) (found_here done c old now b known (LargeTerm s) is)
-untyped_large done c old now b known (Types t) untyped is rest = absurd (untyped t refl)
+untyped_large done c old now b known (rust.LargeWrittenType s) untyped is rest =
+    (s, of_written_type (written_stops done c s rest known.checked.none_too_large (written_here done c old now b known (written_too_large s) is)))
+untyped_large done c old now b known (rust.LargeTerm s) untyped is rest =
+    term_large done c rest (length known.found) s (dialect_in old) (found_here done c old now b known (term_too_large s) is)
+untyped_large done c old now b known (rust.Types t) untyped is rest = absurd (untyped t refl)

@@ -1,5 +1,5 @@
 -- The tokens up to a front spell its commands, and their faults of syntax are those of the rows.
-use Rattle.std.proofs.Common.{◌≡◌, ◌⊎◌, ℕ, true, List, [], ◌∷◌, ◌++◌, append-nil, append_assoc, length, map, take, drop, slice_range, refl, sym, ap, subst, ◌∙◌}
+use Rattle.std.proofs.Common.{◌≡◌, ◌⊎◌, ℕ, true, List, [], ◌∷◌, ◌++◌, append-nil, append_assoc, length, take, take_all, arith, drop, slice_range, refl, sym, ap, subst, ◌∙◌}
 use Rattle.std.specs.List.{filter_map, cons_option}
 use Rattle.std.specs.List.Sorted.{IsPermutation}
 use Rattle.std.specs.Str.{IsUtf8}
@@ -15,19 +15,17 @@ use Rattle.lam_rules.specs.declared.rules.Dialect.{Dialect}
 use Rattle.lam_syntax.specs.Trees.{CommandTree}
 use Rattle.lam_syntax.specs.Answers.{ends_piece, is_semicolon, pieces_of}
 use Rattle.lam_syntax.specs.inner.Reads.{with_piece}
-use Rattle.lam_query.specs.declared.bound.Bound.{Bound}
-use Rattle.lam_query.specs.declared.rows.Row.{Row}
 use Rattle.lam_query.specs.Commands.{AreCommandsOf}
 use Rattle.lam_query.specs.Faults.{Fault}
 use Rattle.lam_query.specs.SyntaxFaults.{fault_of_token, PieceFaults, AreSyntaxFaults}
-use Rattle.lam_query.specs.Views.{fault_of}
 use Rattle.lam_query.specs.inner.OnePiece.{EndInSemicolon, HaveNoSemicolon, ArePieceTokens, before_semicolon, at_end}
-use Rattle.lam_query.specs.inner.Rows.{Front, nothing, front_with, IsRow, AreRowsFrom, all_syntax, AreSpelled}
+use Rattle.lam_query.specs.inner.Kept.{Row, all_syntax}
+use Rattle.lam_query.specs.inner.Rows.{Front, nothing, front_with, IsRow, AreRowsFrom, AreSpelled}
 use Rattle.lam_query.proofs.DividedPieces.{ended_pieces, last_pieces, commands_joined, own_last}
 use Rattle.lam_query.proofs.FaultLists.{faults_joined}
 use Rattle.lam_query.proofs.PieceOfText.{empty_text, front_ends, front_joined}
 use Rattle.lam_query.proofs.ReadPieces.{semicolon_faultless}
-use Rattle.lam_query.proofs.RowPieces.{take_all, parts}
+use Rattle.lam_query.proofs.RowPieces.{parts}
 
 -- ---- the tokens of a piece and its semicolon
 
@@ -77,8 +75,8 @@ both_told a b p q before own told is_before is_own same =
 
 -- ---- a piece more
 
-module _ (text : List ℕ) (f : Front) (before : List Row) (own : List CommandTree) (r : Row) (ts : List Typ) (b : Bound) (d : Dialect)
-    (h : AreSpelled text f before) (is : IsRow text f own r ts b d) where
+module _ (text : List ℕ) (f : Front) (before : List Row) (own : List CommandTree) (r : Row) (ts : List Typ) (d : Dialect)
+    (h : AreSpelled text f before) (is : IsRow text f own r ts d) where
   abbrev Ahead : List ℕ
   Ahead = take f.end text
 
@@ -121,17 +119,17 @@ module _ (text : List ℕ) (f : Front) (before : List Row) (own : List CommandTr
       ∙ ap (λ fs. filter_map fault_of_token is.tokens ++ fs) to.faultless
       ∙ append-nil (filter_map fault_of_token is.tokens))
 
-  of_rows : all_syntax (before ++ r ∷ []) ≡ all_syntax before ++ map fault_of r.syntax.items
+  of_rows : all_syntax (before ++ r ∷ []) ≡ all_syntax before ++ r.syntax
   of_rows =
-      flat_map-append (λ s. map fault_of s.syntax.items) before (r ∷ [])
-      ∙ ap (λ fs. all_syntax before ++ fs) (append-nil (map fault_of r.syntax.items))
+      flat_map-append (λ s. s.syntax) before (r ∷ [])
+      ∙ ap (λ fs. all_syntax before ++ fs) (append-nil r.syntax)
 
   same_faults : IsPermutation (filter_map fault_of_token Through ++ OfPieces) (all_syntax (before ++ r ∷ []))
   same_faults =
       subst (λ fs. IsPermutation (fs ++ OfPieces) (all_syntax (before ++ r ∷ []))) (sym of_tokens)
       (subst (IsPermutation ((filter_map fault_of_token h.tokens ++ filter_map fault_of_token is.tokens) ++ OfPieces)) (sym of_rows)
       (both_told (filter_map fault_of_token h.tokens) (filter_map fault_of_token is.tokens) h.are_of_syntax.of_pieces is.syntax.of_pieces
-      h.of_syntax (map fault_of r.syntax.items) (all_syntax before) h.are_of_syntax.all is.syntax.all h.same))
+      h.of_syntax r.syntax (all_syntax before) h.are_of_syntax.all is.syntax.all h.same))
 
   pub spelled_more : AreSpelled text (front_with f own ts r) (before ++ r ∷ [])
   spelled_more = record {
@@ -155,18 +153,18 @@ none_spelled text = record {
   same = IsPermutation-refl [];
 }
 
-spelled_from : (text : List ℕ) (before : List Row) (f : Front) (rows : List Row) (last : Front) (ts : List Typ) (b : Bound) (d : Dialect)
-    → AreSpelled text f before → AreRowsFrom text f rows last ts b d → AreSpelled text last (before ++ rows)
-spelled_from text before f [] last ts b d h are =
+spelled_from : (text : List ℕ) (before : List Row) (f : Front) (rows : List Row) (last : Front) (ts : List Typ) (d : Dialect)
+    → AreSpelled text f before → AreRowsFrom text f rows last ts d → AreSpelled text last (before ++ rows)
+spelled_from text before f [] last ts d h are =
     subst (λ g. AreSpelled text g (before ++ [])) are (subst (AreSpelled text f) (sym (append-nil before)) h)
-spelled_from text before f (r ∷ rows) last ts b d h are =
-    let more = spelled_more text f before are.0 r ts b d h are.1 in
+spelled_from text before f (r ∷ rows) last ts d h are =
+    let more = spelled_more text f before are.0 r ts d h are.1 in
     subst (AreSpelled text last) (append_assoc before (r ∷ []) rows)
-    (spelled_from text (before ++ r ∷ []) (front_with f are.0 ts r) rows last ts b d more are.2)
+    (spelled_from text (before ++ r ∷ []) (front_with f are.0 ts r) rows last ts d more are.2)
 
-pub spelled_through : (text : List ℕ) (rows : List Row) (f : Front) (ts : List Typ) (b : Bound) (d : Dialect) → IsUtf8 text → AreRowsFrom text nothing rows f ts b d
+pub spelled_through : (text : List ℕ) (rows : List Row) (f : Front) (ts : List Typ) (d : Dialect) → IsUtf8 text → AreRowsFrom text nothing rows f ts d
     → AreSpelled text f rows
-spelled_through text rows f ts b d is_text are = spelled_from text [] nothing rows f ts b d (none_spelled text) are
+spelled_through text rows f ts d is_text are = spelled_from text [] nothing rows f ts d (none_spelled text) are
 
 -- the tokens of a text spell these commands, and their faults are those of the rows
 pub record IsAllSpelled (text : List ℕ) (commands : List CommandTree) (rows : List Row) : Type 0 where
@@ -177,11 +175,11 @@ pub record IsAllSpelled (text : List ℕ) (commands : List CommandTree) (rows : 
   pub are_of_syntax : AreSyntaxFaults tokens of_syntax
   pub same : IsPermutation of_syntax (all_syntax rows)
 
-pub whole_spelled : (text : List ℕ) (rows : List Row) (f : Front) (ts : List Typ) (b : Bound) (d : Dialect) → IsUtf8 text → AreRowsFrom text nothing rows f ts b d
+pub whole_spelled : (text : List ℕ) (rows : List Row) (f : Front) (ts : List Typ) (d : Dialect) → IsUtf8 text → AreRowsFrom text nothing rows f ts d
     → f.end ≡ length text → IsAllSpelled text f.commands rows
-whole_spelled text rows f ts b d is_text are ends =
-    let h = spelled_through text rows f ts b d is_text are in
-    let whole : take f.end text ≡ text = ap (λ n. take n text) ends ∙ take_all text in
+whole_spelled text rows f ts d is_text are ends =
+    let h = spelled_through text rows f ts d is_text are in
+    let whole : take f.end text ≡ text = take_all f.end text (omega (arith, ends)) in
     record {
       tokens = h.tokens;
       are_tokens = subst (λ bytes. AreTokensOf bytes h.tokens) whole h.are_tokens;

@@ -1,29 +1,34 @@
 -- What is known of a text.
-use Rattle.std.specs.Prelude.{◌≡◌, ℕ, List, ◌∷◌, [], ◌++◌, length}
+use Rattle.std.specs.Prelude.{◌≡◌, ℕ, List, ◌∷◌, [], ◌++◌, map, None}
 use Rattle.std.specs.Str.{IsUtf8}
 use Rattle.lam_rules.specs.declared.rules.Dialect.{Dialect}
 use Rattle.lam_typing.specs.Checking.{types_in, dialect_in, IsSoundChecker}
 use Rattle.lam_query.specs.declared.analyses.Analysis.{Analysis}
-use Rattle.lam_query.specs.declared.rows.Row.{Row}
+use Rattle.lam_query.specs.Views.{fault_of}
 use Rattle.lam_query.specs.inner.Bound.{HaveNumbers}
-use Rattle.lam_query.specs.inner.Rows.{Front, nothing, AreRowsFrom, AllEnded, first_large}
+use Rattle.lam_query.specs.inner.Kept.{rows_of, placed, first_large, all_syntax, all_faults}
+use Rattle.lam_query.specs.inner.PieceRows.{Sight, outset, AreRows, IsMadeUpOf}
 
 -- the dialect that it was made in
 abbrev pub dialect_of : Analysis → Dialect
 dialect_of a = a.dialect
 
+-- how many commands were typed when everything was last made from a text alone, and since then, as the analysis counts them
+abbrev pub commands_typed : Analysis → ℕ
+commands_typed a = a.typed
+
 -- An analysis is of a text: it has a row for each of the text's pieces, with what was found of the piece's command; and it knows where the one
--- type is that is too large.
+-- type is that is too large, the faults that tokens and the grammar decide, and those that types decide where none is too large.
 pub record IsAnalysisOf (text : List ℕ) (a : Analysis) : Type 0 where
   pub is_text : IsUtf8 text
-  pub front : Front
-  pub rows : AreRowsFrom text nothing a.rows.items front (types_in a.types) a.bound a.dialect
-  pub whole : front.end ≡ length text
-  pub ended_rows : List Row
-  pub last : Row
-  pub are_rows : a.rows.items ≡ ended_rows ++ last ∷ []
-  pub ended : AllEnded text 0 ended_rows
-  pub large : a.large ≡ first_large a.rows.items
+  pub ended : List (List ℕ)
+  pub last : List ℕ
+  pub made_up : IsMadeUpOf text ended last
+  pub sight : Sight
+  pub rows : AreRows outset (ended ++ last ∷ []) (rows_of a.rows.items) sight (types_in a.types) a.bound a.dialect
+  pub large : a.told.large ≡ first_large (placed 0 (rows_of a.rows.items))
+  pub syntax : map fault_of a.told.syntax.items ≡ all_syntax (placed 0 (rows_of a.rows.items))
+  pub found : a.told.large ≡ None → map fault_of a.told.types.items ≡ all_faults (placed 0 (rows_of a.rows.items))
   pub sound : IsSoundChecker a.types
   pub dialect : dialect_in a.types ≡ a.dialect
   pub numbers : HaveNumbers a.bound

@@ -12,8 +12,13 @@ pub mod OnePiece
 pub mod Bound
 pub mod TypedCommands
 pub mod Pieces
+pub mod Kept
 pub mod Rows
+pub mod PieceRows
 pub mod Analysts
 pub mod Fronts
+pub mod Ends
+pub mod Earlier
+pub mod Changes
 pub mod ShownCommands
 pub mod Documents

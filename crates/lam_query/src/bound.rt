@@ -1,5 +1,5 @@
 //! What the commands in front of a command have bound, and what the command sees of it.
-ghost use Rattle.std.specs.Prelude.{◌≡◌, ℕ, List, [], map, Some, None, IfOk, OnOk};
+ghost use Rattle.std.specs.Prelude.{◌≡◌, ℕ, List, [], map, Contains, Some, None, IfOk, OnOk};
 ghost use Rattle.lam_rules.specs.Types.{Typ};
 ghost use Rattle.lam_scope.specs.Environments.{names_seen, abbreviations_seen, TypeNamesStand};
 ghost use Rattle.lam_scope.specs.Names.{Name};
@@ -7,25 +7,26 @@ ghost use Rattle.lam_syntax.specs.Letters.{letters};
 ghost use Rattle.lam_syntax.specs.Trees.{CommandTree};
 ghost use Rattle.lam_syntax.specs.Views.{command_of};
 ghost use Rattle.lam_typing.specs.Answers.{AllStandIn, context_under};
-ghost use Rattle.lam_query.specs.declared.bound.Binding.TheVariants.{Name as NameNumber};
-ghost use Rattle.lam_query.specs.inner.Bound.{numbered, number_of, AreNumbered, HaveNumbers, KeepsNumbers, IsBinding, found_over, NumbersStandIn, AllStand, IsSurroundedBy, IsSetIn, IsBoundAfter};
+ghost use Rattle.lam_query.specs.declared.bound.NameNo.TheVariants.{Name as NameNumber, TypeName as TypeNameNumber};
+ghost use Rattle.lam_query.specs.inner.Bound.{AreFreeIn, means, numbered, kept_under, number_of, AreNumbered, HaveNumbers, KeepsNumbers, IsBinding, found_over, NumbersStandIn, AllStand, IsSurroundedBy, IsSetIn, IsBoundAfter};
+ghost use Rattle.lam_query.specs.inner.PieceRows.{AreAsked};
 ghost use Rattle.lam_query.specs.inner.Entered.{entered, names_onto, entries_onto, abbreviations_onto};
 
 use lam_rules::TyNo;
-use lam_scope::{Environment, free_names};
+use lam_scope::{Environment, FreeNames};
 use lam_syntax::{Command, Identifier};
 use std::alloc::{AllocError, Global};
 use std::collections::HashMap;
 
-/// The names that commands bound, each with the entry of its last binder, and the type names with what they stand for, as
-/// numbers of a table of types.
+/// Names, each with the entry of its last binder where a command bound it, and type names with what they stand for, as numbers
+/// of a table of types.
 #[derive(Drop)]
 pub(crate) struct Bound {
     pub(crate) names: Meanings,
     pub(crate) type_names: Meanings,
 }
 
-/// What names mean. A name that was bound once has a number for good.
+/// What names mean. A name that was bound or asked for once keeps its number.
 #[derive(Drop)]
 pub(crate) struct Meanings {
     numbers: HashMap<String, usize>,
@@ -33,9 +34,9 @@ pub(crate) struct Meanings {
     entries: Vec<Option<Option<TyNo>>>,
 }
 
-/// What a command binds, by its number.
+/// A name or a type name, by its number.
 #[derive(Clone, Copy)]
-pub(crate) enum Binding {
+pub(crate) enum NameNo {
     Name(usize),
     TypeName(usize),
 }
@@ -71,15 +72,14 @@ impl Bound {
         self.type_names.clear();
     }
 
-    /// What a command sees of the names and type names that it asks for.
+    /// What a command sees of the names and type names that it takes from outside.
     pub(crate) fn around<'a>(
         &self,
         alloc: Global,
-        command: &'a Command,
+        free: &FreeNames<'a>,
     ) -> Result<Surroundings<'a>, AllocError>
-        ensures { IfOk result (λ s. (ts : List Typ) → AllStand ts self.now → IsSurroundedBy ts self.now (command_of command.now) s) }
+        ensures { IfOk result (λ s. (ts : List Typ) (c : CommandTree) → AreFreeIn c free.now → AllStand ts self.now → IsSurroundedBy ts self.now c s) }
     {
-        let free = free_names(alloc, command)?;
         let mut environment = Environment::new(alloc);
         let entries = enter_names(alloc, &self.names, &mut environment, &free.names)?;
         enter_type_names(&self.type_names, &mut environment, &free.type_names)?;
@@ -89,6 +89,36 @@ impl Bound {
         })
     }
 
+    /// The numbers of the names and type names that a command takes from outside. Those that had none get one.
+    pub(crate) fn numbers_of(
+        &mut self,
+        alloc: Global,
+        free: &FreeNames<'_>,
+    ) -> Result<Vec<NameNo>, AllocError>
+        requires { HaveNumbers self.old }
+        ensures asked { IfOk result (λ asks. (c : CommandTree) → AreFreeIn c free.now → AreAsked self.new c asks.items) }
+        ensures same { (n : Name) → (number_of self.new.names n ≡ number_of self.old.names n) × (number_of self.new.type_names n ≡ number_of self.old.type_names n) }
+        ensures keeps { KeepsNumbers self.old self.new }
+        ensures numbers { OnOk result (HaveNumbers self.new) }
+    {
+        let count = free.names.len().saturating_add(free.type_names.len());
+        let mut asks = Vec::with_capacity(alloc, count)?;
+        self.names.push_names(alloc, &free.names, &mut asks)?;
+        self.type_names
+            .push_type_names(alloc, &free.type_names, &mut asks)?;
+        Ok(asks)
+    }
+
+    /// What a name means by now: nothing where it is unbound, or else its entry, which may be none.
+    pub(crate) fn meaning(&self, name: NameNo) -> Option<Option<TyNo>>
+        ensures { result ≡ means self.now name }
+    {
+        match name {
+            NameNo::Name(place) => self.names.under(place),
+            NameNo::TypeName(place) => self.type_names.under(place),
+        }
+    }
+
     /// The name of a command has this entry for the commands behind it, or its type name stands for this type. Answers with the
     /// number of the name.
     pub(crate) fn bind(
@@ -96,7 +126,7 @@ impl Bound {
         alloc: Global,
         command: &Command,
         number: Option<TyNo>,
-    ) -> Result<Option<Binding>, AllocError>
+    ) -> Result<Option<NameNo>, AllocError>
         requires { HaveNumbers self.old }
         ensures binding { IfOk result (IsBinding self.new (command_of command.now)) }
         ensures bound { OnOk result (IsBoundAfter (command_of command.now) number self.old self.new) }
@@ -109,18 +139,19 @@ impl Bound {
             Command::Abbreviation(name, _) => {
                 let place = self.type_names.number_of(alloc, name.text.as_str())?;
                 self.type_names.set(place, number);
-                Ok(Some(Binding::TypeName(place)))
+                Ok(Some(NameNo::TypeName(place)))
             }
             Command::Evaluation(_) => Ok(None),
         }
     }
 
+    /// The name has this entry from now on. Answers with its number.
     fn bind_name(
         &mut self,
         alloc: Global,
         name: &Identifier,
         number: Option<TyNo>,
-    ) -> Result<Option<Binding>, AllocError>
+    ) -> Result<Option<NameNo>, AllocError>
         requires { HaveNumbers self.old }
         ensures binding { IfOk result (λ b. (n : ℕ) × (b ≡ Some (NameNumber n)) × (numbered self.new.names (letters name.now.text) ≡ Some n)) }
         ensures bound { OnOk result (IsSetIn (Some (letters name.now.text)) number self.old.names self.new.names) }
@@ -130,19 +161,19 @@ impl Bound {
     {
         let place = self.names.number_of(alloc, name.text.as_str())?;
         self.names.set(place, number);
-        Ok(Some(Binding::Name(place)))
+        Ok(Some(NameNo::Name(place)))
     }
 
     /// Binds again what a command bound before, by its number.
-    pub(crate) fn rebind(&mut self, binding: Option<Binding>, number: Option<TyNo>)
+    pub(crate) fn rebind(&mut self, binding: Option<NameNo>, number: Option<TyNo>)
         requires { HaveNumbers self.old }
         ensures bound { (c : CommandTree) → IsBinding self.old c binding → IsBoundAfter c number self.old self.new }
         ensures keeps { KeepsNumbers self.old self.new }
         ensures numbers { HaveNumbers self.new }
     {
         match binding {
-            Some(Binding::Name(place)) => self.names.set(place, number),
-            Some(Binding::TypeName(place)) => self.type_names.set(place, number),
+            Some(NameNo::Name(place)) => self.names.set(place, number),
+            Some(NameNo::TypeName(place)) => self.type_names.set(place, number),
             None => {}
         }
     }
@@ -164,13 +195,67 @@ impl Meanings {
     fn get(&self, name: &str) -> Option<Option<TyNo>>
         ensures { result ≡ number_of self.now name.now }
     {
-        match self.numbers.get(name) {
-            Some(place) => match self.entries.get(*place) {
-                Some(entry) => *entry,
-                None => None,
-            },
+        let place = self.numbers.get(name)?;
+        self.under(*place)
+    }
+
+    /// What is bound for the name of a number.
+    fn under(&self, place: usize) -> Option<Option<TyNo>>
+        ensures { result ≡ kept_under self.now place }
+    {
+        match self.entries.get(place) {
+            Some(entry) => *entry,
             None => None,
         }
+    }
+
+    /// What is bound for all names, by their numbers.
+    pub(crate) fn entries(&self) -> &[Option<Option<TyNo>>]
+        ensures { result.now ≡ self.now.entries.items }
+    {
+        &self.entries
+    }
+
+    /// Lists the numbers of names behind others. Those that had none get one.
+    fn push_names(
+        &mut self,
+        alloc: Global,
+        names: &[&str],
+        asks: &mut Vec<NameNo>,
+    ) -> Result<(), AllocError>
+        requires { AreNumbered self.old }
+        ensures asked { OnOk result ((x : Name) → Contains (map (λ y. y.now) names.now) x → (n : ℕ) × (numbered self.new x ≡ Some n) × Contains asks.new.items (NameNumber n)) }
+        ensures others { OnOk result ((n : NameNo) → Contains asks.old.items n → Contains asks.new.items n) }
+        ensures keeps { (x : Name) (n : ℕ) → numbered self.old x ≡ Some n → numbered self.new x ≡ Some n }
+        ensures same { (x : Name) → number_of self.new x ≡ number_of self.old x }
+        ensures numbers { OnOk result (AreNumbered self.new) }
+    {
+        for i in 0..names.len() {
+            let place = self.number_of(alloc, names[i])?;
+            asks.push(NameNo::Name(place))?;
+        }
+        Ok(())
+    }
+
+    /// Lists the numbers of type names behind others. Those that had none get one.
+    fn push_type_names(
+        &mut self,
+        alloc: Global,
+        names: &[&str],
+        asks: &mut Vec<NameNo>,
+    ) -> Result<(), AllocError>
+        requires { AreNumbered self.old }
+        ensures asked { OnOk result ((x : Name) → Contains (map (λ y. y.now) names.now) x → (n : ℕ) × (numbered self.new x ≡ Some n) × Contains asks.new.items (TypeNameNumber n)) }
+        ensures others { OnOk result ((n : NameNo) → Contains asks.old.items n → Contains asks.new.items n) }
+        ensures keeps { (x : Name) (n : ℕ) → numbered self.old x ≡ Some n → numbered self.new x ≡ Some n }
+        ensures same { (x : Name) → number_of self.new x ≡ number_of self.old x }
+        ensures numbers { OnOk result (AreNumbered self.new) }
+    {
+        for i in 0..names.len() {
+            let place = self.number_of(alloc, names[i])?;
+            asks.push(NameNo::TypeName(place))?;
+        }
+        Ok(())
     }
 
     /// The number of a name, which may be a new one.

@@ -108,9 +108,9 @@ impl Analysis {
     ) -> Result<Vec<Item>, AllocError>
         requires scopes { AreScopesOf scopes.now (map command_of commands.now) }
         requires projection { IsProjection (map command_of commands.now) place.0 }
-        ensures { IfOk result (λ items. (whole : List CommandTree) → IsSizedBy whole self.now.large self.now.dialect → AreListedFor whole (map command_of commands.now) place.0 (map item_of items.items) self.now.dialect) }
+        ensures { IfOk result (λ items. (whole : List CommandTree) → IsSizedBy whole self.now.told.large self.now.dialect → AreListedFor whole (map command_of commands.now) place.0 (map item_of items.items) self.now.dialect) }
     {
-        match self.large {
+        match self.told.large {
             Some(_) => Ok(Vec::new(alloc)),
             None => fields_of(alloc, commands, scopes, place, self.dialect),
         }

@@ -1,9 +1,23 @@
 //! What two texts have in common in front, and the pieces there.
+ghost use Rattle.std.specs.Prelude.{◌≡◌, ◌<◌, ◌≤◌, ◌^◌, length, take};
 ghost use Rattle.lam_query.specs.inner.Bound.{HaveNumbers, KeepsNumbers};
 ghost use Rattle.lam_query.specs.inner.Fronts.{IsFrontOfBoth, AreRowsWithin, AreBoundBy, StandBy};
+ghost use Rattle.lam_query.specs.inner.Kept.{rows_of, bytes_of};
 
 use crate::bound::Bound;
 use crate::rows::Row;
+
+/// The first pieces of a text.
+#[derive(Clone, Copy)]
+pub(crate) struct FrontRows {
+    /// How many they are.
+    pub(crate) count: usize,
+    /// The byte behind them.
+    pub(crate) end: usize,
+}
+
+/// So many bytes are compared at once.
+pub(crate) const BLOCK: usize = 4096;
 
 /// How many bytes both texts begin with.
 pub(crate) fn common_front(old: &str, new: &str) -> usize
@@ -12,7 +26,22 @@ pub(crate) fn common_front(old: &str, new: &str) -> usize
     let old = old.as_bytes();
     let new = new.as_bytes();
     let shorter = old.len().min(new.len());
-    for i in 0..shorter {
+    let mut front = 0;
+    while shorter - front >= BLOCK && old[front..front + BLOCK] == new[front..front + BLOCK] {
+        front += BLOCK;
+    }
+    front_from(old, new, front)
+}
+
+/// How many bytes both begin with, of which so many are known.
+fn front_from(old: &[u8], new: &[u8], known: usize) -> usize
+    requires in_old { known ≤ length old.now }
+    requires in_new { known ≤ length new.now }
+    requires same { take known old.now ≡ take known new.now }
+    ensures { IsFrontOfBoth result old.now new.now }
+{
+    let shorter = old.len().min(new.len());
+    for i in known..shorter {
         if old[i] != new[i] {
             return i;
         }
@@ -21,23 +50,27 @@ pub(crate) fn common_front(old: &str, new: &str) -> usize
 }
 
 /// How many of the first pieces end within so many bytes. The last piece is none of them, since no semicolon ends it.
-pub(crate) fn rows_within(rows: &[Row], bytes: usize) -> usize
-    ensures { AreRowsWithin bytes result rows.now }
+pub(crate) fn rows_within(rows: &[Row], bytes: usize) -> FrontRows
+    requires { bytes_of (rows_of rows.now) < 2 ^ 64 }
+    ensures { AreRowsWithin bytes result (rows_of rows.now) }
 {
+    let mut end = 0;
     let last = rows.len().saturating_sub(1);
     for i in 0..last {
-        if rows[i].end > bytes {
-            return i;
+        let next = end + rows[i].end;
+        if next > bytes {
+            return FrontRows { count: i, end };
         }
+        end = next;
     }
-    last
+    FrontRows { count: last, end }
 }
 
 /// Binds what the commands of these pieces bind, and nothing else.
 pub(crate) fn bind_again(bound: &mut Bound, rows: &[Row])
     requires { HaveNumbers bound.old }
-    ensures bound { AreBoundBy rows.now bound.old bound.new }
-    ensures stand { StandBy rows.now bound.old bound.new }
+    ensures bound { AreBoundBy (rows_of rows.now) bound.old bound.new }
+    ensures stand { StandBy (rows_of rows.now) bound.old bound.new }
     ensures keeps { KeepsNumbers bound.old bound.new }
     ensures numbers { HaveNumbers bound.new }
 {

@@ -47,7 +47,7 @@ impl Analysis {
         ensures shown { IfOk result (λ found. IsShownIn text.now offset (option_map shown_of found) (dialect_of self.now)) }
         ensures whole_characters { IfOk result (λ found. IfSome found (λ h. IsSpanOfText text.now h.span)) }
     {
-        if self.large.is_some() {
+        if self.told.large.is_some() {
             return Ok(None);
         }
         let Some(place) = row_around(&self.rows, offset) else {
@@ -57,7 +57,7 @@ impl Analysis {
         let Some(types) = row.types() else {
             return Ok(None);
         };
-        let piece = &text[place.start..row.end];
+        let piece = &text[place.start..place.start + row.end];
         let Some(command) = command_in(alloc, piece, place.start)? else {
             return Ok(None);
         };

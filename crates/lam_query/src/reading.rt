@@ -11,7 +11,7 @@ ghost use Rattle.lam_query.specs.Commands.{AreCommandsOf};
 ghost use Rattle.lam_query.specs.Completions.{with_label};
 ghost use Rattle.lam_query.specs.SyntaxFaults.{fault_of_token, PieceFault};
 ghost use Rattle.lam_query.specs.inner.OnePiece.{HaveNoSemicolon, IsOwnOf, ArePieceTokens};
-ghost use Rattle.lam_query.specs.inner.Reading.{IsCommandRead, fault_read, own_of, AreRead, AreAllRead, IsNoted, AreCollected, with_name_unless, AreCollectedAround, IsRead};
+ghost use Rattle.lam_query.specs.inner.Reading.{IsCommandRead, fault_read, own_of, AreRead, AreAllRead, IsNoted, AreCollected, with_name_unless, AreCollectedAround, IsRead, IsNextPiece};
 ghost use Rattle.lam_query.specs.Views.{fault_of};
 
 use crate::answers::Fault;
@@ -37,6 +37,15 @@ enum Piece {
     Fault(Fault),
     /// No command, since a token of it is a fault by itself.
     Spoiled,
+}
+
+/// Where a piece ends.
+#[derive(Clone, Copy)]
+pub(crate) struct PieceEnd {
+    /// How many bytes it has, with the semicolon that ends it.
+    pub(crate) bytes: usize,
+    /// Whether a semicolon ends it, and not the text.
+    pub(crate) semicolon: bool,
 }
 
 /// What was read of the tokens so far. They are kept no longer than the piece that they stand in.
@@ -102,8 +111,8 @@ pub(crate) fn read_with_label(
     Ok(collector.commands)
 }
 
-/// The command that a piece of a text is, if it is one. The piece has no semicolon but the one at its end, and begins at
-/// this byte of the text.
+/// The command that a piece is, if it is one. The piece has no semicolon but the one at its end, and its bytes count from
+/// this one on.
 pub(crate) fn command_in(
     alloc: Global,
     piece: &str,
@@ -138,6 +147,32 @@ impl<'t> Reader<'t> {
             token_faults: Vec::new(alloc),
             piece_faults: Vec::new(alloc),
         }
+    }
+
+    /// The tokens of the next piece of a text, of which this is left. Their bytes count from there.
+    pub(crate) fn read_piece(&mut self, text: &'t str) -> Result<PieceEnd, AllocError>
+        requires read { AreRead [] [] self.old }
+        requires no_piece { self.old.piece.items ≡ [] }
+        ensures read { OnOk result (AreRead [] [] self.new) }
+        ensures next { IfOk result (λ end. IsNextPiece text.now end self.new.piece.items) }
+    {
+        let mut left = text;
+        let mut place = 0;
+        while let Some((token, after)) = first_token(left, place) {
+            left = after;
+            place = token.end();
+            if is_semicolon(&token) {
+                return Ok(PieceEnd {
+                    bytes: place,
+                    semicolon: true,
+                });
+            }
+            self.push(token)?;
+        }
+        Ok(PieceEnd {
+            bytes: text.len(),
+            semicolon: false,
+        })
     }
 
     /// The next token of the text, which is no semicolon.

@@ -1,15 +1,13 @@
 //! The faults of a text.
-ghost use Rattle.std.specs.Prelude.{◌≡◌, ◌++◌, map, All, IfOk, OnOk};
+ghost use Rattle.std.specs.Prelude.{map, All, IfOk, OnOk};
 ghost use Rattle.lam_query.specs.Analyses.{IsAnalysisOf, dialect_of};
 ghost use Rattle.lam_query.specs.Faults.{AreInOrder};
 ghost use Rattle.lam_query.specs.TextFaults.{AreFaults};
 ghost use Rattle.lam_query.specs.Within.{IsSpanOfText};
 ghost use Rattle.lam_query.specs.Views.{fault_of};
-ghost use Rattle.lam_query.specs.inner.Rows.{all_syntax, all_faults};
 
 use crate::analyses::Analysis;
 use crate::answers::Fault;
-use crate::rows::Row;
 use lam_rules::Dialect;
 use std::alloc::{AllocError, Global};
 
@@ -29,34 +27,14 @@ impl Analysis {
         ensures whole_characters { IfOk result (λ found. All (λ f. IsSpanOfText text.now f.span) found.items) }
     {
         let mut found = Vec::new(alloc);
-        push_syntax(&mut found, &self.rows)?;
-        match self.large {
+        found.extend_from_slice(&self.told.syntax)?;
+        match self.told.large {
             Some(span) => found.push(Fault { code: "L1", span })?,
-            None => push_type_faults(&mut found, &self.rows)?,
+            None => found.extend_from_slice(&self.told.types)?,
         }
         put_in_order(&mut found)?;
         Ok(found)
     }
-}
-
-/// The faults that tokens and the grammar decide, row after row.
-fn push_syntax(found: &mut Vec<Fault>, rows: &[Row]) -> Result<(), AllocError>
-    ensures { OnOk result (map fault_of found.new.items ≡ map fault_of found.old.items ++ all_syntax rows.now) }
-{
-    for i in 0..rows.len() {
-        found.extend_from_slice(&rows[i].syntax)?;
-    }
-    Ok(())
-}
-
-/// The faults that types decide, row after row.
-fn push_type_faults(found: &mut Vec<Fault>, rows: &[Row]) -> Result<(), AllocError>
-    ensures { OnOk result (map fault_of found.new.items ≡ map fault_of found.old.items ++ all_faults rows.now) }
-{
-    for i in 0..rows.len() {
-        found.extend_from_slice(rows[i].faults())?;
-    }
-    Ok(())
 }
 
 /// Puts faults in order: by their start, then by their end, then by their code.

@@ -11,8 +11,9 @@ ghost use Rattle.lam_query.specs.SyntaxFaults.{fault_at};
 ghost use Rattle.lam_query.specs.TextFaults.{written_fault};
 ghost use Rattle.lam_query.specs.Views.{fault_of};
 ghost use Rattle.lam_query.specs.inner.Analysts.{IsBoundAs};
-ghost use Rattle.lam_query.specs.inner.Bound.{AllStand};
+ghost use Rattle.lam_query.specs.inner.Bound.{AllStand, AreFreeIn};
 ghost use Rattle.lam_query.specs.inner.Entered.{Lookup};
+ghost use Rattle.lam_query.specs.inner.Kept.{found_of};
 ghost use Rattle.lam_query.specs.inner.Rows.{own_fault, IsFoundOf};
 ghost use Rattle.lam_query.specs.inner.TypedCommands.{types_around, IsStatedBy, bound_number};
 
@@ -20,7 +21,9 @@ use crate::answers::Fault;
 use crate::bound::{Bound, Surroundings};
 use crate::rows::{Found, FoundTypes};
 use lam_rules::TyNo;
-use lam_scope::{Interned, InternedStatement, Place, ScopeFault, TypeFault, bind, intern_command};
+use lam_scope::{
+    FreeNames, Interned, InternedStatement, Place, ScopeFault, TypeFault, bind, intern_command,
+};
 use lam_syntax::Command;
 use lam_token::Span;
 use lam_typing::{Blame, TypeChecker};
@@ -37,21 +40,23 @@ struct Stated<'a> {
     entries: Vec<Option<TyNo>>,
 }
 
-/// What is found of a command, where this is bound in front of it.
+/// What is found of a command, where this is bound in front of it. These are the names that it takes from outside.
 pub(crate) fn found_of(
     alloc: Global,
     types: &mut TypeChecker,
     bound: &Bound,
     command: &Command,
+    free: &FreeNames<'_>,
 ) -> Result<Found, AllocError>
+    requires free { AreFreeIn (command_of command.now) free.now }
     requires sound { IsSoundChecker types.old }
     requires stand { AllStand (types_in types.old) bound.now }
     ensures sound { IsSoundChecker types.new }
     ensures keeps { Keeps (types_in types.old) (types_in types.new) }
     ensures dialect { dialect_in types.new ≡ dialect_in types.old }
-    ensures found { IfOk result (λ f. (names others : Lookup) → IsBoundAs names others (types_in types.old) bound.now → IsFoundOf names others (command_of command.now) (types_in types.new) f (dialect_in types.old)) }
+    ensures found { IfOk result (λ f. (names others : Lookup) → IsBoundAs names others (types_in types.old) bound.now → IsFoundOf names others (command_of command.now) (types_in types.new) (found_of f) (dialect_in types.old)) }
 {
-    let stated = match state_command(alloc, types, bound, command) {
+    let stated = match state_command(alloc, types, bound, command, free) {
         Ok(stated) => stated,
         Err(ScopeFault::TooLarge(span)) => return Ok(Found::LargeWrittenType(span)),
         Err(ScopeFault::Memory) => return Err(AllocError),
@@ -74,7 +79,9 @@ fn state_command<'a>(
     types: &mut TypeChecker,
     bound: &Bound,
     command: &'a Command,
+    free: &FreeNames<'a>,
 ) -> Result<Stated<'a>, ScopeFault>
+    requires free { AreFreeIn (command_of command.now) free.now }
     requires sound { IsSoundChecker types.old }
     requires stand { AllStand (types_in types.old) bound.now }
     ensures sound { IsSoundChecker types.new }
@@ -86,7 +93,7 @@ fn state_command<'a>(
     let Surroundings {
         mut environment,
         entries,
-    } = bound.around(alloc, command)?;
+    } = bound.around(alloc, free)?;
     let Interned { statement, faults } = intern_command(
         alloc,
         types.table_mut(),
@@ -125,7 +132,7 @@ fn faults_of(
     Ok(found)
 }
 
-/// Where the term of a number among those of a command is in the text.
+/// The span of the term of this number in a command.
 fn span_of_term(alloc: Global, command: &Command, number: usize) -> Result<Span, AllocError>
     ensures { IfOk result (λ s. s ≡ (place_row_numbered (table (command_of command.now ∷ [])) number).span) }
 {

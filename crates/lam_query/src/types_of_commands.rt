@@ -20,6 +20,7 @@ use crate::reading::read;
 use crate::rows::{Found, FoundTypes};
 use crate::typed_commands::found_of;
 use lam_rules::{Dialect, TyNo, TyTable};
+use lam_scope::free_names;
 use lam_syntax::{Command, Identifier};
 use lam_typing::TypeChecker;
 use std::alloc::{AllocError, Global};
@@ -73,7 +74,8 @@ fn show_command(
     ensures numbers { OnOk result (HaveNumbers bound.new) }
     ensures next { IfOk result (λ shown. (done : List CommandTree) → IsKnown done types.old bound.old → IsNext done (command_of command.now) shown types.new bound.new) }
 {
-    let Found::Types(found) = found_of(alloc, types, bound, command)? else {
+    let free = free_names(alloc, command)?;
+    let Found::Types(found) = found_of(alloc, types, bound, command, &free)? else {
         return Ok(None);
     };
     bound.bind(alloc, command, found.bound)?;

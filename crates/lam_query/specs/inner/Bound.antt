@@ -1,5 +1,5 @@
 -- What commands have bound: names and type names as numbers, and what is kept for each as a number of a table of types. For private functions alone.
-use Rattle.std.specs.Prelude.{◌≡◌, ◌<◌, ℕ, List, [], length, get_or, Option, Some, None, string_bytes, IfSome, if◌then◌else◌}
+use Rattle.std.specs.Prelude.{◌≡◌, ◌<◌, ℕ, List, [], length, map, get_or, Option, Some, None, string_bytes, IfSome, if◌then◌else◌}
 use Rattle.std.specs.Option.{option_map, option_and_then}
 use Rattle.std.specs.Str.{bytes_eq}
 use Rattle.std.specs.HashMap.{get_by}
@@ -8,11 +8,12 @@ use Rattle.lam_rules.specs.declared.numbers.TyNo.{TyNo}
 use Rattle.lam_syntax.specs.Trees.{CommandTree}
 use Rattle.lam_scope.specs.Environments.{names_seen, abbreviations_seen, TypeNamesStand}
 use Rattle.lam_scope.specs.FreeNames.{each_once, free_in_command, free_type_names_in_command}
+use Rattle.lam_scope.specs.declared.command_names.FreeNames.{FreeNames}
 use Rattle.lam_scope.specs.Names.{Name, binds}
 use Rattle.lam_scope.specs.Numbered.{StandsIfAny}
 use Rattle.lam_typing.specs.Answers.{answer, AllStandIn, context_under}
-use Rattle.lam_query.specs.declared.bound.Binding.{Binding}
-use Rattle.lam_query.specs.declared.bound.Binding.TheVariants as binding
+use Rattle.lam_query.specs.declared.bound.NameNo.{NameNo}
+use Rattle.lam_query.specs.declared.bound.NameNo.TheVariants as binding
 use Rattle.lam_query.specs.declared.bound.Bound.{Bound}
 use Rattle.lam_query.specs.declared.bound.Meanings.{Meanings}
 use Rattle.lam_query.specs.declared.bound.Surroundings.{Surroundings}
@@ -25,6 +26,11 @@ numbered m x = get_by (λ k. bytes_eq x (string_bytes k)) m.numbers
 -- what is kept under a number: nothing where the name is unbound
 abbrev pub kept_under : Meanings → ℕ → Option (Option TyNo)
 kept_under m n = get_or m.entries.items n None
+
+-- what is kept under the number of a name or of a type name
+abbrev pub means : Bound → NameNo → Option (Option TyNo)
+means b (binding.Name n) = kept_under b.names n
+means b (binding.TypeName n) = kept_under b.type_names n
 
 -- what is kept for a name
 abbrev pub number_of : Meanings → Name → Option (Option TyNo)
@@ -45,13 +51,13 @@ pub record KeepsNumbers (old now : Bound) : Type 0 where
   pub names : (x : Name) (n : ℕ) → numbered old.names x ≡ Some n → numbered now.names x ≡ Some n
   pub type_names : (x : Name) (n : ℕ) → numbered old.type_names x ≡ Some n → numbered now.type_names x ≡ Some n
 
--- the number of what a command binds
-abbrev pub IsBinding : Bound → CommandTree → Option Binding → Type 0
+-- the number of the name that a command binds
+abbrev pub IsBinding : Bound → CommandTree → Option NameNo → Type 0
 IsBinding b c None = (name_bound c ≡ None) × (type_name_bound c ≡ None)
 IsBinding b c (Some (binding.Name n)) = (x : Name) × (name_bound c ≡ Some x) × (type_name_bound c ≡ None) × (numbered b.names x ≡ Some n)
 IsBinding b c (Some (binding.TypeName n)) = (x : Name) × (name_bound c ≡ None) × (type_name_bound c ≡ Some x) × (numbered b.type_names x ≡ Some n)
 
--- what that is over the types of a table
+-- what is kept for a name, over the types of a table
 abbrev pub found_over : List Typ → Meanings → Lookup
 found_over ts m x = option_map (answer ts) (number_of m x)
 
@@ -64,6 +70,11 @@ pub record AllStand (ts : List Typ) (b : Bound) : Type 0 where
   pub names : NumbersStandIn ts b.names
   pub type_names : NumbersStandIn ts b.type_names
 
+-- all that a command takes from outside, each name once
+pub record AreFreeIn (c : CommandTree) (free : FreeNames) : Type 0 where
+  pub names : map (λ x. x.now) free.names.items ≡ each_once (free_in_command c)
+  pub type_names : map (λ x. x.now) free.type_names.items ≡ each_once (free_type_names_in_command c)
+
 -- The free names of a command that are bound, each entered once, with their entries; and its type names.
 pub record IsSurroundedBy (ts : List Typ) (b : Bound) (c : CommandTree) (s : Surroundings) : Type 0 where
   pub names : names_seen s.environment ≡ names_onto [] (entered (found_over ts b.names) (each_once (free_in_command c)))
@@ -72,11 +83,11 @@ pub record IsSurroundedBy (ts : List Typ) (b : Bound) (c : CommandTree) (s : Sur
   pub type_names_stand : TypeNamesStand ts s.environment
   pub entries_stand : AllStandIn ts s.entries.items
 
--- one more name has this number, if there is one
+-- one more name has this entry, if there is one
 abbrev pub IsSetIn : Option Name → Option TyNo → Meanings → Meanings → Type 0
 IsSetIn b number old now = (x : Name) → number_of now x ≡ (if binds b x then Some number else number_of old x)
 
--- what a command binds has this number
+-- what a command binds has this entry
 pub record IsBoundAfter (c : CommandTree) (number : Option TyNo) (old now : Bound) : Type 0 where
   pub names : IsSetIn (name_bound c) number old.names now.names
   pub type_names : IsSetIn (type_name_bound c) number old.type_names now.type_names

@@ -1,12 +1,13 @@
 -- What two texts have in common in front, and the pieces there. For private functions alone.
-use Rattle.std.specs.Prelude.{◌≡◌, ◌≤◌, ◌<◌, ◌+◌, ◌⊎◌, ℕ, List, All, Some, take, length, slice_get}
+use Rattle.std.specs.Prelude.{◌≡◌, ◌≤◌, ◌<◌, ◌+◌, ◌⊎◌, ℕ, List, take, length, slice_get, Some}
 use Rattle.lam_rules.specs.Types.{Typ}
 use Rattle.lam_rules.specs.declared.rules.Dialect.{Dialect}
 use Rattle.lam_query.specs.declared.bound.Bound.{Bound}
-use Rattle.lam_query.specs.declared.rows.Row.{Row}
+use Rattle.lam_query.specs.declared.fronts.FrontRows.{FrontRows}
 use Rattle.lam_query.specs.inner.Analysts.{IsBoundAs}
 use Rattle.lam_query.specs.inner.Bound.{AllStand}
-use Rattle.lam_query.specs.inner.Rows.{Front, nothing, AreRowsFrom}
+use Rattle.lam_query.specs.inner.Kept.{Row, bytes_of}
+use Rattle.lam_query.specs.inner.PieceRows.{Sight, outset, AreRows}
 
 -- both texts begin with the same bytes, so many, and with no more
 pub record IsFrontOfBoth (n : ℕ) (old new : List ℕ) : Type 0 where
@@ -15,18 +16,19 @@ pub record IsFrontOfBoth (n : ℕ) (old new : List ℕ) : Type 0 where
   pub same : take n old ≡ take n new
   pub no_more : (byte : ℕ) → slice_get old n ≡ Some byte → slice_get new n ≡ Some byte → ⊥
 
--- so many rows, and not the last one, end within so many bytes; the one behind them does not, or is the last one
-pub record AreRowsWithin (n kept : ℕ) (rows : List Row) : Type 0 where
-  pub not_last : (kept ≡ 0) ⊎ (kept < length rows)
-  pub within : All (λ r. r.end ≤ n) (take kept rows)
-  pub no_more : (r : Row) → slice_get rows kept ≡ Some r → (n < r.end) ⊎ (kept + 1 ≡ length rows)
+-- so many pieces, and not the last one, end within so many bytes; the next one does not, or is the last one
+pub record AreRowsWithin (n : ℕ) (front : FrontRows) (rows : List Row) : Type 0 where
+  pub not_last : (front.count ≡ 0) ⊎ (front.count < length rows)
+  pub counted : front.end ≡ bytes_of (take front.count rows)
+  pub within : front.end ≤ n
+  pub no_more : (r : Row) → slice_get rows front.count ≡ Some r → (n < front.end + r.end) ⊎ (front.count + 1 ≡ length rows)
 
 -- names mean what they mean behind the pieces of these rows, where each row knows the number of what it binds
 abbrev pub AreBoundBy : List Row → Bound → Bound → Type 0
 AreBoundBy rows old now =
-    (text : List ℕ) (f : Front) (ts : List Typ) (d : Dialect) → AreRowsFrom text nothing rows f ts old d → IsBoundAs f.names f.types ts now
+    (pieces : List (List ℕ)) (s : Sight) (ts : List Typ) (d : Dialect) → AreRows outset pieces rows s ts old d → IsBoundAs s.names s.types ts now
 
--- each number that is bound stands for a type of the table that those of the rows stand in
+-- each entry that is bound stands for a type of the table that the rows are about
 abbrev pub StandBy : List Row → Bound → Bound → Type 0
 StandBy rows old now =
-    (text : List ℕ) (f : Front) (ts : List Typ) (d : Dialect) → AreRowsFrom text nothing rows f ts old d → AllStand ts now
+    (pieces : List (List ℕ)) (s : Sight) (ts : List Typ) (d : Dialect) → AreRows outset pieces rows s ts old d → AllStand ts now

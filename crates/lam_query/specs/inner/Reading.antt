@@ -1,7 +1,8 @@
 -- What the tokens of a text are read as, one after another. For private functions alone.
-use Rattle.std.specs.Prelude.{◌≡◌, Bool, true, false, List, [], ◌∷◌, ◌++◌, ℕ, map, filter, codes, All, Option, Some, None}
+use Rattle.std.specs.Prelude.{◌≡◌, Bool, true, false, IsTrue, IsFalse, length, List, [], ◌∷◌, ◌++◌, ℕ, map, filter, codes, All, Option, Some, None}
 use Rattle.std.specs.Option.{option_map, option_to_list}
 use Rattle.std.specs.List.{filter_map}
+use Rattle.std.specs.Str.{IsUtf8}
 use Rattle.lam_token.specs.declared.kind.Kind.TheVariants as kind
 use Rattle.lam_token.specs.Lexeme.{Lexeme, lexeme_at}
 use Rattle.lam_token.specs.Cut.{AreTokensOf, StandsIn}
@@ -12,6 +13,7 @@ use Rattle.lam_syntax.specs.declared.terms.Command.{Command}
 use Rattle.lam_query.specs.declared.reading.Piece.{Piece}
 use Rattle.lam_query.specs.declared.reading.Piece.TheVariants as piece
 use Rattle.lam_query.specs.declared.reading.Parsed.{Parsed}
+use Rattle.lam_query.specs.declared.reading.PieceEnd.{PieceEnd}
 use Rattle.lam_query.specs.declared.reading.Reader.{Reader}
 use Rattle.lam_query.specs.declared.reading.Collector.{Collector}
 use Rattle.lam_query.specs.Commands.{IsCommandOf, AreCommandsOf}
@@ -20,6 +22,7 @@ use Rattle.lam_query.specs.Faults.{Fault}
 use Rattle.lam_query.specs.SyntaxFaults.{fault_of_token, PieceFaults, AreSyntaxFaults}
 use Rattle.lam_query.specs.Views.{fault_of}
 use Rattle.lam_query.specs.inner.OnePiece.{EndInSemicolon, HaveNoSemicolon}
+use Rattle.lam_query.specs.inner.PieceRows.{IsEnded, AreTokensIn}
 
 -- the command that the tokens spell, or they spell none
 abbrev pub IsCommandRead : List Lexeme → Piece → Type 0
@@ -82,3 +85,15 @@ pub record IsRead (text : List ℕ) (parsed : Parsed) : Type 0 where
   pub whole : All (StandsIn text) tokens
   pub commands : AreCommandsOf (pieces_of tokens) (map command_of parsed.commands.items)
   pub faults : AreSyntaxFaults tokens (map fault_of parsed.faults.items)
+
+-- The next piece of what is left of a text, with these tokens in front of its semicolon: one more comes behind it, even an empty one; or it is the last, which no
+-- semicolon ends.
+pub record IsNextPiece (text : List ℕ) (end : PieceEnd) (tokens : List Lexeme) : Type 0 where
+  pub piece : List ℕ
+  pub behind : List ℕ
+  pub divides : text ≡ piece ++ behind
+  pub counted : end.bytes ≡ length piece
+  pub is_text : IsUtf8 piece
+  pub are : AreTokensIn piece tokens
+  pub ended : IsTrue end.semicolon → IsEnded piece
+  pub last : IsFalse end.semicolon → (behind ≡ []) × (IsEnded piece → ⊥)

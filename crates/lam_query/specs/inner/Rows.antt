@@ -1,14 +1,11 @@
--- What is kept of each piece of a text. For private functions alone.
-use Rattle.std.specs.Prelude.{◌≡◌, ◌≤◌, ◌<◌, ◌+◌, ℕ, List, [], ◌∷◌, ◌++◌, length, map, flat_map, take, drop, slice_range, All, Contains, Option, Some, None, if◌then◌else◌}
-use Rattle.std.specs.Option.{option_map, option_or}
+-- The rows of a text's pieces, with bytes that count from the start of the text. For private functions alone.
+use Rattle.std.specs.Prelude.{◌≡◌, ◌≤◌, ◌<◌, ◌+◌, ℕ, List, [], ◌∷◌, ◌++◌, length, map, take, drop, slice_range, All, Contains, Option, Some, None, if◌then◌else◌}
 use Rattle.std.specs.List.Sorted.{IsPermutation}
-use Rattle.lam_token.specs.declared.kind.Kind.TheVariants.{Semicolon}
 use Rattle.lam_token.specs.declared.span.Span.{Span}
-use Rattle.lam_token.specs.Cut.{AreTokensFrom, AreTokensOf}
-use Rattle.lam_token.specs.Lexeme.{Lexeme, kind_of, end_of as token_end}
+use Rattle.lam_token.specs.Cut.{AreTokensOf}
+use Rattle.lam_token.specs.Lexeme.{Lexeme}
 use Rattle.lam_rules.specs.Types.{Typ}
 use Rattle.lam_rules.specs.Typing.{Context}
-use Rattle.lam_rules.specs.declared.numbers.TyNo.{TyNo}
 use Rattle.lam_rules.specs.declared.rules.Dialect.{Dialect}
 use Rattle.lam_syntax.specs.Answers.{pieces_of}
 use Rattle.lam_syntax.specs.Trees.{CommandTree}
@@ -22,24 +19,17 @@ use Rattle.lam_scope.specs.Tables.{table, place_row_numbered}
 use Rattle.lam_typing.specs.Analysis.{IsFirstTooLarge}
 use Rattle.lam_typing.specs.Answers.{answer, answers, AllStandIn}
 use Rattle.lam_typing.specs.Blaming.{Blamed, renumbered}
-use Rattle.lam_query.specs.declared.bound.Bound.{Bound}
-use Rattle.lam_query.specs.declared.rows.Row.{Row}
-use Rattle.lam_query.specs.declared.rows.CommandRow.{CommandRow}
-use Rattle.lam_query.specs.declared.rows.Found.{Found}
-use Rattle.lam_query.specs.declared.rows.Found.TheVariants.{LargeWrittenType, LargeTerm, Types}
-use Rattle.lam_query.specs.declared.rows.FoundTypes.{FoundTypes}
 use Rattle.lam_query.specs.declared.rows.PlacedRow.{PlacedRow}
 use Rattle.lam_query.specs.Commands.{AreCommandsOf}
 use Rattle.lam_query.specs.Faults.{Fault}
 use Rattle.lam_query.specs.Sizes.{places_in, IsSizeFault, IsSmall}
 use Rattle.lam_query.specs.SyntaxFaults.{fault_at, AreSyntaxFaults}
 use Rattle.lam_query.specs.TextFaults.{written_fault, blame_fault}
-use Rattle.lam_query.specs.Views.{fault_of}
-use Rattle.lam_query.specs.inner.Bound.{IsBinding}
 use Rattle.lam_query.specs.inner.Checked.{abbreviations_behind, names_behind, context_after, AreChecked}
 use Rattle.lam_query.specs.inner.Entered.{Lookup, type_named, name_bound, type_name_bound, type_bound}
-use Rattle.lam_query.specs.inner.Pieces.{IsPieceBetween}
+use Rattle.lam_query.specs.inner.Kept.{FoundTypes, Found, written_too_large, term_too_large, typed, CommandRow, Row, bound_by, all_types, all_faults, all_syntax}
 use Rattle.lam_query.specs.inner.OnePiece.{IsOwnOf, IsOffsetIn}
+use Rattle.lam_query.specs.inner.Pieces.{IsPieceBetween}
 
 -- ---- what is found of names
 
@@ -72,9 +62,9 @@ pub record SeesAs (c : CommandTree) (of_names of_types : Lookup) (done : List Co
 
 -- its written types, where these abbreviations are in sight: the first that is too large; or none is, and this is what its type name stands for
 abbrev pub IsWrittenIn : List Abbreviation → CommandTree → List Typ → Found → Type 0
-IsWrittenIn bs c ts (LargeWrittenType s) = first_over_limit bs (written_in_command c) ≡ Some s
-IsWrittenIn bs c ts (LargeTerm s) = (first_over_limit bs (written_in_command c) ≡ None) × (type_name_bound c ≡ None)
-IsWrittenIn bs c ts (Types t) =
+IsWrittenIn bs c ts (written_too_large s) = first_over_limit bs (written_in_command c) ≡ Some s
+IsWrittenIn bs c ts (term_too_large s) = (first_over_limit bs (written_in_command c) ≡ None) × (type_name_bound c ≡ None)
+IsWrittenIn bs c ts (typed t) =
     (first_over_limit bs (written_in_command c) ≡ None) × ((x : Name) → type_name_bound c ≡ Some x → answer ts t.bound ≡ type_bound bs c)
 
 -- behind so many terms, its first term whose type is too large is the first of the document, whatever comes behind the command; it is here
@@ -93,19 +83,19 @@ pub record AreTypesFound (done : List CommandTree) (g : Context) (found : List (
     (c : CommandTree) (ts : List Typ) (t : FoundTypes) (d : Dialect) : Type 0 where
   pub own : List Blamed
   pub inside : All (λ b. b.number < length (table (c ∷ [])).places) own
-  pub checked : AreChecked (done ++ c ∷ []) (context_after g c (answer ts t.bound)) (found ++ answers ts t.types.items) (blames ++ renumbered (length found) own) d
-  pub faults : map fault_of t.faults.items ≡ map written_fault (faults_in (abbreviations_behind done) (written_in_command c)) ++ map (own_fault c) own
+  pub checked : AreChecked (done ++ c ∷ []) (context_after g c (answer ts t.bound)) (found ++ answers ts t.types) (blames ++ renumbered (length found) own) d
+  pub faults : t.faults ≡ map written_fault (faults_in (abbreviations_behind done) (written_in_command c)) ++ map (own_fault c) own
 
 -- what was found of it behind these commands
 abbrev pub IsFoundIn : (done : List CommandTree) (g : Context) (found : List (Option Typ)) (blames : List Blamed)
     → CommandTree → List Typ → Found → Dialect → Type 0
-IsFoundIn done g found blames c ts (LargeWrittenType s) d = Unit {0}
-IsFoundIn done g found blames c ts (LargeTerm s) d = IsLargeTermAt done (length found) c s d
-IsFoundIn done g found blames c ts (Types t) d = AreTypesFound done g found blames c ts t d
+IsFoundIn done g found blames c ts (written_too_large s) d = Unit {0}
+IsFoundIn done g found blames c ts (term_too_large s) d = IsLargeTermAt done (length found) c s d
+IsFoundIn done g found blames c ts (typed t) d = AreTypesFound done g found blames c ts t d
 
 -- the numbers in it stand for types of the table
 abbrev pub StandInFound : List Typ → Found → Type 0
-StandInFound ts (Types t) = AllStandIn ts t.types.items × StandsIfAny ts t.bound
+StandInFound ts (typed t) = AllStandIn ts t.types × StandsIfAny ts t.bound
 StandInFound ts f = Unit {0}
 
 -- This was found of a command where names and type names mean this. It holds behind all commands that give the names which the command
@@ -115,11 +105,6 @@ pub record IsFoundOf (names types : Lookup) (c : CommandTree) (ts : List Typ) (f
   pub written : (bs : List Abbreviation) → AgreeOn (free_type_names_in_command c) types (types_of bs) → IsWrittenIn bs c ts f
   pub found : (done : List CommandTree) (g : Context) (found : List (Option Typ)) (blames : List Blamed)
       → AreChecked done g found blames d → SeesAs c names types done g → IsFoundIn done g found blames c ts f d
-
--- the number of what it binds
-abbrev pub bound_by : Found → Option TyNo
-bound_by (Types t) = t.bound
-bound_by f = None
 
 -- ---- one piece
 
@@ -154,109 +139,35 @@ front_with f own ts r = record {
 }
 
 -- what is kept of the one command of a piece; of no command nothing is kept
-abbrev pub IsKeptOf : (names types : Lookup) → List CommandTree → List Typ → Option CommandRow → Bound → Dialect → Type 0
-IsKeptOf names types [] ts None b d = Unit {0}
-IsKeptOf names types (c ∷ []) ts (Some r) b d = IsFoundOf names types c ts r.found d × IsBinding b c r.binds
-IsKeptOf names types own ts r b d = ⊥
+abbrev pub IsKeptOf : (names types : Lookup) → List CommandTree → List Typ → Option CommandRow → Dialect → Type 0
+IsKeptOf names types [] ts None d = Unit {0}
+IsKeptOf names types (c ∷ []) ts (Some r) d = IsFoundOf names types c ts r.found d
+IsKeptOf names types own ts r d = ⊥
 
 -- The row of the piece that begins where the front ends. These are its commands: one, or none.
-pub record IsRow (text : List ℕ) (f : Front) (own : List CommandTree) (r : Row) (ts : List Typ) (b : Bound) (d : Dialect) : Type 0 where
+pub record IsRow (text : List ℕ) (f : Front) (own : List CommandTree) (r : Row) (ts : List Typ) (d : Dialect) : Type 0 where
   pub forward : f.end ≤ r.end
   pub inside : r.end ≤ length text
   pub tokens : List Lexeme
   pub piece : IsPieceBetween text f.end r.end tokens
   pub is_own : IsOwnOf tokens own
-  pub syntax : AreSyntaxFaults tokens (map fault_of r.syntax.items)
-  pub kept : IsKeptOf f.names f.types own ts r.command b d
+  pub syntax : AreSyntaxFaults tokens r.syntax
+  pub kept : IsKeptOf f.names f.types own ts r.command d
 
 -- ---- piece after piece
 
 -- the rows of the pieces between one front and another
-abbrev pub AreRowsFrom : (text : List ℕ) → Front → List Row → Front → List Typ → Bound → Dialect → Type 0
-AreRowsFrom text f [] last ts b d = f ≡ last
-AreRowsFrom text f (r ∷ rows) last ts b d =
-    (own : List CommandTree) × IsRow text f own r ts b d × AreRowsFrom text (front_with f own ts r) rows last ts b d
-
--- a semicolon ends the piece from one byte to another
-abbrev pub IsEnded : (text : List ℕ) (start end : ℕ) → Type 0
-IsEnded text start end =
-    (tokens : List Lexeme) × (t : Lexeme) × AreTokensFrom start (slice_range text start end) (tokens ++ t ∷ []) × (kind_of t ≡ Semicolon) × (token_end t ≡ end)
-
--- a semicolon ends the piece of each row
-abbrev pub AllEnded : (text : List ℕ) (start : ℕ) → List Row → Type 0
-AllEnded text start [] = Unit {0}
-AllEnded text start (r ∷ rows) = IsEnded text start r.end × AllEnded text r.end rows
+abbrev pub AreRowsFrom : (text : List ℕ) → Front → List Row → Front → List Typ → Dialect → Type 0
+AreRowsFrom text f [] last ts d = f ≡ last
+AreRowsFrom text f (r ∷ rows) last ts d =
+    (own : List CommandTree) × IsRow text f own r ts d × AreRowsFrom text (front_with f own ts r) rows last ts d
 
 -- ---- what rows tell
-
--- the byte behind the last piece
-abbrev pub end_of : List Row → ℕ
-end_of [] = 0
-end_of (r ∷ []) = r.end
-end_of (r ∷ s ∷ rows) = end_of (s ∷ rows)
-
--- what was found of its command
-abbrev pub found_of : Row → Option Found
-found_of r = option_map (λ c. c.found) r.command
-
--- where a written type is too large
-abbrev pub large_written_type : Option Found → Option Span
-large_written_type (Some (LargeWrittenType s)) = Some s
-large_written_type f = None
-
--- where a term has a type that is too large
-abbrev pub large_term : Option Found → Option Span
-large_term (Some (LargeTerm s)) = Some s
-large_term f = None
-
--- the types of terms that were found
-abbrev pub types_listed : Option FoundTypes → List (Option TyNo)
-types_listed None = []
-types_listed (Some t) = t.types.items
-
--- and the faults
-abbrev pub faults_listed : Option FoundTypes → List Fault
-faults_listed None = []
-faults_listed (Some t) = map fault_of t.faults.items
-
--- its types, where none is too large
-abbrev pub types_of_found : Option Found → Option FoundTypes
-types_of_found (Some (Types t)) = Some t
-types_of_found f = None
-
--- the types of its terms
-abbrev pub types_found : Option Found → List (Option TyNo)
-types_found f = types_listed (types_of_found f)
-
--- the faults that types decide
-abbrev pub faults_found : Option Found → List Fault
-faults_found f = faults_listed (types_of_found f)
-
--- the first that a row has of something
-abbrev pub first_in : (Option Found → Option Span) → List Row → Option Span
-first_in f [] = None
-first_in f (r ∷ rows) = option_or (f (found_of r)) (first_in f rows)
-
--- where the one type is that is too large: the first written type, and where there is none the first term
-abbrev pub first_large : List Row → Option Span
-first_large rows = option_or (first_in large_written_type rows) (first_in large_term rows)
 
 -- the commands have this size fault, or none
 abbrev pub IsSizedBy : List CommandTree → Option Span → Dialect → Type 0
 IsSizedBy commands (Some s) d = IsSizeFault commands s d
 IsSizedBy commands None d = IsSmall commands d
-
--- the types of all terms
-abbrev pub all_types : List Row → List (Option TyNo)
-all_types rows = flat_map (λ r. types_found (found_of r)) rows
-
--- all faults that types decide, row after row
-abbrev pub all_faults : List Row → List Fault
-all_faults rows = flat_map (λ r. faults_found (found_of r)) rows
-
--- all faults that tokens and the grammar decide, row after row
-abbrev pub all_syntax : List Row → List Fault
-all_syntax rows = flat_map (λ r. map fault_of r.syntax.items) rows
 
 -- None of the types up to a front is too large, and this is known of its commands and of what names mean behind them. Their faults are those
 -- of the rows; where a term stands does not depend on the commands behind it.
@@ -278,15 +189,15 @@ pub record AreSpelled (text : List ℕ) (f : Front) (rows : List Row) : Type 0 w
   pub same : IsPermutation of_syntax (all_syntax rows)
 
 -- The piece that has an offset, by the number of its row; the last one has all offsets from its start on.
-pub record IsRowAround (text : List ℕ) (offset : ℕ) (rows : List Row) (p : PlacedRow) (ts : List Typ) (b : Bound) (d : Dialect) : Type 0 where
+pub record IsRowAround (text : List ℕ) (offset : ℕ) (rows : List Row) (p : PlacedRow) (ts : List Typ) (d : Dialect) : Type 0 where
   pub before : List Row
   pub row : Row
   pub after : List Row
   pub are : rows ≡ before ++ row ∷ after
   pub counted : p.number ≡ length before
   pub front : Front
-  pub rows_before : AreRowsFrom text nothing before front ts b d
+  pub rows_before : AreRowsFrom text nothing before front ts d
   pub starts : p.start ≡ front.end
   pub own : List CommandTree
-  pub is_row : IsRow text front own row ts b d
+  pub is_row : IsRow text front own row ts d
   pub is_there : IsOffsetIn offset (take front.end text) (slice_range text front.end row.end) (drop row.end text)

@@ -1,6 +1,9 @@
-use Rattle.std.proofs.Common.{◌≤◌, take}
-use Rattle.std.specs.List.{All}
+use Rattle.std.proofs.Common.{◌≡◌, ◌≤◌, take}
+use Rattle.lam_query.specs.inner.Kept.{rows_of, bytes_of}
 use Rattle.lam_query.proofs.fronts.rows_within.Given as goal
 
 abbrev pub invariant-loop-i : goal.invariant-loop-i
-invariant-loop-i l = All (λ r. r.end ≤ l.bytes) (take l.i l.rows)
+invariant-loop-i l = record {
+  counted : l.end ≡ bytes_of (take l.i (rows_of l.rows));
+  within : l.end ≤ l.bytes;
+}

@@ -9,7 +9,7 @@ use Rattle.lam_query.proofs.typed_commands.state_command.Goals as goal
 pub intern_command-requires : goal.intern_command-requires
 intern_command-requires c =
     seen_names_stand (types_in c.args.types.now) c.table_mut.result.now c.table_mut.ensures.table c.args.bound.now (command_of c.args.command.now)
-    c.in_ok-environment.field-0 (c.in_ok-environment.ensures (types_in c.args.types.now) c.requires.stand)
+    c.in_ok-environment.field-0 (c.in_ok-environment.ensures (types_in c.args.types.now) (command_of c.args.command.now) c.requires.free c.requires.stand)
 
 pub returns-in_err-statement-clause-sound : goal.returns-in_err-statement-clause-sound
 returns-in_err-statement-clause-sound c =
@@ -21,7 +21,7 @@ returns-in_err-statement-clause-limit c =
     let p = err_from_is_err_and c.from_residual-in_err-statement.result c.from_residual-in_err-statement.ensures.1 in
     let same = p.1 ∙ ap (λ y. Err y) p.2 in
     seen_limit_err (types_in c.args.types.now) c.table_mut.result.now c.table_mut.ensures.table c.args.bound.now (command_of c.args.command.now)
-    c.in_ok-environment.field-0 (c.in_ok-environment.ensures (types_in c.args.types.now) c.requires.stand)
+    c.in_ok-environment.field-0 (c.in_ok-environment.ensures (types_in c.args.types.now) (command_of c.args.command.now) c.requires.free c.requires.stand)
     c.in_err-statement.field-0.0 c.from_residual-in_err-statement.result same c.in_err-statement.ensures.limit
 
 pub returns-clause-sound : goal.returns-clause-sound
@@ -32,12 +32,12 @@ returns-clause-sound c =
 pub returns-clause-limit : goal.returns-clause-limit
 returns-clause-limit c =
     seen_limit (types_in c.args.types.now) c.table_mut.result.now c.table_mut.ensures.table c.args.bound.now (command_of c.args.command.now)
-    c.in_ok-environment.field-0 (c.in_ok-environment.ensures (types_in c.args.types.now) c.requires.stand)
+    c.in_ok-environment.field-0 (c.in_ok-environment.ensures (types_in c.args.types.now) (command_of c.args.command.now) c.requires.free c.requires.stand)
     ∙ c.in_ok-statement.ensures.limit
 
 pub returns-clause-stated : goal.returns-clause-stated
 returns-clause-stated c =
     is_stated (types_in c.args.types.now) c.table_mut.result.now c.table_mut.ensures.table c.args.bound.now (command_of c.args.command.now)
-    c.in_ok-environment.field-0 (c.in_ok-environment.ensures (types_in c.args.types.now) c.requires.stand)
+    c.in_ok-environment.field-0 (c.in_ok-environment.ensures (types_in c.args.types.now) (command_of c.args.command.now) c.requires.free c.requires.stand)
     c.intern_command.new.table _ c.in_ok-statement.ensures.keeps refl
     c.in_ok-statement.ensures.statement c.in_ok-statement.ensures.stand c.in_ok-statement.ensures.faults

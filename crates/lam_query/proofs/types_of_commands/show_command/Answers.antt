@@ -1,6 +1,7 @@
 use Rattle.lam_syntax.specs.Views.{command_of}
 use Rattle.lam_typing.specs.Checking.{types_in}
 use Rattle.lam_query.specs.inner.Checked.{abbreviations_behind}
+use Rattle.lam_query.specs.inner.Kept.{found_types_of}
 use Rattle.lam_query.specs.inner.Rows.{entries_of, types_of}
 use Rattle.lam_query.proofs.BoundNames.{stand_kept, stand_after}
 use Rattle.lam_query.proofs.ShownTypes.{next_shown, next_known, found_stand, untyped_large}
@@ -31,9 +32,9 @@ returns-clause-next c done known =
     let types = c.found_of.new.types in
     let is = rw c.in-Types.is at (c.in_ok-found.ensures.found (entries_of done known.context) (types_of (abbreviations_behind done)) known.bound) in
     let told = rw c.table.ensures at c.in_ok-shown_of.ensures in (
-      next_known done command c.args.types.now types c.args.bound.now known c.in-Types.found is c.bind.new.self c.found_of.ensures.keeps
+      next_known done command c.args.types.now types c.args.bound.now known (found_types_of c.in-Types.found) is c.bind.new.self c.found_of.ensures.keeps
           c.found_of.ensures.dialect c.requires.stand c.in_ok-bind.ensures.bound,
-      rw (c.found_of.ensures.dialect, told) (next_shown done command c.args.types.now types c.args.bound.now known c.in-Types.found is),
+      rw (c.found_of.ensures.dialect, told) (next_shown done command c.args.types.now types c.args.bound.now known (found_types_of c.in-Types.found) is),
     )
 
 pub shown_of-requires-clause-types : goal.shown_of-requires-clause-types

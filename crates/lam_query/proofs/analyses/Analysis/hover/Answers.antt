@@ -1,4 +1,4 @@
-use Rattle.std.proofs.Common.{subst, sym, ◌∙◌}
+use Rattle.std.proofs.Common.{length, subst, sym, ap, ◌∙◌, arith}
 use Rattle.std.specs.Option.{option_map}
 use Rattle.std.specs.Result.{IfOk}
 use Rattle.std.proofs.lemmas.Result.{IfOk-weaker}
@@ -6,8 +6,32 @@ use Rattle.lam_query.specs.Hovers.{IsShownIn}
 use Rattle.lam_query.specs.Views.{shown_of}
 use Rattle.lam_query.specs.inner.OnePiece.{IsOwnOf}
 use Rattle.lam_query.specs.inner.Reading.{own_of}
-use Rattle.lam_query.proofs.HoverByPiece.{large_shown, starts_between, stops_between, is_forward, no_command_shown, no_types_shown, types_stand, types_inside, command_shown, hover_stands}
+use Rattle.lam_query.proofs.HoverByPiece.{large_shown, some_row, number_inside, ends_inside, starts_between, stops_between, no_command_shown, no_types_shown, types_stand, types_inside, command_shown, hover_stands}
+use Rattle.lam_query.proofs.SpansInText.{all_bytes_fit}
 use Rattle.lam_query.proofs.analyses.Analysis.hover.Goals as goal
+
+pub row_around-requires : goal.row_around-requires
+row_around-requires c = rw c.deref.ensures.value (all_bytes_fit c.args.text.now c.args.self.now (omega arith) c.requires)
+
+pub returns-in_default-clause-shown : goal.returns-in_default-clause-shown
+returns-in_default-clause-shown c = absurd (some_row c.args.text.now c.args.self.now c.requires (sym c.deref.ensures.value ∙ c.in_default.ensures.none))
+
+pub index-row-requires : goal.index-row-requires
+index-row-requires c =
+    omega (
+      arith,
+      c.deref.ensures.len,
+      ap length c.deref.ensures.value,
+      number_inside c.args.text.now c.args.self.now c.args.offset c.in-Some.place c.requires _ c.deref.ensures.value c.in-Some.ensures.some,
+    )
+
+pub overflow_add-place : goal.overflow_add-place
+overflow_add-place c =
+    omega (
+      arith,
+      ends_inside c.args.text.now c.args.self.now c.args.offset c.in-Some.place c.requires _ c.deref.ensures.value c.in-Some.ensures.some
+          c.index-row.result.now _ c.index-row.ensures,
+    )
 
 pub returns-then-is_some-clause-shown : goal.returns-then-is_some-clause-shown
 returns-then-is_some-clause-shown c = large_shown c.args.text.now c.args.self.now c.args.offset c.requires (sym c.is_some.ensures ∙ c.if-is_some.true)
@@ -16,11 +40,6 @@ pub returns-in_default-types-clause-shown : goal.returns-in_default-types-clause
 returns-in_default-types-clause-shown c =
     no_types_shown c.args.text.now c.args.self.now c.args.offset c.in-Some.place c.requires _ c.deref.ensures.value c.in-Some.ensures.some
     c.index-row.result.now _ c.index-row.ensures (sym c.is_some.ensures ∙ c.if-is_some.false) c.in_default-types.ensures.none
-
-pub range-piece-requires-clause-start_le_end : goal.range-piece-requires-clause-start_le_end
-range-piece-requires-clause-start_le_end c =
-    is_forward c.args.text.now c.args.self.now c.args.offset c.in-Some.place c.requires _ c.deref.ensures.value c.in-Some.ensures.some
-    c.index-row.result.now _ c.index-row.ensures
 
 pub range-piece-requires-clause-start_boundary : goal.range-piece-requires-clause-start_boundary
 range-piece-requires-clause-start_boundary c = λ positive.

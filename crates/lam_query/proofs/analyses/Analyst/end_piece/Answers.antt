@@ -12,7 +12,7 @@ returns-clause-read c =
     let taken = c.in_ok-syntax.ensures in
     let none_left = none_left_of c.end_piece.new.self c.keep.new.self.reader c.take_faults.new.self told.none_left by.reader c.take_faults.ensures.piece in
     row_kept c.args.self.now c.keep.new.self _ c.end_piece.new.self own
-    (record { end = c.args.end; syntax = c.in_ok-syntax.syntax; command = c.in_ok-command-2.command }) told.own
+    (record { end = c.args.bytes; syntax = c.in_ok-syntax.syntax; command = c.in_ok-command-2.command }) told.own
     (faults_taken c.args.self.now.reader c.end_piece.new.self c.keep.new.self.reader own c.in_ok-syntax.syntax.items told.all by.reader taken.faults)
-    by c.keep.ensures.dialect refl refl c.in_ok-push.ensures.items
+    by refl refl c.in_ok-push.ensures.items refl
     (nothing_read c.take_faults.new.self none_left taken.none_left.1 taken.none_left.0) none_left

@@ -1,11 +1,22 @@
-use Rattle.std.proofs.Common.{refl, sym, ap, ◌∙◌}
-use Rattle.lam_query.specs.inner.Rows.{first_large}
+use Rattle.std.proofs.Common.{◌<◌, ◌^◌, length, arith, refl, sym, ◌∙◌}
 use Rattle.lam_query.proofs.Analysts.{all_read}
+use Rattle.lam_query.proofs.SpansInText.{read_bytes_fit, read_large_fits, read_syntax_fits, read_types_fit}
 use Rattle.lam_query.proofs.analyses.Analyst.finish.Goals as goal
+
+pub told_by-requires : goal.told_by-requires
+told_by-requires c =
+    let text = c.args.text.now in
+    let short : length text < 2 ^ 64 = omega arith in
+    rw c.deref.ensures.value (read_bytes_fit text c.args.self c.utf8.text short c.requires.read)
 
 pub returns-clause-of : goal.returns-clause-of
 returns-clause-of c =
-    let read = c.requires.read in
-    all_read c.args.text.now read.0 c.args.self c.end_piece.new.self _ c.utf8.text read.1 read.2 c.in_ok-end_piece.ensures.read c.in_ok-end_piece.ensures.sound
-    refl refl refl (sym c.requires.dialect ∙ sym c.end_piece.ensures.dialect)
-    (c.first_large-large.ensures ∙ ap first_large c.deref.ensures.value)
+    let text = c.args.text.now in
+    let a = c.args.self in
+    let short : length text < 2 ^ 64 = omega arith in
+    let told = rw c.deref.ensures.value at c.in_ok-told.ensures in
+    let large = told.large (read_large_fits text a c.utf8.text short c.requires.read) in
+    all_read text a _ c.utf8.text c.requires.read c.requires.sound refl refl refl (sym c.requires.dialect)
+    large
+    (told.syntax (read_syntax_fits text a c.utf8.text short c.requires.read))
+    (λ none. told.types (read_types_fit text a c.utf8.text short c.requires.read (sym large ∙ none)))

@@ -1,13 +1,12 @@
 use Rattle.std.proofs.Common.{ap, ◌∙◌}
-use Rattle.lam_syntax.specs.Views.{command_of}
 use Rattle.lam_query.proofs.Entering.{names_in, surroundings_made}
 use Rattle.lam_query.proofs.bound.Bound.around.Goals as goal
 
 pub returns : goal.returns
-returns c = λ ts stand.
-    surroundings_made ts c.args.self.now (command_of c.args.command.now) c.deref.result.now c.deref-2.result.now
+returns c = λ ts command free stand.
+    surroundings_made ts c.args.self.now command c.deref.result.now c.deref-2.result.now
     c.new-environment.result c.enter_names.new.environment _
-    (ap names_in c.deref.ensures.value ∙ c.in_ok-free.ensures.names) (ap names_in c.deref-2.ensures.value ∙ c.in_ok-free.ensures.type_names)
+    (ap names_in c.deref.ensures.value ∙ free.names) (ap names_in c.deref-2.ensures.value ∙ free.type_names)
     c.new-environment.ensures.names (c.new-environment.ensures.type_names ts)
     (c.in_ok-entries.ensures.names ts) (c.in_ok-entries.ensures.entries ts) (c.in_ok-entries.ensures.type_names ts)
     c.in_ok-enter_type_names.ensures.names (c.in_ok-enter_type_names.ensures.type_names ts)

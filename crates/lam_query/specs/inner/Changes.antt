@@ -1,0 +1,52 @@
+-- A text that was changed, while the rows behind the change are followed. For private functions alone.
+use Rattle.std.specs.Prelude.{◌≡◌, ◌<◌, ◌≤◌, ◌-◌, ◌⊎◌, ℕ, List, [], ◌∷◌, ◌++◌, length, take, drop}
+use Rattle.std.specs.List.{AllZip}
+use Rattle.lam_rules.specs.Types.{Typ}
+use Rattle.lam_rules.specs.Numbers.{Keeps}
+use Rattle.lam_typing.specs.Checking.{types_in, dialect_in}
+use Rattle.lam_query.specs.declared.analyses.Analyst.{Analyst}
+use Rattle.lam_query.specs.declared.bound.Bound.{Bound}
+use Rattle.lam_query.specs.declared.earlier.Earlier.{Earlier}
+use Rattle.lam_query.specs.declared.ends.Behind.{Behind}
+use Rattle.lam_query.specs.inner.Analysts.{IsBoundAs, IsReadTo, IsReadThrough}
+use Rattle.lam_query.specs.inner.Bound.{HaveNumbers, KeepsNumbers}
+use Rattle.lam_query.specs.inner.Earlier.{IsMeantBy}
+use Rattle.lam_query.specs.inner.Ends.{IsLeftOf}
+use Rattle.lam_query.specs.inner.Kept.{rows_of}
+use Rattle.lam_query.specs.inner.PieceRows.{Sight, outset, AreRows, IsMadeUpOf, joined}
+
+-- What is left of a text is made up of the old text's pieces from this number on; or all of it was read, and the number is that of all pieces.
+abbrev pub IsMet : (ahead : List ℕ) (s : Sight) (text : List ℕ) (pieces : List (List ℕ)) (next : ℕ) → Analyst → Type 0
+IsMet ahead s text pieces next a =
+    ((next < length pieces) × IsReadTo ahead s text (joined (drop next pieces)) a) ⊎ ((next ≡ length pieces) × IsReadThrough ahead s text a)
+
+-- The rows are those of the old text's pieces, and what is left of these is counted; both texts end with the same bytes, as many as are common.
+pub record AreOldPieces (old new : List ℕ) (pieces : List (List ℕ)) (b : Behind) : Type 0 where
+  pub whole : old ≡ joined pieces
+  pub lengths : AllZip (λ r p. r.end ≡ length p) (rows_of b.rows.now) pieces
+  pub left : IsLeftOf (rows_of b.rows.now) b
+  pub common : b.common ≤ length old
+  pub fits : b.common ≤ length new
+  pub same : drop (length old - b.common) old ≡ drop (length new - b.common) new
+
+-- The first rows, so many, are those of the text's pieces, and names mean behind them what is bound. The others were right in the old text, where
+-- names meant this in front of them, by the table of types and the numbers of that time.
+pub record IsFollowedTo (text : List ℕ) (n : ℕ) (ts : List Typ) (b : Bound) (e : Earlier) (a : Analyst) : Type 0 where
+  pub ended : List (List ℕ)
+  pub last : List ℕ
+  pub made_up : IsMadeUpOf text ended last
+  pub done : List (List ℕ)
+  pub left : List (List ℕ)
+  pub parts : ended ++ last ∷ [] ≡ done ++ left
+  pub counted : length done ≡ n
+  pub end : a.end ≡ length (joined done)
+  pub sight : Sight
+  pub rows : AreRows outset done (rows_of (take n a.rows.items)) sight (types_in a.types) a.bound (dialect_in a.types)
+  pub bound : IsBoundAs sight.names sight.types (types_in a.types) a.bound
+  pub old_sight : Sight
+  pub old_last : Sight
+  pub old_rows : AreRows old_sight left (rows_of (drop n a.rows.items)) old_last ts b (dialect_in a.types)
+  pub meant : IsMeantBy old_sight ts b e
+  pub old_numbers : HaveNumbers b
+  pub keeps : Keeps ts (types_in a.types)
+  pub numbers : KeepsNumbers b a.bound

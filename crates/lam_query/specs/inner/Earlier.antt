@@ -1,0 +1,50 @@
+-- What names meant in a text before it was changed. For private functions alone.
+use Rattle.std.specs.Prelude.{◌≡◌, ◌<◌, ℕ, List, [], ◌∷◌, length, get_or, Option, Some, None, IfSome}
+use Rattle.std.specs.Option.{option_map}
+use Rattle.lam_rules.specs.Types.{Typ}
+use Rattle.lam_rules.specs.declared.numbers.TyNo.{TyNo}
+use Rattle.lam_scope.specs.Names.{Name}
+use Rattle.lam_scope.specs.Numbered.{StandsIfAny}
+use Rattle.lam_typing.specs.Answers.{answer}
+use Rattle.lam_query.specs.declared.bound.Bound.{Bound}
+use Rattle.lam_query.specs.declared.bound.NameNo.{NameNo}
+use Rattle.lam_query.specs.declared.bound.NameNo.TheVariants as number
+use Rattle.lam_query.specs.declared.earlier.Earlier.{Earlier}
+use Rattle.lam_query.specs.inner.Bound.{numbered}
+use Rattle.lam_query.specs.inner.Kept.{CommandRow, Row, bound_by}
+use Rattle.lam_query.specs.inner.PieceRows.{Sight}
+
+-- what is kept under a number: nothing where the name was unbound
+abbrev pub meant : Earlier → NameNo → Option (Option TyNo)
+meant e (number.Name n) = get_or e.names.items n None
+meant e (number.TypeName n) = get_or e.type_names.items n None
+
+-- there is a place for the name of this number
+abbrev pub HasRoomFor : NameNo → Earlier → Type 0
+HasRoomFor (number.Name n) e = n < length e.names.items
+HasRoomFor (number.TypeName n) e = n < length e.type_names.items
+
+-- one name more has this entry; the places are the same
+pub record IsPassedWith (binds : Option NameNo) (entry : Option TyNo) (old now : Earlier) : Type 0 where
+  pub set : (name : NameNo) → binds ≡ Some name → HasRoomFor name old → meant now name ≡ Some entry
+  pub others : (name : NameNo) → (binds ≡ Some name → ⊥) → meant now name ≡ meant old name
+  pub room : (name : NameNo) → HasRoomFor name old → HasRoomFor name now
+
+-- what the command of a piece binds was passed
+abbrev pub IsPassedOver : Option CommandRow → Earlier → Earlier → Type 0
+IsPassedOver None old now = old ≡ now
+IsPassedOver (Some k) old now = IsPassedWith k.binds (bound_by k.found) old now
+
+-- what the commands of these pieces bind was passed, one after another
+abbrev pub IsPassedBy : List Row → Earlier → Earlier → Type 0
+IsPassedBy [] old now = old ≡ now
+IsPassedBy (r ∷ rows) old now = (mid : Earlier) × IsPassedOver r.command old mid × IsPassedBy rows mid now
+
+-- names mean this by their numbers, over the types of a table
+pub record IsMeantBy (s : Sight) (ts : List Typ) (b : Bound) (e : Earlier) : Type 0 where
+  pub names : (x : Name) (n : ℕ) → numbered b.names x ≡ Some n → option_map (answer ts) (meant e (number.Name n)) ≡ s.names x
+  pub types : (x : Name) (n : ℕ) → numbered b.type_names x ≡ Some n → option_map (answer ts) (meant e (number.TypeName n)) ≡ s.types x
+  pub room : (x : Name) (n : ℕ) → numbered b.names x ≡ Some n → HasRoomFor (number.Name n) e
+  pub type_room : (x : Name) (n : ℕ) → numbered b.type_names x ≡ Some n → HasRoomFor (number.TypeName n) e
+  pub stand : (x : Name) (n : ℕ) → numbered b.names x ≡ Some n → IfSome (meant e (number.Name n)) (StandsIfAny ts)
+  pub type_stand : (x : Name) (n : ℕ) → numbered b.type_names x ≡ Some n → IfSome (meant e (number.TypeName n)) (StandsIfAny ts)

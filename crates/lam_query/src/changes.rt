@@ -1,0 +1,198 @@
+//! An analysis that is changed with its text.
+ghost use Rattle.std.specs.Prelude.{◌≡◌, ◌<◌, ◌≤◌, ◌+◌, ◌++◌, [], ℕ, List, length, take, drop, IfOk, OnOk};
+ghost use Rattle.lam_rules.specs.Numbers.{Keeps};
+ghost use Rattle.lam_rules.specs.Types.{Typ};
+ghost use Rattle.lam_typing.specs.Checking.{types_in, dialect_in};
+ghost use Rattle.lam_query.specs.Analyses.{IsAnalysisOf, dialect_of};
+ghost use Rattle.lam_query.specs.inner.Analysts.{IsSound, IsBetweenPieces, IsReadTo, IsReadThrough};
+ghost use Rattle.lam_query.specs.inner.Bound.{HaveNumbers, KeepsNumbers};
+ghost use Rattle.lam_query.specs.inner.Changes.{IsMet, IsFollowedTo, AreOldPieces};
+ghost use Rattle.lam_query.specs.inner.Fronts.{AreBoundBy, StandBy};
+ghost use Rattle.lam_query.specs.inner.Kept.{rows_of};
+ghost use Rattle.lam_query.specs.inner.PieceRows.{Sight, outset};
+ghost use Rattle.lam_query.specs.declared.bound.Bound.{Bound};
+
+use crate::analyses::{Analysis, Analyst};
+use crate::earlier::Earlier;
+use crate::ends::{Behind, common_end};
+use crate::fronts::{FrontRows, bind_again, common_front, rows_within};
+use crate::reading::{Reader, command_in};
+use crate::rows::Row;
+use std::alloc::{AllocError, Global};
+use std::mem;
+
+impl Analysis {
+    /// Of a new text, from that of the old one: the pieces in front of the change stay, and those behind it, but for commands that
+    /// ask for a name which means something else now. Where much was read since everything was made anew, nothing stays. After an
+    /// error nothing is left of the old analysis.
+    pub fn changed(self, alloc: Global, old: &str, new: &str) -> Result<Analysis, AllocError>
+        requires { IsAnalysisOf old.now self }
+        ensures of { IfOk result (λ made. IsAnalysisOf new.now made) }
+        ensures dialect { IfOk result (λ made. dialect_of made ≡ dialect_of self) }
+    {
+        let dialect = self.dialect;
+        if self.is_worn(old) {
+            drop(self);
+            return Analysis::new(alloc, new, dialect);
+        }
+        let front = rows_within(&self.rows, common_front(old, new));
+        let common = common_end(old, new);
+        let (mut analyst, rows) = Analyst::behind(alloc, self, front);
+        let mut earlier = Earlier::of(alloc, &analyst.bound)?;
+        let mut behind = Behind::new(&rows, front, old, common);
+        analyst.read_until(new, &mut behind)?;
+        let met = behind.next;
+        let count = rows.len();
+        earlier.pass(&rows[front.count..met]);
+        let next = analyst.put_between(rows, front.count, met)?;
+        if met == count {
+            return analyst.finish(new, dialect);
+        }
+        analyst.follow(new, next, &mut earlier)?;
+        analyst.finish(new, dialect)
+    }
+
+    /// Whether so much was read that names and types which no command has any more may take most of the memory: all that grows
+    /// does so when a piece is read, and by no more than the piece is long.
+    fn is_worn(&self, text: &str) -> bool {
+        self.read > text.len().saturating_mul(2).saturating_add(65_536)
+    }
+}
+
+impl<'t> Analyst<'t> {
+    /// The first pieces of a text were read: what they bind is bound, and nothing else. The rows are those of all pieces.
+    fn behind(alloc: Global, analysis: Analysis, front: FrontRows) -> (Analyst<'t>, Vec<Row>)
+        requires numbers { HaveNumbers analysis.bound }
+        requires inside { front.count ≤ length analysis.rows.items }
+        ensures rows { result.1 ≡ analysis.rows }
+        ensures types { result.0.types ≡ analysis.types }
+        ensures none { result.0.rows.items ≡ [] }
+        ensures end { result.0.end ≡ front.end }
+        ensures typed { result.0.typed ≡ analysis.typed }
+        ensures between { IsBetweenPieces result.0 }
+        ensures bound { AreBoundBy (rows_of (take front.count analysis.rows.items)) analysis.bound result.0.bound }
+        ensures stand { StandBy (rows_of (take front.count analysis.rows.items)) analysis.bound result.0.bound }
+        ensures keeps { KeepsNumbers analysis.bound result.0.bound }
+        ensures numbers { HaveNumbers result.0.bound }
+    {
+        let Analysis {
+            rows,
+            told: _told,
+            mut bound,
+            types,
+            dialect: _dialect,
+            typed,
+            read,
+        } = analysis;
+        bind_again(&mut bound, &rows[..front.count]);
+        let analyst = Analyst {
+            alloc,
+            reader: Reader::new(alloc),
+            types,
+            bound,
+            rows: Vec::new(alloc),
+            end: front.end,
+            typed,
+            read,
+        };
+        (analyst, rows)
+    }
+
+    /// Reads pieces up to where one begins that the old text has too, with all that comes behind it; or else all pieces.
+    fn read_until(&mut self, text: &'t str, old: &mut Behind<'_>) -> Result<(), AllocError>
+        requires sound { IsSound self.old }
+        requires read { (ahead : List ℕ) × (s : Sight) × (rest : List ℕ) × IsReadTo ahead s text.now rest self.old }
+        requires old { (before : List ℕ) × (pieces : List (List ℕ)) × AreOldPieces before text.now pieces old.old }
+        ensures met { OnOk result ((ahead : List ℕ) (s : Sight) (rest before : List ℕ) (pieces : List (List ℕ)) → IsReadTo ahead s text.now rest self.old → AreOldPieces before text.now pieces old.old → IsMet ahead s text.now pieces old.new.next self.new) }
+        ensures forward { OnOk result (old.old.next ≤ old.new.next) }
+        ensures keeps { OnOk result (Keeps (types_in self.old.types) (types_in self.new.types)) }
+        ensures numbers { OnOk result (KeepsNumbers self.old.bound self.new.bound) }
+        ensures sound { OnOk result (IsSound self.new) }
+        ensures dialect { dialect_in self.new.types ≡ dialect_in self.old.types }
+    {
+        while !old.is_met(text.len() - self.end) {
+            if !self.read_piece(text)? {
+                old.pass_all();
+                return Ok(());
+            }
+        }
+        Ok(())
+    }
+
+    /// Puts the rows that were read in the place of those from one number to another, and answers with the number of the row
+    /// behind them.
+    fn put_between(&mut self, rows: Vec<Row>, from: usize, to: usize) -> Result<usize, AllocError>
+        requires forward { from ≤ to }
+        requires inside { to ≤ length rows.items }
+        ensures next { IfOk result (λ next. next ≡ from + length self.old.rows.items) }
+        ensures rows { OnOk result (self.new.rows.items ≡ take from rows.items ++ (self.old.rows.items ++ drop to rows.items)) }
+        ensures types { self.new.types ≡ self.old.types }
+        ensures bound { self.new.bound ≡ self.old.bound }
+        ensures end { self.new.end ≡ self.old.end }
+        ensures typed { self.new.typed ≡ self.old.typed }
+    {
+        let mut rows = rows;
+        let read = mem::replace(&mut self.rows, Vec::new(self.alloc));
+        let next = from + read.len();
+        rows.splice(from..to, read)?;
+        self.rows = rows;
+        Ok(next)
+    }
+
+    /// Goes over the rows behind a change, from this one on: those of commands that ask for a name which means something else now
+    /// are made anew.
+    fn follow(
+        &mut self,
+        text: &'t str,
+        next: usize,
+        earlier: &mut Earlier,
+    ) -> Result<(), AllocError>
+        requires sound { IsSound self.old }
+        requires followed { (ts : List Typ) × (b : Bound) × IsFollowedTo text.now next ts b earlier.old self.old }
+        ensures read { OnOk result (IsReadThrough [] outset text.now self.new) }
+        ensures sound { OnOk result (IsSound self.new) }
+        ensures dialect { dialect_in self.new.types ≡ dialect_in self.old.types }
+    {
+        if earlier.is_now(&self.bound) {
+            return Ok(());
+        }
+        for i in next..self.rows.len() {
+            self.follow_row(text, i, earlier)?;
+        }
+        Ok(())
+    }
+
+    /// The row of this number stays, unless its command asks for a name that means something else now.
+    fn follow_row(
+        &mut self,
+        text: &'t str,
+        number: usize,
+        earlier: &mut Earlier,
+    ) -> Result<(), AllocError>
+        requires sound { IsSound self.old }
+        requires inside { number < length self.old.rows.items }
+        requires followed { (ts : List Typ) × (b : Bound) × IsFollowedTo text.now number ts b earlier.old self.old }
+        ensures followed { OnOk result ((ts : List Typ) (b : Bound) → IsFollowedTo text.now number ts b earlier.old self.old → IsFollowedTo text.now (number + 1) ts b earlier.new self.new) }
+        ensures count { OnOk result (length self.new.rows.items ≡ length self.old.rows.items) }
+        ensures sound { OnOk result (IsSound self.new) }
+        ensures dialect { dialect_in self.new.types ≡ dialect_in self.old.types }
+    {
+        let start = self.end;
+        self.end += self.rows[number].end;
+        let Some(command) = &self.rows[number].command else {
+            return Ok(());
+        };
+        let same = earlier.agrees_on(&self.bound, &command.asks);
+        let binds = command.binds;
+        let entry = command.found.bound();
+        earlier.rebind(binds, entry);
+        if same {
+            self.bound.rebind(binds, entry);
+            return Ok(());
+        }
+        self.read = self.read.saturating_add(self.rows[number].end);
+        let command = command_in(self.alloc, &text[start..self.end], 0)?;
+        self.rows[number].command = self.keep(&command)?;
+        Ok(())
+    }
+}

@@ -1,0 +1,98 @@
+//! What two texts have in common at their ends, and the pieces there.
+ghost use Rattle.std.specs.Prelude.{◌≡◌, ◌≤◌, ◌-◌, List, length, IsTrue, drop};
+ghost use Rattle.lam_query.specs.inner.Ends.{IsEndOfBoth, IsLeftOf, IsMetAt};
+ghost use Rattle.lam_query.specs.inner.Kept.{Row as KeptRow, rows_of, bytes_of};
+
+use crate::fronts::{BLOCK, FrontRows};
+use crate::rows::Row;
+
+/// The last pieces of a text that was changed, of which the new text may have some at its end too.
+#[derive(Drop)]
+pub(crate) struct Behind<'r> {
+    /// Of all pieces.
+    pub(crate) rows: &'r [Row],
+    /// The number of the first piece that was not passed.
+    pub(crate) next: usize,
+    /// How many bytes the old text has from there on.
+    pub(crate) bytes: usize,
+    /// How many bytes both texts end with.
+    pub(crate) common: usize,
+}
+
+/// How many bytes both texts end with.
+pub(crate) fn common_end(old: &str, new: &str) -> usize
+    ensures { IsEndOfBoth result old.now new.now }
+{
+    let old = old.as_bytes();
+    let new = new.as_bytes();
+    let shorter = old.len().min(new.len());
+    let mut end = 0;
+    while shorter - end >= BLOCK
+        && old[old.len() - (end + BLOCK)..old.len() - end]
+            == new[new.len() - (end + BLOCK)..new.len() - end]
+    {
+        end += BLOCK;
+    }
+    end_from(old, new, end)
+}
+
+/// How many bytes both end with, of which so many are known.
+fn end_from(old: &[u8], new: &[u8], known: usize) -> usize
+    requires in_old { known ≤ length old.now }
+    requires in_new { known ≤ length new.now }
+    requires same { drop (length old.now - known) old.now ≡ drop (length new.now - known) new.now }
+    ensures { IsEndOfBoth result old.now new.now }
+{
+    let shorter = old.len().min(new.len());
+    for i in known..shorter {
+        if old[old.len() - (i + 1)] != new[new.len() - (i + 1)] {
+            return i;
+        }
+    }
+    shorter
+}
+
+impl<'r> Behind<'r> {
+    /// None behind these first pieces was passed.
+    pub(crate) fn new(rows: &'r [Row], front: FrontRows, old: &str, common: usize) -> Behind<'r>
+        requires inside { front.count ≤ length rows.now }
+        requires end { front.end ≤ length old.now }
+        requires counted { length old.now - front.end ≡ bytes_of (drop front.count (rows_of rows.now)) }
+        ensures left { IsLeftOf (rows_of rows.now) result }
+        ensures next { result.next ≡ front.count }
+        ensures common { result.common ≡ common }
+    {
+        Behind {
+            rows,
+            next: front.count,
+            bytes: old.len() - front.end,
+            common,
+        }
+    }
+
+    /// Passes over the pieces that begin further from the end of the text than these bytes, and answers whether one begins just
+    /// there and both texts are the same from there on.
+    pub(crate) fn is_met(&mut self, left: usize) -> bool
+        requires { (rows : List KeptRow) × IsLeftOf rows self.old }
+        ensures left { (rows : List KeptRow) → IsLeftOf rows self.old → IsLeftOf rows self.new }
+        ensures forward { self.old.next ≤ self.new.next }
+        ensures common { self.new.common ≡ self.old.common }
+        ensures met { IsTrue result → IsMetAt left self.new }
+    {
+        while self.next < self.rows.len() && self.bytes > left {
+            self.bytes -= self.rows[self.next].end;
+            self.next += 1;
+        }
+        self.next < self.rows.len() && self.bytes == left && left <= self.common
+    }
+
+    /// Passes over all.
+    pub(crate) fn pass_all(&mut self)
+        ensures rows { self.new.rows ≡ self.old.rows }
+        ensures next { self.new.next ≡ length self.old.rows.now }
+        ensures bytes { self.new.bytes ≡ 0 }
+    {
+        self.next = self.rows.len();
+        self.bytes = 0;
+    }
+}

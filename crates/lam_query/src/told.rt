@@ -1,0 +1,83 @@
+//! What the rows of a text tell of it.
+ghost use Rattle.std.specs.Prelude.{◌≡◌, ◌++◌, ◌<◌, ◌^◌, map, IfOk, IfSome, OnOk};
+ghost use Rattle.std.specs.Option.{option_map, option_or};
+ghost use Rattle.lam_query.specs.Views.{fault_of};
+ghost use Rattle.lam_query.specs.inner.Kept.{rows_of, placed, place_after, span_after, fault_after, Fits, AllFit, all_syntax, all_faults, first_large, bytes_of};
+
+use crate::answers::Fault;
+use crate::rows::{Row, span_after};
+use lam_token::Span;
+use std::alloc::{AllocError, Global};
+
+/// What the rows of a text tell of it.
+#[derive(Drop)]
+pub(crate) struct Told {
+    /// The faults that tokens and the grammar decide, row after row.
+    pub(crate) syntax: Vec<Fault>,
+    /// Those that types decide, if no type is too large.
+    pub(crate) types: Vec<Fault>,
+    /// Where the one type is that is too large, so that none is told: the first written type, and where there is none the first
+    /// term.
+    pub(crate) large: Option<Span>,
+}
+
+/// What they tell, in one pass: after a small change of a long text a pass over all rows is much of the work. Bytes count from the
+/// start of the text.
+pub(crate) fn told_by(alloc: Global, rows: &[Row]) -> Result<Told, AllocError>
+    requires { bytes_of (rows_of rows.now) < 2 ^ 64 }
+    ensures syntax { IfOk result (λ told. AllFit (all_syntax (placed 0 (rows_of rows.now))) → map fault_of told.syntax.items ≡ all_syntax (placed 0 (rows_of rows.now))) }
+    ensures types { IfOk result (λ told. AllFit (all_faults (placed 0 (rows_of rows.now))) → map fault_of told.types.items ≡ all_faults (placed 0 (rows_of rows.now))) }
+    ensures large { IfOk result (λ told. IfSome (first_large (placed 0 (rows_of rows.now))) Fits → told.large ≡ first_large (placed 0 (rows_of rows.now))) }
+{
+    let mut syntax = Vec::new(alloc);
+    let mut types = Vec::new(alloc);
+    let mut written = None;
+    let mut term = None;
+    let mut start = 0;
+    for i in 0..rows.len() {
+        let row = &rows[i];
+        push_after(&mut syntax, start, &row.syntax)?;
+        push_after(&mut types, start, row.faults())?;
+        written = first_of(written, start, row.large_written_type());
+        term = first_of(term, start, row.large_term());
+        start += row.end;
+    }
+    let large = place_in_text(written.or(term));
+    Ok(Told {
+        syntax,
+        types,
+        large,
+    })
+}
+
+/// Adds these faults, each so many bytes further on.
+fn push_after(found: &mut Vec<Fault>, bytes: usize, faults: &[Fault]) -> Result<(), AllocError>
+    ensures { OnOk result (AllFit (map (λ f. fault_after bytes (fault_of f)) faults.now) → map fault_of found.new.items ≡ map fault_of found.old.items ++ map (λ f. fault_after bytes (fault_of f)) faults.now) }
+{
+    for i in 0..faults.len() {
+        let fault = faults[i];
+        found.push(Fault {
+            code: fault.code,
+            span: span_after(bytes, fault.span),
+        })?;
+    }
+    Ok(())
+}
+
+/// The first place, or where there is none yet the one in the piece that starts at this byte.
+fn first_of(first: Option<(usize, Span)>, start: usize, here: Option<Span>) -> Option<(usize, Span)>
+    ensures { option_map place_after result ≡ option_or (option_map place_after first) (option_map (span_after start) here) }
+{
+    match here {
+        Some(span) => first.or(Some((start, span))),
+        None => first,
+    }
+}
+
+/// A place in the piece that starts at a byte, where it is in the text.
+fn place_in_text(place: Option<(usize, Span)>) -> Option<Span>
+    ensures { IfSome (option_map place_after place) Fits → result ≡ option_map place_after place }
+{
+    let (start, span) = place?;
+    Some(span_after(start, span))
+}
