@@ -10,6 +10,8 @@ mod binding;
 #[cfg(test)]
 mod bounds;
 #[cfg(test)]
+mod changes;
+#[cfg(test)]
 mod definitions;
 #[cfg(test)]
 mod derivations;

@@ -1,0 +1,107 @@
+//! How many commands a change types again: those that it touches, and those whose names mean something else.
+
+use crate::written::check_rows;
+use Uses::{First, Nothing, Previous};
+use lam_query::Analysis;
+use lam_rules::Dialect;
+use std::alloc::{AllocError, Global};
+use std::fmt::Write;
+
+/// What each of the commands uses.
+#[derive(Clone, Copy)]
+enum Uses {
+    Nothing,
+    Previous,
+    First,
+}
+
+/// A thousand commands, which bind `x0`, `x1` and so on; in the place of the one of this number stands another text.
+fn commands(alloc: Global, uses: Uses, number: usize, other: &str) -> Result<String, AllocError> {
+    let mut text = String::new(alloc);
+    for i in 0..1000 {
+        if i == number {
+            text.push_str(other)?;
+        } else if i == 0 {
+            text.push_str("x0 = 0;")?;
+        } else {
+            push_command(&mut text, uses, i)?;
+        }
+    }
+    Ok(text)
+}
+
+fn push_command(text: &mut String, uses: Uses, i: usize) -> Result<(), AllocError> {
+    match uses {
+        Nothing => write!(text, "x{i} = 0;"),
+        Previous => write!(text, "x{i} = x{};", i.saturating_sub(1)),
+        First => write!(text, "x{i} = x0;"),
+    }
+}
+
+/// How many are typed when the text is read, and how many when this other text is put in.
+fn typed(alloc: Global, change: (Uses, usize, &str)) -> Result<String, AllocError> {
+    let (uses, number, other) = change;
+    let old = commands(alloc, uses, 1000, "")?;
+    let new = commands(alloc, uses, number, other)?;
+    let analysis = Analysis::new(alloc, &old, Dialect::One)?;
+    let before = analysis.commands_typed();
+    let analysis = analysis.changed(alloc, &old, &new)?;
+    let after = analysis.commands_typed();
+    format!(in alloc; "{before} {}", after.saturating_sub(before))
+}
+
+const CHANGES: [((Uses, usize, &str), &str); 21] = [
+    // A blank in a command, a name, a term, a command more and one less.
+    ((Nothing, 0, "x0  = 0;"), "1000 1"),
+    ((Nothing, 500, "x500  = 0;"), "1000 1"),
+    ((Nothing, 999, "x999  = 0;"), "1000 1"),
+    ((Nothing, 500, "y500 = 0;"), "1000 1"),
+    ((Nothing, 500, "x500 = true;"), "1000 1"),
+    ((Nothing, 500, "x500 = 0; n = 0;"), "1000 1"),
+    ((Nothing, 500, ""), "1000 0"),
+    // Two pieces become one, which is no command; a comment takes the rest of the text.
+    ((Nothing, 500, "x500 = 0"), "1000 0"),
+    ((Nothing, 500, "/*"), "1000 0"),
+    // Each command uses the one in front of it.
+    ((Previous, 500, "x500  = x499;"), "1000 1"),
+    ((Previous, 0, "x0 = 1;"), "1000 1"),
+    ((Previous, 0, "x0 = true;"), "1000 1000"),
+    ((Previous, 500, "y500 = x499;"), "1000 500"),
+    ((Previous, 500, "x500 = true;"), "1000 500"),
+    ((Previous, 999, "x999 = true;"), "1000 1"),
+    // The name is bound again to the type that it had, so the change ends there.
+    ((Previous, 500, "x500 = true; x500 = 0;"), "1000 2"),
+    // Each uses the first.
+    ((First, 0, "x0 = 1;"), "1000 1"),
+    ((First, 0, "x0 = true;"), "1000 1000"),
+    ((First, 500, "y500 = x0;"), "1000 1"),
+    ((First, 500, "x0 = true;"), "1000 500"),
+    ((First, 500, "x0 = 0;"), "1000 1"),
+];
+
+#[test]
+fn a_change_types_what_it_touches(rt: HostRuntime) -> Result<(), AllocError> {
+    check_rows(&rt, rt.alloc(), typed, &CHANGES)
+}
+
+/// How many commands are counted as typed after so many changes, each of which types all of them.
+fn typed_after(alloc: Global, changes: usize) -> Result<String, AllocError> {
+    let mut old = commands(alloc, First, 1000, "")?;
+    let mut analysis = Analysis::new(alloc, &old, Dialect::One)?;
+    for i in 0..changes {
+        let first = if i % 2 == 0 { "x0 = true;" } else { "x0 = 0;" };
+        let new = commands(alloc, First, 0, first)?;
+        analysis = analysis.changed(alloc, &old, &new)?;
+        old = new;
+    }
+    format!(in alloc; "{}", analysis.commands_typed())
+}
+
+/// The text has 9,889 bytes, and three more after every other change. The ninth change makes all anew: more bytes were read by
+/// then than twice these and 65,536.
+const ANEW: [(usize, &str); 3] = [(0, "1000"), (8, "9000"), (9, "1000")];
+
+#[test]
+fn all_is_made_anew_once_much_was_read(rt: HostRuntime) -> Result<(), AllocError> {
+    check_rows(&rt, rt.alloc(), typed_after, &ANEW)
+}
