@@ -53,7 +53,7 @@ impl Analysis {
     }
 
     /// Whether so much was read that names and types which no command has any more may take most of the memory: all that grows
-    /// does so when a piece is read, and by no more than the piece is long.
+    /// does so when a piece is read, and by about as much as it is long.
     fn is_worn(&self, text: &str) -> bool {
         self.read > text.len().saturating_mul(2).saturating_add(65_536)
     }
