@@ -27,7 +27,8 @@ term_placed n (Some (written_too_large s)) = refl
 term_placed n (Some (term_too_large s)) = refl
 term_placed n (Some (typed t)) = refl
 
-found_placed : (n : ℕ) (o : Option CommandRow)
+-- what was found of its command
+pub found_placed : (n : ℕ) (o : Option CommandRow)
     → option_map (λ k. k.found) (option_map (command_row_after n) o) ≡ option_map (found_after n) (option_map (λ k. k.found) o)
 found_placed n None = refl
 found_placed n (Some k) = refl

@@ -40,6 +40,7 @@ use Rattle.lam_query.specs.inner.Rows.{Front, nothing, front_with, IsKeptOf, IsR
 use Rattle.lam_query.proofs.Answering.{starts_stand}
 use Rattle.lam_query.proofs.Checked.{checked_small}
 use Rattle.lam_query.proofs.CheckedLists.{terms_push}
+use Rattle.lam_query.proofs.FirstLarge.{found_placed}
 use Rattle.lam_query.proofs.Hovering.{too_large_around}
 use Rattle.lam_query.proofs.KnownRows.{known_through, size_told}
 use Rattle.lam_query.proofs.RowsAndTerms.{innermost_number, span_told}
@@ -223,13 +224,8 @@ types_of_placed n (Some (written_too_large s)) = refl
 types_of_placed n (Some (term_too_large s)) = refl
 types_of_placed n (Some (typed t)) = refl
 
-found_in_placed : (n : ℕ) (o : Option CommandRow)
-    → option_map (λ k. k.found) (option_map (command_row_after n) o) ≡ option_map (found_after n) (option_map (λ k. k.found) o)
-found_in_placed n None = refl
-found_in_placed n (Some k) = refl
-
 types_placed : (n : ℕ) (r : Row) → types_of_found (found_in (row_after n r)) ≡ option_map (found_types_after n) (types_of_found (found_in r))
-types_placed n r = ap types_of_found (found_in_placed n r.command) ∙ types_of_placed n (found_in r)
+types_placed n r = ap types_of_found (found_placed n r.command) ∙ types_of_placed n (found_in r)
 
 -- the last piece has a row
 pub some_row : (text : List ℕ) (a : Analysis) → IsAnalysisOf text a → a.rows.items ≡ [] → ⊥
