@@ -48,7 +48,7 @@ impl Model for Short {
 
 impl Text {
     /// The text of these letters.
-    pub(crate) fn new(alloc: Global, text: &str) -> Result<Text, AllocError>
+    pub fn new(alloc: Global, text: &str) -> Result<Text, AllocError>
         ensures { IfOk result (λ made. letters made ≡ text.now) }
     {
         if text.len() <= ROOM {

@@ -20,7 +20,7 @@ got_entry n [] t got = cc
 got_entry zero (entry ∷ g) t got = let same : Some entry ≡ Some (Some t) = got in cc
 got_entry (suc n) (entry ∷ g) t got = got_entry n g t got
 
-entry_alike : (g h : Context) (n m : ℕ) (t : Typ) → slice_get g n ≡ slice_get h m → IsEntry n g t → IsEntry m h t
+pub entry_alike : (g h : Context) (n m : ℕ) (t : Typ) → slice_get g n ≡ slice_get h m → IsEntry n g t → IsEntry m h t
 entry_alike g h n m t same is = got_entry m h t (sym same ∙ entry_got n g t is)
 
 mutual

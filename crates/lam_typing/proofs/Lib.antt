@@ -32,6 +32,7 @@ pub mod Causes
 pub mod LeastContexts
 pub mod AlikeTerms
 pub mod AlikeTypes
+pub mod AlikeProofs
 pub mod AlikePlaces
 pub mod AlikeBlames
 pub mod MovedBlames

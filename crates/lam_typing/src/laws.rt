@@ -5,7 +5,7 @@ ghost use Rattle.lam_rules.specs.Types.{Label, Typ, bool, nat, arrow, record_of,
 ghost use Rattle.lam_rules.specs.Terms.{Term, true_term, false_term, unit_term, numeral, lambda, let_in, if_then_else, variable, succ, pred, is_zero, apply, ascribe, project, fix, record_term, TermFields};
 ghost use Rattle.lam_rules.specs.Subtyping.{IsBelow};
 ghost use Rattle.lam_rules.specs.Texts.{text};
-ghost use Rattle.lam_rules.specs.Typing.{Context, HasField};
+ghost use Rattle.lam_rules.specs.Typing.{Context, HasField, IsWellFormedContext, TypingTree, IsTyping};
 ghost use Rattle.lam_rules.specs.declared.rules.Dialect.{Dialect};
 ghost use Rattle.lam_scope.specs.Trees.{CommandTree};
 ghost use Rattle.lam_scope.specs.Labels.{place_in};
@@ -109,10 +109,12 @@ pub fn projections_are_fields()
 
 /// Only free names count. Where two terms say the same, each in the lowest context of its own scope, the least type of the
 /// one is that of the other, and so it goes with their places, one by one: what is found of them, which is too large, which
-/// are to blame and for what. So a command may be looked at under the binders that it uses and no others.
+/// are to blame and for what. A proof of a type of the one is a proof of it of the other. So a command may be looked at under
+/// the binders that it uses and no others.
 pub fn only_free_names_count()
     ensures symmetric { (g h : Context) (e f : Term) → AreAlike g e h f → AreAlike h f g e }
     ensures least { (s r : Scope) (g h : Context) (e f : Term) (o : Option Typ) (d : Dialect) → IsLowest s g d → IsLowest r h d → AreAlike g e h f → IsLeastAt s e o d → IsLeastAt r f o d }
+    ensures proof { (g h : Context) (e f : Term) (p : TypingTree) (d : Dialect) → AreAlike g e h f → IsWellFormedContext h → IsTyping g e p d → IsTyping h f p d }
     ensures shown { (s r : Scope) (g h : Context) (e f : Term) (n : ℕ) (found : List (Option Typ)) (blames : List Blamed) (d : Dialect) → IsWellFormedTerm e → IsLowest s g d → IsLowest r h d → AreAlike g e h f → Shown (places s e) n found blames d → Shown (places r f) n found blames d }
     ensures stopped { (s r : Scope) (g h : Context) (e f : Term) (n : ℕ) (found : List (Option Typ)) (blames : List Blamed) (cause : Cause) (d : Dialect) → IsWellFormedTerm e → IsLowest s g d → IsLowest r h d → AreAlike g e h f → ShownFront (places s e) n found blames cause d → ShownFront (places r f) n found blames cause d }
 {}
