@@ -29,7 +29,7 @@ abbrev pub rows_in : Analysis → List Row
 rows_in a = placed 0 (rows_of a.rows.items)
 
 -- the text's tokens and commands
-text_spelled : (text : List ℕ) (a : Analysis) → IsAnalysisOf text a → (there : AreInText text a) → IsAllSpelled text there.front.commands (rows_in a)
+pub text_spelled : (text : List ℕ) (a : Analysis) → IsAnalysisOf text a → (there : AreInText text a) → IsAllSpelled text there.front.commands (rows_in a)
 text_spelled text a h there = whole_spelled text (rows_in a) there.front (types_in a.types) a.dialect h.is_text there.rows there.whole
 
 -- ---- faults

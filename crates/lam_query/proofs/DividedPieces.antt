@@ -55,7 +55,7 @@ piece_first piece (t ∷ behind) none begins =
     piece_ended piece behind t (All-from_recursion GoesOn piece none) begins
     ∙ ap (with_piece piece) (sym (semicolon_passed t behind begins))
 
-pieces_behind : (front piece behind : List Lexeme) → EndInSemicolon front → HaveNoSemicolon piece → BeginWithSemicolon behind
+pub pieces_behind : (front piece behind : List Lexeme) → EndInSemicolon front → HaveNoSemicolon piece → BeginWithSemicolon behind
     → pieces_of (front ++ (piece ++ behind)) ≡ pieces_of front ++ with_piece piece (pieces_of behind)
 pieces_behind front piece behind ends none begins =
     pieces_joined front (piece ++ behind) ends ∙ ap (λ ps. pieces_of front ++ ps) (piece_first piece behind none begins)

@@ -16,10 +16,10 @@ use Rattle.lam_query.specs.declared.bound.Bound.{Bound}
 use Rattle.lam_query.specs.declared.bound.Meanings.{Meanings}
 use Rattle.lam_query.specs.declared.bound.NameNo.{NameNo}
 use Rattle.lam_query.specs.declared.bound.NameNo.TheVariants as number
-use Rattle.lam_query.specs.declared.earlier.Earlier.{Earlier}
+use Rattle.lam_query.specs.declared.entries.Entries.{Entries}
 use Rattle.lam_query.specs.inner.Analysts.{IsBoundAs}
 use Rattle.lam_query.specs.inner.Bound.{numbered, kept_under, number_of, AreNumbered, HaveNumbers, AllStand, IsBinding}
-use Rattle.lam_query.specs.inner.Earlier.{meant, HasRoomFor, IsPassedWith, IsPassedOver, IsPassedBy, IsMeantBy}
+use Rattle.lam_query.specs.inner.Entries.{meant, HasRoomFor, IsPassedWith, IsPassedOver, IsPassedBy, IsMeantBy}
 use Rattle.lam_query.specs.inner.Entered.{Lookup, name_bound, type_name_bound}
 use Rattle.lam_query.specs.inner.Kept.{CommandRow, Row, bound_by}
 use Rattle.lam_query.specs.inner.PieceRows.{Sight, sight_with, AreItsNumbers, IsPieceRow, AreRows}
@@ -75,7 +75,7 @@ bound_or_not (Some (number.TypeName n)) (number.Name k) = inr (λ e. cc)
 
 -- ---- one row was passed
 
-module _ (s : Sight) (ts : List Typ) (b : Bound) (d : Dialect) (numbers : HaveNumbers b) (old now : Earlier) (meant_by : IsMeantBy s ts b old) where
+module _ (s : Sight) (ts : List Typ) (b : Bound) (d : Dialect) (numbers : HaveNumbers b) (old now : Entries) (meant_by : IsMeantBy s ts b old) where
   -- numbers that are kept stand for types of the table
   still_stand : (binds : Option NameNo) (entry : Option TyNo) → IsPassedWith binds entry old now → ((name : NameNo) → binds ≡ Some name → HasRoomFor name old)
       → StandsIfAny ts entry → (name : NameNo) → IfSome (meant old name) (StandsIfAny ts) → IfSome (meant now name) (StandsIfAny ts)
@@ -135,13 +135,13 @@ module _ (s : Sight) (ts : List Typ) (b : Bound) (d : Dialect) (numbers : HaveNu
   kept_passed (c ∷ e ∷ own) None kept its passed = absurd its
   kept_passed (c ∷ e ∷ own) (Some k) kept its passed = absurd its
 
-pub row_passed : (piece : List ℕ) (s : Sight) (own : List CommandTree) (r : Row) (ts : List Typ) (b : Bound) (d : Dialect) (old now : Earlier) → HaveNumbers b
+pub row_passed : (piece : List ℕ) (s : Sight) (own : List CommandTree) (r : Row) (ts : List Typ) (b : Bound) (d : Dialect) (old now : Entries) → HaveNumbers b
     → IsPieceRow piece s own r ts b d → IsMeantBy s ts b old → IsPassedOver r.command old now → IsMeantBy (sight_with s own ts r.command) ts b now
 row_passed piece s own r ts b d old now numbers is meant_by passed = kept_passed s ts b d numbers old now meant_by own r.command is.kept is.numbers passed
 
 -- ---- row after row
 
-pub rows_passed : (s : Sight) (pieces : List (List ℕ)) (rows : List Row) (last : Sight) (ts : List Typ) (b : Bound) (d : Dialect) (old now : Earlier) → HaveNumbers b
+pub rows_passed : (s : Sight) (pieces : List (List ℕ)) (rows : List Row) (last : Sight) (ts : List Typ) (b : Bound) (d : Dialect) (old now : Entries) → HaveNumbers b
     → AreRows s pieces rows last ts b d → IsMeantBy s ts b old → IsPassedBy rows old now → IsMeantBy last ts b now
 rows_passed s [] [] last ts b d old now numbers are meant_by passed =
     subst (λ g. IsMeantBy g ts b now) are (subst (IsMeantBy s ts b) passed meant_by)
@@ -154,7 +154,7 @@ rows_passed s (p ∷ pieces) (r ∷ rows) last ts b d old now numbers are meant_
 -- ---- at the beginning
 
 -- what is kept now is what names mean
-pub meant_now : (s : Sight) (ts : List Typ) (b : Bound) (e : Earlier) → IsBoundAs s.names s.types ts b → AllStand ts b → HaveNumbers b
+pub meant_now : (s : Sight) (ts : List Typ) (b : Bound) (e : Entries) → IsBoundAs s.names s.types ts b → AllStand ts b → HaveNumbers b
     → e.names.items ≡ b.names.entries.items → e.type_names.items ≡ b.type_names.entries.items → IsMeantBy s ts b e
 meant_now s ts b e bound stand numbers names types =
     let of_name : (n : ℕ) → meant e (number.Name n) ≡ kept_under b.names n = λ n. ap (λ es. get_or es n None) names in

@@ -11,7 +11,7 @@ use Rattle.lam_syntax.specs.Answers.{pieces_of}
 use Rattle.lam_scope.specs.Nesting.{TokensStand}
 use Rattle.lam_scope.specs.Tables.{TextPlace, table, is_over, place_at}
 use Rattle.lam_query.specs.Commands.{AreCommandsOf}
-use Rattle.lam_query.proofs.Pieces.{pieces_in}
+use Rattle.lam_query.proofs.TokensOfPieces.{pieces_in}
 use Rattle.lam_query.proofs.Spans.{AtPlace, InTokens, Spreads}
 use Rattle.lam_query.proofs.TextPlaces.{in_commands}
 use Rattle.lam_query.proofs.TreePlaces.{InCommands}

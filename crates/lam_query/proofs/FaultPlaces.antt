@@ -33,7 +33,7 @@ use Rattle.lam_query.proofs.Answering.{starts_stand}
 use Rattle.lam_query.proofs.RowsAndTerms.{span_told}
 use Rattle.lam_query.proofs.TreePlaces.{InCommands}
 use Rattle.lam_query.proofs.Spans.{AtPlace, InTokens, Spreads}
-use Rattle.lam_query.proofs.Pieces.{InPieces, pieces_in}
+use Rattle.lam_query.proofs.TokensOfPieces.{InPieces, pieces_in}
 use Rattle.lam_query.proofs.TextPlaces.{tokens_stand, stands_spread, commands_stand}
 use Rattle.lam_query.proofs.Within.{InFaults, in_faults, in_place, in_too_large}
 

@@ -12,7 +12,7 @@ use Rattle.lam_query.specs.inner.Kept.{Found, written_too_large, term_too_large,
 use Rattle.lam_query.proofs.RowsPlaced.{next_row}
 
 -- one of the faults that fit
-fault_fits : (n : ℕ) (fs : List RustFault) (i : ℕ) (e : RustFault) → AllFit (map (λ f. fault_after n (fault_of f)) fs) → i < length fs
+pub fault_fits : (n : ℕ) (fs : List RustFault) (i : ℕ) (e : RustFault) → AllFit (map (λ f. fault_after n (fault_of f)) fs) → i < length fs
     → Fits (span_after n (get_or fs i e).span)
 fault_fits n fs i e all lt =
     let one = all i (fault_after n (fault_of e)) (omega (arith, lt, length-map fs (λ f. fault_after n (fault_of f)))) in
@@ -35,11 +35,11 @@ fault_pushed n fs i e f lt found more all code span pushed so_far fit =
     ∙ so_far fit
 
 -- those of two lists that fit
-fit_before : (front back : List Fault) → AllFit (front ++ back) → AllFit front
+pub fit_before : (front back : List Fault) → AllFit (front ++ back) → AllFit front
 fit_before front back fit =
     subst AllFit (take_at front back (length front) refl) (All-take (λ f. Fits f.span) (length front) (front ++ back) fit)
 
-fit_behind : (front back : List Fault) → AllFit (front ++ back) → AllFit back
+pub fit_behind : (front back : List Fault) → AllFit (front ++ back) → AllFit back
 fit_behind front back fit =
     subst AllFit (drop_at front back (length front) refl) (All-drop (λ f. Fits f.span) (length front) (front ++ back) fit)
 

@@ -20,13 +20,13 @@ use Rattle.lam_query.specs.declared.analyses.Analyst.{Analyst}
 use Rattle.lam_query.specs.declared.bound.Bound.{Bound}
 use Rattle.lam_query.specs.declared.bound.NameNo.{NameNo}
 use Rattle.lam_query.specs.declared.bound.NameNo.TheVariants as number
-use Rattle.lam_query.specs.declared.earlier.Earlier.{Earlier}
+use Rattle.lam_query.specs.declared.entries.Entries.{Entries}
 use Rattle.lam_query.specs.declared.rows.CommandRow.{CommandRow as RustCommandRow}
 use Rattle.lam_query.specs.declared.rows.Row.{Row as RustRow}
 use Rattle.lam_query.specs.inner.Analysts.{IsSound, IsBoundAs, IsKeptBy, IsReadThrough}
 use Rattle.lam_query.specs.inner.Bound.{numbered, kept_under, means, HaveNumbers, KeepsNumbers, IsBinding, AllStand, IsBoundAfter}
 use Rattle.lam_query.specs.inner.Changes.{IsFollowedTo}
-use Rattle.lam_query.specs.inner.Earlier.{meant, HasRoomFor, IsPassedWith, IsPassedOver, IsMeantBy}
+use Rattle.lam_query.specs.inner.Entries.{meant, HasRoomFor, IsPassedWith, IsPassedOver, IsMeantBy}
 use Rattle.lam_query.specs.inner.Entered.{Lookup, name_bound, type_name_bound}
 use Rattle.lam_query.specs.inner.Kept.{Found, CommandRow, Row, bound_by, command_row_of, row_of, rows_of}
 use Rattle.lam_query.specs.inner.OnePiece.{HaveNoSemicolon, IsOwnOf, ArePieceTokens, before_semicolon as ended_piece, at_end as last_piece}
@@ -119,7 +119,7 @@ rows_elsewhere s z (p ∷ pieces) (r ∷ rows) last ts b d agree are =
 
 -- ---- what names mean now, and what they meant
 
-module _ (ts us : List Typ) (b now : Bound) (e : Earlier) (s z : Sight) (is_meant : IsMeantBy s ts b e) (keeps : Keeps ts us) (numbers : KeepsNumbers b now)
+module _ (ts us : List Typ) (b now : Bound) (e : Entries) (s z : Sight) (is_meant : IsMeantBy s ts b e) (keeps : Keeps ts us) (numbers : KeepsNumbers b now)
     (bound : IsBoundAs z.names z.types us now) where
   name_agrees : (x : Name) (n : ℕ) → numbered b.names x ≡ Some n → meant e (number.Name n) ≡ means now (number.Name n) → s.names x ≡ z.names x
   name_agrees x n is same =
@@ -179,7 +179,7 @@ none_own b [] are = refl
 none_own b (c ∷ []) are = absurd are
 none_own b (c ∷ e ∷ own) are = absurd are
 
-module _ (text : List ℕ) (n : ℕ) (ts : List Typ) (b : Bound) (e : Earlier) (a : Analyst) (q : RustRow) (f : IsFollowedTo text n ts b e a)
+module _ (text : List ℕ) (n : ℕ) (ts : List Typ) (b : Bound) (e : Entries) (a : Analyst) (q : RustRow) (f : IsFollowedTo text n ts b e a)
     (inside : n < length a.rows.items) (at : q ≡ get_or a.rows.items n q) where
   abbrev Rows : List RustRow
   Rows = a.rows.items
@@ -241,7 +241,7 @@ module _ (text : List ℕ) (n : ℕ) (ts : List Typ) (b : Bound) (e : Earlier) (
   -- ---- one row more
 
   -- this row is right where it stands now, and names mean behind it what is bound
-  one_followed : (z : Analyst) (g : Earlier) (own : List CommandTree) (r : RustRow) → z.rows.items ≡ set Rows n r → z.end ≡ a.end + q.end
+  one_followed : (z : Analyst) (g : Entries) (own : List CommandTree) (r : RustRow) → z.rows.items ≡ set Rows n r → z.end ≡ a.end + q.end
       → dialect_in z.types ≡ ItsDialect → Keeps (types_in a.types) (types_in z.types) → KeepsNumbers a.bound z.bound
       → IsPieceRow here.piece f.sight own (row_of r) (types_in z.types) z.bound ItsDialect
       → IsBoundAs (names_with own (types_in z.types) (row_of r).command f.sight.names) (types_with own (types_in z.types) (row_of r).command f.sight.types) (types_in z.types) z.bound
@@ -315,7 +315,7 @@ module _ (text : List ℕ) (n : ℕ) (ts : List Typ) (b : Bound) (e : Earlier) (
     is_row_of : (row_of q).command ≡ Some Kept
     is_row_of = ap (option_map command_row_of) is
 
-    passed_over : (g : Earlier) → IsPassedWith k.binds (bound_by Kept.found) e g → IsPassedOver (row_of q).command e g
+    passed_over : (g : Entries) → IsPassedWith k.binds (bound_by Kept.found) e g → IsPassedOver (row_of q).command e g
     passed_over g passed = subst (λ o. IsPassedOver o e g) (sym is_row_of) passed
 
     -- what it binds is bound again
@@ -351,7 +351,7 @@ module _ (text : List ℕ) (n : ℕ) (ts : List Typ) (b : Bound) (e : Earlier) (
       numbers_now : AreItsNumbers a.bound here.own (Some Kept)
       numbers_now = subst (AreItsNumbers a.bound here.own) is_row_of stays.numbers
 
-      pub same_followed : (z : Analyst) (g : Earlier) → z.types ≡ a.types → z.rows ≡ a.rows → z.end ≡ a.end + q.end
+      pub same_followed : (z : Analyst) (g : Entries) → z.types ≡ a.types → z.rows ≡ a.rows → z.end ≡ a.end + q.end
           → IsBoundAgain z.bound → KeepsNumbers a.bound z.bound
           → IsPassedWith k.binds (bound_by Kept.found) e g → IsFollowedTo text (n + 1) ts b g z
       same_followed z g types rows end after numbers passed =
@@ -372,7 +372,7 @@ module _ (text : List ℕ) (n : ℕ) (ts : List Typ) (b : Bound) (e : Earlier) (
       }
 
     -- the row is made anew
-    pub anew_followed : (m z : Analyst) (g : Earlier) (own : List CommandTree) (o : Option RustCommandRow) (bytes : List ℕ) → bytes ≡ slice_range text a.end (a.end + q.end)
+    pub anew_followed : (m z : Analyst) (g : Entries) (own : List CommandTree) (o : Option RustCommandRow) (bytes : List ℕ) → bytes ≡ slice_range text a.end (a.end + q.end)
         → ((rest : List ℕ) (tokens : List Lexeme) → ArePieceTokens 0 bytes rest tokens → HaveNoSemicolon tokens → IsOwnOf tokens own)
         → m.types ≡ a.types → m.bound ≡ a.bound → IsKeptBy own (option_map command_row_of o) m z → dialect_in z.types ≡ dialect_in m.types
         → (w : Analyst) → w.types ≡ z.types → w.bound ≡ z.bound → w.rows.items ≡ set Rows n (record q { command = o }) → w.end ≡ a.end + q.end
@@ -410,7 +410,7 @@ module _ (text : List ℕ) (n : ℕ) (ts : List Typ) (b : Bound) (e : Earlier) (
 pub one_row : (xs : List RustRow) (i : ℕ) (q p : RustRow) → i < length xs → q ≡ get_or xs i q → p ≡ get_or xs i p → q ≡ p
 one_row xs i q p inside is_q is_p = is_q ∙ get_or_default xs i q p inside ∙ sym is_p
 
-pub all_followed : (text : List ℕ) (n : ℕ) (ts : List Typ) (b : Bound) (e : Earlier) (a : Analyst) → IsFollowedTo text n ts b e a
+pub all_followed : (text : List ℕ) (n : ℕ) (ts : List Typ) (b : Bound) (e : Entries) (a : Analyst) → IsFollowedTo text n ts b e a
     → ((name : NameNo) → HasRoomFor name e → meant e name ≡ means a.bound name) → IsReadThrough [] outset text a
 all_followed text n ts b e a f same =
     let us = types_in a.types in
@@ -438,7 +438,7 @@ none_left s [] last ts b d are = refl
 none_left s (p ∷ pieces) last ts b d are = absurd are
 
 -- no row is left
-pub end_followed : (text : List ℕ) (n : ℕ) (ts : List Typ) (b : Bound) (e : Earlier) (a : Analyst) → IsFollowedTo text n ts b e a → length a.rows.items ≤ n
+pub end_followed : (text : List ℕ) (n : ℕ) (ts : List Typ) (b : Bound) (e : Entries) (a : Analyst) → IsFollowedTo text n ts b e a → length a.rows.items ≤ n
     → IsReadThrough [] outset text a
 end_followed text n ts b e a f all =
     let us = types_in a.types in

@@ -2,9 +2,9 @@
 use Rattle.std.proofs.Common.{◌≡◌, ℕ, ◌+◌, ◌<◌, ◌≤◌, true, false, get_or, List, [], ◌∷◌, ◌++◌, length, length-append, take, drop, slice_range, Option, Some, None, refl, sym, ap, subst, ◌∙◌, arith}
 use Rattle.std.specs.Option.{option_map, option_or, is_some}
 use Rattle.std.specs.Prelude.{IfSome}
-use Rattle.std.specs.Str.{IsUtf8, IsCharBoundary}
+use Rattle.std.specs.Str.{IsUtf8}
 use Rattle.std.proofs.lemmas.Grind.{flat_map-append}
-use Rattle.std.proofs.lemmas.List.{get_or_default, get_or-append-add, get_or_append_left, get_or_at, get_or-map, length-map, length-take-le, map-append, take_at}
+use Rattle.std.proofs.lemmas.List.{get_or_default, get_or-append-add, get_or_append_left, get_or-map, length-map, length-take-le, map-append}
 use Rattle.std.proofs.lemmas.List.Quantifiers.{position-Some}
 use Rattle.lam_token.specs.declared.span.Span.{Span}
 use Rattle.lam_token.specs.Lexeme.{Lexeme}
@@ -13,7 +13,6 @@ use Rattle.lam_rules.specs.Types.{Typ}
 use Rattle.lam_rules.specs.declared.numbers.TyNo.{TyNo}
 use Rattle.lam_rules.specs.declared.rules.Dialect.{Dialect}
 use Rattle.lam_syntax.specs.Trees.{CommandTree}
-use Rattle.lam_syntax.proofs.Complete.{one_tree}
 use Rattle.lam_scope.specs.Numbered.{StandsIfAny}
 use Rattle.lam_scope.specs.PlacedTerms.{term_of, command_terms, document_terms}
 use Rattle.lam_scope.specs.Tables.{is_over, table, no_span, TextPlace, place_at, place_row_numbered}
@@ -23,7 +22,7 @@ use Rattle.lam_typing.proofs.Growing.{stands_at}
 use Rattle.lam_typing.proofs.Together.{least_length}
 use Rattle.lam_query.specs.declared.analyses.Analysis.{Analysis}
 use Rattle.lam_query.specs.declared.answers.Hover.{Hover}
-use Rattle.lam_query.specs.declared.rows.PlacedRow.{PlacedRow}
+use Rattle.lam_query.specs.declared.pieces.PieceAt.{PieceAt}
 use Rattle.lam_query.specs.declared.rows.Row.{Row as RustRow}
 use Rattle.lam_query.specs.Analyses.{IsAnalysisOf}
 use Rattle.lam_query.specs.Commands.{AreCommandsOfText}
@@ -31,12 +30,12 @@ use Rattle.lam_query.specs.Hovers.{Shown, IsShownIn}
 use Rattle.lam_query.specs.Sizes.{places_in}
 use Rattle.lam_query.specs.Views.{shown_of}
 use Rattle.lam_query.specs.Within.{IsSpanOfText}
+use Rattle.lam_query.specs.inner.Around.{IsPieceAround}
 use Rattle.lam_query.specs.inner.Checked.{abbreviations_behind, names_behind, scope_behind}
 use Rattle.lam_query.specs.inner.Entered.{Lookup}
 use Rattle.lam_query.specs.inner.OnePiece.{HaveNoSemicolon, IsOwnOf, IsOffsetIn, one_command, no_command, ArePieceTokens, IsShownInCommand, by_no_term, by_no_type, by_type, IsShownByPiece, by_no_command, by_command}
-use Rattle.lam_query.specs.inner.Kept.{CommandRow, Found, written_too_large, term_too_large, typed, FoundTypes, Row, row_of, rows_of, found_in, large_written_type, large_term, types_of_found, types_listed, types_found, bytes_of, first_in, first_large, all_types, found_types_after, found_after, command_row_after, row_after, placed}
-use Rattle.lam_query.specs.inner.PieceRows.{outset}
-use Rattle.lam_query.specs.inner.Rows.{Front, nothing, front_with, IsKeptOf, IsRow, AreRowsFrom, StandInFound, AreAllTyped, IsRowAround}
+use Rattle.lam_query.specs.inner.Kept.{CommandRow, Found, written_too_large, term_too_large, typed, FoundTypes, Row, row_of, found_in, large_written_type, large_term, types_of_found, types_listed, types_found, first_in, first_large, all_types, found_types_after, found_after, row_after}
+use Rattle.lam_query.specs.inner.Rows.{Front, nothing, front_with, IsKeptOf, IsRow, StandInFound, AreAllTyped, IsRowAround}
 use Rattle.lam_query.proofs.Answering.{starts_stand}
 use Rattle.lam_query.proofs.Checked.{checked_small}
 use Rattle.lam_query.proofs.CheckedLists.{terms_push}
@@ -45,15 +44,14 @@ use Rattle.lam_query.proofs.Hovering.{too_large_around}
 use Rattle.lam_query.proofs.KnownRows.{known_through, size_told}
 use Rattle.lam_query.proofs.RowsAndTerms.{innermost_number, span_told}
 use Rattle.lam_query.proofs.RowLists.{rows_push}
-use Rattle.lam_query.proofs.PieceRowLists.{as_many as as_many_rows}
-use Rattle.lam_query.proofs.RowPieces.{begins_between, ends_between}
+use Rattle.lam_query.proofs.PieceAround.{own_same, rows_in, row_same}
 use Rattle.lam_query.proofs.RowsInText.{AreInText, in_text}
-use Rattle.lam_query.proofs.RowsPlaced.{placed_append, as_many_placed, placed_ends, around_row}
 use Rattle.lam_query.proofs.ShownByPiece.{shown_by_piece}
 use Rattle.lam_query.proofs.SpelledRows.{spelled_through, whole_spelled}
 use Rattle.lam_query.proofs.TermsAlone.{command_size}
 use Rattle.lam_query.proofs.TextPlaces.{commands_stand}
 use Rattle.lam_query.proofs.Within.{in_place}
+use Rattle.lam_query.proofs.NoneLarge.{none_of_both, none_from}
 
 -- ---- what is shown stands in the text
 
@@ -74,14 +72,6 @@ hover_stands text o None d is_text is = tt
 hover_stands text o (Some h) d is_text is = shown_stands text o (shown_of h) d is_text is
 
 -- ---- rows in which no type is too large
-
-none_from : (x : Option Span) → is_some x ≡ false → x ≡ None
-none_from None is = refl
-none_from (Some s) is = absurd cc
-
-none_of_both : (x y : Option Span) → option_or x y ≡ None → (x ≡ None) × (y ≡ None)
-none_of_both None y none = (refl, none)
-none_of_both (Some s) y none = absurd cc
 
 none_in_parts : (f : Option Found → Option Span) (front : List Row) (r : Row) (behind : List Row) → first_in f (front ++ r ∷ behind) ≡ None
     → (first_in f front ≡ None) × (f (found_in r) ≡ None)
@@ -142,12 +132,6 @@ kept_none names types (c ∷ []) ts (Some r) d kept none written term = absurd (
 kept_none names types (c ∷ e ∷ own) ts None d kept none written term = absurd kept
 kept_none names types (c ∷ e ∷ own) ts (Some r) d kept none written term = absurd kept
 
-own_same : (tokens : List Lexeme) (own others : List CommandTree) → IsOwnOf tokens own → IsOwnOf tokens others → own ≡ others
-own_same tokens _ _ (one_command h) (one_command k) = ap (λ c. c ∷ []) (one_tree h.spelled k.spelled)
-own_same tokens _ _ (one_command {c = c} h) (no_command k) = absurd (k c h)
-own_same tokens _ _ (no_command h) (one_command {c = c} k) = absurd (h c k)
-own_same tokens _ _ (no_command h) (no_command k) = refl
-
 -- ---- types by their numbers
 
 -- there are as many as terms
@@ -191,10 +175,6 @@ shown_among c before own all o _ same (by_type {n = n} at found text span) = by_
 
 -- ---- where some type is too large
 
--- the rows of an analysis, where they stand in its text
-abbrev rows_in : Analysis → List Row
-rows_in a = placed 0 (rows_of a.rows.items)
-
 commands_of : (text : List ℕ) (a : Analysis) → IsAnalysisOf text a → (there : AreInText text a) → AreCommandsOfText text there.front.commands
 commands_of text a h there =
     let of = whole_spelled text (rows_in a) there.front (types_in a.types) a.dialect h.is_text there.rows there.whole in
@@ -227,16 +207,8 @@ types_of_placed n (Some (typed t)) = refl
 types_placed : (n : ℕ) (r : Row) → types_of_found (found_in (row_after n r)) ≡ option_map (found_types_after n) (types_of_found (found_in r))
 types_placed n r = ap types_of_found (found_placed n r.command) ∙ types_of_placed n (found_in r)
 
--- the last piece has a row
-pub some_row : (text : List ℕ) (a : Analysis) → IsAnalysisOf text a → a.rows.items ≡ [] → ⊥
-some_row text a h none =
-    let many = as_many_rows outset (h.ended ++ h.last ∷ []) (rows_of a.rows.items) h.sight (types_in a.types) a.bound a.dialect h.rows in
-    absurd (omega (arith, many, length-map a.rows.items row_of, ap length none, length-append h.ended (h.last ∷ [])))
-
--- the row round the offset
-module _ (text : List ℕ) (a : Analysis) (o : ℕ) (p : PlacedRow) (h : IsAnalysisOf text a) (rows : List RustRow) (rows_are : rows ≡ a.rows.items)
-    (there : (text : List ℕ) (f : Front) (ts : List Typ) (d : Dialect) → AreRowsFrom text nothing (placed 0 (rows_of rows)) f ts d → f.end ≡ length text
-    → IsRowAround text o (placed 0 (rows_of rows)) p ts d) where
+-- the row of the piece
+module _ (text : List ℕ) (a : Analysis) (o : ℕ) (p : PieceAt) (h : IsAnalysisOf text a) (piece : IsPieceAround text o a p) where
   abbrev Numbers : List Typ
   Numbers = types_in a.types
 
@@ -246,64 +218,16 @@ module _ (text : List ℕ) (a : Analysis) (o : ℕ) (p : PlacedRow) (h : IsAnaly
   all : AreInText text a
   all = in_text text a h
 
-  around : IsRowAround text o Rows p Numbers a.dialect
-  around =
-      subst (λ rs. IsRowAround text o (placed 0 (rows_of rs)) p Numbers a.dialect) rows_are
-      (there text all.front Numbers a.dialect (subst (λ rs. AreRowsFrom text nothing (placed 0 (rows_of rs)) all.front Numbers a.dialect) (sym rows_are) all.rows) all.whole)
-
-  pub number_inside : p.number < length a.rows.items
-  number_inside = omega (
-    arith,
-    around.counted,
-    ap length around.are,
-    length-append around.before (around.row ∷ around.after),
-    as_many_placed 0 (rows_of a.rows.items),
-    length-map a.rows.items row_of,
-  )
+  abbrev around : IsRowAround text o Rows (record { start = p.start; number = p.number }) Numbers a.dialect
+  around = piece.around
 
   -- it is this one
   module _ (r e : RustRow) (is : r ≡ get_or a.rows.items p.number e) where
-    abbrev Ahead : List Row
-    Ahead = rows_of (take p.number a.rows.items)
-
-    abbrev Behind : List Row
-    Behind = rows_of (drop (p.number + 1) a.rows.items)
-
     abbrev There : Row
     There = row_after p.start (row_of r)
 
-    parts : Rows ≡ placed 0 Ahead ++ placed (bytes_of Ahead + 0) (row_of (get_or a.rows.items p.number e) ∷ Behind)
-    parts =
-        ap (placed 0) (around_row a.rows.items p.number e number_inside) ∙ placed_append 0 Ahead (row_of (get_or a.rows.items p.number e) ∷ Behind)
-
-    as_many_ahead : length (placed 0 Ahead) ≡ p.number
-    as_many_ahead = omega (
-      arith,
-      number_inside,
-      as_many_placed 0 Ahead,
-      length-map (take p.number a.rows.items) row_of,
-      length-take-le p.number a.rows.items (omega (arith, number_inside)),
-    )
-
-    same_ahead : around.before ≡ placed 0 Ahead
-    same_ahead =
-        sym (take_at around.before (around.row ∷ around.after) p.number (sym around.counted)) ∙ ap (take p.number) (sym around.are ∙ parts)
-        ∙ take_at (placed 0 Ahead) (placed (bytes_of Ahead + 0) (row_of (get_or a.rows.items p.number e) ∷ Behind)) p.number as_many_ahead
-
-    starts : bytes_of Ahead + 0 ≡ p.start
-    starts =
-        let end =
-        placed_ends text nothing Ahead around.front Numbers a.dialect
-        (subst (λ rs. AreRowsFrom text nothing rs around.front Numbers a.dialect) same_ahead around.rows_before) in
-        omega (arith, end, around.starts)
-
     same : around.row ≡ There
-    same =
-        sym (get_or_at around.before around.row around.after around.row p.number (sym around.counted))
-        ∙ ap (λ rs. get_or rs p.number around.row) (sym around.are ∙ parts)
-        ∙ get_or_at (placed 0 Ahead) (row_after (bytes_of Ahead + 0) (row_of (get_or a.rows.items p.number e)))
-        (placed ((get_or a.rows.items p.number e).end + (bytes_of Ahead + 0)) Behind) around.row p.number as_many_ahead
-        ∙ (λ j. row_after (starts j) (row_of (sym is j)))
+    same = row_same text a o (record { start = p.start; number = p.number }) around r e is
 
     are : Rows ≡ around.before ++ There ∷ around.after
     are = around.are ∙ ap (λ s. around.before ++ s ∷ around.after) same
@@ -311,39 +235,23 @@ module _ (text : List ℕ) (a : Analysis) (o : ℕ) (p : PlacedRow) (h : IsAnaly
     here : IsRow text around.front around.own There Numbers a.dialect
     here = subst (λ s. IsRow text around.front around.own s Numbers a.dialect) same around.is_row
 
-    -- it ends in the text
-
-    end_is : There.end ≡ p.start + r.end
-    end_is = omega arith
-
-    pub ends_inside : p.start + r.end ≤ length text
-    ends_inside = omega (arith, here.inside)
-
-    -- it begins and ends between characters
-
-    pub starts_between : IsCharBoundary text p.start
-    starts_between =
-        subst (IsCharBoundary text) (sym around.starts)
-        (begins_between text around.front.end There.end here.tokens h.is_text here.forward here.inside here.piece)
-
-    pub stops_between : IsCharBoundary text (p.start + r.end)
-    stops_between =
-        subst (IsCharBoundary text) end_is (ends_between text around.front.end There.end here.tokens h.is_text here.forward here.inside here.piece)
-
     -- what its piece alone is read as
     abbrev ReadAs : List CommandTree → Type 0
-    ReadAs own = (rest : List ℕ) (tokens : List Lexeme) → ArePieceTokens p.start (slice_range text p.start (p.start + r.end)) rest tokens → HaveNoSemicolon tokens
-        → IsOwnOf tokens own
+    ReadAs own = (rest : List ℕ) (tokens : List Lexeme) → ArePieceTokens p.start p.text.now rest tokens → HaveNoSemicolon tokens → IsOwnOf tokens own
 
     read_own : (own : List CommandTree) → ReadAs own → IsOwnOf here.tokens own
     read_own own read = read (drop There.end text) here.tokens tokens_there here.piece.one_piece
       where
-        tokens_there : ArePieceTokens p.start (slice_range text p.start (p.start + r.end)) (drop There.end text) here.tokens
+        letters : slice_range text around.front.end There.end ≡ p.text.now
+        letters = ap (λ (s : Row). slice_range text around.front.end s.end) (sym same) ∙ sym piece.letters
+
+        starts : length (take around.front.end text) ≡ p.start
+        starts = length-take-le around.front.end text (omega (arith, here.forward, here.inside)) ∙ sym around.starts
+
+        tokens_there : ArePieceTokens p.start p.text.now (drop There.end text) here.tokens
         tokens_there =
-            subst (λ m. ArePieceTokens p.start (slice_range text p.start m) (drop There.end text) here.tokens) end_is
-            (subst (λ n. ArePieceTokens n (slice_range text n There.end) (drop There.end text) here.tokens) (sym around.starts)
-            (subst (λ n. ArePieceTokens n (slice_range text around.front.end There.end) (drop There.end text) here.tokens)
-            (length-take-le around.front.end text (omega (arith, here.forward, here.inside))) here.piece.are_own))
+            subst (λ bytes. ArePieceTokens p.start bytes (drop There.end text) here.tokens) letters
+            (subst (λ n. ArePieceTokens n (slice_range text around.front.end There.end) (drop There.end text) here.tokens) starts here.piece.are_own)
 
     -- no type is too large
     module _ (not_large : is_some a.told.large ≡ false) where

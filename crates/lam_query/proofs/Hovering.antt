@@ -15,10 +15,10 @@ use Rattle.lam_typing.specs.Typings.{found_of}
 use Rattle.lam_query.specs.Sizes.{IsSizeFault, IsSmall, places_in}
 use Rattle.lam_scope.specs.PlacedTerms.{document_terms, term_of, tree_in}
 use Rattle.lam_query.specs.Hovers.{IsTypedAround, IsHover}
-use Rattle.lam_query.specs.inner.Documents.{AreFoundOf}
+use Rattle.lam_query.specs.inner.Typings.{AreFoundOf}
 use Rattle.lam_scope.specs.Places.{Place}
 use Rattle.lam_scope.proofs.PlacedRows.{as_many_rows}
-use Rattle.lam_query.proofs.Small.{is_small, least_at}
+use Rattle.lam_query.proofs.Small.{least_at}
 use Rattle.lam_query.proofs.RowsAndTerms.{place_told, innermost_row, innermost_nowhere}
 
 pub place_inside : (cs : List CommandTree) (o n : ℕ) → place_at (table cs) o ≡ Some n → n < length (places_in cs)
@@ -61,17 +61,6 @@ pub least_found : (cs : List CommandTree) (resolved : Resolved) (typing : Typing
     → AreFoundOf cs resolved typing d → place_at (table cs) o ≡ Some n
     → (let p = (term_of (tree_in (document_terms cs) n)).place in IsLeastAt p.scope p.here (get_or (found_of typing) n None) d)
 least_found cs resolved typing d o n h at = least_of cs (found_of typing) o n d h.typed.least at
-
-pub typed_around : (cs : List CommandTree) (resolved : Resolved) (typing : Typing) (d : Dialect) (o n : ℕ) (t : Typ)
-    → AreFoundOf cs resolved typing d → place_at (table cs) o ≡ Some n → get_or (found_of typing) n None ≡ Some t
-    → IsTypedAround cs o (tree_in (document_terms cs) n) t d
-typed_around cs resolved typing d o n t h at found =
-    let small = is_small cs (found_of typing) d h.none_too_large h.typed.least h.typed.small in
-    typed_there cs (found_of typing) o n t d small h.typed.least at found
-
-pub untyped_around : (cs : List CommandTree) (resolved : Resolved) (typing : Typing) (d : Dialect) (o n : ℕ)
-    → AreFoundOf cs resolved typing d → place_at (table cs) o ≡ Some n → get_or (found_of typing) n None ≡ None → IsHover cs o None d
-untyped_around cs resolved typing d o n h at none = untyped_there cs (found_of typing) o n d h.typed.least at none
 
 -- where nothing is shown
 

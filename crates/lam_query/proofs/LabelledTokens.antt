@@ -96,11 +96,11 @@ commands_named low (p ∷ ps) cs h (inr are) = commands_named low ps cs (pieces_
 -- ---- the dot before the cursor is the last token in front of it
 
 -- it is a dot, and stands in front of the cursor
-record IsLast (o : ℕ) (front : List Lexeme) (t : Lexeme) : Type 0 where
-  last : last_or None front ≡ Some t
-  dot : kind_of t ≡ kind.Dot
+pub record IsLast (o : ℕ) (front : List Lexeme) (t : Lexeme) : Type 0 where
+  pub last : last_or None front ≡ Some t
+  pub dot : kind_of t ≡ kind.Dot
 
-dot_is_last : (o : ℕ) (tokens : List Lexeme) (t : Lexeme) → dot_before o tokens ≡ Some t → IsLast o (filter (is_in_front o) tokens) t
+pub dot_is_last : (o : ℕ) (tokens : List Lexeme) (t : Lexeme) → dot_before o tokens ≡ Some t → IsLast o (filter (is_in_front o) tokens) t
 dot_is_last o tokens t is = by (list_any (is_around o) tokens) (last_or None (filter (is_in_front o) tokens)) refl is
   where
     own : (u : Lexeme) → if_dot u ≡ Some t → (Some u ≡ Some t) × (kind_of t ≡ kind.Dot)

@@ -13,7 +13,7 @@ use Rattle.lam_scope.specs.Mentions.{Binder, seen_of, Mention, labels_at, token_
 use Rattle.lam_scope.proofs.SpelledMentions.{in_parentheses, term_in_parentheses}
 use Rattle.lam_scope.proofs.EveryElement.{every_append}
 use Rattle.lam_query.specs.Commands.{AreCommandsOf}
-use Rattle.lam_query.proofs.Pieces.{InPieces, pieces_in}
+use Rattle.lam_query.proofs.TokensOfPieces.{InPieces, pieces_in}
 
 -- Q holds of the kind and the place of a token, if it is a name or a type name
 abbrev pub IfName : (Kind → Span → Type 0) → Lexeme → Type 0

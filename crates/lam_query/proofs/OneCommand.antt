@@ -20,7 +20,7 @@ none_within [] us t none is = both t is none.0
 none_within (u ∷ ts) us t none is = none_within ts us t none.1 is
 
 -- the tokens in front of the first one
-one_front : (ts us vs ws : List Lexeme) (t v : Lexeme) → HaveNoSemicolon ts → HaveNoSemicolon vs → is_semicolon t ≡ true → is_semicolon v ≡ true
+pub one_front : (ts us vs ws : List Lexeme) (t v : Lexeme) → HaveNoSemicolon ts → HaveNoSemicolon vs → is_semicolon t ≡ true → is_semicolon v ≡ true
     → ts ++ t ∷ us ≡ vs ++ v ∷ ws → ts ≡ vs
 one_front [] us [] ws t v none none' is is' same = refl
 one_front [] us (x ∷ vs) ws t v none none' is is' same = let first : t ≡ x = cc in absurd (both x (ap is_semicolon (sym first) ∙ is) none'.0)

@@ -18,7 +18,7 @@ use Rattle.lam_query.specs.Faults.{Fault}
 use Rattle.lam_query.specs.SyntaxFaults.{fault_of_token, PieceFault, spoiled, a_command, PieceFaults, AreSyntaxFaults}
 use Rattle.lam_query.specs.Renames.{AreAllCommandsOf, IsSomeNone}
 use Rattle.lam_query.proofs.PieceLaws.{one_piece_fault}
-use Rattle.lam_query.proofs.Pieces.{InPieces, pieces_in}
+use Rattle.lam_query.proofs.TokensOfPieces.{InPieces, pieces_in}
 
 -- pieces of which each is a command, and others
 

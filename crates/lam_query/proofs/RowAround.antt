@@ -48,6 +48,10 @@ module _ (text : List ℕ) (offset : ℕ) (rows before : List Row) (r : Row) (af
       subst (λ rs. AreRowsFrom text (front_with split.0 split.2.0 ts There) (placed (r.end + start) rs) f ts d) none split.2.2 in
       inr (drop_all There.end text (omega (arith, ap (λ g. g.end) last, whole)))
 
+  in_row_or_last : (offset < start + r.end) ⊎ (after ≡ []) → (offset < There.end) ⊎ (After ≡ [])
+  in_row_or_last (inl in_front) = inl (omega (arith, in_front))
+  in_row_or_last (inr none) = inr (ap (placed (r.end + start)) none)
+
   row_is_around : IsRowAround text offset (placed 0 rows) (record { start = start; number = i }) ts d
   row_is_around = record {
     before = Before;
@@ -64,6 +68,7 @@ module _ (text : List ℕ) (offset : ℕ) (rows before : List Row) (r : Row) (af
       from_its_start = omega (arith, length-take-le split.0.end text begin_inside, at_its_start, passed);
       to_its_end = in_or_last ends;
     };
+    in_or_last = in_row_or_last ends;
   }
 
 -- so it is of the row with a number

@@ -42,7 +42,7 @@ kind_moved n (lexeme k x s) = refl
 end_moved : (n : ℕ) (t : Lexeme) → end_of (moved_by n t) ≡ end_of t + n
 end_moved n (lexeme k x s) = refl
 
-none_moved : (n : ℕ) (ts : List Lexeme) → HaveNoSemicolon ts → HaveNoSemicolon (map (moved_by n) ts)
+pub none_moved : (n : ℕ) (ts : List Lexeme) → HaveNoSemicolon ts → HaveNoSemicolon (map (moved_by n) ts)
 none_moved n [] none = tt
 none_moved n (lexeme k x s ∷ ts) none = (none.0, none_moved n ts none.1)
 
@@ -86,7 +86,7 @@ ahead_more ahead piece front is ended is_piece =
 
 -- ---- what names mean behind a command
 
-bound_after : (n : ℕ) (f : Found) → bound_by (found_after n f) ≡ bound_by f
+pub bound_after : (n : ℕ) (f : Found) → bound_by (found_after n f) ≡ bound_by f
 bound_after n (written_too_large s) = refl
 bound_after n (term_too_large s) = refl
 bound_after n (typed t) = refl
@@ -203,6 +203,26 @@ module _ (text : List ℕ) (ts : List Typ) (b : Bound) (d : Dialect) where
       (All-tail IsEnded p ended all_ended) are.2 in
       (rest.0, (own, row_there ahead p others front f s are.0 r divides ahead_is at same (inl first) are.1, rest.1), rest.2)
 
+  -- in front of others: names mean the same behind them
+  rows_ahead : (ahead : List ℕ) (front : List Lexeme) (f : Front) (s : Sight) (pieces : List (List ℕ)) (rest : List ℕ) (rows : List Row) (sight : Sight)
+      → text ≡ ahead ++ (joined pieces ++ rest) → IsAhead ahead front → f.end ≡ length ahead → MeansSame f s → All IsEnded pieces
+      → AreRows s pieces rows sight ts b d → (g : Front) × AreRowsFrom text f (placed f.end rows) g ts d × MeansSame g sight
+  rows_ahead ahead front f s [] rest [] sight divides ahead_is at same all_ended are =
+      (f, refl, record { names = same.names ∙ ap (λ g. g.names) are; types = same.types ∙ ap (λ g. g.types) are })
+  rows_ahead ahead front f s [] rest (r ∷ rows) sight divides ahead_is at same all_ended are = absurd are
+  rows_ahead ahead front f s (p ∷ pieces) rest [] sight divides ahead_is at same all_ended are = absurd are
+  rows_ahead ahead front f s (p ∷ pieces) rest (r ∷ rows) sight divides ahead_is at same all_ended are =
+      let own = map (command_after f.end) are.0 in
+      let first = All-head IsEnded p pieces all_ended in
+      let more = ahead_more ahead p front ahead_is first are.1.is_text in
+      let others = joined pieces ++ rest in
+      let through : text ≡ ahead ++ (p ++ others) = divides ∙ ap (λ bytes. ahead ++ bytes) (append_assoc p (joined pieces) rest) in
+      let found =
+      rows_ahead (ahead ++ p) more.0 (front_with f own ts (row_after f.end r)) (sight_with s are.0 ts r.command) pieces rest rows sight
+      (through ∙ sym (append_assoc ahead p others)) more.1 (omega (arith, are.1.counted, at, length-append ahead p)) (same_behind f s are.0 r same)
+      (All-tail IsEnded p pieces all_ended) are.2 in
+      (found.0, (own, row_there ahead p others front f s are.0 r through ahead_is at same (inl first) are.1, found.1), found.2)
+
 -- ---- all of it
 
 -- rows of a text, up to its end
@@ -216,6 +236,19 @@ pub rows_in_text : (text : List ℕ) (ended : List (List ℕ)) (last : List ℕ)
 rows_in_text text ended last rows sight ts b d whole all_ended are =
     let found = rows_there text ts b d [] [] nothing outset ended last rows sight whole none_ahead refl (record { names = refl; types = refl }) all_ended are in
     record { front = found.0; are = found.1; whole = found.2 }
+
+-- the first pieces of a text, all of them ended, in front of the rest: names mean the same behind them, where they stand in the text
+pub record AreMeantAhead (text : List ℕ) (rows : List Row) (sight : Sight) (ts : List Typ) (d : Dialect) : Type 0 where
+  pub front : Front
+  pub are : AreRowsFrom text nothing (placed 0 rows) front ts d
+  pub names : front.names ≡ sight.names
+  pub types : front.types ≡ sight.types
+
+pub meant_ahead : (text : List ℕ) (pieces : List (List ℕ)) (rest : List ℕ) (rows : List Row) (sight : Sight) (ts : List Typ) (b : Bound) (d : Dialect)
+    → text ≡ joined pieces ++ rest → All IsEnded pieces → AreRows outset pieces rows sight ts b d → AreMeantAhead text rows sight ts d
+meant_ahead text pieces rest rows sight ts b d whole all_ended are =
+    let found = rows_ahead text ts b d [] [] nothing outset pieces rest rows sight whole none_ahead refl (record { names = refl; types = refl }) all_ended are in
+    record { front = found.0; are = found.1; names = found.2.names; types = found.2.types }
 
 -- the rows of an analysis, where they stand in its text
 pub record AreInText (text : List ℕ) (a : Analysis) : Type 0 where

@@ -8,13 +8,13 @@ use Rattle.lam_rules.proofs.Tables.{keeps_same}
 use Rattle.lam_typing.specs.Checking.{types_in, dialect_in, IsSoundChecker}
 use Rattle.lam_query.specs.declared.analyses.Analysis.{Analysis}
 use Rattle.lam_query.specs.declared.analyses.Analyst.{Analyst}
-use Rattle.lam_query.specs.declared.earlier.Earlier.{Earlier}
+use Rattle.lam_query.specs.declared.entries.Entries.{Entries}
 use Rattle.lam_query.specs.declared.fronts.FrontRows.{FrontRows}
 use Rattle.lam_query.specs.declared.rows.Row.{Row as RustRow}
 use Rattle.lam_query.specs.inner.Analysts.{IsSound, IsBoundAs, IsReadTo, IsReadThrough}
 use Rattle.lam_query.specs.inner.Bound.{HaveNumbers, KeepsNumbers, AllStand}
 use Rattle.lam_query.specs.inner.Changes.{IsFollowedTo}
-use Rattle.lam_query.specs.inner.Earlier.{IsPassedBy, IsMeantBy}
+use Rattle.lam_query.specs.inner.Entries.{IsPassedBy, IsMeantBy}
 use Rattle.lam_query.specs.inner.Kept.{row_of, rows_of}
 use Rattle.lam_query.specs.inner.PieceRows.{Sight, outset, IsEnded, AreRows, joined}
 use Rattle.lam_query.proofs.BoundNames.{numbers_trans}
@@ -118,12 +118,12 @@ module _ {old new : List ℕ} {a : Analysis} {front : FrontRows} {x : Analyst} (
   -- ---- some pieces are left
 
   -- where names meant this in the old text, in front of the first row that is left
-  pub record IsLeftFrom (to : ℕ) (e : Earlier) : Type 0 where
+  pub record IsLeftFrom (to : ℕ) (e : Entries) : Type 0 where
     pub sight : Sight
     pub rows : AreRows sight (drop to (Pieces h)) (drop to (rows_of a.rows.items)) h.of.sight (types_in a.types) x.bound a.dialect
     pub meant : IsMeantBy sight (types_in a.types) x.bound e
 
-  pub left_from : (to : ℕ) (e passed : Earlier) → front.count ≤ to → e.names.items ≡ x.bound.names.entries.items → e.type_names.items ≡ x.bound.type_names.entries.items
+  pub left_from : (to : ℕ) (e passed : Entries) → front.count ≤ to → e.names.items ≡ x.bound.names.entries.items → e.type_names.items ≡ x.bound.type_names.entries.items
       → IsPassedBy (rows_of (slice_range a.rows.items front.count to)) e passed → IsLeftFrom to passed
   left_from to e passed le names types by =
       let d = a.dialect in
@@ -145,7 +145,7 @@ module _ {old new : List ℕ} {a : Analysis} {front : FrontRows} {x : Analyst} (
             (subst (λ rs. IsPassedBy rs e passed) part by);
       }
 
-  pub some_left : (to next : ℕ) (e : Earlier) → IsPutBetween a front.count to now y → next ≡ front.count + length now.rows.items → to < length (Pieces h)
+  pub some_left : (to next : ℕ) (e : Entries) → IsPutBetween a front.count to now y → next ≡ front.count + length now.rows.items → to < length (Pieces h)
       → IsReadTo (ahead h) (front_sight h) new (joined (drop to (Pieces h))) now → IsLeftFrom to e
       → IsFollowedTo new next (types_in a.types) x.bound e y
   some_left to next e put is lt read left =

@@ -2,7 +2,6 @@
 use Rattle.std.proofs.Common.{◌≡◌, ◌⊎◌, ℕ, ◌<◌, ◌≤◌, List, [], ◌∷◌, map, length, reverse, get_or, Option, None, refl, sym, ap, subst, ◌∙◌, inl, inr, arith}
 use Rattle.std.proofs.lemmas.Bool.{cases_lt}
 use Rattle.std.proofs.lemmas.List.{reverse-reverse}
-use Rattle.std.proofs.lemmas.Simd.{map-map}
 use Rattle.std.proofs.Math.ListN.{get_or-eq_default}
 use Rattle.lam_rules.specs.Types.{Typ}
 use Rattle.lam_rules.specs.Terms.{unit_term}
@@ -12,7 +11,7 @@ use Rattle.lam_scope.specs.declared.resolved.Resolved.{Resolved}
 use Rattle.lam_scope.specs.Labels.{place_in}
 use Rattle.lam_scope.specs.Places.{Scope, Place, places_of, place_numbered}
 use Rattle.lam_scope.specs.Sights.{Sight, sight_numbered}
-use Rattle.lam_scope.specs.Tables.{table, place_row_numbered, seen_in, visible_at}
+use Rattle.lam_scope.specs.Tables.{table, place_row_numbered, seen_in}
 use Rattle.lam_scope.proofs.PlacedPlaces.{same_places}
 use Rattle.lam_scope.proofs.Reading.{map-reverse}
 use Rattle.lam_scope.proofs.WellFormedForms.{document-wf}
@@ -24,9 +23,7 @@ use Rattle.lam_typing.specs.Typings.{found_of, entries_in, context_at, dialect_o
 use Rattle.lam_typing.proofs.Completing.{least_among}
 use Rattle.lam_typing.proofs.Sighted.{place_seen}
 use Rattle.lam_typing.proofs.Together.{least_length}
-use Rattle.lam_query.specs.inner.Documents.{AreFoundOf}
-use Rattle.lam_query.specs.Completions.{IsEntryAt}
-use Rattle.lam_query.specs.inner.Contexts.{entry_shown}
+use Rattle.lam_query.specs.inner.Typings.{AreFoundOf}
 use Rattle.lam_query.specs.WellTypedDocuments.{statements_in}
 use Rattle.lam_query.proofs.Deriving.{entries_told}
 use Rattle.lam_query.proofs.RowsAndTerms.{number_told}
@@ -43,9 +40,7 @@ pub same_entries : (cs : List CommandTree) (resolved : Resolved) (typing : Typin
 same_entries cs resolved typing d n h =
     let entry : ℕ → Option Typ = λ b. get_or (entries_in typing) b None in
     let turned : reverse (map entry (binders_seen cs n)) ≡ reverse (context_at (statements_in cs) typing n) =
-    sym (map-reverse entry (binders_seen cs n))
-    ∙ sym (map-map (λ e. e.type) (entry_shown (table cs) (entries_in typing)) (visible_at (table cs) n))
-    ∙ entries_told cs resolved typing d n h in
+    sym (map-reverse entry (binders_seen cs n)) ∙ entries_told cs resolved typing d n h in
     sym (reverse-reverse (map entry (binders_seen cs n))) ∙ ap reverse turned ∙ reverse-reverse (context_at (statements_in cs) typing n)
 
 -- a context of least entries, of any place
@@ -71,12 +66,11 @@ least_at_place cs typing d n least of is = by (cases_lt n (length (places_of [] 
         none_seen (place_numbered (statements_in cs) n).scope (sight_numbered (statements_in cs) n) (entry_from (statements_in cs) (found_of typing)) d
         (ap (λ p. p.scope) past) (sight_length (statements_in cs) n)
 
-pub entry_at : (cs : List CommandTree) (resolved : Resolved) (typing : Typing) (d : Dialect) (n k : ℕ) (entry : Option Typ) → AreFoundOf cs resolved typing d
-    → entry ≡ get_or (map (λ b. get_or (entries_in typing) b None) (binders_seen cs n)) k None → IsEntryAt (place_in cs n) k entry d
-entry_at cs resolved typing d n k entry h is =
+-- so they are the least entries of what the place sees
+pub least_seen : (cs : List CommandTree) (resolved : Resolved) (typing : Typing) (d : Dialect) (n : ℕ) → AreFoundOf cs resolved typing d
+    → AreLeastEntries (place_in cs n).scope (map (λ b. get_or (entries_in typing) b None) (binders_seen cs n)) d
+least_seen cs resolved typing d n h =
     let least = subst (λ ps. AreLeast ps (found_of typing) d) (sym (same_places cs)) h.typed.least in
-    let of = subst (λ ss. IsTypingOf ss typing) h.statements h.types_of_it in (
-      context_at (statements_in cs) typing n,
-      subst (λ (p : Place). AreLeastEntries p.scope (context_at (statements_in cs) typing n) d) (number_told cs n) (least_at_place cs typing d n least of h.dialect),
-      is ∙ ap (λ g. get_or g k None) (same_entries cs resolved typing d n h),
-    )
+    let of = subst (λ ss. IsTypingOf ss typing) h.statements h.types_of_it in
+    subst (λ g. AreLeastEntries (place_in cs n).scope g d) (sym (same_entries cs resolved typing d n h))
+    (subst (λ (p : Place). AreLeastEntries p.scope (context_at (statements_in cs) typing n) d) (number_told cs n) (least_at_place cs typing d n least of h.dialect))

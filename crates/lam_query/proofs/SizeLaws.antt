@@ -24,7 +24,7 @@ document_places_wf commands = subst AreWellFormedPlaces (same_places commands) (
 
 -- ---- whether one is too large
 
-large_or_small : (o : Option Typ) → ((t : Typ) × (o ≡ Some t) × (4096 < nodes t)) ⊎ IsSmallType o
+pub large_or_small : (o : Option Typ) → ((t : Typ) × (o ≡ Some t) × (4096 < nodes t)) ⊎ IsSmallType o
 large_or_small None = inr tt
 large_or_small (Some t) = by (cases_lt 4096 (nodes t))
   where

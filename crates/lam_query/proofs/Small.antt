@@ -12,7 +12,7 @@ use Rattle.lam_query.specs.Sizes.{of_written_type, of_term, IsSmall, places_in}
 
 -- what is found of places
 
-small_not_large : (p : Place) (o : Option Typ) (d : Dialect) → IsLeastAt p.scope p.here o d → IsSmallType o → IsTooLarge p d → ⊥
+pub small_not_large : (p : Place) (o : Option Typ) (d : Dialect) → IsLeastAt p.scope p.here o d → IsSmallType o → IsTooLarge p d → ⊥
 small_not_large p None d least small large = least large.0 large.1.0
 small_not_large p (Some u) d least small large =
     let same = one_size u large.0 d (least.1 large.0 large.1.0) (large.1.1 u least.0) in

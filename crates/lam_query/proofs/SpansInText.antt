@@ -87,3 +87,14 @@ pub all_bytes_fit : (text : List ℕ) (a : Analysis) → length text < 2 ^ 64 �
 all_bytes_fit text a short h =
     let is = in_text text a h in
     bytes_fit text (rows_of a.rows.items) (types_in a.types) a.dialect h.is_text short (record { front = is.front; are = is.rows; whole = is.whole })
+
+pub all_syntax_fit : (text : List ℕ) (a : Analysis) → length text < 2 ^ 64 → IsAnalysisOf text a → AllFit (all_syntax (placed 0 (rows_of a.rows.items)))
+all_syntax_fit text a short h =
+    let is = in_text text a h in
+    syntax_fits text (rows_of a.rows.items) (types_in a.types) a.dialect h.is_text short (record { front = is.front; are = is.rows; whole = is.whole })
+
+pub all_types_fit : (text : List ℕ) (a : Analysis) → length text < 2 ^ 64 → IsAnalysisOf text a → first_large (placed 0 (rows_of a.rows.items)) ≡ None
+    → AllFit (all_faults (placed 0 (rows_of a.rows.items)))
+all_types_fit text a short h none =
+    let is = in_text text a h in
+    types_fit text (rows_of a.rows.items) (types_in a.types) a.dialect h.is_text short (record { front = is.front; are = is.rows; whole = is.whole }) none

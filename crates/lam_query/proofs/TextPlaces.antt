@@ -10,7 +10,7 @@ use Rattle.lam_syntax.specs.Answers.{pieces_of}
 use Rattle.lam_query.specs.Commands.{AreCommandsOf}
 use Rattle.lam_query.specs.Within.{IsSpanOfText}
 use Rattle.lam_query.proofs.TreePlaces.{InCommands}
-use Rattle.lam_query.proofs.Pieces.{InPieces, pieces_in}
+use Rattle.lam_query.proofs.TokensOfPieces.{InPieces, pieces_in}
 use Rattle.lam_query.proofs.Spans.{AtPlace, InTokens, Spreads, in_command}
 
 pub in_commands : (Q : Span → Type 0) → Spreads Q → (ps : List (List Lexeme)) (cs : List CommandTree) → InPieces (AtPlace Q) ps → AreCommandsOf ps cs → InCommands Q cs

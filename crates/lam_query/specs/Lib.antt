@@ -13,6 +13,7 @@ pub mod Innermost
 pub mod Steps
 pub mod ProofTrees
 pub mod Derivations
+pub mod Mismatches
 pub mod Views
 pub mod Completions
 pub mod WellTypedDocuments

@@ -10,11 +10,15 @@ use Rattle.lam_query.specs.declared.answers.Item.{Item as RustItem}
 use Rattle.lam_query.specs.declared.answers.CommandType.{CommandType as RustCommandType}
 use Rattle.lam_query.specs.declared.answers.CommandType.TheVariants as shows
 use Rattle.lam_query.specs.declared.answers.Derivation.{Derivation as RustDerivation}
+use Rattle.lam_query.specs.declared.answers.Mismatch.{Mismatch as RustMismatch}
+use Rattle.lam_query.specs.declared.answers.Mismatch.TheVariants as clash
+use Rattle.lam_query.specs.declared.answers.ExplainedFault.{ExplainedFault as RustExplainedFault}
 use Rattle.lam_query.specs.declared.answers.Step.{Step as RustStep}
 use Rattle.lam_query.specs.declared.answers.Step.TheVariants as rust
 use Rattle.lam_query.specs.CommandTypes.{CommandType, of_name, of_type_name, of_term}
 use Rattle.lam_query.specs.Faults.{Fault}
 use Rattle.lam_query.specs.Within.{IsSpanOfText}
+use Rattle.lam_query.specs.Mismatches.{Mismatch, expected, found, ExplainedFault}
 use Rattle.lam_query.specs.Steps.{Step, typing, subtyping}
 use Rattle.lam_query.specs.Hovers.{Shown}
 use Rattle.lam_query.specs.Completions.{Item}
@@ -23,6 +27,15 @@ use Rattle.lam_query.specs.Derivations.{ContextEntry, Derivation}
 -- the code and the span of a `Fault`
 abbrev pub fault_of : RustFault → Fault
 fault_of f = record { code = f.code.now; span = f.span }
+
+-- what a `Mismatch` says
+abbrev pub mismatch_of : RustMismatch → Mismatch
+mismatch_of (clash.Expected asked have) = expected (string_bytes asked) (string_bytes have)
+mismatch_of (clash.Found t) = found (string_bytes t)
+
+-- a fault and what is told of its term
+abbrev pub explained_of : RustExplainedFault → ExplainedFault
+explained_of e = record { fault = fault_of e.fault; mismatch = option_map mismatch_of e.mismatch }
 
 -- the text and the span of a `Hover`
 abbrev pub shown_of : Hover → Shown

@@ -18,7 +18,11 @@ pub mod PieceRows
 pub mod Analysts
 pub mod Fronts
 pub mod Ends
-pub mod Earlier
+pub mod Entries
 pub mod Changes
 pub mod ShownCommands
-pub mod Documents
+pub mod Around
+pub mod StandIns
+pub mod SeenBinders
+pub mod Typings
+pub mod Explained

@@ -10,6 +10,22 @@ pub struct Fault {
     pub span: Span,
 }
 
+/// What a term that is to blame asks of its parts, and what they have, as texts of least types.
+#[derive(Drop, Debug)]
+pub enum Mismatch {
+    /// A part has the one where a type below the other is asked for.
+    Expected { expected: String, found: String },
+    /// What was found is no function, or has no such field.
+    Found(String),
+}
+
+/// A fault, with what there is to tell of the term that is to blame, if it is the fault of one.
+#[derive(Drop, Debug)]
+pub struct ExplainedFault {
+    pub fault: Fault,
+    pub mismatch: Option<Mismatch>,
+}
+
 /// The least type of a term, as a text, and the place of the term.
 #[derive(Drop, Debug)]
 pub struct Hover {

@@ -191,6 +191,13 @@ impl Meanings {
         }
     }
 
+    /// The number of a name, if it has one.
+    pub(crate) fn number(&self, name: &str) -> Option<usize>
+        ensures { result ≡ numbered self.now name.now }
+    {
+        self.numbers.get(name).copied()
+    }
+
     /// What is bound for a name.
     fn get(&self, name: &str) -> Option<Option<TyNo>>
         ensures { result ≡ number_of self.now name.now }

@@ -13,8 +13,8 @@ ghost use Rattle.lam_query.specs.inner.PieceRows.{Sight, outset};
 ghost use Rattle.lam_query.specs.declared.bound.Bound.{Bound};
 
 use crate::analyses::{Analysis, Analyst};
-use crate::earlier::Earlier;
 use crate::ends::{Behind, common_end};
+use crate::entries::Entries;
 use crate::fronts::{FrontRows, bind_again, common_front, rows_within};
 use crate::reading::{Reader, command_in};
 use crate::rows::Row;
@@ -38,7 +38,7 @@ impl Analysis {
         let front = rows_within(&self.rows, common_front(old, new));
         let common = common_end(old, new);
         let (mut analyst, rows) = Analyst::behind(alloc, self, front);
-        let mut earlier = Earlier::of(alloc, &analyst.bound)?;
+        let mut earlier = Entries::of(alloc, &analyst.bound)?;
         let mut behind = Behind::new(&rows, front, old, common);
         analyst.read_until(new, &mut behind)?;
         let met = behind.next;
@@ -145,7 +145,7 @@ impl<'t> Analyst<'t> {
         &mut self,
         text: &'t str,
         next: usize,
-        earlier: &mut Earlier,
+        earlier: &mut Entries,
     ) -> Result<(), AllocError>
         requires sound { IsSound self.old }
         requires followed { (ts : List Typ) × (b : Bound) × IsFollowedTo text.now next ts b earlier.old self.old }
@@ -167,7 +167,7 @@ impl<'t> Analyst<'t> {
         &mut self,
         text: &'t str,
         number: usize,
-        earlier: &mut Earlier,
+        earlier: &mut Entries,
     ) -> Result<(), AllocError>
         requires sound { IsSound self.old }
         requires inside { number < length self.old.rows.items }

@@ -1,27 +1,27 @@
 //! What can stand at an offset.
-ghost use Rattle.std.specs.Prelude.{◌≡◌, ◌+◌, ◌<◌, ◌^◌, ℕ, List, map, option_map, Some, IfOk, IfSome, IfNone};
-ghost use Rattle.lam_token.specs.Lexeme.{Lexeme, start_of};
+ghost use Rattle.std.specs.Prelude.{◌≡◌, ◌+◌, ◌<◌, ◌^◌, ◌∷◌, [], ℕ, List, length, map, None, IfOk, IfSome, IfNone};
+ghost use Rattle.lam_token.specs.Lexeme.{Lexeme};
 ghost use Rattle.lam_token.specs.Cut.{AreTokensOf};
 ghost use Rattle.lam_rules.specs.Types.{Label};
 ghost use Rattle.lam_syntax.specs.Answers.{pieces_of};
 ghost use Rattle.lam_syntax.specs.Trees.{CommandTree};
 ghost use Rattle.lam_syntax.specs.Views.{command_of};
-ghost use Rattle.lam_scope.specs.Views.{AreScopesOf};
+ghost use Rattle.lam_scope.specs.PlacedTerms.{projection_at};
 ghost use Rattle.lam_query.specs.Analyses.{IsAnalysisOf, dialect_of};
-ghost use Rattle.lam_query.specs.Completions.{dot_before, IsProjected, AreItems, AreCompletions};
-ghost use Rattle.lam_query.specs.inner.Listed.{IsProjection, AreListedFor};
-ghost use Rattle.lam_query.specs.inner.Rows.{IsSizedBy};
+ghost use Rattle.lam_query.specs.Completions.{IsProjected, AreItems, AreCompletions};
 ghost use Rattle.lam_query.specs.Commands.{AreCommandsOf};
+ghost use Rattle.lam_query.specs.inner.Around.{IsPieceAround};
+ghost use Rattle.lam_query.specs.inner.Listed.{IsListedBehind};
 ghost use Rattle.lam_query.specs.Views.{item_of};
 
 use crate::analyses::Analysis;
 use crate::answers::Item;
 use crate::cursor::{dot_before, touched_word};
-use crate::documents::Document;
 use crate::fields::fields_of;
-use crate::reading::read_with_label;
+use crate::pieces::PieceAt;
+use crate::reading::{command_in, command_with_label};
 use lam_rules::Dialect;
-use lam_scope::{Place, Scopes, bind};
+use lam_scope::bind;
 use lam_syntax::Command;
 use std::alloc::{AllocError, Global};
 
@@ -50,9 +50,12 @@ impl Analysis {
         requires { IsAnalysisOf text.now self.now }
         ensures { IfOk result (λ items. AreCompletions text.now offset (map item_of items.items) (dialect_of self.now)) }
     {
-        match self.labels(alloc, text, offset)? {
+        let Some(piece) = self.piece_around(text, offset) else {
+            return Ok(Vec::new(alloc));
+        };
+        match self.labels(alloc, piece, offset)? {
             Some(items) => Ok(items),
-            None => names_at(alloc, text, offset, self.dialect),
+            None => self.names(alloc, text, piece, offset),
         }
     }
 
@@ -60,79 +63,70 @@ impl Analysis {
     fn labels(
         &self,
         alloc: Global,
-        text: &str,
+        piece: PieceAt<'_>,
         offset: usize,
     ) -> Result<Option<Vec<Item>>, AllocError>
-        requires { IsAnalysisOf text.now self.now }
-        ensures some { IfOk result (λ found. IfSome found (λ items. (tokens : List Lexeme) (commands : List CommandTree) → AreTokensOf text.now tokens → AreCommandsOf (pieces_of tokens) commands → AreItems commands tokens offset (map item_of items.items) (dialect_of self.now))) }
-        ensures none { IfOk result (λ found. IfNone found ((tokens : List Lexeme) (l : Label) → AreTokensOf text.now tokens → IsProjected tokens offset l → ⊥)) }
+        requires there { (text : List ℕ) × IsAnalysisOf text self.now × IsPieceAround text offset self.now piece }
+        requires fits { piece.start + length piece.text.now < 2 ^ 64 }
+        ensures some { IfOk result (λ found. IfSome found (λ items. (text : List ℕ) (tokens : List Lexeme) (commands : List CommandTree) → IsAnalysisOf text self.now → IsPieceAround text offset self.now piece.entry → AreTokensOf text tokens → AreCommandsOf (pieces_of tokens) commands → AreItems commands tokens offset (map item_of items.items) (dialect_of self.now))) }
+        ensures none { IfOk result (λ found. IfNone found ((text : List ℕ) (tokens : List Lexeme) (l : Label) → IsAnalysisOf text self.now → IsPieceAround text offset self.now piece.entry → AreTokensOf text tokens → IsProjected tokens offset l → ⊥)) }
     {
-        match dot_before(text, offset) {
-            Some(dot) => self.labels_behind(alloc, text, offset, dot),
+        let Some(dot) = dot_before(piece.text, piece.start, offset) else {
+            return Ok(None);
+        };
+        match command_with_label(alloc, piece.text, piece.start, offset, dot)? {
+            Some(command) => self.labels_in(alloc, piece, dot, command),
             None => Ok(None),
         }
     }
 
-    /// Those behind the dot that begins at this byte.
-    fn labels_behind(
+    /// Those that can stand behind the dot that begins at this byte, where a label there makes this command of the piece.
+    fn labels_in(
         &self,
         alloc: Global,
-        text: &str,
-        offset: usize,
+        piece: PieceAt<'_>,
         dot: usize,
+        command: Command,
     ) -> Result<Option<Vec<Item>>, AllocError>
-        requires of { IsAnalysisOf text.now self.now }
-        requires dot { (tokens : List Lexeme) → AreTokensOf text.now tokens → option_map start_of (dot_before offset tokens) ≡ Some dot }
-        requires fits { dot + 1 < 2 ^ 64 }
-        ensures some { IfOk result (λ found. IfSome found (λ items. (tokens : List Lexeme) (commands : List CommandTree) → AreTokensOf text.now tokens → AreCommandsOf (pieces_of tokens) commands → AreItems commands tokens offset (map item_of items.items) (dialect_of self.now))) }
-        ensures none { IfOk result (λ found. IfNone found ((tokens : List Lexeme) (l : Label) → AreTokensOf text.now tokens → IsProjected tokens offset l → ⊥)) }
+        requires there { (text : List ℕ) × IsAnalysisOf text self.now × (offset : ℕ) × IsPieceAround text offset self.now piece }
+        ensures some { IfOk result (λ found. IfSome found (λ items. (text : List ℕ) (offset : ℕ) (h : IsPieceAround text offset self.now piece.entry) → IsAnalysisOf text self.now → IsListedBehind h dot (command_of command) (map item_of items.items))) }
+        ensures none { IfOk result (λ found. IfNone found (projection_at dot (command_of command ∷ []) ≡ None)) }
     {
-        let commands = read_with_label(alloc, text, offset, dot)?;
-        let scopes = bind(alloc, &commands)?;
-        match scopes.projection_at(&commands, dot) {
-            None => Ok(None),
-            Some(place) => {
-                let items = self.labels_of(alloc, &commands, &scopes, place)?;
-                Ok(Some(items))
-            }
+        let alone = self.alone(alloc, piece.number, command)?;
+        let scopes = bind(alloc, &alone.commands)?;
+        let Some(place) = scopes.projection_at(&alone.commands, dot) else {
+            return Ok(None);
+        };
+        if self.told.large.is_some() {
+            return Ok(Some(Vec::new(alloc)));
         }
+        let items = fields_of(alloc, &alone.commands, &scopes, place, self.dialect)?;
+        Ok(Some(items))
     }
 
-    /// Those of the projection at a place of commands in which one label stands behind the dot.
-    fn labels_of(
+    /// The names in sight of the variable that the cursor touches; none where it touches none.
+    fn names(
         &self,
         alloc: Global,
-        commands: &[Command],
-        scopes: &Scopes,
-        place: Place,
+        text: &str,
+        piece: PieceAt<'_>,
+        offset: usize,
     ) -> Result<Vec<Item>, AllocError>
-        requires scopes { AreScopesOf scopes.now (map command_of commands.now) }
-        requires projection { IsProjection (map command_of commands.now) place.0 }
-        ensures { IfOk result (λ items. (whole : List CommandTree) → IsSizedBy whole self.now.told.large self.now.dialect → AreListedFor whole (map command_of commands.now) place.0 (map item_of items.items) self.now.dialect) }
+        requires of { IsAnalysisOf text.now self.now }
+        requires there { IsPieceAround text.now offset self.now piece }
+        ensures { IfOk result (λ items. (tokens : List Lexeme) (commands : List CommandTree) → AreTokensOf text.now tokens → AreCommandsOf (pieces_of tokens) commands → ((l : Label) → IsProjected tokens offset l → ⊥) → AreItems commands tokens offset (map item_of items.items) (dialect_of self.now)) }
     {
-        match self.told.large {
-            Some(_) => Ok(Vec::new(alloc)),
-            None => fields_of(alloc, commands, scopes, place, self.dialect),
+        let Some(start) = touched_word(piece.text, piece.start, offset) else {
+            return Ok(Vec::new(alloc));
+        };
+        let Some(command) = command_in(alloc, piece.text, piece.start)? else {
+            return Ok(Vec::new(alloc));
+        };
+        let alone = self.alone(alloc, piece.number, command)?;
+        let scopes = bind(alloc, &alone.commands)?;
+        match scopes.variable_at(&alone.commands, start) {
+            Some(place) => self.names_in_sight(alloc, text, piece, &alone, &scopes, place),
+            None => Ok(Vec::new(alloc)),
         }
     }
-}
-
-/// The names in sight of the variable that the cursor touches; none where it touches none. The text is read and typed as a
-/// whole, for the binders of the command there.
-fn names_at(
-    alloc: Global,
-    text: &str,
-    offset: usize,
-    dialect: Dialect,
-) -> Result<Vec<Item>, AllocError>
-    ensures { IfOk result (λ items. (tokens : List Lexeme) (commands : List CommandTree) → AreTokensOf text.now tokens → AreCommandsOf (pieces_of tokens) commands → ((l : Label) → IsProjected tokens offset l → ⊥) → AreItems commands tokens offset (map item_of items.items) dialect) }
-{
-    let Some(start) = touched_word(text, offset) else {
-        return Ok(Vec::new(alloc));
-    };
-    let document = Document::new(alloc, text, dialect)?;
-    let Some(place) = document.scopes.variable_at(&document.commands, start) else {
-        return Ok(Vec::new(alloc));
-    };
-    document.names_in_sight(alloc, place)
 }

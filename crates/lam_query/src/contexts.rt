@@ -1,54 +1,40 @@
 //! The context of a derivation.
-ghost use Rattle.std.specs.Prelude.{◌≡◌, map, get_or, None, IfOk};
-ghost use Rattle.lam_scope.specs.Views.{table_of};
-ghost use Rattle.lam_scope.specs.Tables.{visible_at};
-ghost use Rattle.lam_scope.specs.TableViews.{binder_number};
+ghost use Rattle.std.specs.Prelude.{◌++◌, ◌≡◌, map, All, IfOk, OnOk};
 ghost use Rattle.lam_rules.specs.TermViews.{written_of};
-ghost use Rattle.lam_typing.specs.Typings.{entries_in};
+ghost use Rattle.lam_scope.specs.Numbered.{StandsIfAny};
+ghost use Rattle.lam_typing.specs.Answers.{answer};
 ghost use Rattle.lam_query.specs.inner.Contexts.{entry_shown};
 ghost use Rattle.lam_query.specs.Views.{entry_of};
 
-use lam_rules::Ty;
-use lam_scope::{Binder, Place, Scopes};
-use lam_typing::Typing;
+use crate::binders::SeenBinder;
+use lam_rules::{Ty, TyNo, TyTable};
 use std::alloc::{AllocError, Global};
 
-/// The binders that a place sees, from the outside in, with their least entries.
-pub(crate) fn context_at(
+/// Puts binders, whose entries are numbers of this table, into a context, behind those that are there.
+pub(crate) fn push_entries(
     alloc: Global,
-    scopes: &Scopes,
-    typing: &Typing,
-    place: Place,
-) -> Result<Vec<(String, Option<Ty>)>, AllocError>
-    ensures { IfOk result (λ made. map entry_of made.items ≡ map (entry_shown (table_of scopes.now) (entries_in typing.now)) (visible_at (table_of scopes.now) place.0)) }
+    table: &TyTable,
+    binders: &[SeenBinder<'_>],
+    context: &mut Vec<(String, Option<Ty>)>,
+) -> Result<(), AllocError>
+    requires { All (λ b. StandsIfAny table.now b.entry) binders.now }
+    ensures { OnOk result (map entry_of context.new.items ≡ map entry_of context.old.items ++ map (entry_shown table.now) binders.now) }
 {
-    let binders = scopes.visible_at(alloc, place)?;
-    context_of(alloc, scopes, typing, &binders)
-}
-
-fn context_of(
-    alloc: Global,
-    scopes: &Scopes,
-    typing: &Typing,
-    binders: &[Binder],
-) -> Result<Vec<(String, Option<Ty>)>, AllocError>
-    ensures { IfOk result (λ made. map entry_of made.items ≡ map (entry_shown (table_of scopes.now) (entries_in typing.now)) (map binder_number binders.now)) }
-{
-    let mut context = Vec::with_capacity(alloc, binders.len())?;
     for i in 0..binders.len() {
         let binder = binders[i];
-        let name = String::from_str(alloc, scopes.name_of(binder))?;
-        let ty = type_of(typing, binder)?;
+        let name = String::from_str(alloc, binder.name.unwrap_or("_"))?;
+        let ty = tree_of(table, binder.entry)?;
         context.push((name, ty))?;
     }
-    Ok(context)
+    Ok(())
 }
 
-fn type_of(typing: &Typing, binder: Binder) -> Result<Option<Ty>, AllocError>
-    ensures { IfOk result (λ made. written_of made ≡ get_or (entries_in typing.now) binder.0 None) }
+fn tree_of(table: &TyTable, entry: Option<TyNo>) -> Result<Option<Ty>, AllocError>
+    requires { StandsIfAny table.now entry }
+    ensures { IfOk result (λ made. written_of made ≡ answer table.now entry) }
 {
-    match typing.type_of_binder(binder) {
-        Some(number) => Ok(Some(typing.table().tree(number)?)),
+    match entry {
+        Some(number) => Ok(Some(table.tree(number)?)),
         None => Ok(None),
     }
 }

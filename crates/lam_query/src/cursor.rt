@@ -1,21 +1,23 @@
 //! What stands before the cursor: a dot, a word that it touches.
-ghost use Rattle.std.specs.Prelude.{◌≡◌, ◌+◌, ◌<◌, ◌^◌, List, Some, None, IfSome};
+ghost use Rattle.std.specs.Prelude.{◌≡◌, ◌+◌, ◌<◌, ◌^◌, List, length, Some, None, IfSome};
 ghost use Rattle.std.specs.Option.{option_map};
 ghost use Rattle.lam_token.specs.Lexeme.{Lexeme, start_of};
-ghost use Rattle.lam_token.specs.Cut.{AreTokensOf};
+ghost use Rattle.lam_token.specs.Cut.{AreTokensFrom};
 ghost use Rattle.lam_query.specs.Completions.{is_word_kind, reaches, is_touched, is_around, is_in_front, is_behind, touched_word, if_dot, dot_before};
 
 use lam_token::{Kind, Token, first_token};
 
-/// The first byte of the dot that stands before the cursor, and before the word that it touches; none where another token
-/// is there, or around the cursor. The byte behind the dot has an offset too.
-pub(crate) fn dot_before(text: &str, offset: usize) -> Option<usize>
-    ensures dot { (tokens : List Lexeme) → AreTokensOf text.now tokens → result ≡ option_map start_of (dot_before offset tokens) }
+/// The first byte of the dot that stands before the cursor, and before the word that it touches, among the tokens of a piece,
+/// whose bytes count from this one on; none where another token is there, or around the cursor. The byte behind the dot has an
+/// offset too.
+pub(crate) fn dot_before(piece: &str, from: usize, offset: usize) -> Option<usize>
+    requires { from + length piece.now < 2 ^ 64 }
+    ensures dot { (tokens : List Lexeme) → AreTokensFrom from piece.now tokens → result ≡ option_map start_of (dot_before offset tokens) }
     ensures fits { IfSome result (λ start. start + 1 < 2 ^ 64) }
 {
     let mut dot = None;
-    let mut rest = text;
-    let mut start = 0;
+    let mut rest = piece;
+    let mut start = from;
     while let Some((token, after)) = first_token(rest, start) {
         if is_around(&token, offset) {
             return None;
@@ -29,12 +31,13 @@ pub(crate) fn dot_before(text: &str, offset: usize) -> Option<usize>
     dot
 }
 
-/// The byte at which the word that the cursor touches begins, if it touches one.
-pub(crate) fn touched_word(text: &str, offset: usize) -> Option<usize>
-    ensures { (tokens : List Lexeme) → AreTokensOf text.now tokens → result ≡ option_map start_of (touched_word offset tokens) }
+/// The byte at which the word that the cursor touches begins, if it touches one of a piece, whose bytes count from this one on.
+pub(crate) fn touched_word(piece: &str, from: usize, offset: usize) -> Option<usize>
+    requires { from + length piece.now < 2 ^ 64 }
+    ensures { (tokens : List Lexeme) → AreTokensFrom from piece.now tokens → result ≡ option_map start_of (touched_word offset tokens) }
 {
-    let mut rest = text;
-    let mut start = 0;
+    let mut rest = piece;
+    let mut start = from;
     while let Some((token, after)) = first_token(rest, start) {
         if is_touched(&token, offset) {
             return Some(token.start());

@@ -1,17 +1,23 @@
 //! Why a term has the type that is shown of it.
-ghost use Rattle.std.specs.Prelude.{All, IfOk, IfSome};
+ghost use Rattle.std.specs.Prelude.{◌≡◌, None, All, IfOk, IfSome};
 ghost use Rattle.std.specs.Option.{option_map};
+ghost use Rattle.lam_syntax.specs.Views.{command_of};
 ghost use Rattle.lam_query.specs.Analyses.{IsAnalysisOf, dialect_of};
 ghost use Rattle.lam_query.specs.Derivations.{IsDerivedIn};
-ghost use Rattle.lam_query.specs.inner.Documents.{IsDocumentOf};
+ghost use Rattle.lam_query.specs.inner.Around.{IsCommandAround};
 ghost use Rattle.lam_query.specs.Views.{derivation_of, StepStandsIn};
 
 use crate::analyses::Analysis;
 use crate::answers::Derivation;
-use crate::contexts::context_at;
-use crate::documents::{Document, Types};
+use crate::binders::inner_binders;
+use crate::contexts::push_entries;
+use crate::pieces::PieceAt;
+use crate::reading::command_in;
 use crate::steps::steps_of_proof;
+use crate::typings::types_of;
 use lam_rules::Dialect;
+use lam_scope::bind;
+use lam_syntax::Command;
 use std::alloc::{AllocError, Global};
 
 /// Why that term has that type; none where none is shown.
@@ -24,12 +30,11 @@ pub fn derivation(
     ensures derived { IfOk result (λ found. IsDerivedIn text.now offset (option_map derivation_of found) dialect) }
     ensures whole_characters { IfOk result (λ found. IfSome found (λ d. All (StepStandsIn text.now) d.steps.items)) }
 {
-    Document::new(alloc, text, dialect)?.derivation(alloc, text, offset)
+    Analysis::new(alloc, text, dialect)?.derivation(alloc, text, offset)
 }
 
 impl Analysis {
-    /// Why that term has that type; none where none is shown. The text is read and typed anew, for the commands that the
-    /// analysis does not keep.
+    /// Why that term has that type; none where none is shown. Its command is read and typed again.
     pub fn derivation(
         &self,
         alloc: Global,
@@ -40,33 +45,50 @@ impl Analysis {
         ensures derived { IfOk result (λ found. IsDerivedIn text.now offset (option_map derivation_of found) (dialect_of self.now)) }
         ensures whole_characters { IfOk result (λ found. IfSome found (λ d. All (StepStandsIn text.now) d.steps.items)) }
     {
-        derivation(alloc, text, offset, self.dialect)
+        if self.told.large.is_some() {
+            return Ok(None);
+        }
+        let Some(piece) = self.piece_around(text, offset) else {
+            return Ok(None);
+        };
+        match command_in(alloc, piece.text, piece.start)? {
+            Some(command) => self.derivation_in(alloc, text, offset, piece, command),
+            None => Ok(None),
+        }
     }
-}
 
-impl Document {
-    /// Why the term there has the type that is shown of it; none where none is shown.
-    fn derivation(
+    /// The same, where this is the command of the piece there, and no type of the text is too large.
+    fn derivation_in(
         &self,
         alloc: Global,
         text: &str,
         offset: usize,
+        piece: PieceAt<'_>,
+        command: Command,
     ) -> Result<Option<Derivation>, AllocError>
-        requires { IsDocumentOf text.now self.now }
-        ensures derived { IfOk result (λ found. IsDerivedIn text.now offset (option_map derivation_of found) self.now.dialect) }
+        requires of { IsAnalysisOf text.now self.now }
+        requires small { self.now.told.large ≡ None }
+        requires there { IsCommandAround text.now offset self.now piece (command_of command) }
+        ensures derived { IfOk result (λ found. IsDerivedIn text.now offset (option_map derivation_of found) (dialect_of self.now)) }
         ensures whole_characters { IfOk result (λ found. IfSome found (λ d. All (StepStandsIn text.now) d.steps.items)) }
     {
-        let Types::Found(resolved, typing) = &self.types else {
+        let alone = self.alone(alloc, piece.number, command)?;
+        let scopes = bind(alloc, &alone.commands)?;
+        let Some(types) = types_of(alloc, &alone.commands, &scopes, self.dialect)? else {
             return Ok(None);
         };
-        let Some(place) = self.scopes.place_at(offset) else {
+        let Some(place) = scopes.place_at(offset) else {
             return Ok(None);
         };
-        let Some(proof) = typing.prove_at(alloc, resolved, place)? else {
+        let Some(proof) = types.typing.prove_at(alloc, &types.resolved, place)? else {
             return Ok(None);
         };
-        let context = context_at(alloc, &self.scopes, typing, place)?;
-        let steps = steps_of_proof(alloc, &self.scopes, place, &proof)?;
+        let outer = self.binders_before(alloc, text, piece.number)?;
+        let inner = inner_binders(alloc, &scopes, Some(&types.typing), place, alone.names)?;
+        let mut context = Vec::new(alloc);
+        push_entries(alloc, self.types.table(), &outer, &mut context)?;
+        push_entries(alloc, types.typing.table(), &inner, &mut context)?;
+        let steps = steps_of_proof(alloc, &scopes, place, &proof)?;
         Ok(Some(Derivation { context, steps }))
     }
 }

@@ -1,5 +1,5 @@
 //! What is shown of an offset.
-ghost use Rattle.std.specs.Prelude.{◌≤◌, ◌+◌, ◌∷◌, [], length, IfOk, IfSome};
+ghost use Rattle.std.specs.Prelude.{◌≤◌, ◌∷◌, [], length, IfOk, IfSome};
 ghost use Rattle.std.specs.Option.{option_map};
 ghost use Rattle.lam_scope.specs.Tables.{table as table_of};
 ghost use Rattle.lam_syntax.specs.Views.{command_of};
@@ -13,7 +13,6 @@ ghost use Rattle.lam_query.specs.Views.{shown_of};
 use crate::analyses::Analysis;
 use crate::answers::Hover;
 use crate::reading::command_in;
-use crate::rows::row_around;
 use lam_rules::{Dialect, TyNo, TyTable};
 use lam_scope::bind;
 use lam_syntax::Command;
@@ -50,15 +49,13 @@ impl Analysis {
         if self.told.large.is_some() {
             return Ok(None);
         }
-        let Some(place) = row_around(&self.rows, offset) else {
+        let Some(piece) = self.piece_around(text, offset) else {
             return Ok(None);
         };
-        let row = &self.rows[place.number];
-        let Some(types) = row.types() else {
+        let Some(types) = self.rows[piece.number].types() else {
             return Ok(None);
         };
-        let piece = &text[place.start..place.start + row.end];
-        let Some(command) = command_in(alloc, piece, place.start)? else {
+        let Some(command) = command_in(alloc, piece.text, piece.start)? else {
             return Ok(None);
         };
         shown_in(alloc, &command, offset, self.types.table(), types)

@@ -7,6 +7,7 @@
 
 mod analyses;
 pub mod answers;
+mod binders;
 mod bound;
 mod changes;
 mod completions;
@@ -14,24 +15,27 @@ mod contexts;
 mod cursor;
 mod definitions;
 mod derivations;
-mod documents;
-mod earlier;
 mod ends;
+mod entries;
 mod fields;
 mod fronts;
 mod hovers;
 mod laws;
+mod mismatches;
+mod pieces;
 mod reading;
 mod rebuilding;
 mod renames;
 mod rows;
 mod sight;
+mod stand_ins;
 mod steps;
 mod text_faults;
 mod told;
 mod touched;
 mod typed_commands;
 mod types_of_commands;
+mod typings;
 
 pub use analyses::Analysis;
 pub use completions::complete;
@@ -43,6 +47,7 @@ pub use laws::{
     references_share_a_definition, renames_keep_binding, shown_is_innermost, some_answer,
     steps_tell_the_proof,
 };
+pub use mismatches::explained_faults;
 pub use rebuilding::proof_of_steps;
 pub use renames::{RenameFault, rename};
 pub use steps::steps_of_proof;

@@ -2,16 +2,14 @@
 ghost use Rattle.std.specs.Prelude.{true, false, ◌≡◌, ◌∷◌, ◌++◌, ◌+◌, ◌<◌, ◌^◌, ℕ, List, [], map, codes, length, IfOk, OnOk};
 ghost use Rattle.std.specs.Option.{option_map};
 ghost use Rattle.lam_token.specs.Lexeme.{Lexeme, start_of};
-ghost use Rattle.lam_token.specs.Cut.{AreTokensOf};
 ghost use Rattle.lam_syntax.specs.Trees.{CommandTree};
-ghost use Rattle.lam_syntax.specs.Answers.{is_semicolon, pieces_of};
+ghost use Rattle.lam_syntax.specs.Answers.{is_semicolon};
 ghost use Rattle.lam_syntax.specs.Views.{command_of};
 ghost use Rattle.lam_scope.specs.Nesting.{TokensStand};
-ghost use Rattle.lam_query.specs.Commands.{AreCommandsOf};
 ghost use Rattle.lam_query.specs.Completions.{with_label};
 ghost use Rattle.lam_query.specs.SyntaxFaults.{fault_of_token, PieceFault};
 ghost use Rattle.lam_query.specs.inner.OnePiece.{HaveNoSemicolon, IsOwnOf, ArePieceTokens};
-ghost use Rattle.lam_query.specs.inner.Reading.{IsCommandRead, fault_read, own_of, AreRead, AreAllRead, IsNoted, AreCollected, with_name_unless, AreCollectedAround, IsRead, IsNextPiece};
+ghost use Rattle.lam_query.specs.inner.Reading.{IsCommandRead, fault_read, own_of, AreRead, AreAllRead, IsNoted, AreCollected, AreHeldAround, IsRead, IsNextPiece};
 ghost use Rattle.lam_query.specs.Views.{fault_of};
 
 use crate::answers::Fault;
@@ -86,31 +84,6 @@ pub(crate) fn read(alloc: Global, text: &str) -> Result<Parsed, AllocError>
     })
 }
 
-/// The commands of a text with a name put in behind the dot that begins at this byte, in the place of the word that the
-/// cursor touches.
-pub(crate) fn read_with_label(
-    alloc: Global,
-    text: &str,
-    offset: usize,
-    dot: usize,
-) -> Result<Vec<Command>, AllocError>
-    requires { dot + 1 < 2 ^ 64 }
-    ensures { IfOk result (λ commands. (tokens : List Lexeme) (t : Lexeme) → AreTokensOf text.now tokens → dot ≡ start_of t → AreCommandsOf (pieces_of (with_label offset t (codes "a") tokens)) (map command_of commands.items)) }
-{
-    let mut collector = Collector::new(alloc);
-    let mut taken = false;
-    let mut rest = text;
-    let mut start = 0;
-    while let Some((token, after)) = first_token(rest, start) {
-        rest = after;
-        start = token.end();
-        taken = collector.take_around(token, offset, dot, taken)?;
-    }
-    collector.take_name(dot, taken)?;
-    collector.end_piece()?;
-    Ok(collector.commands)
-}
-
 /// The command that a piece is, if it is one. The piece has no semicolon but the one at its end, and its bytes count from
 /// this one on.
 pub(crate) fn command_in(
@@ -131,6 +104,37 @@ pub(crate) fn command_in(
             return reader.end_piece();
         }
         reader.push(token)?;
+    }
+    reader.end_piece()
+}
+
+/// The command that a piece is, if it is one, with a name put in behind the dot that begins at this byte, in the place of the word
+/// that the cursor touches. The piece has no semicolon but the one at its end, and its bytes count from `start` on.
+pub(crate) fn command_with_label(
+    alloc: Global,
+    piece: &str,
+    start: usize,
+    offset: usize,
+    dot: usize,
+) -> Result<Option<Command>, AllocError>
+    requires piece { start + length piece.now < 2 ^ 64 }
+    requires dot { dot + 1 < 2 ^ 64 }
+    ensures { IfOk result (λ command. (rest : List ℕ) (tokens : List Lexeme) (t : Lexeme) → ArePieceTokens start piece.now rest tokens → HaveNoSemicolon tokens → dot ≡ start_of t → IsOwnOf (with_label offset t (codes "a") tokens) (own_of command)) }
+{
+    let mut reader = Reader::new(alloc);
+    let mut taken = false;
+    let mut rest = piece;
+    let mut place = start;
+    while let Some((token, after)) = first_token(rest, place) {
+        rest = after;
+        place = token.end();
+        if is_semicolon(&token) {
+            break;
+        }
+        taken = reader.push_around(token, offset, dot, taken)?;
+    }
+    if !taken {
+        reader.push(placeholder(dot))?;
     }
     reader.end_piece()
 }
@@ -184,6 +188,33 @@ impl<'t> Reader<'t> {
         self.note(&token)?;
         self.piece.push(token)?;
         Ok(())
+    }
+
+    /// The next token of the piece, unless it is a word that the cursor touches or has the cursor inside of it; before the first
+    /// one behind the cursor comes the name. The result says whether the name was taken by now.
+    fn push_around(
+        &mut self,
+        token: Token<'t>,
+        offset: usize,
+        dot: usize,
+        taken: bool,
+    ) -> Result<bool, AllocError>
+        requires semicolon { is_semicolon token ≡ false }
+        requires dot { dot + 1 < 2 ^ 64 }
+        ensures { IfOk result (λ now. (all left : List Lexeme) (low high : ℕ) → TokensStand low (token.entry ∷ left) high → AreHeldAround all offset dot taken self.old.piece.items (token.entry ∷ left) → AreHeldAround all offset dot now self.new.piece.items left) }
+    {
+        if is_in_front(&token, offset) {
+            self.push(token)?;
+            return Ok(taken);
+        }
+        if !is_behind(&token, offset) {
+            return Ok(taken);
+        }
+        if !taken {
+            self.push(placeholder(dot))?;
+        }
+        self.push(token)?;
+        Ok(true)
     }
 
     /// The fault that the token is by itself, if it is one.
@@ -249,41 +280,6 @@ impl<'t> Collector<'t> {
             return self.keep(command);
         }
         self.reader.push(token)
-    }
-
-    /// The next token of the text, unless it is a word that the cursor touches or has the cursor inside of it; before the
-    /// first one behind the cursor comes the name. The result says whether the name was taken by now.
-    fn take_around(
-        &mut self,
-        token: Token<'t>,
-        offset: usize,
-        dot: usize,
-        taken: bool,
-    ) -> Result<bool, AllocError>
-        requires { dot + 1 < 2 ^ 64 }
-        ensures { IfOk result (λ now. (all left : List Lexeme) (low high : ℕ) → TokensStand low (token.entry ∷ left) high → AreCollectedAround all offset dot taken self.old (token.entry ∷ left) → AreCollectedAround all offset dot now self.new left) }
-    {
-        if is_in_front(&token, offset) {
-            self.take(token)?;
-            return Ok(taken);
-        }
-        if !is_behind(&token, offset) {
-            return Ok(taken);
-        }
-        self.take_name(dot, taken)?;
-        self.take(token)?;
-        Ok(true)
-    }
-
-    /// The name that stands for a label, unless it was taken.
-    fn take_name(&mut self, dot: usize, taken: bool) -> Result<(), AllocError>
-        requires { dot + 1 < 2 ^ 64 }
-        ensures { OnOk result ((all left : List Lexeme) → AreCollected all self.old (with_name_unless taken dot left) → AreCollected all self.new left) }
-    {
-        if taken {
-            return Ok(());
-        }
-        self.take(placeholder(dot))
     }
 
     /// No token of the piece follows.

@@ -1,113 +1,126 @@
-//! The names that a place sees.
-ghost use Rattle.std.specs.Prelude.{◌≡◌, map, None, IfOk, OnOk};
+//! The names that a term sees.
+ghost use Rattle.std.specs.Prelude.{◌≡◌, ◌<◌, ◌+◌, ◌∷◌, [], ℕ, List, map, length, All, IfOk, OnOk, IfSome};
 ghost use Rattle.std.specs.Option.{option_map};
 ghost use Rattle.std.specs.BTreeMap.{IsOrdered};
 ghost use Rattle.std.specs.String.{string_cmp, string_bytes};
 ghost use Rattle.lam_rules.specs.Numbers.{type_of, Stands};
 ghost use Rattle.lam_rules.specs.Texts.{text};
 ghost use Rattle.lam_scope.specs.Names.{Name};
-ghost use Rattle.lam_scope.specs.TableViews.{binder_number};
-ghost use Rattle.lam_scope.specs.Views.{AreScopesOf, table_of};
-ghost use Rattle.lam_query.specs.inner.Documents.{AreTypesOf, commands_in};
+ghost use Rattle.lam_scope.specs.Numbered.{StandsIfAny};
+ghost use Rattle.lam_scope.specs.Tables.{table};
+ghost use Rattle.lam_scope.specs.Views.{AreScopesOf};
+ghost use Rattle.lam_syntax.specs.Trees.{CommandTree};
+ghost use Rattle.lam_syntax.specs.Views.{command_of};
+ghost use Rattle.lam_query.specs.Analyses.{IsAnalysisOf};
+ghost use Rattle.lam_query.specs.Commands.{AreCommandsOfText};
 ghost use Rattle.lam_query.specs.Completions.{AreNames};
-ghost use Rattle.lam_query.specs.inner.Sight.{innermost_with, innermost_after, binder_for, detail_found, item_found, AreTexts, AreTextsFound};
+ghost use Rattle.lam_query.specs.inner.Around.{IsAloneAround, first_term};
+ghost use Rattle.lam_query.specs.inner.Sight.{detail_for, detail_after, detail_with, detail_seen, item_seen, AreTexts};
 ghost use Rattle.lam_query.specs.Views.{item_of};
 
+use crate::analyses::Analysis;
 use crate::answers::Item;
-use crate::documents::{Document, Types};
+use crate::binders::{SeenBinder, inner_binders};
+use crate::pieces::PieceAt;
+use crate::stand_ins::Alone;
+use crate::typings::types_of;
 use lam_rules::{TyNo, TyTable};
-use lam_scope::{Binder, Place, Scopes};
+use lam_scope::{Place, Scopes};
 use std::alloc::{AllocError, Global};
 use std::collections::BTreeMap;
 
-impl Document {
-    /// The names that a place sees, each once, ascending by their bytes, with the text of the least type of its
-    /// innermost binder; no text where that has none, or some type of the text is too large.
+impl Analysis {
+    /// The names that a term sees, each once, ascending by their bytes, with the text of the least type of its innermost binder;
+    /// no text where that has none, or some type of the text is too large. The term is one of the command of this piece, by its
+    /// place in the command alone.
     pub(crate) fn names_in_sight(
         &self,
         alloc: Global,
+        text: &str,
+        piece: PieceAt<'_>,
+        alone: &Alone,
+        scopes: &Scopes,
         place: Place,
     ) -> Result<Vec<Item>, AllocError>
-        requires scopes { AreScopesOf self.now.scopes (commands_in self.now) }
-        requires types { AreTypesOf (commands_in self.now) self.now.types self.now.dialect }
-        ensures { IfOk result (λ items. AreNames (commands_in self.now) place.0 (map item_of items.items) self.now.dialect) }
+        requires of { IsAnalysisOf text.now self.now }
+        requires alone { (offset : ℕ) × (c : CommandTree) × IsAloneAround text.now offset self.now piece c alone.now × (place.0 < length (table (c ∷ [])).places) }
+        requires scopes { AreScopesOf scopes.now (map command_of alone.now.commands.items) }
+        ensures { IfOk result (λ items. (offset : ℕ) (c : CommandTree) (h : IsAloneAround text.now offset self.now piece.entry c alone.now) (commands : List CommandTree) → AreCommandsOfText text.now commands → AreNames commands (first_term h.there.here + place.0) (map item_of items.items) self.now.dialect) }
     {
-        let binders = self.scopes.visible_at(alloc, place)?;
-        let innermost = innermost_by_name(alloc, &self.scopes, &binders)?;
-        items_of_names(alloc, &self.types, innermost)
+        let outer = self.binders_before(alloc, text, piece.number)?;
+        let mut details = BTreeMap::new(alloc);
+        if self.told.large.is_some() {
+            let inner = inner_binders(alloc, scopes, None, place, alone.names)?;
+            put_in_sight(alloc, None, &outer, &mut details)?;
+            put_in_sight(alloc, None, &inner, &mut details)?;
+            return items_of(alloc, details);
+        }
+        let Some(types) = types_of(alloc, &alone.commands, scopes, self.dialect)? else {
+            return Ok(Vec::new(alloc));
+        };
+        let inner = inner_binders(alloc, scopes, Some(&types.typing), place, alone.names)?;
+        put_in_sight(alloc, Some(self.types.table()), &outer, &mut details)?;
+        put_in_sight(alloc, Some(types.typing.table()), &inner, &mut details)?;
+        items_of(alloc, details)
     }
 }
 
-/// For each name the innermost of its binders. They come from the outside in.
-fn innermost_by_name(
+/// Puts binders, which come from the outside in, in the place of outer ones of their names, each with the text of its entry if
+/// there is a table that it is a number of. An underscore has no name. The text of a type is made once and copied then, as many
+/// names may have one type.
+fn put_in_sight(
     alloc: Global,
-    scopes: &Scopes,
-    binders: &[Binder],
-) -> Result<BTreeMap<String, Binder>, AllocError>
-    ensures { IfOk result (λ made. (x : Name) → binder_for made x ≡ innermost_after (table_of scopes.now) x None (map binder_number binders.now)) }
-{
-    let mut innermost = BTreeMap::new(alloc);
-    for i in 0..binders.len() {
-        put_binder(alloc, scopes, binders[i], &mut innermost)?;
-    }
-    Ok(innermost)
-}
-
-/// Puts a binder in the place of an outer one of its name. An underscore has none.
-fn put_binder(
-    alloc: Global,
-    scopes: &Scopes,
-    binder: Binder,
-    innermost: &mut BTreeMap<String, Binder>,
+    table: Option<&TyTable>,
+    binders: &[SeenBinder<'_>],
+    details: &mut BTreeMap<String, Option<String>>,
 ) -> Result<(), AllocError>
-    ensures { OnOk result ((x : Name) → binder_for innermost.new x ≡ innermost_with (table_of scopes.now) x (binder_for innermost.old x) binder.0) }
+    requires { IfSome table (λ t. All (λ b. StandsIfAny t.now b.entry) binders.now) }
+    ensures { OnOk result ((x : Name) → detail_for details.new x ≡ detail_after (option_map (λ t. t.now) table.entry) x (detail_for details.old x) binders.now) }
 {
-    let Some(name) = scopes.bound_name(binder) else {
-        return Ok(());
-    };
-    let name = String::from_str(alloc, name)?;
-    innermost.insert(name, binder)?;
+    let mut texts = BTreeMap::new(alloc);
+    for i in 0..binders.len() {
+        put_binder(alloc, table, binders[i], &mut texts, details)?;
+    }
     Ok(())
 }
 
-/// The entries of the list for names and their binders. The text of a type is made once and copied then, as many names
-/// may have one type.
-fn items_of_names(
+fn put_binder(
     alloc: Global,
-    types: &Types,
-    innermost: BTreeMap<String, Binder>,
-) -> Result<Vec<Item>, AllocError>
-    ensures items { IfOk result (λ made. map item_of made.items ≡ map (item_found types.now) innermost.entries) }
-    ensures ordered { IfOk result (λ made. IsOrdered string_cmp innermost) }
+    table: Option<&TyTable>,
+    binder: SeenBinder<'_>,
+    texts: &mut BTreeMap<usize, String>,
+    details: &mut BTreeMap<String, Option<String>>,
+) -> Result<(), AllocError>
+    requires stands { IfSome table (λ t. StandsIfAny t.now binder.entry) }
+    requires texts { IfSome table (λ t. AreTexts t.now texts.old) }
+    ensures texts { OnOk result (IfSome table.entry (λ t. AreTexts t.now texts.new)) }
+    ensures details { OnOk result ((x : Name) → detail_for details.new x ≡ detail_with (option_map (λ t. t.now) table.entry) x (detail_for details.old x) binder.entry) }
 {
-    let mut items = Vec::with_capacity(alloc, innermost.len())?;
-    let mut texts = BTreeMap::new(alloc);
-    for (label, binder) in innermost {
-        let detail = detail_of(types, binder, &mut texts)?;
-        items.push(Item {
-            label,
-            detail,
-            field: false,
-        })?;
-    }
-    Ok(items)
+    let Some(name) = binder.name else {
+        return Ok(());
+    };
+    let detail = detail_of(table, binder.entry, texts)?;
+    let name = String::from_str(alloc, name)?;
+    details.insert(name, detail)?;
+    Ok(())
 }
 
-/// The text of the type of a binder, if any was found of it.
+/// The text of an entry, if there is a table that it is a number of.
 fn detail_of(
-    types: &Types,
-    binder: Binder,
+    table: Option<&TyTable>,
+    entry: Option<TyNo>,
     texts: &mut BTreeMap<usize, String>,
 ) -> Result<Option<String>, AllocError>
-    requires { AreTextsFound types.now texts.old }
-    ensures detail { IfOk result (λ made. option_map (λ d. string_bytes d) made ≡ detail_found types.now binder.0) }
-    ensures texts { OnOk result (AreTextsFound types.now texts.new) }
+    requires stands { IfSome table (λ t. StandsIfAny t.now entry) }
+    requires texts { IfSome table (λ t. AreTexts t.now texts.old) }
+    ensures detail { IfOk result (λ made. option_map (λ d. string_bytes d) made ≡ detail_seen (option_map (λ t. t.now) table.entry) entry) }
+    ensures texts { OnOk result (IfSome table.entry (λ t. AreTexts t.now texts.new)) }
 {
-    let Types::Found(_, typing) = types else {
+    let Some(table) = table else {
         return Ok(None);
     };
-    match typing.type_of_binder(binder) {
-        Some(number) => Ok(Some(text_once(typing.table(), number, texts)?)),
+    match entry {
+        Some(number) => Ok(Some(text_once(table, number, texts)?)),
         None => Ok(None),
     }
 }
@@ -129,4 +142,23 @@ fn text_once(
     let made = table.text(number)?;
     texts.insert(number.index, made.clone()?)?;
     Ok(made)
+}
+
+/// The entries of the list for names and their details.
+fn items_of(
+    alloc: Global,
+    details: BTreeMap<String, Option<String>>,
+) -> Result<Vec<Item>, AllocError>
+    ensures items { IfOk result (λ made. map item_of made.items ≡ map item_seen details.entries) }
+    ensures ordered { IfOk result (λ made. IsOrdered string_cmp details) }
+{
+    let mut items = Vec::with_capacity(alloc, details.len())?;
+    for (label, detail) in details {
+        items.push(Item {
+            label,
+            detail,
+            field: false,
+        })?;
+    }
+    Ok(items)
 }

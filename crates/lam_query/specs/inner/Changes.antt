@@ -6,11 +6,11 @@ use Rattle.lam_rules.specs.Numbers.{Keeps}
 use Rattle.lam_typing.specs.Checking.{types_in, dialect_in}
 use Rattle.lam_query.specs.declared.analyses.Analyst.{Analyst}
 use Rattle.lam_query.specs.declared.bound.Bound.{Bound}
-use Rattle.lam_query.specs.declared.earlier.Earlier.{Earlier}
+use Rattle.lam_query.specs.declared.entries.Entries.{Entries}
 use Rattle.lam_query.specs.declared.ends.Behind.{Behind}
 use Rattle.lam_query.specs.inner.Analysts.{IsBoundAs, IsReadTo, IsReadThrough}
 use Rattle.lam_query.specs.inner.Bound.{HaveNumbers, KeepsNumbers}
-use Rattle.lam_query.specs.inner.Earlier.{IsMeantBy}
+use Rattle.lam_query.specs.inner.Entries.{IsMeantBy}
 use Rattle.lam_query.specs.inner.Ends.{IsLeftOf}
 use Rattle.lam_query.specs.inner.Kept.{rows_of}
 use Rattle.lam_query.specs.inner.PieceRows.{Sight, outset, AreRows, IsMadeUpOf, joined}
@@ -31,7 +31,7 @@ pub record AreOldPieces (old new : List ℕ) (pieces : List (List ℕ)) (b : Beh
 
 -- The first rows, so many, are those of the text's pieces, and names mean behind them what is bound. The others were right in the old text, where
 -- names meant this in front of them, by the table of types and the numbers of that time.
-pub record IsFollowedTo (text : List ℕ) (n : ℕ) (ts : List Typ) (b : Bound) (e : Earlier) (a : Analyst) : Type 0 where
+pub record IsFollowedTo (text : List ℕ) (n : ℕ) (ts : List Typ) (b : Bound) (e : Entries) (a : Analyst) : Type 0 where
   pub ended : List (List ℕ)
   pub last : List ℕ
   pub made_up : IsMadeUpOf text ended last

@@ -1,10 +1,12 @@
 -- The entries of a context while it is told. For private functions alone.
-use Rattle.std.specs.Prelude.{ℕ, List, Option, None, get_or}
+use Rattle.std.specs.Prelude.{List}
 use Rattle.lam_rules.specs.Types.{Typ}
 use Rattle.lam_scope.specs.Names.{shown_name}
-use Rattle.lam_scope.specs.Tables.{Table, binder_numbered}
+use Rattle.lam_typing.specs.Answers.{answer}
+use Rattle.lam_query.specs.declared.binders.SeenBinder.{SeenBinder}
 use Rattle.lam_query.specs.Derivations.{ContextEntry}
+use Rattle.lam_query.specs.inner.SeenBinders.{name_seen}
 
--- the name of a binder, and its type among those of all binders
-abbrev pub entry_shown : Table → List (Option Typ) → ℕ → ContextEntry
-entry_shown t types b = record { name = shown_name (binder_numbered t b).name; type = get_or types b None }
+-- the name of a binder, and its entry over the types of a table
+abbrev pub entry_shown : List Typ → SeenBinder → ContextEntry
+entry_shown ts b = record { name = shown_name (name_seen b); type = answer ts b.entry }

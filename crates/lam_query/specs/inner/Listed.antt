@@ -1,5 +1,5 @@
 -- What is listed behind a dot, read off commands in which one label stands there. For private functions alone.
-use Rattle.std.specs.Prelude.{◌≡◌, ℕ, suc, List, [], map, true, Some, All, Contains}
+use Rattle.std.specs.Prelude.{◌≡◌, ℕ, ◌+◌, suc, List, [], ◌∷◌, ◌++◌, map, true, Some, None, All, Contains}
 use Rattle.lam_token.specs.declared.span.Span.{Span}
 use Rattle.lam_rules.specs.Types.{Label, Typ}
 use Rattle.lam_rules.specs.Terms.{Term, project}
@@ -7,9 +7,15 @@ use Rattle.lam_rules.specs.Texts.{text}
 use Rattle.lam_rules.specs.declared.rules.Dialect.{Dialect}
 use Rattle.lam_syntax.specs.Trees.{CommandTree}
 use Rattle.lam_scope.specs.Labels.{place_in}
+use Rattle.lam_scope.specs.PlacedTerms.{projection_at}
 use Rattle.lam_typing.specs.LeastTypes.{IsLeastAt}
+use Rattle.lam_query.specs.declared.analyses.Analysis.{Analysis}
+use Rattle.lam_query.specs.declared.pieces.PieceAt.{PieceAt}
+use Rattle.lam_query.specs.Commands.{AreCommandsOfText}
 use Rattle.lam_query.specs.Completions.{Item, AreAscending, IsSmallUpTo}
 use Rattle.lam_query.specs.Sizes.{IsSizeFault, IsSmall}
+use Rattle.lam_query.specs.inner.Around.{IsPieceAround, first_term}
+use Rattle.lam_query.specs.inner.Entered.{type_name_bound}
 
 -- the term of this number is a projection, and the one before it is that of which it asks
 pub record IsProjection (commands : List CommandTree) (number : ℕ) : Type 0 where
@@ -40,3 +46,11 @@ pub data AreListed : (commands : List CommandTree) (number : ℕ) → List Item 
 pub data AreListedFor : (commands others : List CommandTree) (number : ℕ) → List Item → Dialect → Type 0 where
   small : {commands others : List CommandTree} {number : ℕ} {items : List Item} {d : Dialect} → IsSmall commands d → AreListed others number items d → AreListedFor commands others number items d
   large : {commands others : List CommandTree} {number : ℕ} {d : Dialect} (s : Span) → IsSizeFault commands s d → AreListedFor commands others number [] d
+
+-- With a label behind a dot this is the command of the piece, and the label is that of a projection. Among the commands of the text with this one in the place of the
+-- piece's own, the projection has these labels; the own one binds no type name.
+pub record IsListedBehind {text : List ℕ} {offset : ℕ} {a : Analysis} {p : PieceAt} (here : IsPieceAround text offset a p) (dot : ℕ) (c : CommandTree) (items : List Item) : Type 0 where
+  pub number : ℕ
+  pub there : projection_at dot (c ∷ []) ≡ Some number
+  pub listed : (whole behind : List CommandTree) → AreCommandsOfText text whole → whole ≡ here.around.front.commands ++ here.around.own ++ behind
+      → All (λ o. type_name_bound o ≡ None) here.around.own → AreListedFor whole (here.around.front.commands ++ c ∷ behind) (first_term here + number) items a.dialect

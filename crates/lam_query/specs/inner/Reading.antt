@@ -72,10 +72,10 @@ abbrev pub with_name_unless : (taken : Bool) → (dot : ℕ) → List Lexeme →
 with_name_unless true dot left = left
 with_name_unless false dot left = lexeme_at kind.Name (codes "a") dot ∷ left
 
--- What is known of all tokens with the name among them, where these of the text are left: those in front of the cursor and those behind it, with the name between
--- them unless it was taken. Where it was, none in front is left.
-pub record AreCollectedAround (all : List Lexeme) (offset dot : ℕ) (taken : Bool) (c : Collector) (left : List Lexeme) : Type 0 where
-  pub collected : AreCollected all c (filter (is_in_front offset) left ++ with_name_unless taken dot (filter (is_behind offset) left))
+-- All tokens of a piece with the name among them, where these are held and these of the piece are left: those in front of the cursor and those behind it, with the
+-- name between them unless it was taken. Where it was, none in front is left.
+pub record AreHeldAround (all : List Lexeme) (offset dot : ℕ) (taken : Bool) (held left : List Lexeme) : Type 0 where
+  pub are_all : all ≡ held ++ (filter (is_in_front offset) left ++ with_name_unless taken dot (filter (is_behind offset) left))
   pub none_in_front : taken ≡ true → filter (is_in_front offset) left ≡ []
 
 -- the commands are those of the text's tokens, which begin and end between characters, and the faults are theirs

@@ -1,5 +1,5 @@
 -- The rows of a text's pieces, with bytes that count from the start of the text. For private functions alone.
-use Rattle.std.specs.Prelude.{◌≡◌, ◌≤◌, ◌<◌, ◌+◌, ℕ, List, [], ◌∷◌, ◌++◌, length, map, take, drop, slice_range, All, Contains, Option, Some, None, if◌then◌else◌}
+use Rattle.std.specs.Prelude.{◌≡◌, ◌⊎◌, ◌≤◌, ◌<◌, ◌+◌, ℕ, List, [], ◌∷◌, ◌++◌, length, map, take, drop, slice_range, All, Contains, Option, Some, None, if◌then◌else◌}
 use Rattle.std.specs.List.Sorted.{IsPermutation}
 use Rattle.lam_token.specs.declared.span.Span.{Span}
 use Rattle.lam_token.specs.Cut.{AreTokensOf}
@@ -201,3 +201,4 @@ pub record IsRowAround (text : List ℕ) (offset : ℕ) (rows : List Row) (p : P
   pub own : List CommandTree
   pub is_row : IsRow text front own row ts d
   pub is_there : IsOffsetIn offset (take front.end text) (slice_range text front.end row.end) (drop row.end text)
+  pub in_or_last : (offset < row.end) ⊎ (after ≡ [])

@@ -1,7 +1,7 @@
-use Rattle.std.proofs.Common.{◌≡◌, ◌+◌, ◌<◌, ◌^◌, rules, sym, subst, ap, ◌∙◌, arith, IfSome}
+use Rattle.std.proofs.Common.{◌≡◌, ◌+◌, ◌<◌, ◌^◌, rules, refl, sym, subst, ap, ◌∙◌, arith, IfSome}
 use Rattle.std.specs.Option.{option_map}
 use Rattle.lam_token.specs.Lexeme.{start_of, end_of}
-use Rattle.lam_token.proofs.Cuts.{one_list}
+use Rattle.lam_token.proofs.Cuts.{one_list_from}
 use Rattle.lam_token.proofs.SomeCut.{tokens_at, are_tokens_at, first_told, none_told}
 use Rattle.lam_scope.specs.Nesting.{TokensStand}
 use Rattle.lam_query.specs.Completions.{dot_before}
@@ -13,10 +13,15 @@ use Rattle.lam_query.proofs.cursor.dot_before.Goals.{then-is_in_front, else-is_i
 pub returns-then-is_around-clause-dot : goal.returns-then-is_around-clause-dot
 returns-then-is_around-clause-dot c tokens are =
     let o = c.args.offset in
-    let text = c.args.text.now in
+    let piece = c.args.piece.now in
+    let from = c.args.from in
     let told = first_told _ _ _ _ c.in-Some.ensures.first in
     let here = around_passed c.loop-token.dot o c.in-Some.token _ _ told (sym c.is_around.ensures ∙ c.if-is_around.true) in
-    dot_told o (tokens_at 0 text) _ (c.loop-token.invariant.passed ∙ here) ∙ ap (λ ts. option_map start_of (dot_before o ts)) (one_list text tokens (tokens_at 0 text) are (are_tokens_at 0 text))
+    dot_told o (tokens_at from piece) _ (c.loop-token.invariant.passed ∙ here)
+    ∙ ap (λ ts. option_map start_of (dot_before o ts)) (one_list_from from piece tokens (tokens_at from piece) are (are_tokens_at from piece))
+
+pub loop-token-init : goal.loop-token-init
+loop-token-init c = record { is_text = c.utf8.piece; place = refl; passed = refl; fits = tt }
 
 pub loop-token-preserved : goal.loop-token-preserved
 loop-token-preserved c =
@@ -48,6 +53,8 @@ loop-token-preserved c =
 pub returns-clause-dot : goal.returns-clause-dot
 returns-clause-dot c tokens are =
     let o = c.args.offset in
-    let text = c.args.text.now in
+    let piece = c.args.piece.now in
+    let from = c.args.from in
     let none = all_passed c.loop-token.dot o _ (none_told _ _ c.in_default.ensures.none) in
-    dot_told o (tokens_at 0 text) _ (c.loop-token.invariant.passed ∙ none) ∙ ap (λ ts. option_map start_of (dot_before o ts)) (one_list text tokens (tokens_at 0 text) are (are_tokens_at 0 text))
+    dot_told o (tokens_at from piece) _ (c.loop-token.invariant.passed ∙ none)
+    ∙ ap (λ ts. option_map start_of (dot_before o ts)) (one_list_from from piece tokens (tokens_at from piece) are (are_tokens_at from piece))

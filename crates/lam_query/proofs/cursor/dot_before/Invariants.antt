@@ -8,8 +8,8 @@ use Rattle.lam_query.proofs.cursor.dot_before.Given as goal
 abbrev pub invariant-loop-token : goal.invariant-loop-token
 invariant-loop-token l = record {
   is_text : shadow (Utf8 l.rest);
-  place : l.start + length l.rest ≡ length l.fn.text;
-  passed : dot_from None l.offset (tokens_at 0 l.fn.text) ≡ dot_from l.dot l.offset (tokens_at l.start l.rest);
+  place : l.start + length l.rest ≡ l.fn.from + length l.fn.piece;
+  passed : dot_from None l.offset (tokens_at l.fn.from l.fn.piece) ≡ dot_from l.dot l.offset (tokens_at l.start l.rest);
   fits : IfSome l.dot (λ start. start + 1 < 2 ^ 64);
 }
 

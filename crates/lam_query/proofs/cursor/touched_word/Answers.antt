@@ -1,7 +1,7 @@
 use Rattle.std.proofs.Common.{rules, Some, sym, ap, ◌∙◌, arith}
 use Rattle.std.specs.Option.{option_map}
 use Rattle.lam_token.specs.Lexeme.{start_of}
-use Rattle.lam_token.proofs.Cuts.{one_list}
+use Rattle.lam_token.proofs.Cuts.{one_list_from}
 use Rattle.lam_token.proofs.SomeCut.{tokens_at, are_tokens_at, first_told, none_told}
 use Rattle.lam_query.specs.Completions.{touched_word}
 use Rattle.lam_query.proofs.CursorTokens.{touched_here, touched_later, none_touched}
@@ -10,10 +10,11 @@ use Rattle.lam_query.proofs.cursor.touched_word.Goals as goal
 pub returns-then-is_touched : goal.returns-then-is_touched
 returns-then-is_touched c tokens are =
     let o = c.args.offset in
-    let text = c.args.text.now in
+    let piece = c.args.piece.now in
+    let from = c.args.from in
     let told = first_told _ _ _ _ c.in-Some.ensures.first in
     let here = touched_here o c.in-Some.token _ _ told (sym c.is_touched.ensures ∙ c.if-is_touched.true) in
-    ap Some c.start.ensures ∙ sym (ap (option_map start_of) (c.loop-token.invariant.passed ∙ here)) ∙ ap (λ ts. option_map start_of (touched_word o ts)) (one_list text tokens (tokens_at 0 text) are (are_tokens_at 0 text))
+    ap Some c.start.ensures ∙ sym (ap (option_map start_of) (c.loop-token.invariant.passed ∙ here)) ∙ ap (λ ts. option_map start_of (touched_word o ts)) (one_list_from from piece tokens (tokens_at from piece) are (are_tokens_at from piece))
 
 pub loop-token-preserved : goal.loop-token-preserved
 loop-token-preserved c =
@@ -29,6 +30,7 @@ loop-token-preserved c =
 pub returns : goal.returns
 returns c tokens are =
     let o = c.args.offset in
-    let text = c.args.text.now in
+    let piece = c.args.piece.now in
+    let from = c.args.from in
     let none = none_touched o _ (none_told _ _ c.in_default.ensures.none) in
-    sym (ap (option_map start_of) (c.loop-token.invariant.passed ∙ none)) ∙ ap (λ ts. option_map start_of (touched_word o ts)) (one_list text tokens (tokens_at 0 text) are (are_tokens_at 0 text))
+    sym (ap (option_map start_of) (c.loop-token.invariant.passed ∙ none)) ∙ ap (λ ts. option_map start_of (touched_word o ts)) (one_list_from from piece tokens (tokens_at from piece) are (are_tokens_at from piece))

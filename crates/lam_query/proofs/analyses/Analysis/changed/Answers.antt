@@ -1,7 +1,7 @@
 use Rattle.std.proofs.Common.{◌≡◌, ◌≤◌, ◌++◌, List, Vec, Global, length, take, drop, slice_range, sym, ap, subst, ◌∙◌, arith}
 use Rattle.lam_typing.specs.Checking.{types_in}
 use Rattle.lam_query.specs.declared.rows.Row.{Row as RustRow}
-use Rattle.lam_query.specs.inner.Earlier.{IsPassedBy}
+use Rattle.lam_query.specs.inner.Entries.{IsPassedBy}
 use Rattle.lam_query.specs.inner.Fronts.{AreRowsWithin}
 use Rattle.lam_query.specs.inner.Kept.{rows_of, bytes_of}
 use Rattle.lam_query.proofs.ChangedTexts.{pieces_in, bytes_in, many_pieces, old_pieces, IsBegun, front_sight, ahead, rest_in, front_inside, count_inside, left_bytes, begun_read, begun_sound, begun_met, met_inside, all_read, some_left_of}

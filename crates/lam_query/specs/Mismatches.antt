@@ -1,0 +1,66 @@
+-- What a term that is to blame asks of its parts, and what they have.
+use Rattle.std.specs.Prelude.{◌≡◌, ◌<◌, List, [], ◌∷◌, length, map, Option, Some, None, codes, All, Contains, ℕ}
+use Rattle.lam_rules.specs.Types.{Typ, arrow}
+use Rattle.lam_rules.specs.Terms.{Term, if_then_else, succ, pred, is_zero, apply, ascribe, project, fix}
+use Rattle.lam_rules.specs.Texts.{Text, text}
+use Rattle.lam_rules.specs.declared.rules.Dialect.{Dialect}
+use Rattle.lam_syntax.specs.Trees.{CommandTree}
+use Rattle.lam_scope.specs.Labels.{place_in}
+use Rattle.lam_scope.specs.Places.{Scope}
+use Rattle.lam_typing.specs.Blaming.{Blamed, IsBlamed, IsBlamedFor}
+use Rattle.lam_typing.specs.LeastTypes.{IsLeastAt}
+use Rattle.lam_query.specs.Commands.{AreCommandsOfText}
+use Rattle.lam_query.specs.Faults.{Fault}
+use Rattle.lam_query.specs.Sizes.{places_in, IsSmall}
+use Rattle.lam_query.specs.TextFaults.{AreFaults, blame_fault}
+
+-- The texts of types: a part has the one where a type below the other is asked for; or the one that was found is of no use here, since it is no function or has no such field.
+pub data Mismatch : Type 0 where
+  expected : (asked found : Text) → Mismatch
+  found : (found : Text) → Mismatch
+
+-- of an application, from the least types of its terms: the argument does not fit, or the first term is no function
+abbrev pub in_application : (function argument : Typ) → Mismatch
+in_application (arrow p r) t = expected (text p) (text t)
+in_application t u = found (text t)
+
+-- of a fix, from that of its term: what the function gives does not fit what it takes, or it is no function
+abbrev pub in_fix : Typ → Mismatch
+in_fix (arrow p r) = expected (text p) (text r)
+in_fix t = found (text t)
+
+-- what there is to tell of a term in this scope; of an unbound name, of a label that stands twice and of all others nothing
+abbrev pub IsMismatch : Scope → Term → Option Mismatch → Dialect → Type 0
+IsMismatch s (apply f a) m d = (t u : Typ) × IsLeastAt s f (Some t) d × IsLeastAt s a (Some u) d × (m ≡ Some (in_application t u))
+IsMismatch s (project e l) m d = (t : Typ) × IsLeastAt s e (Some t) d × (m ≡ Some (found (text t)))
+IsMismatch s (if_then_else c a b) m d = (t : Typ) × IsLeastAt s c (Some t) d × (m ≡ Some (expected (codes "Bool") (text t)))
+IsMismatch s (succ e) m d = (t : Typ) × IsLeastAt s e (Some t) d × (m ≡ Some (expected (codes "Nat") (text t)))
+IsMismatch s (pred e) m d = (t : Typ) × IsLeastAt s e (Some t) d × (m ≡ Some (expected (codes "Nat") (text t)))
+IsMismatch s (is_zero e) m d = (t : Typ) × IsLeastAt s e (Some t) d × (m ≡ Some (expected (codes "Nat") (text t)))
+IsMismatch s (ascribe e (Some w)) m d = (t : Typ) × IsLeastAt s e (Some t) d × (m ≡ Some (expected (text w) (text t)))
+IsMismatch s (fix e) m d = (t : Typ) × IsLeastAt s e (Some t) d × (m ≡ Some (in_fix t))
+IsMismatch s e m d = m ≡ None
+
+-- a fault, with what there is to tell of the term that is to blame
+pub record ExplainedFault : Type 0 where
+  pub fault : Fault
+  pub mismatch : Option Mismatch
+
+-- the codes of faults that are of no term: of tokens, of the grammar, of sizes and of written types
+abbrev pub codes_of_no_term : List Text
+codes_of_no_term = codes "B1" ∷ codes "B2" ∷ codes "L1" ∷ codes "L2" ∷ codes "P1" ∷ codes "P2" ∷ codes "Y1" ∷ codes "Y2" ∷ []
+
+-- It is the fault of a term of these commands that is to blame, and this is the term's; or of no term, and nothing is told.
+pub data IsExplained (commands : List CommandTree) (d : Dialect) : ExplainedFault → Type 0 where
+  of_term : {e : ExplainedFault} (b : Blamed) → IsSmall commands d → b.number < length (places_in commands)
+      → IsBlamed (place_in commands b.number).scope (place_in commands b.number).here d
+      → IsBlamedFor (place_in commands b.number).scope (place_in commands b.number).here b.code d
+      → e.fault ≡ blame_fault commands b → IsMismatch (place_in commands b.number).scope (place_in commands b.number).here e.mismatch d → IsExplained commands d e
+  of_no_term : {e : ExplainedFault} → Contains codes_of_no_term e.fault.code → e.mismatch ≡ None → IsExplained commands d e
+
+-- the faults of a text, each with what there is to tell of its term
+pub record AreExplained (text : List ℕ) (all : List ExplainedFault) (d : Dialect) : Type 0 where
+  pub are_faults : AreFaults text (map (λ e. e.fault) all) d
+  pub commands : List CommandTree
+  pub are_commands : AreCommandsOfText text commands
+  pub each : All (IsExplained commands d) all

@@ -1,0 +1,107 @@
+//! The binders that a term sees, from the outside in: those of the commands in front of its own, and those round it in its command.
+ghost use Rattle.std.specs.Prelude.{◌≡◌, ◌≤◌, ◌∷◌, [], List, length, take, drop, map, get_or, None, All, IfOk, IfSome, IfNone};
+ghost use Rattle.lam_token.specs.Cut.{AreTokensOf};
+ghost use Rattle.lam_token.specs.Lexeme.{Lexeme, text_of};
+ghost use Rattle.lam_scope.specs.Numbered.{StandsIfAny};
+ghost use Rattle.lam_scope.specs.Tables.{binder_numbered, visible_at};
+ghost use Rattle.lam_scope.specs.Views.{table_of};
+ghost use Rattle.lam_typing.specs.Answers.{answer};
+ghost use Rattle.lam_typing.specs.Checking.{types_in};
+ghost use Rattle.lam_typing.specs.Typings.{types_of, entries_in};
+ghost use Rattle.lam_query.specs.Analyses.{IsAnalysisOf};
+ghost use Rattle.lam_query.specs.inner.Kept.{rows_of, placed};
+ghost use Rattle.lam_query.specs.inner.Rows.{Front, nothing, AreRowsFrom};
+ghost use Rattle.lam_query.specs.inner.SeenBinders.{name_seen, entries_seen, AreBindersBehind, AreEntriesBehind};
+
+use crate::analyses::Analysis;
+use crate::bound::NameNo;
+use lam_rules::TyNo;
+use lam_scope::{Binder, Place, Scopes};
+use lam_token::first_token;
+use lam_typing::Typing;
+use std::alloc::{AllocError, Global};
+
+/// A binder that a term sees.
+#[derive(Clone, Copy)]
+pub(crate) struct SeenBinder<'a> {
+    /// None for an underscore.
+    pub(crate) name: Option<&'a str>,
+    /// Its entry as a number of a table of types, if it has one.
+    pub(crate) entry: Option<TyNo>,
+}
+
+impl Analysis {
+    /// Those of the commands in front of the piece of this number, hidden ones among them. The entries are numbers of the analysis'
+    /// own table. A command begins with the name that it binds.
+    pub(crate) fn binders_before<'t>(
+        &self,
+        alloc: Global,
+        text: &'t str,
+        number: usize,
+    ) -> Result<Vec<SeenBinder<'t>>, AllocError>
+        requires of { IsAnalysisOf text.now self.now }
+        requires inside { number ≤ length self.now.rows.items }
+        ensures names { IfOk result (λ made. (f : Front) → AreRowsFrom text.now nothing (placed 0 (rows_of (take number self.now.rows.items))) f (types_in self.now.types) self.now.dialect → AreBindersBehind f made.items) }
+        ensures entries { IfOk result (λ made. (f : Front) → AreRowsFrom text.now nothing (placed 0 (rows_of (take number self.now.rows.items))) f (types_in self.now.types) self.now.dialect → self.now.told.large ≡ None → AreEntriesBehind f made.items (types_in self.now.types) self.now.dialect) }
+        ensures stand { IfOk result (λ made. All (λ b. StandsIfAny (types_in self.now.types) b.entry) made.items) }
+    {
+        let mut binders = Vec::new(alloc);
+        let mut start = 0;
+        for i in 0..number {
+            let row = &self.rows[i];
+            if let Some(command) = &row.command {
+                if let Some(NameNo::Name(_)) = command.binds {
+                    binders.push(SeenBinder {
+                        name: first_word(&text[start..start + row.end]),
+                        entry: command.found.bound(),
+                    })?;
+                }
+            }
+            start += row.end;
+        }
+        Ok(binders)
+    }
+}
+
+/// The text of the first token of a piece, if it has one.
+fn first_word(piece: &str) -> Option<&str>
+    ensures some { IfSome result (λ word. (t : Lexeme) × (others : List Lexeme) × AreTokensOf piece.now (t ∷ others) × (word.now ≡ text_of t)) }
+    ensures none { IfNone result (AreTokensOf piece.now []) }
+{
+    let (token, _) = first_token(piece, 0)?;
+    Some(token.text())
+}
+
+/// Those that the term at a place sees, but for the outer ones, which are so many. The entries are numbers of the typing's table;
+/// there are none where there is no typing.
+pub(crate) fn inner_binders<'s>(
+    alloc: Global,
+    scopes: &'s Scopes,
+    typing: Option<&Typing>,
+    place: Place,
+    outer: usize,
+) -> Result<Vec<SeenBinder<'s>>, AllocError>
+    ensures names { IfOk result (λ made. map name_seen made.items ≡ map (λ b. (binder_numbered (table_of scopes.now) b).name) (drop outer (visible_at (table_of scopes.now) place.0))) }
+    ensures entries { IfSome typing.entry (λ t. IfOk result (λ made. entries_seen (types_of t.now) made.items ≡ map (λ b. get_or (entries_in t.now) b None) (drop outer (visible_at (table_of scopes.now) place.0)))) }
+    ensures stand { IfSome typing.entry (λ t. IfOk result (λ made. All (λ b. StandsIfAny (types_of t.now) b.entry) made.items)) }
+    ensures none { typing.entry ≡ None → IfOk result (λ made. All (λ b. b.entry ≡ None) made.items) }
+{
+    let visible = scopes.visible_at(alloc, place)?;
+    let mut binders = Vec::new(alloc);
+    for i in outer..visible.len() {
+        let binder = visible[i];
+        binders.push(SeenBinder {
+            name: scopes.bound_name(binder),
+            entry: entry_of(typing, binder),
+        })?;
+    }
+    Ok(binders)
+}
+
+/// The entry of a binder, if there is a typing and it has one.
+fn entry_of(typing: Option<&Typing>, binder: Binder) -> Option<TyNo>
+    ensures some { IfSome typing.entry (λ t. (answer (types_of t.now) result ≡ get_or (entries_in t.now) binder.0 None) × StandsIfAny (types_of t.now) result) }
+    ensures none { typing.entry ≡ None → result ≡ None }
+{
+    typing?.type_of_binder(binder)
+}

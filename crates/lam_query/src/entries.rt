@@ -1,0 +1,163 @@
+//! What names mean at one place of a text.
+ghost use Rattle.std.specs.Prelude.{◌≡◌, ◌<◌, ℕ, List, IsTrue, IsFalse, length, get_or, replicate, Contains, Some, None, IfOk};
+ghost use Rattle.lam_rules.specs.Types.{Typ};
+ghost use Rattle.lam_rules.specs.declared.rules.Dialect.{Dialect};
+ghost use Rattle.lam_rules.specs.declared.numbers.TyNo.{TyNo};
+ghost use Rattle.lam_query.specs.declared.bound.NameNo.{NameNo};
+ghost use Rattle.lam_query.specs.inner.Bound.{means, HaveNumbers};
+ghost use Rattle.lam_query.specs.inner.Entries.{meant, name_kept, type_name_kept, AreMeanings, HasRoomFor, IsPassedBy, IsPassedBehind};
+ghost use Rattle.lam_query.specs.inner.PieceRows.{Sight, outset, AreRows};
+ghost use Rattle.lam_query.specs.inner.Kept.{rows_of};
+
+use crate::bound::{Bound, NameNo};
+use crate::rows::Row;
+use lam_rules::TyNo;
+use std::alloc::{AllocError, Global};
+
+/// What names and type names mean, by their numbers: nothing where a name is unbound, or else its entry, which may be none.
+#[derive(Drop)]
+pub(crate) struct Entries {
+    pub(crate) names: Vec<Option<Option<TyNo>>>,
+    pub(crate) type_names: Vec<Option<Option<TyNo>>>,
+}
+
+impl Entries {
+    /// What they mean where this is bound.
+    pub(crate) fn of(alloc: Global, bound: &Bound) -> Result<Entries, AllocError>
+        ensures names { IfOk result (λ made. made.names.items ≡ bound.now.names.entries.items) }
+        ensures type_names { IfOk result (λ made. made.type_names.items ≡ bound.now.type_names.entries.items) }
+    {
+        let mut names = Vec::new(alloc);
+        names.extend_from_slice(bound.names.entries())?;
+        let mut type_names = Vec::new(alloc);
+        type_names.extend_from_slice(bound.type_names.entries())?;
+        Ok(Entries { names, type_names })
+    }
+
+    /// What they mean behind the first pieces of a text, of which these are the rows.
+    pub(crate) fn behind(alloc: Global, bound: &Bound, rows: &[Row]) -> Result<Entries, AllocError>
+        requires { HaveNumbers bound.now }
+        ensures meanings { IfOk result (λ made. (pieces : List (List ℕ)) (s : Sight) (ts : List Typ) (d : Dialect) → AreRows outset pieces (rows_of rows.now) s ts bound.now d → AreMeanings s ts bound.now made) }
+        ensures passed { IfOk result (λ made. IsPassedBehind bound.now (rows_of rows.now) made) }
+    {
+        let mut entries = Entries {
+            names: unbound(alloc, bound.names.entries().len())?,
+            type_names: unbound(alloc, bound.type_names.entries().len())?,
+        };
+        entries.pass(rows);
+        Ok(entries)
+    }
+
+    /// What a name means that has its number here.
+    pub(crate) fn of_name(&self, bound: &Bound, name: &str) -> Option<Option<TyNo>>
+        ensures { result ≡ name_kept bound.now self.now name.now }
+    {
+        let place = bound.names.number(name)?;
+        self.meaning(NameNo::Name(place))
+    }
+
+    /// What a type name means that has its number here.
+    pub(crate) fn of_type_name(&self, bound: &Bound, name: &str) -> Option<Option<TyNo>>
+        ensures { result ≡ type_name_kept bound.now self.now name.now }
+    {
+        let place = bound.type_names.number(name)?;
+        self.meaning(NameNo::TypeName(place))
+    }
+
+    /// What the name of a number means.
+    pub(crate) fn meaning(&self, name: NameNo) -> Option<Option<TyNo>>
+        ensures { result ≡ meant self.now name }
+    {
+        let entry = match name {
+            NameNo::Name(place) => self.names.get(place),
+            NameNo::TypeName(place) => self.type_names.get(place),
+        };
+        match entry {
+            Some(entry) => *entry,
+            None => None,
+        }
+    }
+
+    /// Behind a command that binds this name it had this entry.
+    pub(crate) fn rebind(&mut self, binds: Option<NameNo>, number: Option<TyNo>)
+        ensures set { (name : NameNo) → binds ≡ Some name → HasRoomFor name self.old → meant self.new name ≡ Some number }
+        ensures others { (name : NameNo) → (binds ≡ Some name → ⊥) → meant self.new name ≡ meant self.old name }
+        ensures room { (name : NameNo) → HasRoomFor name self.old → HasRoomFor name self.new }
+    {
+        match binds {
+            Some(NameNo::Name(place)) => set_entry(&mut self.names, place, number),
+            Some(NameNo::TypeName(place)) => set_entry(&mut self.type_names, place, number),
+            None => {}
+        }
+    }
+
+    /// So had the names that the commands of these pieces bind, behind them.
+    pub(crate) fn pass(&mut self, rows: &[Row])
+        ensures { IsPassedBy (rows_of rows.now) self.old self.new }
+    {
+        for i in 0..rows.len() {
+            if let Some(command) = &rows[i].command {
+                self.rebind(command.binds, command.found.bound());
+            }
+        }
+    }
+
+    /// Whether these names mean now what they meant.
+    pub(crate) fn agrees_on(&self, bound: &Bound, names: &[NameNo]) -> bool
+        ensures same { IsTrue result → (name : NameNo) → Contains names.now name → meant self.now name ≡ means bound.now name }
+        ensures other { IsFalse result → (name : NameNo) × Contains names.now name × (meant self.now name ≡ means bound.now name → ⊥) }
+    {
+        for i in 0..names.len() {
+            let name = names[i];
+            if self.meaning(name) != bound.meaning(name) {
+                return false;
+            }
+        }
+        true
+    }
+
+    /// Whether all names mean now what they meant; or it says no, which costs time alone.
+    pub(crate) fn is_now(&self, bound: &Bound) -> bool
+        ensures { IsTrue result → (name : NameNo) → HasRoomFor name self.now → meant self.now name ≡ means bound.now name }
+    {
+        begins_with(bound.names.entries(), &self.names)
+            && begins_with(bound.type_names.entries(), &self.type_names)
+    }
+}
+
+/// So many names are unbound.
+fn unbound(alloc: Global, count: usize) -> Result<Vec<Option<Option<TyNo>>>, AllocError>
+    ensures { IfOk result (λ made. made.items ≡ replicate count None) }
+{
+    let mut entries = Vec::with_capacity(alloc, count)?;
+    for _ in 0..count {
+        entries.push(None)?;
+    }
+    Ok(entries)
+}
+
+/// Keeps an entry under a number, if there is a place for it.
+fn set_entry(entries: &mut [Option<Option<TyNo>>], place: usize, number: Option<TyNo>)
+    ensures set { place < length entries.old → get_or entries.new place None ≡ Some number }
+    ensures others { (n : ℕ) → (n ≡ place → ⊥) → get_or entries.new n None ≡ get_or entries.old n None }
+    ensures len { length entries.new ≡ length entries.old }
+{
+    if place < entries.len() {
+        entries[place] = Some(number);
+    }
+}
+
+/// Whether entries begin with these.
+fn begins_with(entries: &[Option<Option<TyNo>>], first: &[Option<Option<TyNo>>]) -> bool
+    ensures { IsTrue result → (n : ℕ) → n < length first.now → get_or first.now n None ≡ get_or entries.now n None }
+{
+    if entries.len() < first.len() {
+        return false;
+    }
+    for i in 0..first.len() {
+        if entries[i] != first[i] {
+            return false;
+        }
+    }
+    true
+}

@@ -1,0 +1,35 @@
+//! The piece of an analysed text that a question is about.
+ghost use Rattle.std.specs.Prelude.{IfSome, ◌≡◌, None};
+ghost use Rattle.lam_query.specs.Analyses.{IsAnalysisOf};
+ghost use Rattle.lam_query.specs.inner.Around.{IsPieceAround};
+
+use crate::analyses::Analysis;
+use crate::rows::row_around;
+
+/// A piece in its text.
+#[derive(Clone, Copy)]
+pub(crate) struct PieceAt<'t> {
+    /// The piece itself, with the semicolon that ends it.
+    pub(crate) text: &'t str,
+    /// Its first byte in the whole text.
+    pub(crate) start: usize,
+    /// The number of its row.
+    pub(crate) number: usize,
+}
+
+impl Analysis {
+    /// The piece that has the byte at an offset. The last one has all offsets from its start on.
+    pub(crate) fn piece_around<'t>(&self, text: &'t str, offset: usize) -> Option<PieceAt<'t>>
+        requires { IsAnalysisOf text.now self.now }
+        ensures some { IfSome result (IsPieceAround text.now offset self.now) }
+        ensures found { result ≡ None → ⊥ }
+    {
+        let place = row_around(&self.rows, offset)?;
+        let end = place.start + self.rows[place.number].end;
+        Some(PieceAt {
+            text: &text[place.start..end],
+            start: place.start,
+            number: place.number,
+        })
+    }
+}
