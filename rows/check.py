@@ -68,6 +68,81 @@ DIAGNOSTIC = {
 STEPS = {"context": [], "steps": [{"from": [], "range": {"end": {"character": 1, "line": 0}, "start": {"character": 0, "line": 0}}, "rule": "T-Num", "type": "Nat"}]}
 
 
+# Each kind of term that can be to blame for the types of its parts, and what is told of it.
+WRONG = """f = lambda r:{x:Nat}. r.x;
+f {z=1};
+pred {};
+if 0 then 1 else 2;
+1 as {x:Nat};
+{b=true, a=1}.c;
+1 2;
+fix (lambda x:Nat. true);
+fix 1;
+letrec g:Nat->Nat = lambda x:Nat. true in g;
+nobody;
+{a=1, a=2};
+"""
+WRONGS = """a:2:1: error[E3]: argument does not fit the parameter
+f {z=1};
+^^^^^^^ expected {x:Nat}, found {z:Nat}
+a:3:1: error[E6]: operand is not Nat
+pred {};
+^^^^^^^ expected Nat, found {}
+a:4:1: error[E5]: condition is not Bool
+if 0 then 1 else 2;
+^^^^^^^^^^^^^^^^^^ expected Bool, found Nat
+a:5:1: error[E7]: term does not have the written type
+1 as {x:Nat};
+^^^^^^^^^^^^ expected {x:Nat}, found Nat
+a:6:1: error[E4]: no such field
+{b=true, a=1}.c;
+^^^^^^^^^^^^^^^ found {a:Nat, b:Bool}
+a:7:1: error[E2]: not a function
+1 2;
+^^^ found Nat
+a:8:1: error[E8]: fix needs a function whose result fits its parameter
+fix (lambda x:Nat. true);
+^^^^^^^^^^^^^^^^^^^^^^^^ expected Nat, found Bool
+a:9:1: error[E8]: fix needs a function whose result fits its parameter
+fix 1;
+^^^^^ found Nat
+a:10:21: error[E8]: fix needs a function whose result fits its parameter
+letrec g:Nat->Nat = lambda x:Nat. true in g;
+                    ^^^^^^^^^^^^^^^^^^ expected Nat->Nat, found Nat->Bool
+a:11:1: error[E1]: unbound name
+nobody;
+^^^^^^
+a:12:1: error[E9]: label used twice in a record
+{a=1, a=2};
+^^^^^^^^^^
+"""
+# A name and a type name that mean something else from command to command.
+SHADOWED = """a = true; T = Bool; succ a; a as {x:T}; a = unit; T = Unit; succ a; a as {x:T}"""
+SHADOWS = f"""a:1:21: error[E6]: operand is not Nat
+{SHADOWED}
+{" " * 20}^^^^^^ expected Nat, found Bool
+a:1:29: error[E7]: term does not have the written type
+{SHADOWED}
+{" " * 28}^^^^^^^^^^ expected {{x:Bool}}, found Bool
+a:1:61: error[E6]: operand is not Nat
+{SHADOWED}
+{" " * 60}^^^^^^ expected Nat, found Unit
+a:1:69: error[E7]: term does not have the written type
+{SHADOWED}
+{" " * 68}^^^^^^^^^^ expected {{x:Unit}}, found Unit
+"""
+# The last command but one has a type of 8,191 nodes, twice those of the one before it and one more, and the limit is 4,096.
+LARGE = "a0 = {a=0, b=0};\n" + "".join(f"a{n} = {{a=a{n - 1}, b=a{n - 1}}};\n" for n in range(1, 12)) + "succ true;\n"
+NOPE = """error: unexpected argument '--nope\ufffd[2J' found
+
+  tip: to pass '--nope\ufffd[2J' as a value, use '-- --nope\ufffd[2J'
+
+Usage: lam_check [OPTIONS] [FILE]...
+
+For more information, try '--help'.
+"""
+
+
 def line(value):
     """A line of JSON as the checker writes it."""
     return json.dumps(value, separators=(",", ":")) + "\n"
@@ -119,13 +194,16 @@ def refused(name, why):
 
 CASES = [
     Case("no fault", ["a"], {"a": POINT}, "", 0),
-    Case("a fault with its line", ["a"], {"a": NEXT}, "a:3:1: error[E3]: argument does not fit the parameter\nnext {name=true};\n^^^^^^^^^^^^^^^^\n", 1),
+    Case("a fault with its line", ["a"], {"a": NEXT}, "a:3:1: error[E3]: argument does not fit the parameter\nnext {name=true};\n^^^^^^^^^^^^^^^^ expected {x:Nat}, found {name:Bool}\n", 1),
     Case("a tab stays a tab under its text", ["a"], {"a": "\tx"}, "a:1:2: error[E1]: unbound name\n\tx\n\t^\n", 1),
     Case("columns count characters", ["a"], {"a": "größe = 0; 😀 x"}, "a:1:12: error[B1]: character not allowed\ngröße = 0; 😀 x\n           ^\n", 1),
     Case("CR, LF and CR LF end lines", ["a"], {"a": "a = 0;\rb = 0;\r\n\nx"}, "a:4:1: error[E1]: unbound name\nx\n^\n", 1),
-    Case("a mark ends with its line", ["a"], {"a": "succ\n  true"}, "a:1:1: error[E6]: operand is not Nat\nsucc\n^^^^\n", 1),
+    Case("a mark ends with its line", ["a"], {"a": "succ\n  true"}, "a:1:1: error[E6]: operand is not Nat\nsucc\n^^^^ expected Nat, found Bool\n", 1),
     Case("control characters are not sent to a terminal", ["a"], {"a": "\x1b[2J"}, "a:1:1: error[B1]: character not allowed\n\ufffd[2J\n^\na:1:2: error[B1]: character not allowed\n\ufffd[2J\n ^\n", 1),
-    Case("faults in the order of the text", ["a"], {"a": "y; succ true; x"}, "a:1:1: error[E1]: unbound name\ny; succ true; x\n^\na:1:4: error[E6]: operand is not Nat\ny; succ true; x\n   ^^^^^^^^^\na:1:15: error[E1]: unbound name\ny; succ true; x\n              ^\n", 1),
+    Case("faults in the order of the text", ["a"], {"a": "y; succ true; x"}, "a:1:1: error[E1]: unbound name\ny; succ true; x\n^\na:1:4: error[E6]: operand is not Nat\ny; succ true; x\n   ^^^^^^^^^ expected Nat, found Bool\na:1:15: error[E1]: unbound name\ny; succ true; x\n              ^\n", 1),
+    Case("what was expected and what was found", ["a"], {"a": WRONG}, WRONGS, 1),
+    Case("expected and found where names have changed their types", ["a"], {"a": SHADOWED}, SHADOWS, 1),
+    Case("no more is told of a fault beside a type that is too large", ["a"], {"a": LARGE}, "a:12:7: error[L1]: type of more than 4096 nodes\na11 = {a=a10, b=a10};\n      ^^^^^^^^^^^^^^\n", 1),
     Case("standard input", [], {}, "<stdin>:1:1: error[E1]: unbound name\nx\n^\n", 1, given=b"x"),
     Case("standard input by its name", ["-"], {}, "<stdin>:1:1: error[E1]: unbound name\nx\n^\n", 1, given=b"x"),
     Case("the second dialect", ["--dialect", "2", "a"], {"a": "succ true"}, "", 0),
@@ -135,7 +213,7 @@ CASES = [
     Case("more than 64 MiB", ["a"], {"a": b" " * ((1 << 26) + 1)}, "", 4, refused("a", "it has more than 64 MiB")),
     Case("a NUL", ["a"], {"a": "a = 0;\0"}, "a:1:7: error[B1]: character not allowed\na = 0;\ufffd\n      ^\n", 1),
     Case("types", ["--types", "a"], {"a": CALL + "P = {b:Bool, a:Nat}; n : P;"}, "point : {name:Bool, x:Nat}\nnext : {x:Nat}->Nat\nNat\nP :: {a:Nat, b:Bool}\nn : {a:Nat, b:Bool}\n", 0),
-    Case("faults before types", ["--types", "a"], {"a": "succ true; a = 0"}, "a:1:1: error[E6]: operand is not Nat\nsucc true; a = 0\n^^^^^^^^^\na : Nat\n", 1),
+    Case("faults before types", ["--types", "a"], {"a": "succ true; a = 0"}, "a:1:1: error[E6]: operand is not Nat\nsucc true; a = 0\n^^^^^^^^^ expected Nat, found Bool\na : Nat\n", 1),
     Case("a derivation", ["--why", "3:1", "a"], {"a": CALL.replace("next point;", " next point;")}, "", 1, refused("a", "no term with a type is there")),
     Case("a derivation as a tree", ["--why", "3:5", "a"], {"a": CALL}, TREE, 0),
     Case("a derivation in LaTeX", ["--why", "1:1", "--latex", "a"], {"a": "{a=0}"}, LATEX, 0),
@@ -175,6 +253,7 @@ CASES = [
     Case("a text of nothing", ["--of", "a", "a"], {"a": "0"}, "", 2, None),
     Case("no such option", ["--nope"], {}, "", 2, None),
     Case("no place", ["--why", "1", "a"], {"a": "0"}, "", 2, "error: --why takes a line and a column, both from 1, as 3:14\n"),
+    Case("control characters in a wrong option", ["--nope\x1b[2J"], {}, "", 2, NOPE),
     Case("LaTeX and HTML", ["--latex", "--html", "--why", "1:1", "a"], {"a": "0"}, "", 2, None),
     Case("JSON and HTML", ["--json", "--html", "--why", "1:1", "a"], {"a": "0"}, "", 2, None),
 ]

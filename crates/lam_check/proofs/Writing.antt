@@ -1,5 +1,5 @@
 -- Texts that are written piece by piece.
-use Rattle.std.proofs.Common.{◌≡◌, ℕ, zero, suc, ◌+◌, ◌-◌, ◌<◌, ◌≤◌, List, [], ◌∷◌, ◌++◌, length, take, drop, map, flat_map, get_or, refl, ap, sym, ◌∙◌, arith, add-one, replicate, encode_utf8, encode_utf8_all}
+use Rattle.std.proofs.Common.{◌≡◌, ℕ, zero, suc, ◌+◌, ◌-◌, ◌<◌, ◌≤◌, List, [], ◌∷◌, ◌++◌, length, take, drop, map, flat_map, get_or, refl, ap, sym, ◌∙◌, arith, add-one, replicate, encode_utf8, encode_utf8_all, Result, Ok, Err, OnOk}
 use Rattle.std.specs.List.{repeat}
 use Rattle.std.proofs.lemmas.List.{drop_more, drop_all, append_assoc, append-nil, replicate-append-replicate}
 
@@ -66,3 +66,8 @@ repeat_more n text = rw (add-one n) (go n)
     go : (n : ℕ) → repeat (suc n) text ≡ repeat n text ++ text
     go zero = append-nil text
     go (suc n) = ap (λ rest. text ++ rest) (go n) ∙ sym (append_assoc text (repeat n text) text)
+
+-- two texts behind another, if the second one could be written
+pub two_written : {T E : Type 0} (r : Result T E) (old mid now first second : List ℕ) → mid ≡ old ++ first → OnOk r (now ≡ mid ++ second) → OnOk r (now ≡ old ++ (first ++ second))
+two_written (Ok u) old mid now first second is more = more ∙ ap (λ text. text ++ second) is ∙ append_assoc old first second
+two_written (Err e) old mid now first second is more = tt

@@ -122,12 +122,22 @@ fn start<R: AllocGlobal + Files + Input + Print + Eprint>(
             let _ = print!(rt; "{text}");
             FAULTLESS
         }
-        Err(ArgsFault::Usage(text)) => {
-            let _ = eprint!(rt; "{text}");
-            USAGE
-        }
+        Err(ArgsFault::Usage(text)) => refuse_words(rt, text.as_str()),
         Err(ArgsFault::Memory) => want_of_memory(rt),
     }
+}
+
+/// Says what is wrong with the words, of which no control character is shown. The status to end with.
+fn refuse_words<R: AllocGlobal + Eprint>(rt: &R, text: &str) -> u8 {
+    for line in text.lines() {
+        match shown_line(rt.alloc(), line) {
+            Ok(shown) => {
+                let _ = eprintln!(rt; "{shown}");
+            }
+            Err(_) => return want_of_memory(rt),
+        }
+    }
+    USAGE
 }
 
 /// Checks one file after the other. The status to end with.

@@ -1,17 +1,17 @@
 //! What is wrong with a text and where, as a person reads it.
-ghost use Rattle.std.specs.Prelude.{◌≡◌, ◌+◌, ◌++◌, ◌^◌, ◌<◌, ◌-◌, ℕ, List, [], ◌∷◌, flat_map, map, codes, decimal, length, All, IfOk, OnOk, string_bytes};
+ghost use Rattle.std.specs.Prelude.{◌≡◌, ◌+◌, ◌++◌, ◌^◌, ◌<◌, ◌-◌, flat_map, map, codes, decimal, length, All, IfOk, OnOk, string_bytes, option_map};
 ghost use Rattle.lam_text.specs.declared.units.Encoding.{Encoding};
-ghost use Rattle.lam_query.specs.Views.{fault_of};
+ghost use Rattle.lam_query.specs.Views.{explained_of, mismatch_of};
 ghost use Rattle.lam_query.specs.Within.{IsSpanOfText};
 ghost use Rattle.lam_check.specs.Lines.{line_of};
 ghost use Rattle.lam_check.specs.Paints.{painted};
 ghost use Rattle.std.specs.Str.{IsCharBoundary};
-ghost use Rattle.lam_check.specs.Reports.{IsReport, place_of, place_text, head, excerpt, between, fault_report, last_column, width};
+ghost use Rattle.lam_check.specs.Reports.{IsReport, place_of, place_text, head, excerpt, mismatch_text, marked, between, fault_report, last_column, width};
 
 use crate::lines::{line_of, push_blanks, push_marks, push_shown};
 use crate::paint::Paint;
-use lam_query::answers::Fault;
-use lam_query::faults;
+use lam_query::answers::{ExplainedFault, Fault, Mismatch};
+use lam_query::explained_faults;
 use lam_rules::Dialect;
 use lam_session::values::message_of;
 use lam_text::{Doc, Encoding, Position};
@@ -35,7 +35,7 @@ pub fn report(
 ) -> Result<Checked, AllocError>
     ensures { IfOk result (λ r. IsReport paint name.now text.now dialect (string_bytes r.report) r.count) }
 {
-    let found = faults(alloc, text, dialect)?;
+    let found = explained_faults(alloc, text, dialect)?;
     let doc = Doc::new(alloc, text, Encoding::Utf32)?;
     let mut out = String::new(alloc);
     push_faults(&mut out, name, &doc, &found, paint)?;
@@ -49,15 +49,15 @@ fn push_faults(
     out: &mut String,
     name: &str,
     doc: &Doc,
-    faults: &[Fault],
+    faults: &[ExplainedFault],
     paint: Paint,
 ) -> Result<(), AllocError>
     requires encoding { doc.now.encoding ≡ Encoding.Utf32 }
-    requires whole_characters { All (λ f. IsSpanOfText doc.now.text f.span) faults.now }
-    ensures { OnOk result (string_bytes out.new ≡ string_bytes out.old ++ flat_map (fault_report paint name.now doc.now.text) (map fault_of faults.now)) }
+    requires whole_characters { All (λ e. IsSpanOfText doc.now.text e.fault.span) faults.now }
+    ensures { OnOk result (string_bytes out.new ≡ string_bytes out.old ++ flat_map (fault_report paint name.now doc.now.text) (map explained_of faults.now)) }
 {
-    for fault in faults {
-        push_fault(out, name, doc, fault, paint)?;
+    for explained in faults {
+        push_fault(out, name, doc, &explained.fault, &explained.mismatch, paint)?;
     }
     Ok(())
 }
@@ -67,18 +67,47 @@ fn push_fault(
     name: &str,
     doc: &Doc,
     fault: &Fault,
+    mismatch: &Option<Mismatch>,
     paint: Paint,
 ) -> Result<(), AllocError>
     requires encoding { doc.now.encoding ≡ Encoding.Utf32 }
     requires whole_characters { IsSpanOfText doc.now.text fault.now.span }
-    ensures { OnOk result (string_bytes out.new ≡ string_bytes out.old ++ fault_report paint name.now doc.now.text (fault_of fault.now)) }
+    ensures { OnOk result (string_bytes out.new ≡ string_bytes out.old ++ between paint name.now doc.now.text fault.now.code.now (place_of doc.now.text fault.now.span.start) (place_of doc.now.text fault.now.span.end) (option_map mismatch_of mismatch.now)) }
 {
     let start = place_of(doc, fault.span.start);
     let end = place_of(doc, fault.span.end);
     push_head(out, name, fault.code, start, paint)?;
     out.push_str("\n")?;
-    push_excerpt(out, line_of(doc, start.line), start, end, paint)?;
+    push_marked(out, line_of(doc, start.line), start, end, paint, mismatch)?;
     out.push_str("\n")
+}
+
+/// The line where a fault starts, the mark under it, and what is told behind the mark.
+fn push_marked(
+    out: &mut String,
+    line: &str,
+    start: Position,
+    end: Position,
+    paint: Paint,
+    mismatch: &Option<Mismatch>,
+) -> Result<(), AllocError>
+    ensures { OnOk result (string_bytes out.new ≡ string_bytes out.old ++ marked paint line.now start end (option_map mismatch_of mismatch.now)) }
+{
+    push_excerpt(out, line, start, end, paint)?;
+    push_mismatch(out, mismatch)
+}
+
+/// What was asked for and what was found, behind the mark.
+fn push_mismatch(out: &mut String, mismatch: &Option<Mismatch>) -> Result<(), AllocError>
+    ensures { OnOk result (string_bytes out.new ≡ string_bytes out.old ++ mismatch_text (option_map mismatch_of mismatch.now)) }
+{
+    match mismatch {
+        Some(Mismatch::Expected { expected, found }) => {
+            write!(out, " expected {expected}, found {found}")
+        }
+        Some(Mismatch::Found(found)) => write!(out, " found {found}"),
+        None => Ok(()),
+    }
 }
 
 /// Where the character at an offset stands.
