@@ -139,8 +139,7 @@ pub(crate) fn span_after(bytes: usize, span: Span) -> Span
     }
 }
 
-/// Returns the piece that contains an offset, or `None` if there are no rows. The last piece contains every offset from its start
-/// on.
+/// Returns the piece around an offset, or `None` if there are no rows. The last piece covers every offset from its start on.
 pub(crate) fn row_around(rows: &[Row], offset: usize) -> Option<PlacedRow>
     requires { bytes_of (rows_of rows.now) < 2 ^ 64 }
     ensures some { IfSome result (λ place. (text : List ℕ) (f : Front) (ts : List Typ) (d : Dialect) → AreRowsFrom text nothing (placed 0 (rows_of rows.now)) f ts d → f.end ≡ length text → IsRowAround text offset (placed 0 (rows_of rows.now)) place ts d) }
