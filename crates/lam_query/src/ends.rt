@@ -36,7 +36,7 @@ pub(crate) fn common_end(old: &str, new: &str) -> usize
     end_from(old, new, end)
 }
 
-/// The length of the common suffix, of which the first `known` bytes from the end are known to be equal.
+/// The length of the common suffix, of which `known` bytes are already known.
 fn end_from(old: &[u8], new: &[u8], known: usize) -> usize
     requires in_old { known ≤ length old.now }
     requires in_new { known ≤ length new.now }

@@ -33,7 +33,7 @@ pub(crate) fn common_front(old: &str, new: &str) -> usize
     front_from(old, new, front)
 }
 
-/// The length of the common prefix, of which the first `known` bytes are known to be equal.
+/// The length of the common prefix, of which `known` bytes are already known.
 fn front_from(old: &[u8], new: &[u8], known: usize) -> usize
     requires in_old { known ≤ length old.now }
     requires in_new { known ≤ length new.now }

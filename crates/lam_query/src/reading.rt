@@ -189,8 +189,8 @@ impl<'t> Reader<'t> {
         Ok(())
     }
 
-    /// Adds the next token of the piece, unless it is a word that the cursor touches or has the cursor inside. Before the first
-    /// one after the cursor adds the name, and returns whether the name has been added by now.
+    /// Adds the next token of the piece, unless it is a word that the cursor touches or has the cursor inside. Adds the name
+    /// before the first token after the cursor, and returns whether the name has been added by now.
     fn push_around(
         &mut self,
         token: Token<'t>,
