@@ -1,4 +1,4 @@
--- The specification values that the answers of the code stand for.
+-- What the answers of the code denote.
 use Rattle.std.specs.Prelude.{ℕ, List, map, Option, String, string_bytes, option_map}
 use Rattle.std.specs.declared.alloc.Global.{Global}
 use Rattle.lam_rules.specs.TypeViews.{typ_of}
