@@ -54,7 +54,7 @@ between paint name text code start end mismatch =
 abbrev pub fault_report : Paint → (name : Text) → (text : List ℕ) → ExplainedFault → Text
 fault_report paint name text e = between paint name text e.fault.code (place_of text e.fault.span.start) (place_of text e.fault.span.end) e.mismatch
 
--- The report on a text with this name: exactly its diagnostics, in order, each at its line and column and with the types that explain it; and their number.
+-- The report on a text with this name: exactly its diagnostics, in order, each at its line and column and with the expected and found types, if any; and their number.
 pub record IsReport (paint : Paint) (name : Text) (text : List ℕ) (d : Dialect) (report : Text) (count : ℕ) : Type 0 where
   pub faults : List ExplainedFault
   pub are_faults : AreExplained text faults d

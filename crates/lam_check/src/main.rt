@@ -1,6 +1,6 @@
-//! The command-line checker: the diagnostics, types and derivations that the language server reports, without an editor.
+//! The command-line checker: prints the diagnostics, types and derivations of texts without an editor, and verifies derivations.
 //!
-//! `reports::report` prints the diagnostics of a text, and its contract defines that report. Nothing here deals with LSP
+//! `reports::report` produces the diagnostics of a text, and its contract defines that report. Nothing here deals with LSP
 //! messages, sessions or clients.
 #![tactic(auto)]
 

@@ -1,4 +1,4 @@
--- The model of a session's field. For its model alone.
+-- The model of `Session`.
 use Rattle.std.specs.Prelude.{◌≡◌, true, false, None}
 use Rattle.lam_rules.specs.declared.rules.Dialect.TheVariants.{One}
 use Rattle.lam_session.specs.declared.session.Course.{Course}

@@ -1,4 +1,4 @@
--- The model of the map of open documents. For its model alone.
+-- The model of the map of open documents.
 use Rattle.std.specs.Prelude.{◌≡◌, true, List, map, String, string_bytes}
 use Rattle.std.specs.List.{AllByRecursion}
 use Rattle.std.specs.declared.alloc.Global.{Global}

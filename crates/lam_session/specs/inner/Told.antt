@@ -14,7 +14,7 @@ pub record IsChangeIn (s : State) (params : Data) (change : ToldChange) : Type 0
   pub given : change.version ≡ given_version params
   pub is_open : IsSome (open_text (string_bytes change.uri) s.documents)
 
--- the change in the params; `None` if they are to be ignored
+-- the change in the params; `None` if the notification is to be ignored
 abbrev pub IsTold : State → Data → Option ToldChange → Type 0
 IsTold s params None = Changes s params [] s
 IsTold s params (Some change) = IsChangeIn s params change
