@@ -19,15 +19,15 @@ pub const INPUT: &str = "-";
 
 static INPUT_ALONE: [&str; 1] = [INPUT];
 
-const ABOUT: &str = "Checks texts in the typed lambda calculus with records and subtyping: \
-    shows each error with its line and column.";
+const ABOUT: &str = "Checks files in the typed lambda calculus with records and subtyping: \
+    reports each error with its line and column.";
 
 const LATEX: &str = "Draws the tree in LaTeX, with the package bussproofs";
 
-const HTML: &str = "Draws the tree in HTML, in parts that fold";
+const HTML: &str = "Draws the tree in HTML, with parts that can be folded";
 
-const STATUSES: &str = "Exit status: 0 without an error in a file, 1 with one, 2 on a usage error, \
-    4 if a file cannot be read or the output cannot be written, 5 when it runs out of memory.";
+const STATUSES: &str = "Exit status: 0 if no file has an error, 1 if one has, 2 on a usage error, \
+    4 if a file cannot be read or the output cannot be written, 5 if memory runs out.";
 
 /// The parsed arguments.
 #[derive(Clone, Copy, Debug)]
@@ -181,7 +181,7 @@ fn dialect<'a>(alloc: Global) -> Arg<'a> {
         .value_name("DIALECT")
         .value_parser(DIALECTS.as_slice())
         .default_value("1")
-        .help("The subtyping rules: 1 for the book's, 2 for these and Bool below Nat")
+        .help("Subtyping rules: 1 for the book's, 2 adds Bool <: Nat")
 }
 
 fn types<'a>(alloc: Global) -> Arg<'a> {
@@ -195,7 +195,7 @@ fn why<'a>(alloc: Global) -> Arg<'a> {
     Arg::new(alloc, "why")
         .long("why")
         .value_name("LINE:COLUMN")
-        .help("Shows why the innermost term there has its type, as a tree")
+        .help("Draws a derivation of the type of the innermost term there, as a tree")
 }
 
 /// An option that selects the form of the tree.
@@ -211,7 +211,7 @@ fn json<'a>(alloc: Global) -> Result<Arg<'a>, AllocError> {
     let json = Arg::new(alloc, "json")
         .long("json")
         .action(ArgAction::SetTrue)
-        .help("Writes a line of JSON for each file, in the shapes of the language server");
+        .help("Writes one line of JSON per file, in the language server's format");
     let json = json.conflicts_with("types")?;
     let json = json.conflicts_with("latex")?;
     json.conflicts_with("html")
@@ -221,7 +221,7 @@ fn verify<'a>(alloc: Global) -> Result<Arg<'a>, AllocError> {
     let verify = Arg::new(alloc, "verify")
         .long("verify")
         .action(ArgAction::SetTrue)
-        .help("Checks derivations that the files have as JSON, as --json --why writes them");
+        .help("Checks derivations read from the files as JSON, as written by --json --why");
     let verify = verify.conflicts_with("types")?;
     let verify = verify.conflicts_with("why")?;
     verify.conflicts_with("json")
@@ -229,7 +229,7 @@ fn verify<'a>(alloc: Global) -> Result<Arg<'a>, AllocError> {
 
 fn of<'a>(alloc: Global) -> Result<Arg<'a>, AllocError> {
     let of = Arg::new(alloc, "of").long("of").value_name("SOURCE").help(
-        "The file that the derivations are of, where they name none or another",
+        "The text that the derivations are about, if they name none or another",
     );
     of.requires_arg("verify")
 }
@@ -238,7 +238,7 @@ fn files<'a>(alloc: Global) -> Arg<'a> {
     Arg::new(alloc, "FILE")
         .num_args(0..)
         .action(ArgAction::Append)
-        .help("The files to check; standard input where none is named, or for -")
+        .help("The files to check; standard input if none is named, or for -")
 }
 
 /// Converts an error of the parser. If allocation failed, its text may be cut short, so the kind is examined first.

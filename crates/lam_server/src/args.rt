@@ -25,8 +25,8 @@ const ABOUT: &str = "A language server for the typed lambda calculus with record
     It speaks LSP 3.17 on standard input and output.";
 
 const STATUSES: &str = "Exit status: 0 after shutdown and exit, 1 if the input ends without them, \
-    2 on a usage error, 3 if the input is not made of frames, 4 if reading or writing fails, 5 when \
-    it runs out of memory.";
+    2 on a usage error, 3 if the input is not a sequence of frames, 4 if reading or writing fails, \
+    5 if memory runs out.";
 
 /// Why the arguments start no run.
 #[derive(Debug, Drop, FaultError)]
@@ -100,7 +100,7 @@ fn stdio<'a>(alloc: Global) -> Arg<'a>
     Arg::new(alloc, "stdio")
         .long("stdio")
         .action(ArgAction::SetTrue)
-        .help("Speak on standard input and output, as is done in any case")
+        .help("Use standard input and output (always the case)")
 }
 
 fn client<'a>(alloc: Global) -> Arg<'a>
@@ -110,7 +110,7 @@ fn client<'a>(alloc: Global) -> Arg<'a>
     Arg::new(alloc, "clientProcessId")
         .long("clientProcessId")
         .value_name("TEXT")
-        .help("Accepted without effect")
+        .help("Accepted and ignored")
 }
 
 fn dialect<'a>(alloc: Global) -> Arg<'a>
@@ -122,7 +122,7 @@ fn dialect<'a>(alloc: Global) -> Arg<'a>
         .value_name("DIALECT")
         .value_parser(DIALECTS.as_slice())
         .default_value("1")
-        .help("The subtyping rules: 1 for the book's, 2 for these and Bool below Nat")
+        .help("Subtyping rules: 1 for the book's, 2 adds Bool <: Nat")
 }
 
 /// Converts an error of the parser. If allocation failed, its text may be cut short, so the kind is examined first.
