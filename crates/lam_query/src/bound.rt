@@ -207,7 +207,7 @@ impl Meanings {
     }
 
     /// What is bound for the name of a number.
-    fn under(&self, place: usize) -> Option<Option<TyNo>>
+    pub(crate) fn under(&self, place: usize) -> Option<Option<TyNo>>
         ensures { result ≡ kept_under self.now place }
     {
         match self.entries.get(place) {
