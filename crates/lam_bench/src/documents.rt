@@ -1,4 +1,4 @@
-//! Documents of many commands, to bind, to resolve, to analyse and to find places in.
+//! Documents of many commands for binding, resolution, analysis and look-up by offset.
 
 use crate::fault::BenchFault;
 use crate::watch::Watch;
@@ -11,32 +11,32 @@ use std::alloc::{AllocError, Global};
 use std::rt::Clock;
 use std::time::Duration;
 
-/// What the commands of a document use.
+/// What each command of a document refers to.
 #[derive(Clone, Copy)]
 pub enum Uses {
-    /// Each the command before it.
+    /// The command before it.
     Chain,
-    /// Each the first command.
+    /// The first command.
     First,
-    /// Each an abbreviation of 4,095 nodes, which is copied there.
+    /// An abbreviation of 4,095 nodes, which is copied into it.
     Abbreviation,
-    /// Each the command before it at both labels of a record, so that its type is twice as large.
+    /// The command before it, at both labels of a record, so that its type is twice as large.
     Doubled,
 }
 
-/// So many places are asked for in one measure.
+/// The number of look-ups in one measurement.
 const PLACES: usize = 100_000;
 
-/// A number, and abbreviations that double, up to one of 4,095 nodes.
+/// A number, and abbreviations that double in size, up to one of 4,095 nodes.
 const ABBREVIATIONS: &str = "x0 = 0; T0 = {a:Nat, b:Nat}; T1 = {a:T0, b:T0}; T2 = {a:T1, b:T1}; \
     T3 = {a:T2, b:T2}; T4 = {a:T3, b:T3}; T5 = {a:T4, b:T4}; T6 = {a:T5, b:T5}; \
     T7 = {a:T6, b:T6}; T8 = {a:T7, b:T7}; T9 = {a:T8, b:T8}; T10 = {a:T9, b:T9}; ";
 
-/// The record of `x11`, the first of the doubled ones with a type of over 4,096 nodes. Each command
-/// has three places, and that of the record comes behind those of its two fields.
+/// The record of `x11`, the first of the doubled ones whose type has more than 4,096 nodes. Each command has three subterms, and
+/// the id of the record comes after those of its two fields.
 const FIRST_LARGE: Place = Place(35);
 
-/// What stands before the commands.
+/// What comes before the commands.
 fn head(uses: Uses) -> &'static str {
     match uses {
         Uses::Chain | Uses::First => "x0 = 0; ",
@@ -45,7 +45,7 @@ fn head(uses: Uses) -> &'static str {
     }
 }
 
-/// The command of this number.
+/// The command with this number.
 fn command(alloc: Global, uses: Uses, number: usize) -> Result<String, AllocError> {
     let next = number.wrapping_add(1);
     match uses {
@@ -56,7 +56,7 @@ fn command(alloc: Global, uses: Uses, number: usize) -> Result<String, AllocErro
     }
 }
 
-/// The text of a document of so many commands.
+/// Returns the text of a document with this many commands.
 pub fn document(alloc: Global, uses: Uses, size: usize) -> Result<String, AllocError> {
     let mut text = String::from_str(alloc, head(uses))?;
     for number in 0..size {
@@ -65,7 +65,7 @@ pub fn document(alloc: Global, uses: Uses, size: usize) -> Result<String, AllocE
     Ok(text)
 }
 
-/// The commands of a document.
+/// Parses the commands of a document.
 fn commands_of(alloc: Global, text: &str) -> Result<Vec<Command>, BenchFault> {
     let tokens = lex(alloc, text)?;
     let parts = pieces(alloc, tokens.as_slice())?;
@@ -91,18 +91,18 @@ fn add(commands: &mut Vec<Command>, command: Command) -> Result<(), AllocError> 
     Ok(commands.push(command)?)
 }
 
-/// What is timed of a document.
+/// The operation that is timed on a document.
 #[derive(Clone, Copy)]
 pub enum Stage {
     Bind,
     Resolve,
-    /// The least types of all places, or that one of them is too large.
+    /// The least types of all subterms, or that the type of one is over the size limit.
     Analyse,
-    /// The places of a hundred thousand bytes, scattered over the text.
+    /// Look-up of the subterms at a hundred thousand offsets, scattered over the text.
     Places,
 }
 
-/// How long a stage takes of a document of so many commands.
+/// Returns the time that a stage takes on a document of this many commands.
 pub fn staging(
     alloc: Global,
     clock: &impl Clock,
@@ -160,7 +160,7 @@ fn analysing(
     watch.stop(clock, is_analysed(&analysed))
 }
 
-/// Whether all places have types, or just that one has too large a type which must.
+/// Whether all subterms have types, or exactly the expected one has a type over the size limit.
 fn is_analysed(analysed: &Result<Typing, TypingFault>) -> bool {
     match analysed {
         Ok(typing) => typing.blamed().is_empty(),
@@ -181,7 +181,7 @@ fn finding(
     watch.stop(clock, found > 0)
 }
 
-/// At how many of the bytes there is a place.
+/// The number of offsets at which there is a subterm.
 fn places_found(scopes: &Scopes, length: usize) -> u64 {
     let mut found = 0u64;
     for number in 0..PLACES {

@@ -1,4 +1,4 @@
-//! What keeps a figure from being taken.
+//! Errors of a measurement.
 
 use lam_frame::FrameFault;
 use std::alloc::AllocError;
@@ -6,13 +6,13 @@ use std::io;
 
 #[derive(Clone, Copy, Debug)]
 pub enum BenchFault {
-    /// The words name no measure, or no size.
+    /// The arguments name no measure or no size.
     Words,
-    /// The measure gave another answer than it must.
+    /// The measured operation gave a wrong result.
     Answer,
     Memory,
     Frame,
-    /// The words, the clock or standard error failed.
+    /// The arguments, the clock or standard error failed.
     Io,
 }
 

@@ -1,4 +1,4 @@
-//! Frames to read, and a source of pieces.
+//! Reading of frames that arrive in pieces.
 
 use crate::fault::BenchFault;
 use crate::watch::Watch;
@@ -7,7 +7,7 @@ use std::alloc::Global;
 use std::rt::Clock;
 use std::time::Duration;
 
-/// Gives at most `step` bytes a pull.
+/// A source that yields at most `step` bytes per pull.
 #[derive(Drop)]
 struct Pieces<'a> {
     rest: &'a [u8],
@@ -40,7 +40,7 @@ fn frame(alloc: Global, size: usize) -> Result<BytesOut, BenchFault> {
     Ok(frame)
 }
 
-/// So many frames with bodies of `size` bytes.
+/// This many frames with bodies of `size` bytes.
 fn frames(alloc: Global, size: usize, count: usize) -> Result<Vec<u8>, BenchFault> {
     let frame = frame(alloc, size)?;
     let mut input = Vec::new(alloc);
@@ -50,7 +50,7 @@ fn frames(alloc: Global, size: usize, count: usize) -> Result<Vec<u8>, BenchFaul
     Ok(input)
 }
 
-/// How long it takes to read so many bodies of `size` bytes, pulled in pieces of `step` bytes.
+/// Returns the time it takes to read this many bodies of `size` bytes, pulled in pieces of `step` bytes.
 pub fn reading(
     alloc: Global,
     clock: &impl Clock,
@@ -64,7 +64,7 @@ pub fn reading(
     watch.stop(clock, true)
 }
 
-/// Reads this many bodies and then the clean end.
+/// Reads this many bodies and then the end of the input.
 fn read_all(alloc: Global, input: &[u8], step: usize, count: usize) -> Result<(), BenchFault> {
     let mut source = Pieces { rest: input, step };
     let mut reader = FrameReader::new(alloc)?;
@@ -74,7 +74,7 @@ fn read_all(alloc: Global, input: &[u8], step: usize, count: usize) -> Result<()
     read_one(&mut reader, &mut source, false)
 }
 
-/// Reads a body where one is due, and else the clean end.
+/// Reads a body if one is due, or else the end of the input.
 fn read_one(
     reader: &mut FrameReader,
     source: &mut Pieces<'_>,

@@ -1,4 +1,4 @@
-//! What can stand at the end of a document of many commands.
+//! Completion at the end of a document of many commands.
 
 use crate::documents::{Uses, document};
 use crate::fault::BenchFault;
@@ -10,25 +10,25 @@ use std::alloc::{AllocError, Global};
 use std::rt::Clock;
 use std::time::Duration;
 
-/// Where the cursor is.
+/// The location of the cursor.
 #[derive(Clone, Copy)]
 pub enum Cursor {
-    /// Behind the dot of a projection from a record of two fields.
+    /// After the dot of a projection from a record of two fields.
     Dot,
-    /// On a variable that sees the name of each command.
+    /// At a variable with the names of all commands in scope.
     Variable,
 }
 
-/// Who is asked.
+/// What computes the completions.
 #[derive(Clone, Copy)]
 pub enum Asked {
-    /// An analysis of the document that was made before.
+    /// An existing analysis of the document.
     Analysis,
-    /// The free call, which makes one.
+    /// The free function, which analyses the text.
     Text,
 }
 
-/// How long it takes to list what can stand there, in a document of so many commands.
+/// Returns the time that completion takes in a document of this many commands.
 pub fn listing(
     alloc: Global,
     clock: &impl Clock,
@@ -46,7 +46,7 @@ pub fn listing(
     }
 }
 
-/// What stands behind the other commands.
+/// What follows the other commands.
 fn last_commands(cursor: Cursor) -> &'static str {
     match cursor {
         Cursor::Dot => "r = {a=0, b=0}; s = r.a;",
@@ -54,7 +54,7 @@ fn last_commands(cursor: Cursor) -> &'static str {
     }
 }
 
-/// How many bytes stand behind the cursor.
+/// The number of bytes after the cursor.
 fn bytes_behind(cursor: Cursor) -> usize {
     match cursor {
         Cursor::Dot => 2,

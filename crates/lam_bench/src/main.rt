@@ -1,6 +1,5 @@
-//! Figures about the libraries: `lam_bench MEASURE SIZE` makes its input, takes the time by the
-//! runtime's clock and writes it to standard error. Without words it takes each measure once at a
-//! small size and writes nothing.
+//! Benchmarks of the libraries: `lam_bench MEASURE SIZE` builds its input, takes the time with the runtime's clock, and writes it
+//! to standard error. With fewer than two arguments it runs each measure once at a small size and writes nothing.
 #![tactic(auto)]
 
 mod documents;

@@ -1,4 +1,4 @@
-//! The measures, by their names.
+//! The measures by name.
 
 use crate::documents::{Stage, Uses, staging};
 use crate::fault::BenchFault;
@@ -10,15 +10,15 @@ use std::alloc::Global;
 use std::rt::Clock;
 use std::time::Duration;
 
-/// At this length a source gives all that there is in one pull.
+/// A piece size at which a source yields all its bytes in one pull.
 const WHOLE: usize = usize::MAX;
 
-/// A frame has 22 bytes of header part in front of a body of so many.
+/// The body size of a frame of 60 bytes, whose header part has 22.
 const SMALL_BODY: usize = 38;
 
 #[derive(Clone, Copy)]
 pub enum Measure {
-    /// One frame with a body of SIZE bytes, pulled in pieces of so many.
+    /// One frame with a body of SIZE bytes, pulled in pieces of this many.
     OneFrame(usize),
     /// SIZE frames of 60 bytes each.
     SmallFrames,
@@ -30,11 +30,11 @@ pub enum Measure {
     Bounds,
     /// A document of SIZE commands.
     Document(Stage, Uses),
-    /// What can stand in a document of SIZE commands.
+    /// Completion in a document of SIZE commands.
     List(Cursor, Asked),
 }
 
-/// All measures, by their names on the command line.
+/// All measures by their names on the command line.
 pub static MEASURES: [(&str, Measure); 26] = [
     ("whole-body", Measure::OneFrame(WHOLE)),
     ("body-by-bytes", Measure::OneFrame(1)),
@@ -88,7 +88,7 @@ pub static MEASURES: [(&str, Measure); 26] = [
     ),
 ];
 
-/// The measure that is called so.
+/// Returns the measure with this name.
 pub fn measure_named(name: &str) -> Option<Measure> {
     for (known, measure) in MEASURES.as_slice() {
         if name == *known {
@@ -99,7 +99,7 @@ pub fn measure_named(name: &str) -> Option<Measure> {
 }
 
 impl Measure {
-    /// How long it takes at this size.
+    /// Returns the time that the measure takes at this size.
     pub fn take(
         self,
         alloc: Global,

@@ -1,4 +1,4 @@
-//! Texts to open, to edit and to count in, in UTF-16.
+//! Texts to open, to edit and to convert positions in, with UTF-16 columns.
 
 use crate::fault::BenchFault;
 use crate::watch::Watch;
@@ -9,31 +9,31 @@ use std::time::Duration;
 
 const LINE_BYTES: usize = 64;
 
-/// A line of 64 bytes, each of them a character.
+/// A line of 64 bytes, all ASCII.
 pub const ASCII: &str = "total = succ (size {left=0, right=true, name=unit}) /* sums */;\n";
 
-/// A line of 64 bytes, some of them in characters of two.
+/// A line of 64 bytes, some of them in two-byte characters.
 pub const UMLAUTS: &str = "größe = succ (maß {länge=0, höhe=true, ä=unit}) /* ß */;\n";
 
-/// The unit that the positions ask for in a line.
+/// The column of all positions.
 const COLUMN: u64 = 40;
 
-/// So many positions are counted in one measure.
+/// The number of positions in one measurement.
 const POSITIONS: u64 = 100_000;
 
-/// What is timed of a text.
+/// The operation that is timed on a text.
 #[derive(Clone, Copy)]
 pub enum Work {
     Open,
-    /// Typing a letter in its middle.
+    /// Typing a letter in the middle.
     Edit,
     /// The offsets of a hundred thousand positions.
     Offsets,
-    /// Those offsets, and the positions of them.
+    /// Those offsets, and their positions.
     Positions,
 }
 
-/// How long a work takes in a text of such lines, of so many bytes at the most.
+/// Returns the time that an operation takes on a text of such lines, with at most this many bytes.
 pub fn working(
     alloc: Global,
     clock: &impl Clock,
@@ -55,7 +55,7 @@ fn opening(alloc: Global, clock: &impl Clock, text: &str) -> Result<Duration, Be
     watch.stop(clock, doc.text().len() == text.len())
 }
 
-/// How long a work takes in an open text of so many lines.
+/// The time that an operation takes on an open text of this many lines.
 fn using(
     alloc: Global,
     clock: &impl Clock,
@@ -69,7 +69,7 @@ fn using(
     watch.stop(clock, answered)
 }
 
-/// Works in a text of so many lines. Whether the answers are what they must be.
+/// Runs an operation on a text of this many lines, and returns whether the results are right.
 fn works(alloc: Global, doc: &mut Doc, work: Work, lines: u64) -> Result<bool, AllocError> {
     match work {
         Work::Open => Ok(true),
@@ -87,7 +87,7 @@ fn repeated(alloc: Global, line: &str, count: usize) -> Result<String, AllocErro
     Ok(text)
 }
 
-/// Types one letter into a line. Whether the text is longer then.
+/// Types one letter into a line, and returns whether the text became longer.
 fn type_a_letter(alloc: Global, doc: &mut Doc, line: u64) -> Result<bool, AllocError> {
     let before = doc.text().len();
     let place = Position {
@@ -105,7 +105,7 @@ fn type_a_letter(alloc: Global, doc: &mut Doc, line: u64) -> Result<bool, AllocE
     Ok(doc.text().len() > before)
 }
 
-/// Whether the offset of each position is one of the text.
+/// Whether the offset of each position is within the text.
 fn offsets_fit(doc: &Doc, lines: u64) -> bool {
     let length = doc.text().len();
     let mut all = true;
@@ -126,7 +126,7 @@ fn positions_return(doc: &Doc, lines: u64) -> bool {
     all
 }
 
-/// A position on one of these lines, another one for each number.
+/// A position on one of these lines, scattered by `number`.
 fn position(number: u64, lines: u64) -> Position {
     let scattered = number.wrapping_mul(7919);
     Position {

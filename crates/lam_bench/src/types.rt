@@ -1,4 +1,4 @@
-//! Types in a table: adding one, and the bounds of two that are doubled.
+//! Types in a type table: adding one, and the bounds of two that are doubled.
 
 ghost use Rattle.std.specs.Prelude.{IfOk};
 ghost use Rattle.lam_rules.specs.Numbers.{Stands, Keeps, AllStand, AreGivenApart};
@@ -12,7 +12,7 @@ use std::alloc::{AllocError, Global};
 use std::rt::Clock;
 use std::time::Duration;
 
-/// The record type of Nat at `l0`, `l1` and so on.
+/// A record type of Nat at `l0`, `l1` and so on.
 fn wide_record(alloc: Global, size: usize) -> Result<Ty, AllocError> {
     let mut fields = Vec::new(alloc);
     for number in 0..size {
@@ -21,7 +21,7 @@ fn wide_record(alloc: Global, size: usize) -> Result<Ty, AllocError> {
     Ok(make_record(fields))
 }
 
-/// How long it takes to add a record type of `size` fields to an empty table.
+/// Returns the time it takes to add a record type of `size` fields to an empty table.
 pub fn adding(alloc: Global, clock: &impl Clock, size: usize) -> Result<Duration, BenchFault> {
     let record = wide_record(alloc, size)?;
     if !wf(&record) {
@@ -33,7 +33,7 @@ pub fn adding(alloc: Global, clock: &impl Clock, size: usize) -> Result<Duration
     watch.stop(clock, true)
 }
 
-/// The record of these labels, and then `steps` times `{a:t, b:t}` of what it was.
+/// The record with these labels, wrapped `steps` times as `{a:t, b:t}`.
 #[tactic(auto, using(lam_rules::proofs::Tables::numbers))]
 fn doubled(table: &mut TyTable, labels: &[(&str, TyNo)], steps: usize) -> Result<TyNo, AllocError>
     requires stand { AllStand table.old labels.now }
@@ -48,7 +48,7 @@ fn doubled(table: &mut TyTable, labels: &[(&str, TyNo)], steps: usize) -> Result
     Ok(number)
 }
 
-/// Two types that were doubled `size` times, neither of which is below the other.
+/// Two types that were doubled `size` times, neither of which is a subtype of the other.
 #[tactic(auto, using(lam_rules::proofs::Tables::numbers))]
 fn doubled_pair(table: &mut TyTable, size: usize) -> Result<(TyNo, TyNo), AllocError>
     ensures keeps { Keeps table.old table.new }
@@ -60,7 +60,7 @@ fn doubled_pair(table: &mut TyTable, size: usize) -> Result<(TyNo, TyNo), AllocE
     Ok((left, right))
 }
 
-/// Joins and meets two types of a table. Whether there is a type below both.
+/// Joins and meets two types of a table, and returns whether they have a common subtype.
 #[tactic(auto, using(lam_rules::proofs::Tables::numbers))]
 fn join_and_meet(
     alloc: Global,
@@ -77,7 +77,7 @@ fn join_and_meet(
     Ok(lower.is_some())
 }
 
-/// How long it takes to join and to meet two types that were doubled `size` times.
+/// Returns the time it takes to join and meet two types that were doubled `size` times.
 pub fn bounding(alloc: Global, clock: &impl Clock, size: usize) -> Result<Duration, BenchFault> {
     let mut table = TyTable::new(alloc);
     let (left, right) = doubled_pair(&mut table, size)?;

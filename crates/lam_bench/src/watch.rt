@@ -1,4 +1,4 @@
-//! A stop watch, by the runtime's clock.
+//! A stopwatch on the runtime's clock.
 
 use crate::fault::BenchFault;
 use std::rt::Clock;
@@ -6,19 +6,19 @@ use std::time::{Duration, Instant};
 
 #[derive(Clone, Copy)]
 pub struct Watch {
-    /// None where the clock could not be read.
+    /// `None` if the clock could not be read.
     start: Option<Instant>,
 }
 
 impl Watch {
-    /// Begins to take the time.
+    /// Starts the stopwatch.
     pub fn start(clock: &impl Clock) -> Watch {
         Watch {
             start: Instant::now(clock).ok(),
         }
     }
 
-    /// The time since the start, of a measure that answered what it must.
+    /// Returns the time since the start, or an error if the result was not right.
     pub fn stop(self, clock: &impl Clock, answered: bool) -> Result<Duration, BenchFault> {
         let Some(start) = self.start else {
             return Err(BenchFault::Io);

@@ -1,4 +1,4 @@
--- Derivations as they are drawn.
+-- Derivations drawn as trees.
 use Rattle.std.specs.Prelude.{◌≡◌, ◌⊎◌, ℕ, suc, ◌+◌, ◌*◌, ◌/◌, ◌-◌, ◌==◌, Bool, List, [], ◌∷◌, ◌++◌, Option, Some, None, codes, chars, encode_utf8, encode_utf8_all, flat_map, map, replicate, slice_range, if◌then◌else◌}
 use Rattle.std.specs.Char.{is_control}
 use Rattle.std.specs.List.{list_any, repeat}
@@ -16,9 +16,9 @@ use Rattle.lam_check.specs.declared.forms.Form.TheVariants as forms
 use Rattle.lam_check.specs.declared.forms.Markup.{Markup}
 use Rattle.lam_check.specs.declared.forms.Markup.TheVariants as marks
 
--- ---- what a step says
+-- ---- conclusions
 
--- a character of a term on one line: a blank for a line end or any other control character
+-- A character of a term on one line: a blank for any control character, including line ends.
 abbrev pub flat : ℕ → ℕ
 flat c = if is_control c then 32 else c
 
@@ -31,22 +31,22 @@ abbrev pub claim_text : List ℕ → Conclusion → Text
 claim_text text (typing rule s type) = term_text text s ++ codes " : " ++ plain_text type
 claim_text text (subtyping rule lower upper) = plain_text lower ++ codes " <: " ++ plain_text upper
 
--- the name of its rule
+-- the name of the rule
 abbrev pub rule_text : Conclusion → Text
 rule_text (typing rule s type) = name_of_type_rule rule
 rule_text (subtyping rule lower upper) = name_of_sub_rule rule
 
--- ---- characters as they are written in each form
+-- ---- escaping in each form
 
--- in HTML
+-- a character in HTML
 abbrev pub html_character : ℕ → Text
 html_character c = if c == 38 then codes "&amp;" else (if c == 60 then codes "&lt;" else (if c == 62 then codes "&gt;" else encode_utf8 c))
 
--- whether LaTeX takes a backslash before it
+-- whether LaTeX needs a backslash before the character
 abbrev pub is_special : ℕ → Bool
 is_special c = list_any (λ d. d == c) (codes "#$%&")
 
--- in LaTeX: some by their place in the typewriter font of TeX, where the straight quote and the grave accent have another than in ASCII
+-- a character in LaTeX, some by their code in TeX's typewriter font, where the straight quote and the grave accent differ from ASCII
 abbrev pub latex_character : ℕ → Text
 latex_character c =
     if c == 92 then codes "\\char92{}" else (if c == 94 then codes "\\char94{}" else (if c == 95 then codes "\\char95{}"
@@ -54,15 +54,15 @@ latex_character c =
     else (if c == 39 then codes "\\char13{}" else (if c == 96 then codes "\\char18{}"
     else (if is_special c then 92 ∷ c ∷ [] else encode_utf8 c))))))))
 
--- a text as a form writes its characters
+-- a text escaped for a form
 abbrev pub written : Form → Text → Text
 written forms.Text text = text
 written forms.Html text = flat_map html_character (chars text)
 written forms.Latex text = flat_map latex_character (chars text)
 
--- ---- the pieces of a drawing
+-- ---- the parts of a drawing
 
--- what stands round the texts of steps
+-- the markup around the texts of steps
 unfoldable pub markup : Markup → Text
 markup marks.HtmlOpen = codes "<details open><summary>"
 markup marks.HtmlRule = codes " <i>"
@@ -75,46 +75,46 @@ markup marks.LatexLine = codes "}\n\\"
 markup marks.LatexTerm = codes "InfC{\\texttt{"
 markup marks.LatexEnd = codes "}}\n"
 
--- the head of a part that folds
+-- the opening of a collapsible section
 abbrev pub html_head : List ℕ → Conclusion → Text
 html_head text c = markup marks.HtmlOpen ++ written forms.Html (claim_text text c) ++ markup marks.HtmlRule ++ rule_text c ++ markup marks.HtmlLine
 
--- what stands before the premises of a step: its line, behind two blanks for each step that it is a premise of; in HTML the head of a part that folds
+-- What comes before the premises of a step: its line, indented by two blanks per level; in HTML the opening of a collapsible section.
 abbrev pub before : Form → List ℕ → (depth : ℕ) → Conclusion → Text
 before forms.Text text depth c = replicate (2 * depth) 32 ++ claim_text text c ++ codes "  (" ++ rule_text c ++ codes ")\n"
 before forms.Html text depth c = html_head text c
 before forms.Latex text depth c = []
 
--- LaTeX draws a step from five premises at most: of more, five are put side by side, as often as needed, and count as one
+-- bussproofs draws a step from at most five premises: of more, five are repeatedly combined into one, this many times
 abbrev pub packs : ℕ → ℕ
 packs n = (n - 2) / 4
 
--- how many premises are left then
+-- how many premises remain then
 abbrev pub left : ℕ → ℕ
 left n = n - 4 * packs n
 
--- how the command for a step from so many premises begins
+-- the prefix of the bussproofs command for a step with this many premises
 abbrev pub arity : ℕ → Text
 arity n = if n == 2 then codes "Binary" else (if n == 3 then codes "Trinary" else (if n == 4 then codes "Quaternary" else (if n == 5 then codes "Quinary" else codes "Unary")))
 
--- nothing, as the premise of a step that has none
+-- an empty premise, for a step that has none
 abbrev pub axiom_text : ℕ → Text
 axiom_text n = if n == 0 then markup marks.LatexAxiom else []
 
--- five premises side by side
+-- the command that combines five premises into one
 abbrev pub pack_text : Text
 pack_text = markup marks.LatexPack
 
--- what a step says, below so many premises, with the name of its rule beside the line
+-- the conclusion of a step with this many premises, with the name of its rule next to the line
 abbrev pub latex_claim : List ℕ → ℕ → Conclusion → Text
 latex_claim text n c =
     markup marks.LatexRule ++ rule_text c ++ markup marks.LatexLine ++ arity n ++ markup marks.LatexTerm ++ written forms.Latex (claim_text text c) ++ markup marks.LatexEnd
 
--- a step in LaTeX, from so many premises
+-- a step in LaTeX with this many premises
 abbrev pub latex_step : List ℕ → ℕ → Conclusion → Text
 latex_step text n c = axiom_text n ++ repeat (packs n) pack_text ++ latex_claim text (left n) c
 
--- what stands behind the premises of a step, of which there are so many
+-- what comes after the premises of a step, which has this many
 abbrev pub behind : Form → List ℕ → ℕ → Conclusion → Text
 behind forms.Text text n c = []
 behind forms.Html text n c = markup marks.HtmlEnd
@@ -127,7 +127,7 @@ count no_proofs = 0
 count (proof_first p ps) = suc (count ps)
 
 abbrev mutual
-  -- a proof, as a step that has this many steps below it: each step once, with its premises from left to right
+  -- a proof at this depth: each step once, with its premises from left to right
   pub drawn : Form → List ℕ → (depth : ℕ) → Proof → Text
   drawn form text depth (concludes c ps) = before form text depth c ++ drawn_each form text (depth + 1) ps ++ behind form text (count ps) c
 
@@ -138,12 +138,12 @@ abbrev mutual
 
 -- ---- whole documents
 
--- a line with its end
+-- a line with its line ending
 abbrev pub line : Text → Text
 line text = text ++ 10 ∷ []
 
--- what a document in a form begins with: nothing but for a style in HTML; in LaTeX the package that draws, the command for five proofs side by side,
--- and how a character is shown that LaTeX does not know
+-- The beginning of a document: empty for text; for HTML the title and a style; for LaTeX the package, the command that combines five proofs, and a fallback for
+-- characters that LaTeX does not know.
 unfoldable pub head : Form → Text
 head forms.Text = []
 head forms.Html =
@@ -187,34 +187,34 @@ head forms.Latex =
     ++ line (codes "\\begin{document}")
     ++ line (codes "\\frenchspacing")
 
--- what it ends with
+-- the end of a document
 unfoldable pub tail : Form → Text
 tail forms.Text = []
 tail forms.Html = line (codes "</body>") ++ line (codes "</html>")
 tail forms.Latex = line (codes "\\DisplayProof") ++ line (codes "\\end{document}")
 
--- the proof that is drawn is the one whose steps the derivation has
+-- The proof that is drawn has the steps of the derivation.
 pub record Draws (form : Form) (text : List ℕ) (derived : Derivation) (drawing : Text) : Type 0 where
   pub proof : Proof
   pub steps : derived.steps ≡ steps_of 0 proof
   pub is : drawing ≡ head form ++ drawn form text 0 proof ++ tail form
 
--- the text has this place, where columns count characters: the offset that stands for it is at this very place
+-- The text has this position, with columns in characters: the offset for it has this very position.
 abbrev pub HasPlace : List ℕ → Position → Type 0
 HasPlace text place = place ≡ position_of Utf32 text (offset_of Utf32 text place)
 
--- why the innermost term round a place of the text has its type; none where no type is shown there, or the text has no such place
+-- The derivation of the innermost term around a position of the text; `None` where no type is shown, or the text has no such position.
 abbrev pub IsDerivedAt : List ℕ → Position → Option Derivation → Dialect → Type 0
 IsDerivedAt text place (Some derived) d = HasPlace text place × IsDerivedIn text (offset_of Utf32 text place) (Some derived) d
 IsDerivedAt text place None d = IsDerivedIn text (offset_of Utf32 text place) None d ⊎ (HasPlace text place → ⊥)
 
--- a drawing of it
+-- a drawing of that derivation
 pub record IsDrawing (form : Form) (text : List ℕ) (place : Position) (drawing : Text) (d : Dialect) : Type 0 where
   pub derived : Derivation
   pub right : IsDerivedAt text place (Some derived) d
   pub draws : Draws form text derived drawing
 
--- such a drawing; none where there is nothing to draw
+-- such a drawing; `None` if there is nothing to draw
 abbrev pub IsDrawnAt : Form → List ℕ → Position → Option Text → Dialect → Type 0
 IsDrawnAt form text place (Some drawing) d = IsDrawing form text place drawing d
 IsDrawnAt form text place None d = IsDerivedAt text place None d

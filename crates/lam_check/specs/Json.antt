@@ -1,4 +1,4 @@
--- Answers as lines of JSON, in the shapes in which the language server sends them. Columns of their ranges count units of UTF-16.
+-- Results as lines of JSON, in the shapes that the language server sends. Columns in ranges count UTF-16 code units.
 use Rattle.std.specs.Prelude.{◌≡◌, ℕ, List, [], ◌∷◌, ◌++◌, Option, Some, None, codes, length}
 use Rattle.serde_json.specs.Data.{Data, string, array, object, member, no_members}
 use Rattle.serde_json.specs.Written.{compact_text}
@@ -21,24 +21,24 @@ json_line value = compact_text value ++ 10 ∷ []
 abbrev pub faults_value : (name : Text) → (text : List ℕ) → List Fault → Data
 faults_value name text faults = object (member (codes "diagnostics") (array (diagnostics Utf16 text faults)) (member (codes "file") (string name) no_members))
 
--- The line has exactly the faults of the text, in their order; and so many there are.
+-- The line has exactly the diagnostics of the text, in order, and this is their number.
 pub record IsFaultsLine (name : Text) (text : List ℕ) (d : Dialect) (written : Text) (count : ℕ) : Type 0 where
   pub faults : List Fault
   pub are_faults : AreFaults text faults d
   pub shown : written ≡ json_line (faults_value name text faults)
   pub counted : count ≡ length faults
 
--- a derivation of a file
+-- the derivation in a file
 abbrev pub why_value : (name : Text) → (text : List ℕ) → Derivation → Data
 why_value name text derived = object (member (codes "derivation") (derivation_value Utf16 text (Some derived)) (member (codes "file") (string name) no_members))
 
--- the line has a derivation of the type of the innermost term round a place, where columns count characters
+-- The line has a derivation of the innermost term around a position, whose column counts characters.
 pub record IsWhyLine (name : Text) (text : List ℕ) (place : Position) (written : Text) (d : Dialect) : Type 0 where
   pub derived : Derivation
   pub right : IsDerivedAt text place (Some derived) d
   pub shown : written ≡ json_line (why_value name text derived)
 
--- such a line; none where no type is shown there, or the text has no such place
+-- such a line; `None` where no type is shown, or the text has no such position
 abbrev pub IsWhyAt : (name : Text) → (text : List ℕ) → Position → Option Text → Dialect → Type 0
 IsWhyAt name text place (Some written) d = IsWhyLine name text place written d
 IsWhyAt name text place None d = IsDerivedAt text place None d

@@ -1,4 +1,4 @@
--- Derivations that can be read back from what is sent of them.
+-- Derivations that can be read back from their JSON form.
 use Rattle.std.specs.Prelude.{◌≤◌, ℕ, List, [], ◌∷◌, Option, Some, None}
 use Rattle.lam_rules.specs.ReadableLabels.{HasReadableLabels}
 use Rattle.lam_rules.specs.Types.{Typ, nodes}
@@ -8,17 +8,17 @@ use Rattle.lam_query.specs.Derivations.{ContextEntry, Derivation}
 use Rattle.lam_query.specs.Steps.{Conclusion, typing, subtyping, Step}
 use Rattle.lam_query.specs.Within.{IsSpanOfText}
 
--- the labels of the type can be told from its text, and it has no more than 4,096 nodes
+-- The labels of the type can be recovered from its text, and it has no more than 4,096 nodes.
 pub record IsReadableType (t : Typ) : Type 0 where
   pub labels : HasReadableLabels t
   pub small : nodes t ≤ 4096
 
--- the type of an entry, if it has one
+-- the type of a context entry, if it has one
 abbrev pub IsReadableEntry : Option Typ → Type 0
 IsReadableEntry None = Unit {0}
 IsReadableEntry (Some t) = IsReadableType t
 
--- the span begins and ends between two characters of the text, but not between a CR and its LF, whose positions mean the CR
+-- The span begins and ends at character boundaries, but not between a CR and its LF, whose position means the CR.
 pub record IsReadableSpan (text : List ℕ) (s : Span) : Type 0 where
   pub whole_characters : IsSpanOfText text s
   pub start : ¬ (IsInsideCrLf text s.start)
@@ -28,12 +28,12 @@ abbrev pub IsReadableConclusion : List ℕ → Conclusion → Type 0
 IsReadableConclusion text (typing rule s type) = IsReadableSpan text s × IsReadableType type
 IsReadableConclusion text (subtyping rule lower upper) = IsReadableType lower × IsReadableType upper
 
--- each entry of a context
+-- every entry of a context
 abbrev pub AreReadableEntries : List ContextEntry → Type 0
 AreReadableEntries [] = Unit {0}
 AreReadableEntries (e ∷ es) = IsReadableEntry e.type × AreReadableEntries es
 
--- each step
+-- every step
 abbrev pub AreReadableSteps : List ℕ → List Step → Type 0
 AreReadableSteps text [] = Unit {0}
 AreReadableSteps text (step ∷ steps) = IsReadableConclusion text step.conclusion × AreReadableSteps text steps

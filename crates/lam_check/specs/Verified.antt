@@ -1,4 +1,4 @@
--- A derivation, held against a text.
+-- Verification of a derivation against its text.
 use Rattle.std.specs.Prelude.{◌≡◌, ◌<◌, ℕ, List, [], length, map, reverse, Some, None}
 use Rattle.serde_json.specs.Data.{Data}
 use Rattle.lam_rules.specs.Typing.{TypingTree, IsTyping}
@@ -12,19 +12,19 @@ use Rattle.lam_query.specs.Derivations.{Derivation, names_seen}
 use Rattle.lam_query.specs.Steps.{steps_of, typing_proof}
 use Rattle.lam_session.specs.Derivations.{derivation_value}
 
--- The derivation is of this term: it lists the names that the term sees, each with a type or none, and its steps, with their ranges, are those of a proof by the
--- rules that in the context of these types the term has the type that the last step concludes.
+-- The derivation is about this term: its context lists the names in scope there, each with a type or none, and its steps, with their ranges, are those of a proof that
+-- the term has the concluded type in this context.
 pub record IsProofOf (term : PlacedTree) (derivation : Derivation) (d : Dialect) : Type 0 where
   pub names : map (λ e. e.name) derivation.context ≡ names_seen term
   pub tree : TypingTree
   pub proof : IsTyping (reverse (map (λ e. e.type) derivation.context)) (term_of term).place.here tree d
   pub steps : derivation.steps ≡ steps_of 0 (typing_proof term tree)
 
--- it is of the term of this number among those of these commands
+-- The derivation is about the term with this id among those of these commands.
 abbrev pub IsProofAt : List CommandTree → (number : ℕ) → Derivation → Dialect → Type 0
 IsProofAt commands number derivation d = IsProofOf (tree_in (document_terms commands) number) derivation d
 
--- The derivation is of a term of the text, in which no written type has more than 4,096 nodes.
+-- The derivation is about a term of the text, in which no written type has more than 4,096 nodes.
 pub record IsVerified (text : List ℕ) (derivation : Derivation) (d : Dialect) : Type 0 where
   pub commands : List CommandTree
   pub are_commands : AreCommandsOfText text commands
@@ -33,7 +33,7 @@ pub record IsVerified (text : List ℕ) (derivation : Derivation) (d : Dialect) 
   pub inside : number < length (document_terms commands)
   pub is_proof : IsProofAt commands number derivation d
 
--- the value is a derivation as the language server sends it, and that is of a term of the text
+-- The value is a derivation in the form that the language server sends, and it is about a term of the text.
 pub record IsVerifiedValue (text : List ℕ) (value : Data) (d : Dialect) : Type 0 where
   pub derivation : Derivation
   pub is_value : value ≡ derivation_value Utf16 text (Some derivation)

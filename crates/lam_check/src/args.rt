@@ -1,4 +1,4 @@
-//! The words of the command line.
+//! Command-line arguments.
 use crate::forms::Form;
 use clap::error::ErrorKind;
 use clap::{Arg, ArgAction, ArgMatches, Command, Error};
@@ -11,10 +11,10 @@ const NAME: &str = "lam_check";
 
 static NAME_ALONE: [&str; 1] = [NAME];
 
-/// The names of the dialects that there are.
+/// The accepted values of `--dialect`.
 static DIALECTS: [&str; 2] = ["1", "2"];
 
-/// The name of standard input.
+/// The file name that means standard input.
 pub const INPUT: &str = "-";
 
 static INPUT_ALONE: [&str; 1] = [INPUT];
@@ -29,13 +29,13 @@ const HTML: &str = "Draws the tree in HTML, in parts that fold";
 const STATUSES: &str = "Exit status: 0 without an error in a file, 1 with one, 2 on a usage error, \
     4 if a file cannot be read or the output cannot be written, 5 when it runs out of memory.";
 
-/// What is asked for.
+/// The parsed arguments.
 #[derive(Clone, Copy, Debug)]
 pub struct Asked<'a> {
     pub dialect: Dialect,
-    /// What is shown of each file.
+    /// What to show about each file.
     pub shown: Shown,
-    /// The file that the derivations are of, where it is named.
+    /// The file that the derivations are about, if given with `--of`.
     pub source: Option<&'a str>,
 }
 
@@ -43,28 +43,28 @@ pub struct Asked<'a> {
 pub enum Shown {
     Faults,
     FaultsAndTypes,
-    /// Why the term there has its type, in this form.
+    /// The derivation of the term at this position, in this form.
     Derivation(Position, Form),
     FaultsJson,
     DerivationJson(Position),
-    /// Whether the derivations that it has are right.
+    /// Whether the derivations in the file are valid.
     Verdicts,
 }
 
-/// Why the words ask for nothing.
+/// Why the arguments request no check.
 #[derive(Debug, Drop, FaultError)]
 pub enum ArgsFault {
-    /// Help was asked for: its text, for standard output.
+    /// Help was requested: its text, for standard output.
     #[error("{0}")]
     Help(String),
-    /// The words are no command line of this program: what is wrong, for standard error.
+    /// A usage error: its message, for standard error.
     #[error("{0}")]
     Usage(String),
     #[error("F7 Memory")]
     Memory,
 }
 
-/// What the words ask for, and of which files. The first word names the program.
+/// Parses the arguments into a request and the files it applies to. The first argument is the name of the program.
 pub fn read_args<'a>(
     alloc: Global,
     words: &'a [&'a str],
@@ -92,7 +92,7 @@ pub fn read_args<'a>(
     }
 }
 
-/// That the words are no command line of this program, as this text says.
+/// A usage error with this message.
 fn usage(alloc: Global, text: &str) -> ArgsFault {
     match String::from_str(alloc, text) {
         Ok(text) => ArgsFault::Usage(text),
@@ -100,7 +100,7 @@ fn usage(alloc: Global, text: &str) -> ArgsFault {
     }
 }
 
-/// What the words ask to be shown.
+/// Returns what the options ask to show.
 fn what_is_shown(matches: &ArgMatches<'_>) -> Result<Shown, &'static str> {
     if matches.get_flag("verify") {
         return Ok(Shown::Verdicts);
@@ -133,7 +133,7 @@ fn form_of(matches: &ArgMatches<'_>) -> Form {
     Form::Text
 }
 
-/// The place of a line and a column that are written with a colon between them, both counted from 1.
+/// Parses `LINE:COLUMN`, both counted from 1, into a position.
 fn place_of(word: &str) -> Option<Position> {
     let (line, column) = word.split_once(':')?;
     Some(Position {
@@ -142,7 +142,7 @@ fn place_of(word: &str) -> Option<Position> {
     })
 }
 
-/// The rules that a value of `--dialect` names.
+/// The dialect that a value of `--dialect` names.
 fn chosen(name: Option<&str>) -> Dialect {
     let Some(word) = name else {
         return Dialect::One;
@@ -153,7 +153,7 @@ fn chosen(name: Option<&str>) -> Dialect {
     Dialect::One
 }
 
-/// The words, or where there is none the program's name.
+/// The arguments, or only the program's name if there are none.
 fn named<'a>(words: &'a [&'a str]) -> &'a [&'a str] {
     if words.is_empty() {
         return NAME_ALONE.as_slice();
@@ -198,7 +198,7 @@ fn why<'a>(alloc: Global) -> Arg<'a> {
         .help("Shows why the innermost term there has its type, as a tree")
 }
 
-/// A form of the tree.
+/// An option that selects the form of the tree.
 fn flag<'a>(alloc: Global, name: &'a str, help: &'a str) -> Result<Arg<'a>, AllocError> {
     let form = Arg::new(alloc, name)
         .long(name)
@@ -241,7 +241,7 @@ fn files<'a>(alloc: Global) -> Arg<'a> {
         .help("The files to check; standard input where none is named, or for -")
 }
 
-/// A text that memory cut short is no text: the kind is looked at first.
+/// Converts an error of the parser. If allocation failed, its text may be cut short, so the kind is examined first.
 fn fault_of(alloc: Global, error: &Error) -> ArgsFault {
     let kind = error.kind();
     if kind == ErrorKind::OutOfMemory {

@@ -8,7 +8,7 @@ use lam_syntax::{Command, ParseFault, parse, pieces};
 use lam_token::{Token, lex};
 use std::alloc::{AllocError, Global};
 
-/// The commands of a text, in their order. A piece that is no command is passed over.
+/// Returns the commands of a text, in order. A piece that does not parse is skipped.
 pub fn commands_of(alloc: Global, text: &str) -> Result<Vec<Command>, AllocError>
     ensures { IfOk result (λ commands. AreCommandsOfText text.now (map command_of commands.items)) }
 {
@@ -23,7 +23,7 @@ pub fn commands_of(alloc: Global, text: &str) -> Result<Vec<Command>, AllocError
     Ok(commands)
 }
 
-/// The command that a piece is, if it is one.
+/// Parses a piece; `None` if it is not a command.
 fn command_of(alloc: Global, piece: &[Token<'_>]) -> Result<Option<Command>, AllocError>
     ensures some { IfOk result (λ found. IfSome found (λ c. IsCommandOf piece.now (command_of c))) }
     ensures none { IfOk result (λ found. IfNone found ((c : CommandTree) → IsCommandOf piece.now c → ⊥)) }

@@ -1,4 +1,4 @@
-//! Derivations as they are drawn.
+//! Derivations drawn as trees.
 ghost use Rattle.std.specs.Prelude.{◌≡◌, ◌+◌, ◌*◌, ◌^◌, ◌<◌, ◌≤◌, ◌++◌, ℕ, All, IfOk, IfSome, OnOk, chars, encode_utf8_all, length, map, option_map, replicate, string_bytes};
 ghost use Rattle.std.specs.List.{repeat};
 ghost use Rattle.lam_query.specs.Steps.{Proof, Proofs, steps_of, steps_before, number_of_steps, last_steps};
@@ -15,8 +15,8 @@ use lam_text::{Doc, Encoding, Position};
 use lam_token::Span;
 use std::alloc::{AllocError, Global};
 
-/// Why the innermost term round a place has its type: its proof, drawn with each step once; none where no type is shown.
-/// The place counts characters.
+/// Draws the derivation of the innermost term around a position, each step once; `None` where no type is shown. Columns count
+/// characters.
 pub fn drawing(
     alloc: Global,
     text: &str,
@@ -36,8 +36,8 @@ pub fn drawing(
     Ok(Some(out))
 }
 
-/// Why the innermost term round a place has its type; none where no type is shown there, or the text has no such place.
-/// The place counts characters.
+/// Returns the derivation of the innermost term around a position; `None` where no type is shown, or the text has no such
+/// position. Columns count characters.
 pub fn derivation_at(
     alloc: Global,
     text: &str,
@@ -72,7 +72,7 @@ fn push_proof(
     push_tree(alloc, out, form, text, steps, steps.len() - 1, 0)
 }
 
-/// Draws the proof that ends in the step of this number.
+/// Draws the proof that ends in the step with this index.
 #[cycle(tree)]
 fn push_tree(
     alloc: Global,
@@ -96,7 +96,7 @@ fn push_tree(
     push_behind(alloc, out, form, text, step, premises.len())
 }
 
-/// Draws the proofs that end in the steps of these numbers, all before this one.
+/// Draws the proofs that end in the steps with these indices, all less than `end`.
 #[cycle(tree)]
 fn push_trees(
     alloc: Global,
@@ -132,7 +132,7 @@ fn premises_of(step: &Step) -> &[usize]
     }
 }
 
-/// What stands before the premises of a step.
+/// Writes what comes before the premises of a step.
 fn push_before(
     alloc: Global,
     out: &mut String,
@@ -158,7 +158,7 @@ fn push_before(
     }
 }
 
-/// The head of a part that folds.
+/// Writes the opening of a collapsible section.
 fn push_html_head(
     alloc: Global,
     out: &mut String,
@@ -184,7 +184,7 @@ fn push_blanks(out: &mut String, count: usize) -> Result<(), AllocError>
     Ok(())
 }
 
-/// What stands behind them.
+/// Writes what comes after the premises.
 fn push_behind(
     alloc: Global,
     out: &mut String,
@@ -219,7 +219,7 @@ fn push_latex_step(
     push_latex_claim(alloc, out, text, step, count - 4 * packs)
 }
 
-/// What a step says, below so many premises, with the name of its rule beside the line.
+/// Writes the conclusion of a step with this many premises, with the name of its rule next to the line.
 fn push_latex_claim(
     alloc: Global,
     out: &mut String,
@@ -239,7 +239,7 @@ fn push_latex_claim(
     out.push_str(Markup::LatexEnd.text())
 }
 
-/// Nothing, as the premise of a step that has none.
+/// Writes an empty premise for a step that has none.
 fn push_axiom(out: &mut String, count: usize) -> Result<(), AllocError>
     ensures { OnOk result (string_bytes out.new ≡ string_bytes out.old ++ axiom_text count) }
 {
@@ -249,7 +249,7 @@ fn push_axiom(out: &mut String, count: usize) -> Result<(), AllocError>
     Ok(())
 }
 
-/// Has LaTeX put five premises side by side, so often.
+/// Writes the command that combines five premises into one, this many times.
 fn push_packs(out: &mut String, count: usize) -> Result<(), AllocError>
     ensures { OnOk result (string_bytes out.new ≡ string_bytes out.old ++ repeat count pack_text) }
 {
@@ -259,7 +259,7 @@ fn push_packs(out: &mut String, count: usize) -> Result<(), AllocError>
     Ok(())
 }
 
-/// How the command for a step from so many premises begins.
+/// The prefix of the bussproofs command for a step with this many premises.
 fn arity(count: usize) -> &'static str
     ensures { result.now ≡ arity count }
 {
@@ -272,7 +272,7 @@ fn arity(count: usize) -> &'static str
     }
 }
 
-/// Puts what a step says behind what is written, in the characters of a form.
+/// Appends the conclusion of a step, escaped for the form.
 fn push_claim(
     alloc: Global,
     out: &mut String,
@@ -287,7 +287,7 @@ fn push_claim(
     push_written(out, form, &claim)
 }
 
-/// What a step says.
+/// Returns the conclusion of a step as text.
 pub fn claim_of(alloc: Global, text: &str, step: &Step) -> Result<String, AllocError>
     requires { StepStandsIn text.now step.now }
     ensures { IfOk result (λ claim. string_bytes claim ≡ claim_text text.now (step_of step.now).conclusion) }
@@ -308,7 +308,7 @@ pub fn claim_of(alloc: Global, text: &str, step: &Step) -> Result<String, AllocE
     Ok(claim)
 }
 
-/// Puts the term at a span behind what is written, on one line.
+/// Appends the term at a span, on one line.
 fn push_term(out: &mut String, text: &str, span: Span) -> Result<(), AllocError>
     requires { IsSpanOfText text.now span }
     ensures { OnOk result (string_bytes out.new ≡ string_bytes out.old ++ term_text text.now span) }

@@ -1,4 +1,4 @@
-//! Texts of files.
+//! Reading of files.
 use crate::args::INPUT;
 use std::alloc::{AllocError, Global};
 use std::fs;
@@ -6,10 +6,10 @@ use std::io::{self, ErrorKind, Read};
 use std::rt::Files;
 use thiserror::Error;
 
-/// How many bytes a text has at most: 64 MiB.
+/// The maximum size of a text in bytes: 64 MiB.
 const LIMIT: u64 = 1 << 26;
 
-/// Why there is no text of a file.
+/// Why a file could not be read as text.
 #[derive(Debug, Drop, Error)]
 pub enum ReadFault {
     #[error("{0}")]
@@ -22,7 +22,7 @@ pub enum ReadFault {
     Memory,
 }
 
-/// The text of a file, or of standard input where the name is `-`.
+/// Reads a file, or standard input if the name is `-`.
 pub fn text_of<R: Files + Input>(rt: &R, alloc: Global, name: &str) -> Result<String, ReadFault> {
     let bytes = if name == INPUT {
         bytes_of(alloc, rt.reader())?
@@ -38,7 +38,7 @@ pub fn text_of<R: Files + Input>(rt: &R, alloc: Global, name: &str) -> Result<St
     String::from_utf8(bytes).map_err(|error| ReadFault::NotUtf8(error.utf8_error().valid_up_to()))
 }
 
-/// The bytes that a reader has, up to one more than a text may have.
+/// Reads all bytes, but at most one more than a text may have.
 fn bytes_of<R: Read + Drop>(alloc: Global, reader: R) -> Result<Vec<u8>, ReadFault> {
     let mut bytes = Vec::new(alloc);
     match reader.take(LIMIT + 1).read_to_end(&mut bytes) {

@@ -1,4 +1,4 @@
-//! What is wrong first with a derivation that is not of a term of the text. Nothing rests on it but what is said.
+//! Finds the first error in a derivation that was rejected, for the error message.
 use crate::commands::commands_of;
 use crate::verify::{ends_at, entries_of, has_names, is_same};
 use lam_query::answers::{Derivation, Step};
@@ -10,7 +10,7 @@ use lam_scope::{Place, Resolved, ScopeFault, Scopes, bind, resolve};
 use std::alloc::{AllocError, Global};
 use thiserror::Error;
 
-/// What is wrong first.
+/// The first error in a derivation.
 #[derive(Clone, Copy, Debug, PartialEq, Eq, Error)]
 pub enum FirstFault {
     #[error("it has no step")]
@@ -35,11 +35,11 @@ pub enum FirstFault {
     Range(usize),
 }
 
-/// How many levels of steps a derivation may have, so that what goes down them has room. No derivation that is made has more:
-/// its term has at most 2,000 tokens, and its types at most 4,096 nodes.
+/// The maximum depth of a derivation, so that recursion over it does not overflow the stack. No derivation from this program is
+/// deeper: its term has at most 2,000 tokens, and its types at most 4,096 nodes.
 const LEVELS: usize = 16_384;
 
-/// A place in a text, and what is known of the text.
+/// A subterm occurrence, with the name resolution of its text.
 #[derive(Clone, Copy)]
 struct Ground<'a> {
     scopes: &'a Scopes,
@@ -47,7 +47,7 @@ struct Ground<'a> {
     place: Place,
 }
 
-/// Whether steps follow from steps on more levels than there is room for.
+/// Returns whether steps depend on each other through more than `LEVELS` levels.
 pub fn is_too_deep(alloc: Global, steps: &[Step]) -> Result<bool, AllocError> {
     let mut levels: Vec<usize> = Vec::with_capacity(alloc, steps.len())?;
     for i in 0..steps.len() {
@@ -60,7 +60,7 @@ pub fn is_too_deep(alloc: Global, steps: &[Step]) -> Result<bool, AllocError> {
     Ok(false)
 }
 
-/// The level over those of the premises.
+/// One more than the greatest level of the premises.
 fn level_over(levels: &[usize], premises: &[usize]) -> usize {
     let mut highest = 0;
     for premise in premises {
@@ -71,7 +71,7 @@ fn level_over(levels: &[usize], premises: &[usize]) -> usize {
     highest.saturating_add(1)
 }
 
-/// What is wrong first with a derivation that is not of a term of the text.
+/// Returns the first error in a derivation that is not valid for any term of the text.
 pub fn first_fault(
     alloc: Global,
     text: &str,
@@ -103,13 +103,13 @@ pub fn first_fault(
     fault_at(alloc, &ground, derivation, &proof, dialect)
 }
 
-/// The first step that does not have proofs right before it as its premises, one behind the other; or that the last step does
-/// not follow from all others.
+/// Finds the first step whose premises are not the proofs directly before it, in order; or else whether the last step does not
+/// depend on all others.
 fn misplaced(alloc: Global, steps: &[Step]) -> Result<Option<FirstFault>, AllocError> {
     if steps.is_empty() {
         return Ok(Some(FirstFault::NoStep));
     }
-    // Where the proof of each step begins.
+    // The index at which the proof of each step begins.
     let mut starts: Vec<usize> = Vec::with_capacity(alloc, steps.len())?;
     for i in 0..steps.len() {
         let Some(start) = start_of(&starts, i, premises_of(&steps[i])) else {
@@ -123,7 +123,7 @@ fn misplaced(alloc: Global, steps: &[Step]) -> Result<Option<FirstFault>, AllocE
     }
 }
 
-/// Where the proof of the step of this number begins, if its premises stand right before it.
+/// The index at which the proof of a step begins, if its premises are directly before it.
 fn start_of(starts: &[usize], number: usize, premises: &[usize]) -> Option<usize> {
     let mut start = number;
     for premise in premises.iter().rev() {
@@ -142,7 +142,7 @@ fn premises_of(step: &Step) -> &[usize] {
     }
 }
 
-/// The first place that has the range of the last step.
+/// The first subterm whose span is that of the last step.
 fn place_of(scopes: &Scopes, resolved: &Resolved, steps: &[Step]) -> Option<Place> {
     for i in 0..resolved.place_count() {
         if ends_at(scopes, Place(i), steps) {
@@ -152,7 +152,7 @@ fn place_of(scopes: &Scopes, resolved: &Resolved, steps: &[Step]) -> Option<Plac
     None
 }
 
-/// What is wrong first with a derivation that is said to be of the term at a place.
+/// The first error in a derivation that claims to be about the given subterm.
 fn fault_at(
     alloc: Global,
     ground: &Ground<'_>,
@@ -180,7 +180,7 @@ fn fault_at(
     Ok(FirstFault::Range(first_other(&derivation.steps, &steps)))
 }
 
-/// The first entry whose type has a label twice in a record type.
+/// The first context entry in whose type a record type repeats a label.
 fn ill_formed(context: &[Option<Ty>]) -> Option<usize> {
     for i in 0..context.len() {
         if let Some(ty) = &context[i] {
@@ -192,7 +192,7 @@ fn ill_formed(context: &[Option<Ty>]) -> Option<usize> {
     None
 }
 
-/// The number of the first step that is another one in the second list.
+/// The index of the first step that differs from the one in the second list.
 fn first_other(steps: &[Step], others: &[Step]) -> usize {
     for i in 0..steps.len().min(others.len()) {
         if !is_same(&steps[i], &others[i]) {
@@ -202,8 +202,8 @@ fn first_other(steps: &[Step], others: &[Step]) -> usize {
     0
 }
 
-/// The number of the first step that does not follow, of a proof that is none for the term. It goes down to the first premise
-/// that is no proof, as long as there is one.
+/// The index of the first step that does not follow, in a proof that does not hold for the term. Descends to the first invalid
+/// premise as long as there is one.
 fn step_at_fault(
     alloc: Global,
     mut context: Vec<Option<Ty>>,
@@ -230,7 +230,7 @@ fn step_at_fault(
     Ok(number)
 }
 
-/// Which of the premises of typing is the first that is no proof. The context is the same at the end.
+/// The first typing premise that is not a valid proof. The context is unchanged on return.
 fn premise_at_fault(
     alloc: Global,
     context: &mut Vec<Option<Ty>>,
@@ -260,7 +260,7 @@ fn premise_at_fault(
     Ok(None)
 }
 
-/// The term that a premise is about, if the term has so many parts.
+/// The term that premise `k` is about, if the term has such a part.
 fn part_of(term: &Core, rule: TypeRule, k: usize) -> Option<&Core> {
     if rule == TypeRule::Sub {
         return if k == 0 { Some(term) } else { None };
@@ -285,7 +285,7 @@ fn part_of(term: &Core, rule: TypeRule, k: usize) -> Option<&Core> {
     }
 }
 
-/// The entry of the binder that a premise stands under, if there is one between it and the term.
+/// The context entry of the binder between the term and its premise `k`, if there is one.
 fn entry_for(
     alloc: Global,
     term: &Core,
@@ -308,7 +308,7 @@ fn entry_for(
     }
 }
 
-/// The number of a premise of the step of a number.
+/// The index of the step that is premise `k` of a step.
 fn premise_number(steps: &[Step], number: usize, k: usize) -> usize {
     match steps.get(number) {
         Some(step) => match premises_of(step).get(k) {
@@ -319,7 +319,7 @@ fn premise_number(steps: &[Step], number: usize, k: usize) -> usize {
     }
 }
 
-/// The number of the first step of subtyping that does not follow, or else that of the step of typing itself.
+/// The index of the first subtyping step that does not follow, or else that of the typing step itself.
 fn sub_step_at_fault(proof: &TypeProof, steps: &[Step], number: usize, dialect: Dialect) -> usize {
     let Some(side) = &proof.sub else {
         return number;
@@ -342,7 +342,7 @@ fn sub_step_at_fault(proof: &TypeProof, steps: &[Step], number: usize, dialect: 
     number
 }
 
-/// Which of the premises of subtyping is the first that is no proof.
+/// The first subtyping premise that is not a valid proof.
 fn sub_premise_at_fault(proof: &SubProof, dialect: Dialect) -> Option<usize> {
     for k in 0..proof.premises.len() {
         if !check_sub(&proof.premises[k], dialect) {

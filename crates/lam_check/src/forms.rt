@@ -1,4 +1,4 @@
-//! The forms in which a derivation is drawn, and how each writes its characters.
+//! The output forms of a derivation, and the escaping that each needs.
 ghost use Rattle.std.specs.Prelude.{◌≡◌, ◌++◌, OnOk, string_bytes};
 ghost use Rattle.lam_check.specs.Drawings.{head, tail, markup, written, html_character, latex_character, is_special};
 
@@ -6,16 +6,16 @@ use std::alloc::AllocError;
 
 #[derive(Clone, Copy, Debug, PartialEq, Eq)]
 pub enum Form {
-    /// Lines, each premise further in than what follows from it.
+    /// Indented lines, with each premise deeper than its conclusion.
     Text,
-    /// Parts in one another that fold.
+    /// Nested collapsible sections.
     Html,
-    /// Commands of the package bussproofs.
+    /// Commands of the LaTeX package bussproofs.
     Latex,
 }
 
 impl Form {
-    /// What a whole document in this form begins with.
+    /// The beginning of a document in this form.
     #[tactic(auto, unfolding(crate::specs::Drawings::head))]
     pub fn head(self) -> &'static str
         ensures { result.now ≡ head self }
@@ -27,7 +27,7 @@ impl Form {
         }
     }
 
-    /// What it ends with.
+    /// The end of a document in this form.
     #[tactic(auto, unfolding(crate::specs::Drawings::tail))]
     pub fn tail(self) -> &'static str
         ensures { result.now ≡ tail self }
@@ -80,7 +80,7 @@ const LATEX_HEAD: &str = "\\documentclass[border=8pt]{standalone}\n\
     \\begin{document}\n\
     \\frenchspacing\n";
 
-/// What stands round the texts of steps.
+/// The markup around the texts of steps.
 #[derive(Clone, Copy, Debug, PartialEq, Eq)]
 pub enum Markup {
     HtmlOpen,
@@ -96,7 +96,7 @@ pub enum Markup {
 }
 
 impl Markup {
-    /// Its characters.
+    /// Returns the characters of the markup.
     #[tactic(auto, unfolding(crate::specs::Drawings::markup))]
     pub fn text(self) -> &'static str
         ensures { result.now ≡ markup self }
@@ -116,7 +116,7 @@ impl Markup {
     }
 }
 
-/// Puts a text behind what is written, in the characters of a form.
+/// Appends a text, escaped for the form.
 pub fn push_written(out: &mut String, form: Form, text: &str) -> Result<(), AllocError>
     ensures { OnOk result (string_bytes out.new ≡ string_bytes out.old ++ written form text.now) }
 {
@@ -177,7 +177,7 @@ fn push_latex_character(out: &mut String, c: char) -> Result<(), AllocError>
     }
 }
 
-/// Whether LaTeX takes a backslash before it.
+/// Whether LaTeX needs a backslash before the character.
 fn is_special(c: char) -> bool
     ensures { result ≡ is_special c }
 {

@@ -1,4 +1,4 @@
-//! Answers as lines of JSON, in the shapes in which the language server sends them.
+//! Results as lines of JSON, in the shapes that the language server sends.
 ghost use Rattle.std.specs.Prelude.{◌≡◌, map, option_map, All, IfOk, string_bytes, false};
 ghost use Rattle.serde_json.specs.View.{view};
 ghost use Rattle.serde_json.specs.Written.{has_float};
@@ -17,7 +17,7 @@ use lam_text::{Doc, Encoding, Position};
 use serde_json::Value;
 use std::alloc::{AllocError, Global};
 
-/// The diagnostics of a text that goes by this name.
+/// Returns the diagnostics of a text with this name as a line of JSON.
 pub fn faults_json(
     alloc: Global,
     name: &str,
@@ -48,7 +48,7 @@ fn faults_value(alloc: Global, name: &str, doc: &Doc, faults: &[Fault]) -> Resul
         .finish()
 }
 
-/// Why the innermost term round a place has its type; none where no type is shown.
+/// Returns the derivation of the innermost term around a position as a line of JSON; `None` where no type is shown.
 pub fn why_json(
     alloc: Global,
     name: &str,

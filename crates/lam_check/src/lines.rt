@@ -1,4 +1,4 @@
-//! Lines of a text as they are shown, with a mark under some of their characters.
+//! Lines of a text for display, with marks under some of their characters.
 ghost use Rattle.std.specs.Prelude.{◌≡◌, ◌++◌, IfOk, OnOk, string_bytes};
 ghost use Rattle.lam_text.specs.declared.units.Encoding.{Encoding};
 ghost use Rattle.lam_check.specs.Lines.{line_of, shown, blank, shown_line, blanks, marks};
@@ -6,7 +6,7 @@ ghost use Rattle.lam_check.specs.Lines.{line_of, shown, blank, shown_line, blank
 use lam_text::{Doc, Encoding, Position};
 use std::alloc::{AllocError, Global};
 
-/// What a line holds, by its number from 0, its end left out; nothing where there is no such line.
+/// Returns the content of a line without its line ending, by zero-based number; empty if there is no such line.
 pub fn line_of(doc: &Doc, number: u64) -> &str
     ensures { result.now ≡ line_of doc.now.text number }
 {
@@ -22,7 +22,7 @@ pub fn line_of(doc: &Doc, number: u64) -> &str
     &text[start..end]
 }
 
-/// A character as it is shown.
+/// The character to display for `c`.
 fn shown(c: char) -> char
     ensures { result ≡ shown c }
 {
@@ -35,14 +35,14 @@ fn shown(c: char) -> char
     c
 }
 
-/// What stands under a character in front of a mark.
+/// The character below `c`, before the mark.
 fn blank(c: char) -> char
     ensures { result ≡ blank c }
 {
     if c == '\t' { c } else { ' ' }
 }
 
-/// A line as it is shown.
+/// Returns a line for display: control characters other than the tab become U+FFFD.
 pub fn shown_line(alloc: Global, line: &str) -> Result<String, AllocError>
     ensures { IfOk result (λ shown. string_bytes shown ≡ shown_line line.now) }
 {
@@ -51,7 +51,7 @@ pub fn shown_line(alloc: Global, line: &str) -> Result<String, AllocError>
     Ok(out)
 }
 
-/// Puts the characters of a line behind what is written.
+/// Appends a line for display.
 pub fn push_shown(out: &mut String, line: &str) -> Result<(), AllocError>
     ensures { OnOk result (string_bytes out.new ≡ string_bytes out.old ++ shown_line line.now) }
 {
@@ -61,7 +61,7 @@ pub fn push_shown(out: &mut String, line: &str) -> Result<(), AllocError>
     Ok(())
 }
 
-/// Puts what stands under the first so many characters of a line behind what is written.
+/// Appends the blanks below the first `count` characters of a line.
 pub fn push_blanks(out: &mut String, line: &str, count: u64) -> Result<(), AllocError>
     ensures { OnOk result (string_bytes out.new ≡ string_bytes out.old ++ blanks count line.now) }
 {
@@ -76,7 +76,7 @@ pub fn push_blanks(out: &mut String, line: &str, count: u64) -> Result<(), Alloc
     Ok(())
 }
 
-/// Puts a mark under so many characters behind what is written.
+/// Appends marks for `count` characters.
 pub fn push_marks(out: &mut String, count: u64) -> Result<(), AllocError>
     ensures { OnOk result (string_bytes out.new ≡ string_bytes out.old ++ marks count) }
 {

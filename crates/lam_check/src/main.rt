@@ -1,7 +1,7 @@
-//! The checker's program: what the language server says of a text, without an editor.
+//! The command-line checker: prints the diagnostics, types and derivations of texts without an editor, and verifies derivations.
 //!
-//! `reports::report` is all that is said of a text, and its contract says which report it is. Nothing here knows
-//! messages, sessions, or what a client is.
+//! `reports::report` produces the diagnostics of a text, and its contract defines that report. Nothing here deals with LSP
+//! messages, sessions or clients.
 #![tactic(auto)]
 
 mod args;
@@ -39,7 +39,7 @@ use std::process::ExitCode;
 use std::rt::Files;
 use types::types_text;
 
-// How the program ends. Where there is more than one reason, the greatest number counts.
+// Exit statuses. When several apply, the greatest one is returned.
 const FAULTLESS: u8 = 0;
 
 const FAULTY: u8 = 1;
@@ -50,14 +50,14 @@ const DEVICE: u8 = 4;
 
 const MEMORY: u8 = 5;
 
-/// So many files are checked between two counts.
+/// The number of files between two progress messages.
 const COUNTED: usize = 100;
 
-/// How what is told is shown.
+/// How output is presented.
 #[derive(Clone, Copy)]
 struct Looks {
     paint: Paint,
-    /// Whether it is told how many files are checked.
+    /// Whether progress is reported.
     counts: bool,
 }
 
@@ -77,7 +77,7 @@ fn words<R: AllocGlobal + Env>(rt: &R) -> io::Result<Vec<String>> {
     Ok(env::args(rt)?.collect(rt.alloc())?)
 }
 
-/// Colours are for terminals, and only where the environment does not forbid them.
+/// Returns whether to use colours: only on a terminal, and not if `NO_COLOR` is set and not empty.
 fn paint_for<R: AllocGlobal + Env>(rt: &R, terminal: bool) -> Paint {
     if !terminal {
         return Paint::Plain;
@@ -94,7 +94,7 @@ fn paint_for<R: AllocGlobal + Env>(rt: &R, terminal: bool) -> Paint {
     }
 }
 
-/// Says why the words could not be read. The status to end with.
+/// Reports that the arguments could not be read, and returns the exit status.
 fn refuse<R: Eprint>(rt: &R, error: &io::Error) -> u8 {
     let _ = eprintln!(rt; "lam_check: the words cannot be read: {error}");
     if error.kind() == ErrorKind::OutOfMemory {
@@ -103,7 +103,7 @@ fn refuse<R: Eprint>(rt: &R, error: &io::Error) -> u8 {
     USAGE
 }
 
-/// Reads the words, and then checks or says why not. The status to end with.
+/// Parses the arguments and checks the files, or reports what is wrong. Returns the exit status.
 fn start<R: AllocGlobal + Files + Input + Print + Eprint>(
     rt: &R,
     words: &[String],
@@ -127,7 +127,7 @@ fn start<R: AllocGlobal + Files + Input + Print + Eprint>(
     }
 }
 
-/// Says what is wrong with the words, of which no control character is shown. The status to end with.
+/// Reports a usage error with its control characters replaced, and returns the exit status.
 fn refuse_words<R: AllocGlobal + Eprint>(rt: &R, text: &str) -> u8 {
     for line in text.lines() {
         match shown_line(rt.alloc(), line) {
@@ -140,7 +140,7 @@ fn refuse_words<R: AllocGlobal + Eprint>(rt: &R, text: &str) -> u8 {
     USAGE
 }
 
-/// Checks one file after the other. The status to end with.
+/// Checks the files one after another, and returns the exit status.
 fn check_all<R: AllocGlobal + Files + Input + Print + Eprint>(
     rt: &R,
     asked: Asked,
@@ -158,12 +158,12 @@ fn check_all<R: AllocGlobal + Files + Input + Print + Eprint>(
     status
 }
 
-/// Says how many files are checked.
+/// Reports progress.
 fn tell_count<R: Eprint>(rt: &R, checked: usize, all: usize) {
     let _ = eprintln!(rt; "lam_check: {checked} of {all} files are checked");
 }
 
-/// Checks a file. The status to end with on its account.
+/// Checks one file, and returns the exit status for it.
 fn check<R: AllocGlobal + Files + Input + Print + Eprint>(
     rt: &R,
     asked: Asked,
@@ -200,7 +200,7 @@ fn check<R: AllocGlobal + Files + Input + Print + Eprint>(
     }
 }
 
-/// Prints the report on a text. The status to end with on its account.
+/// Prints the report on a text, and returns the exit status for it.
 fn tell_faults<R: AllocGlobal + Print + Eprint>(
     rt: &R,
     dialect: Dialect,
@@ -214,7 +214,7 @@ fn tell_faults<R: AllocGlobal + Print + Eprint>(
     )
 }
 
-/// Prints what was told of the faults of a text. The status to end with on its account.
+/// Prints a report, and returns the exit status for it.
 fn tell_checked<R: Print + Eprint>(rt: &R, told: Result<Checked, AllocError>) -> u8 {
     let Ok(checked) = told else {
         return want_of_memory(rt);
@@ -227,7 +227,7 @@ fn tell_checked<R: Print + Eprint>(rt: &R, told: Result<Checked, AllocError>) ->
     status.max(tell(rt, &checked.report))
 }
 
-/// Prints the types of a text. The status to end with on their account.
+/// Prints the types of a text, and returns the exit status for them.
 fn tell_types<R: AllocGlobal + Print + Eprint>(rt: &R, dialect: Dialect, text: &str) -> u8 {
     match types_text(rt.alloc(), text, dialect) {
         Ok(types) => tell(rt, &types),
@@ -235,7 +235,7 @@ fn tell_types<R: AllocGlobal + Print + Eprint>(rt: &R, dialect: Dialect, text: &
     }
 }
 
-/// Prints why the term at a place has its type, if that was found. The status to end with on its account.
+/// Prints the derivation that was found, if there is one, and returns the exit status for it.
 fn tell_found<R: AllocGlobal + Print + Eprint>(
     rt: &R,
     name: &str,
@@ -248,7 +248,7 @@ fn tell_found<R: AllocGlobal + Print + Eprint>(
     }
 }
 
-/// Says on standard error what is the matter with a file. The status to end with on its account.
+/// Reports a problem with a file on standard error, and returns the exit status: the one given, unless allocation fails.
 fn tell_of<R: AllocGlobal + Eprint, D: Display>(rt: &R, name: &str, matter: &D, status: u8) -> u8 {
     let Ok(shown) = shown_line(rt.alloc(), shown_name(name)) else {
         return want_of_memory(rt);
@@ -257,7 +257,7 @@ fn tell_of<R: AllocGlobal + Eprint, D: Display>(rt: &R, name: &str, matter: &D, 
     status
 }
 
-/// Prints a text. The status to end with on its account.
+/// Prints a text, and returns the exit status for it.
 fn tell<R: Print>(rt: &R, text: &str) -> u8 {
     match rt.print(text) {
         Ok(()) => FAULTLESS,
@@ -265,7 +265,7 @@ fn tell<R: Print>(rt: &R, text: &str) -> u8 {
     }
 }
 
-/// What a report calls a file.
+/// Returns the name of a file as it appears in reports.
 fn shown_name(name: &str) -> &str {
     if name == args::INPUT {
         return "<stdin>";
@@ -273,7 +273,7 @@ fn shown_name(name: &str) -> &str {
     name
 }
 
-/// Says that memory was refused. The status to end with.
+/// Reports that allocation failed, and returns the exit status.
 fn want_of_memory<R: Eprint>(rt: &R) -> u8 {
     let _ = eprintln!(rt; "lam_check: out of memory");
     MEMORY

@@ -1,17 +1,17 @@
-//! What stands out in a text that is printed.
+//! Highlighting of printed text.
 ghost use Rattle.std.specs.Prelude.{◌≡◌};
 ghost use Rattle.lam_check.specs.Paints.{brush, rest};
 
-/// Whether the output has colours.
+/// Whether the output is coloured.
 #[derive(Clone, Copy, Debug, PartialEq, Eq)]
 pub enum Paint {
     Plain,
-    /// The control sequences of a terminal.
+    /// With ANSI escape sequences.
     Colours,
 }
 
 impl Paint {
-    /// What stands before a text that stands out.
+    /// The sequence that starts highlighted text.
     pub fn brush(self) -> &'static str
         ensures { result.now ≡ brush self }
     {
@@ -21,7 +21,7 @@ impl Paint {
         }
     }
 
-    /// What stands behind it.
+    /// The sequence that ends it.
     pub fn rest(self) -> &'static str
         ensures { result.now ≡ rest self }
     {

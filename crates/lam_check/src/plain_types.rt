@@ -1,4 +1,4 @@
-//! Types, read back from their plain texts.
+//! Parsing of types from their plain text.
 ghost use Rattle.std.specs.Prelude.{◌≡◌, ◌≢◌, ◌<◌, ◌≤◌, ◌++◌, All, length, codes, IfOk, IfSome, IfNone, IsSomeAnd};
 ghost use Rattle.std.specs.Str.{byte};
 ghost use Rattle.lam_rules.specs.ReadableLabels.{HasReadableLabels, HaveReadableLabels};
@@ -10,11 +10,11 @@ ghost use Rattle.lam_check.specs.inner.PlainTypes.{NoArrow, IsTypeRead, levels_o
 use lam_rules::{Ty, make_arrow, make_record, plain_text_of};
 use std::alloc::{AllocError, Global};
 
-/// How deep a type may nest that is read: no type of a document nests deeper, since none has more nodes.
+/// The maximum nesting depth of a type that is parsed. No type of a document is deeper, since none has more nodes.
 const LEVELS: usize = 4_096;
 
-/// The type that has this text, with the fields of each record in their own order. There is none where its labels could be
-/// read in two ways, or it had more than 4,096 nodes.
+/// Returns the type with this text, keeping the order of the fields in each record. It finds every type of at most 4,096 nodes
+/// whose labels can be read in only one way.
 pub fn type_of_text(alloc: Global, text: &str) -> Result<Option<Ty>, AllocError>
     ensures some { IfOk result (λ found. IfSome found (λ ty. plain_text (typ_of ty) ≡ text.now)) }
     ensures none { IfOk result (λ found. IfNone found ((t : Typ) → HasReadableLabels t → nodes t ≤ 4096 → text.now ≡ plain_text t → ⊥)) }
@@ -29,7 +29,7 @@ pub fn type_of_text(alloc: Global, text: &str) -> Result<Option<Ty>, AllocError>
     Ok(Some(ty))
 }
 
-/// The type at the start of a text, and what is left of the text.
+/// Parses a type at the start of a text, and returns it with the rest of the text.
 #[cycle(types)]
 fn type_at<'t>(
     alloc: Global,
@@ -55,7 +55,7 @@ fn type_at<'t>(
     Ok(Some((make_arrow(alloc, parameter, outcome)?, rest)))
 }
 
-/// The type at the start of a text, up to an arrow that is not in parentheses.
+/// Parses a type at the start of a text, up to an arrow that is not in parentheses.
 #[cycle(types)]
 fn operand_at<'t>(
     alloc: Global,
@@ -98,7 +98,7 @@ fn word_at<'t>(text: &'t str) -> Option<(Ty, &'t str)>
     }
 }
 
-/// The type at the start of a text that has a parenthesis behind it.
+/// Parses a type followed by a closing parenthesis.
 #[cycle(types)]
 fn type_in_parentheses<'t>(
     alloc: Global,
@@ -118,7 +118,7 @@ fn type_in_parentheses<'t>(
     }
 }
 
-/// The record type behind whose first brace a text begins.
+/// Parses a record type, after its opening brace.
 #[cycle(types)]
 fn record_at<'t>(
     alloc: Global,
@@ -146,7 +146,7 @@ fn record_at<'t>(
     }
 }
 
-/// What stands in front of the first colon, and behind it.
+/// Splits a text at its first colon.
 fn around_colon<'t>(text: &'t str) -> Option<(&'t str, &'t str)>
     ensures shorter { IfSome result (λ x. length x.1.now < length text.now) }
     ensures around { (label rest : Text) → All (λ b. b ≢ byte ":") label → text.now ≡ label ++ (codes ":" ++ rest)
@@ -155,7 +155,7 @@ fn around_colon<'t>(text: &'t str) -> Option<(&'t str, &'t str)>
     text.split_once(':')
 }
 
-/// What is behind a comma and a blank, if these come first.
+/// Strips a leading comma and blank, if present.
 fn behind_comma<'t>(text: &'t str) -> &'t str
     ensures shorter { length result.now ≤ length text.now }
     ensures comma { (rest : Text) → text.now ≡ codes ", " ++ rest → result.now ≡ rest }
@@ -167,7 +167,7 @@ fn behind_comma<'t>(text: &'t str) -> &'t str
     }
 }
 
-/// What is behind the front of a text, if it has this front.
+/// Strips a prefix, if present.
 fn behind<'t>(text: &'t str, front: &str) -> Option<&'t str>
     ensures some { IfSome result (λ rest. text.now ≡ front.now ++ rest.now) }
     ensures none { IfNone result ((rest : Text) → text.now ≢ front.now ++ rest) }

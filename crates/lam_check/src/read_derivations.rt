@@ -1,4 +1,4 @@
-//! Derivations, read back from values of JSON.
+//! Derivations read back from JSON values.
 ghost use Rattle.std.specs.Prelude.{◌≡◌, ℕ, List, Option, codes, map, All, IfOk, IfSome, IfNone};
 ghost use Rattle.std.specs.Str.{IsCharBoundary, IsUtf8};
 ghost use Rattle.serde_json.specs.Data.{string, object, member, no_members};
@@ -29,7 +29,7 @@ use serde_json::Value;
 use std::alloc::{AllocError, Global};
 use thiserror::Error;
 
-/// Why a value is no derivation of a text.
+/// Why a value cannot be read as a derivation of a text.
 #[derive(Clone, Copy, Debug, PartialEq, Eq, Error)]
 pub enum Unread {
     #[error("it is no derivation: an object of `context` and `steps`, both lists")]
@@ -52,7 +52,7 @@ pub enum Unread {
     Memory,
 }
 
-/// The derivation of a text that a value is.
+/// Reads a value as a derivation of the text.
 pub fn derivation_in(alloc: Global, doc: &Doc, value: &Value) -> Result<Derivation, Unread>
     requires { IsUtf8 doc.now.text }
     ensures read { IfOk result (λ d. view value.now ≡ derivation_value doc.now.encoding doc.now.text (Some (derivation_of d))) }
@@ -96,7 +96,7 @@ fn context_in(alloc: Global, values: &[Value]) -> Result<Vec<(String, Option<Ty>
     Ok(context)
 }
 
-/// The entry of this number of a context.
+/// Reads the context entry with this index.
 fn entry_in(alloc: Global, number: usize, value: &Value) -> Result<(String, Option<Ty>), Unread>
     ensures read { IfOk result (λ entry. view value.now ≡ entry_value (entry_of entry)) }
     ensures unread { IsUnread result ((entry : ContextEntry) × IsReadableEntry entry.type × (view value.now ≡ entry_value entry)) }
@@ -114,7 +114,7 @@ fn entry_in(alloc: Global, number: usize, value: &Value) -> Result<(String, Opti
     }
 }
 
-/// The type of the entry of this number, or that it has none.
+/// Reads the type of the context entry with this index; `None` if it has no type.
 fn entry_type_in(alloc: Global, number: usize, value: &Value) -> Result<Option<Ty>, Unread>
     ensures read { IfOk result (λ ty. view value.now ≡ type_value (written_of ty)) }
     ensures unread { IsUnread result ((type : Option Typ) × IsReadableEntry type × (view value.now ≡ type_value type)) }
@@ -129,7 +129,7 @@ fn entry_type_in(alloc: Global, number: usize, value: &Value) -> Result<Option<T
     }
 }
 
-/// The type whose text a value is.
+/// Reads a value as the text of a type.
 fn type_in(alloc: Global, value: &Value) -> Result<Option<Ty>, AllocError>
     ensures some { IfOk result (λ found. IfSome found (λ ty. view value.now ≡ string (plain_text (typ_of ty)))) }
     ensures none { IfOk result (λ found. IfNone found ((t : Typ) → IsReadableType t → view value.now ≡ string (plain_text t) → ⊥)) }
@@ -160,7 +160,7 @@ fn steps_in(alloc: Global, doc: &Doc, values: &[Value]) -> Result<Vec<Step>, Unr
     Ok(steps)
 }
 
-/// The step of this number.
+/// Reads the step with this index.
 fn step_in(alloc: Global, doc: &Doc, number: usize, value: &Value) -> Result<Step, Unread>
     requires { IsUtf8 doc.now.text }
     ensures read { IfOk result (λ step. view value.now ≡ step_value doc.now.encoding doc.now.text (step_of step)) }
@@ -177,7 +177,7 @@ fn step_in(alloc: Global, doc: &Doc, number: usize, value: &Value) -> Result<Ste
     subtyping_in(alloc, number, from, lower, rule, upper)
 }
 
-/// The step of typing that has these members.
+/// Reads a typing step from its members.
 fn typing_in(
     alloc: Global,
     doc: &Doc,
@@ -209,7 +209,7 @@ fn typing_in(
     })
 }
 
-/// The step of subtyping that has these members.
+/// Reads a subtyping step from its members.
 fn subtyping_in(
     alloc: Global,
     number: usize,
@@ -238,7 +238,7 @@ fn subtyping_in(
     })
 }
 
-/// The type that a value is in the step of this number.
+/// Reads a type in the step with this index.
 fn step_type_in(alloc: Global, number: usize, value: &Value) -> Result<Ty, Unread>
     ensures read { IfOk result (λ ty. view value.now ≡ string (plain_text (typ_of ty))) }
     ensures unread { IsUnread result ((t : Typ) × IsReadableType t × (view value.now ≡ string (plain_text t))) }
@@ -250,7 +250,7 @@ fn step_type_in(alloc: Global, number: usize, value: &Value) -> Result<Ty, Unrea
     }
 }
 
-/// The numbers of the steps that the step of this number follows from.
+/// Reads the indices of the premises of the step with this index.
 fn premises_in(alloc: Global, number: usize, value: &Value) -> Result<Vec<usize>, Unread>
     ensures read { IfOk result (λ numbers. view value.now ≡ premises_value numbers.items) }
     ensures unread { IsUnread result ((numbers : List ℕ) × (view value.now ≡ premises_value numbers)) }
@@ -278,7 +278,7 @@ fn numbers_in(alloc: Global, number: usize, values: &[Value]) -> Result<Vec<usiz
     Ok(numbers)
 }
 
-/// The span of the text whose range a value is.
+/// Reads a range as a span of the text.
 fn span_in(doc: &Doc, value: &Value) -> Option<Span>
     requires { IsUtf8 doc.now.text }
     ensures some { IfSome result (λ span. view value.now ≡ range_value doc.now.encoding doc.now.text span) }
@@ -293,7 +293,7 @@ fn span_in(doc: &Doc, value: &Value) -> Option<Span>
     Some(Span { start, end })
 }
 
-/// The offset whose position a value is.
+/// Reads a position as an offset.
 fn offset_in(doc: &Doc, value: &Value) -> Option<usize>
     requires { IsUtf8 doc.now.text }
     ensures some { IfSome result (λ offset. view value.now ≡ position_value (position_of doc.now.encoding doc.now.text offset)) }
@@ -321,7 +321,7 @@ fn position_in(value: &Value) -> Option<Position>
     Some(Position { line, character })
 }
 
-/// The rule of typing whose name a value is.
+/// Reads the name of a typing rule.
 fn type_rule_in(value: &Value) -> Option<TypeRule>
     ensures some { IfSome result (λ rule. view value.now ≡ string (name_of_type_rule rule)) }
     ensures none { IfNone result ((rule : TypeRule) → view value.now ≡ string (name_of_type_rule rule) → ⊥) }
@@ -358,7 +358,7 @@ fn type_rule_named(name: &str) -> Option<TypeRule>
     }
 }
 
-/// The rule of subtyping whose name a value is.
+/// Reads the name of a subtyping rule.
 fn sub_rule_in(value: &Value) -> Option<SubRule>
     ensures some { IfSome result (λ rule. view value.now ≡ string (name_of_sub_rule rule)) }
     ensures none { IfNone result ((rule : SubRule) → view value.now ≡ string (name_of_sub_rule rule) → ⊥) }

@@ -1,4 +1,4 @@
-//! Members of objects, by their names.
+//! Access to the members of JSON objects by name.
 ghost use Rattle.std.specs.Prelude.{◌≡◌, IfSome, IfNone};
 ghost use Rattle.serde_json.specs.Data.{Data, Members, object, member, no_members};
 ghost use Rattle.serde_json.specs.View.{view, members_view};
@@ -6,7 +6,7 @@ ghost use Rattle.serde_json.specs.View.{view, members_view};
 use serde_json::Value;
 use std::collections::btree_map::Iter;
 
-/// The members of an object that has two, with these names, in the order of their bytes.
+/// Returns the members of an object that has exactly the two with these names, which are given in byte order.
 pub fn two_members<'v>(
     value: &'v Value,
     first: &str,
@@ -27,7 +27,7 @@ pub fn two_members<'v>(
     Some((one, other))
 }
 
-/// The members of an object that has four, with these names, in the order of their bytes.
+/// Returns the members of an object that has exactly the four with these names, which are given in byte order.
 pub fn four_members<'v>(
     value: &'v Value,
     first: &str,

@@ -1,4 +1,4 @@
-//! What is wrong with a text and where, as a person reads it.
+//! Human-readable diagnostics of a text.
 ghost use Rattle.std.specs.Prelude.{◌≡◌, ◌+◌, ◌++◌, ◌^◌, ◌<◌, ◌-◌, flat_map, map, codes, decimal, length, All, IfOk, OnOk, string_bytes, option_map};
 ghost use Rattle.lam_text.specs.declared.units.Encoding.{Encoding};
 ghost use Rattle.lam_query.specs.Views.{explained_of, mismatch_of};
@@ -17,15 +17,15 @@ use lam_session::values::message_of;
 use lam_text::{Doc, Encoding, Position};
 use std::alloc::{AllocError, Global};
 
-/// The faults of a text, one below the other, and how many there are.
+/// The diagnostics of a text as one report, and their number.
 #[derive(Drop)]
 pub struct Checked {
     pub report: String,
     pub count: usize,
 }
 
-/// The report on a text that goes by this name: exactly its faults, in the order of the text, each with the line and the
-/// column where it starts, counted in characters from 1, with its code and message, and with a mark under its line.
+/// Returns the report on a text with this name: exactly its diagnostics, in text order, each with the line and column where it
+/// starts (in characters, from 1), its code and message, and its line with a mark below.
 pub fn report(
     alloc: Global,
     name: &str,
@@ -82,7 +82,7 @@ fn push_fault(
     out.push_str("\n")
 }
 
-/// The line where a fault starts, the mark under it, and what is told behind the mark.
+/// Writes the line where a diagnostic starts, the mark below it, and the types after the mark.
 fn push_marked(
     out: &mut String,
     line: &str,
@@ -97,7 +97,7 @@ fn push_marked(
     push_mismatch(out, mismatch)
 }
 
-/// What was asked for and what was found, behind the mark.
+/// Writes the expected and the found type after the mark.
 fn push_mismatch(out: &mut String, mismatch: &Option<Mismatch>) -> Result<(), AllocError>
     ensures { OnOk result (string_bytes out.new ≡ string_bytes out.old ++ mismatch_text (option_map mismatch_of mismatch.now)) }
 {
@@ -110,7 +110,7 @@ fn push_mismatch(out: &mut String, mismatch: &Option<Mismatch>) -> Result<(), Al
     }
 }
 
-/// Where the character at an offset stands.
+/// The position of an offset, in characters.
 fn place_of(doc: &Doc, offset: usize) -> Position
     requires encoding { doc.now.encoding ≡ Encoding.Utf32 }
     requires boundary { IsCharBoundary doc.now.text offset }
@@ -118,7 +118,7 @@ fn place_of(doc: &Doc, offset: usize) -> Position
     ensures line { result.line + 1 < 2 ^ 64 }
     ensures column { result.character + 1 < 2 ^ 64 }
 {
-    // No line and no column is past the length of the text.
+    // No line or column exceeds the length of the text.
     let _past = past(doc.text());
     doc.position_of(offset)
 }
@@ -130,7 +130,7 @@ fn past(text: &str) -> usize
     text.len() + 1
 }
 
-/// The line that says where the fault is and what it is.
+/// Writes the position and the message of a diagnostic.
 fn push_head(
     out: &mut String,
     name: &str,
@@ -151,7 +151,7 @@ fn push_head(
     out.push_str(message_of(code))
 }
 
-/// A line and a column, counted from 1.
+/// Writes a line and a column, counted from 1.
 fn push_place(out: &mut String, place: Position) -> Result<(), AllocError>
     requires line { place.line + 1 < 2 ^ 64 }
     requires column { place.character + 1 < 2 ^ 64 }
@@ -178,7 +178,7 @@ fn push_code(out: &mut String, code: &str, paint: Paint) -> Result<(), AllocErro
     out.push_str(paint.rest())
 }
 
-/// The line where a fault starts, and the mark under it.
+/// Writes the line where a diagnostic starts, and the mark below it.
 fn push_excerpt(
     out: &mut String,
     line: &str,
@@ -196,7 +196,7 @@ fn push_excerpt(
     out.push_str(paint.rest())
 }
 
-/// How many characters of the line are marked.
+/// The number of characters to mark.
 fn width(line: &str, start: Position, end: Position) -> u64
     ensures { result ≡ width line.now start end }
 {

@@ -1,4 +1,4 @@
-//! Files of derivations that were sent: each is read, with the text that it is of.
+//! Files of derivations to verify: each is read along with the text that it is about.
 use crate::args::Asked;
 use crate::files::{ReadFault, text_of};
 use crate::verdicts::{sent_of, verdict};
@@ -6,8 +6,8 @@ use crate::{DEVICE, FAULTLESS, FAULTY, shown_name, tell, tell_checked, want_of_m
 use serde_json::{Category, Error, Value};
 use std::rt::Files;
 
-/// Prints whether the derivations of a file are right: one that is the whole file, or else one on each line. The status to
-/// end with on its account.
+/// Verifies the derivations in a file, which are the whole file or one on each line. Prints the results, and returns the exit
+/// status for them.
 pub fn tell_verdicts<R: AllocGlobal + Files + Input + Print + Eprint>(
     rt: &R,
     asked: Asked<'_>,
@@ -30,7 +30,7 @@ pub fn tell_verdicts<R: AllocGlobal + Files + Input + Print + Eprint>(
     }
 }
 
-/// Prints whether the derivations are right that stand on lines. The status to end with on their account.
+/// Verifies a derivation on each line. Prints the results, and returns the exit status for them.
 fn tell_lines<R: AllocGlobal + Files + Input + Print + Eprint>(
     rt: &R,
     asked: Asked<'_>,
@@ -48,7 +48,7 @@ fn tell_lines<R: AllocGlobal + Files + Input + Print + Eprint>(
     status
 }
 
-/// Prints whether a derivation is right. The status to end with on its account.
+/// Verifies one derivation. Prints the result, and returns the exit status for it.
 fn tell_verdict<R: AllocGlobal + Files + Input + Print + Eprint>(
     rt: &R,
     asked: Asked<'_>,
@@ -81,7 +81,7 @@ fn tell_verdict<R: AllocGlobal + Files + Input + Print + Eprint>(
     tell_checked(rt, told)
 }
 
-/// Says why a text is no JSON. The status to end with.
+/// Reports that a text is not JSON, and returns the exit status.
 fn tell_no_json<R: AllocGlobal + Print + Eprint>(rt: &R, name: &str, fault: &Error) -> u8 {
     if fault.classify() == Category::Memory {
         return want_of_memory(rt);
@@ -92,7 +92,7 @@ fn tell_no_json<R: AllocGlobal + Print + Eprint>(rt: &R, name: &str, fault: &Err
     }
 }
 
-/// Prints what is wrong with a file. The status to end with.
+/// Prints a problem with a file, and returns the exit status.
 fn tell_line<R: AllocGlobal + Print + Eprint>(rt: &R, name: &str, what: &str) -> u8 {
     match format!(in rt.alloc(); "{}: {what}\n", shown_name(name)) {
         Ok(line) => FAULTY.max(tell(rt, &line)),

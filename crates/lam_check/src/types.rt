@@ -1,4 +1,4 @@
-//! The types of commands.
+//! The types of commands, as lines of text.
 ghost use Rattle.std.specs.Prelude.{◌≡◌, ◌++◌, map, flat_map, option_map, IfOk, OnOk, string_bytes};
 ghost use Rattle.lam_query.specs.Views.{command_type_of};
 ghost use Rattle.lam_check.specs.Types.{typed_line, line_of_type, AreTypes};
@@ -8,8 +8,8 @@ use lam_query::command_types;
 use lam_rules::Dialect;
 use std::alloc::{AllocError, Global};
 
-/// A line for each command of a text that has a type: the name that it binds and its least type, or the type alone. A text
-/// with a type of more than 4,096 nodes has no line.
+/// Returns a line for each command of a text that has a type: the name that it binds and its least type, or the type alone. There
+/// are no lines if the text has a type of more than 4,096 nodes.
 pub fn types_text(alloc: Global, text: &str, dialect: Dialect) -> Result<String, AllocError>
     ensures { IfOk result (λ lines. AreTypes text.now (string_bytes lines) dialect) }
 {
@@ -29,7 +29,7 @@ fn lines_of(alloc: Global, types: &[CommandType]) -> Result<String, AllocError>
     Ok(lines)
 }
 
-/// Puts the line of a command behind what is written.
+/// Appends the line of a command.
 fn push_line(out: &mut String, shown: &CommandType) -> Result<(), AllocError>
     ensures { OnOk result (string_bytes out.new ≡ string_bytes out.old ++ line_of_type (command_type_of shown.now)) }
 {
@@ -40,7 +40,7 @@ fn push_line(out: &mut String, shown: &CommandType) -> Result<(), AllocError>
     }
 }
 
-/// Puts a line with a name, a sign and a type behind what is written, if there is a type.
+/// Appends a line with a name, a sign and a type, if there is a type.
 fn push_typed(
     out: &mut String,
     name: &str,

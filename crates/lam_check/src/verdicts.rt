@@ -1,4 +1,4 @@
-//! What is told of derivations that were sent.
+//! The results of verifying derivations.
 ghost use Rattle.std.specs.Prelude.{◌≡◌, All, IfOk};
 ghost use Rattle.serde_json.specs.View.{view};
 ghost use Rattle.lam_query.specs.Views.{StepStandsIn};
@@ -16,7 +16,7 @@ use lam_text::{Doc, Encoding};
 use serde_json::Value;
 use std::alloc::{AllocError, Global};
 
-/// A derivation as it was sent, and the name of the file that it is of, if it is told.
+/// Splits a value into the derivation and the name of the file that it is about, if given.
 pub fn sent_of(value: &Value) -> (&Value, Option<&str>) {
     match two_members(value, "derivation", "file") {
         Some((derivation, file)) => (derivation, file.as_str()),
@@ -24,7 +24,7 @@ pub fn sent_of(value: &Value) -> (&Value, Option<&str>) {
     }
 }
 
-/// Whether a value is a derivation of a term of the text: a line that says so, or what is wrong first.
+/// Verifies that a value is a derivation of a term of the text. The report says so, or names the first error.
 pub fn verdict(
     alloc: Global,
     name: &str,
@@ -57,7 +57,7 @@ fn refused(report: String) -> Result<Checked, AllocError>
     Ok(Checked { report, count: 1 })
 }
 
-/// The line that says what is accepted: of the last step, and the context if there is one.
+/// Reports the accepted context, if not empty, and the conclusion of the last step.
 fn accepted(
     alloc: Global,
     name: &str,
@@ -76,7 +76,7 @@ fn accepted(
     Ok(Checked { report, count: 0 })
 }
 
-/// Puts a context in front of what holds in it, as `x:Nat, y |- `.
+/// Writes a context before its conclusion, as in `x:Nat, y |- `.
 fn push_context(
     alloc: Global,
     out: &mut String,

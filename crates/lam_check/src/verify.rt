@@ -1,7 +1,7 @@
-//! Derivations, held against the text that they are about.
+//! Verification of a derivation against its text.
 //!
-//! Nothing of what made a derivation is trusted: its steps are built into a tree, the checker of proofs takes the tree for a
-//! term of the text, and the steps of the tree, with the ranges of that term's parts, have to be those that were given.
+//! The producer of the derivation is not trusted: its steps are built into a proof tree, the proof checker accepts the tree for a
+//! term of the text, and the steps of the tree, with the ranges of that term's parts, must equal those given.
 ghost use Rattle.std.specs.Prelude.{◌≡◌, ◌<◌, ◌↔◌, IsTrue, List, [], length, Some, map, reverse, IfOk};
 ghost use Rattle.lam_rules.specs.TermViews.{written_of};
 ghost use Rattle.lam_rules.specs.Typing.{TypingTree};
@@ -28,7 +28,7 @@ use lam_scope::{Binder, Place, Resolved, ScopeFault, Scopes, bind, resolve};
 use lam_token::Span;
 use std::alloc::{AllocError, Global};
 
-/// Whether a derivation is of a term of the text.
+/// Returns whether a derivation is about a term of the text.
 pub fn is_verified(
     alloc: Global,
     text: &str,
@@ -53,7 +53,7 @@ pub fn is_verified(
     )
 }
 
-/// The types of a context.
+/// Returns the types of a context.
 pub fn entries_of(
     alloc: Global,
     context: &[(String, Option<Ty>)],
@@ -77,7 +77,8 @@ fn copy_of_entry(alloc: Global, entry: &Option<Ty>) -> Result<Option<Ty>, AllocE
     }
 }
 
-/// Whether a derivation is of one of the terms. These are the types of its context, and the tree of its steps.
+/// Whether the derivation is about one of the terms. `entries` are the types of its context, and `proof` is the tree of its
+/// steps.
 fn is_of_some_term(
     alloc: Global,
     scopes: &Scopes,
@@ -103,7 +104,7 @@ fn is_of_some_term(
     Ok(false)
 }
 
-/// Whether it is of the term at a place.
+/// Returns whether the derivation is about the term with this id.
 pub fn is_of_term(
     alloc: Global,
     scopes: &Scopes,
@@ -133,7 +134,7 @@ pub fn is_of_term(
     Ok(are_same(&derivation.steps, &steps))
 }
 
-/// Whether the last step has the span of the term at a place, as it has where the steps are about that term.
+/// Returns whether the span of the last step is that of the term with this id, which holds for all derivations about it.
 pub fn ends_at(scopes: &Scopes, place: Place, steps: &[Step]) -> bool
     ensures { (commands : List CommandTree) (tree : TypingTree) → AreScopesOf scopes.now commands
         → map step_of steps.now ≡ steps_of 0 (typing_proof (tree_in (document_terms commands) place.0) tree) → IsTrue result }
@@ -144,7 +145,7 @@ pub fn ends_at(scopes: &Scopes, place: Place, steps: &[Step]) -> bool
     }
 }
 
-/// Whether a step is one of typing and has this span.
+/// Whether a step is a typing step with this span.
 fn is_at(step: &Step, span: Span) -> bool
     ensures { span_in (Some (step_of step.now).conclusion) ≡ Some span → IsTrue result }
 {
@@ -154,7 +155,7 @@ fn is_at(step: &Step, span: Span) -> bool
     }
 }
 
-/// Whether a context lists the names of the binders that a place sees.
+/// Returns whether the context lists the names in scope at a subterm.
 pub fn has_names(
     alloc: Global,
     scopes: &Scopes,
@@ -201,7 +202,7 @@ fn are_same(left: &[Step], right: &[Step]) -> bool
     true
 }
 
-/// Whether two steps are one.
+/// Returns whether two steps are equal.
 pub fn is_same(left: &Step, right: &Step) -> bool
     ensures { IsTrue result ↔ (step_of left.now ≡ step_of right.now) }
 {

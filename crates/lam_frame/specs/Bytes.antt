@@ -1,7 +1,7 @@
--- What a sink in memory holds.
+-- The model of an in-memory sink.
 use Rattle.std.specs.Prelude.{ℕ, List}
 
--- the bytes taken, how many of them are flushed, and how many calls failed
+-- the bytes accepted, how many of them are flushed, and how many calls have failed
 pub record Output : Type 0 where
   pub bytes : List ℕ
   pub flushed : ℕ

@@ -1,40 +1,40 @@
--- Frames of the base protocol (LSP 3.17, "Base Protocol"): a header part that names a length, and as many bytes of body.
+-- Frames of the base protocol (LSP 3.17, "Base Protocol"): a header part that gives a length, and a body of that many bytes.
 use Rattle.std.specs.Prelude.{◌≡◌, ◌≢◌, ℕ, ◌<◌, List, [], ◌∷◌, ◌++◌, length, codes, decimal, Option, Some, None, Ok, Err}
 use Rattle.lam_frame.specs.declared.fault.FrameFault.{FrameFault}
 use Rattle.lam_frame.specs.declared.fault.FrameFault.TheVariants.{BadHeader, Truncated}
 use Rattle.lam_frame.specs.Header.{HasHeader, IsSpoiled, IsTooLong, IsUnfinished, body_length, header_limit}
 
--- the bytes begin with a frame of this body, and these bytes follow it
+-- The bytes begin with a frame with this body, and these bytes follow it.
 pub record HasFrame (bytes body after : List ℕ) : Type 0 where
   pub lines : List (List ℕ)
   pub header : HasHeader bytes lines (body ++ after)
   pub size : body_length lines ≡ Ok (length body)
 
--- no frame can stand there any more, whatever bytes follow
+-- The bytes cannot begin with a frame, whatever bytes follow.
 pub data HasFault (bytes : List ℕ) (fault : FrameFault) : Type 0 where
   Spoiled : IsSpoiled bytes → fault ≡ BadHeader → HasFault bytes fault
   Endless : IsTooLong bytes → fault ≡ BadHeader → HasFault bytes fault
   BadFields : (lines : List (List ℕ)) (after : List ℕ) → HasHeader bytes lines after → body_length lines ≡ Err fault → HasFault bytes fault
 
--- neither: the header part or the body is not over yet
+-- Neither holds yet: the header part or the body is incomplete.
 pub data IsOpen (bytes : List ℕ) : Type 0 where
   InHeader : IsUnfinished bytes → length bytes < header_limit → IsOpen bytes
   InBody : (lines : List (List ℕ)) (part : List ℕ) (size : ℕ) → HasHeader bytes lines part → body_length lines ≡ Ok size → length part < size → IsOpen bytes
 
--- ---- a whole byte list
+-- ---- whole inputs
 
--- what is left behind the last frame: nothing at a clean end, else bytes with one fault
+-- what remains after the last frame: nothing at a clean end, otherwise bytes with one error
 abbrev pub IsRest : List ℕ → Option FrameFault → Type 0
 IsRest bytes None = bytes ≡ []
 IsRest bytes (Some Truncated) = IsOpen bytes × (bytes ≢ [])
 IsRest bytes (Some fault) = HasFault bytes fault
 
--- the bytes are frames of these bodies, in order, and a rest with this fault or none
+-- The bytes are frames with these bodies, in order, and a rest with this error or none.
 abbrev pub IsReading : List ℕ → List (List ℕ) → Option FrameFault → Type 0
 IsReading bytes [] fault = IsRest bytes fault
 IsReading bytes (body ∷ bodies) fault = (after : List ℕ) × HasFrame bytes body after × IsReading after bodies fault
 
--- ---- what is written
+-- ---- output
 
 -- the header part for a body of this length
 unfoldable pub header_line : ℕ → List ℕ

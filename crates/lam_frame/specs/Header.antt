@@ -7,29 +7,29 @@ use Rattle.std.specs.Str.Parse.{digits_value}
 use Rattle.lam_frame.specs.declared.fault.FrameFault.{FrameFault}
 use Rattle.lam_frame.specs.declared.fault.FrameFault.TheVariants.{NoLength, BadLength, TooLong, BadHeader}
 
--- how many bytes a header part may have
+-- the maximum length of a header part in bytes
 abbrev pub header_limit : ℕ
 header_limit = 4096
 
--- how many bytes a body may have: 64 MiB
+-- the maximum length of a body in bytes: 64 MiB
 abbrev pub body_limit : ℕ
 body_limit = 67108864
 
 -- ---- the lines
 
--- ASCII, and neither CR nor LF
+-- a byte allowed in a line: ASCII, and neither CR nor LF
 abbrev pub is_header_byte : ℕ → Bool
 is_header_byte b = nat_lt b 128 && not (b == 13 || b == 10)
 
--- such bytes alone
+-- The bytes are all allowed in a line.
 abbrev pub IsPlain : List ℕ → Type 0
 IsPlain bytes = list_all is_header_byte bytes ≡ true
 
--- a line is not empty, since an empty one ends the header part
+-- A line is not empty, since an empty one ends the header part.
 abbrev pub IsLine : List ℕ → Type 0
 IsLine line = (0 < length line) × IsPlain line
 
--- each of them a line
+-- Each of them is a line.
 abbrev pub AreLines : List (List ℕ) → Type 0
 AreLines lines = AllByRecursion IsLine lines
 
@@ -38,26 +38,25 @@ abbrev pub ended_lines : List (List ℕ) → List ℕ
 ended_lines [] = []
 ended_lines (line ∷ lines) = line ++ (13 ∷ 10 ∷ ended_lines lines)
 
--- the lines and the empty line
+-- the lines followed by the empty line
 abbrev pub header_text : List (List ℕ) → List ℕ
 header_text lines = ended_lines lines ++ (13 ∷ 10 ∷ [])
 
--- the bytes begin with the header part of these lines, and these bytes follow it
+-- The bytes begin with the header part made of these lines, and these bytes follow it.
 pub record HasHeader (bytes : List ℕ) (lines : List (List ℕ)) (after : List ℕ) : Type 0 where
   pub are_lines : AreLines lines
   pub text : bytes ≡ header_text lines ++ after
   pub fits : length (header_text lines) ≤ header_limit
 
--- ---- what is no header part, or none yet
+-- ---- invalid and incomplete header parts
 
--- bytes whose first spoils a header part: one above 127, a line feed with no carriage return in front,
--- or a carriage return with another byte than a line feed behind it
+-- The first byte is not allowed in a header part: it is above 127, an LF without a CR before it, or a CR followed by another byte than LF.
 abbrev pub IsMisplaced : List ℕ → Type 0
 IsMisplaced [] = ⊥
 IsMisplaced (b ∷ []) = (128 ≤ b) ⊎ (b ≡ 10)
 IsMisplaced (b ∷ c ∷ _) = ((128 ≤ b) ⊎ (b ≡ 10)) ⊎ ((b ≡ 13) × (c ≢ 10))
 
--- some lines, then a part of a line, and then a byte that cannot stand there
+-- Some lines, then a part of a line, and then a byte that is not allowed there.
 pub record IsSpoiled (bytes : List ℕ) : Type 0 where
   pub lines : List (List ℕ)
   pub part : List ℕ
@@ -67,13 +66,13 @@ pub record IsSpoiled (bytes : List ℕ) : Type 0 where
   pub misplaced : IsMisplaced rest
   pub text : bytes ≡ ended_lines lines ++ (part ++ rest)
 
--- of CR LF as much as the bytes end with: nothing yet, or the CR
+-- the part of CR LF at the end of the bytes: nothing yet, or the CR
 abbrev pub IsBegunEnd : List ℕ → Type 0
 IsBegunEnd [] = Unit {0}
 IsBegunEnd (b ∷ []) = b ≡ 13
 IsBegunEnd (_ ∷ _ ∷ _) = ⊥
 
--- some lines, and then at most a part of a line
+-- Some lines, and then at most a part of a line.
 pub record IsUnfinished (bytes : List ℕ) : Type 0 where
   pub lines : List (List ℕ)
   pub part : List ℕ
@@ -83,7 +82,7 @@ pub record IsUnfinished (bytes : List ℕ) : Type 0 where
   pub begun : IsBegunEnd begun_end
   pub text : bytes ≡ ended_lines lines ++ (part ++ begun_end)
 
--- 4,096 bytes, and no header part ends among them
+-- There are at least 4,096 bytes, and no header part ends within the limit.
 pub record IsTooLong (bytes : List ℕ) : Type 0 where
   pub long : header_limit ≤ length bytes
   pub endless : (lines : List (List ℕ)) (after : List ℕ) → HasHeader bytes lines after → ⊥
@@ -94,11 +93,11 @@ pub record IsTooLong (bytes : List ℕ) : Type 0 where
 abbrev pub is_colon : ℕ → Bool
 is_colon b = b == 58
 
--- a field has a name and a value
+-- The line has a colon between a name and a value.
 abbrev pub has_colon : List ℕ → Bool
 has_colon line = list_any is_colon line
 
--- the name before the first colon is `Content-Length`, in capital or small letters
+-- The name before the first colon is `Content-Length`, ignoring case.
 abbrev pub names_length : List ℕ → Bool
 names_length line = bytes_eq (map to_ascii_lowercase (before_first is_colon line)) (codes "content-length")
 
@@ -106,17 +105,17 @@ names_length line = bytes_eq (map to_ascii_lowercase (before_first is_colon line
 abbrev pub is_blank_byte : ℕ → Bool
 is_blank_byte b = b == 32 || b == 9
 
--- without the spaces and tabs in front
+-- the bytes without leading spaces and tabs
 abbrev pub trim_front : List ℕ → List ℕ
 trim_front [] = []
 trim_front (b ∷ bs) = if is_blank_byte b then trim_front bs else b ∷ bs
 
--- without those behind
+-- the bytes without trailing spaces and tabs
 abbrev pub trim_back : List ℕ → List ℕ
 trim_back [] = []
 trim_back (b ∷ bs) = if is_blank_byte b && list_all is_blank_byte bs then [] else b ∷ trim_back bs
 
--- without both
+-- the bytes without leading and trailing spaces and tabs
 abbrev pub trim : List ℕ → List ℕ
 trim bs = trim_back (trim_front bs)
 
@@ -124,17 +123,17 @@ trim bs = trim_back (trim_front bs)
 abbrev pub is_length : List ℕ → Bool
 is_length ds = nat_lt 0 (length ds) && (nat_le (length ds) 19 && list_all is_ascii_digit ds)
 
--- the number that a value of `Content-Length` writes, at most 64 MiB
+-- the number in a value of `Content-Length`, at most 64 MiB
 abbrev pub length_in : List ℕ → Result ℕ FrameFault
 length_in value =
     if is_length value then (if nat_lt body_limit (digits_value 10 value) then Err TooLong else Ok (digits_value 10 value)) else Err BadLength
 
--- the value of the one line that names the length
+-- the value of the only line that gives the length
 abbrev pub one_length : List (List ℕ) → Result ℕ FrameFault
 one_length [] = Err NoLength
 one_length (line ∷ []) = length_in (trim (after_first is_colon line))
 one_length (_ ∷ _ ∷ _) = Err BadLength
 
--- how many bytes the body has by these lines, or their fault
+-- the length of the body according to these lines, or their error
 abbrev pub body_length : List (List ℕ) → Result ℕ FrameFault
 body_length lines = if list_any (λ line. not (has_colon line)) lines then Err BadHeader else one_length (filter names_length lines)

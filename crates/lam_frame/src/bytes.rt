@@ -1,4 +1,4 @@
-//! Devices over memory, which tell their bytes.
+//! In-memory devices, whose bytes are observable in contracts.
 
 ghost use Rattle.std.specs.Prelude.{◌≡◌, ◌++◌, ℕ, List, [], Some};
 ghost use Rattle.lam_frame.specs.Bytes.{Output};
@@ -7,13 +7,13 @@ use crate::device::{DeviceFault, Sink, Source};
 use std::alloc::Global;
 use std::marker::Model;
 
-/// Brings the bytes of a slice. No pull of it fails.
+/// A source that yields the bytes of a slice. Its pulls never fail.
 #[derive(Drop)]
 pub struct BytesIn<'a> {
     rest: &'a [u8],
 }
 
-// Seen as the bytes that are still to come.
+// The model is the remaining bytes.
 impl<'a> Model for BytesIn<'a> {
     ghost Value = { List ℕ };
 
@@ -21,7 +21,7 @@ impl<'a> Model for BytesIn<'a> {
 }
 
 impl<'a> BytesIn<'a> {
-    /// A source of these bytes.
+    /// Creates a source of these bytes.
     pub fn new(bytes: &'a [u8]) -> BytesIn<'a>
         ensures { result ≡ bytes.now }
     {
@@ -49,8 +49,7 @@ impl Source for BytesIn<'_> {
     }
 }
 
-/// Takes bytes into memory. A push fails where the memory for its bytes is refused, and a flush
-/// never.
+/// A sink that collects bytes in memory. A push fails if allocation fails; a flush never fails.
 #[derive(Drop)]
 pub struct BytesOut {
     bytes: Vec<u8>,
@@ -65,7 +64,7 @@ impl Model for BytesOut {
 }
 
 impl BytesOut {
-    /// An empty sink, which grows by `alloc`.
+    /// Creates an empty sink, which allocates with `alloc`.
     pub fn new(alloc: Global) -> BytesOut
         ensures { result ≡ (record { bytes = []; flushed = 0; failures = 0 }) }
     {
@@ -76,7 +75,7 @@ impl BytesOut {
         }
     }
 
-    /// All that was taken, flushed or not.
+    /// Returns all bytes that were accepted, flushed or not.
     pub fn bytes(&self) -> &[u8]
         ensures { result.now ≡ self.now.bytes }
     {

@@ -1,4 +1,4 @@
-//! A device of which one call fails: for tests of what is done about it.
+//! A device with one failing call, for testing error handling.
 
 ghost use Rattle.std.specs.Prelude.{◌≡◌, ◌↔◌, ◌-◌, ◌^◌, ◌<◌, ◌≤◌, IsErr, IsTrue};
 ghost use Rattle.lam_frame.specs.Device.{Flushes, Pulls, Pushes, source_of, sink_of};
@@ -7,8 +7,8 @@ ghost use Rattle.lam_frame.specs.FailAt.{FailsOrPasses, IsDue, Passes, after_cal
 use crate::device::{DeviceFault, Sink, Source};
 use std::marker::Model;
 
-/// Wraps a source or a sink. Its call of one number fails without a call of what is wrapped, and all others pass: pulls
-/// are counted from 1, and so are pushes and flushes, together.
+/// Wraps a source or a sink. One numbered call fails without reaching the wrapped device, and all others are forwarded. Pulls are
+/// counted from 1; so are pushes and flushes, together.
 #[derive(Drop)]
 pub struct FailAt<D> {
     inner: D,
@@ -28,7 +28,7 @@ impl<D> Model for FailAt<D> {
 }
 
 impl<D> FailAt<D> {
-    /// A device whose call of this number fails; at 0 none fails.
+    /// Creates a device whose call with this number fails; with 0 none fails.
     pub fn new(inner: D, call: u64) -> FailAt<D>
         ensures { result ≡ (record { inner = inner; call = call; made = 0 }) }
     {
@@ -39,14 +39,14 @@ impl<D> FailAt<D> {
         }
     }
 
-    /// What is wrapped.
+    /// Returns the wrapped device.
     pub fn inner(&self) -> &D
         ensures { result.now ≡ self.now.inner }
     {
         &self.inner
     }
 
-    /// Counts one more call, up to the one that fails, and says whether it is that one.
+    /// Counts a call, up to the one that fails, and returns whether it is that one.
     fn fails_now(&mut self) -> bool
         ensures within { self.old.made ≤ self.old.call }
         ensures due { IsTrue result ↔ IsDue self.old }
@@ -59,7 +59,7 @@ impl<D> FailAt<D> {
         self.made == self.call
     }
 
-    /// How many calls of its own failed: one at most.
+    /// The number of failures of its own, at most one.
     fn own_failures(&self) -> u64
         ensures { result ≡ own_failures self.now.call self.now.made }
     {

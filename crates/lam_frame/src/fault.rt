@@ -1,37 +1,36 @@
-//! Why no frame was read or written.
+//! Errors of reading and writing frames.
 
 use thiserror::Error;
 
-/// The faults of a header part come in the order of its rule: what its bytes may be, before what
-/// its lines may say (LSP 3.17, "Header Part").
+/// An error of reading or writing a frame. In a header part, invalid bytes are reported before invalid lines (LSP 3.17, "Header
+/// Part").
 #[derive(Clone, Copy, Debug, PartialEq, Eq, Error)]
 pub enum FrameFault {
-    /// No line names `Content-Length`.
+    /// There is no `Content-Length` line.
     #[error("F1 NoLength")]
     NoLength,
-    /// It is named twice, or what is named is no number of at most 19 digits.
+    /// `Content-Length` occurs twice, or its value is not a number of at most 19 digits.
     #[error("F2 BadLength")]
     BadLength,
-    /// The body would have more than 67,108,864 bytes.
+    /// The body would be longer than 67,108,864 bytes.
     #[error("F3 TooLong")]
     TooLong,
-    /// A byte that cannot stand in a header part, one of more than 4,096 bytes, or a line with no
-    /// colon.
+    /// The header part has a byte that is not allowed or a line without a colon, or is longer than 4,096 bytes.
     #[error("F4 BadHeader")]
     BadHeader,
     /// The input ends inside a frame.
     #[error("F5 Truncated")]
     Truncated,
-    /// The device failed in this call.
+    /// The device failed during this call.
     #[error("F6 Device")]
     Device,
-    /// Memory was refused.
+    /// An allocation failed.
     #[error("F7 Memory")]
     Memory,
-    /// 2^48 pulls were made.
+    /// The limit of 2^48 pulls was reached.
     #[error("F8 TooManyTurns")]
     TooManyTurns,
-    /// An earlier call answered a fault.
+    /// An earlier call returned an error.
     #[error("F9 Spent")]
     Spent,
 }

@@ -1,4 +1,4 @@
-//! The header part of a frame: where it ends, and the length that its lines name.
+//! Header parts of frames: where they end, and the body length that they give.
 
 ghost use Rattle.std.specs.Prelude.{◌≡◌, ◌≤◌, ◌↔◌, IfSome, IsSome, codes, length, map, true};
 ghost use Rattle.std.specs.Char.{is_ascii_digit, to_ascii_lowercase};
@@ -11,27 +11,27 @@ ghost use Rattle.lam_frame.specs.inner.Scan.{IsFirstLine, IsScan, with_length_of
 
 use crate::fault::FrameFault;
 
-/// A header part has at most this many bytes.
+/// The maximum length of a header part in bytes.
 const HEADER_LIMIT: usize = 4096;
 
-/// A body has at most this many bytes.
+/// The maximum length of a body in bytes.
 const BODY_LIMIT: u64 = 67_108_864;
 
-/// More digits than these could pass 2^64.
+/// A number with more digits could exceed 2^64.
 const DIGITS_LIMIT: usize = 19;
 
-/// What the bytes of an input begin with.
+/// What an input begins with.
 pub(crate) enum Start {
     /// A header part of `header` bytes, for a body of `size` bytes.
     Whole { header: usize, size: usize },
-    /// A header part that is not over yet.
+    /// An incomplete header part.
     Open,
     Faulty(FrameFault),
 }
 
-/// Whether bytes begin with lines and an empty line.
+/// The result of scanning for lines up to an empty line.
 enum Header {
-    /// Yes, in `length` bytes, and what the lines say of the body's length.
+    /// The lines end after `length` bytes, and give `body` as the length of the body.
     Whole {
         length: usize,
         body: Result<u64, FrameFault>,
@@ -42,13 +42,13 @@ enum Header {
 
 /// What the rest of a header part begins with.
 enum Line<'a> {
-    /// A line, perhaps the empty one, and what follows its end.
+    /// A line, which may be empty, and the bytes after its line ending.
     Whole(&'a [u8], &'a [u8]),
     Unfinished,
     Spoiled,
 }
 
-/// What an input begins with, as far as its first 4,096 bytes tell.
+/// Determines what an input begins with, from at most its first 4,096 bytes.
 pub(crate) fn start_of(bytes: &[u8]) -> Start
     ensures { IsStart bytes.now result }
 {
@@ -71,7 +71,7 @@ pub(crate) fn start_of(bytes: &[u8]) -> Start
     }
 }
 
-/// The header part that `bytes` begin with, however long.
+/// Scans the header part at the start of `bytes`, of any length.
 fn scan_header(bytes: &[u8]) -> Header
     ensures { IsScan bytes.now result }
 {
@@ -112,7 +112,7 @@ fn first_line(bytes: &[u8]) -> Line<'_>
     Line::Whole(line, &rest[2..])
 }
 
-/// How many bytes stand before the first that is no byte of a line.
+/// The number of bytes before the first that is not allowed in a line.
 fn plain_length(bytes: &[u8]) -> usize
     ensures length { result ≡ prefix_len is_header_byte bytes.now }
     ensures within { result ≤ length bytes.now }
@@ -126,7 +126,7 @@ fn is_plain(byte: u8) -> bool
     byte.is_ascii() && !matches!(byte, b'\r' | b'\n')
 }
 
-/// What the lines say, where those before `line` say `so_far`.
+/// Adds a line to the result `so_far` of the lines before it.
 fn with_line(so_far: Result<u64, FrameFault>, line: &[u8]) -> Result<u64, FrameFault>
     ensures { result ≡ with_line_of so_far line.now }
 {
@@ -139,7 +139,7 @@ fn with_line(so_far: Result<u64, FrameFault>, line: &[u8]) -> Result<u64, FrameF
     with_length(so_far, value)
 }
 
-/// The name before the first colon and what follows the colon.
+/// Splits a line at its first colon into a name and a value.
 #[tactic(auto, using(crate::proofs::Lines::colons))]
 fn field(line: &[u8]) -> Option<(&[u8], &[u8])>
     ensures colon { IsSome result ↔ (has_colon line.now ≡ true) }
@@ -162,7 +162,7 @@ fn is_length_name(name: &[u8]) -> bool
     name.eq_ignore_ascii_case(b"Content-Length")
 }
 
-/// What the lines say with one more that names the length.
+/// Adds the value of a `Content-Length` line to the result `so_far`.
 fn with_length(so_far: Result<u64, FrameFault>, value: &[u8]) -> Result<u64, FrameFault>
     ensures { result ≡ with_length_of so_far value.now }
 {
@@ -225,7 +225,7 @@ fn length_of(value: &[u8]) -> Result<u64, FrameFault>
     Ok(length)
 }
 
-/// One digit or more, and too few to pass 2^64.
+/// Whether the value consists of at least one digit, and too few to exceed 2^64.
 fn is_number(value: &[u8]) -> bool
     ensures { result ≡ is_length value.now }
 {

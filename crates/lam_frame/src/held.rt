@@ -1,4 +1,4 @@
-//! Bytes that were pulled and are not used yet.
+//! The buffer of bytes that were pulled but not yet used.
 
 ghost use Rattle.std.specs.Prelude.{◌≡◌, ◌-◌, ◌^◌, ◌<◌, ◌≤◌, IfOk, List, ℕ, [], drop, length, take};
 ghost use Rattle.lam_frame.specs.Device.{source_of};
@@ -8,10 +8,10 @@ use crate::device::{DeviceFault, Source};
 use std::alloc::{AllocError, Global};
 use std::marker::Model;
 
-/// A pull asks for at most so many bytes.
+/// The maximum number of bytes that one pull requests.
 const CHUNK: usize = 65_536;
 
-/// A part of a chunk, from `start` to `end`.
+/// The bytes of a chunk from `start` to `end`.
 #[derive(Drop)]
 pub(crate) struct Held {
     chunk: Vec<u8>,
@@ -19,7 +19,7 @@ pub(crate) struct Held {
     end: usize,
 }
 
-// Seen as the bytes.
+// The model is these bytes.
 impl Model for Held {
     ghost Value = { List ℕ };
 
@@ -29,7 +29,7 @@ impl Model for Held {
 }
 
 impl Held {
-    /// Nothing yet, with room for a chunk.
+    /// An empty buffer, with room for a chunk.
     pub(crate) fn new(alloc: Global) -> Result<Held, AllocError>
         ensures { IfOk result (λ h. h ≡ []) }
     {
@@ -41,14 +41,14 @@ impl Held {
         })
     }
 
-    /// The bytes that are held.
+    /// The bytes in the buffer.
     pub(crate) fn bytes(&self) -> &[u8]
         ensures { result.now ≡ self.now }
     {
         &self.chunk[self.start..self.end]
     }
 
-    /// Uses up so many bytes in front.
+    /// Removes bytes from the front.
     pub(crate) fn drop_front(&mut self, count: usize)
         requires { count ≤ length self.old }
         ensures { self.new ≡ drop count self.old }
@@ -56,8 +56,7 @@ impl Held {
         self.start += count;
     }
 
-    /// Pulls once, with the bytes moved to the front of the chunk, so that there is room behind
-    /// them.
+    /// Moves the bytes to the front of the chunk to make room after them, and pulls once.
     pub(crate) fn pull<S: Source>(&mut self, source: &mut S) -> Result<usize, DeviceFault>
         requires room { length self.old < 65536 }
         requires failures { S.failed source.old < 2 ^ 64 - 1 }

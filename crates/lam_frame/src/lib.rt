@@ -1,11 +1,10 @@
-//! Frames of the base protocol, between bytes and bodies.
+//! Framing of the LSP base protocol: conversion between bytes and message bodies.
 //!
-//! A [`FrameReader`] gives the bodies of the frames that a [`Source`] brings, one after the other,
-//! however its pulls cut the bytes, and each fault just where the bytes have it; [`write_frame`]
-//! puts one frame into a [`Sink`], whole and flushed. Every input splits into frames and a rest, and only
-//! one way.
+//! A [`FrameReader`] returns the bodies of the frames from a [`Source`] one after another, regardless of how its pulls split the
+//! bytes, and reports each error exactly where it occurs in the bytes. [`write_frame`] writes one whole frame to a [`Sink`] and
+//! flushes it. Every input splits into frames and a rest in exactly one way.
 //!
-//! Nothing here knows JSON, messages, sessions, or what a body is for.
+//! This crate does not deal with JSON, messages, sessions, or the meaning of a body.
 #![tactic(auto)]
 
 mod bytes;

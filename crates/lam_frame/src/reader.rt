@@ -1,4 +1,4 @@
-//! Frames in, bodies out.
+//! Reading of frames.
 
 ghost use Rattle.std.specs.Prelude.{◌≡◌, IfSome, OnOk, ◌+◌, ◌-◌, ◌^◌, ◌<◌, ◌≤◌, IfOk, [], length, Ok, Err, None, OnSome};
 ghost use Rattle.lam_frame.specs.Device.{source_of};
@@ -14,20 +14,20 @@ use crate::held::Held;
 use std::alloc::{AllocError, Global};
 use std::marker::Model;
 
-/// A reader makes at most this many pulls.
+/// The maximum number of pulls of a reader.
 const PULL_LIMIT: u64 = 1 << 48;
 
-/// Whether a reader reads on.
+/// Whether a reader can still read.
 #[derive(Clone, Copy, Debug, PartialEq, Eq)]
 pub enum State {
     Reading,
-    /// The clean end was answered.
+    /// The end of the input was returned.
     Ended,
-    /// A fault was answered.
+    /// An error was returned.
     Spent,
 }
 
-/// Gives the bodies of the frames that a source brings.
+/// Reads frames from a source and returns their bodies.
 #[derive(Drop)]
 pub struct FrameReader {
     alloc: Global,
@@ -36,7 +36,7 @@ pub struct FrameReader {
     state: State,
 }
 
-// Seen as how far it got.
+// The model is the progress of the reader.
 impl Model for FrameReader {
     ghost Value = { Progress };
 
@@ -46,7 +46,7 @@ impl Model for FrameReader {
 }
 
 impl FrameReader {
-    /// A reader at the beginning of its input. What later calls need of memory they ask of `alloc`.
+    /// Creates a reader at the beginning of its input. Later calls allocate with `alloc`.
     pub fn new(alloc: Global) -> Result<FrameReader, AllocError>
         ensures { IfOk result (λ r. r ≡ (record { held = []; pulls = 0; state = State.Reading })) }
     {
@@ -58,16 +58,15 @@ impl FrameReader {
         })
     }
 
-    /// The body of the next frame, or none at the clean end.
+    /// Returns the body of the next frame, or `None` at the end of the input, if that is not inside a frame.
     ///
-    /// The first fault is the last answer: after it each call answers `Spent`. `NoLength`,
-    /// `BadLength`, `TooLong`, `BadHeader` and `Truncated` are those of the bytes, `Device` comes
-    /// where a pull of this call failed, `TooManyTurns` before the pull that would be one more
-    /// than 2^48, and `Memory` where a body found no room.
+    /// After the first error every call returns `Spent`. `NoLength`, `BadLength`, `TooLong`, `BadHeader` and `Truncated` are
+    /// errors in the bytes. `Device` is returned if a pull of this call failed, `TooManyTurns` before the pull that would exceed
+    /// 2^48, and `Memory` if a body could not be allocated.
     pub fn next<S: Source>(&mut self, source: &mut S) -> Result<Option<Vec<u8>>, FrameFault>
         requires { S.failed source.old < 2 ^ 64 - 1 }
 
-        // Without a pull.
+        // These two cases do not pull.
         ensures ended { self.old.state ≡ State.Ended → (result ≡ Ok None) × ((self.new ≡ self.old) × (source.new ≡ source.old)) }
         ensures spent { self.old.state ≡ State.Spent → (result ≡ Err FrameFault.Spent) × ((self.new ≡ self.old) × (source.new ≡ source.old)) }
 
@@ -116,7 +115,7 @@ fn read_frame<S: Source>(
     }
 }
 
-/// Takes a header part, and says how many bytes the body behind it has.
+/// Reads a header part, and returns the length of the body that follows it.
 fn read_header<S: Source>(
     held: &mut Held,
     pulls: &mut u64,
@@ -145,7 +144,7 @@ fn read_header<S: Source>(
     }
 }
 
-/// Where no byte comes any more while the header part is not over.
+/// The result when the input ends before a header part is complete.
 fn end_of_input(held: &Held) -> Result<Option<usize>, FrameFault>
     ensures { result ≡ end_after held.now }
 {
@@ -156,7 +155,7 @@ fn end_of_input(held: &Held) -> Result<Option<usize>, FrameFault>
     }
 }
 
-/// Takes a body of `size` bytes, which grows with the bytes that come.
+/// Reads a body of `size` bytes, which is allocated as the bytes arrive.
 fn read_body<S: Source>(
     alloc: Global,
     held: &mut Held,
@@ -185,7 +184,7 @@ fn read_body<S: Source>(
     }
 }
 
-/// Moves bytes from the front of `held` behind those of `body`, as many as it lacks.
+/// Moves bytes from the front of `held` to the end of `body`, as many as it lacks.
 fn move_bytes(held: &mut Held, body: &mut Vec<u8>, size: usize) -> Result<(), AllocError>
     requires { length body.old.items ≤ size }
     ensures { OnOk result (Moved body.old.items held.old size body.new.items held.new) }
@@ -197,7 +196,7 @@ fn move_bytes(held: &mut Held, body: &mut Vec<u8>, size: usize) -> Result<(), Al
     Ok(())
 }
 
-/// One pull behind the bytes that are held, where one more may be made.
+/// Pulls once more into the buffer, unless the limit is reached.
 fn pull_more<S: Source>(
     held: &mut Held,
     pulls: &mut u64,

@@ -1,5 +1,5 @@
-//! Devices over the readers and writers of `std`. A source tells its bytes where its reader does, and a sink where its
-//! writer does; how many of them are flushed it never tells, since a writer does not say that.
+//! Devices over the readers and writers of `std`. The bytes of a source are observable if those of its reader are, and those of a
+//! sink if those of its writer are. How many of them are flushed is never observable, since a writer does not tell.
 
 ghost use Rattle.std.specs.Prelude.{◌≡◌, ◌↔◌, ◌-◌, ◌<◌, ◌≤◌, IfOk, IsOk, length, ⊤};
 ghost use Rattle.std.specs.IoError.{error_kind};
@@ -9,11 +9,11 @@ use crate::device::{DeviceFault, Sink, Source};
 use std::io;
 use std::io::{ErrorKind, Read, Write};
 
-/// How often a read, a write or a flush is tried that a signal interrupts. All tries are one call
-/// of the device.
+/// The number of attempts at a read, a write or a flush that is interrupted by a signal. Together they are one call of the
+/// device.
 const TRIES: u32 = 1024;
 
-/// Brings what a reader gives.
+/// A source that reads from a reader.
 #[derive(Drop)]
 pub struct FromRead<R> {
     inner: R,
@@ -21,7 +21,7 @@ pub struct FromRead<R> {
 }
 
 impl<R: Read> FromRead<R> {
-    /// A source whose pulls read from `inner`.
+    /// Creates a source whose pulls read from `inner`.
     pub fn new(inner: R) -> FromRead<R>
         ensures coming { ⟦<FromRead<R> as Source>⟧.coming result ≡ R.remaining inner }
         ensures failures { ⟦<FromRead<R> as Source>⟧.failed result ≡ 0 }
@@ -50,7 +50,7 @@ impl<R: Read> Source for FromRead<R> {
     }
 }
 
-/// Hands on to a writer.
+/// A sink that writes to a writer.
 #[derive(Drop)]
 pub struct ToWrite<W> {
     inner: W,
@@ -58,7 +58,7 @@ pub struct ToWrite<W> {
 }
 
 impl<W: Write> ToWrite<W> {
-    /// A sink whose pushes write to `inner`.
+    /// Creates a sink whose pushes write to `inner`.
     pub fn new(inner: W) -> ToWrite<W>
         ensures taken { ⟦<ToWrite<W> as Sink>⟧.taken result ≡ W.contents inner }
         ensures failures { ⟦<ToWrite<W> as Sink>⟧.failed result ≡ 0 }
@@ -76,7 +76,7 @@ impl<W: Write> Sink for ToWrite<W> {
         self.failures
     }
 
-    /// A writer that takes nothing of some bytes has failed.
+    /// Fails if the writer accepts none of a nonempty slice.
     fn push(&mut self, from: &[u8]) -> Result<usize, DeviceFault> {
         let pushed = write_through(&mut self.inner, from);
         if pushed.is_err() {

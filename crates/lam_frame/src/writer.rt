@@ -1,4 +1,4 @@
-//! Bodies in, frames out.
+//! Writing of frames.
 
 ghost use Rattle.std.specs.Prelude.{◌≡◌, ◌-◌, ◌^◌, ◌<◌, ◌≤◌, ◌++◌, OnOk, OnErr, IfErr, decimal, drop, length, IsSome};
 ghost use Rattle.lam_frame.specs.Device.{AppendsFront, IsFlushed};
@@ -11,16 +11,16 @@ use crate::fault::FrameFault;
 
 const NAME: &[u8; 16] = b"Content-Length: ";
 
-/// What stands behind the number.
+/// What follows the number.
 const END: &[u8; 4] = b"\r\n\r\n";
 
-/// The name, the 20 digits of the greatest number, and the end.
+/// Room for the name, the 20 digits of the greatest number, and the end.
 const ROOM: usize = 40;
 
-/// Puts a frame of this body into the sink and flushes it.
+/// Writes a frame with this body to the sink and flushes it.
 ///
-/// The one fault is `Device`: a push or a flush failed, and a front of the frame was taken. A sink
-/// that takes all that it is given gets at most two pushes.
+/// The only error is `Device`: a push or a flush failed, and a prefix of the frame was accepted. A sink that accepts whole slices
+/// gets at most two pushes.
 pub fn write_frame<W: Sink>(sink: &mut W, body: &[u8]) -> Result<(), FrameFault>
     requires { W.failed sink.old < 2 ^ 64 - 1 }
     ensures taken { OnOk result (Appends (W.taken sink.old) (W.taken sink.new) (frame_text body.now)) }
@@ -40,7 +40,7 @@ pub fn write_frame<W: Sink>(sink: &mut W, body: &[u8]) -> Result<(), FrameFault>
     }
 }
 
-/// Writes the header part of a body of this length to the end of `room`, and says where it begins.
+/// Writes the header part of a body of this length to the end of `room`, and returns where it begins.
 fn write_header(room: &mut [u8; ROOM], length: usize) -> usize
     ensures within { result ≤ 40 }
     ensures text { drop result room.new ≡ header_line length }
@@ -52,7 +52,7 @@ fn write_header(room: &mut [u8; ROOM], length: usize) -> usize
     start
 }
 
-/// Writes a number in front of the last four bytes, and says where it begins.
+/// Writes a number before the last four bytes, and returns where it begins.
 fn write_digits(room: &mut [u8; ROOM], number: usize) -> usize
     ensures low { 16 ≤ result }
     ensures high { result ≤ 36 }
@@ -70,7 +70,7 @@ fn write_digits(room: &mut [u8; ROOM], number: usize) -> usize
     start
 }
 
-/// Pushes until all is taken.
+/// Pushes until all bytes are accepted.
 fn push_all<W: Sink>(sink: &mut W, bytes: &[u8]) -> Result<(), FrameFault>
     requires { W.failed sink.old < 2 ^ 64 - 1 }
     ensures taken { OnOk result (Appends (W.taken sink.old) (W.taken sink.new) bytes.now) }

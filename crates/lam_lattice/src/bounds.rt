@@ -1,4 +1,4 @@
-//! Joins and meets of trees: both types go into a table, and the bound comes back as a tree.
+//! Joins and meets of type trees, computed in a temporary table.
 
 ghost use Rattle.std.specs.Prelude.{IfOk, IfSome, IfNone};
 ghost use Rattle.lam_rules.specs.Types.{IsWellFormed};
@@ -10,7 +10,7 @@ use lam_rules::{Dialect, Ty, TyTable};
 use lam_sub::Verdicts;
 use std::alloc::{AllocError, Global};
 
-/// The least type above both. Arrows have Top where their parameters have no type below both.
+/// Returns the least common supertype of two types. For arrows, this is Top if their parameters have no common subtype.
 #[tactic(auto, using(lam_rules::proofs::Tables::numbers))]
 pub fn join(alloc: Global, left: &Ty, right: &Ty, dialect: Dialect) -> Result<Ty, AllocError>
     requires left { IsWellFormed (typ_of left.now) }
@@ -26,7 +26,7 @@ pub fn join(alloc: Global, left: &Ty, right: &Ty, dialect: Dialect) -> Result<Ty
     table.tree(number)
 }
 
-/// The greatest type below both, or none where no type is below both.
+/// Returns the greatest common subtype of two types, or `None` if no type is a subtype of both.
 #[tactic(auto, using(lam_rules::proofs::Tables::numbers))]
 pub fn meet(
     alloc: Global,

@@ -1,5 +1,5 @@
-//! The least type above two types and the greatest one below them (TAPL 16.3): each pair has a join,
-//! since Top is above all; a pair has a meet exactly where some type is below both.
+//! Joins (least common supertypes) and meets (greatest common subtypes) of types (TAPL 16.3). Every two types have a
+//! join, since Top is a supertype of all types; they have a meet exactly if some type is a subtype of both.
 #![tactic(auto)]
 
 mod bounds;

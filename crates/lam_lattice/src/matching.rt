@@ -1,4 +1,4 @@
-//! The fields of two record types of a table, side by side.
+//! Matching the fields of two record types in a table.
 
 ghost use Rattle.std.specs.Prelude.{◌≡◌, ℕ, List, IfOk};
 ghost use Rattle.lam_rules.specs.Types.{Typ};
@@ -10,7 +10,7 @@ use lam_rules::TyNo;
 use lam_sub::field_number;
 use std::alloc::{AllocError, Global};
 
-/// A field of the first type, and the number that the second has under its label.
+/// A field of the first type, and the type id that the second has under its label, if any.
 #[derive(Drop)]
 pub(crate) struct Match {
     pub label: String,
@@ -18,7 +18,7 @@ pub(crate) struct Match {
     pub right: Option<TyNo>,
 }
 
-/// The fields of the first, in their order, each with what the second has under its label.
+/// The fields of the first type, in order, each with what the second has under its label.
 pub(crate) fn matched(
     alloc: Global,
     left: &[(String, TyNo)],
@@ -40,7 +40,7 @@ pub(crate) fn matched(
     Ok(made)
 }
 
-/// The fields of the second whose labels the first has not.
+/// The fields of the second type whose labels the first does not have.
 pub(crate) fn others(
     alloc: Global,
     left: &[(String, TyNo)],

@@ -1,5 +1,5 @@
-//! Joins and meets of types in a table, by recursion on both types at once. What is found of two
-//! numbers is kept, so that types which share cost by their distinct pairs of numbers.
+//! Joins and meets of types in a table, by simultaneous recursion on both types. Results are memoized by pairs of ids, so
+//! shared types are processed only once.
 
 ghost use Rattle.std.specs.Prelude.{◌≡◌, List, String, length, IfOk, IfSome, IfNone};
 ghost use Rattle.std.specs.declared.alloc.Global.{Global};
@@ -16,7 +16,7 @@ use lam_rules::{Shape, TyNo, TyTable};
 use lam_sub::{Verdicts, is_sub_no};
 use std::alloc::AllocError;
 
-/// The number of the least type above both.
+/// Returns the id of the least common supertype of two types.
 #[cycle(bounds)]
 pub fn join_no(
     table: &mut TyTable,
@@ -34,7 +34,7 @@ pub fn join_no(
     ensures join { IfOk result (λ number. IsJoin (type_of table.old left) (type_of table.old right) (type_of table.new number) verdicts.old.dialect) }
     ensures order { IfOk result (λ number. JoinsInOrder (type_of table.old left) (type_of table.old right) (type_of table.new number)) }
 {
-    // The types of a table have distinct labels, so each is below itself.
+    // The types of a table have distinct labels, so each is a subtype of itself.
     table.types_differ();
     if left.index == right.index {
         return Ok(left);
@@ -87,7 +87,7 @@ fn join_by_shape(
     }
 }
 
-/// The fields whose labels both have, with the joins of their types.
+/// The fields whose labels both types have, with the joins of their types.
 #[cycle(bounds)]
 fn join_fields(
     table: &mut TyTable,
@@ -115,7 +115,7 @@ fn join_fields(
     Ok(made)
 }
 
-/// The join of two types that are not of one shape: the one that is above the other, or else Top.
+/// The join of two types that are not both arrows or both records: one that is a supertype of the other, or else Top.
 fn join_unlike(
     table: &mut TyTable,
     verdicts: &mut Verdicts,
@@ -143,7 +143,7 @@ fn join_unlike(
     table.intern(Shape::Top)
 }
 
-/// The number of the greatest type below both, or none where no type is below both.
+/// Returns the id of the greatest common subtype of two types, or `None` if no type is a subtype of both.
 #[cycle(bounds)]
 pub fn meet_no(
     table: &mut TyTable,
@@ -222,8 +222,8 @@ fn meet_by_shape(
     }
 }
 
-/// The fields of the first, those whose labels the second has too with the meets of their types, or
-/// none where such a meet is missing.
+/// The fields of the first type, with the meets of their types where the second has the label too, or `None` if one of
+/// these meets does not exist.
 #[cycle(bounds)]
 fn meet_fields(
     table: &mut TyTable,
@@ -255,7 +255,7 @@ fn meet_fields(
     Ok(Some(made))
 }
 
-/// The meet of two types that are not of one shape: the one that is below the other.
+/// The meet of two types that are not both arrows or both records: one that is a subtype of the other, if any.
 fn meet_unlike(
     table: &TyTable,
     verdicts: &mut Verdicts,

@@ -1,4 +1,4 @@
--- What is known of a text.
+-- Analyses of texts.
 use Rattle.std.specs.Prelude.{◌≡◌, ℕ, List, ◌∷◌, [], ◌++◌, map, None}
 use Rattle.std.specs.Str.{IsUtf8}
 use Rattle.lam_rules.specs.declared.rules.Dialect.{Dialect}
@@ -9,16 +9,16 @@ use Rattle.lam_query.specs.inner.Bound.{HaveNumbers}
 use Rattle.lam_query.specs.inner.Kept.{rows_of, placed, first_large, all_syntax, all_faults}
 use Rattle.lam_query.specs.inner.PieceRows.{Sight, outset, AreRows, IsMadeUpOf}
 
--- the dialect that it was made in
+-- the dialect of an analysis
 abbrev pub dialect_of : Analysis → Dialect
 dialect_of a = a.dialect
 
--- how many commands were typed when everything was last made from a text alone, and since then, as the analysis counts them
+-- the number of commands typed by the last analysis from scratch and since then, as the analysis counts them
 abbrev pub commands_typed : Analysis → ℕ
 commands_typed a = a.typed
 
--- An analysis is of a text: it has a row for each of the text's pieces, with what was found of the piece's command; and it knows where the one
--- type is that is too large, the faults that tokens and the grammar decide, and those that types decide where none is too large.
+-- An analysis of a text has a row for each piece, with the types found in its command; the span of the type over the size limit, if any; and the lexical, syntactic and
+-- (if no type is over the limit) type diagnostics.
 pub record IsAnalysisOf (text : List ℕ) (a : Analysis) : Type 0 where
   pub is_text : IsUtf8 text
   pub ended : List (List ℕ)

@@ -1,4 +1,4 @@
--- What each command of a text shows of types.
+-- The types that each command of a text shows.
 use Rattle.std.specs.Prelude.{◌≡◌, ℕ, List, [], ◌∷◌, Option, Some, None, option_map}
 use Rattle.lam_token.specs.declared.span.Span.{Span}
 use Rattle.lam_rules.specs.Types.{Typ}
@@ -14,21 +14,21 @@ use Rattle.lam_typing.specs.LeastTypes.{IsLeastAt}
 use Rattle.lam_query.specs.Commands.{AreCommandsOfText}
 use Rattle.lam_query.specs.Sizes.{IsSizeFault, IsSmall}
 
--- a name, a type name, or neither, with the text of a type or none
+-- a name, a type name, or neither, with a type as text or none
 pub data CommandType : Type 0 where
   of_name : (name : Name) → (type : Option Text) → CommandType
   of_type_name : (name : Name) → (type : Option Text) → CommandType
   of_term : (type : Option Text) → CommandType
 
--- What a command shows that sees these abbreviations and these binders: the name that it binds with the least type of its term, or with its written type; a type
--- name with what it stands for; or the least type of its term alone.
+-- What a command shows, given the abbreviations and binders in scope: the name that it binds with the least type of its term or with its written type; a type name with
+-- what it stands for; or the least type of its term alone.
 abbrev pub IsCommandType : List Abbreviation → List (Option Name) → Scope → CommandTree → CommandType → Dialect → Type 0
 IsCommandType bs xs s (definition (word x r) t) shown d = (type : Option Typ) × IsLeastAt s (nameless bs xs t) type d × (shown ≡ of_name x (option_map text type))
 IsCommandType bs xs s (declaration (word x r) u) shown d = shown ≡ of_name x (option_map text (expansion bs u))
 IsCommandType bs xs s (abbreviation (word x r) u) shown d = shown ≡ of_type_name x (option_map text (expansion bs u))
 IsCommandType bs xs s (evaluation t) shown d = (type : Option Typ) × IsLeastAt s (nameless bs xs t) type d × (shown ≡ of_term (option_map text type))
 
--- what commands show, where the first sees this
+-- what commands show, given what is in scope at the first
 abbrev pub AreCommandTypesFrom : List Abbreviation → List (Option Name) → Scope → List CommandTree → List CommandType → Dialect → Type 0
 AreCommandTypesFrom bs xs s [] [] d = Unit {0}
 AreCommandTypesFrom bs xs s (c ∷ cs) (shown ∷ others) d =
@@ -36,7 +36,7 @@ AreCommandTypesFrom bs xs s (c ∷ cs) (shown ∷ others) d =
 AreCommandTypesFrom bs xs s [] (shown ∷ others) d = ⊥
 AreCommandTypesFrom bs xs s (c ∷ cs) [] d = ⊥
 
--- what all commands show; none where some type has more than 4,096 nodes
+-- what all commands show, or none if some type has more than 4,096 nodes
 pub data AreCommandTypes : List CommandTree → Option (List CommandType) → Dialect → Type 0 where
   small : {commands : List CommandTree} {shown : List CommandType} {d : Dialect}
       → IsSmall commands d → AreCommandTypesFrom [] [] [] commands shown d → AreCommandTypes commands (Some shown) d

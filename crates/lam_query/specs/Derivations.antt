@@ -1,4 +1,4 @@
--- Why a term has the type that is shown of it.
+-- Derivations of the types that a hover shows.
 use Rattle.std.specs.Prelude.{◌≡◌, ℕ, List, map, reverse, Option, Some, None}
 use Rattle.lam_rules.specs.Types.{Typ}
 use Rattle.lam_rules.specs.Texts.{Text}
@@ -12,23 +12,23 @@ use Rattle.lam_query.specs.Hovers.{IsTypedAround, IsHover}
 use Rattle.lam_query.specs.Steps.{Step, steps_of, typing_proof}
 use Rattle.lam_typing.specs.LeastTypes.{AreLeastEntries}
 
--- a binder of a context: its name, and its type or none
+-- a binder of a context, with its type if it has one
 pub record ContextEntry : Type 0 where
   pub name : Text
   pub type : Option Typ
 
--- why a term has a type: the binders that it sees, and the steps of a proof
+-- a derivation of the type of a term: the binders in scope, and the steps of a proof
 pub record Derivation : Type 0 where
-  -- from the outermost binder to the innermost
+  -- outermost first
   pub context : List ContextEntry
   pub steps : List Step
 
--- the names of the binders that a term sees, the outermost first
+-- the names of the binders in scope at a term, outermost first
 abbrev pub names_seen : PlacedTree → List Text
 names_seen t = map shown_name (reverse (term_of t).names)
 
--- The context has the names and the least entries of the binders that the innermost term round the offset sees. The steps are those of a proof by the rules, in that
--- context, that the term has the type that is shown of it.
+-- The context has the names and least entries of the binders in scope at the innermost term around the offset. The steps are those of a proof by the rules, in that
+-- context, that the term has the type that the hover shows.
 pub record IsDerivationAround (commands : List CommandTree) (offset : ℕ) (derivation : Derivation) (d : Dialect) : Type 0 where
   pub term : PlacedTree
   pub type : Typ
@@ -42,12 +42,12 @@ pub record IsDerivationAround (commands : List CommandTree) (offset : ℕ) (deri
   pub concluded : type_in tree ≡ type
   pub steps : derivation.steps ≡ steps_of 0 (typing_proof term tree)
 
--- a derivation, or none where nothing is shown
+-- a derivation, or none where there is no hover
 abbrev pub IsDerivation : List CommandTree → (offset : ℕ) → Option Derivation → Dialect → Type 0
 IsDerivation commands offset (Some derivation) d = IsDerivationAround commands offset derivation d
 IsDerivation commands offset None d = IsHover commands offset None d
 
--- what is derived for an offset of a text: what is derived for that offset in the text's commands
+-- the derivation at an offset of a text
 pub record IsDerivedIn (text : List ℕ) (offset : ℕ) (derived : Option Derivation) (d : Dialect) : Type 0 where
   pub commands : List CommandTree
   pub are_commands : AreCommandsOfText text commands

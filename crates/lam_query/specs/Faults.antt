@@ -1,4 +1,4 @@
--- Faults, and their order.
+-- Diagnostics, and their order.
 use Rattle.std.specs.Prelude.{◌≡◌, List, [], ◌∷◌, Bool, true, false, codes, if◌then◌else◌}
 use Rattle.std.specs.Str.{bytes_eq}
 use Rattle.std.specs.List.Sorted.{IsPermutation, IsSortedBy}
@@ -7,21 +7,21 @@ use Rattle.std.specs.Cmp.Lexicographic.{slice_cmp}
 use Rattle.lam_rules.specs.Texts.{Text}
 use Rattle.lam_token.specs.declared.span.Span.{Span}
 
--- a fault: its printed code, and where it is
+-- a diagnostic: its code as printed, and its span
 pub record Fault : Type 0 where
   pub code : Text
   pub span : Span
 
--- one stands before the other: by their starts, then by their ends, then by the bytes of their codes
+-- whether one comes before the other: by start, then by end, then by the bytes of the code
 abbrev pub is_before : Fault → Fault → Bool
 is_before a b = is_lt (ordering_then (ordering_then (nat_cmp a.span.start b.span.start) (nat_cmp a.span.end b.span.end)) (slice_cmp nat_cmp a.code b.code))
 
--- the same faults, each as often, in that order
+-- the same diagnostics, each as often, in that order
 pub record AreInOrder (faults ordered : List Fault) : Type 0 where
   pub same : IsPermutation faults ordered
   pub sorted : IsSortedBy is_before ordered
 
--- the codes that faults have
+-- all codes of diagnostics
 abbrev pub fault_codes : List Text
 fault_codes =
     codes "B1" ∷ codes "B2" ∷ codes "P1" ∷ codes "P2" ∷ codes "L1" ∷ codes "L2" ∷ codes "Y1" ∷ codes "Y2" ∷ codes "E1"
@@ -32,6 +32,6 @@ abbrev pub is_among : Text → List Text → Bool
 is_among code [] = false
 is_among code (c ∷ cs) = if bytes_eq code c then true else is_among code cs
 
--- the fault has one of the codes that faults have
+-- the diagnostic has one of these codes
 abbrev pub HasKnownCode : Fault → Type 0
 HasKnownCode f = is_among f.code fault_codes ≡ true

@@ -1,4 +1,4 @@
--- What a term that is to blame asks of its parts, and what they have.
+-- What a subterm at fault expects of its parts, and what was found there.
 use Rattle.std.specs.Prelude.{◌≡◌, ◌<◌, List, [], ◌∷◌, length, map, Option, Some, None, codes, All, Contains, ℕ}
 use Rattle.lam_rules.specs.Types.{Typ, arrow}
 use Rattle.lam_rules.specs.Terms.{Term, if_then_else, succ, pred, is_zero, apply, ascribe, project, fix}
@@ -14,22 +14,22 @@ use Rattle.lam_query.specs.Faults.{Fault}
 use Rattle.lam_query.specs.Sizes.{places_in, IsSmall}
 use Rattle.lam_query.specs.TextFaults.{AreFaults, blame_fault}
 
--- The texts of types: a part has the one where a type below the other is asked for; or the one that was found is of no use here, since it is no function or has no such field.
+-- Types as text: a part has type `found` where a subtype of `asked` is required; or the type found is no function type or has no such field.
 pub data Mismatch : Type 0 where
   expected : (asked found : Text) → Mismatch
   found : (found : Text) → Mismatch
 
--- of an application, from the least types of its terms: the argument does not fit, or the first term is no function
+-- of an application, from the least types of its terms: the argument does not fit, or the first term is not a function
 abbrev pub in_application : (function argument : Typ) → Mismatch
 in_application (arrow p r) t = expected (text p) (text t)
 in_application t u = found (text t)
 
--- of a fix, from that of its term: what the function gives does not fit what it takes, or it is no function
+-- of a fix, from that of its term: the result type does not fit the parameter type, or the term is not a function
 abbrev pub in_fix : Typ → Mismatch
 in_fix (arrow p r) = expected (text p) (text r)
 in_fix t = found (text t)
 
--- what there is to tell of a term in this scope; of an unbound name, of a label that stands twice and of all others nothing
+-- the mismatch of a term in this scope; none for an unbound name, a repeated label and all other terms
 abbrev pub IsMismatch : Scope → Term → Option Mismatch → Dialect → Type 0
 IsMismatch s (apply f a) m d = (t u : Typ) × IsLeastAt s f (Some t) d × IsLeastAt s a (Some u) d × (m ≡ Some (in_application t u))
 IsMismatch s (project e l) m d = (t : Typ) × IsLeastAt s e (Some t) d × (m ≡ Some (found (text t)))
@@ -41,16 +41,16 @@ IsMismatch s (ascribe e (Some w)) m d = (t : Typ) × IsLeastAt s e (Some t) d ×
 IsMismatch s (fix e) m d = (t : Typ) × IsLeastAt s e (Some t) d × (m ≡ Some (in_fix t))
 IsMismatch s e m d = m ≡ None
 
--- a fault, with what there is to tell of the term that is to blame
+-- a diagnostic, with the mismatch at the subterm at fault if there is one
 pub record ExplainedFault : Type 0 where
   pub fault : Fault
   pub mismatch : Option Mismatch
 
--- the codes of faults that are of no term: of tokens, of the grammar, of sizes and of written types
+-- the codes of diagnostics that are not about a term: of tokens, of the grammar, of sizes and of written types
 abbrev pub codes_of_no_term : List Text
 codes_of_no_term = codes "B1" ∷ codes "B2" ∷ codes "L1" ∷ codes "L2" ∷ codes "P1" ∷ codes "P2" ∷ codes "Y1" ∷ codes "Y2" ∷ []
 
--- It is the fault of a term of these commands that is to blame, and this is the term's; or of no term, and nothing is told.
+-- The diagnostic is about a term at fault in these commands, with its mismatch; or about no term, and without a mismatch.
 pub data IsExplained (commands : List CommandTree) (d : Dialect) : ExplainedFault → Type 0 where
   of_term : {e : ExplainedFault} (b : Blamed) → IsSmall commands d → b.number < length (places_in commands)
       → IsBlamed (place_in commands b.number).scope (place_in commands b.number).here d
@@ -58,7 +58,7 @@ pub data IsExplained (commands : List CommandTree) (d : Dialect) : ExplainedFaul
       → e.fault ≡ blame_fault commands b → IsMismatch (place_in commands b.number).scope (place_in commands b.number).here e.mismatch d → IsExplained commands d e
   of_no_term : {e : ExplainedFault} → Contains codes_of_no_term e.fault.code → e.mismatch ≡ None → IsExplained commands d e
 
--- the faults of a text, each with what there is to tell of its term
+-- the diagnostics of a text, each with its mismatch if there is one
 pub record AreExplained (text : List ℕ) (all : List ExplainedFault) (d : Dialect) : Type 0 where
   pub are_faults : AreFaults text (map (λ e. e.fault) all) d
   pub commands : List CommandTree

@@ -1,4 +1,4 @@
--- A proof as a list of steps: the nodes of its tree, each behind its premises, and these from left to right.
+-- A proof as a list of steps: the nodes of its tree in postorder, premises from left to right.
 use Rattle.std.specs.Prelude.{ℕ, ◌+◌, List, [], ◌∷◌, ◌++◌, Option, Some, None}
 use Rattle.lam_token.specs.declared.span.Span.{Span}
 use Rattle.lam_rules.specs.Types.{Typ}
@@ -8,17 +8,17 @@ use Rattle.lam_rules.specs.declared.rules.SubRule.{SubRule}
 use Rattle.lam_rules.specs.declared.rules.TypeRule.{TypeRule}
 use Rattle.lam_scope.specs.PlacedTerms.{PlacedTree, PlacedTrees, no_parts, part_first, one_part, term_of, parts_of}
 
--- what a step concludes by its rule: that the term at the span has the type, or that the one type is below the other
+-- what a step concludes by its rule: that the term at the span has the type, or that one type is a subtype of the other
 pub data Conclusion : Type 0 where
   typing : (rule : TypeRule) → Span → (type : Typ) → Conclusion
   subtyping : (rule : SubRule) → (lower upper : Typ) → Conclusion
 
--- a step, and the steps that are its premises, by their numbers from 0
+-- a step, and the zero-based indices of its premises
 pub record Step : Type 0 where
   pub conclusion : Conclusion
   pub premises : List ℕ
 
--- A tree of conclusions, each the root of the trees of its premises.
+-- A tree of conclusions, each with the trees of its premises.
 mutual
   pub data Proof : Type 0 where
     concludes : Conclusion → (premises : Proofs) → Proof
@@ -28,32 +28,32 @@ mutual
     no_proofs : Proofs
     proof_first : (first : Proof) → (rest : Proofs) → Proofs
 
--- how many steps stand before the last one of a proof
+-- the number of steps before the last one of a proof
 abbrev mutual
   pub steps_before : Proof → ℕ
   steps_before (concludes c premises) = number_of_steps premises
 
-  -- how many steps several proofs have
+  -- the number of steps of several proofs
   pub number_of_steps : Proofs → ℕ
   number_of_steps no_proofs = 0
   number_of_steps (proof_first p ps) = steps_before p + 1 + number_of_steps ps
 
--- the numbers of the last steps of proofs, where the first step has the number n
+-- the indices of the last steps of proofs, if the first step has index n
 abbrev pub last_steps : (n : ℕ) → Proofs → List ℕ
 last_steps n no_proofs = []
 last_steps n (proof_first p ps) = (n + steps_before p) ∷ last_steps (n + steps_before p + 1) ps
 
--- the steps of a proof, where the first one has the number n
+-- the steps of a proof, if the first one has index n
 abbrev mutual
   pub steps_of : (n : ℕ) → Proof → List Step
   steps_of n (concludes c premises) = steps_of_each n premises ++ record { conclusion = c; premises = last_steps n premises } ∷ []
 
-  -- the steps of several proofs, one behind the other
+  -- the steps of several proofs, one after the other
   pub steps_of_each : (n : ℕ) → Proofs → List Step
   steps_of_each n no_proofs = []
   steps_of_each n (proof_first p ps) = steps_of n p ++ steps_of_each (n + steps_before p + 1) ps
 
--- a proof of subtyping as a tree of conclusions
+-- a subtyping proof as a tree of conclusions
 abbrev mutual
   pub sub_proof : SubTree → Proof
   sub_proof (sub_step rule lower upper premises) = concludes (subtyping rule lower upper) (sub_proofs premises)
@@ -63,23 +63,23 @@ abbrev mutual
   sub_proofs no_subs = no_proofs
   sub_proofs (sub_first p ps) = proof_first (sub_proof p) (sub_proofs ps)
 
--- the premise of subtyping, if there is one, behind those of typing
+-- the subtyping premise, if there is one, after the typing premises
 abbrev pub with_side : Proofs → Option SubTree → Proofs
 with_side ps None = ps
 with_side no_proofs (Some q) = proof_first (sub_proof q) no_proofs
 with_side (proof_first p ps) (Some q) = proof_first p (with_side ps (Some q))
 
--- the terms that the premises of a step are about: the parts of the term, but for T-Sub the term itself
+-- the terms that the premises of a step are about: the parts of the term, except for T-Sub the term itself
 abbrev pub premise_terms : TypeRule → PlacedTree → PlacedTrees
 premise_terms TypeRule.Sub t = one_part t
 premise_terms rule t = parts_of t
 
--- a proof of typing as a tree of conclusions, where it is about this term
+-- a typing proof about this term as a tree of conclusions
 abbrev mutual
   pub typing_proof : PlacedTree → TypingTree → Proof
   typing_proof t (typing_step rule type premises side) = concludes (typing rule (term_of t).span type) (with_side (typing_proofs t (premise_terms rule t) premises) side)
 
-  -- those of its premises: each is about the next of these terms, and about the term itself where none is left, which no proof by the rules has
+  -- those of its premises: each is about the next of these terms, and about the term itself if none is left, which never happens in a proof by the rules
   pub typing_proofs : PlacedTree → PlacedTrees → TypingTrees → Proofs
   typing_proofs t parts no_typings = no_proofs
   typing_proofs t no_parts (typing_first p ps) = proof_first (typing_proof t p) (typing_proofs t no_parts ps)

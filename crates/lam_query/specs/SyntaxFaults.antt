@@ -1,4 +1,4 @@
--- The faults that tokens and the grammar decide.
+-- Lexical and syntactic diagnostics.
 use Rattle.std.specs.Prelude.{◌≡◌, ◌<◌, ◌≤◌, ◌-◌, ℕ, List, [], ◌∷◌, ◌++◌, length, true, codes, Option, Some, None, slice_get}
 use Rattle.std.specs.List.{filter_map}
 use Rattle.std.specs.Option.{option_to_list}
@@ -11,17 +11,17 @@ use Rattle.lam_syntax.specs.Grammar.{Spells}
 use Rattle.lam_syntax.specs.Answers.{token_limit, has_bad, IsTaken, GoesWrongAt, EndsEarly, pieces_of}
 use Rattle.lam_query.specs.Faults.{Fault}
 
--- the fault with this code at this span
+-- the diagnostic with this code at this span
 abbrev pub fault_at : Text → Span → Fault
 fault_at code span = record { code = code; span = span }
 
--- the fault that a token is by itself
+-- the lexical error that a token is, if it is one
 abbrev pub fault_of_token : Lexeme → Option Fault
 fault_of_token (lexeme kind.BadCharacter text span) = Some (fault_at (codes "B1") span)
 fault_of_token (lexeme kind.BadComment text span) = Some (fault_at (codes "B2") span)
 fault_of_token t = None
 
--- the fault that a piece has as a whole: that it is too long; else none where a token of it is a fault by itself, or where it is a command; else where it goes wrong
+-- the diagnostic of a piece as a whole: that it is too long; otherwise none if a token of it is a lexical error or it is a command; otherwise where parsing fails
 pub data PieceFault : List Lexeme → Option Fault → Type 0 where
   too_long : {ts : List Lexeme} {first last : Lexeme}
       → token_limit < length ts → slice_get ts 0 ≡ Some first → slice_get ts (length ts - 1) ≡ Some last
@@ -35,13 +35,13 @@ pub data PieceFault : List Lexeme → Option Fault → Type 0 where
       → IsTaken ts → EndsEarly ts → slice_get ts (length ts - 1) ≡ Some last
       → PieceFault ts (Some (fault_at (codes "P2") (span_of last)))
 
--- the faults of pieces, piece after piece
+-- the diagnostics of pieces, in order
 abbrev pub PieceFaults : List (List Lexeme) → List Fault → Type 0
 PieceFaults [] found = found ≡ []
 PieceFaults (p ∷ ps) found =
     (one : Option Fault) × (others : List Fault) × PieceFault p one × PieceFaults ps others × (found ≡ option_to_list one ++ others)
 
--- the faults that tokens and the grammar decide
+-- all lexical and syntactic diagnostics
 pub record AreSyntaxFaults (tokens : List Lexeme) (found : List Fault) : Type 0 where
   pub of_pieces : List Fault
   pub pieces : PieceFaults (pieces_of tokens) of_pieces

@@ -1,4 +1,4 @@
--- The faults of a text.
+-- The diagnostics of a text.
 use Rattle.std.specs.Prelude.{ℕ, List, [], ◌∷◌, ◌++◌, map, codes}
 use Rattle.lam_token.specs.declared.span.Span.{Span}
 use Rattle.lam_token.specs.Lexeme.{Lexeme}
@@ -15,23 +15,23 @@ use Rattle.lam_query.specs.Faults.{Fault, AreInOrder}
 use Rattle.lam_query.specs.SyntaxFaults.{fault_at, AreSyntaxFaults}
 use Rattle.lam_query.specs.Sizes.{IsSizeFault, IsSmall, places_in, span_numbered}
 
--- the fault of a written type
+-- the diagnostic of a written type
 abbrev pub written_fault : TypeFault → Fault
 written_fault (UnboundTypeName s) = fault_at (codes "Y1") s
 written_fault (RepeatedLabel s) = fault_at (codes "Y2") s
 
--- the fault of a term that is to blame
+-- the diagnostic of a term at fault
 abbrev pub blame_fault : List CommandTree → Blamed → Fault
 blame_fault commands blamed = fault_at blamed.code (span_numbered commands blamed.number)
 
--- Those that types decide: the size fault alone, where there is one; else all of written types, and all terms that are to blame.
+-- The type diagnostics: the size diagnostic alone if there is one, otherwise those of all written types and of all terms at fault.
 pub data AreTypeFaults : List CommandTree → List Fault → Dialect → Type 0 where
   too_large : {commands : List CommandTree} {s : Span} {d : Dialect} → IsSizeFault commands s d → AreTypeFaults commands (fault_at (codes "L1") s ∷ []) d
   small : {commands : List CommandTree} {d : Dialect} (blames : List Blamed)
       → IsSmall commands d → AreBlamed 0 (places_in commands) blames d
       → AreTypeFaults commands (map written_fault (faults [] commands) ++ map (blame_fault commands) blames) d
 
--- the faults of the text that these bytes spell, in order
+-- the diagnostics of a text, given as bytes, in order
 pub record AreFaults (text : List ℕ) (found : List Fault) (d : Dialect) : Type 0 where
   pub tokens : List Lexeme
   pub are_tokens : AreTokensOf text tokens

@@ -1,4 +1,4 @@
--- Documents in which types have nothing to complain of.
+-- Documents without type diagnostics.
 use Rattle.std.specs.Prelude.{List, []}
 use Rattle.lam_rules.specs.declared.rules.Dialect.{Dialect}
 use Rattle.lam_syntax.specs.Trees.{CommandTree}
@@ -8,11 +8,11 @@ use Rattle.lam_scope.specs.Expanded.{IsExpanded}
 use Rattle.lam_typing.specs.WellTyped.{AreTyped}
 use Rattle.lam_query.specs.Sizes.{IsSmall}
 
--- what commands state, without their names
+-- the nameless form of the commands
 abbrev pub statements_in : List CommandTree → List Statement
 statements_in commands = statements [] [] commands
 
--- each written type stands for a type, each definition and each evaluation has a type, and none of them is too large
+-- each written type stands for a type, each definition and evaluation has a type, and none is over the size limit
 pub record IsWellTyped (commands : List CommandTree) (d : Dialect) : Type 0 where
   pub expanded : IsExpanded (statements_in commands)
   pub typed : AreTyped [] (statements_in commands) d

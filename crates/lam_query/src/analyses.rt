@@ -1,4 +1,4 @@
-//! What is known of a text, piece by piece.
+//! The analysis of a text, kept piece by piece.
 ghost use Rattle.std.specs.Prelude.{◌≡◌, ◌<◌, ◌+◌, ◌^◌, ◌∷◌, [], ℕ, List, Some, IfOk, OnOk};
 ghost use Rattle.std.specs.Option.{option_map};
 ghost use Rattle.lam_rules.specs.Numbers.{Keeps};
@@ -22,41 +22,42 @@ use lam_syntax::Command;
 use lam_typing::TypeChecker;
 use std::alloc::{AllocError, Global};
 
-/// What is known of a text, by its pieces. It keeps no command and borrows nothing of the text: each method takes the text that the analysis is of, and reads from it again what it is asked about.
+/// The analysis of a text, kept piece by piece. It stores no command and borrows nothing from the text: each method takes the
+/// analysed text again and reads from it what it needs.
 #[derive(Drop)]
 pub struct Analysis {
-    /// Of the pieces, in the order of the text. No semicolon ends the last one.
+    /// The rows of the pieces, in text order. The last piece has no semicolon.
     pub(crate) rows: Vec<Row>,
-    /// What they tell of the text.
+    /// The diagnostics that the rows report.
     pub(crate) told: Told,
-    /// The numbers of names. What is bound to them counts no more: a change binds it again.
+    /// The numbers of names. Their entries are stale: a change binds the names again.
     pub(crate) bound: Bound,
     pub(crate) types: TypeChecker,
     pub(crate) dialect: Dialect,
-    /// How many commands were typed when all was last made anew, and since then.
+    /// The number of commands typed by the last analysis from scratch and since then.
     pub(crate) typed: usize,
-    /// How many bytes their pieces had.
+    /// The length in bytes of all pieces read by the last analysis from scratch and since then.
     pub(crate) read: usize,
 }
 
-/// An analysis while its text is read, piece after piece.
+/// An analysis under construction, which reads its text piece by piece.
 #[derive(Drop)]
 pub(crate) struct Analyst<'t> {
     pub(crate) alloc: Global,
-    /// Of the piece that is read.
+    /// The reader of the current piece.
     pub(crate) reader: Reader<'t>,
     pub(crate) types: TypeChecker,
-    /// What is bound behind the pieces that were read or followed.
+    /// What is bound after the pieces that were read or followed.
     pub(crate) bound: Bound,
     pub(crate) rows: Vec<Row>,
-    /// The byte behind them.
+    /// The byte offset at which those pieces end.
     pub(crate) end: usize,
     pub(crate) typed: usize,
     pub(crate) read: usize,
 }
 
 impl Analysis {
-    /// Of this text.
+    /// Analyses a text from scratch.
     pub fn new(alloc: Global, text: &str, dialect: Dialect) -> Result<Analysis, AllocError>
         ensures of { IfOk result (λ made. IsAnalysisOf text.now made) }
         ensures dialect { IfOk result (λ made. dialect_of made ≡ dialect) }
@@ -66,8 +67,8 @@ impl Analysis {
         analyst.finish(text, dialect)
     }
 
-    /// How many commands were typed when everything was last made from a text alone, and by the changes since then. This is for
-    /// tests: no clause says what is counted.
+    /// The number of commands typed by the last analysis from scratch and by the changes since then. For tests only: no clause
+    /// says what is counted.
     pub fn commands_typed(&self) -> usize
         ensures { result ≡ commands_typed self.now }
     {
@@ -76,7 +77,7 @@ impl Analysis {
 }
 
 impl<'t> Analyst<'t> {
-    /// Nothing was read yet.
+    /// An analyst that has read nothing yet.
     fn new(alloc: Global, dialect: Dialect) -> Result<Analyst<'t>, AllocError>
         ensures read { IfOk result (λ a. (text : List ℕ) → IsReadTo [] outset text text a) }
         ensures sound { IfOk result IsSound }
@@ -94,7 +95,7 @@ impl<'t> Analyst<'t> {
         })
     }
 
-    /// All pieces of a text.
+    /// Reads all pieces of a text.
     fn read(&mut self, text: &'t str) -> Result<(), AllocError>
         requires sound { IsSound self.old }
         requires read { IsReadTo [] outset text.now text.now self.old }
@@ -106,7 +107,7 @@ impl<'t> Analyst<'t> {
         Ok(())
     }
 
-    /// The next piece of a text. Answers whether a semicolon ends it.
+    /// Reads the next piece of a text, and returns whether it ends with a semicolon.
     pub(crate) fn read_piece(&mut self, text: &'t str) -> Result<bool, AllocError>
         requires sound { IsSound self.old }
         requires read { (ahead : List ℕ) × (s : Sight) × (rest : List ℕ) × IsReadTo ahead s text.now rest self.old }
@@ -121,7 +122,7 @@ impl<'t> Analyst<'t> {
         Ok(end.semicolon)
     }
 
-    /// The piece ends behind so many bytes.
+    /// Ends the current piece, which has this many bytes, and pushes its row.
     fn end_piece(&mut self, bytes: usize) -> Result<(), AllocError>
         requires sound { IsSound self.old }
         requires room { self.old.end + bytes < 2 ^ 64 }
@@ -142,7 +143,7 @@ impl<'t> Analyst<'t> {
         Ok(())
     }
 
-    /// What is kept of the next command, if there is one.
+    /// Returns the row of the next command, if there is one.
     pub(crate) fn keep(
         &mut self,
         command: &Option<Command>,
@@ -158,7 +159,7 @@ impl<'t> Analyst<'t> {
         }
     }
 
-    /// What is kept of a command. What it binds is bound from now on.
+    /// Returns the row of a command, and binds what it binds.
     fn keep_command(&mut self, command: &Command) -> Result<CommandRow, AllocError>
         requires { IsSound self.old }
         ensures kept { IfOk result (λ row. IsKeptBy (command_of command.now ∷ []) (Some (command_row_of row)) self.old self.new) }
@@ -173,7 +174,7 @@ impl<'t> Analyst<'t> {
         Ok(CommandRow { asks, binds, found })
     }
 
-    /// No piece of the text is left.
+    /// Finishes the analysis, when no piece of the text is left.
     pub(crate) fn finish(self, text: &str, dialect: Dialect) -> Result<Analysis, AllocError>
         requires sound { IsSound self }
         requires dialect { dialect_in self.types ≡ dialect }

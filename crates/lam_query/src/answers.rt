@@ -1,50 +1,50 @@
-//! What is answered.
+//! The types of the answers.
 
 use lam_rules::{SubRule, Ty, TypeRule};
 use lam_token::Span;
 
-/// A fault of a text, by its printed code, as `E3`.
+/// A diagnostic: its code as printed, such as `E3`, and its span.
 #[derive(Clone, Copy, Debug)]
 pub struct Fault {
     pub code: &'static str,
     pub span: Span,
 }
 
-/// What a term that is to blame asks of its parts, and what they have, as texts of least types.
+/// What a subterm at fault expects of its parts and what was found there, as printed types.
 #[derive(Drop, Debug)]
 pub enum Mismatch {
-    /// A part has the one where a type below the other is asked for.
+    /// A part has type `found` where a subtype of `expected` is required.
     Expected { expected: String, found: String },
-    /// What was found is no function, or has no such field.
+    /// The type found is no function type, or has no such field.
     Found(String),
 }
 
-/// A fault, with what there is to tell of the term that is to blame, if it is the fault of one.
+/// A diagnostic, with the mismatch at the subterm at fault if there is one.
 #[derive(Drop, Debug)]
 pub struct ExplainedFault {
     pub fault: Fault,
     pub mismatch: Option<Mismatch>,
 }
 
-/// The least type of a term, as a text, and the place of the term.
+/// The least type of a term, as text, and the span of the term.
 #[derive(Drop, Debug)]
 pub struct Hover {
     pub text: String,
     pub span: Span,
 }
 
-/// An entry of a list of completions.
+/// A completion item.
 #[derive(Drop, Debug)]
 pub struct Item {
     /// The label of a field, or a name.
     pub label: String,
-    /// The text of its type. A name may have none.
+    /// The text of its type. A name may have no type.
     pub detail: Option<String>,
-    /// Whether it is a label, behind a dot, and not a name.
+    /// Whether it is a label after a dot, not a name.
     pub field: bool,
 }
 
-/// What a command shows: texts of types, as a hover shows them, or none where there is no type.
+/// What a command shows: types as text, as in a hover, or `None` where there is no type.
 #[derive(Drop, Debug)]
 pub enum CommandType {
     /// A name, and the least type of the term or the written type that it is bound to.
@@ -58,24 +58,24 @@ pub enum CommandType {
 /// A proof that a term has a type.
 #[derive(Drop)]
 pub struct Derivation {
-    /// What the names in sight of the term stand for, from the outside in: the name of each binder, hidden ones and `_`
-    /// among them, and its least type, or none where it has no type.
+    /// The binders in scope at the term, outermost first, shadowed ones and `_` included: the name of each, and its least type,
+    /// or `None` if it has no type.
     pub context: Vec<(String, Option<Ty>)>,
-    /// The steps of the proof, each behind those of its premises; the last one concludes the term's type.
+    /// The steps of the proof, each after its premises; the last one concludes the type of the term.
     pub steps: Vec<Step>,
 }
 
-/// A step of a proof. Its premises are told by their places in the list of steps, counted from 0.
+/// A step of a proof. Its premises are zero-based indices into the list of steps.
 #[derive(Drop)]
 pub enum Step {
-    /// The term at the span has the type. A use of subtyping has the span of its term.
+    /// The term at the span has the type. A use of subsumption has the span of its term.
     Typing {
         rule: TypeRule,
         span: Span,
         ty: Ty,
         premises: Vec<usize>,
     },
-    /// The one type is below the other.
+    /// `lower` is a subtype of `upper`.
     Sub {
         rule: SubRule,
         lower: Ty,

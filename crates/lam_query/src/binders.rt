@@ -1,4 +1,4 @@
-//! The binders that a term sees, from the outside in: those of the commands in front of its own, and those round it in its command.
+//! The binders in scope at a term, outermost first: those of the commands before its own, then those around it in its command.
 ghost use Rattle.std.specs.Prelude.{◌≡◌, ◌≤◌, ◌∷◌, [], List, length, take, drop, map, get_or, None, All, IfOk, IfSome, IfNone};
 ghost use Rattle.lam_token.specs.Cut.{AreTokensOf};
 ghost use Rattle.lam_token.specs.Lexeme.{Lexeme, text_of};
@@ -21,18 +21,18 @@ use lam_token::first_token;
 use lam_typing::Typing;
 use std::alloc::{AllocError, Global};
 
-/// A binder that a term sees.
+/// A binder in scope at a term.
 #[derive(Clone, Copy)]
 pub(crate) struct SeenBinder<'a> {
-    /// None for an underscore.
+    /// `None` for an underscore.
     pub(crate) name: Option<&'a str>,
-    /// Its entry as a number of a table of types, if it has one.
+    /// Its context entry as a type id, if it has one.
     pub(crate) entry: Option<TyNo>,
 }
 
 impl Analysis {
-    /// Those of the commands in front of the piece of this number, hidden ones among them. The entries are numbers of the analysis'
-    /// own table. A command begins with the name that it binds.
+    /// Returns the binders of the commands before the piece at this index, shadowed ones included, with entries in the analysis'
+    /// own type table. A command begins with the name that it binds.
     pub(crate) fn binders_before<'t>(
         &self,
         alloc: Global,
@@ -63,7 +63,7 @@ impl Analysis {
     }
 }
 
-/// The text of the first token of a piece, if it has one.
+/// Returns the text of the first token of a piece, if it has one.
 fn first_word(piece: &str) -> Option<&str>
     ensures some { IfSome result (λ word. (t : Lexeme) × (others : List Lexeme) × AreTokensOf piece.now (t ∷ others) × (word.now ≡ text_of t)) }
     ensures none { IfNone result (AreTokensOf piece.now []) }
@@ -72,8 +72,8 @@ fn first_word(piece: &str) -> Option<&str>
     Some(token.text())
 }
 
-/// Those that the term at a place sees, but for the outer ones, which are so many. The entries are numbers of the typing's table;
-/// there are none where there is no typing.
+/// Returns the binders in scope at a subterm without the first `outer` ones. Entries are ids in the typing's table, or `None` if
+/// there is no typing.
 pub(crate) fn inner_binders<'s>(
     alloc: Global,
     scopes: &'s Scopes,
@@ -98,7 +98,7 @@ pub(crate) fn inner_binders<'s>(
     Ok(binders)
 }
 
-/// The entry of a binder, if there is a typing and it has one.
+/// Returns the entry of a binder, if there is a typing and it has one.
 fn entry_of(typing: Option<&Typing>, binder: Binder) -> Option<TyNo>
     ensures some { IfSome typing.entry (λ t. (answer (types_of t.now) result ≡ get_or (entries_in t.now) binder.0 None) × StandsIfAny (types_of t.now) result) }
     ensures none { typing.entry ≡ None → result ≡ None }

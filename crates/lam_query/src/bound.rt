@@ -1,4 +1,4 @@
-//! What the commands in front of a command have bound, and what the command sees of it.
+//! What the preceding commands bind, and what a command sees of it.
 ghost use Rattle.std.specs.Prelude.{◌≡◌, ℕ, List, [], map, Contains, Some, None, IfOk, OnOk};
 ghost use Rattle.lam_rules.specs.Types.{Typ};
 ghost use Rattle.lam_scope.specs.Environments.{names_seen, abbreviations_seen, TypeNamesStand};
@@ -18,30 +18,29 @@ use lam_syntax::{Command, Identifier};
 use std::alloc::{AllocError, Global};
 use std::collections::HashMap;
 
-/// Names, each with the entry of its last binder where a command bound it, and type names with what they stand for, as numbers
-/// of a table of types.
+/// The names and type names bound by commands, each with the entry of its last binder or the type it stands for, as type ids.
 #[derive(Drop)]
 pub(crate) struct Bound {
     pub(crate) names: Meanings,
     pub(crate) type_names: Meanings,
 }
 
-/// What names mean. A name that was bound or asked for once keeps its number.
+/// The meanings of names. A name that was bound or looked up once keeps its number.
 #[derive(Drop)]
 pub(crate) struct Meanings {
     numbers: HashMap<String, usize>,
-    /// By the numbers of names: nothing where the name is unbound by now, or else its entry, which may be none.
+    /// Indexed by name number: `None` for a name that is unbound now, otherwise its context entry, which may itself be `None`.
     entries: Vec<Option<Option<TyNo>>>,
 }
 
-/// A name or a type name, by its number.
+/// The number of a name or of a type name.
 #[derive(Clone, Copy)]
 pub(crate) enum NameNo {
     Name(usize),
     TypeName(usize),
 }
 
-/// What a command takes from outside: its names and type names, and the entries of the names, the outermost first.
+/// The free names and type names of a command that are bound, and the entries of the names, outermost first.
 #[derive(Drop)]
 pub(crate) struct Surroundings<'a> {
     pub(crate) environment: Environment<'a>,
@@ -49,7 +48,7 @@ pub(crate) struct Surroundings<'a> {
 }
 
 impl Bound {
-    /// Nothing is bound, and no name has a number.
+    /// An empty table: nothing is bound, and no name has a number.
     pub(crate) fn new(alloc: Global) -> Bound
         ensures bound { (x : Name) → (number_of result.names x ≡ None) × (number_of result.type_names x ≡ None) }
         ensures numbers { HaveNumbers result }
@@ -61,7 +60,7 @@ impl Bound {
         }
     }
 
-    /// Nothing is bound any more. The numbers of names stay.
+    /// Unbinds everything. Names keep their numbers.
     pub(crate) fn clear(&mut self)
         ensures bound { (x : Name) → (number_of self.new.names x ≡ None) × (number_of self.new.type_names x ≡ None) }
         ensures keeps { KeepsNumbers self.old self.new }
@@ -72,7 +71,7 @@ impl Bound {
         self.type_names.clear();
     }
 
-    /// What a command sees of the names and type names that it takes from outside.
+    /// Returns what a command sees of its free names and type names.
     pub(crate) fn around<'a>(
         &self,
         alloc: Global,
@@ -89,7 +88,7 @@ impl Bound {
         })
     }
 
-    /// The numbers of the names and type names that a command takes from outside. Those that had none get one.
+    /// Returns the numbers of the free names and type names of a command, and gives a number to those that had none.
     pub(crate) fn numbers_of(
         &mut self,
         alloc: Global,
@@ -109,7 +108,7 @@ impl Bound {
         Ok(asks)
     }
 
-    /// What a name means by now: nothing where it is unbound, or else its entry, which may be none.
+    /// Returns the meaning of a name: `None` if it is unbound now, otherwise its context entry, which may itself be `None`.
     pub(crate) fn meaning(&self, name: NameNo) -> Option<Option<TyNo>>
         ensures { result ≡ means self.now name }
     {
@@ -119,8 +118,7 @@ impl Bound {
         }
     }
 
-    /// The name of a command has this entry for the commands behind it, or its type name stands for this type. Answers with the
-    /// number of the name.
+    /// Binds the name of a command to this context entry, or its type name to this type, and returns the number of the name.
     pub(crate) fn bind(
         &mut self,
         alloc: Global,
@@ -145,7 +143,7 @@ impl Bound {
         }
     }
 
-    /// The name has this entry from now on. Answers with its number.
+    /// Binds a name to this entry, and returns its number.
     fn bind_name(
         &mut self,
         alloc: Global,
@@ -164,7 +162,7 @@ impl Bound {
         Ok(Some(NameNo::Name(place)))
     }
 
-    /// Binds again what a command bound before, by its number.
+    /// Binds again, by its number, what a command bound before.
     pub(crate) fn rebind(&mut self, binding: Option<NameNo>, number: Option<TyNo>)
         requires { HaveNumbers self.old }
         ensures bound { (c : CommandTree) → IsBinding self.old c binding → IsBoundAfter c number self.old self.new }
@@ -180,7 +178,7 @@ impl Bound {
 }
 
 impl Meanings {
-    /// Nothing is bound, and no name has a number.
+    /// An empty table: nothing is bound, and no name has a number.
     fn new(alloc: Global) -> Meanings
         ensures numbered { (x : Name) → numbered result x ≡ None }
         ensures numbers { AreNumbered result }
@@ -191,14 +189,14 @@ impl Meanings {
         }
     }
 
-    /// The number of a name, if it has one.
+    /// Returns the number of a name, if it has one.
     pub(crate) fn number(&self, name: &str) -> Option<usize>
         ensures { result ≡ numbered self.now name.now }
     {
         self.numbers.get(name).copied()
     }
 
-    /// What is bound for a name.
+    /// Returns the meaning of a name.
     fn get(&self, name: &str) -> Option<Option<TyNo>>
         ensures { result ≡ number_of self.now name.now }
     {
@@ -206,7 +204,7 @@ impl Meanings {
         self.under(*place)
     }
 
-    /// What is bound for the name of a number.
+    /// Returns the meaning of the name with this number.
     pub(crate) fn under(&self, place: usize) -> Option<Option<TyNo>>
         ensures { result ≡ kept_under self.now place }
     {
@@ -216,14 +214,14 @@ impl Meanings {
         }
     }
 
-    /// What is bound for all names, by their numbers.
+    /// Returns the meanings of all names, indexed by name number.
     pub(crate) fn entries(&self) -> &[Option<Option<TyNo>>]
         ensures { result.now ≡ self.now.entries.items }
     {
         &self.entries
     }
 
-    /// Lists the numbers of names behind others. Those that had none get one.
+    /// Appends the numbers of names, and gives a number to those that had none.
     fn push_names(
         &mut self,
         alloc: Global,
@@ -244,7 +242,7 @@ impl Meanings {
         Ok(())
     }
 
-    /// Lists the numbers of type names behind others. Those that had none get one.
+    /// Appends the numbers of type names, and gives a number to those that had none.
     fn push_type_names(
         &mut self,
         alloc: Global,
@@ -265,7 +263,7 @@ impl Meanings {
         Ok(())
     }
 
-    /// The number of a name, which may be a new one.
+    /// Returns the number of a name, and gives it one if it had none.
     fn number_of(&mut self, alloc: Global, name: &str) -> Result<usize, AllocError>
         requires { AreNumbered self.old }
         ensures number { IfOk result (λ n. numbered self.new name.now ≡ Some n) }
@@ -282,7 +280,7 @@ impl Meanings {
         Ok(place)
     }
 
-    /// The name of a number has this entry from now on.
+    /// Binds the name with this number to this entry.
     fn set(&mut self, place: usize, entry: Option<TyNo>)
         requires { AreNumbered self.old }
         ensures set { (x : Name) → numbered self.old x ≡ Some place → IsSetIn (Some x) entry self.old self.new }
@@ -294,7 +292,7 @@ impl Meanings {
         }
     }
 
-    /// Nothing is bound any more.
+    /// Unbinds everything. Names keep their numbers.
     fn clear(&mut self)
         ensures bound { (x : Name) → number_of self.new x ≡ None }
         ensures numbered { (x : Name) → numbered self.new x ≡ numbered self.old x }
@@ -306,7 +304,7 @@ impl Meanings {
     }
 }
 
-/// Enters those of the names that are bound, one by one, and answers with their entries.
+/// Enters into the environment those of the names that are bound, and returns their entries.
 fn enter_names<'a>(
     alloc: Global,
     known: &Meanings,
@@ -330,7 +328,7 @@ fn enter_names<'a>(
     Ok(entries)
 }
 
-/// Enters those of the type names that are bound, one by one.
+/// Enters into the environment those of the type names that are bound.
 fn enter_type_names<'a>(
     known: &Meanings,
     environment: &mut Environment<'a>,

@@ -1,4 +1,4 @@
-//! Which names mean something else after a change.
+//! The names whose meaning changed with the text.
 ghost use Rattle.std.specs.Prelude.{◌≡◌, ◌↔◌, IsTrue, true, false, Contains, IfOk, set};
 ghost use Rattle.lam_query.specs.declared.bound.NameNo.{NameNo};
 ghost use Rattle.lam_query.specs.inner.Bound.{means};
@@ -10,8 +10,8 @@ use crate::entries::Entries;
 use lam_rules::TyNo;
 use std::alloc::{AllocError, Global};
 
-/// Whether names and type names mean something else at one place of the new text than they did there in the old text, by their
-/// numbers. A name whose number is not listed counts as changed.
+/// For each name and type name, by its number, whether its meaning at one point of the new text differs from that in the old text.
+/// A name whose number is not listed counts as changed.
 #[derive(Drop)]
 pub(crate) struct ChangedNames {
     pub(crate) names: Vec<bool>,
@@ -19,7 +19,7 @@ pub(crate) struct ChangedNames {
 }
 
 impl ChangedNames {
-    /// The names that do not mean what they meant.
+    /// Marks the names whose meaning in `bound` is not the earlier one.
     pub(crate) fn between(
         alloc: Global,
         earlier: &Entries,
@@ -34,7 +34,7 @@ impl ChangedNames {
         })
     }
 
-    /// Whether one of these names is changed.
+    /// Whether the meaning of any of these names changed.
     pub(crate) fn has_any(&self, names: &[NameNo]) -> bool
         ensures { IsTrue result ↔ ((name : NameNo) × Contains names.now name × (is_changed self.now name ≡ true)) }
     {
@@ -59,7 +59,7 @@ impl ChangedNames {
         }
     }
 
-    /// Notes whether a name is changed from here on.
+    /// Marks a name as changed or unchanged from here on.
     pub(crate) fn set(&mut self, name: Option<NameNo>, changed: bool)
         ensures { IsMarked name changed self.old self.new }
     {
@@ -71,7 +71,7 @@ impl ChangedNames {
     }
 }
 
-/// For each of the entries, whether the name of its number has another one now.
+/// Returns for each of the entries, which are indexed by name number, whether the name has another one now.
 fn differences(
     alloc: Global,
     entries: &[Option<Option<TyNo>>],

@@ -1,4 +1,4 @@
-//! An analysis that is changed with its text.
+//! Incremental update of an analysis when its text changes.
 ghost use Rattle.std.specs.Prelude.{◌≡◌, ◌<◌, ◌≤◌, ◌+◌, ◌++◌, [], ℕ, List, length, take, drop, IfOk, OnOk};
 ghost use Rattle.std.specs.Option.{option_map};
 ghost use Rattle.lam_rules.specs.Numbers.{Keeps};
@@ -27,9 +27,9 @@ use std::alloc::{AllocError, Global};
 use std::mem;
 
 impl Analysis {
-    /// Of a new text, from that of the old one: the pieces in front of the change stay, and those behind it, but for commands that
-    /// ask for a name which means something else now. Where much was read since everything was made anew, nothing stays. After an
-    /// error nothing is left of the old analysis.
+    /// Turns the analysis of the old text into that of the new one. Rows before and after the change are reused, except those of
+    /// commands with a free name whose meaning changed. If too much has been read since the last analysis from scratch, nothing
+    /// is reused. On an error the old analysis is gone, since it is taken by value.
     pub fn changed(self, alloc: Global, old: &str, new: &str) -> Result<Analysis, AllocError>
         requires { IsAnalysisOf old.now self }
         ensures of { IfOk result (λ made. IsAnalysisOf new.now made) }
@@ -57,15 +57,15 @@ impl Analysis {
         analyst.finish(new, dialect)
     }
 
-    /// Whether so much was read that names and types which no command has any more may take most of the memory: all that grows
-    /// does so when a piece is read, and by about as much as it is long.
+    /// Whether so much has been read that names and types no longer in use may take up most of the memory: all that grows does so
+    /// when a piece is read, and by about the length of the piece.
     fn is_worn(&self, text: &str) -> bool {
         self.read > text.len().saturating_mul(2).saturating_add(65_536)
     }
 }
 
 impl<'t> Analyst<'t> {
-    /// The first pieces of a text were read: what they bind is bound, and nothing else. The rows are those of all pieces.
+    /// An analyst that has read the first pieces of a text, with exactly what they bind. Also returns the rows of all pieces.
     fn behind(alloc: Global, analysis: Analysis, front: FrontRows) -> (Analyst<'t>, Vec<Row>)
         requires numbers { HaveNumbers analysis.bound }
         requires inside { front.count ≤ length analysis.rows.items }
@@ -103,7 +103,7 @@ impl<'t> Analyst<'t> {
         (analyst, rows)
     }
 
-    /// Reads pieces up to where one begins that the old text has too, with all that comes behind it; or else all pieces.
+    /// Reads pieces until one starts that the old text also has, along with all that follows it, or else to the end of the text.
     fn read_until(&mut self, text: &'t str, old: &mut Behind<'_>) -> Result<(), AllocError>
         requires sound { IsSound self.old }
         requires read { (ahead : List ℕ) × (s : Sight) × (rest : List ℕ) × IsReadTo ahead s text.now rest self.old }
@@ -124,8 +124,7 @@ impl<'t> Analyst<'t> {
         Ok(())
     }
 
-    /// Puts the rows that were read in the place of those from one number to another, and answers with the number of the row
-    /// behind them.
+    /// Replaces the rows `from..to` by those that were read, and returns the index of the row after them.
     fn put_between(&mut self, rows: Vec<Row>, from: usize, to: usize) -> Result<usize, AllocError>
         requires forward { from ≤ to }
         requires inside { to ≤ length rows.items }
@@ -144,8 +143,8 @@ impl<'t> Analyst<'t> {
         Ok(next)
     }
 
-    /// Goes over the rows behind a change, from this one on: those of commands that ask for a name which means something else now
-    /// are made anew.
+    /// Goes over the rows after a change, starting with this one, and rebuilds those of commands with a free name whose meaning
+    /// changed.
     fn follow(&mut self, text: &'t str, next: usize, earlier: &Entries) -> Result<(), AllocError>
         requires sound { IsSound self.old }
         requires followed { (ts : List Typ) × (b : Bound) × IsFollowedTo text.now next ts b (λ then now. IsMeantBy then ts b earlier.now) self.old }
@@ -163,7 +162,7 @@ impl<'t> Analyst<'t> {
         Ok(())
     }
 
-    /// The row of this number stays, unless its command asks for a name that means something else now.
+    /// Keeps the row at this index, unless its command has a free name whose meaning changed.
     fn follow_row(
         &mut self,
         text: &'t str,
@@ -199,7 +198,7 @@ impl<'t> Analyst<'t> {
     }
 }
 
-/// The entry of what a command binds, or none if it is no command.
+/// Returns the entry of what a command binds, or `None` if there is no command.
 fn entry_of(command: &Option<CommandRow>) -> Option<TyNo>
     ensures { result ≡ entry_in (option_map command_row_of command.now) }
 {

@@ -1,4 +1,4 @@
-//! What can stand at an offset.
+//! Completion.
 ghost use Rattle.std.specs.Prelude.{◌≡◌, ◌+◌, ◌<◌, ◌^◌, ◌∷◌, [], ℕ, List, length, map, None, IfOk, IfSome, IfNone};
 ghost use Rattle.lam_token.specs.Lexeme.{Lexeme};
 ghost use Rattle.lam_token.specs.Cut.{AreTokensOf};
@@ -25,9 +25,9 @@ use lam_scope::bind;
 use lam_syntax::Command;
 use std::alloc::{AllocError, Global};
 
-/// What can stand at an offset, in bytes, ascending by the bytes of the labels: behind a dot the labels whose projections
-/// have a type, and on a variable the names in sight, as `textDocument/completion` of LSP 3.17 asks for them. Behind a dot
-/// nothing is listed where some type of the text, or with a label there one in front of the projection, is too large.
+/// Returns the completions at a byte offset, sorted by the bytes of their labels: after a dot, the labels whose projections have
+/// a type; on a variable, the names in scope (`textDocument/completion`, LSP 3.17). Nothing is listed after a dot if some type of
+/// the text is over the size limit, or, with a label put there, one before the projection.
 pub fn complete(
     alloc: Global,
     text: &str,
@@ -40,7 +40,7 @@ pub fn complete(
 }
 
 impl Analysis {
-    /// What can stand at an offset, in bytes: the labels behind a dot, or the names in sight of a variable.
+    /// Returns the completions at a byte offset: the labels after a dot, or the names in scope at a variable.
     pub fn complete(
         &self,
         alloc: Global,
@@ -59,7 +59,7 @@ impl Analysis {
         }
     }
 
-    /// The labels that can stand behind a dot before the cursor; none where no label can.
+    /// Returns the labels that can follow a dot before the cursor, or `None` where no label can.
     fn labels(
         &self,
         alloc: Global,
@@ -80,7 +80,7 @@ impl Analysis {
         }
     }
 
-    /// Those that can stand behind the dot that begins at this byte, where a label there makes this command of the piece.
+    /// Returns the labels that can follow the dot at this byte, given the command that the piece is with a label there.
     fn labels_in(
         &self,
         alloc: Global,
@@ -104,7 +104,7 @@ impl Analysis {
         Ok(Some(items))
     }
 
-    /// The names in sight of the variable that the cursor touches; none where it touches none.
+    /// Returns the names in scope at the variable that the cursor touches, or nothing if it touches none.
     fn names(
         &self,
         alloc: Global,

@@ -10,7 +10,7 @@ use crate::binders::SeenBinder;
 use lam_rules::{Ty, TyNo, TyTable};
 use std::alloc::{AllocError, Global};
 
-/// Puts binders, whose entries are numbers of this table, into a context, behind those that are there.
+/// Appends binders, whose entries are ids in this table, to a context.
 pub(crate) fn push_entries(
     alloc: Global,
     table: &TyTable,

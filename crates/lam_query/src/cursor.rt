@@ -1,4 +1,4 @@
-//! What stands before the cursor: a dot, a word that it touches.
+//! The dot before the cursor, and the word that the cursor touches.
 ghost use Rattle.std.specs.Prelude.{◌≡◌, ◌+◌, ◌<◌, ◌^◌, List, length, Some, None, IfSome};
 ghost use Rattle.std.specs.Option.{option_map};
 ghost use Rattle.lam_token.specs.Lexeme.{Lexeme, start_of};
@@ -7,9 +7,8 @@ ghost use Rattle.lam_query.specs.Completions.{is_word_kind, reaches, is_touched,
 
 use lam_token::{Kind, Token, first_token};
 
-/// The first byte of the dot that stands before the cursor, and before the word that it touches, among the tokens of a piece,
-/// whose bytes count from this one on; none where another token is there, or around the cursor. The byte behind the dot has an
-/// offset too.
+/// Returns the offset of the dot that is the last token of a piece before the cursor and the word it touches, or `None` if
+/// another token is there or contains the cursor. The piece starts at `from`. The offset after the dot fits in a `usize`.
 pub(crate) fn dot_before(piece: &str, from: usize, offset: usize) -> Option<usize>
     requires { from + length piece.now < 2 ^ 64 }
     ensures dot { (tokens : List Lexeme) → AreTokensFrom from piece.now tokens → result ≡ option_map start_of (dot_before offset tokens) }
@@ -31,7 +30,7 @@ pub(crate) fn dot_before(piece: &str, from: usize, offset: usize) -> Option<usiz
     dot
 }
 
-/// The byte at which the word that the cursor touches begins, if it touches one of a piece, whose bytes count from this one on.
+/// Returns the offset at which the word that the cursor touches starts, if it touches one. The piece starts at `from`.
 pub(crate) fn touched_word(piece: &str, from: usize, offset: usize) -> Option<usize>
     requires { from + length piece.now < 2 ^ 64 }
     ensures { (tokens : List Lexeme) → AreTokensFrom from piece.now tokens → result ≡ option_map start_of (touched_word offset tokens) }
@@ -48,7 +47,7 @@ pub(crate) fn touched_word(piece: &str, from: usize, offset: usize) -> Option<us
     None
 }
 
-/// Whether the token is no word that the cursor touches, and ends in front of the cursor or at it.
+/// Whether the token is not a word that the cursor touches, and ends before the cursor or at it.
 pub(crate) fn is_in_front(token: &Token<'_>, offset: usize) -> bool
     ensures { result ≡ is_in_front offset token.now }
 {
@@ -58,7 +57,7 @@ pub(crate) fn is_in_front(token: &Token<'_>, offset: usize) -> bool
     token.end() <= offset
 }
 
-/// Whether the token is no word that the cursor touches, and begins behind the cursor or at it.
+/// Whether the token is not a word that the cursor touches, and starts after the cursor or at it.
 pub(crate) fn is_behind(token: &Token<'_>, offset: usize) -> bool
     ensures { result ≡ is_behind offset token.now }
 {
@@ -68,7 +67,7 @@ pub(crate) fn is_behind(token: &Token<'_>, offset: usize) -> bool
     offset <= token.start()
 }
 
-/// Whether the token is no word that the cursor touches, and has the cursor strictly inside of it.
+/// Whether the token is not a word that the cursor touches, and has the cursor strictly inside.
 fn is_around(token: &Token<'_>, offset: usize) -> bool
     ensures { result ≡ is_around offset token.now }
 {
@@ -81,7 +80,7 @@ fn is_around(token: &Token<'_>, offset: usize) -> bool
     offset < token.end()
 }
 
-/// Whether the token is a word that has the cursor in it, or at its start or its end.
+/// Whether the token is a word with the cursor inside, or at its start or end.
 fn is_touched(token: &Token<'_>, offset: usize) -> bool
     ensures { result ≡ is_touched offset token.now }
 {
@@ -91,7 +90,7 @@ fn is_touched(token: &Token<'_>, offset: usize) -> bool
     reaches(token, offset)
 }
 
-/// Whether the offset is in the token, or just behind it.
+/// Whether the offset is inside the token, or just after it.
 fn reaches(token: &Token<'_>, offset: usize) -> bool
     ensures { result ≡ reaches offset token.now }
 {
@@ -101,7 +100,7 @@ fn reaches(token: &Token<'_>, offset: usize) -> bool
     offset <= token.end()
 }
 
-/// The first byte of the token, if it is a dot.
+/// Returns the offset of the token, if it is a dot.
 fn start_of_dot(token: &Token<'_>) -> Option<usize>
     ensures { result ≡ option_map start_of (if_dot token.now) }
 {
@@ -111,7 +110,7 @@ fn start_of_dot(token: &Token<'_>) -> Option<usize>
     }
 }
 
-/// Whether tokens of this kind are words: names, type names and the words of the language.
+/// Whether tokens of this kind are words: names, type names and keywords.
 fn is_word(kind: Kind) -> bool
     ensures { result ≡ is_word_kind kind }
 {

@@ -1,4 +1,4 @@
-//! Where the name under the cursor comes from, and who uses it.
+//! Go to definition and find references.
 ghost use Rattle.std.specs.Prelude.{All, IfOk, IfSome};
 ghost use Rattle.std.specs.Option.{option_map};
 ghost use Rattle.lam_query.specs.Analyses.{IsAnalysisOf};
@@ -12,9 +12,8 @@ use lam_scope::bind;
 use lam_token::Span;
 use std::alloc::{AllocError, Global};
 
-/// The token of the binder that the name or type name at an offset is or uses, as `textDocument/definition` of LSP 3.17
-/// asks for it. The offset and the span are bytes of the text's UTF-8. None where no name is touched, or it is bound to
-/// nothing.
+/// Returns the span of the binder that the name or type name at an offset is or uses (`textDocument/definition`, LSP 3.17), or
+/// `None` if there is no name there or it is not bound. The offset and the span are in bytes of the UTF-8 text.
 pub fn definition(alloc: Global, text: &str, offset: usize) -> Result<Option<Span>, AllocError>
     ensures definition { IfOk result (IsDefinitionIn text.now offset) }
     ensures whole_characters { IfOk result (λ found. IfSome found (IsSpanOfText text.now)) }
@@ -30,10 +29,9 @@ pub fn definition(alloc: Global, text: &str, offset: usize) -> Result<Option<Spa
     Ok(Some(scopes.token_of(binder)))
 }
 
-/// The tokens of the uses of what the name or type name at an offset is bound to, in the order of the text, behind the
-/// token of the binder where `declared` asks for it, as `textDocument/references` of LSP 3.17 does by
-/// `includeDeclaration`. The offset and the spans are bytes of the text's UTF-8. None where no name is touched, or it is
-/// bound to nothing.
+/// Returns the uses of the binder of the name or type name at an offset, in text order, after the binder itself if `declared`, as
+/// with `includeDeclaration` in `textDocument/references` of LSP 3.17. Returns `None` if there is no name there or it is not
+/// bound. The offset and the spans are in bytes of the UTF-8 text.
 pub fn references(
     alloc: Global,
     text: &str,
@@ -60,8 +58,8 @@ pub fn references(
 }
 
 impl Analysis {
-    /// The token of the binder that the name or type name at an offset, in bytes, is or uses; none where no name is
-    /// touched, or it is bound to nothing.
+    /// Returns the span of the binder that the name or type name at a byte offset is or uses, or `None` if there is no name there
+    /// or it is not bound.
     pub fn definition(
         &self,
         alloc: Global,
@@ -75,9 +73,8 @@ impl Analysis {
         definition(alloc, text, offset)
     }
 
-    /// The tokens of the uses of what the name or type name at an offset, in bytes, is bound to, in the order of the
-    /// text, behind the token of the binder where `declared` asks for it; none where no name is touched, or it is bound
-    /// to nothing.
+    /// Returns the uses of the binder of the name or type name at a byte offset, in text order, after the binder itself if
+    /// `declared`. Returns `None` if there is no name there or it is not bound.
     pub fn references(
         &self,
         alloc: Global,

@@ -1,4 +1,4 @@
-//! Why a term has the type that is shown of it.
+//! Derivations of the types that a hover shows.
 ghost use Rattle.std.specs.Prelude.{◌≡◌, None, All, IfOk, IfSome};
 ghost use Rattle.std.specs.Option.{option_map};
 ghost use Rattle.lam_syntax.specs.Views.{command_of};
@@ -20,7 +20,7 @@ use lam_scope::bind;
 use lam_syntax::Command;
 use std::alloc::{AllocError, Global};
 
-/// Why that term has that type; none where none is shown.
+/// Returns a derivation of the type that `hover` shows at a byte offset, or `None` where it shows none.
 pub fn derivation(
     alloc: Global,
     text: &str,
@@ -34,7 +34,8 @@ pub fn derivation(
 }
 
 impl Analysis {
-    /// Why that term has that type; none where none is shown. Its command is read and typed again.
+    /// Returns a derivation of the type that `hover` shows at a byte offset, or `None` where it shows none. The command is parsed
+    /// and typed again.
     pub fn derivation(
         &self,
         alloc: Global,
@@ -57,7 +58,7 @@ impl Analysis {
         }
     }
 
-    /// The same, where this is the command of the piece there, and no type of the text is too large.
+    /// The same, given the command of the piece there, if no type of the text is over the size limit.
     fn derivation_in(
         &self,
         alloc: Global,

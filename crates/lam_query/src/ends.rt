@@ -1,4 +1,4 @@
-//! What two texts have in common at their ends, and the pieces there.
+//! The common suffix of two texts, and the pieces there.
 ghost use Rattle.std.specs.Prelude.{◌≡◌, ◌≤◌, ◌-◌, List, length, IsTrue, drop};
 ghost use Rattle.lam_query.specs.inner.Ends.{IsEndOfBoth, IsLeftOf, IsMetAt};
 ghost use Rattle.lam_query.specs.inner.Kept.{Row as KeptRow, rows_of, bytes_of};
@@ -6,20 +6,20 @@ ghost use Rattle.lam_query.specs.inner.Kept.{Row as KeptRow, rows_of, bytes_of};
 use crate::fronts::{BLOCK, FrontRows};
 use crate::rows::Row;
 
-/// The last pieces of a text that was changed, of which the new text may have some at its end too.
+/// The pieces of the old text after a change, some of which the new text may also end with.
 #[derive(Drop)]
 pub(crate) struct Behind<'r> {
-    /// Of all pieces.
+    /// The rows of all pieces.
     pub(crate) rows: &'r [Row],
-    /// The number of the first piece that was not passed.
+    /// The index of the first piece that was not passed.
     pub(crate) next: usize,
-    /// How many bytes the old text has from there on.
+    /// The number of bytes of the old text from there on.
     pub(crate) bytes: usize,
-    /// How many bytes both texts end with.
+    /// The length of the common suffix of the two texts in bytes.
     pub(crate) common: usize,
 }
 
-/// How many bytes both texts end with.
+/// The length of the common suffix of the two texts in bytes.
 pub(crate) fn common_end(old: &str, new: &str) -> usize
     ensures { IsEndOfBoth result old.now new.now }
 {
@@ -36,7 +36,7 @@ pub(crate) fn common_end(old: &str, new: &str) -> usize
     end_from(old, new, end)
 }
 
-/// How many bytes both end with, of which so many are known.
+/// The length of the common suffix, of which `known` bytes are already known.
 fn end_from(old: &[u8], new: &[u8], known: usize) -> usize
     requires in_old { known ≤ length old.now }
     requires in_new { known ≤ length new.now }
@@ -53,7 +53,7 @@ fn end_from(old: &[u8], new: &[u8], known: usize) -> usize
 }
 
 impl<'r> Behind<'r> {
-    /// None behind these first pieces was passed.
+    /// The pieces after these first ones, none of which has been passed.
     pub(crate) fn new(rows: &'r [Row], front: FrontRows, old: &str, common: usize) -> Behind<'r>
         requires inside { front.count ≤ length rows.now }
         requires end { front.end ≤ length old.now }
@@ -70,8 +70,8 @@ impl<'r> Behind<'r> {
         }
     }
 
-    /// Passes over the pieces that begin further from the end of the text than these bytes, and answers whether one begins just
-    /// there and both texts are the same from there on.
+    /// Passes over the pieces that start more than `left` bytes before the end of the text, and returns whether one starts
+    /// exactly there and both texts are the same from there on.
     pub(crate) fn is_met(&mut self, left: usize) -> bool
         requires { (rows : List KeptRow) × IsLeftOf rows self.old }
         ensures left { (rows : List KeptRow) → IsLeftOf rows self.old → IsLeftOf rows self.new }
@@ -86,7 +86,7 @@ impl<'r> Behind<'r> {
         self.next < self.rows.len() && self.bytes == left && left <= self.common
     }
 
-    /// Passes over all.
+    /// Passes over all pieces.
     pub(crate) fn pass_all(&mut self)
         ensures rows { self.new.rows ≡ self.old.rows }
         ensures next { self.new.next ≡ length self.old.rows.now }

@@ -1,4 +1,4 @@
-//! What names mean at one place of a text.
+//! The meanings of names at one point of a text.
 ghost use Rattle.std.specs.Prelude.{◌≡◌, ◌<◌, ℕ, List, IsTrue, length, get_or, replicate, Some, None, IfOk};
 ghost use Rattle.lam_rules.specs.Types.{Typ};
 ghost use Rattle.lam_rules.specs.declared.rules.Dialect.{Dialect};
@@ -14,7 +14,7 @@ use crate::rows::Row;
 use lam_rules::TyNo;
 use std::alloc::{AllocError, Global};
 
-/// What names and type names mean, by their numbers: nothing where a name is unbound, or else its entry, which may be none.
+/// The meanings of names and type names by number: `None` if unbound, otherwise the context entry, which may itself be `None`.
 #[derive(Drop)]
 pub(crate) struct Entries {
     pub(crate) names: Vec<Option<Option<TyNo>>>,
@@ -22,7 +22,7 @@ pub(crate) struct Entries {
 }
 
 impl Entries {
-    /// What they mean where this is bound.
+    /// Copies the meanings that `bound` has now.
     pub(crate) fn of(alloc: Global, bound: &Bound) -> Result<Entries, AllocError>
         ensures names { IfOk result (λ made. made.names.items ≡ bound.now.names.entries.items) }
         ensures type_names { IfOk result (λ made. made.type_names.items ≡ bound.now.type_names.entries.items) }
@@ -34,7 +34,7 @@ impl Entries {
         Ok(Entries { names, type_names })
     }
 
-    /// What they mean behind the first pieces of a text, of which these are the rows.
+    /// The meanings after the first pieces of a text, whose rows are given.
     pub(crate) fn behind(alloc: Global, bound: &Bound, rows: &[Row]) -> Result<Entries, AllocError>
         requires { HaveNumbers bound.now }
         ensures meanings { IfOk result (λ made. (pieces : List (List ℕ)) (s : Sight) (ts : List Typ) (d : Dialect) → AreRows outset pieces (rows_of rows.now) s ts bound.now d → AreMeanings s ts bound.now made) }
@@ -48,7 +48,7 @@ impl Entries {
         Ok(entries)
     }
 
-    /// What a name means that has its number here.
+    /// Returns the meaning of a name, which `bound` maps to its number.
     pub(crate) fn of_name(&self, bound: &Bound, name: &str) -> Option<Option<TyNo>>
         ensures { result ≡ name_kept bound.now self.now name.now }
     {
@@ -56,7 +56,7 @@ impl Entries {
         self.meaning(NameNo::Name(place))
     }
 
-    /// What a type name means that has its number here.
+    /// Returns the meaning of a type name, which `bound` maps to its number.
     pub(crate) fn of_type_name(&self, bound: &Bound, name: &str) -> Option<Option<TyNo>>
         ensures { result ≡ type_name_kept bound.now self.now name.now }
     {
@@ -64,7 +64,7 @@ impl Entries {
         self.meaning(NameNo::TypeName(place))
     }
 
-    /// What the name of a number means.
+    /// Returns the meaning of the name with this number.
     pub(crate) fn meaning(&self, name: NameNo) -> Option<Option<TyNo>>
         ensures { result ≡ meant self.now name }
     {
@@ -78,7 +78,7 @@ impl Entries {
         }
     }
 
-    /// Behind a command that binds this name it had this entry.
+    /// Records the entry of the name that a command binds, as it was after that command.
     pub(crate) fn rebind(&mut self, binds: Option<NameNo>, number: Option<TyNo>)
         ensures set { (name : NameNo) → binds ≡ Some name → HasRoomFor name self.old → meant self.new name ≡ Some number }
         ensures others { (name : NameNo) → (binds ≡ Some name → ⊥) → meant self.new name ≡ meant self.old name }
@@ -91,7 +91,7 @@ impl Entries {
         }
     }
 
-    /// So had the names that the commands of these pieces bind, behind them.
+    /// Records the entries of all names that the commands of these pieces bind.
     pub(crate) fn pass(&mut self, rows: &[Row])
         ensures { IsPassedBy (rows_of rows.now) self.old self.new }
     {
@@ -102,7 +102,7 @@ impl Entries {
         }
     }
 
-    /// Whether all names mean now what they meant; or it says no, which costs time alone.
+    /// Returns `true` only if all names here have the same meaning in `bound`. A `false` may be wrong, which only costs time.
     pub(crate) fn is_now(&self, bound: &Bound) -> bool
         ensures { IsTrue result → (name : NameNo) → HasRoomFor name self.now → meant self.now name ≡ means bound.now name }
     {
@@ -111,7 +111,7 @@ impl Entries {
     }
 }
 
-/// So many names are unbound.
+/// A table in which this many names are all unbound.
 fn unbound(alloc: Global, count: usize) -> Result<Vec<Option<Option<TyNo>>>, AllocError>
     ensures { IfOk result (λ made. made.items ≡ replicate count None) }
 {
@@ -122,7 +122,7 @@ fn unbound(alloc: Global, count: usize) -> Result<Vec<Option<Option<TyNo>>>, All
     Ok(entries)
 }
 
-/// Keeps an entry under a number, if there is a place for it.
+/// Sets the entry at an index if it is in bounds.
 fn set_entry(entries: &mut [Option<Option<TyNo>>], place: usize, number: Option<TyNo>)
     ensures set { place < length entries.old → get_or entries.new place None ≡ Some number }
     ensures others { (n : ℕ) → (n ≡ place → ⊥) → get_or entries.new n None ≡ get_or entries.old n None }
@@ -133,7 +133,7 @@ fn set_entry(entries: &mut [Option<Option<TyNo>>], place: usize, number: Option<
     }
 }
 
-/// Whether entries begin with these.
+/// Whether `first` is a prefix of `entries`.
 fn begins_with(entries: &[Option<Option<TyNo>>], first: &[Option<Option<TyNo>>]) -> bool
     ensures { IsTrue result → (n : ℕ) → n < length first.now → get_or first.now n None ≡ get_or entries.now n None }
 {

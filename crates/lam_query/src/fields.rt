@@ -1,4 +1,4 @@
-//! The labels that a projection can ask for.
+//! The labels that a projection can select.
 ghost use Rattle.std.specs.Prelude.{◌≡◌, map, length, get_or, None, string_bytes, IfOk};
 ghost use Rattle.lam_rules.specs.Numbers.{type_of, Stands, AreEarlier, fields_over};
 ghost use Rattle.lam_syntax.specs.Views.{command_of};
@@ -15,8 +15,8 @@ use lam_syntax::Command;
 use lam_typing::{Typing, TypingFault, analyse_to};
 use std::alloc::{AllocError, Global};
 
-/// The labels with which a projection has a type, each with the text of its least type, ascending; none where something
-/// that is typed in front of the projection is too large.
+/// Returns the labels with which a projection has a type, in ascending order, each with its least type as text; nothing if a type
+/// before the projection is over the size limit.
 pub(crate) fn fields_of(
     alloc: Global,
     commands: &[Command],
@@ -41,7 +41,7 @@ pub(crate) fn fields_of(
     }
 }
 
-/// The fields of the type that was found of a place; none where there is no type, or it is no record type.
+/// Returns the fields of the type of a subterm; nothing if it has no type or no record type.
 fn fields_at(alloc: Global, typing: &Typing, place: Place) -> Result<Vec<Item>, AllocError>
     ensures { IfOk result (λ items. map item_of items.items ≡ items_found (get_or (found_of typing.now) place.0 None)) }
 {

@@ -1,4 +1,4 @@
-//! What two texts have in common in front, and the pieces there.
+//! The common prefix of two texts, and the pieces there.
 ghost use Rattle.std.specs.Prelude.{◌≡◌, ◌<◌, ◌≤◌, ◌^◌, length, take};
 ghost use Rattle.lam_query.specs.inner.Bound.{HaveNumbers, KeepsNumbers};
 ghost use Rattle.lam_query.specs.inner.Fronts.{IsFrontOfBoth, AreRowsWithin, AreBoundBy, StandBy};
@@ -10,16 +10,16 @@ use crate::rows::Row;
 /// The first pieces of a text.
 #[derive(Clone, Copy)]
 pub(crate) struct FrontRows {
-    /// How many they are.
+    /// The number of pieces.
     pub(crate) count: usize,
-    /// The byte behind them.
+    /// The byte offset at which they end.
     pub(crate) end: usize,
 }
 
-/// So many bytes are compared at once.
+/// The number of bytes that are compared at once.
 pub(crate) const BLOCK: usize = 4096;
 
-/// How many bytes both texts begin with.
+/// The length of the common prefix of two texts in bytes.
 pub(crate) fn common_front(old: &str, new: &str) -> usize
     ensures { IsFrontOfBoth result old.now new.now }
 {
@@ -33,7 +33,7 @@ pub(crate) fn common_front(old: &str, new: &str) -> usize
     front_from(old, new, front)
 }
 
-/// How many bytes both begin with, of which so many are known.
+/// The length of the common prefix, of which `known` bytes are already known.
 fn front_from(old: &[u8], new: &[u8], known: usize) -> usize
     requires in_old { known ≤ length old.now }
     requires in_new { known ≤ length new.now }
@@ -49,7 +49,7 @@ fn front_from(old: &[u8], new: &[u8], known: usize) -> usize
     shorter
 }
 
-/// How many of the first pieces end within so many bytes. The last piece is none of them, since no semicolon ends it.
+/// Returns the first pieces that end within this many bytes. The last piece is never one of them, since no semicolon ends it.
 pub(crate) fn rows_within(rows: &[Row], bytes: usize) -> FrontRows
     requires { bytes_of (rows_of rows.now) < 2 ^ 64 }
     ensures { AreRowsWithin bytes result (rows_of rows.now) }

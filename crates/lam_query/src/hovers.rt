@@ -1,4 +1,4 @@
-//! What is shown of an offset.
+//! Hover.
 ghost use Rattle.std.specs.Prelude.{◌≤◌, ◌∷◌, [], length, IfOk, IfSome};
 ghost use Rattle.std.specs.Option.{option_map};
 ghost use Rattle.lam_scope.specs.Tables.{table as table_of};
@@ -19,8 +19,8 @@ use lam_syntax::Command;
 use std::alloc::{AllocError, Global};
 use std::slice;
 
-/// The least type of the innermost term round an offset (counted in bytes); none where there is no such term, or it has
-/// no type, or some type of the text is too large.
+/// Returns the least type of the innermost term around a byte offset, or `None` if there is no such term, it has no type, or some
+/// type of the text is over the size limit.
 pub fn hover(
     alloc: Global,
     text: &str,
@@ -34,8 +34,8 @@ pub fn hover(
 }
 
 impl Analysis {
-    /// The least type of the innermost term round an offset, in bytes; none where there is no such term, or it has no
-    /// type, or some type of the text is too large.
+    /// Returns the least type of the innermost term around a byte offset, or `None` if there is no such term, it has no type, or
+    /// some type of the text is over the size limit.
     pub fn hover(
         &self,
         alloc: Global,
@@ -62,7 +62,7 @@ impl Analysis {
     }
 }
 
-/// What is shown of an offset in a command, whose terms have these types.
+/// Returns the hover at an offset in a command whose terms have these types.
 fn shown_in(
     alloc: Global,
     command: &Command,

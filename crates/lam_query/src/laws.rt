@@ -1,4 +1,4 @@
-//! What holds of the answers: the contracts of functions that do nothing.
+//! Laws of the answers, stated as contracts of functions that do nothing.
 ghost use Rattle.std.specs.Prelude.{◌≡◌, ◌↔◌, ℕ, Bool, true, List, [], Option, Some, Result, Ok, Err, All, Contains};
 ghost use Rattle.std.specs.Str.{IsUtf8};
 ghost use Rattle.lam_token.specs.declared.span.Span.{Span};
@@ -25,8 +25,7 @@ ghost use Rattle.lam_query.specs.declared.renames.RenameFault.{RenameFault};
 ghost use Rattle.lam_query.specs.declared.renames.RenameFault.TheVariants.{ChangesBinding};
 ghost use Rattle.lam_query.specs.Renames.{IsRenameIn, IsRenamedText, IsOtherText};
 
-/// A text has one list of commands and one list of faults, and there is one answer to what is shown of an offset in it, to
-/// where the name there comes from, to where that is used, to a new name for it, and to what can stand there.
+/// The commands, diagnostics, hover, definition, references, rename and completions of a text are unique.
 pub fn one_answer()
     ensures commands { (text : List ℕ) (commands others : List CommandTree) → AreCommandsOfText text commands → AreCommandsOfText text others → commands ≡ others }
     ensures faults { (text : List ℕ) (faults others : List Fault) (d : Dialect) → AreFaults text faults d → AreFaults text others d → faults ≡ others }
@@ -37,23 +36,22 @@ pub fn one_answer()
     ensures completions { (text : List ℕ) (offset : ℕ) (items others : List Item) (d : Dialect) → AreCompletions text offset items d → AreCompletions text offset others d → items ≡ others }
 {}
 
-/// One label behind a dot stands for all: where with one the dot is a projection's, it is so with any other, and where with
-/// one no type up to the projection is too large, none is with any other.
+/// Any label after a dot gives the same result: if the dot is a projection's with one label, it is with every other; and if with
+/// one label no type up to the projection is over the size limit, none is with any other.
 pub fn one_label_stands_for_all()
     ensures projected { (text : List ℕ) (tokens : List Lexeme) (offset : ℕ) (l m : Label) → AreTokensOf text tokens → IsProjected tokens offset l → IsProjected tokens offset m }
     ensures small { (text : List ℕ) (tokens : List Lexeme) (offset : ℕ) (l m : Label) (h : IsProjected tokens offset l) (k : IsProjected tokens offset m) (d : Dialect) → AreTokensOf text tokens
         → IsSmallUpTo h.commands h.number d → IsSmallUpTo k.commands k.number d }
 {}
 
-/// The term that is shown is the innermost one: each term of the text that has the byte is around it.
+/// A hover is about the innermost term: every term of the text that contains the byte encloses it.
 pub fn shown_is_innermost()
     ensures { (text : List ℕ) (commands : List CommandTree) (offset : ℕ) (term : PlacedTree) → AreCommandsOfText text commands → innermost_at offset (document_terms commands) ≡ Some term → IsInnermost offset (document_terms commands) term }
 {}
 
-/// Every text has a list of faults. At every offset a type is shown or none is, and where one is there is a derivation, and
-/// only there. At every offset there is a definition with its references, or there is none. To each new name for what is
-/// at an offset there is an answer: the spans that get it, or one of the five refusals. At every offset there is a list of
-/// what can stand there, which may be empty.
+/// Every request has an answer. Every text has a list of diagnostics. At every offset there is a hover or none, and a derivation
+/// exactly where there is a hover; a definition with its references, or none; and a list of completions, possibly empty. A rename
+/// gives the spans that change, or one of five refusals.
 pub fn some_answer()
     ensures faults { (text : List ℕ) (d : Dialect) → (faults : List Fault) × AreFaults text faults d }
     ensures shown { (text : List ℕ) (offset : ℕ) (d : Dialect) → (shown : Option Shown) × IsShownIn text offset shown d }
@@ -65,37 +63,36 @@ pub fn some_answer()
     ensures completions { (text : List ℕ) (offset : ℕ) (d : Dialect) → (items : List Item) × AreCompletions text offset items d }
 {}
 
-/// Where there are references there is a definition, and it is that of each of them too: asked for at their first bytes, it
-/// is the same. With the binder asked for, the name under the cursor is one of them. References of two names with different
-/// binders have no span in common.
+/// Where there are references there is a definition, and looking it up at the start of each reference gives the same one. If the
+/// binder is included, the name under the cursor is among the references. References of names with different binders share no
+/// span.
 pub fn references_share_a_definition()
     ensures definition { (text : List ℕ) (offset : ℕ) (declared : Bool) (spans : List Span) → AreReferencesIn text offset declared (Some spans) → (binder : Span) × IsDefinitionIn text offset (Some binder) × All (λ s. IsDefinitionIn text s.start (Some binder)) spans }
     ensures among { (text : List ℕ) (offset : ℕ) (spans : List Span) (tokens : List Lexeme) (name : Lexeme) → AreTokensOf text tokens → touched offset tokens ≡ Some name → AreReferencesIn text offset true (Some spans) → Contains spans (span_of name) }
     ensures apart { (text : List ℕ) (offset other : ℕ) (declared also : Bool) (spans others : List Span) → AreReferencesIn text offset declared (Some spans) → AreReferencesIn text other also (Some others) → AreApart text offset other spans others }
 {}
 
-/// What a new name does to a text. Where there are spans for it, the text with the new name in their places, put there from
-/// the last to the first, has the same tokens but for that name, each piece is still a command, and the names and type
-/// names are bound as before: the commands have the nameless form that they had. Where it is refused since binding would
-/// change, the text with the new name at the binder and its uses has another nameless form.
+/// What a rename does to a text. Replacing the returned spans, from last to first, leaves all other tokens as they were, each
+/// piece is still a command, and names and type names are bound as before: the commands have the same nameless form. If the
+/// rename is refused because binding would change, renaming the binder and its uses gives a different nameless form.
 pub fn renames_keep_binding()
     ensures renamed { (text : List ℕ) (offset : ℕ) (new : List ℕ) (spans : List Span) → IsUtf8 text → IsUtf8 new → IsRenameIn text offset new (Ok spans) → IsRenamedText text spans new }
     ensures changed { (text : List ℕ) (offset : ℕ) (new : List ℕ) → IsUtf8 text → IsUtf8 new → IsRenameIn text offset new (Err ChangesBinding) → (spans : List Span) × AreReferencesIn text offset true (Some spans) × IsOtherText text spans new }
 {}
 
-/// Types have no fault in a document just where each written type in it stands for a type, each definition and each
-/// evaluation has a type, and none is over the limit.
+/// A document has no type diagnostics if and only if each written type in it stands for a type, each definition and evaluation
+/// has a type, and none is over the size limit.
 pub fn no_fault_is_well_typed()
     ensures { (commands : List CommandTree) (found : List Fault) (d : Dialect) → AreTypeFaults commands found d → ((found ≡ []) ↔ IsWellTyped commands d) }
 {}
 
-/// Each fault of a text has one of seventeen codes.
+/// Each diagnostic of a text has one of seventeen codes.
 pub fn known_codes()
     ensures { (text : List ℕ) (found : List Fault) (d : Dialect) → AreFaults text found d → All HasKnownCode found }
 {}
 
-/// Steps tell the proof that they are of, and those of a proof of typing tell its tree, whatever terms it is about. The tree
-/// of a proof of typing is the one that it was made from.
+/// The steps determine the proof, and those of a typing proof determine its tree, whatever terms it is about. The tree of a
+/// typing proof is the one that it was made from.
 pub fn steps_tell_the_proof()
     ensures proof { (p q : Proof) → steps_of 0 p ≡ steps_of 0 q → p ≡ q }
     ensures tree { (term other : PlacedTree) (tree also : TypingTree) → steps_of 0 (typing_proof term tree) ≡ steps_of 0 (typing_proof other also) → tree ≡ also }

@@ -1,8 +1,8 @@
-//! The answers about a text: its faults; what each of its commands shows; the type at an offset, and a derivation of it;
-//! where the name there comes from, who uses it, and whether and where it can have another; and what can stand at an offset.
+//! What a language server answers about a text: its diagnostics; the type that each command shows; the type at an offset, and a
+//! derivation of it; the definition, the references and a rename of the name there; and the completions there.
 //!
-//! Each answer is a function of the text, an offset and the dialect, but for the derivation, which may be any that the
-//! rules accept. Offsets and spans are bytes of the text's UTF-8.
+//! Each answer is a function of the text, an offset and the dialect, except the derivation, which may be any that the rules
+//! accept. Offsets and spans are byte offsets into the UTF-8 text.
 #![tactic(auto)]
 
 mod analyses;

@@ -1,4 +1,4 @@
-//! What the terms that are to blame ask of their parts, and what these have.
+//! Explained diagnostics: what the subterms at fault expect of their parts, and what was found there.
 ghost use Rattle.std.specs.Prelude.{◌≡◌, ◌++◌, ℕ, List, length, map, get_or, Option, Some, None, All, Contains, IfOk, OnOk, IfSome, IfNone};
 ghost use Rattle.std.specs.List.Sorted.{IsPermutation};
 ghost use Rattle.std.specs.Option.{option_map};
@@ -35,7 +35,8 @@ use lam_typing::{Blame, Typing};
 use std::alloc::{AllocError, Global};
 use std::slice;
 
-/// The faults of a text as `faults` tells them, each with what its term asks for and what was found, if it is the fault of a term.
+/// Returns the diagnostics of a text in the order of `faults`, each with what its subterm expects and what was found, if it is
+/// about a subterm.
 pub fn explained_faults(
     alloc: Global,
     text: &str,
@@ -48,8 +49,8 @@ pub fn explained_faults(
 }
 
 impl Analysis {
-    /// The faults of the text, each with what its term asks for and what was found, if it is the fault of a term. The commands
-    /// with such a fault are read and typed again.
+    /// Returns the diagnostics of the text, each with what its subterm expects and what was found, if it is about a subterm. The
+    /// commands with such diagnostics are parsed and typed again.
     pub fn explained_faults(
         &self,
         alloc: Global,
@@ -72,7 +73,7 @@ impl Analysis {
         Ok(all)
     }
 
-    /// Adds the faults that types decide, of piece after piece.
+    /// Appends the type diagnostics of all pieces.
     fn push_explained(
         &self,
         alloc: Global,
@@ -99,7 +100,7 @@ impl Analysis {
         Ok(())
     }
 
-    /// Adds those of one piece, where these are the entries of names: those of written types, and behind them those of terms.
+    /// Appends those of one piece, before which names have these entries: those of written types, then those of terms.
     fn push_faults_of(
         &self,
         alloc: Global,
@@ -130,7 +131,7 @@ impl Analysis {
     }
 }
 
-/// Puts explained faults in order: by their start, then by their end, then by their code.
+/// Sorts diagnostics by start, then by end, then by code.
 fn put_in_order(all: &mut Vec<ExplainedFault>) -> Result<(), AllocError>
     ensures same { OnOk result (IsPermutation (map explained_of all.old.items) (map explained_of all.new.items)) }
     ensures order { OnOk result (AreInOrder (map (λ e. fault_of e.fault) all.old.items) (map (λ e. fault_of e.fault) all.new.items)) }
@@ -139,7 +140,7 @@ fn put_in_order(all: &mut Vec<ExplainedFault>) -> Result<(), AllocError>
     Ok(())
 }
 
-/// Adds faults, each so many bytes further on, of which there is nothing more to tell.
+/// Appends diagnostics that have no explanation, each shifted by this many bytes.
 fn push_unexplained(
     all: &mut Vec<ExplainedFault>,
     bytes: usize,
@@ -160,7 +161,7 @@ fn push_unexplained(
     Ok(())
 }
 
-/// Adds the faults of the terms that are to blame.
+/// Appends the diagnostics of the subterms at fault.
 fn push_blames(
     alloc: Global,
     all: &mut Vec<ExplainedFault>,
@@ -184,7 +185,7 @@ fn push_blames(
     Ok(())
 }
 
-/// What there is to tell of the term at a place that is to blame: all of its parts have types.
+/// Returns the mismatch at a subterm at fault, if there is one. All parts of the subterm have types.
 fn mismatch_at(
     alloc: Global,
     scopes: &Scopes,
@@ -201,7 +202,7 @@ fn mismatch_at(
     mismatch_of(alloc, types.typing.table(), term, &parts)
 }
 
-/// The types of the immediate terms of a place, from left to right, if all have one.
+/// Returns the types of the immediate subterms, from left to right, if all have one.
 fn types_of_parts(
     alloc: Global,
     scopes: &Scopes,
@@ -223,7 +224,7 @@ fn types_of_parts(
     Ok(Some(parts))
 }
 
-/// What there is to tell of a term that is to blame, whose parts have these types.
+/// Returns the mismatch of a term at fault whose parts have these types, if there is one.
 fn mismatch_of(
     alloc: Global,
     table: &TyTable,
@@ -261,7 +262,7 @@ fn in_application(table: &TyTable, function: TyNo, argument: TyNo) -> Result<Mis
     }
 }
 
-/// A term that should have this type, which is Bool or Nat.
+/// A term that should have this type, `Bool` or `Nat`.
 fn below(alloc: Global, asked: &str, table: &TyTable, term: TyNo) -> Result<Mismatch, AllocError>
     requires { Stands table.now term }
     ensures { IfOk result (λ made. mismatch_of made ≡ expected asked.now (text (type_of table.now term))) }
@@ -272,7 +273,7 @@ fn below(alloc: Global, asked: &str, table: &TyTable, term: TyNo) -> Result<Mism
     })
 }
 
-/// Nothing where the ascribed type stands for none.
+/// Returns `None` if the ascribed type does not stand for a type.
 fn in_ascription(
     alloc: Global,
     table: &TyTable,

@@ -1,4 +1,4 @@
-//! The piece of an analysed text that a question is about.
+//! The piece of an analysed text that a request is about.
 ghost use Rattle.std.specs.Prelude.{IfSome, ◌≡◌, None};
 ghost use Rattle.lam_query.specs.Analyses.{IsAnalysisOf};
 ghost use Rattle.lam_query.specs.inner.Around.{IsPieceAround};
@@ -6,19 +6,19 @@ ghost use Rattle.lam_query.specs.inner.Around.{IsPieceAround};
 use crate::analyses::Analysis;
 use crate::rows::row_around;
 
-/// A piece in its text.
+/// A piece and its position in the text.
 #[derive(Clone, Copy)]
 pub(crate) struct PieceAt<'t> {
-    /// The piece itself, with the semicolon that ends it.
+    /// The text of the piece, including the semicolon that ends it.
     pub(crate) text: &'t str,
-    /// Its first byte in the whole text.
+    /// The byte offset at which it starts in the whole text.
     pub(crate) start: usize,
-    /// The number of its row.
+    /// The index of its row.
     pub(crate) number: usize,
 }
 
 impl Analysis {
-    /// The piece that has the byte at an offset. The last one has all offsets from its start on.
+    /// Returns the piece around a byte offset. The last piece covers every offset from its start on.
     pub(crate) fn piece_around<'t>(&self, text: &'t str, offset: usize) -> Option<PieceAt<'t>>
         requires { IsAnalysisOf text.now self.now }
         ensures some { IfSome result (IsPieceAround text.now offset self.now) }

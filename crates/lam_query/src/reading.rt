@@ -1,4 +1,4 @@
-//! What a text is read as: commands, and the faults of what is none.
+//! Reads a text into commands, and the diagnostics of what is no command.
 ghost use Rattle.std.specs.Prelude.{true, false, ◌≡◌, ◌∷◌, ◌++◌, ◌+◌, ◌<◌, ◌^◌, ℕ, List, [], map, codes, length, IfOk, OnOk};
 ghost use Rattle.std.specs.Option.{option_map};
 ghost use Rattle.lam_token.specs.Lexeme.{Lexeme, start_of};
@@ -19,51 +19,51 @@ use lam_token::{Kind, Span, Token, first_token, placeholder};
 use std::alloc::{AllocError, Global};
 use std::mem;
 
-/// What was read of a text.
+/// The result of reading a text.
 #[derive(Drop)]
 pub(crate) struct Parsed {
-    /// In the order of the text. A piece that spells none is passed over.
+    /// In text order. A piece that derives no command is skipped.
     pub(crate) commands: Vec<Command>,
-    /// Those of tokens, and behind them those of pieces.
+    /// Those of tokens, then those of pieces.
     pub(crate) faults: Vec<Fault>,
 }
 
-/// What a piece is.
+/// The result of reading a piece.
 #[derive(Drop)]
 enum Piece {
     Command(Command),
     Fault(Fault),
-    /// No command, since a token of it is a fault by itself.
+    /// No command, because a token in it is itself a lexical error.
     Spoiled,
 }
 
 /// Where a piece ends.
 #[derive(Clone, Copy)]
 pub(crate) struct PieceEnd {
-    /// How many bytes it has, with the semicolon that ends it.
+    /// The length of the piece in bytes, including the semicolon that ends it.
     pub(crate) bytes: usize,
-    /// Whether a semicolon ends it, and not the text.
+    /// Whether it ends with a semicolon, not at the end of the text.
     pub(crate) semicolon: bool,
 }
 
-/// What was read of the tokens so far. They are kept no longer than the piece that they stand in.
+/// Reads tokens one by one, and keeps them only until their piece ends.
 #[derive(Drop)]
 pub(crate) struct Reader<'t> {
     alloc: Global,
-    /// The tokens behind the last semicolon.
+    /// The tokens after the last semicolon.
     piece: Vec<Token<'t>>,
     token_faults: Vec<Fault>,
     piece_faults: Vec<Fault>,
 }
 
-/// A reader, and the commands that it handed out.
+/// A reader, and the commands that it has returned.
 #[derive(Drop)]
 struct Collector<'t> {
     reader: Reader<'t>,
     commands: Vec<Command>,
 }
 
-/// The commands of a text, and the faults that its tokens and the grammar decide.
+/// Returns the commands of a text, and its lexical and syntactic diagnostics.
 pub(crate) fn read(alloc: Global, text: &str) -> Result<Parsed, AllocError>
     ensures { IfOk result (IsRead text.now) }
 {
@@ -76,7 +76,7 @@ pub(crate) fn read(alloc: Global, text: &str) -> Result<Parsed, AllocError>
         collector.take(token)?;
     }
     collector.end_piece()?;
-    // The commands are kept as long as what is made of them.
+    // The commands live as long as what is made from them.
     collector.commands.shrink_to_fit();
     Ok(Parsed {
         commands: collector.commands,
@@ -84,8 +84,7 @@ pub(crate) fn read(alloc: Global, text: &str) -> Result<Parsed, AllocError>
     })
 }
 
-/// The command that a piece is, if it is one. The piece has no semicolon but the one at its end, and its bytes count from
-/// this one on.
+/// Returns the command that a piece is, if it is one. The piece starts at byte `start`, and has no semicolon except at its end.
 pub(crate) fn command_in(
     alloc: Global,
     piece: &str,
@@ -108,8 +107,8 @@ pub(crate) fn command_in(
     reader.end_piece()
 }
 
-/// The command that a piece is, if it is one, with a name put in behind the dot that begins at this byte, in the place of the word
-/// that the cursor touches. The piece has no semicolon but the one at its end, and its bytes count from `start` on.
+/// Returns the command that a piece is, if it is one, with a name in place of the word that the cursor touches, after the dot at
+/// byte `dot`. The piece starts at byte `start`, and has no semicolon except at its end.
 pub(crate) fn command_with_label(
     alloc: Global,
     piece: &str,
@@ -140,7 +139,7 @@ pub(crate) fn command_with_label(
 }
 
 impl<'t> Reader<'t> {
-    /// Nothing was read yet.
+    /// A reader that has read nothing yet.
     pub(crate) fn new(alloc: Global) -> Reader<'t>
         ensures read { AreRead [] [] result }
         ensures no_piece { result.piece.items ≡ [] }
@@ -153,7 +152,7 @@ impl<'t> Reader<'t> {
         }
     }
 
-    /// The tokens of the next piece of a text, of which this is left. Their bytes count from there.
+    /// Reads the tokens of the next piece from the rest of a text. Their offsets are relative to the start of the rest.
     pub(crate) fn read_piece(&mut self, text: &'t str) -> Result<PieceEnd, AllocError>
         requires read { AreRead [] [] self.old }
         requires no_piece { self.old.piece.items ≡ [] }
@@ -179,7 +178,7 @@ impl<'t> Reader<'t> {
         })
     }
 
-    /// The next token of the text, which is no semicolon.
+    /// Adds the next token of the text, which is not a semicolon.
     pub(crate) fn push(&mut self, token: Token<'t>) -> Result<(), AllocError>
         requires { is_semicolon token ≡ false }
         ensures read { OnOk result ((front : List Lexeme) (done : List CommandTree) → AreRead front done self.old → AreRead front done self.new) }
@@ -190,8 +189,8 @@ impl<'t> Reader<'t> {
         Ok(())
     }
 
-    /// The next token of the piece, unless it is a word that the cursor touches or has the cursor inside of it; before the first
-    /// one behind the cursor comes the name. The result says whether the name was taken by now.
+    /// Adds the next token of the piece, unless it is a word that the cursor touches or has the cursor inside. Adds the name
+    /// before the first token after the cursor, and returns whether the name has been added by now.
     fn push_around(
         &mut self,
         token: Token<'t>,
@@ -217,7 +216,7 @@ impl<'t> Reader<'t> {
         Ok(true)
     }
 
-    /// The fault that the token is by itself, if it is one.
+    /// Records the lexical error that the token is, if it is one.
     fn note(&mut self, token: &Token<'_>) -> Result<(), AllocError>
         ensures { OnOk result (IsNoted token.now self.old self.new) }
     {
@@ -227,7 +226,7 @@ impl<'t> Reader<'t> {
         Ok(())
     }
 
-    /// No token of the piece follows, but a semicolon or the end of the text: the command that the piece is.
+    /// Ends the piece, at a semicolon or at the end of the text, and returns the command that it is, if it is one.
     pub(crate) fn end_piece(&mut self) -> Result<Option<Command>, AllocError>
         ensures all { IfOk result (λ command. (front : List Lexeme) (done : List CommandTree) → AreRead front done self.old → AreAllRead (front ++ self.old.piece.items) (done ++ own_of command) self.new) }
         ensures read { IfOk result (λ command. (front : List Lexeme) (done : List CommandTree) (t : Lexeme) → is_semicolon t ≡ true → AreRead front done self.old → AreRead (front ++ (self.old.piece.items ++ t ∷ [])) (done ++ own_of command) self.new) }
@@ -249,7 +248,7 @@ impl<'t> Reader<'t> {
         Ok(found)
     }
 
-    /// The faults of all tokens, and behind them those of pieces, which it keeps no longer.
+    /// Takes out the diagnostics of all tokens, followed by those of pieces.
     pub(crate) fn take_faults(&mut self) -> Result<Vec<Fault>, AllocError>
         ensures faults { IfOk result (λ faults. map fault_of faults.items ≡ map fault_of self.old.token_faults.items ++ map fault_of self.old.piece_faults.items) }
         ensures none_left { OnOk result ((self.new.token_faults.items ≡ []) × (self.new.piece_faults.items ≡ [])) }
@@ -271,7 +270,7 @@ impl<'t> Collector<'t> {
         }
     }
 
-    /// The next token of the text.
+    /// Reads the next token of the text.
     fn take(&mut self, token: Token<'t>) -> Result<(), AllocError>
         ensures { OnOk result ((all left : List Lexeme) → AreCollected all self.old (token.entry ∷ left) → AreCollected all self.new left) }
     {
@@ -282,7 +281,7 @@ impl<'t> Collector<'t> {
         self.reader.push(token)
     }
 
-    /// No token of the piece follows.
+    /// Ends the last piece of the text.
     fn end_piece(&mut self) -> Result<(), AllocError>
         ensures { OnOk result ((all : List Lexeme) → AreCollected all self.old [] → AreAllRead all (map command_of self.new.commands.items) self.new.reader) }
     {
@@ -290,7 +289,7 @@ impl<'t> Collector<'t> {
         self.keep(command)
     }
 
-    /// The command of a piece, if it is one.
+    /// Keeps the command of a piece, if it is one.
     fn keep(&mut self, command: Option<Command>) -> Result<(), AllocError>
         ensures reader { self.new.reader ≡ self.old.reader }
         ensures kept { OnOk result (map command_of self.new.commands.items ≡ map command_of self.old.commands.items ++ own_of command) }
@@ -331,7 +330,7 @@ fn read_piece(alloc: Global, piece: &[Token<'_>]) -> Result<Piece, AllocError>
     }
 }
 
-/// The fault that a token is by itself.
+/// Returns the lexical error that a token is, if it is one.
 fn fault_of_token(token: &Token<'_>) -> Option<Fault>
     ensures { option_map fault_of result ≡ fault_of_token token.now }
 {

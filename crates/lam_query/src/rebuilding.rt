@@ -1,4 +1,4 @@
-//! Proofs, rebuilt from their steps.
+//! Rebuilds proofs from their steps.
 ghost use Rattle.std.specs.Prelude.{◌≡◌, map, length, option_map, Some, IfOk, IfSome, IfNone};
 ghost use Rattle.lam_token.specs.declared.span.Span.{Span};
 ghost use Rattle.lam_rules.specs.TypeViews.{typ_of};
@@ -14,14 +14,14 @@ use crate::answers::Step;
 use lam_rules::{SubProof, SubRule, Ty, TypeProof, TypeRule, copy_of};
 use std::alloc::{AllocError, Global};
 
-/// A proof of either kind.
+/// A proof of typing or of subtyping.
 #[derive(Drop)]
 enum Tree {
     Typing(TypeProof),
     Sub(SubProof),
 }
 
-/// A proof whose steps were read and that no later step has as a premise yet, and the number of its last step.
+/// A proof whose steps have been read and that is no premise of a later step yet, and the index of its last step.
 #[derive(Drop)]
 struct Rebuilt {
     last: usize,
@@ -35,8 +35,8 @@ struct Premises {
     sub: Option<Box<SubProof>>,
 }
 
-/// The proof of typing that has these steps, for `lam_rules::check_type` to check; none if they are the steps of no such
-/// proof. Their spans are not looked at.
+/// Returns the typing proof with these steps, to be checked by `lam_rules::check_type`, or `None` if they are the steps of no
+/// such proof. Their spans are ignored.
 pub fn proof_of_steps(alloc: Global, steps: &[Step]) -> Result<Option<TypeProof>, AllocError>
     ensures some { IfOk result (λ found. IfSome found (λ proof. (p : Proof) × (map step_of steps.now ≡ steps_of 0 p) × (typing_tree_in p ≡ Some (typing_tree_of proof)))) }
     ensures none { IfOk result (λ found. IfNone found ((p : Proof) (tree : TypingTree) → map step_of steps.now ≡ steps_of 0 p → typing_tree_in p ≡ Some tree → ⊥)) }
@@ -52,7 +52,7 @@ pub fn proof_of_steps(alloc: Global, steps: &[Step]) -> Result<Option<TypeProof>
     Ok(only_typing(stack))
 }
 
-/// The stack behind a step: the proof that it concludes stands where its premises did.
+/// Returns the stack after a step: the proof that it concludes replaces its premises.
 fn after_step(
     alloc: Global,
     stack: Vec<Rebuilt>,
@@ -81,7 +81,7 @@ fn premises_of(step: &Step) -> &[usize]
     }
 }
 
-/// The stack without its topmost proofs, and these, if they are those whose last steps have these numbers.
+/// Splits the topmost proofs off the stack, if their last steps have these indices.
 fn taken_off(
     mut stack: Vec<Rebuilt>,
     numbers: &[usize],
@@ -99,7 +99,7 @@ fn taken_off(
     Ok(Some((stack, premises)))
 }
 
-/// Whether these are the numbers of their last steps.
+/// Whether the last steps of these proofs have these indices.
 fn are_lasts(premises: &[Rebuilt], numbers: &[usize]) -> bool
     requires { length premises.now ≡ length numbers.now }
     ensures { result ≡ are_lasts (stack_of premises.now) numbers.now }
@@ -113,7 +113,7 @@ fn are_lasts(premises: &[Rebuilt], numbers: &[usize]) -> bool
     true
 }
 
-/// The proof that a step concludes from these premises, if it can have them.
+/// Returns the proof that a step concludes from these premises, if it can have them.
 fn tree_from(alloc: Global, step: &Step, premises: Vec<Rebuilt>) -> Result<Option<Tree>, AllocError>
     ensures { IfOk result (λ found. option_map tree_of found ≡ tree_from (step_of step.now).conclusion (trees_of (stack_of premises.items))) }
 {
@@ -128,7 +128,7 @@ fn tree_from(alloc: Global, step: &Step, premises: Vec<Rebuilt>) -> Result<Optio
     }
 }
 
-/// The proof that a step of typing concludes.
+/// Returns the proof that a typing step concludes.
 fn typing_from(
     alloc: Global,
     rule: TypeRule,
@@ -150,7 +150,7 @@ fn typing_from(
     })))
 }
 
-/// Proofs as the premises of a step of typing.
+/// Returns these proofs as the premises of a typing step, if they can be.
 fn typing_premises(alloc: Global, trees: Vec<Rebuilt>) -> Result<Option<Premises>, AllocError>
     ensures { IfOk result (λ found. option_map premises_of found ≡ typing_premises (trees_of (stack_of trees.items))) }
 {
@@ -167,7 +167,7 @@ fn typing_premises(alloc: Global, trees: Vec<Rebuilt>) -> Result<Option<Premises
     Ok(Some(premises))
 }
 
-/// The premises with one more behind them. Behind a subtyping there is none.
+/// Appends a premise. None can follow a subtyping premise.
 fn with_premise(
     alloc: Global,
     mut premises: Premises,
@@ -190,7 +190,7 @@ fn with_premise(
     }
 }
 
-/// The proof that a step of subtyping concludes.
+/// Returns the proof that a subtyping step concludes.
 fn sub_from(
     alloc: Global,
     rule: SubRule,
@@ -213,7 +213,7 @@ fn sub_from(
     })))
 }
 
-/// Proofs as the premises of a step of subtyping.
+/// Returns these proofs as the premises of a subtyping step, if they can be.
 fn sub_premises(alloc: Global, trees: Vec<Rebuilt>) -> Result<Option<Vec<SubProof>>, AllocError>
     ensures { IfOk result (λ found. option_map (λ proofs. map sub_tree_of proofs.items) found ≡ sub_premises (trees_of (stack_of trees.items))) }
 {
@@ -227,7 +227,7 @@ fn sub_premises(alloc: Global, trees: Vec<Rebuilt>) -> Result<Option<Vec<SubProo
     Ok(Some(proofs))
 }
 
-/// The proof of a stack that has nothing else, if it is one of typing.
+/// Returns the only proof on the stack, if it is a typing proof.
 fn only_typing(mut stack: Vec<Rebuilt>) -> Option<TypeProof>
     ensures { option_map typing_tree_of result ≡ only_typing (stack_of stack.items) }
 {

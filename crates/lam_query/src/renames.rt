@@ -1,4 +1,4 @@
-//! A new name for the name under the cursor.
+//! Rename.
 ghost use Rattle.std.specs.Prelude.{◌≡◌, ◌≢◌, ◌↔◌, List, Ok, Err, Some, true, All, IfOk, IfErr, IsTrue};
 ghost use Rattle.lam_token.specs.declared.span.Span.{Span};
 ghost use Rattle.lam_query.specs.Analyses.{IsAnalysisOf};
@@ -14,18 +14,18 @@ use lam_scope::{RenameFault as BinderFault, bind};
 use lam_token::{Span, is_name, is_type_name};
 use std::alloc::{AllocError, Global};
 
-/// Why a name is not renamed. Of several causes the first is told.
+/// Why a rename is refused. If several reasons apply, the first in this order is reported.
 #[derive(Clone, Copy, Debug, PartialEq, Eq)]
 pub enum RenameFault {
     /// The new name is neither a name nor a type name.
     NotAName,
-    /// Some piece of the text is no command.
+    /// Some piece of the text is not a command.
     UnparsedCommand,
-    /// No name is under the cursor, or it is free, or a label.
+    /// There is no name under the cursor, or it is free or a label.
     NoBoundName,
-    /// The new name is a type name, and the one under the cursor is not, or the other way round.
+    /// The new name is a type name and the one under the cursor is not, or vice versa.
     WrongKind,
-    /// With it some name or type name would be bound elsewhere.
+    /// With the new name, some name or type name would be bound elsewhere.
     ChangesBinding,
     Memory,
 }
@@ -38,10 +38,9 @@ impl From<AllocError> for RenameFault {
     }
 }
 
-/// The spans that get the new name, in the order of the text: the token of the binder of the name or type name under the
-/// cursor, and behind it those of its uses. The offset and the spans are bytes of the text's UTF-8. With the new name put
-/// in their places, from the last to the first, the text has the same tokens but for these, and its names and type names
-/// are bound as before.
+/// Returns the spans to replace, in text order: the binder of the name or type name under the cursor, then its uses. The offset
+/// and the spans are in bytes of the UTF-8 text. Replacing them, from last to first, leaves all other tokens as they were, and
+/// names and type names are bound as before.
 pub fn rename(alloc: Global, text: &str, offset: usize, new: &str) -> Result<Vec<Span>, RenameFault>
     ensures renamed { IfOk result (λ spans. IsRenameIn text.now offset new.now (Ok spans.items)) }
     ensures refused { IfErr result (λ fault. fault ≢ RenameFault.Memory → IsRenameIn text.now offset new.now (Err fault)) }
@@ -72,7 +71,7 @@ pub fn rename(alloc: Global, text: &str, offset: usize, new: &str) -> Result<Vec
     }
 }
 
-/// Whether a whole text is a name or a type name.
+/// Whether the whole text is a name or a type name.
 fn is_any_name(text: &str) -> bool
     ensures { IsTrue result ↔ IsAnyName text.now }
 {
@@ -80,8 +79,8 @@ fn is_any_name(text: &str) -> bool
 }
 
 impl Analysis {
-    /// The spans that get the new name, in the order of the text: those of the binder of the name or type name at an
-    /// offset, in bytes, and of its uses.
+    /// Returns the spans to replace, in text order: those of the binder of the name or type name at a byte offset, and of its
+    /// uses.
     pub fn rename(
         &self,
         alloc: Global,

@@ -1,4 +1,4 @@
-//! What is kept of each piece of a text.
+//! What an analysis keeps of each piece of a text.
 ghost use Rattle.std.specs.Prelude.{◌≡◌, ◌<◌, ◌^◌, ℕ, List, [], length, map, Some, None, IfSome, IfNone};
 ghost use Rattle.std.specs.Option.{option_map};
 ghost use Rattle.lam_rules.specs.Types.{Typ};
@@ -12,60 +12,60 @@ use crate::bound::NameNo;
 use lam_rules::TyNo;
 use lam_token::Span;
 
-/// What is kept of a piece: its faults, and what was found of its command. All bytes count from the start of the piece, so it
-/// stays as it is wherever the piece goes.
+/// What an analysis keeps of one piece of the text: its diagnostics and the types found in its command. Offsets are relative to
+/// the start of the piece, so a row stays valid when the piece moves.
 #[derive(Drop)]
 pub(crate) struct Row {
-    /// The byte behind the piece.
+    /// The length of the piece in bytes.
     pub(crate) end: usize,
-    /// The faults that its tokens and the grammar decide.
+    /// The lexical and syntactic diagnostics.
     pub(crate) syntax: Vec<Fault>,
-    /// Of the command that it is, if it is one.
+    /// The command that the piece is, if it is one.
     pub(crate) command: Option<CommandRow>,
 }
 
-/// What is kept of a command.
+/// What an analysis keeps of one command.
 #[derive(Drop)]
 pub(crate) struct CommandRow {
-    /// The names and type names that it takes from outside.
+    /// The names and type names that are free in it.
     pub(crate) asks: Vec<NameNo>,
-    /// The one that it binds for the commands behind it.
+    /// The name that it binds for the commands after it.
     pub(crate) binds: Option<NameNo>,
     pub(crate) found: Found,
 }
 
-/// What was found of the types of a command.
+/// The types of a command, or the span of a type over the size limit.
 #[derive(Drop)]
 pub(crate) enum Found {
-    /// Its first written type that is too large is here.
+    /// The span of the first written type over the size limit.
     LargeWrittenType(Span),
-    /// Its first term whose type is too large is here.
+    /// The span of the first term whose type is over the size limit.
     LargeTerm(Span),
     Types(FoundTypes),
 }
 
-/// The types of a command in which none is too large.
+/// The types of a command in which none is over the size limit.
 #[derive(Drop)]
 pub(crate) struct FoundTypes {
-    /// Of its terms, in the order of their numbers; none where a term has no type.
+    /// The types of its terms, indexed by term number; `None` for a term that has no type.
     pub(crate) types: Vec<Option<TyNo>>,
-    /// Of its written types, and behind them of its terms that are to blame.
+    /// The diagnostics of its written types, then those of its terms at fault.
     pub(crate) faults: Vec<Fault>,
-    /// The entry of its name, or what its type name stands for.
+    /// The context entry of the name it binds, or the type that its type name stands for.
     pub(crate) bound: Option<TyNo>,
 }
 
-/// A piece in its text.
+/// The position of a piece in its text.
 #[derive(Clone, Copy)]
 pub(crate) struct PlacedRow {
-    /// Its first byte.
+    /// The byte offset at which it starts.
     pub(crate) start: usize,
-    /// The number of its row.
+    /// The index of its row.
     pub(crate) number: usize,
 }
 
 impl Row {
-    /// What was found of the types of its command; none where it is no command, or a type is too large.
+    /// The types of its command, or `None` if it is no command or has a type over the size limit.
     fn found(&self) -> Option<&FoundTypes>
         ensures { option_map (λ t. found_types_of t.now) result ≡ types_of_found (found_in (row_of self.now)) }
     {
@@ -76,7 +76,7 @@ impl Row {
         }
     }
 
-    /// The types of the terms of its command, in the order of their numbers.
+    /// The types of the terms of its command, indexed by term number.
     pub(crate) fn types(&self) -> Option<&[Option<TyNo>]>
         ensures some { IfSome result (λ types. (t : KeptTypes) × (types_of_found (found_in (row_of self.now)) ≡ Some t) × (types.now ≡ t.types)) }
         ensures none { IfNone result (types_of_found (found_in (row_of self.now)) ≡ None) }
@@ -84,7 +84,7 @@ impl Row {
         Some(&self.found()?.types)
     }
 
-    /// Where its first written type is that is too large.
+    /// The span of its first written type over the size limit, if any.
     pub(crate) fn large_written_type(&self) -> Option<Span>
         ensures { result ≡ large_written_type (found_in (row_of self.now)) }
     {
@@ -95,7 +95,7 @@ impl Row {
         }
     }
 
-    /// Where its first term is whose type is too large.
+    /// The span of its first term whose type is over the size limit, if any.
     pub(crate) fn large_term(&self) -> Option<Span>
         ensures { result ≡ large_term (found_in (row_of self.now)) }
     {
@@ -106,7 +106,7 @@ impl Row {
         }
     }
 
-    /// The faults that types decide.
+    /// The diagnostics of its types and terms.
     pub(crate) fn faults(&self) -> &[Fault]
         ensures { map fault_of result.now ≡ faults_found (found_in (row_of self.now)) }
     {
@@ -118,7 +118,7 @@ impl Row {
 }
 
 impl Found {
-    /// The entry of what the command binds; none where a type of it is too large.
+    /// The context entry of what the command binds, or `None` if one of its types is over the size limit.
     pub(crate) fn bound(&self) -> Option<TyNo>
         ensures { result ≡ bound_by (found_of self.now) }
     {
@@ -129,7 +129,7 @@ impl Found {
     }
 }
 
-/// The span so many bytes further on.
+/// Shifts a span forward by this many bytes.
 pub(crate) fn span_after(bytes: usize, span: Span) -> Span
     ensures { Fits (span_after bytes span) → result ≡ span_after bytes span }
 {
@@ -139,8 +139,7 @@ pub(crate) fn span_after(bytes: usize, span: Span) -> Span
     }
 }
 
-/// The piece that has the byte at an offset. The last one has all offsets from its start on; there is none where there are no
-/// rows.
+/// Returns the piece around an offset, or `None` if there are no rows. The last piece covers every offset from its start on.
 pub(crate) fn row_around(rows: &[Row], offset: usize) -> Option<PlacedRow>
     requires { bytes_of (rows_of rows.now) < 2 ^ 64 }
     ensures some { IfSome result (λ place. (text : List ℕ) (f : Front) (ts : List Typ) (d : Dialect) → AreRowsFrom text nothing (placed 0 (rows_of rows.now)) f ts d → f.end ≡ length text → IsRowAround text offset (placed 0 (rows_of rows.now)) place ts d) }

@@ -1,4 +1,4 @@
-//! The names that a term sees.
+//! The names in scope at a term.
 ghost use Rattle.std.specs.Prelude.{◌≡◌, ◌<◌, ◌+◌, ◌∷◌, [], ℕ, List, map, length, All, IfOk, OnOk, IfSome};
 ghost use Rattle.std.specs.Option.{option_map};
 ghost use Rattle.std.specs.BTreeMap.{IsOrdered};
@@ -30,9 +30,9 @@ use std::alloc::{AllocError, Global};
 use std::collections::BTreeMap;
 
 impl Analysis {
-    /// The names that a term sees, each once, ascending by their bytes, with the text of the least type of its innermost binder;
-    /// no text where that has none, or some type of the text is too large. The term is one of the command of this piece, by its
-    /// place in the command alone.
+    /// Returns the names in scope at a term, each once, sorted by their bytes, with the least type of the innermost binder as
+    /// text, if it has one and no type of the text is over the size limit. The term is in the command of this piece; `place` is
+    /// its id in `alone`.
     pub(crate) fn names_in_sight(
         &self,
         alloc: Global,
@@ -65,9 +65,9 @@ impl Analysis {
     }
 }
 
-/// Puts binders, which come from the outside in, in the place of outer ones of their names, each with the text of its entry if
-/// there is a table that it is a number of. An underscore has no name. The text of a type is made once and copied then, as many
-/// names may have one type.
+/// Enters binders, outermost first, so that each replaces an outer one of the same name, with its entry as text if there is a
+/// table for it. An underscore has no name. The text of a type is made once and then copied, as many names may have the same
+/// type.
 fn put_in_sight(
     alloc: Global,
     table: Option<&TyTable>,
@@ -105,7 +105,7 @@ fn put_binder(
     Ok(())
 }
 
-/// The text of an entry, if there is a table that it is a number of.
+/// Returns the text of an entry, if there is a table for it.
 fn detail_of(
     table: Option<&TyTable>,
     entry: Option<TyNo>,
@@ -125,7 +125,7 @@ fn detail_of(
     }
 }
 
-/// The text of the type of a number: a copy of the one that was made before, or one that is made and kept.
+/// Returns the text of the type with this id: a copy if it was made before, otherwise a new one, which is kept.
 fn text_once(
     table: &TyTable,
     number: TyNo,
@@ -144,7 +144,7 @@ fn text_once(
     Ok(made)
 }
 
-/// The entries of the list for names and their details.
+/// Returns the completion items for names and their details.
 fn items_of(
     alloc: Global,
     details: BTreeMap<String, Option<String>>,

@@ -1,4 +1,4 @@
-//! A command by itself, with declarations in front of it that stand in for the commands before it.
+//! A command on its own, after declarations that stand in for the commands before it.
 ghost use Rattle.std.specs.Prelude.{◌≡◌, ◌≤◌, ◌++◌, ℕ, List, length, take, map, codes, None, IfOk, OnOk};
 ghost use Rattle.lam_rules.specs.TypeViews.{typ_of, fields_of};
 ghost use Rattle.lam_rules.specs.Types.{unit};
@@ -24,20 +24,20 @@ use lam_syntax::{ArrowTy, Command, Identifier, Text, TyField, TyNode, WrittenTy}
 use lam_token::Span;
 use std::alloc::{AllocError, Global};
 
-/// A command of a text as the last one of a document of its own, in which it sees what it sees in the text.
+/// A command as the last one of a document of its own, in which its free names mean what they mean in the text.
 #[derive(Drop)]
 pub(crate) struct Alone {
-    /// Declarations of the names that it takes from outside, abbreviations of such type names, and behind them the command.
+    /// Declarations of its free names, abbreviations of its free type names, and then the command.
     pub(crate) commands: Vec<Command>,
-    /// How many names are declared.
+    /// The number of names declared.
     pub(crate) names: usize,
 }
 
-/// No token of a stand-in stands in the text.
+/// The span of the tokens of stand-ins, which are not in the text.
 const NOWHERE: Span = Span { start: 0, end: 0 };
 
 impl Analysis {
-    /// The command by itself, where names mean what they mean in front of the piece of this number.
+    /// Returns the command on its own, where names mean what they mean before the piece at this index.
     pub(crate) fn alone(
         &self,
         alloc: Global,
@@ -52,7 +52,7 @@ impl Analysis {
         self.alone_by(alloc, &entries, command)
     }
 
-    /// The command by itself, where these are the entries of names.
+    /// Returns the command on its own, where names have these entries.
     pub(crate) fn alone_by(
         &self,
         alloc: Global,
@@ -67,7 +67,7 @@ impl Analysis {
         Ok(alone)
     }
 
-    /// The stand-ins of a command.
+    /// Returns the stand-ins of a command.
     fn stand_ins(
         &self,
         alloc: Global,
@@ -101,7 +101,7 @@ impl Analysis {
     }
 }
 
-/// Declares those of the names that are bound.
+/// Appends declarations of those of the names that are bound.
 fn push_declarations(
     alloc: Global,
     bound: &Bound,
@@ -123,7 +123,7 @@ fn push_declarations(
     Ok(())
 }
 
-/// Abbreviates what those of the type names stand for that are bound.
+/// Appends abbreviations for those of the type names that are bound.
 fn push_abbreviations(
     alloc: Global,
     bound: &Bound,
@@ -145,7 +145,7 @@ fn push_abbreviations(
     Ok(())
 }
 
-/// A word that stands nowhere in the text.
+/// An identifier that is not in the text.
 fn identifier(alloc: Global, text: &str) -> Result<Identifier, AllocError>
     ensures letters { IfOk result (λ made. letters made.text ≡ text.now) }
     ensures span { IfOk result (λ made. made.span ≡ record { start = 0; end = 0 }) }
@@ -156,7 +156,7 @@ fn identifier(alloc: Global, text: &str) -> Result<Identifier, AllocError>
     })
 }
 
-/// A written type that stands for this entry.
+/// Returns a written type that stands for this entry.
 fn written_entry(
     alloc: Global,
     table: &TyTable,
@@ -171,7 +171,7 @@ fn written_entry(
     }
 }
 
-/// A written type that stands for no type: a label of it stands twice.
+/// Returns a written type that stands for no type, since it repeats a label.
 fn no_type(alloc: Global) -> Result<WrittenTy, AllocError>
     ensures { IfOk result (λ made. type_of made ≡ written_entry None) }
 {
@@ -200,7 +200,7 @@ fn standing_nowhere(node: TyNode) -> WrittenTy
     }
 }
 
-/// A type as it would be written.
+/// Returns a type as it would be written.
 #[cycle(written_type)]
 fn written_type(alloc: Global, ty: &Ty) -> Result<WrittenTy, AllocError>
     ensures { IfOk result (λ made. type_of made ≡ written_type (typ_of ty.now)) }
@@ -219,8 +219,8 @@ fn written_type(alloc: Global, ty: &Ty) -> Result<WrittenTy, AllocError>
     Ok(standing_nowhere(node))
 }
 
-/// An arrow to a type from one that is written already, as it would be written. It is kept out of line, so that a level of a record type takes little of the
-/// stack.
+/// Returns an arrow type as it would be written, from its parameter as already written. Not inlined, so that a level of a record
+/// type uses little stack.
 #[cycle(written_type)]
 #[inline(never)]
 fn written_arrow(
@@ -236,7 +236,7 @@ fn written_arrow(
     Ok(Box::new(alloc, arrow)?)
 }
 
-/// Fields as they would be written.
+/// Returns fields as they would be written.
 #[cycle(written_type)]
 fn written_fields(alloc: Global, fields: &[(String, Ty)]) -> Result<Vec<TyField>, AllocError>
     ensures { IfOk result (λ made. type_fields_of made.items ≡ written_fields (fields_of fields.now)) }

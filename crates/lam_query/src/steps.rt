@@ -1,4 +1,4 @@
-//! Proofs as lists of steps.
+//! Flattens proofs into lists of steps.
 ghost use Rattle.std.specs.Prelude.{◌≡◌, ℕ, ◌+◌, ◌++◌, map, length, get_or, IfOk, OnOk, All, List};
 ghost use Rattle.std.specs.Option.{option_map};
 ghost use Rattle.lam_rules.specs.SubViews.{sub_tree_of, sub_trees_of};
@@ -20,7 +20,7 @@ use lam_rules::{SubProof, TypeProof, TypeRule, copy_of};
 use lam_scope::{Place, Scopes};
 use std::alloc::{AllocError, Global};
 
-/// The steps of a proof about the term at a place, each behind those of its premises; the last one concludes the proof.
+/// Returns the steps of a proof about a subterm, each after its premises; the last one concludes the proof.
 pub fn steps_of_proof(
     alloc: Global,
     scopes: &Scopes,
@@ -37,8 +37,7 @@ pub fn steps_of_proof(
     Ok(listed)
 }
 
-/// Puts the steps of a proof behind those that stand, and answers the number of the last one. The proof is about the
-/// term at the place.
+/// Appends the steps of a proof about this subterm, and returns the index of the last one.
 #[cycle(list_typing)]
 #[tactic(auto, using(lam_rules::proofs::TypingShapes::typing_nodes))]
 fn list_typing(
@@ -65,7 +64,7 @@ fn list_typing(
     Ok(last)
 }
 
-/// The places of the immediate terms, where the premises of a step are about those.
+/// The immediate subterms, if the premises of the step are about them.
 fn premise_places(scopes: &Scopes, place: Place, rule: TypeRule) -> &[Place]
     ensures { map place_number result.now ≡ premise_places (table_of scopes.now) place.0 rule }
 {
@@ -75,8 +74,8 @@ fn premise_places(scopes: &Scopes, place: Place, rule: TypeRule) -> &[Place]
     }
 }
 
-/// Puts the steps of proofs of premises one behind the other, and answers the number of the last one of each. They are
-/// about these terms, one after another, or about the term at the place itself.
+/// Appends the steps of the premises in order, and returns the index of the last step of each. They are about these subterms in
+/// turn, or about `place` itself.
 #[cycle(list_typing)]
 #[tactic(auto, using(lam_rules::proofs::TypingShapes::typing_nodes))]
 fn list_typings(
@@ -99,7 +98,7 @@ fn list_typings(
     Ok(numbers)
 }
 
-/// The place of that number among these, or else the other one.
+/// Returns the place at this index, or else the other one.
 #[tactic(auto, using(lam_scope::proofs::Reading::reading))]
 fn place_or(places: &[Place], number: usize, other: Place) -> Place
     ensures { result.0 ≡ get_or (map place_number places.now) number other.0 }
@@ -110,7 +109,7 @@ fn place_or(places: &[Place], number: usize, other: Place) -> Place
     }
 }
 
-/// Puts the steps of a premise of subtyping behind those of the premises of typing, if there is one.
+/// Appends the steps of the subtyping premise, if there is one, after those of the typing premises.
 fn list_side(
     alloc: Global,
     steps: &mut Vec<Step>,
@@ -130,7 +129,7 @@ fn list_side(
     }
 }
 
-/// Puts the steps of a proof of subtyping behind those that stand, and answers the number of the last one.
+/// Appends the steps of a subtyping proof, and returns the index of the last one.
 #[cycle(list_sub)]
 #[tactic(auto, using(lam_rules::proofs::SubShapes::sub_nodes))]
 fn list_sub(alloc: Global, steps: &mut Vec<Step>, proof: &SubProof) -> Result<usize, AllocError>

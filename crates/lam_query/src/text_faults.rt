@@ -1,4 +1,4 @@
-//! The faults of a text.
+//! The diagnostics of a text.
 ghost use Rattle.std.specs.Prelude.{map, All, IfOk, OnOk};
 ghost use Rattle.lam_query.specs.Analyses.{IsAnalysisOf, dialect_of};
 ghost use Rattle.lam_query.specs.Faults.{AreInOrder};
@@ -11,7 +11,7 @@ use crate::answers::Fault;
 use lam_rules::Dialect;
 use std::alloc::{AllocError, Global};
 
-/// The faults of a text, by their start, then their end, then their code.
+/// Returns the diagnostics of a text, sorted by start, then by end, then by code.
 pub fn faults(alloc: Global, text: &str, dialect: Dialect) -> Result<Vec<Fault>, AllocError>
     ensures faults { IfOk result (λ found. AreFaults text.now (map fault_of found.items) dialect) }
     ensures whole_characters { IfOk result (λ found. All (λ f. IsSpanOfText text.now f.span) found.items) }
@@ -20,7 +20,7 @@ pub fn faults(alloc: Global, text: &str, dialect: Dialect) -> Result<Vec<Fault>,
 }
 
 impl Analysis {
-    /// The faults of the text, by their start, then their end, then their code.
+    /// Returns the diagnostics of the text, sorted by start, then by end, then by code.
     pub fn faults(&self, alloc: Global, text: &str) -> Result<Vec<Fault>, AllocError>
         requires { IsAnalysisOf text.now self.now }
         ensures faults { IfOk result (λ found. AreFaults text.now (map fault_of found.items) (dialect_of self.now)) }
@@ -37,7 +37,7 @@ impl Analysis {
     }
 }
 
-/// Puts faults in order: by their start, then by their end, then by their code.
+/// Sorts diagnostics by start, then by end, then by code.
 fn put_in_order(faults: &mut Vec<Fault>) -> Result<(), AllocError>
     ensures { OnOk result (AreInOrder (map fault_of faults.old.items) (map fault_of faults.new.items)) }
 {

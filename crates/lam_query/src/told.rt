@@ -1,4 +1,4 @@
-//! What the rows of a text tell of it.
+//! The diagnostics that the rows of a text report.
 ghost use Rattle.std.specs.Prelude.{◌≡◌, ◌++◌, ◌<◌, ◌^◌, map, IfOk, IfSome, OnOk};
 ghost use Rattle.std.specs.Option.{option_map, option_or};
 ghost use Rattle.lam_query.specs.Views.{fault_of};
@@ -9,20 +9,20 @@ use crate::rows::{Row, span_after};
 use lam_token::Span;
 use std::alloc::{AllocError, Global};
 
-/// What the rows of a text tell of it.
+/// The diagnostics that the rows of a text report.
 #[derive(Drop)]
 pub(crate) struct Told {
-    /// The faults that tokens and the grammar decide, row after row.
+    /// The lexical and syntactic diagnostics, row by row.
     pub(crate) syntax: Vec<Fault>,
-    /// Those that types decide, if no type is too large.
+    /// The type diagnostics, valid if no type is over the size limit.
     pub(crate) types: Vec<Fault>,
-    /// Where the one type is that is too large, so that none is told: the first written type, and where there is none the first
-    /// term.
+    /// The span of the type over the size limit, because of which no types are reported: the first written type, or else the
+    /// first term with such a type.
     pub(crate) large: Option<Span>,
 }
 
-/// What they tell, in one pass: after a small change of a long text a pass over all rows is much of the work. Bytes count from the
-/// start of the text.
+/// Collects them in one pass, since after a small change of a long text a pass over all rows is much of the work. Offsets are
+/// relative to the start of the text.
 pub(crate) fn told_by(alloc: Global, rows: &[Row]) -> Result<Told, AllocError>
     requires { bytes_of (rows_of rows.now) < 2 ^ 64 }
     ensures syntax { IfOk result (λ told. AllFit (all_syntax (placed 0 (rows_of rows.now))) → map fault_of told.syntax.items ≡ all_syntax (placed 0 (rows_of rows.now))) }
@@ -50,7 +50,7 @@ pub(crate) fn told_by(alloc: Global, rows: &[Row]) -> Result<Told, AllocError>
     })
 }
 
-/// Adds these faults, each so many bytes further on.
+/// Appends these diagnostics, each shifted by this many bytes.
 fn push_after(found: &mut Vec<Fault>, bytes: usize, faults: &[Fault]) -> Result<(), AllocError>
     ensures { OnOk result (AllFit (map (λ f. fault_after bytes (fault_of f)) faults.now) → map fault_of found.new.items ≡ map fault_of found.old.items ++ map (λ f. fault_after bytes (fault_of f)) faults.now) }
 {
@@ -64,7 +64,7 @@ fn push_after(found: &mut Vec<Fault>, bytes: usize, faults: &[Fault]) -> Result<
     Ok(())
 }
 
-/// The first place, or where there is none yet the one in the piece that starts at this byte.
+/// Returns the first span found so far, or else the one here, with the start of its piece.
 fn first_of(first: Option<(usize, Span)>, start: usize, here: Option<Span>) -> Option<(usize, Span)>
     ensures { option_map place_after result ≡ option_or (option_map place_after first) (option_map (span_after start) here) }
 {
@@ -74,7 +74,7 @@ fn first_of(first: Option<(usize, Span)>, start: usize, here: Option<Span>) -> O
     }
 }
 
-/// A place in the piece that starts at a byte, where it is in the text.
+/// Returns the span in the text, given the start of its piece and the span in the piece.
 fn place_in_text(place: Option<(usize, Span)>) -> Option<Span>
     ensures { IfSome (option_map place_after place) Fits → result ≡ option_map place_after place }
 {

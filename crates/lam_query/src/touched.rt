@@ -8,8 +8,8 @@ ghost use Rattle.lam_query.specs.Touched.{is_name_over, is_name_before, touched}
 
 use lam_token::{Kind, Token, first_token};
 
-/// The byte at which the name or type name under the cursor begins: of the one that has the byte at the offset or, where
-/// there is none, of the one that ends there.
+/// Returns the byte offset at which the name or type name under the cursor starts: the one that contains the byte at the offset,
+/// or else the one that ends there.
 pub(crate) fn touched(text: &str, offset: usize) -> Option<usize>
     ensures { (tokens : List Lexeme) → AreTokensOf text.now tokens → result ≡ option_map start_of (touched offset tokens) }
 {
@@ -29,7 +29,7 @@ pub(crate) fn touched(text: &str, offset: usize) -> Option<usize>
     before
 }
 
-/// Whether the token is a name or a type name that has the byte at the offset.
+/// Whether the token is a name or a type name that contains the byte at the offset.
 fn is_name_over(token: &Token<'_>, offset: usize) -> bool
     ensures { result ≡ is_name_over offset token.now }
 {
@@ -42,7 +42,7 @@ fn is_name_over(token: &Token<'_>, offset: usize) -> bool
     offset < token.end()
 }
 
-/// The byte at which the token begins, if it is a name or a type name that ends at the offset.
+/// Returns the start of the token, if it is a name or a type name that ends at the offset.
 fn name_before(token: &Token<'_>, offset: usize) -> Option<usize>
     ensures { result ≡ if is_name_before offset token.now then Some (start_of token.now) else None }
 {

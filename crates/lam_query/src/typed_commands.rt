@@ -1,4 +1,4 @@
-//! One command, typed behind those in front of it.
+//! Types one command after those before it.
 ghost use Rattle.std.specs.Prelude.{◌≡◌, ◌++◌, ◌∷◌, [], map, IfOk};
 ghost use Rattle.lam_rules.specs.Numbers.{Keeps};
 ghost use Rattle.lam_scope.specs.Nameless.{written_in_command, first_over_limit};
@@ -30,17 +30,17 @@ use lam_typing::{Blame, TypeChecker};
 use std::alloc::{AllocError, Global};
 use std::slice;
 
-/// A command without names, over a table of types.
+/// A command in nameless form, with type ids of a type table.
 #[derive(Drop)]
 struct Stated<'a> {
     statement: InternedStatement<'a>,
-    /// Those of its written types, in the order of the text.
+    /// Those of its written types, in text order.
     faults: Vec<TypeFault>,
-    /// The entries of the names that it sees, the outermost first.
+    /// The context entries of the names in scope, outermost first.
     entries: Vec<Option<TyNo>>,
 }
 
-/// What is found of a command, where this is bound in front of it. These are the names that it takes from outside.
+/// Returns the types of a command with these free names, given what is bound before it.
 pub(crate) fn found_of(
     alloc: Global,
     types: &mut TypeChecker,
@@ -73,7 +73,7 @@ pub(crate) fn found_of(
     }))
 }
 
-/// A command without names, where this is bound in front of it. Its written types are put into the table.
+/// Returns the nameless form of a command, given what is bound before it, and adds its written types to the table.
 fn state_command<'a>(
     alloc: Global,
     types: &mut TypeChecker,
@@ -107,7 +107,7 @@ fn state_command<'a>(
     })
 }
 
-/// What a type name stands for, if the command binds one, or else this entry.
+/// Returns what the type name stands for if the command binds one, otherwise this entry.
 fn bound_number(statement: &InternedStatement<'_>, entry: Option<TyNo>) -> Option<TyNo>
     ensures { result ≡ bound_number statement.now entry }
 {
@@ -117,7 +117,7 @@ fn bound_number(statement: &InternedStatement<'_>, entry: Option<TyNo>) -> Optio
     }
 }
 
-/// The faults of the written types of a command, and behind them those of its terms.
+/// Returns the diagnostics of the written types of a command, then those of its terms.
 fn faults_of(
     alloc: Global,
     command: &Command,
@@ -132,7 +132,7 @@ fn faults_of(
     Ok(found)
 }
 
-/// The span of the term of this number in a command.
+/// Returns the span of the term with this number in a command.
 fn span_of_term(alloc: Global, command: &Command, number: usize) -> Result<Span, AllocError>
     ensures { IfOk result (λ s. s ≡ (place_row_numbered (table (command_of command.now ∷ [])) number).span) }
 {
@@ -140,7 +140,7 @@ fn span_of_term(alloc: Global, command: &Command, number: usize) -> Result<Span,
     Ok(scopes.span_of(Place(number)))
 }
 
-/// The faults of written types, in the order of the text.
+/// Returns the diagnostics of written types, in text order.
 fn written_faults(alloc: Global, faults: &[TypeFault]) -> Result<Vec<Fault>, AllocError>
     ensures { IfOk result (λ found. map fault_of found.items ≡ map written_fault faults.now) }
 {
@@ -160,7 +160,7 @@ fn written_fault(fault: TypeFault) -> Fault
     }
 }
 
-/// The faults of the terms of a command that are to blame, with their codes.
+/// Returns the diagnostics of the terms of a command that are at fault, with their codes.
 fn blame_faults(
     alloc: Global,
     command: &Command,

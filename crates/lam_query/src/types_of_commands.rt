@@ -25,7 +25,7 @@ use lam_syntax::{Command, Identifier};
 use lam_typing::TypeChecker;
 use std::alloc::{AllocError, Global};
 
-/// What each command of a text shows, in their order; none where some type of the text has more than 4,096 nodes.
+/// Returns what each command of a text shows, in order, or `None` if some type of the text has more than 4,096 nodes.
 pub fn command_types(
     alloc: Global,
     text: &str,
@@ -57,8 +57,8 @@ fn show_commands(
     Ok(Some(all))
 }
 
-/// What the next command shows, where this is bound in front of it. What it binds is bound then. None where a type of it is
-/// too large.
+/// Returns what the next command shows, given what is bound before it, and binds what it binds. Returns `None` if one of its
+/// types is over the size limit.
 fn show_command(
     alloc: Global,
     types: &mut TypeChecker,
@@ -82,7 +82,7 @@ fn show_command(
     Ok(Some(shown_of(alloc, command, types.table(), &found)?))
 }
 
-/// What a command with these types shows.
+/// Returns what a command with these types shows.
 fn shown_of(
     alloc: Global,
     command: &Command,
@@ -111,7 +111,7 @@ fn copy_of(alloc: Global, name: &Identifier) -> Result<String, AllocError>
     String::from_str(alloc, name.text.as_str())
 }
 
-/// The number of the type of a whole term, which comes behind its parts.
+/// Returns the type id of the whole term, which comes after its parts.
 fn last_of(types: &[Option<TyNo>]) -> Option<TyNo>
     ensures { result ≡ last_number types.now }
 {
@@ -121,7 +121,7 @@ fn last_of(types: &[Option<TyNo>]) -> Option<TyNo>
     }
 }
 
-/// The text of the type of a number, if there is one.
+/// Returns the text of the type with this id, if there is one.
 fn text_of(table: &TyTable, number: Option<TyNo>) -> Result<Option<String>, AllocError>
     requires { StandsIfAny table.now number }
     ensures { IfOk result (λ made. option_map (λ t. string_bytes t) made ≡ option_map text (answer table.now number)) }

@@ -12,14 +12,14 @@ use lam_syntax::Command;
 use lam_typing::{Typing, TypingFault, analyse};
 use std::alloc::{AllocError, Global};
 
-/// Commands without names, and the types of their terms.
+/// Commands in nameless form, and the types of their terms.
 #[derive(Drop)]
 pub(crate) struct Types {
     pub(crate) resolved: Resolved,
     pub(crate) typing: Typing,
 }
 
-/// The types of the terms of these commands; none where a type is too large.
+/// Returns the types of the terms of these commands, or `None` if a type is over the size limit.
 pub(crate) fn types_of(
     alloc: Global,
     commands: &[Command],

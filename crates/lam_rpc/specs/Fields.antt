@@ -1,5 +1,5 @@
--- Where the fields of a message's params stand, and what shape each needs (LSP 3.17, "Basic JSON Structures" and
--- "Text Document Synchronization"). None says that the shape does not stand there.
+-- The fields of a message's params and the shape that each needs (LSP 3.17, "Basic JSON Structures" and "Text Document Synchronization"). `None` means that the field is
+-- missing or has another shape.
 use Rattle.std.specs.Prelude.{ℕ, List, [], ◌∷◌, codes, Option, Some, None, option_map, option_and_then}
 use Rattle.serde_json.specs.Data.{Data, null, Items, no_items, item}
 use Rattle.serde_json.specs.Find.{get, as_number, as_u64, as_str, as_array}
@@ -7,11 +7,11 @@ use Rattle.lam_text.specs.declared.places.Position.{Position}
 use Rattle.lam_text.specs.declared.places.Range.{Range}
 use Rattle.lam_text.specs.Edits.{Edit}
 
--- a whole number of 0 to 2^64 - 1
+-- an integer from 0 to 2^64 - 1
 abbrev pub number_at : List ℕ → Data → Option ℕ
 number_at name d = option_and_then as_u64 (option_and_then as_number (get name d))
 
--- a text
+-- a string
 abbrev pub text_at : List ℕ → Data → Option (List ℕ)
 text_at name d = option_and_then as_str (get name d)
 
@@ -31,31 +31,31 @@ given_range d =
     option_and_then (λ start. option_map (λ end. record { start = start; end = end }) (position_at (codes "end") d))
     (position_at (codes "start") d)
 
--- the position that a request asks about
+-- the position that a request is about
 abbrev pub asked_position : Data → Option Position
 asked_position params = position_at (codes "position") params
 
--- the document that the params name
+-- the URI of the document that the params name
 abbrev pub named_uri : Data → Option (List ℕ)
 named_uri params = option_and_then (text_at (codes "uri")) (get (codes "textDocument") params)
 
--- the range that a `range` member is; null means the whole text
+-- the range in a `range` member; null means the whole text
 abbrev pub changed_range : Data → Option (Option Range)
 changed_range null = Some None
 changed_range d = option_map (λ range. Some range) (given_range d)
 
--- the range of a change; where it is missing, the whole text is meant
+-- the range of a change; the whole text if it is missing
 abbrev pub range_at : Option Data → Option (Option Range)
 range_at None = Some None
 range_at (Some d) = changed_range d
 
--- `{"text": TEXT, "range": RANGE}`, perhaps without the range; its length is not looked at
+-- `{"text": TEXT, "range": RANGE}`, where the range is optional; `rangeLength` is ignored
 abbrev pub change_of : Data → Option Edit
 change_of d =
     option_and_then (λ text. option_map (λ range. record { range = range; text = text }) (range_at (get (codes "range") d)))
     (text_at (codes "text") d)
 
--- all the changes, or none where one has another shape
+-- all the changes; `None` if one has another shape
 abbrev pub changes_of : Items → Option (List Edit)
 changes_of no_items = Some []
 changes_of (item d ds) = option_and_then (λ edit. option_map (λ edits. edit ∷ edits) (changes_of ds)) (change_of d)

@@ -1,4 +1,4 @@
-//! What a body is.
+//! Classification of message bodies.
 ghost use Rattle.std.specs.Prelude.{◌≡◌, IfOk, codes, unwrap_or};
 ghost use Rattle.serde_json.specs.Data.{null};
 ghost use Rattle.serde_json.specs.Find.{get};
@@ -8,37 +8,36 @@ ghost use Rattle.lam_rpc.specs.Kind.{message_of, message_kind, is_id, is_reply, 
 use serde_json::Value;
 use std::alloc::{AllocError, Global};
 
-/// A client's message, by its kind.
+/// A message from the client, by kind.
 #[derive(Drop)]
 pub enum Incoming {
-    /// It wants exactly one reply, with its id.
+    /// Requires exactly one reply, with this id.
     Request {
         id: Value,
         method: String,
         params: Value,
     },
-    /// It wants no reply. Missing params are null.
+    /// Requires no reply. Missing params are null.
     Notice {
         method: String,
         params: Value,
     },
-    /// An answer to a request that this server never made.
+    /// A reply to a request that this server never made.
     Reply,
-    /// No JSON text.
+    /// Not a JSON text.
     Unreadable,
-    /// A JSON text that is no message.
+    /// A JSON text that is not a message.
     Invalid,
 }
 
-/// Says what a body is.
+/// Determines what a body is.
 ///
-/// What is no JSON text, or nests more than 127 levels, is unreadable. A JSON text that is no
-/// object is invalid: batches are not taken. An object with `result` or `error` and without
-/// `method` answers somebody's request, whatever its id. Every other object needs a text as its
-/// method; then it is a notice where it has no id, a request where its id is a text or a whole
-/// number of 64 bits, and invalid where the id is anything else.
+/// A body that is not a JSON text, or that nests more than 127 levels, is unreadable. A JSON text that is not an object is
+/// invalid; batches are not supported. An object with `result` or `error` and without `method` is a reply, whatever its id. Every
+/// other object needs a string as its method. It is then a notice if it has no id, a request if its id is a string or a 64-bit
+/// integer, and invalid otherwise.
 ///
-/// Where members have one name, the last counts. `jsonrpc` may say anything.
+/// If several members have the same name, the last one counts. The value of `jsonrpc` is ignored.
 pub fn classify(alloc: Global, body: &[u8]) -> Result<Incoming, AllocError>
     ensures kind { IfOk result (λ incoming. IsKindOf body.now (message_of incoming)) }
     ensures plain { IfOk result (λ incoming. HasPlainId (message_of incoming)) }
@@ -96,7 +95,7 @@ fn is_id(value: &Value) -> bool
     value.as_i64().is_some() || value.as_u64().is_some() || value.is_string()
 }
 
-// The params are moved out, since they may hold a whole document.
+// Moves the params out, since they may contain a whole document.
 fn taken_params(value: &mut Value) -> Value
     ensures { view result ≡ unwrap_or (get (codes "params") (view value.old)) null }
 {

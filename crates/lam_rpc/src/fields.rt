@@ -1,4 +1,4 @@
-//! The fields of params.
+//! Access to the fields of params.
 ghost use Rattle.std.specs.Prelude.{◌≡◌, Some, None, codes, option_map, IfOk, IsErrOf};
 ghost use Rattle.std.specs.Result.{result_ok};
 ghost use Rattle.serde_json.specs.Find.{get};
@@ -9,11 +9,11 @@ use lam_text::{Change, Position, Range};
 use serde_json::Value;
 use std::alloc::Global;
 
-/// A field is missing, or has another shape.
+/// A field is missing or has another shape.
 #[derive(Clone, Copy, Debug, PartialEq, Eq)]
 pub struct BadParams {}
 
-/// Why there is no list of changes.
+/// Why the changes could not be read.
 #[derive(Clone, Copy, Debug, PartialEq, Eq)]
 pub enum ChangesFault {
     /// The list is missing, or one of its changes has another shape.
@@ -21,21 +21,21 @@ pub enum ChangesFault {
     Memory,
 }
 
-/// The member `position` of a request's params (LSP 3.17, `TextDocumentPositionParams`).
+/// Returns the member `position` of a request's params (LSP 3.17, `TextDocumentPositionParams`).
 pub fn read_position(params: &Value) -> Result<Position, BadParams>
     ensures { result_ok result ≡ asked_position (view params.now) }
 {
     position_at(params, "position").ok_or(BadParams {})
 }
 
-/// A range (LSP 3.17, `Range`).
+/// Reads a range (LSP 3.17, `Range`).
 pub fn read_range(range: &Value) -> Result<Range, BadParams>
     ensures { result_ok result ≡ given_range (view range.now) }
 {
     range_of(range).ok_or(BadParams {})
 }
 
-/// The uri of the document that params name (LSP 3.17, `TextDocumentIdentifier`).
+/// Returns the URI of the document that the params name (LSP 3.17, `TextDocumentIdentifier`).
 pub fn read_uri(params: &Value) -> Result<&str, BadParams>
     ensures { option_map (λ uri. uri.now) (result_ok result) ≡ named_uri (view params.now) }
 {
@@ -45,8 +45,8 @@ pub fn read_uri(params: &Value) -> Result<&str, BadParams>
     text_at(document, "uri").ok_or(BadParams {})
 }
 
-/// The changes of a document, in order (LSP 3.17, `DidChangeTextDocumentParams`): all of them, or
-/// none where one has another shape.
+/// Returns the changes of a document, in order (LSP 3.17, `DidChangeTextDocumentParams`): all of them, or an error if one has
+/// another shape.
 pub fn read_changes(alloc: Global, params: &Value) -> Result<Vec<Change>, ChangesFault>
     ensures ok { IfOk result (λ changes. listed_changes (view params.now) ≡ Some changes.items) }
     ensures bad_params { IsErrOf result ChangesFault.BadParams → listed_changes (view params.now) ≡ None }

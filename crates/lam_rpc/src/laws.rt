@@ -1,9 +1,10 @@
-//! What holds of the definitions: a body has a kind, and one alone.
+//! Laws of the definitions: a body has exactly one kind.
+//!
 //! Each law is the contract of a function that does nothing.
 ghost use Rattle.std.specs.Prelude.{◌≡◌, List, ℕ};
 ghost use Rattle.lam_rpc.specs.Kind.{Message, IsKindOf};
 
-/// Each body has a kind.
+/// Every body has a kind.
 pub fn some_kind()
     ensures { (body : List ℕ) → (m : Message) × IsKindOf body m }
 {}

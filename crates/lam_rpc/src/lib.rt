@@ -1,10 +1,10 @@
-//! Messages of JSON-RPC 2.0 as the Language Server Protocol sends them, one in a body.
+//! Messages of JSON-RPC 2.0 as used by the Language Server Protocol, one per body.
 //!
-//! `classify` says what a body is, exactly: a request, a notice (a message without an id), a
-//! reply, or one of the two kinds of nonsense. What goes back is built by `ok_reply`, `error_reply`
-//! and `notice`. `read_position`, `read_range`, `read_uri` and `read_changes` read the fields of
-//! params, exactly: each answers the field, and refuses just what has another shape.
-//! Nothing here knows frames, open documents or the life of a session.
+//! `classify` determines exactly what a body is: a request, a notification (a message without an id, here called a notice), a
+//! reply, or one of two kinds of invalid input. `ok_reply`, `error_reply` and `notice` build the messages to send.
+//! `read_position`, `read_range`, `read_uri` and `read_changes` read the fields of params: each returns the field, or an error
+//! exactly if it is missing or has another shape. This crate does not deal with frames, open documents or the lifecycle of a
+//! session.
 #![tactic(auto)]
 
 mod body;

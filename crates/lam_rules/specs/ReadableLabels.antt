@@ -1,17 +1,17 @@
--- Labels that can be read off the text of a type.
+-- Labels that can be recognized in the text of a type.
 use Rattle.std.specs.Prelude.{◌≢◌, ◌++◌, All, codes}
 use Rattle.std.specs.Str.{byte}
 use Rattle.lam_rules.specs.Types.{Label, Typ, bool, nat, unit, top, arrow, record_of, Fields, no_fields, field}
 use Rattle.lam_rules.specs.Texts.{Text}
 
--- the label can be told from what stands around it in a text
+-- the label can be told apart from the surrounding text
 pub record IsReadable (l : Label) : Type 0 where
-  -- so it ends where the first colon stands
+  -- so it ends at the first colon
   pub no_colon : All (λ b. b ≢ byte ":") l
-  -- so it is not taken for the end of a record type without fields
+  -- so it cannot be taken for the end of a record type without fields
   pub no_brace_first : (rest : Text) → l ≢ codes "}" ++ rest
 
--- in each record type, at every depth, the labels are readable
+-- the labels of each record type are readable, at every depth
 abbrev mutual
   pub HasReadableLabels : Typ → Type 0
   HasReadableLabels bool = Unit {0}

@@ -1,10 +1,10 @@
--- The names of the rules, as a derivation prints them.
+-- The names of the rules, as printed in derivations.
 use Rattle.std.specs.Prelude.{codes}
 use Rattle.lam_rules.specs.Texts.{Text}
 use Rattle.lam_rules.specs.declared.rules.SubRule.{SubRule}
 use Rattle.lam_rules.specs.declared.rules.TypeRule.{TypeRule}
 
--- those of subtyping
+-- the names of the subtyping rules
 abbrev pub name_of_sub_rule : SubRule → Text
 name_of_sub_rule SubRule.Refl = codes "S-Refl"
 name_of_sub_rule SubRule.Trans = codes "S-Trans"
@@ -15,7 +15,7 @@ name_of_sub_rule SubRule.RcdDepth = codes "S-RcdDepth"
 name_of_sub_rule SubRule.RcdPerm = codes "S-RcdPerm"
 name_of_sub_rule SubRule.BoolNat = codes "S-BoolNat"
 
--- those of typing
+-- the names of the typing rules
 abbrev pub name_of_type_rule : TypeRule → Text
 name_of_type_rule TypeRule.True = codes "T-True"
 name_of_type_rule TypeRule.False = codes "T-False"

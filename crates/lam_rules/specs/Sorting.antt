@@ -1,11 +1,11 @@
--- What it is to sort the labels of a type, whichever way that is done.
+-- What sorting the labels of a type means, independent of how it is done.
 use Rattle.std.specs.Prelude.{◌≡◌, if◌then◌else◌, List, [], ◌∷◌, IsTrue, String, string_bytes}
 use Rattle.std.specs.declared.alloc.Global.{Global}
 use Rattle.std.specs.Str.{bytes_eq}
 use Rattle.lam_rules.specs.Types.{Label, Typ, bool, nat, unit, top, arrow, record_of, Fields, no_fields, field}
 use Rattle.lam_rules.specs.Texts.{is_not_after}
 
--- the label stands before each label of the fields in byte order, or is the same
+-- the label is less than or equal to each label of the fields in byte order
 abbrev pub ComesFirst : Label → Fields → Type 0
 ComesFirst l no_fields = Unit {0}
 ComesFirst l (field k t rest) = IsTrue (is_not_after l k) × ComesFirst l rest
@@ -15,17 +15,17 @@ abbrev pub IsAscending : Fields → Type 0
 IsAscending no_fields = Unit {0}
 IsAscending (field l t rest) = ComesFirst l rest × IsAscending rest
 
--- the types of the fields with this label, in the order of the fields
+-- the types of the fields with this label, in order
 abbrev pub types_under : Label → Fields → List Typ
 types_under l no_fields = []
 types_under l (field k t rest) = if bytes_eq l k then t ∷ types_under l rest else types_under l rest
 
--- the second fields are the first in another order: their labels ascend, and those of one label are the same ones in the same order
+-- the second list is the first one sorted: its labels ascend, and for each label it has the same types in the same order
 pub record IsSorting (fs gs : Fields) : Type 0 where
   pub ascending : IsAscending gs
   pub same_fields : (l : Label) → types_under l gs ≡ types_under l fs
 
--- labelled values as fields, each value seen as a type
+-- labelled values as fields, given the type of each value
 abbrev pub fields_by : {X : Type 0} → (X → Typ) → List (String Global × X) → Fields
 fields_by typ [] = no_fields
 fields_by typ (f ∷ fs) = field (string_bytes f.0) (typ f.1) (fields_by typ fs)

@@ -1,34 +1,34 @@
--- Subtyping by its declarative rules, TAPL chapter 15. This file is to be believed: compare it with the book.
+-- The declarative subtyping rules, TAPL chapter 15. This file has to be trusted: compare it with the book.
 use Rattle.std.specs.Prelude.{◌≡◌, List, [], ◌∷◌}
 use Rattle.lam_rules.specs.Types.{Typ, bool, nat, top, arrow, record_of, Fields, no_fields, field, joined, IsWellFormed}
 use Rattle.lam_rules.specs.declared.rules.Dialect.{Dialect}
 use Rattle.lam_rules.specs.declared.rules.SubRule.{SubRule}
 
--- the statement that one type is below another: `lower <: upper`
+-- the statement that one type is a subtype of another: `lower <: upper`
 pub record Claim : Type 0 where
   pub lower : Typ
   pub upper : Typ
 
--- the fields of the second are the first fields of the first, which may go on
+-- the first list begins with the fields of the second
 abbrev pub BeginsWith : Fields → Fields → Type 0
 BeginsWith fs no_fields = Unit {0}
 BeginsWith (field k s fs) (field l t gs) = (k ≡ l) × (s ≡ t) × BeginsWith fs gs
 BeginsWith no_fields (field l t gs) = ⊥
 
--- the same labels in the same order, and for each label a claim that its first type is below its second
+-- the same labels in the same order, with a claim for each label that its first type is a subtype of its second
 abbrev pub GoesFieldByField : Fields → Fields → List Claim → Type 0
 GoesFieldByField no_fields no_fields [] = Unit {0}
 GoesFieldByField (field k s fs) (field l t gs) (claim ∷ claims) =
     (k ≡ l) × (claim.lower ≡ s) × (claim.upper ≡ t) × GoesFieldByField fs gs claims
 GoesFieldByField _ _ _ = ⊥
 
--- the same fields in some order: the first of these stands somewhere among those, and the rest are a permutation of what is left there
+-- a permutation: the first field occurs somewhere in the second list, and the others are a permutation of what remains of it
 abbrev pub IsPermutation : Fields → Fields → Type 0
 IsPermutation no_fields gs = gs ≡ no_fields
 IsPermutation (field l t rest) gs =
     (before : Fields) × (after : Fields) × (gs ≡ joined before (field l t after)) × IsPermutation rest (joined before after)
 
--- The rules one by one: by this rule, from these premises, the one type is below the other.
+-- The rules: by this rule, the first type is a subtype of the second, given these premises.
 abbrev pub BySubRule : SubRule → List Claim → Typ → Typ → Type 0
 -- S-Refl, 15.2: S <: S
 BySubRule SubRule.Refl [] s t = s ≡ t
@@ -49,12 +49,12 @@ BySubRule SubRule.RcdPerm [] (record_of fs) (record_of gs) = IsPermutation fs gs
 BySubRule SubRule.BoolNat [] s t = (s ≡ bool) × (t ≡ nat)
 BySubRule _ _ _ _ = ⊥
 
--- the dialects differ in one rule: S-BoolNat is one of dialect 2 alone
+-- S-BoolNat is a rule of dialect 2 only; all other rules are rules of both dialects
 abbrev pub IsRuleOf : SubRule → Dialect → Type 0
 IsRuleOf SubRule.BoolNat Dialect.One = ⊥
 IsRuleOf _ _ = Unit {0}
 
--- A tree whose nodes have a rule, a conclusion and premises. It need not be a proof.
+-- A tree whose nodes have a rule, a conclusion and premises. It need not be a valid proof.
 mutual
   pub data SubTree : Type 0 where
     sub_step : (rule : SubRule) (lower upper : Typ) (premises : SubTrees) → SubTree
@@ -63,17 +63,17 @@ mutual
     no_subs : SubTrees
     sub_first : (first : SubTree) (rest : SubTrees) → SubTrees
 
--- what a tree concludes
+-- the conclusion of a tree
 abbrev pub conclusion : SubTree → Claim
 conclusion (sub_step r s t ps) = record { lower = s; upper = t }
 
--- what several conclude
+-- the conclusions of several trees
 abbrev pub conclusions : SubTrees → List Claim
 conclusions no_subs = []
 conclusions (sub_first p ps) = conclusion p ∷ conclusions ps
 
--- A tree is a proof where, at each node, both types have distinct labels at every depth, the rule is one of the dialect,
--- and by it the conclusion follows from those of the premises.
+-- A tree is a valid proof if at each node both types have distinct labels at every depth, the rule is one of the dialect, and the conclusion follows by the rule
+-- from the conclusions of the premises.
 abbrev mutual
   pub IsSubProof : SubTree → Dialect → Type 0
   IsSubProof (sub_step r s t ps) d = IsWellFormed s × IsWellFormed t × IsRuleOf r d × BySubRule r (conclusions ps) s t × AreSubProofs ps d
@@ -82,10 +82,10 @@ abbrev mutual
   AreSubProofs no_subs d = Unit {0}
   AreSubProofs (sub_first p ps) d = IsSubProof p d × AreSubProofs ps d
 
--- the tree proves that the one type is below the other
+-- the tree proves that the first type is a subtype of the second
 abbrev pub ProvesBelow : SubTree → Typ → Typ → Dialect → Type 0
 ProvesBelow p s t d = IsSubProof p d × (conclusion p ≡ record { lower = s; upper = t })
 
--- one type is below another where some tree proves it
+-- the first type is a subtype of the second, as some tree proves
 abbrev pub IsBelow : Typ → Typ → Dialect → Type 0
 IsBelow s t d = (p : SubTree) × ProvesBelow p s t d

@@ -1,4 +1,4 @@
--- The plain tree that a `Core` stands for.
+-- The plain tree that a `Core` represents.
 use Rattle.std.specs.Prelude.{List, [], ◌∷◌, String, string_bytes, Option}
 use Rattle.std.specs.Option.{option_map}
 use Rattle.std.specs.declared.alloc.Global.{Global}
@@ -9,7 +9,7 @@ use Rattle.lam_rules.specs.declared.types.Ty.{Ty}
 use Rattle.lam_rules.specs.declared.terms.Core.{Core, fold-Core}
 use Rattle.lam_rules.specs.declared.terms.Core.TheOpen.{Core-F}
 
--- the type that is written, if there is one
+-- the written type, if there is one
 abbrev pub written_of : Option Ty → Option Typ
 written_of = option_map typ_of
 
@@ -18,7 +18,7 @@ abbrev pub terms_made : List (String Global × Term) → TermFields
 terms_made [] = no_terms
 terms_made (f ∷ fs) = term_field (string_bytes f.0) f.1 (terms_made fs)
 
--- one level, with each term inside already seen as its tree
+-- one level, whose parts are already trees
 abbrev pub term_step : Core-F Term → Term
 term_step Core-F.True = true_term
 term_step Core-F.False = false_term

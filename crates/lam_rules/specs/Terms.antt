@@ -1,9 +1,9 @@
--- Nameless terms as plain trees: what a `Core` stands for.
+-- Nameless terms as plain trees: what a `Core` represents.
 use Rattle.std.specs.Prelude.{ℕ, List, Option}
 use Rattle.lam_rules.specs.Types.{Label, Typ}
 
--- The terms of TAPL chapters 8, 9 and 11. A variable is the count of binders of names between it and its own. A lambda and an
--- ascription have the type that is written there, or none where what is written stands for no type.
+-- The terms of TAPL chapters 8, 9 and 11. A variable is its de Bruijn index: the number of binders of names between it and its own.
+-- A lambda or an ascription has the type written there, or None if what is written does not denote a type.
 mutual
   pub data Term : Type 0 where
     true_term : Term
@@ -28,6 +28,6 @@ mutual
     no_terms : TermFields
     term_field : (label : Label) (term : Term) (rest : TermFields) → TermFields
 
--- TAPL 11.11: letrec x:T = t1 in t2 stands for let x = fix (lambda x:T. t1) in t2
+-- TAPL 11.11: letrec x:T = t1 in t2 abbreviates let x = fix (lambda x:T. t1) in t2
 abbrev pub letrec_in : Option Typ → Term → Term → Term
 letrec_in written bound body = let_in (fix (lambda written bound)) body

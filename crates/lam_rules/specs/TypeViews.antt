@@ -1,4 +1,4 @@
--- The plain trees that a `Ty` and its `Fields` stand for.
+-- The plain trees that a `Ty` and its `Fields` represent.
 use Rattle.std.specs.Prelude.{List, [], ◌∷◌, String, string_bytes}
 use Rattle.std.specs.declared.alloc.Global.{Global}
 use Rattle.lam_rules.specs.Types.{Typ, bool, nat, unit, top, arrow, record_of, Fields, no_fields, field}
@@ -11,7 +11,7 @@ abbrev pub fields_made : List (String Global × Typ) → Fields
 fields_made [] = no_fields
 fields_made (f ∷ fs) = field (string_bytes f.0) f.1 (fields_made fs)
 
--- one level, with each type inside already seen as its tree
+-- one level, whose parts are already trees
 abbrev pub typ_step : Ty-F Typ Fields → Typ
 typ_step Ty-F.Bool = bool
 typ_step Ty-F.Nat = nat
@@ -20,7 +20,7 @@ typ_step Ty-F.Top = top
 typ_step (Ty-F.Arrow s t) = arrow s.value t.value
 typ_step (Ty-F.Record fs) = record_of fs
 
--- the fields of one level, with the type of each already seen as its tree
+-- the fields of one level, whose types are already trees
 abbrev pub fields_step : Fields-F Typ Fields → Fields
 fields_step fs = fields_made fs.items.items
 

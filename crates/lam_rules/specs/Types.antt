@@ -1,11 +1,11 @@
--- Types as plain trees: what a `Ty` stands for, without boxes, capacities and addresses.
+-- Types as plain trees: what a `Ty` represents, without boxes, capacities and addresses.
 use Rattle.std.specs.Prelude.{◌≡◌, ◌≢◌, ◌⊎◌, ℕ, ◌+◌, List}
 
 -- a label, as the bytes of its name
 abbrev pub Label : Type 0
 Label = List ℕ
 
--- The types of TAPL figures 8-1, 8-2, 9-1, 11-2, 11-7 and 15-1, and the fields of a record type in their own order.
+-- The types of TAPL figures 8-1, 8-2, 9-1, 11-2, 11-7 and 15-1. The fields of a record type are ordered.
 mutual
   pub data Typ : Type 0 where
     bool : Typ
@@ -24,7 +24,7 @@ abbrev pub IsAbsent : Label → Fields → Type 0
 IsAbsent l no_fields = Unit {0}
 IsAbsent l (field k t rest) = (l ≢ k) × IsAbsent l rest
 
--- in each record type, at every depth, the labels are distinct
+-- the labels of each record type are distinct, at every depth
 abbrev mutual
   pub IsWellFormed : Typ → Type 0
   IsWellFormed bool = Unit {0}
@@ -38,7 +38,7 @@ abbrev mutual
   AreWellFormed no_fields = Unit {0}
   AreWellFormed (field l t rest) = IsWellFormed t × IsAbsent l rest × AreWellFormed rest
 
--- how many nodes a type has: fields and labels do not count, their types do
+-- the number of nodes of a type; fields and labels are not counted, but the types of fields are
 abbrev mutual
   pub nodes : Typ → ℕ
   nodes bool = 1
@@ -52,17 +52,17 @@ abbrev mutual
   nodes_in no_fields = 0
   nodes_in (field l t rest) = nodes t + nodes_in rest
 
--- the fields of the first, then those of the second
+-- the fields of the first list, followed by those of the second
 abbrev pub joined : Fields → Fields → Fields
 joined no_fields gs = gs
 joined (field l t rest) gs = field l t (joined rest gs)
 
--- a field with this label and this type is among the fields
+-- some field has this label and this type
 abbrev pub Has : Label → Typ → Fields → Type 0
 Has l t no_fields = ⊥
 Has l t (field k u rest) = ((k ≡ l) × (u ≡ t)) ⊎ Has l t rest
 
--- each field of the first is among the second
+-- each field of the first list is also in the second
 abbrev pub Includes : Fields → Fields → Type 0
 Includes no_fields gs = Unit {0}
 Includes (field l t rest) gs = Has l t gs × Includes rest gs

@@ -1,4 +1,4 @@
--- Typing by its declarative rules, TAPL chapters 8, 9, 11 and 15. This file is to be believed: compare it with the book.
+-- The declarative typing rules, TAPL chapters 8, 9, 11 and 15. This file has to be trusted: compare it with the book.
 use Rattle.std.specs.Prelude.{◌≡◌, ℕ, zero, suc, List, [], ◌∷◌, Option, Some, None}
 use Rattle.lam_rules.specs.Types.{Label, Typ, bool, nat, unit, arrow, record_of, no_fields, field, Has, IsWellFormed}
 use Rattle.lam_rules.specs.Terms.{Term, true_term, false_term, if_then_else, numeral, succ, pred, is_zero, variable, lambda, apply, unit_term, ascribe, let_in, record_term, project, fix, no_terms, term_field}
@@ -6,32 +6,32 @@ use Rattle.lam_rules.specs.Subtyping.{SubTree, ProvesBelow}
 use Rattle.lam_rules.specs.declared.rules.Dialect.{Dialect}
 use Rattle.lam_rules.specs.declared.rules.TypeRule.{TypeRule}
 
--- A context has an entry for each binder of names, the innermost first: its type, or none.
+-- A context has an entry for each binder of names, innermost first: its type, or None.
 abbrev pub Context : Type 0
 Context = List (Option Typ)
 
--- the entry of the binder that a variable counts to is this type
+-- the entry of the variable with this index is this type
 abbrev pub IsEntry : ℕ → Context → Typ → Type 0
 IsEntry n [] t = ⊥
 IsEntry zero (entry ∷ context) t = entry ≡ Some t
 IsEntry (suc n) (entry ∷ context) t = IsEntry n context t
 
--- in the type of an entry, if it has one, the labels are distinct at every depth
+-- the type of an entry, if it has one, has distinct labels at every depth
 abbrev pub IsWellFormedEntry : Option Typ → Type 0
 IsWellFormedEntry None = Unit {0}
 IsWellFormedEntry (Some t) = IsWellFormed t
 
--- in each type of a context labels are distinct
+-- the types in a context have distinct labels at every depth
 abbrev pub IsWellFormedContext : Context → Type 0
 IsWellFormedContext [] = Unit {0}
 IsWellFormedContext (entry ∷ context) = IsWellFormedEntry entry × IsWellFormedContext context
 
--- the type is a record type, and a field of it has this label and this type
+-- the type is a record type with a field of this label and type
 abbrev pub HasField : Typ → Label → Typ → Type 0
 HasField (record_of fs) l t = Has l t fs
 HasField _ l t = ⊥
 
--- A tree whose nodes have a rule, a type, typings as premises, and for T-Sub a tree of subtyping. It need not be a proof.
+-- A tree whose nodes have a rule, a type, typing premises, and for T-Sub a subtyping tree. It need not be a valid proof.
 mutual
   pub data TypingTree : Type 0 where
     typing_step : (rule : TypeRule) (type : Typ) (premises : TypingTrees) (sub : Option SubTree) → TypingTree
@@ -40,18 +40,17 @@ mutual
     no_typings : TypingTrees
     typing_first : (first : TypingTree) (rest : TypingTrees) → TypingTrees
 
--- the type that a tree concludes
+-- the type in the conclusion of a tree
 abbrev pub type_in : TypingTree → Typ
 type_in (typing_step r t ps s) = t
 
 abbrev mutual
-  -- A tree is a proof that a term has a type in a context, where all types in it and in the contexts have distinct labels at
-  -- every depth, and where at each node the type follows by the rule from the premises.
+  -- A tree proves that a term has a type in a context if all types in it and in the contexts have distinct labels at every depth, and at each node the type follows
+  -- by the rule from the premises.
   pub IsTyping : Context → Term → TypingTree → Dialect → Type 0
   IsTyping g e (typing_step r t ps s) d = IsWellFormedContext g × IsWellFormed t × ByTypeRule r s g e t ps d
 
-  -- The rules one by one: by this rule, with this proof of subtyping where the rule is T-Sub, the term has the type in the
-  -- context, from these proofs of typing.
+  -- The rules: by this rule, with this subtyping proof if the rule is T-Sub, the term has the type in the context, given these typing proofs.
   pub ByTypeRule : TypeRule → Option SubTree → Context → Term → Typ → TypingTrees → Dialect → Type 0
   -- T-True, figure 8-1: true : Bool
   ByTypeRule TypeRule.True None g true_term t no_typings d = t ≡ bool
@@ -98,6 +97,6 @@ abbrev mutual
 abbrev pub ProvesTyping : TypingTree → Context → Term → Typ → Dialect → Type 0
 ProvesTyping p g e t d = IsTyping g e p d × (type_in p ≡ t)
 
--- the term has the type in the context where some tree proves it
+-- the term has the type in the context, as some tree proves
 abbrev pub HasType : Context → Term → Typ → Dialect → Type 0
 HasType g e t d = (p : TypingTree) × ProvesTyping p g e t d

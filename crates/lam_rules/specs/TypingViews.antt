@@ -1,4 +1,4 @@
--- What a context of types and a `TypeProof` stand for.
+-- What a context of types and a `TypeProof` represent.
 use Rattle.std.specs.Prelude.{List, [], ◌∷◌, ◌++◌, Option, Some}
 use Rattle.std.specs.Option.{option_map}
 use Rattle.lam_rules.specs.TypeViews.{typ_of}
@@ -15,12 +15,12 @@ abbrev pub context_of : List (Option Ty) → Context
 context_of [] = []
 context_of (entry ∷ inner) = context_of inner ++ written_of entry ∷ []
 
--- one level: the context of entries that were given, and of one more inside
+-- one level: the context of the given entries, or with one more entry inside
 abbrev pub entries_step : Entries-F Context → Context
 entries_step (Entries-F.Given outer) = context_of outer.now
 entries_step (Entries-F.Under ty rest) = Some (typ_of ty.now) ∷ rest.now
 
--- the context of entries that were given, and of those bound since
+-- the context of the given entries and the binders added since
 unfoldable pub entries_of : Entries → Context
 entries_of = fold-Entries Context entries_step
 
@@ -29,7 +29,7 @@ abbrev pub typings_made : List TypingTree → TypingTrees
 typings_made [] = no_typings
 typings_made (p ∷ ps) = typing_first p (typings_made ps)
 
--- one node, with each premise already seen as its tree
+-- one node, whose premises are already trees
 abbrev pub typing_tree_step : TypeProof-F TypingTree → TypingTree
 typing_tree_step p = typing_step p.rule (typ_of p.ty) (typings_made p.typing.items) (option_map (λ q. sub_tree_of q.value) p.sub)
 
@@ -37,7 +37,7 @@ typing_tree_step p = typing_step p.rule (typ_of p.ty) (typings_made p.typing.ite
 unfoldable pub typing_tree_of : TypeProof → TypingTree
 typing_tree_of = fold-TypeProof TypingTree typing_tree_step
 
--- the trees of several
+-- the trees of several `TypeProof`s
 abbrev pub typings_of : List TypeProof → TypingTrees
 typings_of [] = no_typings
 typings_of (p ∷ ps) = typing_first (typing_tree_of p) (typings_of ps)

@@ -1,4 +1,4 @@
-//! What holds of all types: the contracts of functions that do nothing.
+//! Properties of all types, stated as contracts of functions that do nothing.
 
 ghost use Rattle.std.specs.Prelude.{◌≡◌};
 ghost use Rattle.lam_rules.specs.Types.{Typ, IsWellFormed, nodes};
@@ -7,14 +7,13 @@ ghost use Rattle.lam_rules.specs.ReadableLabels.{HasReadableLabels};
 ghost use Rattle.lam_rules.specs.Subtyping.{IsBelow};
 ghost use Rattle.lam_rules.specs.declared.rules.Dialect.{Dialect};
 
-/// Types that lie below each other have as many nodes, so a limit on nodes does not ask in which
-/// order fields stand.
+/// Types that are subtypes of each other have the same size, so a size limit does not depend on the order of fields.
 pub fn types_below_each_other_have_one_size()
     ensures { (s t : Typ) (d : Dialect) → IsBelow s t d → IsBelow t s d → nodes s ≡ nodes t }
 {}
 
-/// Types that lie below each other have one text. Where the labels can be read off the text, types
-/// of one text lie below each other, so a text says all of a type but the order of its fields.
+/// Types that are subtypes of each other have the same text. Conversely, well-formed types with readable labels and the
+/// same text are subtypes of each other, so the text determines a type up to the order of its fields.
 pub fn one_text()
     ensures one { (s t : Typ) (d : Dialect) → IsBelow s t d → IsBelow t s d → text s ≡ text t }
     ensures told { (s t : Typ) (d : Dialect) → HasReadableLabels s → HasReadableLabels t → IsWellFormed s → IsWellFormed t → text s ≡ text t → IsBelow s t d × IsBelow t s d }

@@ -1,12 +1,10 @@
-//! The types of the calculus with records and subtyping (TAPL chapters 8, 9, 11 and 15), the rules
-//! of subtyping and typing as trees, and checkers that trust no one: a tree is accepted exactly where
-//! it is a proof.
+//! Types and terms of the calculus with records and subtyping (TAPL chapters 8, 9, 11 and 15), a table of hash-consed
+//! types, derivation trees of subtyping and typing, and checkers that accept a tree exactly if it is a valid proof.
 //!
-//! The rules stand in `specs/Subtyping.antt` and `specs/Typing.antt`. Those two files have to be
-//! believed, with what they are written in (`Types.antt`, `Terms.antt`), the texts, and the views
-//! that say which tree a value stands for.
+//! The rules are in `specs/Subtyping.antt` and `specs/Typing.antt`. These two files have to be trusted, along with what
+//! they build on (`Types.antt`, `Terms.antt`), the texts of types, and the views that say which tree a value represents.
 //!
-//! Nothing here knows spans, names of binders, tokens, JSON, how a subtype is found or a type is inferred.
+//! This crate knows nothing of spans, names of binders, tokens or JSON. It does not decide subtyping or infer types.
 #![tactic(auto)]
 
 mod laws;

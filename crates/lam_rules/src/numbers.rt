@@ -1,4 +1,4 @@
-//! Numbers that stand for types, and shapes over them, without the table that tells which types they are.
+//! Type ids, and shapes over them, independent of the table that says which types they are.
 
 ghost use Rattle.std.specs.Prelude.{◌≡◌, ◌↔◌, ◌<◌, ℕ, List, IsTrue, IfOk, IfSome, IfNone};
 ghost use Rattle.lam_rules.specs.Types.{Typ, Has, IsAbsent};
@@ -7,13 +7,13 @@ ghost use Rattle.lam_rules.specs.Entries.{AreSame, IsSame, AreCopies};
 
 use std::alloc::{AllocError, Global};
 
-/// The number of a type in a table.
+/// A type id: the index of a type in a table.
 #[derive(Clone, Copy, Debug, PartialEq, Eq, Hash)]
 pub struct TyNo {
     pub index: usize,
 }
 
-/// The outermost form of a type, over numbers of a table.
+/// The outermost form of a type, over type ids of a table.
 #[derive(Drop, PartialEq, Eq, Hash)]
 pub enum Shape {
     Bool,
@@ -21,11 +21,11 @@ pub enum Shape {
     Unit,
     Top,
     Arrow(TyNo, TyNo),
-    /// The fields of a record type, in their own order.
+    /// The fields of a record type, in order.
     Record(Vec<(String, TyNo)>),
 }
 
-/// The number under a label, that of the first field where several have the label.
+/// Returns the type id of the first field with this label, or `None` if there is none.
 pub fn number_under(label: &str, fields: &[(String, TyNo)]) -> Option<TyNo>
     ensures below { IfSome result (λ number. (n : ℕ) → AreEarlier n fields.now → number.index < n) }
     ensures some { IfSome result (λ number. (ts : List Typ) → Has label.now (type_of ts number) (fields_over ts fields.now)) }
@@ -40,7 +40,7 @@ pub fn number_under(label: &str, fields: &[(String, TyNo)]) -> Option<TyNo>
     None
 }
 
-/// Whether no two of the labels are equal.
+/// Whether the labels are distinct.
 pub fn labels_differ(fields: &[(String, TyNo)]) -> bool
     ensures { IsTrue result ↔ HaveDistinctLabels fields.now }
 {
@@ -64,7 +64,7 @@ fn is_not_among(label: &str, fields: &[(String, TyNo)]) -> bool
     true
 }
 
-/// The same fields with labels in memory of their own.
+/// The same fields with owned labels.
 pub(crate) fn owned_fields(
     alloc: Global,
     fields: &[(&str, TyNo)],
@@ -80,7 +80,7 @@ pub(crate) fn owned_fields(
     Ok(items)
 }
 
-/// The same shape in memory of its own.
+/// A copy of the shape. Fails if allocation fails.
 pub(crate) fn copy_of_shape(alloc: Global, shape: &Shape) -> Result<Shape, AllocError>
     ensures { IfOk result (λ copy. IsSame copy shape.now) }
 {

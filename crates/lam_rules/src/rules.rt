@@ -1,17 +1,17 @@
-//! The names of the rules, and the dialect in which they are read.
+//! The names of the rules, and the dialects.
 
 ghost use Rattle.std.specs.Prelude.{◌≡◌};
 
-/// Which rules of subtyping there are.
+/// The dialect of the language, which determines the subtyping rules.
 #[derive(Clone, Copy, Debug, PartialEq, Eq)]
 pub enum Dialect {
     /// The rules of TAPL 15.2.
     One,
-    /// These and Bool below Nat, the axiom that TAPL 15.5 names.
+    /// These, and `Bool <: Nat`, the axiom mentioned in TAPL 15.5.
     Two,
 }
 
-/// A rule of subtyping, of TAPL figures 15-1 and 15-3, and the axiom of section 15.5.
+/// A subtyping rule of TAPL figures 15-1 and 15-3, or the axiom of section 15.5.
 #[derive(Clone, Copy, Debug, PartialEq, Eq)]
 pub enum SubRule {
     Refl,
@@ -27,7 +27,8 @@ pub enum SubRule {
 impl SubRule {
     ghost use Rattle.lam_rules.specs.Rules.{name_of_sub_rule};
 
-    /// The name of the rule, as TAPL writes it (`S-Refl`). TAPL gives the axiom of 15.5 no name: here it is `S-BoolNat`.
+    /// Returns the name of the rule as in TAPL, such as `S-Refl`. The axiom of 15.5, which has no name there, is
+    /// `S-BoolNat`.
     pub fn name(self) -> &'static str
         ensures { result.now ≡ name_of_sub_rule self }
     {
@@ -44,7 +45,7 @@ impl SubRule {
     }
 }
 
-/// A rule of typing, of TAPL chapters 8, 9, 11 and 15; `Num` is this project's own, in place of T-Zero.
+/// A typing rule of TAPL chapters 8, 9, 11 and 15. `Num` is specific to this project, and replaces T-Zero.
 #[derive(Clone, Copy, Debug, PartialEq, Eq)]
 pub enum TypeRule {
     True,
@@ -69,7 +70,7 @@ pub enum TypeRule {
 impl TypeRule {
     ghost use Rattle.lam_rules.specs.Rules.{name_of_type_rule};
 
-    /// The name of the rule, as TAPL writes it (`T-Abs`). `T-Num` is this project's own.
+    /// Returns the name of the rule as TAPL writes it, such as `T-Abs`. `T-Num` is specific to this project.
     pub fn name(self) -> &'static str
         ensures { result.now ≡ name_of_type_rule self }
     {

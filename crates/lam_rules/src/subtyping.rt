@@ -1,4 +1,4 @@
-//! Proof trees of subtyping, and their checker.
+//! Derivation trees of subtyping, and a checker for them.
 
 ghost use Rattle.std.specs.Prelude.{◌↔◌, IsTrue};
 ghost use Rattle.lam_rules.specs.Types.{IsWellFormed, AreWellFormed, Includes};
@@ -9,8 +9,8 @@ ghost use Rattle.lam_rules.specs.SubViews.{claims_of, sub_tree_of, sub_trees_of}
 use crate::rules::{Dialect, SubRule};
 use crate::types::{Ty, has_field, same, wf};
 
-/// A tree of the rules of subtyping: the rule of its last step, the two types that this concludes
-/// of, and its premises in the rule's order. It need not be a proof.
+/// A derivation tree of subtyping: the rule of its last step, the two types in its conclusion, and its premises in the
+/// order of the rule. It need not be a valid proof.
 #[derive(Drop)]
 pub struct SubProof {
     pub rule: SubRule,
@@ -19,7 +19,7 @@ pub struct SubProof {
     pub premises: Vec<SubProof>,
 }
 
-/// Whether a tree is a proof in this dialect.
+/// Whether a tree is a valid proof in this dialect.
 #[cycle(check_sub)]
 pub fn check_sub(proof: &SubProof, dialect: Dialect) -> bool
     ensures { IsTrue result ↔ IsSubProof (sub_tree_of proof.now) dialect }
@@ -63,7 +63,7 @@ fn is_rule_of(rule: SubRule, dialect: Dialect) -> bool
     }
 }
 
-/// Whether the conclusion follows by the rule from those of the premises.
+/// Whether the conclusion follows by the rule from the conclusions of the premises.
 fn follows(rule: SubRule, premises: &[SubProof], lower: &Ty, upper: &Ty) -> bool
     requires lower { IsWellFormed (typ_of lower.now) }
     requires upper { IsWellFormed (typ_of upper.now) }
@@ -117,7 +117,7 @@ fn by_top(premises: &[SubProof], _lower: &Ty, upper: &Ty) -> bool
     same(upper, &Ty::Top)
 }
 
-/// S-Arrow. The parameters go the other way round.
+/// S-Arrow. Parameters are contravariant.
 fn by_arrow(premises: &[SubProof], lower: &Ty, upper: &Ty) -> bool
     ensures { IsTrue result ↔ BySubRule SubRule.Arrow (claims_of premises.now) (typ_of lower.now) (typ_of upper.now) }
 {
@@ -251,8 +251,7 @@ fn goes_field_by_field(
     true
 }
 
-/// Since the labels on each side are distinct, it is enough that each side's fields are among the
-/// other's.
+/// Since labels on each side are distinct, it is enough that each side includes the fields of the other.
 fn is_permutation(fields: &[(String, Ty)], others: &[(String, Ty)]) -> bool
     requires fields { AreWellFormed (fields_of fields.now) }
     requires others { AreWellFormed (fields_of others.now) }

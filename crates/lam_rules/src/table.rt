@@ -1,4 +1,4 @@
-//! Types in one table: numbers that stand for types, so that a type which is used twice is kept once.
+//! A table of hash-consed types: each distinct type is stored once and has a type id (`TyNo`).
 
 ghost use Rattle.std.specs.Prelude.{◌≡◌, ◌↔◌, ◌<◌, ◌≤◌, ◌++◌, ℕ, List, [], ◌∷◌, length, min, string_bytes, IsTrue, IfOk, OnOk, OnErr, IfSome, IfNone};
 ghost use Rattle.lam_rules.specs.Types.{Typ, arrow, record_of, IsWellFormed, AreWellFormed, nodes, nodes_in};
@@ -19,21 +19,21 @@ use std::alloc::{AllocError, Global};
 use std::collections::HashMap;
 use std::marker::Model;
 
-/// What the table keeps of a type. The size counts nodes up to the first one over the limit, and no further.
+/// What the table stores for a type. The size is the number of nodes, capped at 4,097.
 #[derive(Drop)]
 struct Entry {
     shape: Shape,
     size: u64,
-    /// The type itself, where its labels ascend at every depth.
+    /// The id of the sorted form of the type, which is the type's own id if it is already sorted.
     sorted: TyNo,
 }
 
-/// Types by number. Each is a shape over numbers before its own, and no two are one type.
+/// Types by id. Each is a shape over smaller ids, and no two ids have equal types.
 #[derive(Drop)]
 pub struct TyTable {
     alloc: Global,
     entries: Vec<Entry>,
-    /// The number of each shape that an entry has.
+    /// The id of each shape that an entry has.
     index: HashMap<Shape, TyNo>,
 }
 
@@ -55,7 +55,7 @@ impl Model for TyTable {
 }
 
 impl TyTable {
-    /// A table without types. It keeps the allocator for those to come.
+    /// An empty table, which keeps the allocator for types added later.
     pub fn new(alloc: Global) -> TyTable
         ensures { result ≡ [] }
     {
@@ -66,8 +66,7 @@ impl TyTable {
         }
     }
 
-    /// The outermost form of a type. Its numbers come before that of the type, so a walk that goes
-    /// from a type to those inside ends.
+    /// Returns the outermost form of a type. Its ids are less than that of the type, so recursion into its parts ends.
     pub fn shape(&self, number: TyNo) -> &Shape
         requires { Stands self.now number }
         ensures earlier { IsOver number.index result.now }
@@ -77,7 +76,7 @@ impl TyTable {
         &self.entry(number).shape
     }
 
-    /// How many nodes a type has, or 4,097 where it has more.
+    /// Returns the number of nodes of a type, capped at 4,097.
     pub fn size(&self, number: TyNo) -> u64
         requires { Stands self.now number }
         ensures { result ≡ min (nodes (type_of self.now number)) 4097 }
@@ -85,7 +84,7 @@ impl TyTable {
         self.entry(number).size
     }
 
-    /// The number of the type with the fields of each record sorted by the bytes of their labels.
+    /// Returns the id of the type with the fields of each record sorted by the bytes of their labels.
     pub fn sorted(&self, number: TyNo) -> TyNo
         requires { Stands self.now number }
         ensures at_most { result.index ≤ number.index }
@@ -94,18 +93,18 @@ impl TyTable {
         self.entry(number).sorted
     }
 
-    /// Whether each of two types is below the other, in one dialect as in the other.
+    /// Whether two types are subtypes of each other. The answer is the same in both dialects.
     pub fn same(&self, left: TyNo, right: TyNo) -> bool
         requires left { Stands self.now left }
         requires right { Stands self.now right }
         ensures { (d : Dialect) → (IsTrue result ↔ (IsBelow (type_of self.now left) (type_of self.now right) d × IsBelow (type_of self.now right) (type_of self.now left) d)) }
     {
-        // No two entries are one type, and the proof learns it where a field is used.
+        // Reading a field makes the invariant known to the proof: no two entries are equal types.
         let _entries = &self.entries;
         self.sorted(left) == self.sorted(right)
     }
 
-    /// The number of the field with this label, where the type is a record type that has one.
+    /// Returns the id of the type of the field with this label, or `None` if this is not a record type with that field.
     pub fn field(&self, number: TyNo, label: &str) -> Option<TyNo>
         requires { Stands self.now number }
         ensures earlier { IfSome result (λ found. found.index < number.index) }
@@ -118,7 +117,7 @@ impl TyTable {
         }
     }
 
-    /// The number of the type that has this shape.
+    /// Returns the id of the type with this shape, adding the type if it is new.
     pub fn intern(&mut self, shape: Shape) -> Result<TyNo, AllocError>
         requires over { IsOver (length self.old) shape }
         requires labels { HasDistinctLabels shape }
@@ -135,7 +134,7 @@ impl TyTable {
         }
     }
 
-    /// The number of the arrow from one type to another.
+    /// Returns the id of an arrow type.
     pub fn arrow(&mut self, parameter: TyNo, outcome: TyNo) -> Result<TyNo, AllocError>
         requires parameter { Stands self.old parameter }
         requires outcome { Stands self.old outcome }
@@ -145,7 +144,7 @@ impl TyTable {
         self.intern(Shape::Arrow(parameter, outcome))
     }
 
-    /// The number of the record type of these fields, in their order.
+    /// Returns the id of the record type of these fields, in this order.
     pub fn record(&mut self, fields: &[(&str, TyNo)]) -> Result<TyNo, AllocError>
         requires numbers { AllStand self.old fields.now }
         requires labels { AreGivenApart fields.now }
@@ -156,7 +155,7 @@ impl TyTable {
         self.intern(Shape::Record(items))
     }
 
-    /// The number of a type.
+    /// Returns the id of a type, adding the type and its parts if they are new.
     #[cycle(add)]
     pub fn add(&mut self, ty: &Ty) -> Result<TyNo, AllocError>
         requires { IsWellFormed (typ_of ty.now) }
@@ -196,7 +195,7 @@ impl TyTable {
         Ok(items)
     }
 
-    /// The type of a number, with nothing shared.
+    /// Returns the type with this id as a tree, which shares nothing.
     #[cycle(tree)]
     pub fn tree(&self, number: TyNo) -> Result<Ty, AllocError>
         requires { Stands self.now number }
@@ -234,7 +233,7 @@ impl TyTable {
         Ok(items)
     }
 
-    /// The text of a type with the fields of each record sorted by the bytes of their labels.
+    /// Returns the text of a type with the fields of each record sorted by the bytes of their labels.
     pub fn text(&self, number: TyNo) -> Result<String, AllocError>
         requires { Stands self.now number }
         ensures { IfOk result (λ written. string_bytes written ≡ text (type_of self.now number)) }
@@ -243,12 +242,12 @@ impl TyTable {
         text_of(self.alloc, &ty)
     }
 
-    /// A law: the types of a table have distinct labels, and no two numbers stand for one type.
+    /// A law: the types of a table have distinct labels, and no two ids have equal types.
     pub fn types_differ(&self)
         ensures wf { (i : ℕ) → i < length self.now → IsWellFormed (type_at self.now i) }
         ensures differ { (i j : ℕ) → i < length self.now → j < length self.now → type_at self.now i ≡ type_at self.now j → i ≡ j }
     {
-        // No two entries are one type, and the proof learns it where a field is used.
+        // Reading a field makes the invariant known to the proof: no two entries are equal types.
         let _entries = &self.entries;
     }
 
@@ -259,7 +258,7 @@ impl TyTable {
         &self.entries[number.index]
     }
 
-    /// The number of the type that has this shape, if the table has it.
+    /// The id of the type with this shape, if the table has it.
     fn find(&self, shape: &Shape) -> Option<TyNo>
         requires { IsOver (length self.now) shape.now }
         ensures wf { HasDistinctLabels shape.now → IsWellFormed (shaped self.now shape.now) }
@@ -272,7 +271,7 @@ impl TyTable {
         }
     }
 
-    /// Puts a type that the table does not have at its end.
+    /// Appends a type that the table does not have, and returns its id.
     fn push(&mut self, shape: Shape, sorted: TyNo) -> Result<TyNo, AllocError>
         requires over { IsOver (length self.old) shape }
         requires wf { IsWellFormed (shaped self.old shape) }
@@ -294,7 +293,7 @@ impl TyTable {
         Ok(number)
     }
 
-    /// How many nodes the type of a shape has, or 4,097 where it has more.
+    /// The number of nodes of the type with this shape, capped at 4,097.
     fn size_of(&self, shape: &Shape) -> u64
         requires { IsOver (length self.now) shape.now }
         ensures { result ≡ min (nodes (shaped self.now shape.now)) 4097 }
@@ -323,7 +322,7 @@ impl TyTable {
         total
     }
 
-    /// The number of a type that is its own sorted form.
+    /// The id of a type that is its own sorted form, which is added if it is new.
     fn intern_sorted(&mut self, shape: Shape) -> Result<TyNo, AllocError>
         requires over { IsOver (length self.old) shape }
         requires wf { IsWellFormed (shaped self.old shape) }
@@ -340,7 +339,7 @@ impl TyTable {
         }
     }
 
-    /// The number of a type whose sorted form has this number.
+    /// The id of a type whose sorted form has the id `sorted`. The type is added if it is new.
     fn intern_beside(&mut self, shape: Shape, sorted: TyNo) -> Result<TyNo, AllocError>
         requires over { IsOver (length self.old) shape }
         requires wf { IsWellFormed (shaped self.old shape) }
@@ -354,7 +353,7 @@ impl TyTable {
         }
     }
 
-    /// The number that the next type gets.
+    /// The id of the next type to be added.
     fn next(&self) -> TyNo
         ensures { result.index ≡ length self.now }
     {
@@ -363,7 +362,7 @@ impl TyTable {
         }
     }
 
-    /// The shape of a type's sorted form.
+    /// The shape of the sorted form of the type with this shape.
     fn sorted_shape(&self, shape: &Shape) -> Result<Shape, AllocError>
         requires { IsOver (length self.now) shape.now }
         ensures over { IfOk result (λ made. IsOver (length self.now) made) }
@@ -401,7 +400,7 @@ impl TyTable {
     }
 }
 
-/// Puts an entry at the end, and under its shape.
+/// Appends an entry and indexes it by its shape.
 fn add_entry(
     entries: &mut Vec<Entry>,
     index: &mut HashMap<Shape, TyNo>,
@@ -417,7 +416,7 @@ fn add_entry(
     let number = TyNo {
         index: entries.len(),
     };
-    // With its room made first the push cannot fail, and leave the index with a number that stands for nothing.
+    // Reserving first ensures that the push cannot fail and leave an id in the index without an entry.
     entries.reserve(1)?;
     index.insert(key, number)?;
     entries.push(entry)?;

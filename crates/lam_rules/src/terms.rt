@@ -7,39 +7,38 @@ ghost use Rattle.lam_rules.specs.TermViews.{term_of, written_of};
 use crate::types::Ty;
 use std::alloc::{AllocError, Global};
 
-/// A term that tells a name by its binder and not by its letters (TAPL chapter 6). The parts of a term stand in one box.
+/// A term with de Bruijn indices instead of names (TAPL chapter 6). The parts of a term share one box.
 #[derive(Drop)]
 pub enum Core {
     True,
     False,
-    /// An if: the condition, the term where it is true, and the other.
+    /// A conditional: the condition, the then branch and the else branch.
     If(Box<(Core, Core, Core)>),
-    /// A numeral, by its digits.
+    /// A numeral, as its digits.
     Num(String),
     Succ(Box<Core>),
     Pred(Box<Core>),
     IsZero(Box<Core>),
-    /// A use of a name: 0 where it means the last binder that it sees, 1 where it means the one before, and so on.
+    /// A variable, as its de Bruijn index: 0 for the innermost binder in scope, 1 for the next one out, and so on.
     Var(usize),
-    /// A name that no binder in sight has, by its letters.
+    /// A name that is not bound by any binder in scope, as its text.
     Free(String),
-    /// A lambda: what the written type stands for, or none where it stands for no type, and the term under the binder.
+    /// A lambda: the type of its parameter, or `None` if the written type does not denote a type, and its body.
     Abs(Box<(Option<Ty>, Core)>),
-    /// A function and its argument.
+    /// An application: the function and its argument.
     App(Box<(Core, Core)>),
     Unit,
-    /// An ascription, with its type as in a lambda.
+    /// An ascription: the operand, and its type as in a lambda.
     Ascribe(Box<(Core, Option<Ty>)>),
-    /// A let: the term that is bound, and the one under its binder.
+    /// A `let`: the bound term and the body.
     Let(Box<(Core, Core)>),
     Record(Vec<(String, Core)>),
-    /// A record and the label of one of its fields.
+    /// A projection: the operand and the label.
     Proj(Box<(Core, String)>),
     Fix(Box<Core>),
 }
 
-/// What `letrec x:T = bound in body` stands for: `let x = fix (lambda x:T. bound) in body`
-/// (TAPL 11.11).
+/// Returns what `letrec x:T = bound in body` abbreviates: `let x = fix (lambda x:T. bound) in body` (TAPL 11.11).
 pub fn make_letrec(
     alloc: Global,
     written: Option<Ty>,
@@ -52,7 +51,7 @@ pub fn make_letrec(
     Ok(Core::Let(Box::new(alloc, (fixed, body))?))
 }
 
-/// The fix of a lambda.
+/// The `fix` of a lambda.
 fn make_fixed(alloc: Global, written: Option<Ty>, bound: Core) -> Result<Core, AllocError>
     ensures { IfOk result (λ made. term_of made ≡ fix (lambda (written_of written) (term_of bound))) }
 {

@@ -1,4 +1,4 @@
-//! The texts of types.
+//! Types as text.
 
 ghost use Rattle.std.specs.Prelude.{◌≡◌, ◌++◌, IfOk, OnOk, string_bytes};
 ghost use Rattle.lam_rules.specs.Texts.{plain_text, plain_fields, left_of_arrow, separator_before, sorted, sorted_fields, text};
@@ -11,7 +11,7 @@ use crate::sorting::sort_by_label;
 use crate::types::{Ty, make_arrow, make_record};
 use std::alloc::{AllocError, Global};
 
-/// The text of a type with the fields of each record in their own order, as `{b:Bool, a:Nat}`.
+/// Returns the text of a type with the fields of each record in their order in the type, as in `{b:Bool, a:Nat}`.
 pub fn plain_text_of(alloc: Global, ty: &Ty) -> Result<String, AllocError>
     ensures { IfOk result (λ written. string_bytes written ≡ plain_text (typ_of ty.now)) }
 {
@@ -79,8 +79,8 @@ fn write_separator(out: &mut String, rest: &[(String, Ty)]) -> Result<(), AllocE
     out.push_str(", ")
 }
 
-/// The text of a type with the fields of each record sorted by the bytes of their labels, as
-/// `{a:Nat, b:Bool}`. Fields of one label keep their places.
+/// Returns the text of a type with the fields of each record sorted by the bytes of their labels, as in
+/// `{a:Nat, b:Bool}`. Fields with equal labels keep their order.
 pub fn text_of(alloc: Global, ty: &Ty) -> Result<String, AllocError>
     ensures text { IfOk result (λ written. string_bytes written ≡ text (typ_of ty.now)) }
     ensures shared { IfOk result (λ written. IsSharedText (string_bytes written) (typ_of ty.now)) }
@@ -89,8 +89,7 @@ pub fn text_of(alloc: Global, ty: &Ty) -> Result<String, AllocError>
     plain_text_of(alloc, &sorted)
 }
 
-/// The same type with the fields of each record sorted by the bytes of their labels. Fields of one
-/// label keep their places.
+/// The type with the fields of each record sorted by the bytes of their labels. Equal labels keep their order.
 #[cycle(sorted)]
 fn sorted_of(alloc: Global, ty: &Ty) -> Result<Ty, AllocError>
     ensures { IfOk result (λ made. typ_of made ≡ sorted (typ_of ty.now)) }
@@ -127,7 +126,7 @@ fn sorted_fields_of(alloc: Global, fields: &[(String, Ty)]) -> Result<Vec<(Strin
     Ok(made)
 }
 
-/// A law: what sorting gives is a sorted form, and a type has no other.
+/// A law: sorting a type gives a sorted form of it, and the type has no other sorted form.
 pub fn one_sorted_form()
     ensures some { (t : Typ) → IsSortedForm t (sorted t) }
     ensures one { (t u : Typ) → IsSortedForm t u → u ≡ sorted t }

@@ -1,4 +1,4 @@
-//! Types, and what is read off one type alone.
+//! Types, and properties of a single type.
 
 ghost use Rattle.std.specs.Prelude.{◌≡◌, ◌↔◌, min, IsTrue, IfOk};
 ghost use Rattle.lam_rules.specs.Types.{IsWellFormed, AreWellFormed, IsAbsent, Has, nodes, nodes_in, arrow, record_of};
@@ -6,7 +6,7 @@ ghost use Rattle.lam_rules.specs.TypeViews.{typ_of, fields_of};
 
 use std::alloc::{AllocError, Global};
 
-/// The fields of a record type, in their own order.
+/// The fields of a record type, in order.
 #[cycle(types)]
 #[derive(Drop)]
 pub struct Fields {
@@ -25,21 +25,21 @@ pub enum Ty {
     Record(Fields),
 }
 
-/// The arrow from one type to another.
+/// Makes an arrow type.
 pub fn make_arrow(alloc: Global, parameter: Ty, outcome: Ty) -> Result<Ty, AllocError>
     ensures { IfOk result (λ made. typ_of made ≡ arrow (typ_of parameter) (typ_of outcome)) }
 {
     Ok(Ty::Arrow(Box::new(alloc, parameter)?, Box::new(alloc, outcome)?))
 }
 
-/// The record type of these fields, in their order.
+/// Makes a record type of these fields, in this order.
 pub fn make_record(items: Vec<(String, Ty)>) -> Ty
     ensures { typ_of result ≡ record_of (fields_of items.items) }
 {
     Ty::Record(Fields { items })
 }
 
-/// Whether the labels of each record type in it are distinct, at every depth.
+/// Whether the labels of each record type in `ty` are distinct, at every depth.
 #[cycle(wf)]
 pub fn wf(ty: &Ty) -> bool
     ensures { IsTrue result ↔ IsWellFormed (typ_of ty.now) }
@@ -87,7 +87,7 @@ fn is_absent(label: &str, fields: &[(String, Ty)]) -> bool
     true
 }
 
-/// Whether a field with this label and this type is among the fields.
+/// Whether some field has this label and this type.
 pub(crate) fn has_field(label: &str, ty: &Ty, fields: &[(String, Ty)]) -> bool
     ensures { IsTrue result ↔ Has label.now (typ_of ty.now) (fields_of fields.now) }
 {
@@ -101,11 +101,11 @@ pub(crate) fn has_field(label: &str, ty: &Ty, fields: &[(String, Ty)]) -> bool
     false
 }
 
-/// Where sizes stop: one more than a type of a document may have.
+/// The cap on sizes: one more than the largest size that a type in a document may have.
 pub(crate) const SIZE_CAP: u64 = 4_097;
 
-/// How many nodes a type has, or 4,097 where it has more: Bool, Nat, Unit, Top, arrows and records
-/// are a node each, labels are none.
+/// Returns the number of nodes of a type, capped at 4,097. Bool, Nat, Unit, Top, arrows and records are one node each;
+/// labels are not counted.
 #[cycle(size)]
 pub fn size(ty: &Ty) -> u64
     ensures { result ≡ min (nodes (typ_of ty.now)) 4097 }
@@ -132,7 +132,7 @@ fn size_of_fields(fields: &[(String, Ty)]) -> u64
     total
 }
 
-/// Whether two types are one type, with the fields of each record in one order.
+/// Whether two types are equal, including the order of the fields of each record.
 #[cycle(same)]
 pub fn same(left: &Ty, right: &Ty) -> bool
     ensures { IsTrue result ↔ (typ_of left.now ≡ typ_of right.now) }
@@ -160,7 +160,7 @@ pub fn same(left: &Ty, right: &Ty) -> bool
     }
 }
 
-/// Whether two lists of fields have the same labels and types in the same order.
+/// Whether two lists of fields have equal labels and types in the same order.
 #[cycle(same)]
 pub fn same_fields(left: &[(String, Ty)], right: &[(String, Ty)]) -> bool
     ensures { IsTrue result ↔ (fields_of left.now ≡ fields_of right.now) }
@@ -181,7 +181,7 @@ pub fn same_fields(left: &[(String, Ty)], right: &[(String, Ty)]) -> bool
     true
 }
 
-/// The same type in memory of its own.
+/// Returns a deep copy of a type. Fails if allocation fails.
 #[cycle(copy_of)]
 pub fn copy_of(alloc: Global, ty: &Ty) -> Result<Ty, AllocError>
     ensures { IfOk result (λ copy. typ_of copy ≡ typ_of ty.now) }
@@ -203,7 +203,7 @@ pub fn copy_of(alloc: Global, ty: &Ty) -> Result<Ty, AllocError>
     }
 }
 
-/// The same fields in memory of their own.
+/// Returns a deep copy of a list of fields. Fails if allocation fails.
 #[cycle(copy_of)]
 pub fn copy_of_fields(
     alloc: Global,

@@ -1,4 +1,4 @@
-//! Proof trees of typing, and their checker.
+//! Derivation trees of typing, and a checker for them.
 
 ghost use Rattle.std.specs.Prelude.{◌↔◌, IsTrue, ◌∷◌, Option, Some, None};
 ghost use Rattle.lam_rules.specs.Types.{IsWellFormed, record_of};
@@ -14,9 +14,8 @@ use crate::subtyping::{SubProof, check_sub};
 use crate::terms::Core;
 use crate::types::{Ty, has_field, same, wf};
 
-/// A tree of the rules of typing: the rule of its last step, the type that this concludes, its
-/// premises of typing in the rule's order, and for T-Sub alone its premise of subtyping. It need not
-/// be a proof.
+/// A derivation tree of typing: the rule of its last step, the type in its conclusion, its typing premises in the order
+/// of the rule, and the subtyping premise, which only T-Sub has. It need not be a valid proof.
 #[derive(Drop)]
 pub struct TypeProof {
     pub rule: TypeRule,
@@ -25,16 +24,16 @@ pub struct TypeProof {
     pub sub: Option<Box<SubProof>>,
 }
 
-/// A context while a term is gone down: the entries that were given, from the outermost binder to
-/// the innermost, and the types of the binders that were gone under since.
+/// The context at a subterm: the given entries, from the outermost binder to the innermost, or the type of one more
+/// binder and the entries outside it.
 #[derive(Clone, Copy)]
 enum Entries<'a> {
     Given(&'a [Option<Ty>]),
     Under(&'a Ty, &'a Entries<'a>),
 }
 
-/// Whether a tree is a proof for this term in this context and dialect. The outermost binder's entry
-/// comes first, so the last one is that of the variable with count 0.
+/// Whether a tree is a valid proof that types this term in this context and dialect. Entries are ordered from the
+/// outermost binder, so the last one is that of the variable with index 0.
 pub fn check_type(context: &[Option<Ty>], term: &Core, proof: &TypeProof, dialect: Dialect) -> bool
     ensures { IsTrue result ↔ IsTyping (context_of context.now) (term_of term.now) (typing_tree_of proof.now) dialect }
 {
@@ -110,7 +109,7 @@ fn by_sub(
     same(&sub.upper, ty)
 }
 
-/// Each rule but T-Sub.
+/// All rules except T-Sub.
 #[cycle(check_type)]
 fn by_rule(
     premises: &[TypeProof],
@@ -145,7 +144,7 @@ fn by_rule(
     }
 }
 
-/// Whether a tree is a proof that the term has this very type.
+/// Whether a tree proves that the term has exactly this type.
 #[cycle(check_type)]
 fn proves(proof: &TypeProof, entries: &Entries, term: &Core, ty: &Ty, dialect: Dialect) -> bool
     requires { IsWellFormedContext (entries_of entries.now) }
@@ -157,7 +156,7 @@ fn proves(proof: &TypeProof, entries: &Entries, term: &Core, ty: &Ty, dialect: D
     same(&proof.ty, ty)
 }
 
-/// Whether a tree is a proof that the term has this very type under one more binder, of type `inner`.
+/// Whether a tree proves that the term has exactly this type under one more binder, of type `inner`.
 #[cycle(check_type)]
 fn proves_under(
     proof: &TypeProof,
@@ -247,7 +246,7 @@ fn by_var(premises: &[TypeProof], entries: &Entries, term: &Core, ty: &Ty) -> bo
     is_entry(*count, entries, ty)
 }
 
-/// Whether the entry of the binder that a variable counts to is this type.
+/// Whether the entry of the variable with this index is this type.
 fn is_entry(count: usize, entries: &Entries, ty: &Ty) -> bool
     ensures { IsTrue result ↔ IsEntry count (entries_of entries.now) (typ_of ty.now) }
 {
@@ -262,7 +261,7 @@ fn is_entry(count: usize, entries: &Entries, ty: &Ty) -> bool
     }
 }
 
-/// Whether the entry that a variable counts to is this type, where entries begin with the outermost binder.
+/// Whether the entry of the variable with this index is this type, given entries ordered from the outermost binder.
 fn is_given_entry(count: usize, context: &[Option<Ty>], ty: &Ty) -> bool
     ensures { IsTrue result ↔ IsEntry count (context_of context.now) (typ_of ty.now) }
 {
@@ -374,7 +373,7 @@ fn by_is_zero(
     proves(premise, entries, operand, &Ty::Nat, dialect)
 }
 
-/// T-Abs. The body is gone down to under the binder.
+/// T-Abs. The body is checked under the binder.
 #[cycle(check_type)]
 fn by_abs(premises: &[TypeProof], entries: &Entries, term: &Core, ty: &Ty, dialect: Dialect) -> bool
     requires context { IsWellFormedContext (entries_of entries.now) }
@@ -458,7 +457,7 @@ fn by_ascribe(
     proves(premise, entries, operand, ascribed, dialect)
 }
 
-/// T-Let. The body is gone down to under the binder.
+/// T-Let. The body is checked under the binder.
 #[cycle(check_type)]
 fn by_let(premises: &[TypeProof], entries: &Entries, term: &Core, ty: &Ty, dialect: Dialect) -> bool
     requires context { IsWellFormedContext (entries_of entries.now) }

@@ -1,13 +1,12 @@
--- When two nameless terms say the same, each in a context of its own: they differ at most in how far their variables count, and each
--- variable of one comes to the same entry as that of the other.
+-- When two nameless terms are alike, each in its own context: they differ at most in their de Bruijn indices, and each variable of one has the same context entry as that
+-- of the other.
 use Rattle.std.specs.Prelude.{◌≡◌, ◌∷◌, Option, slice_get}
 use Rattle.lam_rules.specs.Types.{Typ}
 use Rattle.lam_rules.specs.Terms.{Term, true_term, false_term, if_then_else, numeral, succ, pred, is_zero, variable, free, lambda, apply, unit_term, ascribe, let_in, record_term, project, fix, TermFields, no_terms, term_field}
 use Rattle.lam_rules.specs.Typing.{Context}
 use Rattle.lam_scope.specs.Places.{Statement, defines, declares, abbreviates, states}
 
--- A term in a context and another in another. Variables count to equal entries, or both past all binders. The bodies of lets are alike
--- whatever entry their binders have.
+-- Two terms, each in its context. Variables have equal entries, or both are past all binders. The bodies of lets are alike whatever entry their binders have.
 abbrev mutual
   pub AreAlike : Context → Term → Context → Term → Type 0
   AreAlike g true_term h true_term = Unit {0}
@@ -29,13 +28,13 @@ abbrev mutual
   AreAlike g (project a l) h (project b k) = AreAlike g a h b × (l ≡ k)
   AreAlike g a h b = ⊥
 
-  -- the terms of a record and those of another, one by one, under the same labels
+  -- the terms of two records, one by one, under the same labels
   pub AreAlikeTerms : Context → TermFields → Context → TermFields → Type 0
   AreAlikeTerms g no_terms h no_terms = Unit {0}
   AreAlikeTerms g (term_field l a es) h (term_field k b fs) = (l ≡ k) × AreAlike g a h b × AreAlikeTerms g es h fs
   AreAlikeTerms g es h fs = ⊥
 
--- two statements say the same: they are of the same form, with terms alike or the same written type
+-- two statements are alike: of the same form, with terms alike or the same written type
 abbrev pub AreAlikeStatements : Context → Statement → Context → Statement → Type 0
 AreAlikeStatements g (defines a) h (defines b) = AreAlike g a h b
 AreAlikeStatements g (declares w) h (declares u) = w ≡ u

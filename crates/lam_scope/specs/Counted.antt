@@ -1,4 +1,4 @@
--- The document without names, by its uses in the order of the text: the count of a use of a name is told by the first of the uses that are left.
+-- The document in nameless form, computed from its uses in text order: the first of the uses left gives the de Bruijn index of a use of a name.
 use Rattle.std.specs.Prelude.{ℕ, List, [], ◌∷◌, Option, None}
 use Rattle.lam_rules.specs.Terms.{Term, true_term, false_term, if_then_else, numeral, lambda, apply, unit_term, ascribe, let_in, record_term, project, TermFields, no_terms, term_field, letrec_in}
 use Rattle.lam_syntax.specs.Trees as tree
@@ -8,39 +8,39 @@ use Rattle.lam_scope.specs.Nameless.{use_counted, prefixed, abbreviations_after}
 use Rattle.lam_scope.specs.Places.{Statement, defines, declares, abbreviates, states}
 use Rattle.lam_scope.specs.Tables.{TextUse}
 
--- how many binders stand between the first use and its own, or none where it is unbound
+-- the de Bruijn index of the first use, or none if it is unbound
 abbrev pub first_between : List TextUse → Option ℕ
 first_between [] = None
 first_between (u ∷ us) = u.between
 
--- the uses behind the first one
+-- the uses after the first one
 abbrev pub past_first : List TextUse → List TextUse
 past_first [] = []
 past_first (u ∷ us) = us
 
--- the uses behind those of a written type
+-- the uses after those of a written type
 abbrev mutual
   pub past_type : TypeTree → List TextUse → List TextUse
   past_type (type_tree s n) us = past_type_node n us
 
-  -- those behind the form of a written type
+  -- those after the form of a written type
   pub past_type_node : TypeNode → List TextUse → List TextUse
   past_type_node (named w) us = past_first us
   past_type_node (arrow a b) us = past_type b (past_type a us)
   past_type_node (record_type fs) us = past_type_fields fs us
   past_type_node n us = us
 
-  -- those behind the fields of a record type
+  -- those after the fields of a record type
   pub past_type_fields : TypeFields → List TextUse → List TextUse
   past_type_fields no_type_fields us = us
   past_type_fields (type_field l t fs) us = past_type_fields fs (past_type t us)
 
--- the uses behind those of a term
+-- the uses after those of a term
 abbrev mutual
   pub past : TermTree → List TextUse → List TextUse
   past (term_tree s n) us = past_node n us
 
-  -- those behind the form of a term
+  -- those after the form of a term
   pub past_node : TermNode → List TextUse → List TextUse
   past_node (tree.variable w) us = past_first us
   past_node (tree.lambda b u t) us = past t (past_type u us)
@@ -54,24 +54,24 @@ abbrev mutual
   past_node (tree.record_term fs) us = past_fields fs us
   past_node n us = us
 
-  -- those behind the terms of a record
+  -- those after the terms of a record
   pub past_fields : tree.FieldTrees → List TextUse → List TextUse
   past_fields tree.no_fields us = us
   past_fields (tree.field l t fs) us = past_fields fs (past t us)
 
--- the uses behind those of a command
+-- the uses after those of a command
 abbrev pub past_command : CommandTree → List TextUse → List TextUse
 past_command (definition w t) us = past t us
 past_command (declaration w u) us = past_type u us
 past_command (tree.abbreviation w u) us = past_type u us
 past_command (evaluation t) us = past t us
 
--- the uses behind those of commands
+-- the uses after those of commands
 abbrev pub past_commands : List CommandTree → List TextUse → List TextUse
 past_commands [] us = us
 past_commands (c ∷ cs) us = past_commands cs (past_command c us)
 
--- The nameless form of a term that sees these abbreviations and begins with the first of these uses.
+-- The nameless form of a term under these abbreviations, where its uses begin with the first of these.
 abbrev mutual
   pub counted : List Abbreviation → TermTree → List TextUse → Term
   counted bs (term_tree s n) us = counted_node bs n us
@@ -105,7 +105,7 @@ statement_counted bs (declaration w u) us = declares (expansion bs u)
 statement_counted bs (tree.abbreviation w u) us = abbreviates (expansion bs u)
 statement_counted bs (evaluation t) us = states (counted bs t us)
 
--- what commands state, each behind those before it
+-- what commands state, one after another
 abbrev pub statements_counted : List Abbreviation → List CommandTree → List TextUse → List Statement
 statements_counted bs [] us = []
 statements_counted bs (c ∷ cs) us = statement_counted bs c us ∷ statements_counted (abbreviations_after bs c) cs (past_command c us)

@@ -1,11 +1,11 @@
--- The nameless form of commands: their trees without places and without the names of binders, each use of a name or type name told by a count.
+-- The nameless form of commands: their trees without spans and names of binders, with each use of a name or type name as a de Bruijn index.
 use Rattle.std.specs.Prelude.{ℕ, List, [], ◌∷◌, Option, Some, None}
 use Rattle.lam_syntax.specs.declared.terms.Prefix.{Prefix}
 use Rattle.lam_syntax.specs.Trees.{word, bound, TypeTree, type_tree, TypeNode, bool, nat, unit, top, named, arrow, record_type, TypeFields, no_type_fields, type_field, TermTree, term_tree, TermNode, true_term, false_term, unit_term, variable, numeral, lambda, if_term, let_term, letrec_term, prefixed, apply, project, ascribe, record_term, FieldTrees, no_fields, field, CommandTree, definition, declaration, abbreviation, evaluation}
 use Rattle.lam_scope.specs.Names.{Name, count}
 use Rattle.lam_scope.specs.Nameless.{names_after}
 
--- a use of a name or type name: how many binders of its kind stand between it and its own, or the name itself where it is unbound
+-- a use of a name or type name: its de Bruijn index among binders of its kind, or the name itself if it is unbound
 pub data UseForm : Type 0 where
   counted : ℕ → UseForm
   unbound : Name → UseForm
@@ -56,12 +56,12 @@ pub data CommandForm : Type 0 where
   abbreviation_form : TypeForm → CommandForm
   evaluation_form : TermForm → CommandForm
 
--- the form of a use of this name, by its count of binders
+-- the form of a use of this name with this de Bruijn index
 abbrev pub use_form : Name → Option ℕ → UseForm
 use_form x None = unbound x
 use_form x (Some n) = counted n
 
--- the form of a written type that sees these binders of type names, the innermost first
+-- the form of a written type under these binders of type names, innermost first
 abbrev mutual
   pub type_form : (types : List (Option Name)) → TypeTree → TypeForm
   type_form types (type_tree s n) = type_node_form types n
@@ -79,7 +79,7 @@ abbrev mutual
   type_field_forms types no_type_fields = no_type_field_forms
   type_field_forms types (type_field (word l s) t fs) = type_field_form l (type_form types t) (type_field_forms types fs)
 
--- the form of a term that sees these binders of type names and of names, the innermost first; a letrec's name is bound in both of its terms
+-- the form of a term under these binders of type names and of names, innermost first; a letrec's name is bound in both of its terms
 abbrev mutual
   pub term_form : (types names : List (Option Name)) → TermTree → TermForm
   term_form types names (term_tree s n) = node_form types names n
@@ -104,19 +104,19 @@ abbrev mutual
   field_forms types names no_fields = no_field_forms
   field_forms types names (field (word l s) t fs) = field_form l (term_form types names t) (field_forms types names fs)
 
--- the form of a command that sees these binders, the innermost first
+-- the form of a command under these binders, innermost first
 abbrev pub command_form : (types names : List (Option Name)) → CommandTree → CommandForm
 command_form types names (definition w t) = definition_form (term_form types names t)
 command_form types names (declaration w u) = declaration_form (type_form types u)
 command_form types names (abbreviation w u) = abbreviation_form (type_form types u)
 command_form types names (evaluation t) = evaluation_form (term_form types names t)
 
--- the binders of type names that the commands after one see
+-- the binders of type names in scope after a command
 abbrev pub type_names_after : (types : List (Option Name)) → CommandTree → List (Option Name)
 type_names_after types (abbreviation (word x s) u) = Some x ∷ types
 type_names_after types c = types
 
--- the forms of commands that see these binders, and each those of the commands before it too
+-- the forms of commands under these binders and those of the commands before
 abbrev pub forms_from : (types names : List (Option Name)) → List CommandTree → List CommandForm
 forms_from types names [] = []
 forms_from types names (c ∷ cs) = command_form types names c ∷ forms_from (type_names_after types c) (names_after names c) cs

@@ -1,17 +1,17 @@
--- The names and type names that a command takes from outside: the names that it uses and does not bind itself, and all type names that
--- it uses, as often as used, in the order of the text.
+-- The names and type names that a command takes from outside: the names that it uses and does not bind itself, and all type names that it uses, with repetitions, in text
+-- order.
 use Rattle.std.specs.Prelude.{List, [], ◌∷◌, ◌++◌, Option, Some, if◌then◌else◌}
 use Rattle.lam_syntax.specs.Trees as tree
 use Rattle.lam_syntax.specs.Trees.{word, bound, TypeTree, type_tree, TypeNode, named, arrow, record_type, TypeFields, no_type_fields, type_field, TermTree, term_tree, TermNode, CommandTree, definition, declaration, evaluation}
 use Rattle.lam_scope.specs.Names.{Name, binds}
 use Rattle.lam_scope.specs.Nameless.{written_in_command}
 
--- those of some names that a binder does not bind
+-- the names among these that a binder does not bind
 abbrev pub without : Option Name → List Name → List Name
 without b [] = []
 without b (x ∷ xs) = if binds b x then without b xs else x ∷ without b xs
 
--- each of some names once, in the order in which they come first
+-- each of these names once, in the order of first occurrence
 abbrev pub each_once : List Name → List Name
 each_once [] = []
 each_once (x ∷ xs) = x ∷ without (Some x) (each_once xs)
@@ -57,7 +57,7 @@ abbrev mutual
   free_type_names_in_fields no_type_fields = []
   free_type_names_in_fields (type_field l t fs) = free_type_names_in t ++ free_type_names_in_fields fs
 
--- the type names of several written types, one after the other
+-- the type names of several written types, one after another
 abbrev pub free_type_names_in_types : List TypeTree → List Name
 free_type_names_in_types [] = []
 free_type_names_in_types (u ∷ us) = free_type_names_in u ++ free_type_names_in_types us

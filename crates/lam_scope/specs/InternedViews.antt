@@ -1,4 +1,4 @@
--- What a term and a statement over the numbers of a table stand for, and that each of their numbers stands for a type of the table.
+-- What a term and a statement over type ids stand for, and that each of their ids is that of a type of the table.
 use Rattle.std.specs.Prelude.{List, [], ◌∷◌}
 use Rattle.lam_rules.specs.Types.{Label, Typ}
 use Rattle.lam_rules.specs.Terms.{Term, TermFields}
@@ -15,7 +15,7 @@ abbrev pub numbered_made : List (Label × Numbered) → NumberedFields
 numbered_made [] = no_terms
 numbered_made (f ∷ fs) = term_field f.0 f.1 (numbered_made fs)
 
--- one level, with each term inside already seen as its tree
+-- one level, given the trees of the terms inside
 abbrev pub numbered_step : InternedTerm-F Numbered (Label × Numbered) → Numbered
 numbered_step InternedTerm-F.True = true_term
 numbered_step InternedTerm-F.False = false_term
@@ -39,7 +39,7 @@ numbered_step (InternedTerm-F.Fix e) = fix e.value
 abbrev pub numbered_field_step : InternedField-F Numbered (Label × Numbered) → Label × Numbered
 numbered_field_step f = (f.label.now, f.term)
 
--- the tree of a term, with its numbers
+-- the tree of a term, with its type ids
 unfoldable pub numbered_of : InternedTerm → Numbered
 numbered_of = fold-InternedTerm Numbered (Label × Numbered) numbered_step numbered_field_step
 
@@ -56,22 +56,22 @@ interned_term ts e = term_over ts (numbered_of e)
 abbrev pub interned_terms : List Typ → List InternedField → TermFields
 interned_terms ts fs = terms_over ts (numbered_terms fs)
 
--- what a statement says over the types of a table
+-- the statement over the types of a table
 abbrev pub interned_statement : List Typ → InternedStatement → Statement
 interned_statement ts (interned.Definition e) = defines (interned_term ts e)
 interned_statement ts (interned.Declaration w) = declares (written_over ts w)
 interned_statement ts (interned.Abbreviation w) = abbreviates (written_over ts w)
 interned_statement ts (interned.Evaluation e) = states (interned_term ts e)
 
--- each number of a term stands for a type of the table
+-- each type id of a term is that of a type of the table
 abbrev pub StandIn : List Typ → InternedTerm → Type 0
 StandIn ts e = NumbersStand ts (numbered_of e)
 
--- each number of labelled terms does
+-- each type id of labelled terms is
 abbrev pub StandInTerms : List Typ → List InternedField → Type 0
 StandInTerms ts fs = NumbersStandInAll ts (numbered_terms fs)
 
--- each number of a statement does
+-- each type id of a statement is
 abbrev pub StandInStatement : List Typ → InternedStatement → Type 0
 StandInStatement ts (interned.Definition e) = StandIn ts e
 StandInStatement ts (interned.Declaration w) = StandsIfAny ts w

@@ -1,4 +1,4 @@
--- A label that a projection asks for, and another one in its place.
+-- Replacing the label of a projection.
 use Rattle.std.specs.Prelude.{◌≡◌, ◌==◌, ℕ, suc, List, [], map, take, if◌then◌else◌}
 use Rattle.lam_token.specs.declared.kind.Kind.TheVariants as kind
 use Rattle.lam_rules.specs.Types.{Label}
@@ -9,25 +9,25 @@ use Rattle.lam_scope.specs.Nameless.{first_too_large}
 use Rattle.lam_scope.specs.Places.{Place}
 use Rattle.lam_scope.specs.PlacedTerms.{document_terms, term_of, tree_in}
 
--- these letters for the name that begins at byte o
+-- this label in place of the name that begins at byte o
 abbrev pub labelling : ℕ → Label → Letters
 labelling o l kind.Name x s = if s.start == o then l else x
 labelling o l k x s = x
 
--- commands with these letters for it
+-- commands with this label there
 abbrev pub labelled : ℕ → Label → List CommandTree → List CommandTree
 labelled o l cs = map (respelled_command (λ p. p) (labelling o l)) cs
 
--- the place of the term of a number, counted from 0
+-- the subterm with this zero-based index
 abbrev pub place_in : List CommandTree → ℕ → Place
 place_in cs n = (term_of (tree_in (document_terms cs) n)).place
 
--- the places of the first so many terms
+-- the first n subterms
 abbrev pub places_before : ℕ → List CommandTree → List Place
 places_before n cs = take n (map (λ t. (term_of t).place) (document_terms cs))
 
--- Other commands are these, but that the projection of this number asks for another label, of the same term: that term is the one before the projection, and
--- all terms in front are the same; so is the first written type that is too large.
+-- The other commands differ from these in that the projection with this index asks for another label of the same term, which is the subterm just before it; all earlier
+-- subterms are the same, and so is the first written type over the size limit.
 pub record AreLabelled (cs others : List CommandTree) (n : ℕ) (l : Label) : Type 0 where
   pub before : places_before n others ≡ places_before n cs
   pub operand : Term

@@ -1,4 +1,4 @@
--- Where the names, the type names and the labels of commands stand in the text, and what each is bound to. A binder is told by its token.
+-- The tokens of the names, type names and labels of commands, and what each is bound to. A binder is identified by its token.
 use Rattle.std.specs.Prelude.{◌==◌, ◌≤◌, ◌<◌, ℕ, List, [], ◌∷◌, ◌++◌, Option, Some, None, if◌then◌else◌}
 use Rattle.std.specs.List.{filter_map}
 use Rattle.lam_token.specs.declared.kind.Kind.{Kind}
@@ -8,7 +8,7 @@ use Rattle.lam_token.specs.Edits.{is_span}
 use Rattle.lam_syntax.specs.Trees.{Word, word, Bound, bound, TypeTree, type_tree, TypeNode, named, arrow, record_type, TypeFields, no_type_fields, type_field, TermTree, term_tree, TermNode, variable, lambda, if_term, let_term, letrec_term, prefixed, apply, project, ascribe, record_term, FieldTrees, no_fields, field, CommandTree, definition, declaration, abbreviation, evaluation}
 use Rattle.lam_scope.specs.Names.{Name, binds}
 
--- a binder as it is seen from where it binds: its name, an underscore having none, and its token
+-- a binder in scope: its name, none for an underscore, and its token
 pub record Binder : Type 0 where
   pub name : Option Name
   pub token : Span
@@ -17,12 +17,12 @@ pub record Binder : Type 0 where
 abbrev pub binder : Option Name → Span → Binder
 binder x s = record { name = x; token = s }
 
--- the token of the innermost binder of a name, the innermost binder first; none where the name is free
+-- the token of the innermost binder of a name, given innermost first; none if the name is free
 abbrev pub token_bound_to : Name → List Binder → Option Span
 token_bound_to x [] = None
 token_bound_to x (b ∷ bs) = if binds b.name x then Some b.token else token_bound_to x bs
 
--- a name, a type name or a label that stands in a command: a binder, at its token; a use at its token, with the token of its binder, none where it is free; or a label
+-- an occurrence of a name, a type name or a label in a command: a binder; a use, with the token of its binder, or none if it is free; or a label
 pub data Mention : Type 0 where
   binds_at : (sort : Kind) → (token : Span) → Mention
   uses_at : (sort : Kind) → (token : Span) → (binder : Option Span) → Mention
@@ -34,7 +34,7 @@ token_of (binds_at k s) = s
 token_of (uses_at k s b) = s
 token_of (labels_at s) = s
 
--- whether it is a name or a type name; a label is a name by its letters
+-- whether it is a name or a type name; a label counts as a name
 abbrev pub kind_of : Mention → Kind
 kind_of (binds_at k s) = k
 kind_of (uses_at k s b) = k
@@ -46,12 +46,12 @@ binder_of (binds_at k s) = Some s
 binder_of (uses_at k s b) = b
 binder_of (labels_at s) = None
 
--- a binder of a term; an underscore is no name
+-- the mention of a binder of a term; an underscore is none
 abbrev pub mention_of : Bound → List Mention
 mention_of (bound None s) = []
 mention_of (bound (Some x) s) = binds_at kind.Name s ∷ []
 
--- a binder of a term, as it is seen
+-- a binder of a term, as it is in scope
 abbrev pub seen_of : Bound → Binder
 seen_of (bound x s) = binder x s
 
@@ -59,7 +59,7 @@ seen_of (bound x s) = binder x s
 abbrev pub label_of : Word → Mention
 label_of (word l s) = labels_at s
 
--- the type names and labels in a written type that sees these binders of type names, in the order of the text
+-- the type names and labels in a written type under these binders of type names, in text order
 abbrev mutual
   pub mentions_of_type : List Binder → TypeTree → List Mention
   mentions_of_type types (type_tree s n) = mentions_of_type_node types n
@@ -74,8 +74,7 @@ abbrev mutual
   mentions_of_type_fields types no_type_fields = []
   mentions_of_type_fields types (type_field l t fs) = label_of l ∷ mentions_of_type types t ++ mentions_of_type_fields types fs
 
--- The names, type names and labels in a term that sees these binders of type names and of names, in the order of the text. A letrec's name is bound in both of
--- its terms.
+-- The names, type names and labels in a term under these binders of type names and of names, in text order. A letrec's name is bound in both of its terms.
 abbrev mutual
   pub mentions_of : (types names : List Binder) → TermTree → List Mention
   mentions_of types names (term_tree s n) = mentions_of_node types names n
@@ -98,36 +97,36 @@ abbrev mutual
   mentions_of_fields types names no_fields = []
   mentions_of_fields types names (field l t fs) = label_of l ∷ mentions_of types names t ++ mentions_of_fields types names fs
 
--- those of a command that sees these binders
+-- those of a command under these binders
 abbrev pub mentions_of_command : (types names : List Binder) → CommandTree → List Mention
 mentions_of_command types names (definition (word x s) t) = binds_at kind.Name s ∷ mentions_of types names t
 mentions_of_command types names (declaration (word x s) u) = binds_at kind.Name s ∷ mentions_of_type types u
 mentions_of_command types names (abbreviation (word x s) u) = binds_at kind.TypeName s ∷ mentions_of_type types u
 mentions_of_command types names (evaluation t) = mentions_of types names t
 
--- the binders of type names that the commands behind one see
+-- the binders of type names in scope after a command
 abbrev pub types_behind : List Binder → CommandTree → List Binder
 types_behind types (abbreviation (word x s) u) = binder (Some x) s ∷ types
 types_behind types c = types
 
--- the binders of names that the commands behind one see
+-- the binders of names in scope after a command
 abbrev pub names_behind : List Binder → CommandTree → List Binder
 names_behind names (definition (word x s) t) = binder (Some x) s ∷ names
 names_behind names (declaration (word x s) u) = binder (Some x) s ∷ names
 names_behind names c = names
 
--- the mentions of commands that see these binders, and each those of the commands before it too
+-- the mentions of commands under these binders and those of the commands before
 abbrev pub mentions_from : (types names : List Binder) → List CommandTree → List Mention
 mentions_from types names [] = []
 mentions_from types names (c ∷ cs) = mentions_of_command types names c ++ mentions_from (types_behind types c) (names_behind names c) cs
 
--- the mentions of a document, in the order of the text
+-- the mentions of a document, in text order
 abbrev pub mentions : List CommandTree → List Mention
 mentions cs = mentions_from [] [] cs
 
 -- What is bound to what.
 
--- the token of the binder that the mention is or uses whose token begins at byte o; none where there is no such mention, or it is free or a label
+-- the token of the binder of the mention whose token begins at byte o; none if there is no such mention, or it is free or a label
 abbrev pub bound_at : ℕ → List Mention → Option Span
 bound_at o [] = None
 bound_at o (m ∷ ms) = if (token_of m).start == o then binder_of m else bound_at o ms
@@ -137,21 +136,21 @@ abbrev pub use_bound_to : Span → Mention → Option Span
 use_bound_to b (uses_at k s (Some c)) = if is_span b c then Some s else None
 use_bound_to b m = None
 
--- the tokens of the uses of a binder, in the order of the mentions
+-- the tokens of the uses of a binder, in the order of mentions
 abbrev pub uses_of : Span → List Mention → List Span
 uses_of b ms = filter_map (use_bound_to b) ms
 
--- each token ends where the next begins, or before it, and none is empty
+-- each token ends before the next begins or where it does, and none is empty
 abbrev pub Ascend : (low : ℕ) → List Mention → (high : ℕ) → Type 0
 Ascend low [] high = low ≤ high
 Ascend low (m ∷ ms) high = (low ≤ (token_of m).start) × ((token_of m).start < (token_of m).end) × Ascend (token_of m).end ms high
 
--- a use stands behind its binder
+-- a use comes after its binder
 abbrev pub IsBehindBinder : Mention → Type 0
 IsBehindBinder (uses_at k s (Some b)) = b.end ≤ s.start
 IsBehindBinder m = Unit {0}
 
--- a type name for a name, a name for a type name
+-- the other one of names and type names
 abbrev pub other_kind : Kind → Kind
 other_kind kind.Name = kind.TypeName
 other_kind k = kind.Name

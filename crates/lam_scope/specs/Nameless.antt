@@ -1,5 +1,4 @@
--- The document without names: each use of a name is a count of binders of names. A written type is its expansion, so no name of
--- a type is left in a term.
+-- The document in nameless form: each use of a name is a de Bruijn index. A written type is its expansion, so no type name is left in a term.
 use Rattle.std.specs.Prelude.{ℕ, List, [], ◌∷◌, ◌++◌, Option, Some, None, if◌then◌else◌}
 use Rattle.std.specs.Option.{option_or}
 use Rattle.lam_token.specs.declared.span.Span.{Span}
@@ -13,19 +12,19 @@ use Rattle.lam_scope.specs.Names.{Name, count}
 use Rattle.lam_scope.specs.Expansions.{Abbreviation, stands_for, expansion, type_faults, is_over_limit}
 use Rattle.lam_scope.specs.Places.{Statement, defines, declares, abbreviates, states}
 
--- a use of a name: its count of binders, or the name itself where it is unbound
+-- a use of a name: its de Bruijn index, or the name itself if it is unbound
 abbrev pub use_counted : Name → Option ℕ → Term
 use_counted x None = free x
 use_counted x (Some n) = variable n
 
--- a word before a term, as the term of that form
+-- a term with a prefix keyword
 abbrev pub prefixed : Prefix → Term → Term
 prefixed prefix.Fix e = fix e
 prefixed prefix.Succ e = succ e
 prefixed prefix.Pred e = pred e
 prefixed prefix.IsZero e = is_zero e
 
--- The nameless term of a term of the text that sees these abbreviations and these binders of names. A letrec is the let of a fix that it stands for.
+-- The nameless form of a term under these abbreviations and these binders of names. A letrec stands for a let of a fix.
 abbrev mutual
   pub nameless : List Abbreviation → List (Option Name) → TermTree → Term
   nameless bs xs (term_tree s n) = nameless_node bs xs n
@@ -52,30 +51,30 @@ abbrev mutual
   nameless_fields bs xs tree.no_fields = no_terms
   nameless_fields bs xs (tree.field (word l s) t fs) = term_field l (nameless bs xs t) (nameless_fields bs xs fs)
 
--- what a command states, where it sees these abbreviations and binders of names
+-- what a command states under these abbreviations and binders of names
 abbrev pub statement : List Abbreviation → List (Option Name) → CommandTree → Statement
 statement bs xs (definition w t) = defines (nameless bs xs t)
 statement bs xs (declaration w u) = declares (expansion bs u)
 statement bs xs (tree.abbreviation w u) = abbreviates (expansion bs u)
 statement bs xs (evaluation t) = states (nameless bs xs t)
 
--- the abbreviations that the commands after one see
+-- the abbreviations in scope after a command
 abbrev pub abbreviations_after : List Abbreviation → CommandTree → List Abbreviation
 abbreviations_after bs (tree.abbreviation (word x s) u) = stands_for x (expansion bs u) ∷ bs
 abbreviations_after bs c = bs
 
--- the binders of names that the commands after one see
+-- the binders of names in scope after a command
 abbrev pub names_after : List (Option Name) → CommandTree → List (Option Name)
 names_after xs (definition (word x s) t) = Some x ∷ xs
 names_after xs (declaration (word x s) u) = Some x ∷ xs
 names_after xs c = xs
 
--- a document: each command sees the binders of those before it, not its own
+-- a document: in scope for each command are the binders of those before it, not its own
 abbrev pub statements : List Abbreviation → List (Option Name) → List CommandTree → List Statement
 statements bs xs [] = []
 statements bs xs (c ∷ cs) = statement bs xs c ∷ statements (abbreviations_after bs c) (names_after xs c) cs
 
--- The written types of a term as they stand in the text: the type of a lambda comes before the body, the one of an ascription behind the term.
+-- The written types of a term in text order: the type of a lambda comes before its body, that of an ascription after its term.
 abbrev mutual
   pub written_in : TermTree → List TypeTree
   written_in (term_tree s n) = written_in_node n
@@ -98,29 +97,29 @@ abbrev mutual
   written_in_fields tree.no_fields = []
   written_in_fields (tree.field l t fs) = written_in t ++ written_in_fields fs
 
--- the written types of a command, as they stand in the text
+-- the written types of a command, in text order
 abbrev pub written_in_command : CommandTree → List TypeTree
 written_in_command (definition w t) = written_in t
 written_in_command (declaration w u) = u ∷ []
 written_in_command (tree.abbreviation w u) = u ∷ []
 written_in_command (evaluation t) = written_in t
 
--- the faults of some written types that see the same abbreviations, in their order
+-- the diagnostics of some written types under the same abbreviations, in order
 abbrev pub faults_in : List Abbreviation → List TypeTree → List TypeFault
 faults_in bs [] = []
 faults_in bs (u ∷ us) = type_faults bs u ++ faults_in bs us
 
--- the first of them whose expansion has too many nodes
+-- the first of them whose expansion is over the size limit
 abbrev pub first_over_limit : List Abbreviation → List TypeTree → Option Span
 first_over_limit bs [] = None
 first_over_limit bs (u ∷ us) = if is_over_limit (expansion bs u) then Some (type_span u) else first_over_limit bs us
 
--- the faults of the written types of a document, in the order of the text
+-- the diagnostics of the written types of a document, in text order
 abbrev pub faults : List Abbreviation → List CommandTree → List TypeFault
 faults bs [] = []
 faults bs (c ∷ cs) = faults_in bs (written_in_command c) ++ faults (abbreviations_after bs c) cs
 
--- the first written type of a document whose expansion has too many nodes
+-- the first written type of a document whose expansion is over the size limit
 abbrev pub first_too_large : List Abbreviation → List CommandTree → Option Span
 first_too_large bs [] = None
 first_too_large bs (c ∷ cs) = option_or (first_over_limit bs (written_in_command c)) (first_too_large (abbreviations_after bs c) cs)

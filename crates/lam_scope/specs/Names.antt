@@ -1,4 +1,4 @@
--- Names, and the binders of them that a use sees, the innermost first.
+-- Names, and the binders in scope for a use, innermost first.
 use Rattle.std.specs.Prelude.{ℕ, suc, List, [], ◌∷◌, Bool, false, Option, Some, None, codes, if◌then◌else◌}
 use Rattle.std.specs.Option.{option_map}
 use Rattle.std.specs.Str.{bytes_eq}
@@ -12,12 +12,12 @@ abbrev pub binds : Option Name → Name → Bool
 binds None x = false
 binds (Some y) x = bytes_eq y x
 
--- how many binders stand between a use of a name and its own, which is the innermost one of that name; none where it is unbound
+-- the de Bruijn index of a use of a name: the number of binders inside of the innermost one of that name; none if it is unbound
 abbrev pub count : Name → List (Option Name) → Option ℕ
 count x [] = None
 count x (b ∷ bs) = if binds b x then Some 0 else option_map suc (count x bs)
 
--- what is shown for the name of a binder
+-- the displayed name of a binder
 abbrev pub shown_name : Option Name → Name
 shown_name None = codes "_"
 shown_name (Some x) = x

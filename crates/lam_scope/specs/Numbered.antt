@@ -1,4 +1,4 @@
--- Nameless terms whose written types are numbers of a table.
+-- Nameless terms whose written types are type ids.
 use Rattle.std.specs.Prelude.{ℕ, List, Option, Some, None}
 use Rattle.std.specs.Option.{option_map}
 use Rattle.lam_rules.specs.Types.{Label, Typ}
@@ -7,7 +7,7 @@ use Rattle.lam_rules.specs.Terms as rules
 use Rattle.lam_rules.specs.Terms.{Term, TermFields}
 use Rattle.lam_rules.specs.declared.numbers.TyNo.{TyNo}
 
--- a term of the rules, but for its written types: each is a number, or none where what is written stands for no type
+-- a term as in the rules, but with a type id for each written type, or none if that stands for no type
 mutual
   pub data Numbered : Type 0 where
     true_term : Numbered
@@ -32,11 +32,11 @@ mutual
     no_terms : NumberedFields
     term_field : (label : Label) (term : Numbered) (rest : NumberedFields) → NumberedFields
 
--- the type that is written, if there is one
+-- the type with this id, if there is one
 abbrev pub written_over : List Typ → Option TyNo → Option Typ
 written_over ts = option_map (type_of ts)
 
--- the term that it is over the types of a table
+-- the term over the types of a table
 abbrev mutual
   pub term_over : List Typ → Numbered → Term
   term_over ts true_term = rules.true_term
@@ -61,12 +61,12 @@ abbrev mutual
   terms_over ts no_terms = rules.no_terms
   terms_over ts (term_field l e es) = rules.term_field l (term_over ts e) (terms_over ts es)
 
--- the number that is written, if there is one, stands for a type of the table
+-- the type id, if there is one, is that of a type of the table
 abbrev pub StandsIfAny : List Typ → Option TyNo → Type 0
 StandsIfAny ts None = Unit {0}
 StandsIfAny ts (Some number) = Stands ts number
 
--- each number of a term stands for a type of the table
+-- each type id of a term is that of a type of the table
 abbrev mutual
   pub NumbersStand : List Typ → Numbered → Type 0
   NumbersStand ts true_term = Unit {0}

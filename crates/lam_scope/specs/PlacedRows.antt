@@ -1,9 +1,9 @@
--- What the row of a place tells of a term.
+-- When a row of the table of subterms describes a term.
 use Rattle.std.specs.Prelude.{◌≡◌, List, map, not, length}
 use Rattle.lam_scope.specs.Tables.{TextPlace, Table, binder_in, seen_in}
 use Rattle.lam_scope.specs.PlacedTerms.{PlacedTree, term_of, parts_of, trees_in}
 
--- A row of this table, and the term that it tells of, one of these: its span, whether it is written, the binders that it sees by their names, and its parts.
+-- A row of this table describes this one of the terms: its span, whether it is derived, the names of the binders in scope, and its parts.
 pub record IsRowOf (t : Table) (terms : List PlacedTree) (row : TextPlace) (own : PlacedTree) : Type 0 where
   pub span : row.span ≡ (term_of own).span
   pub derived : row.derived ≡ not (term_of own).is_written

@@ -1,4 +1,4 @@
--- The terms of commands as they stand in the text: where each is, what it sees, what it says without names, and its parts.
+-- The terms of commands in the text: the span of each, what is in scope, its nameless form, and its parts.
 use Rattle.std.specs.Prelude.{◌==◌, ℕ, List, [], ◌∷◌, ◌++◌, Bool, true, false, Option, get_or, position}
 use Rattle.lam_token.specs.declared.span.Span.{Span}
 use Rattle.lam_rules.specs.Terms.{Term, unit_term, lambda, fix}
@@ -9,7 +9,7 @@ use Rattle.lam_scope.specs.Expansions.{Abbreviation, expansion}
 use Rattle.lam_scope.specs.Nameless.{nameless, nameless_node, abbreviations_after, names_after}
 use Rattle.lam_scope.specs.Places.{written, of_term, Scope, Place}
 
--- the word that makes a term what it is, by its token: the name of a variable, or the label that a projection asks for; other terms have none
+-- the token by which a term is found: the name of a variable, or the label of a projection; other terms have none
 pub data OwnWord : Type 0 where
   no_word : OwnWord
   name_at : (token : Span) → OwnWord
@@ -25,14 +25,14 @@ own_word n = no_word
 pub record PlacedTerm : Type 0 where
   pub span : Span
   pub own : OwnWord
-  -- whether it is written, or else a lambda or a fix that a letrec stands for
+  -- whether it is in the text; the derived lambda and fix of a letrec are not
   pub is_written : Bool
-  -- the names of the binders that it sees, the innermost first; an underscore has none
+  -- the names of the binders in scope, innermost first; an underscore has none
   pub names : List (Option Name)
-  -- these binders by what they take their types from, and the nameless term
+  -- the bindings in scope, and the nameless term
   pub place : Place
 
--- A term with its parts, which are its immediate terms.
+-- A term with its parts, which are its immediate subterms.
 mutual
   pub data PlacedTree : Type 0 where
     placed : (term : PlacedTerm) → (parts : PlacedTrees) → PlacedTree
@@ -62,17 +62,16 @@ two_parts p q = part_first p (one_part q)
 abbrev pub placed_at : Span → OwnWord → (is_written : Bool) → List (Option Name) → Scope → Term → PlacedTrees → PlacedTree
 placed_at r o w xs s e ps = placed (record { span = r; own = o; is_written = w; names = xs; place = record { scope = s; here = e } }) ps
 
--- the function that a letrec makes, from its type and its nameless first term
+-- the function that a letrec stands for, from its type and its nameless bound term
 abbrev pub letrec_function : List Abbreviation → TypeTree → Term → Term
 letrec_function bs w e = lambda (expansion bs w) e
 
--- the fix of that function, at the first term's span: its part is the function, and the function's is the first term
+-- the fix of that function, with the span of the bound term: its part is the function, whose part is the bound term
 abbrev pub letrec_fix : List Abbreviation → List (Option Name) → Scope → TypeTree → Span → Term → (first : PlacedTree) → PlacedTree
 letrec_fix bs xs s w r e first =
     placed_at r no_word false xs s (fix (letrec_function bs w e)) (one_part (placed_at r no_word false xs s (letrec_function bs w e) (one_part first)))
 
--- A term with its parts, where it sees these abbreviations and these binders: their names, and what they take their types from. A letrec is the let of a fix that
--- it stands for.
+-- A term with its parts, under these abbreviations and these binders: their names and bindings. A letrec stands for a let of a fix.
 abbrev mutual
   pub placed_term : List Abbreviation → List (Option Name) → Scope → TermTree → PlacedTree
   placed_term bs xs s (term_tree r n) = placed_at r (own_word n) true xs s (nameless_node bs xs n) (placed_parts bs xs s n)
@@ -98,7 +97,7 @@ abbrev mutual
   placed_fields bs xs s tree.no_fields = no_parts
   placed_fields bs xs s (tree.field l t fs) = part_first (placed_term bs xs s t) (placed_fields bs xs s fs)
 
--- the terms in a term: those in its parts, from left to right, and itself behind them
+-- the subterms of a term: those in its parts, from left to right, and then the term itself
 abbrev mutual
   pub terms_in : PlacedTree → List PlacedTree
   terms_in (placed t ps) = terms_in_each ps ++ placed t ps ∷ []
@@ -108,33 +107,33 @@ abbrev mutual
   terms_in_each no_parts = []
   terms_in_each (part_first p ps) = terms_in p ++ terms_in_each ps
 
--- the terms of a command that sees these abbreviations and binders
+-- the subterms of a command under these abbreviations and binders
 abbrev pub command_terms : List Abbreviation → List (Option Name) → Scope → CommandTree → List PlacedTree
 command_terms bs xs s (definition w t) = terms_in (placed_term bs xs s t)
 command_terms bs xs s (declaration w u) = []
 command_terms bs xs s (tree.abbreviation w u) = []
 command_terms bs xs s (evaluation t) = terms_in (placed_term bs xs s t)
 
--- what the commands behind one see, by what it takes its types from
+-- the bindings in scope after a command
 abbrev pub scope_after : List Abbreviation → List (Option Name) → Scope → CommandTree → Scope
 scope_after bs xs s (definition w t) = of_term (nameless bs xs t) ∷ s
 scope_after bs xs s (declaration w u) = written (expansion bs u) ∷ s
 scope_after bs xs s c = s
 
--- the terms of commands, one command behind the other, where the first sees these abbreviations and binders
+-- the subterms of commands, one command after another, under these abbreviations and binders
 abbrev pub commands_terms : List Abbreviation → List (Option Name) → Scope → List CommandTree → List PlacedTree
 commands_terms bs xs s [] = []
 commands_terms bs xs s (c ∷ cs) = command_terms bs xs s c ++ commands_terms (abbreviations_after bs c) (names_after xs c) (scope_after bs xs s c) cs
 
--- the terms of a document
+-- the subterms of a document
 abbrev pub document_terms : List CommandTree → List PlacedTree
 document_terms cs = commands_terms [] [] [] cs
 
--- the term of a number, counted from 0; past the last one, a term that stands nowhere
+-- the subterm with this zero-based index; past the last one, a term with an empty span
 abbrev pub tree_in : List PlacedTree → ℕ → PlacedTree
 tree_in ts n = get_or ts n (placed_at (record { start = 0; end = 0 }) no_word false [] [] unit_term no_parts)
 
--- the terms of these numbers
+-- the subterms with these indices
 abbrev pub trees_in : List PlacedTree → List ℕ → PlacedTrees
 trees_in ts [] = no_parts
 trees_in ts (n ∷ ns) = part_first (tree_in ts n) (trees_in ts ns)
@@ -149,10 +148,10 @@ abbrev pub is_projection_at : ℕ → OwnWord → Bool
 is_projection_at o (label_at s) = s.start == o
 is_projection_at o w = false
 
--- the number of the variable whose token begins at byte o, if there is one
+-- the index of the variable whose token begins at byte o, if there is one
 abbrev pub variable_at : ℕ → List CommandTree → Option ℕ
 variable_at o cs = position (λ t. is_variable_at o (term_of t).own) (document_terms cs)
 
--- the number of the projection whose label's token begins at byte o, if there is one
+-- the index of the projection whose label's token begins at byte o, if there is one
 abbrev pub projection_at : ℕ → List CommandTree → Option ℕ
 projection_at o cs = position (λ t. is_projection_at o (term_of t).own) (document_terms cs)

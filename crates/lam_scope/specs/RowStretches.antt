@@ -1,4 +1,4 @@
--- Where the rows of a table stand in the text: a place at its bytes, a name at the byte where its token starts.
+-- The byte intervals of the rows of the tables: a subterm has its span, a name the byte where its token starts.
 use Rattle.std.specs.Prelude.{ℕ, zero, suc, ◌-◌, Option, Some, None, List, [], ◌∷◌, if◌then◌else◌, ltb}
 use Rattle.lam_scope.specs.declared.rows.BinderRow.{BinderRow}
 use Rattle.lam_scope.specs.declared.rows.UseRow.{UseRow}
@@ -8,11 +8,11 @@ use Rattle.lam_scope.specs.Stretches.{no_bytes, one_byte}
 use Rattle.lam_scope.specs.Tables.{TextBinder, TextUse, has_name}
 use Rattle.lam_scope.specs.TableViews.{text_binder}
 
--- the bytes of a place; one that is not written has none
+-- the interval of a subterm; empty if it is not in the text
 abbrev pub place_stretch : PlaceRow → Stretch
 place_stretch p = if p.derived then no_bytes else (if ltb p.span.start p.span.end then record { lowest = p.span.start; highest = p.span.end - 1 } else no_bytes)
 
--- the byte where the name of a binder starts; an underscore has none
+-- the byte where the name of a binder starts; empty for an underscore
 abbrev pub binder_stretch : BinderRow → Stretch
 binder_stretch b = if has_name (text_binder b).name then one_byte b.token.start else no_bytes
 
@@ -20,13 +20,13 @@ binder_stretch b = if has_name (text_binder b).name then one_byte b.token.start 
 abbrev pub use_stretch : UseRow → Stretch
 use_stretch u = one_byte u.token.start
 
--- the binder that the token of the binder of a number is told as
+-- the binder reported for the token of the binder with this index
 abbrev pub answer_at : List TextBinder → ℕ → Option ℕ
 answer_at [] n = None
 answer_at (b ∷ bs) zero = Some b.answer
 answer_at (b ∷ bs) (suc n) = answer_at bs n
 
--- the binder of the use of a number, if it is bound
+-- the binder of the use with this index, if it is bound
 abbrev pub used_at : List TextUse → ℕ → Option ℕ
 used_at [] n = None
 used_at (u ∷ us) zero = u.binder

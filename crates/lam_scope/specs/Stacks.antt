@@ -1,7 +1,7 @@
--- Stacks: lists that grow at their end, seen from there.
+-- Stacks: lists that grow at their end, read from there.
 use Rattle.std.specs.Prelude.{List, [], ◌∷◌}
 
--- the items of a stack as f sees them, the last one first, in front of others
+-- the images of a stack's items under f, the last one first, followed by others
 abbrev pub stacked : {X Y : Type 0} → (X → Y) → List Y → List X → List Y
 stacked f ys [] = ys
 stacked f ys (x ∷ xs) = stacked f (f x ∷ ys) xs

@@ -1,4 +1,4 @@
--- The type names in written types, and the abbreviation that each stands for: the last one of the name in the commands before.
+-- The type names in written types, and the abbreviation that each stands for: the last one of that name in earlier commands.
 use Rattle.std.specs.Prelude.{◌≡◌, ◌≢◌, List, [], ◌∷◌, ◌++◌, Option, None, Contains, fold, flat_map}
 use Rattle.std.specs.List.{AllByRecursion}
 use Rattle.lam_token.specs.declared.span.Span.{Span}
@@ -8,7 +8,7 @@ use Rattle.lam_scope.specs.Names.{Name}
 use Rattle.lam_scope.specs.Expansions.{Abbreviation, expansion}
 use Rattle.lam_scope.specs.Nameless.{written_in_command, abbreviations_after, names_after}
 
--- the type names that a written type uses, with their tokens, in the order of the text
+-- the type names that a written type uses, with their tokens, in text order
 abbrev mutual
   pub type_names : TypeTree → List Word
   type_names (type_tree s n) = type_names_in n
@@ -29,32 +29,32 @@ abbrev mutual
 abbrev pub type_names_in_command : CommandTree → List Word
 type_names_in_command c = flat_map type_names (written_in_command c)
 
--- A document uses a type name at this token: in the command that comes right after these first ones.
+-- A document uses a type name at this token, in the command just after these first ones.
 pub record IsTypeNameIn (cs before : List CommandTree) (x : Name) (token : Span) : Type 0 where
   pub command : CommandTree
   pub after : List CommandTree
   pub document : cs ≡ before ++ command ∷ after
   pub is_used : Contains (type_names_in_command command) (word x token)
 
--- the abbreviations that the command after these sees, the innermost first
+-- the abbreviations in scope after these commands, innermost first
 abbrev pub abbreviations_seen_after : List CommandTree → List Abbreviation
 abbreviations_seen_after cs = fold abbreviations_after [] cs
 
--- the binders of names that the command after these sees, the innermost first
+-- the binders of names in scope after these commands, innermost first
 abbrev pub binders_seen_after : List CommandTree → List (Option Name)
 binders_seen_after cs = fold names_after [] cs
 
--- what a type name at this token stands for in the command after these, or none: the expansion of the written type that is this name alone
+-- what a type name at this token stands for after these commands, or none: the expansion of the written type that is just this name
 abbrev pub meant_after : List CommandTree → Name → (token : Span) → Option Typ
 meant_after cs x s = expansion (abbreviations_seen_after cs) (type_tree s (named (word x s)))
 
--- a command is no abbreviation of this type name
+-- a command is not an abbreviation of this type name
 abbrev pub IsNoAbbreviationOf : Name → CommandTree → Type 0
 IsNoAbbreviationOf x (abbreviation (word y s) u) = y ≢ x
 IsNoAbbreviationOf x c = Unit {0}
 
--- The last abbreviation of a type name in these commands has this token, and this is what the name stands for: the expansion of the abbreviation's written type, over
--- the abbreviations before it.
+-- The last abbreviation of a type name in these commands has this token, and this is what the name stands for: the expansion of its written type with the abbreviations
+-- before it.
 pub record IsLastAbbreviation (cs : List CommandTree) (x : Name) (token : Span) (meant : Option Typ) : Type 0 where
   pub before : List CommandTree
   pub written : TypeTree

@@ -21,15 +21,15 @@ use Rattle.lam_scope.specs.Abbreviations.{abbreviations_in}
 use Rattle.lam_scope.specs.Places.{Statement}
 pub use Rattle.lam_scope.specs.StatementViews.{statement_of}
 
--- what the commands of a nameless document state, in their order
+-- what the commands of a nameless document state, in order
 abbrev pub statements_of : Resolved → List Statement
 statements_of r = map statement_of r.statements.items
 
--- where each binder of a nameless document takes its type from, by the number of the binder
+-- where each binder of a nameless document takes its type from, by binder index
 abbrev pub origins_of : Resolved → List Origin
 origins_of r = r.origins.items
 
--- the faults of the written types of a nameless document, in the order of the text
+-- the diagnostics of the written types of a nameless document, in text order
 abbrev pub faults_of : Resolved → List TypeFault
 faults_of r = r.faults.items
 
@@ -37,16 +37,16 @@ faults_of r = r.faults.items
 abbrev pub table_of : Scopes → Table
 table_of s = rows_of s.rows
 
--- for each binder, by its number, the tokens of the uses that are told as its own
+-- for each binder, by index, the tokens of the uses that are reported as its own
 abbrev pub uses_in : Scopes → List (List Span)
 uses_in s = lists_in s.tokens
 
--- scopes are of these commands
+-- these are the scopes of these commands
 pub record AreScopesOf (s : Scopes) (cs : List CommandTree) : Type 0 where
   pub same_table : table_of s ≡ table cs
   pub same_uses : uses_in s ≡ tokens_by 0 (length (table cs).binders) (table cs).uses
 
--- the abbreviations that a written type sees, the innermost first
+-- the abbreviations in scope for a written type, innermost first
 abbrev pub abbreviations_of : Abbreviations → List Abbreviation
 abbreviations_of a = abbreviations_in a.items.items
 
@@ -54,7 +54,7 @@ abbreviations_of a = abbreviations_in a.items.items
 abbrev pub expanded_fields_of : Option (Vec (String Global × Ty) Global) → Option Fields
 expanded_fields_of = option_map (λ v. fields_of v.items)
 
--- what an answer says of the first written type that is too large: a fault names it, a value says that there is none
+-- what a result says of the first written type over the size limit: an error names it, a value says that there is none
 abbrev pub IsLimit : {T : Type 0} → Option Span → Result T ScopeFault → Type 0
 IsLimit o (Ok x) = o ≡ None
 IsLimit o (Err (faults.TooLarge s)) = o ≡ Some s

@@ -1,4 +1,4 @@
-//! The abbreviations that a written type sees.
+//! The abbreviations in scope for a written type.
 ghost use Rattle.std.specs.Prelude.{◌≡◌, ◌∷◌, [], true, false, None, OnOk, IfSome, IfNone};
 ghost use Rattle.lam_rules.specs.TermViews.{written_of};
 ghost use Rattle.lam_scope.specs.Expansions.{stands_for, meaning, is_bound};
@@ -9,17 +9,17 @@ use crate::stacks::item_under;
 use lam_rules::Ty;
 use std::alloc::{AllocError, Global};
 
-/// A type name and what it stands for, or none where its written type is faulty.
+/// A type name and what it stands for, or `None` where its written type is faulty.
 #[derive(Drop)]
 pub(crate) struct Abbreviation<'a> {
     pub(crate) name: &'a str,
     pub(crate) expansion: Option<Ty>,
 }
 
-/// The abbreviations that a written type sees.
+/// The abbreviations in scope for a written type.
 #[derive(Drop)]
 pub(crate) struct Abbreviations<'a> {
-    /// The innermost last.
+    /// Innermost last.
     pub(crate) items: Vec<Abbreviation<'a>>,
     pub(crate) names: Names<'a>,
     ghost named: { names ≡ names_in (abbreviations_in items.items) },
@@ -28,7 +28,7 @@ pub(crate) struct Abbreviations<'a> {
 impl<'a> Abbreviations<'a> {
     ghost use Rattle.lam_scope.specs.Views.{abbreviations_of};
 
-    /// None is seen.
+    /// No abbreviation is in scope.
     pub(crate) fn new(alloc: Global) -> Abbreviations<'a>
         ensures { abbreviations_of result ≡ [] }
     {
@@ -38,19 +38,19 @@ impl<'a> Abbreviations<'a> {
         }
     }
 
-    /// One more is seen, inside of the others.
+    /// Brings one more abbreviation into scope, innermost.
     #[tactic(auto, using(crate::proofs::AbbreviationStacks::abbreviations))]
     pub(crate) fn add(&mut self, name: &'a str, expansion: Option<Ty>) -> Result<(), AllocError>
         ensures { OnOk result (abbreviations_of self.new ≡ stands_for name.now (written_of expansion) ∷ abbreviations_of self.old) }
     {
-        // With its room made first the push cannot fail, and leave a name without its abbreviation.
+        // Reserving first means that the push can't fail and leave a name without its abbreviation.
         self.items.reserve(1)?;
         self.names.enter(Some(name))?;
         self.items.push(Abbreviation { name, expansion })?;
         Ok(())
     }
 
-    /// The innermost of that name.
+    /// Returns the innermost abbreviation of that name.
     pub(crate) fn find(&self, name: &str) -> Option<&Abbreviation<'a>>
         ensures bound { IfSome result (λ a. is_bound name.now (abbreviations_of self.now) ≡ true) }
         ensures meaning { IfSome result (λ a. meaning name.now (abbreviations_of self.now) ≡ written_of a.now.expansion) }

@@ -15,12 +15,12 @@ use crate::walk::walk_command;
 use lam_syntax::Command;
 use std::alloc::{AllocError, Global};
 
-/// What the names and type names of these commands are bound to.
+/// Determines what the names and type names of these commands are bound to.
 pub fn bind(alloc: Global, commands: &[Command]) -> Result<Scopes, AllocError>
     ensures { IfOk result (λ s. AreScopesOf s (map command_of commands.now)) }
 {
     let mut rows = walk_commands(alloc, commands)?;
-    // Here, where the names that the walk had in sight are dropped already.
+    // Trimmed here, where the names that the walk had in scope are dropped already.
     rows.trim();
     let tokens = group_tokens(alloc, rows.binders.len(), &rows.uses)?;
     Scopes::new(alloc, rows, tokens)
@@ -40,7 +40,7 @@ fn walk_commands(alloc: Global, commands: &[Command]) -> Result<Rows, AllocError
     Ok(rows)
 }
 
-/// The tokens of the uses of each of so many binders, in the order of the text.
+/// Returns the tokens of the uses of each of the first `binders` binders, in text order.
 fn group_tokens(alloc: Global, binders: usize, uses: &[UseRow]) -> Result<TokenLists, AllocError>
     ensures { IfOk result (λ lists. lists_in lists ≡ tokens_by 0 binders (map text_use uses.now)) }
 {

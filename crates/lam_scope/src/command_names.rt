@@ -1,4 +1,4 @@
-//! The names and type names that a command takes from outside.
+//! The free names and type names of a command.
 ghost use Rattle.std.specs.Prelude.{◌≡◌, ◌∷◌, [], map, IfOk, OnOk};
 ghost use Rattle.std.specs.Option.{option_map};
 ghost use Rattle.lam_syntax.specs.Letters.{letters};
@@ -18,15 +18,14 @@ use lam_syntax::{
 };
 use std::alloc::{AllocError, Global};
 
-/// The names that a command uses and does not bind itself, and the type names that it uses: each once, in the order of
-/// their first use.
+/// The names that a command uses and does not bind itself, and the type names that it uses: each once, in the order of first use.
 #[derive(Drop)]
 pub struct FreeNames<'a> {
     pub names: Vec<&'a str>,
     pub type_names: Vec<&'a str>,
 }
 
-/// What was found so far, and the binders that the term sees.
+/// What was found so far, and the binders in scope for the current term.
 #[derive(Drop)]
 pub(crate) struct Finding<'a> {
     names: FoundNames<'a>,
@@ -34,7 +33,7 @@ pub(crate) struct Finding<'a> {
     bound: FewNames<'a>,
 }
 
-/// The names and type names that a command takes from outside.
+/// Returns the names and type names that a command takes from outside.
 #[tactic(auto, using(crate::proofs::FoundNames::once))]
 pub fn free_names<'a>(alloc: Global, command: &'a Command) -> Result<FreeNames<'a>, AllocError>
     ensures names { IfOk result (λ f. map (λ x. x.now) f.names.items ≡ each_once (free_in_command (command_of command.now))) }
@@ -121,7 +120,7 @@ fn find_in_term<'a>(finding: &mut Finding<'a>, term: &'a Tm) -> Result<(), Alloc
     }
 }
 
-/// A use of a name, unless it is bound.
+/// Adds a use of a name, unless it is bound in the command.
 #[tactic(auto, using(crate::proofs::FoundNames::uses))]
 fn find_use<'a>(finding: &mut Finding<'a>, name: &'a Identifier) -> Result<(), AllocError>
     ensures { AreFound (letters name.now.text ∷ []) [] finding.old finding.new result }
@@ -133,7 +132,7 @@ fn find_use<'a>(finding: &mut Finding<'a>, name: &'a Identifier) -> Result<(), A
     finding.names.add(text)
 }
 
-/// A term under one more binder.
+/// Searches a term under one more binder.
 #[cycle(terms)]
 #[tactic(auto, using(crate::proofs::FoundNames::finding))]
 fn find_under<'a>(

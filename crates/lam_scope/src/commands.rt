@@ -1,4 +1,4 @@
-//! One command by itself, as it is read in an environment.
+//! The nameless form of one command by itself, in an environment.
 ghost use Rattle.std.specs.Prelude.{◌≡◌, List, IfOk, OnOk};
 ghost use Rattle.lam_rules.specs.Types.{Typ};
 ghost use Rattle.lam_rules.specs.Numbers.{Keeps};
@@ -22,17 +22,17 @@ use lam_rules::TyTable;
 use lam_syntax::Command;
 use std::alloc::Global;
 
-/// A command's nameless form over the numbers of a table of types, and the faults of its written types.
+/// A command's nameless form over the ids of a type table, and the diagnostics of its written types.
 #[derive(Drop)]
 pub struct Interned<'a> {
     pub statement: InternedStatement<'a>,
-    /// In the order of the text.
+    /// In text order.
     pub faults: Vec<TypeFault>,
 }
 
-/// The nameless form of a command that sees these names and type names. What its written types stand for is put into the
-/// table, where the types that an abbreviation has there are used again and not copied; the first written type that is
-/// too large is refused. The environment is then as it was, unless there is an error: then it may have more names.
+/// Returns the nameless form of a command in an environment. Its written types are added to the table, where the types behind
+/// abbreviations are shared and not copied; the first written type over the size limit is an error. The environment is left as it
+/// was, except that after an error it may contain more names.
 #[tactic(auto, using(crate::proofs::InternedForms::commands))]
 pub fn intern_command<'a>(
     alloc: Global,

@@ -1,4 +1,4 @@
-//! From commands to their nameless forms.
+//! From the commands of a document to their nameless forms.
 ghost use Rattle.std.specs.Prelude.{◌≡◌, [], length, map, IfOk};
 ghost use Rattle.lam_syntax.specs.Views.{command_of};
 ghost use Rattle.lam_scope.specs.Nameless.{statements, faults, first_too_large};
@@ -16,8 +16,8 @@ use crate::scopes::Scopes;
 use lam_syntax::Command;
 use std::alloc::{AllocError, Global};
 
-/// The nameless form of a document's commands, of which the scopes are. Written types stand for their expansions,
-/// which are copied at each use; the first that is too large is refused before any of it is built.
+/// Returns the nameless form of a document's commands. `scopes` must be the result of `bind` on them. Written types become their
+/// expansions, copied at each use; the first that is over the size limit is an error, before any of it is built.
 pub fn resolve(alloc: Global, commands: &[Command], scopes: &Scopes) -> Result<Resolved, ScopeFault>
     requires { AreScopesOf scopes.now (map command_of commands.now) }
     ensures statements { IfOk result (λ r. statements_of r ≡ statements [] [] (map command_of commands.now)) }
@@ -31,7 +31,7 @@ pub fn resolve(alloc: Global, commands: &[Command], scopes: &Scopes) -> Result<R
         forming,
         statements,
     } = resolve_all(alloc, commands, &scopes.rows.uses)?;
-    // They are dropped before there is one list more: memory is at its peak here.
+    // Dropped before another list is built: memory use peaks here.
     drop(abbreviations);
     let origins = origins_in(alloc, &scopes.rows.binders)?;
     Ok(Resolved {
@@ -61,7 +61,7 @@ fn resolve_all<'a>(
     Ok(resolver)
 }
 
-/// Where the binders take their types from: those of type names from nowhere.
+/// Returns where each binder takes its type from: `Origin::TypeName` for the binders of type names.
 fn origins_in(alloc: Global, binders: &[BinderRow]) -> Result<Vec<Origin>, AllocError>
     ensures { IfOk result (λ origins. origins.items ≡ map (λ b. origin_of b.origin) binders.now) }
 {

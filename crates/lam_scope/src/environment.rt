@@ -1,4 +1,4 @@
-//! What a command sees: the binders of names, and the type names with the numbers of what they stand for.
+//! What is in scope for a command: binders of names, and type names with the ids of what they stand for.
 ghost use Rattle.std.specs.Prelude.{◌≡◌, ◌∷◌, [], List, Some, OnOk, OnErr};
 ghost use Rattle.lam_rules.specs.Types.{Typ};
 ghost use Rattle.lam_scope.specs.Expansions.{stands_for};
@@ -10,7 +10,7 @@ use crate::type_names::{TypeName, TypeNames};
 use lam_rules::TyNo;
 use std::alloc::{AllocError, Global};
 
-/// The names that a command sees, and the type names with the number, in a table of types, of what each stands for.
+/// The names in scope for a command, and the type names, each with the id in a type table of what it stands for.
 #[derive(Drop)]
 pub struct Environment<'a> {
     pub(crate) names: FewNames<'a>,
@@ -18,7 +18,7 @@ pub struct Environment<'a> {
 }
 
 impl<'a> Environment<'a> {
-    /// Nothing is seen.
+    /// An environment with nothing in scope.
     pub fn new(alloc: Global) -> Environment<'a>
         ensures names { names_seen result ≡ [] }
         ensures type_names { (ts : List Typ) → abbreviations_seen ts result ≡ [] }
@@ -30,7 +30,7 @@ impl<'a> Environment<'a> {
         }
     }
 
-    /// One more binder of a name is seen, inside of the others.
+    /// Brings one more name into scope, innermost. On an error nothing changes.
     pub fn enter_name(&mut self, name: &'a str) -> Result<(), AllocError>
         ensures entered { OnOk result (names_seen self.new ≡ Some name.now ∷ names_seen self.old) }
         ensures unchanged { OnErr result (names_seen self.new ≡ names_seen self.old) }
@@ -40,8 +40,8 @@ impl<'a> Environment<'a> {
         self.names.enter(Some(name))
     }
 
-    /// One more type name is seen, inside of the others. It has the number of what it stands for, or none where it stands
-    /// for no type.
+    /// Brings one more type name into scope, innermost. `number` is the id of what it stands for, or `None` if it stands for no
+    /// type. On an error nothing changes.
     pub fn enter_type_name(&mut self, name: &'a str, number: Option<TyNo>) -> Result<(), AllocError>
         ensures names { names_seen self.new ≡ names_seen self.old }
         ensures entered { OnOk result ((ts : List Typ) → abbreviations_seen ts self.new ≡ stands_for name.now (written_over ts number) ∷ abbreviations_seen ts self.old) }

@@ -1,4 +1,4 @@
-//! Written types: their faults, the sizes of their expansions, and the expansions.
+//! Written types: their diagnostics, the sizes of their expansions, and the expansions.
 ghost use Rattle.std.specs.Prelude.{◌≡◌, ◌++◌, IfOk, OnOk};
 ghost use Rattle.lam_rules.specs.TermViews.{written_of};
 ghost use Rattle.lam_syntax.specs.Trees.{no_type_fields};
@@ -12,14 +12,14 @@ use lam_rules::{Ty, copy_of, make_arrow, make_record, size};
 use lam_syntax::{TyField, TyNode, WrittenTy};
 use std::alloc::{AllocError, Global};
 
-/// The most nodes that a type in a document may have, be it an expansion or the type of a place. A document with a
-/// larger one gets that fault in place of types.
+/// The size limit of types in a document, in nodes, for expansions and for the types of subterms. If one is larger the document
+/// gets an error instead of types.
 pub const NODE_LIMIT: u64 = 4_096;
 
-/// Where sizes stop counting: one node over the limit, as `lam_rules` counts.
+/// Where counting stops: one node over the limit, as in `lam_rules`.
 const SIZE_CAP: u64 = NODE_LIMIT + 1;
 
-/// Puts the faults of a written type behind those before it, in the order of the text.
+/// Appends the diagnostics of a written type, in text order.
 #[cycle(faults)]
 #[tactic(auto, using(crate::proofs::WrittenTypes::fault_lists))]
 pub(crate) fn collect_faults(
@@ -66,7 +66,7 @@ fn collect_field_faults(
     Ok(())
 }
 
-/// Puts the fault of a label behind the others, where a field before it has the same label.
+/// Appends the diagnostic of a label that an earlier field has too.
 pub(crate) fn collect_label_fault(
     field: &TyField,
     earlier: &[TyField],
@@ -80,7 +80,7 @@ pub(crate) fn collect_label_fault(
     Ok(())
 }
 
-/// Whether a field has this label.
+/// Whether one of the fields has this label.
 #[tactic(auto, using(crate::proofs::WrittenTypes::written_types))]
 pub(crate) fn has_label(label: &str, fields: &[TyField]) -> bool
     ensures { result ≡ has_label label.now (type_fields_of fields.now) }
@@ -94,7 +94,7 @@ pub(crate) fn has_label(label: &str, fields: &[TyField]) -> bool
     false
 }
 
-/// How many nodes the expansion of a written type has, or `SIZE_CAP` where it has more. There is none where it is faulty.
+/// Returns the number of nodes of the expansion, or `SIZE_CAP` if it has more. `None` if the written type is faulty.
 #[cycle(sizes)]
 #[tactic(auto, using(crate::proofs::WrittenTypes::written_types))]
 pub(crate) fn expanded_size(seen: &Abbreviations<'_>, ty: &WrittenTy) -> Option<u64>
@@ -147,7 +147,7 @@ fn expanded_fields_size(seen: &Abbreviations<'_>, fields: &[TyField]) -> Option<
     Some(total)
 }
 
-/// The expansion of a written type, or none where it is faulty.
+/// Returns the expansion of a written type, or `None` if it is faulty.
 #[cycle(expansions)]
 #[tactic(auto, using(crate::proofs::WrittenTypes::made_types))]
 pub(crate) fn expand(
@@ -185,7 +185,7 @@ pub(crate) fn expand(
     }
 }
 
-/// The same expansion in memory of its own.
+/// Returns a deep copy of an expansion.
 pub(crate) fn copy_of_written(
     alloc: Global,
     expansion: &Option<Ty>,

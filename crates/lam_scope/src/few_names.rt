@@ -1,4 +1,4 @@
-//! The binders of names that a term of one command sees.
+//! The binders of names in scope for a term of one command.
 ghost use Rattle.std.specs.Prelude.{◌≡◌, ◌∷◌, [], OnOk, OnErr};
 ghost use Rattle.std.specs.Option.{option_map};
 ghost use Rattle.lam_scope.specs.Names.{binds, count};
@@ -9,11 +9,11 @@ use crate::stacks::item_under;
 use std::alloc::{AllocError, Global};
 use std::marker::Model;
 
-/// The names of the binders that a term of one command sees, searched from the innermost outwards: a command has few. A
-/// clause sees them as a list, the innermost first.
+/// The names of the binders in scope, searched linearly from the innermost outwards, since a command has few. Contracts see them
+/// as a list, innermost first.
 #[derive(Drop)]
 pub(crate) struct FewNames<'a> {
-    /// The innermost last.
+    /// Innermost last.
     stack: Vec<Option<&'a str>>,
 }
 
@@ -28,7 +28,7 @@ impl<'a> Model for FewNames<'a> {
 }
 
 impl<'a> FewNames<'a> {
-    /// No binder is seen.
+    /// No binder is in scope.
     pub(crate) fn new(alloc: Global) -> FewNames<'a>
         ensures { result ≡ [] }
     {
@@ -37,7 +37,7 @@ impl<'a> FewNames<'a> {
         }
     }
 
-    /// One more binder is seen, inside of the others. An underscore has no name.
+    /// Brings one more binder into scope, innermost. The name of an underscore is `None`.
     #[tactic(auto, using(crate::proofs::FewNames::entered))]
     pub(crate) fn enter(&mut self, name: Option<&'a str>) -> Result<(), AllocError>
         ensures entered { OnOk result (self.new ≡ option_map (λ x. x.now) name.entry ∷ self.old) }
@@ -47,14 +47,14 @@ impl<'a> FewNames<'a> {
         Ok(())
     }
 
-    /// The innermost binder is seen no more.
+    /// Takes the innermost binder out of scope.
     pub(crate) fn leave(&mut self)
         ensures { self.new ≡ outside self.old }
     {
         self.stack.pop();
     }
 
-    /// How many binders stand between a use of the name and its own.
+    /// Returns the de Bruijn index of a use of the name, or `None` if it is unbound.
     pub(crate) fn count(&self, name: &str) -> Option<usize>
         ensures { result ≡ count name.now self.now }
     {

@@ -1,11 +1,11 @@
-//! Names that are found one after the other, each kept where it comes first.
+//! A set of names in the order in which they were first found.
 ghost use Rattle.std.specs.Prelude.{◌≡◌, [], OnOk};
 ghost use Rattle.lam_scope.specs.inner.FoundNames.{letters_of, is_among, with_name};
 
 use std::alloc::{AllocError, Global};
 use std::marker::Model;
 
-/// Names, each but once. A clause sees them as a list, the first one first.
+/// Distinct names. Contracts see them as a list, in the order of first occurrence.
 #[derive(Drop)]
 pub(crate) struct FoundNames<'a> {
     items: Vec<&'a str>,
@@ -22,7 +22,7 @@ impl<'a> Model for FoundNames<'a> {
 }
 
 impl<'a> FoundNames<'a> {
-    /// None is found.
+    /// No name was found yet.
     pub(crate) fn new(alloc: Global) -> FoundNames<'a>
         ensures { result ≡ [] }
     {
@@ -31,7 +31,7 @@ impl<'a> FoundNames<'a> {
         }
     }
 
-    /// A name, which may have been found before.
+    /// Adds a name, unless it was found before.
     #[tactic(auto, using(crate::proofs::FoundNames::found_names))]
     pub(crate) fn add(&mut self, name: &'a str) -> Result<(), AllocError>
         ensures { OnOk result (self.new ≡ with_name name.now self.old) }
@@ -43,7 +43,7 @@ impl<'a> FoundNames<'a> {
         Ok(())
     }
 
-    /// The names.
+    /// Returns the names.
     pub(crate) fn into_items(self) -> Vec<&'a str>
         ensures { letters_of result.items ≡ self.entry }
     {

@@ -1,41 +1,41 @@
-//! Commands without names, whose written types are numbers of a table, so that a type which is used again is not copied.
+//! Commands in nameless form whose written types are ids of a type table, so that a type used again is not copied.
 
 use lam_rules::TyNo;
 
-/// A nameless term of a command, from which it borrows its letters. What a written type stands for is told by its number
-/// in a table of types.
+/// A nameless term of a command. Borrows the letters of its names from the command; a written type is the id of what it stands
+/// for in a type table.
 #[cycle(interned)]
 #[derive(Drop)]
 pub enum InternedTerm<'t> {
     True,
     False,
-    /// An if: the condition, the term where it is true, and the other.
+    /// Condition, then-branch and else-branch.
     If(Box<InternedTerm<'t>>, Box<InternedTerm<'t>>, Box<InternedTerm<'t>>),
-    /// A numeral, by its digits.
+    /// A numeral, as its digits.
     Num(&'t str),
     Succ(Box<InternedTerm<'t>>),
     Pred(Box<InternedTerm<'t>>),
     IsZero(Box<InternedTerm<'t>>),
-    /// A use of a name: 0 where it means the last binder that it sees, 1 where it means the one before, and so on.
+    /// A bound variable, as its de Bruijn index: 0 is the innermost binder in scope.
     Var(usize),
-    /// A name that no binder in sight has, by its letters.
+    /// An unbound name.
     Free(&'t str),
-    /// A lambda: what the written type stands for, or none where it stands for no type, and the term under the binder.
+    /// The id of the parameter's type, or `None` where the written type stands for no type, and the body.
     Abs(Option<TyNo>, Box<InternedTerm<'t>>),
     /// A function and its argument.
     App(Box<InternedTerm<'t>>, Box<InternedTerm<'t>>),
     Unit,
-    /// An ascription, with its type as in a lambda.
+    /// A term and the type ascribed to it, as in `Abs`.
     Ascribe(Box<InternedTerm<'t>>, Option<TyNo>),
-    /// A let: the term that is bound, and the one under its binder.
+    /// The bound term and the body.
     Let(Box<InternedTerm<'t>>, Box<InternedTerm<'t>>),
     Record(Vec<InternedField<'t>>),
-    /// A record and the label of one of its fields.
+    /// A term and the label projected from it.
     Proj(Box<InternedTerm<'t>>, &'t str),
     Fix(Box<InternedTerm<'t>>),
 }
 
-/// A label of a record and its term.
+/// A field of a record term.
 #[cycle(interned)]
 #[derive(Drop)]
 pub struct InternedField<'t> {
@@ -43,7 +43,7 @@ pub struct InternedField<'t> {
     pub term: InternedTerm<'t>,
 }
 
-/// A command without names, as `Statement` has it, over the numbers of a table.
+/// A command in nameless form, like `Statement`, over the ids of a type table.
 #[derive(Drop)]
 pub enum InternedStatement<'t> {
     /// `name = term`

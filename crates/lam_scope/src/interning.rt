@@ -1,5 +1,5 @@
-//! The nameless forms of terms over the numbers of a table of types. Each level of nesting takes the frame of the match
-//! and of one arm, so that the deepest term of a command fits on the stack.
+//! The nameless forms of terms over the ids of a type table. Each level of nesting takes the stack frames of the match and of one
+//! arm only, so that the deepest term of a command fits on the stack.
 ghost use Rattle.std.specs.Prelude.{◌≡◌, ◌∷◌, [], List, IfOk, OnOk};
 ghost use Rattle.std.specs.Option.{option_map};
 ghost use Rattle.lam_rules.specs.Types.{Typ};
@@ -31,8 +31,8 @@ use lam_syntax::{
     Projection, Tm, TmField, TmNode, WrittenTy,
 };
 
-/// The nameless form of a term that sees these type names and these binders of names. A binder inside of it is entered on
-/// the names, and left again.
+/// Returns the nameless form of a term under these type names and binders of names. Binders inside of it are pushed onto `names`
+/// and popped again.
 #[cycle(terms)]
 #[tactic(auto, using(crate::proofs::InternedForms::node_forms))]
 pub(crate) fn intern_term<'a>(
@@ -66,7 +66,7 @@ pub(crate) fn intern_term<'a>(
     }
 }
 
-/// The number of what a written type stands for. Where that is too large it is refused for its size.
+/// Returns the id of what a written type stands for. It is an error if that is over the size limit.
 #[tactic(auto, using(crate::proofs::InternedForms::written_types))]
 pub(crate) fn intern_written(
     interning: &mut Interning,
@@ -95,7 +95,7 @@ fn is_over_limit(table: &TyTable, number: Option<TyNo>) -> bool
     }
 }
 
-/// The form of a term under one more binder.
+/// Returns the form of a term under one more binder.
 #[cycle(terms)]
 fn intern_under<'a>(
     interning: &mut Interning,
@@ -293,7 +293,7 @@ fn intern_fields<'a>(
     Ok(forms)
 }
 
-/// The count of a use, or its name where it is unbound.
+/// The de Bruijn index of a use, or its name if it is unbound.
 #[tactic(auto, using(crate::proofs::InternedForms::use_forms))]
 fn use_of<'a>(names: &FewNames<'_>, name: &'a Identifier) -> InternedTerm<'a>
     ensures form { (ts : List Typ) → interned_term ts result ≡ use_counted (letters name.now.text) (count (letters name.now.text) names.now) }

@@ -1,5 +1,5 @@
-//! Written types as numbers of a table of types: node by node, a type name by the number of what it stands for, so that
-//! nothing is copied where an abbreviation is used again.
+//! Written types as ids of a type table: node by node, and a type name by the id of what it stands for, so that nothing is copied
+//! where an abbreviation is used again.
 ghost use Rattle.std.specs.Prelude.{◌≡◌, ◌++◌, ◌∷◌, [], Some, None, length, if◌then◌else◌, IfOk, OnOk};
 ghost use Rattle.lam_rules.specs.Types.{arrow as arrow_type};
 ghost use Rattle.lam_rules.specs.Numbers.{Keeps, IsNumberOf, IsOver, HasDistinctLabels, shaped, Stands};
@@ -19,15 +19,15 @@ use lam_rules::{Shape, TyNo, TyTable};
 use lam_syntax::{ArrowTy, Identifier, TyField, TyNode, WrittenTy};
 use std::alloc::{AllocError, Global};
 
-/// What interning is done with, and what is found beside it.
+/// What interning is done with, and the diagnostics found along the way.
 #[derive(Drop)]
 pub(crate) struct Interning {
     pub(crate) alloc: Global,
-    /// Of the written types that have their numbers, in the order of the text.
+    /// Those of the written types interned so far, in text order.
     pub(crate) faults: Vec<TypeFault>,
 }
 
-/// The number of what a written type stands for, or none where it is faulty. Its faults are put behind those before them.
+/// Returns the id of what a written type stands for, or `None` if it is faulty. Appends its diagnostics.
 #[cycle(types)]
 #[tactic(auto, using(crate::proofs::InterningTypes::interned_types))]
 pub(crate) fn intern_type(
@@ -61,7 +61,7 @@ fn intern_shape(table: &mut TyTable, shape: Shape) -> Result<Option<TyNo>, Alloc
     Ok(Some(number))
 }
 
-/// The number of what a type name stands for. Where it is unbound, that is its fault.
+/// Returns the id of what a type name stands for. Appends a diagnostic if it is unbound.
 fn number_of(
     faults: &mut Vec<TypeFault>,
     seen: &TypeNames<'_>,
@@ -94,7 +94,7 @@ fn intern_arrow(
     arrow_between(table, parameter, outcome)
 }
 
-/// The number of the arrow, if both sides have one.
+/// Returns the id of the arrow, if both sides have one.
 fn arrow_between(
     table: &mut TyTable,
     parameter: Option<TyNo>,
@@ -135,8 +135,8 @@ fn intern_record(
     }
 }
 
-/// The labels of the fields, and the numbers of what their types stand for. The faults of all of them are found, also
-/// where one has no number.
+/// Returns the labels of the fields with the ids of their types. The diagnostics of all fields are found, even if one of them has
+/// no id.
 #[cycle(types)]
 fn intern_fields<'f>(
     interning: &mut Interning,
@@ -158,7 +158,7 @@ fn intern_fields<'f>(
     Ok(items)
 }
 
-/// The number, unless a later field has the same label.
+/// Returns `number`, unless a later field has the same label.
 fn unless_repeated(field: &TyField, later: &[TyField], number: Option<TyNo>) -> Option<TyNo>
     ensures { result ≡ (if has_label (letters field.now.label.text) (type_fields_of later.now) then None else number) }
 {
@@ -168,7 +168,7 @@ fn unless_repeated(field: &TyField, later: &[TyField], number: Option<TyNo>) -> 
     number
 }
 
-/// One more labelled number behind the others, if there are others and it is one.
+/// Appends one more labelled id, if there is a list to append to and an id.
 fn with_item<'f>(
     items: Option<Vec<(&'f str, TyNo)>>,
     label: &'f str,

@@ -1,5 +1,4 @@
-//! What holds of the table and the nameless form of any commands.
-//! Each law is the contract of a function that does nothing.
+//! Laws of the table and the nameless form of any commands. Each law is the contract of an empty function.
 ghost use Rattle.std.specs.Prelude.{◌≡◌, ◌≢◌, ◌⊎◌, ◌↔◌, ℕ, [], ◌∷◌, ◌++◌, List, Option, None, Some, map, length, get_or, reverse, Contains};
 ghost use Rattle.std.specs.Option.{option_map};
 ghost use Rattle.std.specs.List.{AllByRecursion};
@@ -33,48 +32,48 @@ ghost use Rattle.lam_scope.specs.Renames.{HasName, AreRenamed, IsRefused, answer
 ghost use Rattle.lam_scope.specs.Nesting.{AreNested, AreSpelledFrom, AreNamedFrom, IsInnermost};
 ghost use Rattle.lam_scope.specs.Tables.{Table, table, Entry, entry_names, bound_to, binder_numbered, place_row_numbered, visible_at, place_at, binder_at, use_tokens};
 
-/// The table of commands and their nameless form have as many places, and the binders that a place sees in the table take
-/// their types from where the nameless form says, the outermost first.
+/// The table of commands and their nameless form have equally many subterms, and the binders in scope at a subterm by the table
+/// have the origins that the nameless form gives, outermost first.
 pub fn one_sight()
     ensures places { (cs : List CommandTree) → length (table cs).places ≡ length (places_of [] (statements [] [] cs)) }
     ensures sights { (cs : List CommandTree) (n : ℕ) → map (λ b. (binder_numbered (table cs) b).origin) (visible_at (table cs) n) ≡ reverse (sight_numbered (statements [] [] cs) n) }
 {}
 
-/// The names and the types of what a term sees belong together. Of the binders that the table tells of a place, the outermost
-/// first, the names are those that its term sees, and what they take their types from is what its scope says, one by one. The
-/// lambda or the term that a binder takes its type from sees just the binders outside of it.
+/// The names and the types in scope for a term belong together. Of the binders that the table puts in scope at a subterm,
+/// outermost first, the names are those in scope for its term, and the bindings are those of its scope, one by one. The lambda or
+/// the term that gives a binder its type has just the outer binders in scope.
 pub fn one_scope()
     ensures names { (cs : List CommandTree) (n : ℕ) → map (λ b. (binder_numbered (table cs) b).name) (visible_at (table cs) n) ≡ reverse (term_of (tree_in (document_terms cs) n)).names }
     ensures bindings { (cs : List CommandTree) (n : ℕ) → map (λ b. binding_from (statements [] [] cs) (binder_numbered (table cs) b).origin) (visible_at (table cs) n) ≡ reverse (place_numbered (statements [] [] cs) n).scope }
     ensures origins { (cs : List CommandTree) (n : ℕ) → AreOriginsOf (statements [] [] cs) (sight_numbered (statements [] [] cs) n) (place_numbered (statements [] [] cs) n).scope }
 {}
 
-/// The first place that has a byte is the innermost: each other place that has it is around it. That is so where of two
-/// places the earlier stands within the later, or ends where that has not begun, as those of any text do: of commands
-/// that are spelled by tokens one behind the other.
+/// The first subterm that contains a byte is the innermost: every other one that contains it encloses it. This requires that of
+/// two subterms the earlier lies within the later or ends before it begins, which holds for any text: for commands derived from
+/// tokens that come one after another.
 pub fn innermost_place()
     ensures spelled { (cs : List CommandTree) → AreSpelledFrom 0 cs → AreNested (table cs).places }
     ensures innermost { (t : Table) (offset p : ℕ) → AreNested t.places → place_at t offset ≡ Some p → IsInnermost offset t p }
 {}
 
-/// The list of a document's terms is what the table and the nameless form are of: as many rows as terms, the row of each
-/// number tells of the term of that number, and the places of the statements are those of the terms.
+/// The table and the nameless form are both about the list of a document's terms: there are as many rows as terms, each row
+/// describes the term with the same index, and the subterms of the statements are those of the terms.
 pub fn one_term()
     ensures rows { (cs : List CommandTree) (n : ℕ) → IsRowOf (table cs) (document_terms cs) (place_row_numbered (table cs) n) (tree_in (document_terms cs) n) }
     ensures as_many { (cs : List CommandTree) → length (table cs).places ≡ length (document_terms cs) }
     ensures places { (cs : List CommandTree) → places_of [] (statements [] [] cs) ≡ map (λ t. (term_of t).place) (document_terms cs) }
 {}
 
-/// Of any binders of names that a term sees, the one that a use is told to have is the one that its count names, and it
-/// has none where the count is none.
+/// Given the binders of names in scope for a term, a use is reported to be bound to the binder that its de Bruijn index selects,
+/// and to be unbound where it has no index.
 pub fn one_binder()
     ensures bound { (x : Name) (seen : List Entry) (n : ℕ) (e : Entry) → count x (entry_names seen) ≡ Some n → get_or seen n e ≡ e → bound_to x seen ≡ Some e.answer }
     ensures unbound { (x : Name) (seen : List Entry) → count x (entry_names seen) ≡ None → bound_to x seen ≡ None }
 {}
 
-/// A type name stands for the abbreviation that it is told to be bound to: the last one of the name in the commands before,
-/// expanded over the abbreviations before that one. Where it is told to be unbound, it is at fault and stands for no type.
-/// What a command states, it states with the abbreviations in the commands before it.
+/// A type name stands for the abbreviation that it is reported to be bound to: the last one of that name in the commands before,
+/// expanded with the abbreviations before that one. If it is reported to be unbound, it gets a diagnostic and stands for no type.
+/// A command is resolved with the abbreviations of the commands before it.
 pub fn one_abbreviation()
     ensures stated { (before after : List CommandTree) (c : CommandTree) → statement_numbered (statements [] [] (before ++ c ∷ after)) (length before) ≡ statement (abbreviations_seen_after before) (binders_seen_after before) c }
     ensures bound { (cs before : List CommandTree) (x : Name) (s : Span) (high n : ℕ) → Ascend 0 (mentions cs) high → IsTypeNameIn cs before x s → binder_at (table cs) s.start ≡ Some n → IsLastAbbreviation before x (binder_numbered (table cs) n).token (meant_after before x s) }
@@ -82,31 +81,30 @@ pub fn one_abbreviation()
     ensures faults { (cs before : List CommandTree) (x : Name) (s : Span) (high : ℕ) → Ascend 0 (mentions cs) high → IsTypeNameIn cs before x s → (Contains (faults [] cs) (UnboundTypeName s) ↔ (binder_at (table cs) s.start ≡ None)) }
 {}
 
-/// The uses of a table tell the counts of the nameless form, one after the other in the order of the text, and none is left
-/// behind the last command.
+/// The uses of a table give the de Bruijn indices of the nameless form, one after another in text order, and none is left after
+/// the last command.
 pub fn one_count()
     ensures counts { (cs : List CommandTree) → statements_counted [] cs (table cs).uses ≡ statements [] [] cs }
     ensures left { (cs : List CommandTree) → past_commands cs (table cs).uses ≡ [] }
 {}
 
-/// No written type is at fault just where each of them stands for a type.
+/// No written type gets a diagnostic if and only if each of them stands for a type.
 pub fn faultless_is_expanded()
     ensures { (cs : List CommandTree) → ((faults [] cs ≡ []) ↔ IsExpanded (statements [] [] cs)) }
 {}
 
-/// The names, type names and labels of a text come one behind the other, each with a byte: so at most one begins at a byte,
-/// and each use stands behind its binder. That is so of commands that are spelled by tokens of which the names stand one
-/// behind the other, as they do where all tokens do.
+/// The names, type names and labels of a text come one after another and are not empty: so at most one begins at a byte, and each
+/// use comes after its binder. This holds for commands derived from tokens if the names among these come one after another, as
+/// they do where all tokens do.
 pub fn mentions_ascend()
     ensures spelled { (cs : List CommandTree) → AreSpelledFrom 0 cs → AreNamedFrom 0 cs }
     ensures ascend { (cs : List CommandTree) → AreNamedFrom 0 cs → (high : ℕ) × Ascend 0 (mentions cs) high }
     ensures behind { (cs : List CommandTree) (high : ℕ) → Ascend 0 (mentions cs) high → AllByRecursion IsBehindBinder (mentions cs) }
 {}
 
-/// What the table tells of the names and type names of a text is what its mentions tell, where these, its labels among them,
-/// stand one behind the other: what the name that starts at a byte is bound to, a label being bound to nothing; and which are
-/// the uses of a binder that some name is bound to. Such a binder has a name, and is itself the answer for it; and all that is
-/// bound to it is of its kind, names or type names.
+/// The table and the mentions of a text agree if the mentions, labels included, come one after another: on what the name that
+/// starts at a byte is bound to (a label is bound to nothing), and on the uses of a binder that some name is bound to. Such a
+/// binder has a name and is the one reported for itself; and all that is bound to it is of its kind, names or type names.
 pub fn mentions_are_rows()
     ensures bound { (cs : List CommandTree) (high o : ℕ) → Ascend 0 (mentions cs) high → option_map (λ n. (binder_numbered (table cs) n).token) (binder_at (table cs) o) ≡ bound_at o (mentions cs) }
     ensures uses { (cs : List CommandTree) (high o n : ℕ) → Ascend 0 (mentions cs) high → binder_at (table cs) o ≡ Some n → use_tokens n (table cs).uses ≡ uses_of (binder_numbered (table cs) n).token (mentions cs) }
@@ -114,18 +112,18 @@ pub fn mentions_are_rows()
     ensures kinds { (cs : List CommandTree) (high o n : ℕ) → Ascend 0 (mentions cs) high → binder_at (table cs) o ≡ Some n → AllByRecursion (λ m. binder_of m ≡ Some (binder_numbered (table cs) n).token → kind_of m ≡ kind_of_binder cs n) (mentions cs) }
 {}
 
-/// The nameless form of commands tells nothing of places.
+/// The nameless form of commands does not depend on byte offsets.
 pub fn forms_have_no_places()
     ensures { (cs : List CommandTree) (place : ℕ → ℕ) (letters : Letters) → forms (map (respelled_command place letters) cs) ≡ forms (map (respelled_command (λ o. o) letters) cs) }
 {}
 
-/// To give a binder of a text and its uses a new name is to put it at their tokens: at these alone, so that no label changes.
+/// To rename a binder of a text and its uses is to replace their tokens and no others, so no label changes.
 pub fn renamed_at_tokens()
     ensures { (cs : List CommandTree) (o n : ℕ) (new : Name) → AreSpelledFrom 0 cs → binder_at (table cs) o ≡ Some n → map (respelled_command (λ o. o) (renaming ((binder_numbered (table cs) n).token ∷ use_tokens n (table cs).uses) new)) cs ≡ renamed n new cs }
 {}
 
-/// To a new name for a binder there is just one answer: the tokens that get it, or one of the three refusals. A refusal for
-/// want of memory says nothing of the new name.
+/// A request to rename a binder has just one answer: the tokens to replace, or one of the three refusals. An error of allocation
+/// says nothing about the new name.
 pub fn one_answer_to_a_rename()
     ensures some { (cs : List CommandTree) (n : ℕ) (new : Name) → ((spans : List Span) × AreRenamed cs n new spans) ⊎ ((fault : RenameFault) × (fault ≢ Memory) × IsRefused cs n new fault) }
     ensures tokens { (cs : List CommandTree) (n : ℕ) (new : Name) (spans others : List Span) → AreRenamed cs n new spans → AreRenamed cs n new others → spans ≡ others }
@@ -133,17 +131,17 @@ pub fn one_answer_to_a_rename()
     ensures apart { (cs : List CommandTree) (n : ℕ) (new : Name) (spans : List Span) (fault : RenameFault) → AreRenamed cs n new spans → IsRefused cs n new fault → fault ≡ Memory }
 {}
 
-/// Another label in the place of one that a projection asks for, which stands nowhere else: this projection asks for it, of
-/// the same term, and all terms in front of it stay as they were, and so does the first written type that is too large.
+/// Replaces a projection's label, at its byte offset and nowhere else. The projection then asks the same term for the new label;
+/// all terms before it, and the first written type over the size limit, stay as they were.
 pub fn a_label_is_free()
     ensures number { (cs : List CommandTree) (o : ℕ) (l : Label) → projection_at o (labelled o l cs) ≡ projection_at o cs }
     ensures labelled { (cs : List CommandTree) (high o n : ℕ) (l : Label) → Ascend 0 (mentions cs) high → projection_at o cs ≡ Some n → AreLabelled cs (labelled o l cs) n l }
 {}
 
-/// What a command means depends on nothing but what its free names and its type names mean. Where the type names of a written
-/// type stand for the same among other abbreviations, its expansion and its faults are the same there; and of the written types
-/// of a command so are the faults and the first one that is too large. Where the free names of a term, too, mean the same among
-/// other binders, which have a context of their own, its form there is alike; and so is what a command states.
+/// What a command means depends only on what its free names and its type names mean. If the type names of a written type stand
+/// for the same in two environments, its expansion and its diagnostics are the same in both, and so are a command's diagnostics
+/// of written types and its first written type over the size limit. If also the free names of a term mean the same under other
+/// binders, in a context of their own, then the term's two forms are alike, and so is what a command states.
 pub fn free_names_decide()
     ensures expansions { (bs cs : List Abbreviation) (u : TypeTree) → StandForTheSame (free_type_names_in u) bs cs → expansion bs u ≡ expansion cs u }
     ensures faults { (bs cs : List Abbreviation) (u : TypeTree) → StandForTheSame (free_type_names_in u) bs cs → type_faults bs u ≡ type_faults cs u }

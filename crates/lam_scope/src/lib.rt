@@ -1,24 +1,24 @@
-//! Who binds what: the binders of names and of type names, the uses of each, what each place sees, the nameless form
-//! of a document's commands and the expansions of its written types.
+//! Name resolution: the binders of names and of type names, the uses of each, what is in scope at each subterm, the nameless (de
+//! Bruijn) form of a document's commands, and the expansions of its written types.
 //!
-//! `bind` reads the commands and borrows nothing of them. `resolve` gives the terms that typing speaks of. `free_names` and
-//! `intern_command` read one command by itself.
+//! `bind` reads the commands and borrows nothing from them. `resolve` returns the terms that typing works on. `free_names` and
+//! `intern_command` handle one command by itself.
 //!
-//! Binding: `walk` fills the tables of `rows`, with the binders in sight on a stack (`seen`, over `names` and
-//! `name_stack`); `room` counts the rows first. `use_chains` and `token_lists` give each binder its uses, `stretches`
-//! and `row_stretches` the search by a byte; `scopes` reads the tables, `own_words` finds the place of a variable or of a
-//! projection by its token, and `renaming` tells whether a binder and its uses can have another name.
+//! Binding: `walk` fills the tables of `rows`, keeping the binders in scope on a stack (`seen`, built on `names` and
+//! `name_stack`); `room` counts the rows first. `use_chains` and `token_lists` collect the uses of each binder, `stretches` and
+//! `row_stretches` make look-ups by byte offset fast; `scopes` queries the tables, `own_words` finds a variable or a projection
+//! by its token, and `renaming` decides whether a binder and its uses can have another name.
 //!
-//! Resolving: `resolver` takes command by command, `nameless` makes a term's form, `expansion` a written type's over
-//! the `abbreviations` in sight, `uses_left` hands on the counts. `resolved` keeps the result, `search` finds a place's
-//! term in it.
+//! Resolving: `resolver` goes command by command, `nameless` builds the form of a term and `expansion` that of a written type,
+//! using the `abbreviations` in scope; `uses_left` supplies the de Bruijn indices. `resolved` holds the result, and `search`
+//! finds a subterm in it.
 //!
 //! One command by itself: `command_names` lists the names that it takes from outside (`found_names` keeps each once). An
-//! `environment` has what it sees, names (`few_names`) and type names with numbers of a table of types (`type_names`).
-//! `commands` gives its form over that table (`interned`), in which an abbreviation of thousands of nodes is one number:
-//! `interning` forms a term of parts (`making`), `interning_types` puts written types into the table.
+//! `environment` holds what is in scope for it: names (`few_names`), and type names with ids of a type table (`type_names`).
+//! `commands` builds its form over that table (`interned`), in which an abbreviation of thousands of nodes is one id: `interning`
+//! builds terms from their parts (`making`), `interning_types` adds written types to the table.
 //!
-//! Nothing here knows tokens but for their spans, types of terms, subtyping, or positions in lines.
+//! Nothing here knows types of terms, subtyping, line and column positions, or more of a token than its span.
 #![tactic(auto)]
 
 mod abbreviations;

@@ -1,4 +1,4 @@
-//! Interned terms, made of their parts.
+//! Constructors of interned terms from their parts.
 ghost use Rattle.std.specs.Prelude.{◌≡◌, IfOk};
 ghost use Rattle.lam_scope.specs.Numbered.{if_then_else, lambda, apply, ascribe, let_in, project, fix};
 ghost use Rattle.lam_scope.specs.InternedViews.{numbered_of};
@@ -9,7 +9,7 @@ use lam_rules::TyNo;
 use lam_syntax::Prefix;
 use std::alloc::{AllocError, Global};
 
-/// An if: its condition, the term where that is true, and the other.
+/// Makes an if.
 #[tactic(auto, using(crate::proofs::InternedShapes::numbered_shapes))]
 pub(crate) fn make_if<'a>(
     alloc: Global,
@@ -25,7 +25,7 @@ pub(crate) fn make_if<'a>(
     Ok(InternedTerm::If(first, second, third))
 }
 
-/// A lambda: the number of what is written, or none where that stands for no type, and the term under the binder.
+/// Makes a lambda. `written` is the id of the parameter's type, or `None` if the written type stands for no type.
 #[tactic(auto, using(crate::proofs::InternedShapes::numbered_shapes))]
 pub(crate) fn make_lambda<'a>(
     alloc: Global,
@@ -37,7 +37,7 @@ pub(crate) fn make_lambda<'a>(
     Ok(InternedTerm::Abs(written, Box::new(alloc, body)?))
 }
 
-/// A function and its argument.
+/// Makes an application.
 #[tactic(auto, using(crate::proofs::InternedShapes::numbered_shapes))]
 pub(crate) fn make_application<'a>(
     alloc: Global,
@@ -51,7 +51,7 @@ pub(crate) fn make_application<'a>(
     Ok(InternedTerm::App(first, second))
 }
 
-/// A term and the number of what is ascribed to it, as in a lambda.
+/// Makes an ascription. `written` is as for a lambda.
 #[tactic(auto, using(crate::proofs::InternedShapes::numbered_shapes))]
 pub(crate) fn make_ascription<'a>(
     alloc: Global,
@@ -63,7 +63,7 @@ pub(crate) fn make_ascription<'a>(
     Ok(InternedTerm::Ascribe(Box::new(alloc, operand)?, written))
 }
 
-/// A let: the term that is bound, and the one under its binder.
+/// Makes a let.
 #[tactic(auto, using(crate::proofs::InternedShapes::numbered_shapes))]
 pub(crate) fn make_let<'a>(
     alloc: Global,
@@ -77,7 +77,7 @@ pub(crate) fn make_let<'a>(
     Ok(InternedTerm::Let(first, second))
 }
 
-/// What `letrec x:T = bound in body` stands for, as `lam_rules` makes it.
+/// Makes what `letrec x:T = bound in body` stands for, as `lam_rules` does.
 pub(crate) fn make_letrec<'a>(
     alloc: Global,
     written: Option<TyNo>,
@@ -91,7 +91,7 @@ pub(crate) fn make_letrec<'a>(
     make_let(alloc, fixed, body)
 }
 
-/// A record and the label that is asked of it.
+/// Makes a projection of a label.
 #[tactic(auto, using(crate::proofs::InternedShapes::numbered_shapes))]
 pub(crate) fn make_projection<'a>(
     alloc: Global,
@@ -103,7 +103,7 @@ pub(crate) fn make_projection<'a>(
     Ok(InternedTerm::Proj(Box::new(alloc, operand)?, label))
 }
 
-/// A word before a term.
+/// Makes a term with a prefix keyword.
 #[tactic(auto, using(crate::proofs::InternedShapes::numbered_shapes))]
 pub(crate) fn make_prefixed<'a>(
     alloc: Global,

@@ -1,4 +1,4 @@
-//! The stack of names and its index, as they grow and shrink together.
+//! The operations that keep a stack of names and its index in step.
 ghost use Rattle.std.specs.Prelude.{◌≡◌, ◌∷◌, Some, IsSome, IfOk, OnOk, OnErr};
 ghost use Rattle.std.specs.Option.{option_map};
 ghost use Rattle.lam_scope.specs.Names.{Name, count};
@@ -9,7 +9,7 @@ use crate::names::Named;
 use std::alloc::AllocError;
 use std::collections::HashMap;
 
-/// Puts a binder on top.
+/// Pushes a binder.
 pub(crate) fn enter_in<'a>(
     stack: &mut Vec<Named<'a>>,
     innermost: &mut HashMap<&'a str, Option<usize>>,
@@ -21,14 +21,14 @@ pub(crate) fn enter_in<'a>(
     ensures unchanged { OnErr result (stack.new.items ≡ stack.old.items) }
 {
     let index = stack.len();
-    // With its room made first the push cannot fail, and leave the index with a binder that does not stand there.
+    // Reserving first means that the push can't fail and leave the index pointing at a binder that is not on the stack.
     stack.reserve(1)?;
     let shadowed = set_innermost(innermost, name, index)?;
     stack.push(Named { name, shadowed })?;
     Ok(())
 }
 
-/// Tells where the innermost binder of a name stands, and answers where it stood before.
+/// Records the position of the innermost binder of a name, and returns the position that it replaces.
 fn set_innermost<'a>(
     innermost: &mut HashMap<&'a str, Option<usize>>,
     name: Option<&'a str>,
@@ -47,7 +47,7 @@ fn set_innermost<'a>(
     }
 }
 
-/// Takes the binder from the top, so that its name is again what it was before.
+/// Pops the top binder and restores the position that its name had before.
 pub(crate) fn leave_in<'a>(
     stack: &mut Vec<Named<'a>>,
     innermost: &mut HashMap<&'a str, Option<usize>>,
@@ -64,7 +64,7 @@ pub(crate) fn leave_in<'a>(
     }
 }
 
-/// Tells where the innermost binder of a name stood before.
+/// Restores the earlier position of the innermost binder of a name.
 fn reset_innermost(innermost: &mut HashMap<&str, Option<usize>>, name: &str, before: Option<usize>)
     requires { IsSome (found_in innermost.old name.now) }
     ensures { (x : Name) → found_in innermost.new x ≡ reset (Some name.now) before (found_in innermost.old) x }
@@ -74,7 +74,7 @@ fn reset_innermost(innermost: &mut HashMap<&str, Option<usize>>, name: &str, bef
     }
 }
 
-/// How many binders stand on the innermost one of a name.
+/// Returns the number of binders above the innermost one of a name.
 pub(crate) fn count_in(
     stack: &[Named<'_>],
     innermost: &HashMap<&str, Option<usize>>,
@@ -89,7 +89,7 @@ pub(crate) fn count_in(
     }
 }
 
-/// Where the innermost binder of a name stands.
+/// Returns the position of the innermost binder of a name.
 fn position_in(innermost: &HashMap<&str, Option<usize>>, name: &str) -> Option<usize>
     ensures { result ≡ found_in innermost.now name.now }
 {

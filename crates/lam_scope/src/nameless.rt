@@ -1,5 +1,5 @@
-//! The nameless forms of terms. Each level of nesting takes the frame of the match and of one arm, so that the deepest
-//! term of a command fits on the stack.
+//! The nameless forms of terms. Each level of nesting takes the stack frames of the match and of one arm only, so that the
+//! deepest term of a command fits on the stack.
 ghost use Rattle.std.specs.Prelude.{◌≡◌, ◌++◌, ◌∷◌, [], IfOk, OnOk};
 ghost use Rattle.lam_syntax.specs.Letters.{letters};
 ghost use Rattle.lam_rules.specs.TermViews.{term_of, terms_of, written_of};
@@ -24,18 +24,18 @@ use lam_syntax::{
 };
 use std::alloc::{AllocError, Global};
 
-/// What the forms of terms are made with, and what is found beside them.
+/// What forms are made with, and the diagnostics found along the way.
 #[derive(Drop)]
 pub(crate) struct Forming<'a> {
     pub(crate) alloc: Global,
-    /// Those of the terms that have no form yet.
+    /// The uses of names that were not reached yet.
     pub(crate) uses: UsesLeft<'a>,
-    /// Of the written types of the terms that have one.
+    /// The diagnostics of the written types that were resolved.
     pub(crate) faults: Vec<TypeFault>,
 }
 
-/// The nameless form of a term that sees these abbreviations. Its uses are the first of those that are left, and are
-/// passed. The faults of its written types are put behind those before them, and the first that is too large is refused.
+/// Returns the nameless form of a term under these abbreviations. Consumes the term's uses, which are the first of those left,
+/// and appends the diagnostics of its written types. The first written type over the size limit is an error.
 #[cycle(nameless)]
 #[tactic(auto, using(crate::proofs::Forms::node_forms))]
 pub(crate) fn nameless(
@@ -63,8 +63,8 @@ pub(crate) fn nameless(
     }
 }
 
-/// What a written type stands for, with its uses and faults as those of a term. Where it is too large it is refused for
-/// its size, before any of it is built.
+/// Returns what a written type stands for, consuming its uses and appending its diagnostics as for a term. If it is over the size
+/// limit that is an error, before any of it is built.
 #[tactic(auto, using(crate::proofs::Forms::type_forms))]
 pub(crate) fn nameless_type(
     forming: &mut Forming<'_>,
@@ -243,7 +243,7 @@ fn nameless_fields(
     Ok(forms)
 }
 
-/// The count of a use, or its name where it is unbound.
+/// The de Bruijn index of a use, or its name if it is unbound.
 #[tactic(auto, using(crate::proofs::Forms::use_forms))]
 fn use_of(alloc: Global, name: &Identifier, uses: &mut UsesLeft<'_>) -> Result<Core, AllocError>
     ensures form { IfOk result (λ e. term_of e ≡ use_counted (letters name.now.text) (first_between uses.old)) }

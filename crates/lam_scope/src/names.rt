@@ -1,4 +1,4 @@
-//! The binders of names that a term sees.
+//! The binders of names in scope for a term.
 ghost use Rattle.std.specs.Prelude.{◌≡◌, ◌∷◌, [], IfOk, OnOk, OnErr};
 ghost use Rattle.lam_syntax.specs.Letters.{letters};
 ghost use Rattle.std.specs.Option.{option_map};
@@ -11,19 +11,19 @@ use std::alloc::{AllocError, Global};
 use std::collections::HashMap;
 use std::marker::Model;
 
-/// A binder on a stack: its name, if it is no underscore, and where the binder stands that the name had before.
+/// A binder on the stack: its name, unless it is an underscore, and the position of the binder that it shadows, if any.
 #[derive(Drop)]
 pub(crate) struct Named<'a> {
     pub(crate) name: Option<&'a str>,
     pub(crate) shadowed: Option<usize>,
 }
 
-/// The names of the binders that a term sees. A clause sees them as a list, the innermost first.
+/// The names of the binders in scope for a term. Contracts see them as a list, innermost first.
 #[derive(Drop)]
 pub(crate) struct Names<'a> {
-    /// The innermost last.
+    /// Innermost last.
     stack: Vec<Named<'a>>,
-    /// Where the innermost binder of each name stands in the stack, so that no look-up walks the binders between.
+    /// The position on the stack of the innermost binder of each name, so that a look-up does not walk the stack.
     innermost: HashMap<&'a str, Option<usize>>,
 }
 
@@ -40,7 +40,7 @@ impl<'a> Model for Names<'a> {
 }
 
 impl<'a> Names<'a> {
-    /// No binder is seen.
+    /// No binder is in scope.
     #[tactic(auto, using(crate::proofs::NameStacks::name_stacks))]
     pub(crate) fn new(alloc: Global) -> Names<'a>
         ensures { result ≡ [] }
@@ -51,7 +51,7 @@ impl<'a> Names<'a> {
         }
     }
 
-    /// No binder is seen, and there is room for so many: names that grow take up to three times the memory.
+    /// No binder is in scope, and there is room for this many: growing takes up to three times the memory.
     #[tactic(auto, using(crate::proofs::NameStacks::name_stacks))]
     pub(crate) fn with_capacity(alloc: Global, capacity: usize) -> Result<Names<'a>, AllocError>
         ensures { IfOk result (λ n. n ≡ []) }
@@ -62,7 +62,7 @@ impl<'a> Names<'a> {
         })
     }
 
-    /// One more binder is seen, inside of the others. An underscore has no name.
+    /// Brings one more binder into scope, innermost. The name of an underscore is `None`.
     pub(crate) fn enter(&mut self, name: Option<&'a str>) -> Result<(), AllocError>
         ensures entered { OnOk result (self.new ≡ option_map (λ x. x.now) name.entry ∷ self.old) }
         ensures unchanged { OnErr result (self.new ≡ self.old) }
@@ -70,14 +70,14 @@ impl<'a> Names<'a> {
         enter_in(&mut self.stack, &mut self.innermost, name)
     }
 
-    /// The innermost binder is seen no more.
+    /// Takes the innermost binder out of scope.
     pub(crate) fn leave(&mut self)
         ensures { self.new ≡ outside self.old }
     {
         leave_in(&mut self.stack, &mut self.innermost)
     }
 
-    /// How many binders stand between a use of the name and its own.
+    /// Returns the de Bruijn index of a use of the name, or `None` if it is unbound.
     pub(crate) fn count(&self, name: &str) -> Option<usize>
         ensures { result ≡ count name.now self.now }
     {
@@ -85,14 +85,14 @@ impl<'a> Names<'a> {
     }
 }
 
-/// The name of a binder, if it is no underscore.
+/// Returns the name of a binder, unless it is an underscore.
 pub(crate) fn name_of<'a>(binder: &'a Binder) -> Option<&'a Text>
     ensures { option_map (λ x. letters x.now) result ≡ option_map (λ s. letters s) binder.now.name }
 {
     binder.name.as_ref()
 }
 
-/// The letters of a name, if there is one.
+/// Returns the letters of a name, if there is one.
 pub(crate) fn text_of<'a>(name: Option<&'a Text>) -> Option<&'a str>
     ensures { option_map (λ x. x.now) result ≡ option_map (λ x. letters x.now) name.entry }
 {

@@ -1,23 +1,23 @@
-//! The numbers that places and binders go by.
+//! The indices that identify subterms and binders.
 
-/// A term of a command, by its number from 0: parts are numbered from left to right, and the term behind them.
+/// A subterm of a document's commands, by its zero-based index: parts come from left to right, and each term after its parts.
 #[derive(Clone, Copy, Debug, PartialEq, Eq)]
 pub struct Place(pub usize);
 
-/// A binder of a name or of a type name, by its number from 0 in the order of the text. The one token of a letrec is
-/// two binders: that of the derived lambda, and behind it that of the let.
+/// A binder of a name or of a type name, by its zero-based index in text order. The one token of a letrec is two binders: first
+/// that of the derived lambda, then that of the let.
 #[derive(Clone, Copy, Debug, PartialEq, Eq)]
 pub struct Binder(pub usize);
 
 /// Where a binder takes its type from.
 #[derive(Clone, Copy, Debug, PartialEq, Eq)]
 pub enum Origin {
-    /// The written type of the lambda at that place.
+    /// The written type of this lambda.
     Lambda(Place),
-    /// The term at that place, of a let or of `name = term`.
+    /// This term, which a let or `name = term` binds.
     Term(Place),
-    /// The written type of the statement of that number, counted from 0: `name : type`.
+    /// The written type of `name : type`, the statement with this zero-based index.
     Declaration(usize),
-    /// Nowhere: it binds a type name.
+    /// Nothing: the binder is one of a type name.
     TypeName,
 }

@@ -1,4 +1,4 @@
-//! The search for the term whose own token begins at a byte.
+//! The search for a variable or a projection by the byte offset of its token.
 ghost use Rattle.std.specs.Prelude.{◌≡◌, length, map, position, false};
 ghost use Rattle.lam_syntax.specs.Views.{term_of, fields_of, command_of};
 ghost use Rattle.lam_scope.specs.PlacedTerms.{name_at, label_at, document_terms, term_of as placed_of};
@@ -7,21 +7,21 @@ ghost use Rattle.lam_scope.specs.inner.OwnWords.{words_in, words_in_fields, comm
 use lam_syntax::{Command, Tm, TmField, TmNode};
 use lam_token::Span;
 
-/// What is sought: the variable whose token begins at that byte, or the projection whose label's does.
+/// What is searched for: the variable whose token begins at a byte offset, or the projection whose label's does.
 #[derive(Clone, Copy)]
 pub(crate) enum Target {
     Variable(usize),
     Projection(usize),
 }
 
-/// What a search came to, by how many places are left: from the one that was found on, or behind all those searched.
+/// The state of a search: the number of subterms left, from the one found on, or after all those searched.
 #[derive(Clone, Copy)]
 pub(crate) enum Reached {
     Here(usize),
     Behind(usize),
 }
 
-/// The number of the place that is sought in these commands, which have so many places.
+/// Returns the index of the subterm that is searched for. `places` is the number of subterms of the commands.
 pub(crate) fn find_number(target: Target, commands: &[Command], places: usize) -> Option<usize>
     requires { places ≡ length (document_terms (map command_of commands.now)) }
     ensures { result ≡ position (λ t. is_target target (placed_of t).own) (document_terms (map command_of commands.now)) }
@@ -29,7 +29,7 @@ pub(crate) fn find_number(target: Target, commands: &[Command], places: usize) -
     number_of(places, find_in_commands(target, commands, places))
 }
 
-/// The number of the place that a search found, where there are so many places.
+/// Returns the index of the subterm that a search found, out of `places` subterms.
 fn number_of(places: usize, reached: Reached) -> Option<usize>
     ensures { result ≡ number_of places reached }
 {
@@ -63,7 +63,7 @@ fn find_in_command(target: Target, reached: Reached, command: &Command) -> Reach
     }
 }
 
-/// The search goes on in a term: in its parts, from left to right, and then at its own token.
+/// Continues the search in a term: in its parts, from left to right, and then at its own token.
 #[cycle(words)]
 #[tactic(auto, using(crate::proofs::OwnWords::seeking))]
 fn find_word(target: Target, reached: Reached, term: &Tm) -> Reached
@@ -121,14 +121,14 @@ fn find_in_fields(target: Target, reached: Reached, fields: &[TmField]) -> Reach
     after
 }
 
-/// The search comes to a term that has no own token.
+/// Passes a term without a token of its own.
 fn past(reached: Reached) -> Reached
     ensures { result ≡ at_word reached false }
 {
     at_word(reached, false)
 }
 
-/// The search comes to a term's own token, which is the one that is sought or not.
+/// Passes a term's own token, which may be the one searched for.
 fn at_word(reached: Reached, is_sought: bool) -> Reached
     ensures { result ≡ at_word reached is_sought }
 {

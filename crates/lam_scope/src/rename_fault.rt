@@ -1,17 +1,17 @@
-//! Why a binder is not renamed.
+//! Errors of renaming a binder.
 ghost use Rattle.std.specs.Prelude.{◌≡◌};
 ghost use Rattle.lam_scope.specs.declared.rename_fault.RenameFault.TheVariants.{Memory};
 
 use std::alloc::{AllocError, AllocFailed};
 
-/// Why a binder and its uses do not get a new name.
+/// Why a binder and its uses can't be renamed.
 #[derive(Clone, Copy, Debug, PartialEq, Eq)]
 pub enum RenameFault {
     /// The new name is neither a name nor a type name.
     NotAName,
-    /// It is a type name, and the binder is one of a name, or the other way round.
+    /// The new name is a type name and the binder is one of a name, or the other way round.
     WrongKind,
-    /// With it some name or type name would be bound elsewhere.
+    /// With the new name, some name or type name would be bound differently.
     ChangesBinding,
     Memory,
 }

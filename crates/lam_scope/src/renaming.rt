@@ -1,4 +1,4 @@
-//! Renaming a binder with its uses.
+//! Renaming a binder together with its uses.
 ghost use Rattle.std.specs.Prelude.{◌≡◌, ◌↔◌, ◌∷◌, List, length, map, slice_index_or, [], IfOk, IfErr, IsTrue};
 ghost use Rattle.std.specs.Option.{option_map};
 ghost use Rattle.std.specs.List.{list_all};
@@ -22,9 +22,9 @@ use lam_token::{Kind, Span, is_name, is_type_name};
 use std::alloc::{AllocError, Global};
 
 impl Scopes {
-    /// The tokens of a binder and of its uses, in the order of the text, where these can have the new name: it is a name
-    /// where the binder is one of names, a type name where it is one of type names, and each name and type name is then
-    /// bound as it was. The name may stay the old one. The binder is no underscore. Of several causes the first refuses.
+    /// Returns the tokens to replace to rename a binder, in text order: its own and those of its uses. The new name must be a
+    /// name for a binder of names and a type name for a binder of type names, and must leave each name and type name bound as it
+    /// was; the first of these that fails is the error. It may be the old name. The binder must not be an underscore.
     #[tactic(auto, using(crate::proofs::RenamedBinders::bound_kind))]
     pub fn rename(&self, alloc: Global, binder: Binder, new: &str) -> Result<Vec<Span>, RenameFault>
         ensures renamed { (commands : List CommandTree) → AreScopesOf self.now commands → HasName commands binder.0 → IfOk result (λ spans. AreRenamed commands binder.0 new.now spans.items) }
@@ -42,7 +42,7 @@ impl Scopes {
         Ok(spans)
     }
 
-    /// The token of a binder, and behind it those of its uses.
+    /// Returns the token of a binder, followed by those of its uses.
     fn with_uses(&self, alloc: Global, binder: Binder) -> Result<Vec<Span>, AllocError>
         ensures { IfOk result (λ spans. spans.items ≡ (binder_numbered (table_of self.now) binder.0).token ∷ slice_index_or (uses_in self.now) (binder_numbered (table_of self.now) binder.0).answer []) }
     {
@@ -53,7 +53,7 @@ impl Scopes {
     }
 }
 
-/// Whether a binder is one of names or of type names.
+/// Returns whether a binder is one of names or of type names.
 #[tactic(auto, using(crate::proofs::Reading::reading))]
 fn kind_bound(binders: &[BinderRow], binder: Binder) -> Kind
     ensures { result ≡ kind_bound (binder_in (map text_binder binders.now) binder.0).origin }
@@ -76,7 +76,7 @@ fn kind_by(origin: Option<Origin>) -> Kind
     }
 }
 
-/// Whether a whole text is a name, or a type name.
+/// Whether the text is a name, or a type name, according to `kind`.
 fn is_of(kind: Kind, text: &str) -> bool
     requires { IsNameKind kind }
     ensures { IsTrue result ↔ IsOne kind text.now }
@@ -87,7 +87,7 @@ fn is_of(kind: Kind, text: &str) -> bool
     }
 }
 
-/// Why a text that is not of this kind can't be the new name.
+/// Returns why a text that is not of this kind can't be the new name.
 fn unfit(kind: Kind, text: &str) -> RenameFault
     requires name { IsNameKind kind }
     requires other { IsOne kind text.now → ⊥ }
@@ -104,7 +104,7 @@ fn unfit(kind: Kind, text: &str) -> RenameFault
     }
 }
 
-/// Whether each use finds its binder once the one with that answer has the new name.
+/// Whether every use is still bound to its binder once the binders with that answer have the new name.
 fn keeps_binding(alloc: Global, rows: &Rows, answer: Binder, new: &str) -> Result<bool, AllocError>
     ensures { IfOk result (λ keeps. keeps ≡ all_keep answer.0 new.now (rows_of rows.now).binders (rows_of rows.now).uses) }
 {
@@ -112,7 +112,7 @@ fn keeps_binding(alloc: Global, rows: &Rows, answer: Binder, new: &str) -> Resul
     Ok(all_keep(&rows.binders, &bearers, answer, new, &rows.uses))
 }
 
-/// For each binder the answer for the innermost of those from it outwards that bears the new name.
+/// For each binder, the answer of the innermost binder with the new name among itself and those outside of it.
 fn bearers_of(
     alloc: Global,
     binders: &[BinderRow],
@@ -134,7 +134,7 @@ fn bearers_of(
     Ok(found)
 }
 
-/// Whether a binder bears the new name once those with that answer have it.
+/// Whether a binder has the new name once those with that answer are renamed.
 fn bears(row: &BinderRow, answer: Binder, new: &str) -> bool
     ensures { result ≡ bears answer.0 new.now (text_binder row.now) }
 {
@@ -144,7 +144,7 @@ fn bears(row: &BinderRow, answer: Binder, new: &str) -> bool
     }
 }
 
-/// What is told of a binder, if there is one.
+/// Returns the entry of `told` for a binder, if there is a binder.
 fn told_of(told: &[Option<Binder>], binder: Option<Binder>) -> Option<Binder>
     ensures { option_map binder_number result ≡ told_of (map (option_map binder_number) told.now) (option_map binder_number binder) }
 {
@@ -155,7 +155,7 @@ fn told_of(told: &[Option<Binder>], binder: Option<Binder>) -> Option<Binder>
     }
 }
 
-/// Whether each of these uses finds its binder.
+/// Whether each of these uses is still bound to its binder.
 fn all_keep(
     binders: &[BinderRow],
     told: &[Option<Binder>],
@@ -174,7 +174,7 @@ fn all_keep(
     true
 }
 
-/// Whether a use finds its binder: where it bears the new name, that is the innermost one that does.
+/// Whether a use is still bound to its binder: if it has the new name, the innermost binder with that name must be its own.
 fn keeps(
     binders: &[BinderRow],
     told: &[Option<Binder>],
@@ -190,7 +190,7 @@ fn keeps(
     is_answer(told_of(told, used.inner), used.bound)
 }
 
-/// Whether a use bears the new name once those of the binder with that answer have it.
+/// Whether a use has the new name once the binders with that answer are renamed.
 fn takes(binders: &[BinderRow], answer: Binder, new: &str, used: &UseRow) -> bool
     ensures { result ≡ takes answer.0 new.now (map text_binder binders.now) (text_use used.now) }
 {
@@ -220,7 +220,7 @@ fn has_name(binders: &[BinderRow], binder: Binder, new: &str) -> bool
     }
 }
 
-/// Whether the answer is the binder that is bound, or there is neither.
+/// Whether the binder found is the one that the use is bound to, or there is neither.
 fn is_answer(found: Option<Binder>, bound: Option<Bound>) -> bool
     ensures { result ≡ is_answer (option_map binder_number found) (option_map binder_of bound) }
 {

@@ -1,4 +1,4 @@
-//! A document without names.
+//! A document in nameless form.
 ghost use Rattle.std.specs.Prelude.{◌≡◌, ◌<◌, [], map, length};
 ghost use Rattle.lam_rules.specs.TermViews.{term_of};
 ghost use Rattle.lam_scope.specs.Places.{places_of, place_numbered};
@@ -13,14 +13,14 @@ use crate::statement::Statement;
 use crate::type_fault::TypeFault;
 use lam_rules::Core;
 
-/// The commands of a document without their names, where each binder takes its type from, the faults of written types,
-/// and how many places there are. In all its types the labels are distinct, at every depth.
+/// The commands of a document in nameless form, where each binder takes its type from, the diagnostics of written types, and the
+/// number of subterms. Labels are distinct at every depth of its types.
 #[derive(Drop)]
 pub struct Resolved {
     pub(crate) statements: Vec<Statement>,
     pub(crate) origins: Vec<Origin>,
     pub(crate) faults: Vec<TypeFault>,
-    /// How many places the statements have.
+    /// The number of subterms of the statements.
     pub(crate) places: usize,
     ghost places_counted: { places ≡ length (places_of [] (map statement_of statements.items)) },
     pub ghost well_formed: { AreWellFormedStatements (map statement_of statements.items) } by { AreWellFormedStatements-prop (map statement_of statements.items) },
@@ -29,35 +29,35 @@ pub struct Resolved {
 impl Resolved {
     ghost use Rattle.lam_scope.specs.Views.{statements_of, origins_of, faults_of};
 
-    /// What the commands state, in their order.
+    /// Returns what the commands state, in order.
     pub fn statements(&self) -> &[Statement]
         ensures { map statement_of result.now ≡ statements_of self.now }
     {
         &self.statements
     }
 
-    /// Where each binder takes its type from, by its number.
+    /// Returns where each binder takes its type from, by binder index.
     pub fn origins(&self) -> &[Origin]
         ensures { result.now ≡ origins_of self.now }
     {
         &self.origins
     }
 
-    /// The faults of written types, in the order of the text.
+    /// Returns the diagnostics of written types, in text order.
     pub fn faults(&self) -> &[TypeFault]
         ensures { result.now ≡ faults_of self.now }
     {
         &self.faults
     }
 
-    /// How many places the statements have.
+    /// The number of subterms of the statements.
     pub fn place_count(&self) -> usize
         ensures { result ≡ length (places_of [] (statements_of self.now)) }
     {
         self.places
     }
 
-    /// The term of a place. The search for it goes over the places before it.
+    /// Returns the subterm with this index. The search visits the subterms before it.
     pub fn core_at(&self, place: Place) -> &Core
         requires { place.0 < length (places_of [] (statements_of self.now)) }
         ensures { term_of result.now ≡ (place_numbered (statements_of self.now) place.0).here }

@@ -1,4 +1,4 @@
-//! The commands of a document, one after the other.
+//! Resolves the commands of a document one after another.
 ghost use Rattle.std.specs.Prelude.{◌≡◌, ◌++◌, ◌∷◌, [], map, IfOk, OnOk};
 ghost use Rattle.lam_syntax.specs.Views.{command_of};
 ghost use Rattle.lam_scope.specs.Counted.{statement_counted};
@@ -16,7 +16,7 @@ use crate::uses_left::UsesLeft;
 use lam_syntax::Command;
 use std::alloc::{AllocError, Global};
 
-/// What the commands so far state, and what those behind them see.
+/// What the commands so far state, and what is in scope for those after them.
 #[derive(Drop)]
 pub(crate) struct Resolver<'a> {
     pub(crate) abbreviations: Abbreviations<'a>,
@@ -25,7 +25,7 @@ pub(crate) struct Resolver<'a> {
 }
 
 impl<'a> Resolver<'a> {
-    /// No command stands before, and there is room for so many behind. They have these uses.
+    /// A resolver that has read no command, with room for this many. Their uses are `uses`.
     pub(crate) fn with_capacity(
         alloc: Global,
         commands: usize,
@@ -47,7 +47,7 @@ impl<'a> Resolver<'a> {
         })
     }
 
-    /// One more command.
+    /// Resolves the next command and appends its statement.
     #[tactic(auto, using(crate::proofs::Resolving::resolving))]
     pub(crate) fn add(&mut self, command: &'a Command) -> Result<(), ScopeFault>
         ensures statement { OnOk result (map statement_of self.new.statements.items ≡ map statement_of self.old.statements.items ++ statement_counted (abbreviations_of self.old.abbreviations) (command_of command.now) self.old.forming.uses ∷ []) }
@@ -58,7 +58,7 @@ impl<'a> Resolver<'a> {
         Ok(())
     }
 
-    /// What a command states. Those behind it then see the type name that it binds.
+    /// Returns what a command states. The type name that it binds is then in scope for the commands after it.
     #[tactic(auto, using(crate::proofs::Resolving::resolving))]
     fn state(&mut self, command: &'a Command) -> Result<Statement, ScopeFault>
         ensures statement { IfOk result (λ s. statement_of s ≡ statement_counted (abbreviations_of self.old.abbreviations) (command_of command.now) self.old.forming.uses) }

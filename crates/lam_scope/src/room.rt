@@ -1,11 +1,11 @@
-//! How much room the rows of a document take, so that each table is allocated once. No contract rests on it: a table
-//! with too little room grows, and what is spare is given back. But tables that grow beside each other leave behind the
-//! blocks that they grew out of, which together are as large as the tables.
+//! How many rows the tables of a document need, so that each table is allocated once. No contract depends on it: a table with too
+//! little room grows, and spare room is given back. But tables that grow side by side leave behind the blocks that they grew out
+//! of, which together are as large as the tables.
 
 use lam_syntax::{Command, Letrec, Tm, TmField, TmNode};
 
-/// About how many rows of each kind there are: each command counts as a binder, though an evaluation is none, and the
-/// uses of type names are not counted. Counts stop at the largest `usize`.
+/// An estimate of the number of rows of each kind: each command counts as a binder, though an evaluation is none, and the uses of
+/// type names are not counted. The numbers saturate at `usize::MAX`.
 #[derive(Clone, Copy)]
 pub(crate) struct Room {
     pub(crate) binders: usize,
@@ -13,7 +13,7 @@ pub(crate) struct Room {
     pub(crate) places: usize,
 }
 
-/// The room that the rows of these commands take.
+/// Returns the room that the rows of these commands need.
 pub(crate) fn room_of(commands: &[Command]) -> Room {
     let mut room = Room {
         binders: commands.len(),
@@ -66,7 +66,7 @@ fn add_term(room: &mut Room, term: &Tm) {
     }
 }
 
-/// It stands for a let of the fix of a lambda.
+/// A letrec stands for a let of the fix of a lambda.
 #[cycle(room)]
 fn add_letrec(room: &mut Room, term: &Letrec) {
     room.binders = room.binders.saturating_add(2);

@@ -1,10 +1,10 @@
-//! Where the rows of the tables stand in the text.
+//! The byte intervals of the rows of the tables.
 ghost use Rattle.lam_scope.specs.RowStretches.{place_stretch, binder_stretch, use_stretch};
 
 use crate::rows::{BinderRow, PlaceRow, UseRow};
 use crate::stretches::{Stretch, Stretched, no_bytes, one_byte};
 
-/// A place stands at its bytes, if it is written.
+/// The span of a subterm; empty if it is derived.
 impl Stretched for PlaceRow {
     ghost stretch_of = { place_stretch };
 
@@ -22,7 +22,7 @@ impl Stretched for PlaceRow {
     }
 }
 
-/// A binder stands where its token starts, unless it is an underscore.
+/// The first byte of the token; empty for an underscore.
 impl Stretched for BinderRow {
     ghost stretch_of = { binder_stretch };
 
@@ -34,7 +34,7 @@ impl Stretched for BinderRow {
     }
 }
 
-/// A use stands where its token starts.
+/// The first byte of the token.
 impl Stretched for UseRow {
     ghost stretch_of = { use_stretch };
 

@@ -15,15 +15,15 @@ use std::alloc::{AllocError, Global};
 /// A binder of a name or of a type name.
 #[derive(Drop)]
 pub(crate) struct BinderRow {
-    /// An underscore has none.
+    /// `None` for an underscore.
     pub(crate) name: Option<Text>,
     pub(crate) token: Span,
-    /// The binder of its kind just outside of it.
+    /// The next binder of its kind outwards.
     pub(crate) outer: Option<Binder>,
-    /// The binder given as the answer for it and for its uses: itself, or, for a letrec's lambda, the let's.
+    /// The binder reported for it and its uses: itself, or, for a letrec's derived lambda, the let's.
     pub(crate) answer: Binder,
-    /// Where it takes its type from. The binder of a type name has none, and that of a name until the walk is past the
-    /// term that gives it a type, or that is its lambda: only then that place has its number.
+    /// Where it takes its type from. `None` for the binder of a type name, and for that of a name until the walk is past the term
+    /// or the lambda that gives it its type, since only then that subterm has its index.
     pub(crate) origin: Option<Origin>,
 }
 
@@ -31,24 +31,23 @@ pub(crate) struct BinderRow {
 #[derive(Drop)]
 pub(crate) struct UseRow {
     pub(crate) token: Span,
-    /// The binder given as the answer for it, or none where it is unbound.
+    /// The binder reported for it, or `None` if it is unbound.
     pub(crate) bound: Option<Bound>,
-    /// The innermost of the binders of its kind that it sees.
+    /// The innermost binder of its kind in scope.
     pub(crate) inner: Option<Binder>,
-    /// Its name where it is unbound; else it has that of its binder.
+    /// Its name if it is unbound; otherwise its binder has the name.
     pub(crate) free: Option<Text>,
 }
 
-/// A place.
+/// A subterm.
 #[derive(Drop)]
 pub(crate) struct PlaceRow {
     pub(crate) span: Span,
-    /// Whether it stands for a letrec's lambda or fix, which are not written.
+    /// Whether it is the derived lambda or fix of a letrec, which are not in the text.
     pub(crate) derived: bool,
-    /// Where its immediate terms start among those of all places. They end where those of the next place start, those
-    /// of the last place where all end.
+    /// Where its immediate subterms start in `Rows::terms`. They end where those of the next subterm start, or at the end.
     pub(crate) terms_start: usize,
-    /// The innermost of the binders of names that it sees.
+    /// The innermost binder of names in scope.
     pub(crate) inner: Option<Binder>,
 }
 
@@ -59,7 +58,7 @@ pub(crate) struct Rows {
     pub(crate) binders: Vec<BinderRow>,
     pub(crate) uses: Vec<UseRow>,
     pub(crate) places: Vec<PlaceRow>,
-    /// The immediate terms of all places.
+    /// The immediate subterms of all subterms.
     terms: Vec<Place>,
     ghost terms_in_order: { AreInOrder (λ p. p.terms_start) (length terms.items) places.items } by { AreInOrder-prop (λ p. p.terms_start) (length terms.items) places.items },
 }
@@ -67,7 +66,7 @@ pub(crate) struct Rows {
 impl Rows {
     ghost use Rattle.lam_scope.specs.TableViews.{place_number, rows_of, terms_start, origin_of, with_origin};
 
-    /// Nothing was walked, and there is that room.
+    /// Empty tables with this much room.
     pub(crate) fn with_room(alloc: Global, room: Room) -> Result<Rows, AllocError>
         ensures { IfOk result (λ rows. rows_of rows ≡ empty_table) }
     {
@@ -80,21 +79,21 @@ impl Rows {
         })
     }
 
-    /// How many binders there are.
+    /// The number of binders.
     pub(crate) fn binder_count(&self) -> usize
         ensures { result ≡ length self.now.binders.items }
     {
         self.binders.len()
     }
 
-    /// How many places there are.
+    /// The number of subterms.
     pub(crate) fn place_count(&self) -> usize
         ensures { result ≡ length self.now.places.items }
     {
         self.places.len()
     }
 
-    /// One more binder, inside of those that are seen.
+    /// Adds a binder inside of those in scope.
     pub(crate) fn add_binder(
         &mut self,
         name: Option<&Text>,
@@ -120,7 +119,7 @@ impl Rows {
         Ok(())
     }
 
-    /// A use of a name or of a type name that sees these binders of its kind.
+    /// Adds a use of a name or of a type name, given the binders of its kind in scope.
     pub(crate) fn add_use(&mut self, used: &Identifier, seen: &Seen<'_>) -> Result<(), AllocError>
         ensures table { OnOk result (rows_of self.new ≡ rows_of self.old ⊕ use_row (letters used.now.text) used.now.span seen.now) }
         ensures binders { self.new.binders ≡ self.old.binders }
@@ -138,7 +137,7 @@ impl Rows {
         Ok(())
     }
 
-    /// The place behind those so far.
+    /// Adds the next subterm and returns its index.
     pub(crate) fn add_place(
         &mut self,
         span: Span,
@@ -163,7 +162,7 @@ impl Rows {
         Ok(number)
     }
 
-    /// The immediate terms of a place.
+    /// Returns the immediate subterms of a subterm.
     #[tactic(auto, using(crate::proofs::Reading::terms_reading))]
     pub(crate) fn terms_of(&self, place: Place) -> &[Place]
         ensures { map place_number result.now ≡ (place_row_numbered (rows_of self.now) place.0).terms }
@@ -174,7 +173,7 @@ impl Rows {
         }
     }
 
-    /// Where the immediate terms of a place end.
+    /// Returns where the immediate subterms of a subterm end.
     #[tactic(auto, using(crate::proofs::Reading::terms_reading))]
     fn terms_end(&self, place: Place) -> usize
         requires { place.0 < length self.now.places.items }
@@ -186,7 +185,7 @@ impl Rows {
         }
     }
 
-    /// Gives back the room that no row has.
+    /// Gives back spare room.
     pub(crate) fn trim(&mut self)
         ensures { rows_of self.new ≡ rows_of self.old }
     {
@@ -196,7 +195,7 @@ impl Rows {
         self.terms.shrink_to_fit();
     }
 
-    /// Tells where a binder takes its type from.
+    /// Sets where a binder takes its type from.
     pub(crate) fn set_origin(&mut self, binder: Binder, origin: Origin)
         requires { binder.0 < length self.old.binders.items }
         ensures table { rows_of self.new ≡ with_origin binder.0 origin (rows_of self.old) }
@@ -207,7 +206,7 @@ impl Rows {
     }
 }
 
-/// A copy of the name of a use that is bound so, if it is unbound.
+/// Returns a copy of the name of a use if it is unbound.
 fn copy_if_free(name: &Text, bound: Option<Bound>) -> Result<Option<Text>, AllocError>
     ensures { IfOk result (λ copy. option_map (λ x. letters x) copy ≡ free_name (letters name.now) (option_map (λ b. b.binder.0) bound)) }
 {
@@ -220,7 +219,7 @@ fn copy_if_free(name: &Text, bound: Option<Bound>) -> Result<Option<Text>, Alloc
     }
 }
 
-/// A copy of a name, if there is one.
+/// Returns a copy of a name, if there is one.
 fn copy_of_name(name: Option<&Text>) -> Result<Option<Text>, AllocError>
     ensures { IfOk result (λ copy. option_map (λ s. letters s) copy ≡ option_map (λ x. letters x.now) name.entry) }
 {

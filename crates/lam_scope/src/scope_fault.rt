@@ -1,14 +1,14 @@
-//! Why no nameless form is made: an error of the call.
+//! Errors of building the nameless form.
 ghost use Rattle.std.specs.Prelude.{◌≡◌};
 ghost use Rattle.lam_scope.specs.declared.scope_fault.ScopeFault.TheVariants.{Memory};
 
 use lam_token::Span;
 use std::alloc::{AllocError, AllocFailed};
 
-/// Why a document has no nameless form.
+/// Why no nameless form was built.
 #[derive(Clone, Copy, Debug, PartialEq, Eq)]
 pub enum ScopeFault {
-    /// The written type there is the first whose expansion has more than 4,096 nodes.
+    /// The written type at this span is the first whose expansion has more than 4,096 nodes.
     TooLarge(Span),
     Memory,
 }

@@ -1,4 +1,4 @@
-//! The binders of a document, the uses of each, and what each place sees.
+//! The binders of a document, the uses of each, and what is in scope at each subterm.
 ghost use Rattle.std.specs.Prelude.{◌≡◌, [], length, slice_index_or, map, position, IfOk};
 ghost use Rattle.lam_syntax.specs.Letters.{letters};
 ghost use Rattle.lam_syntax.specs.Views.{command_of};
@@ -18,13 +18,13 @@ use lam_syntax::{Command, Text};
 use lam_token::Span;
 use std::alloc::{AllocError, Global};
 
-/// What the names and type names of a document's commands are bound to. It borrows nothing of the commands.
+/// What the names and type names of a document's commands are bound to. Borrows nothing from the commands.
 #[derive(Drop)]
 pub struct Scopes {
     pub(crate) rows: Rows,
-    /// The tokens of the uses of each binder, by its number. Those of a letrec are all at the let's binder.
+    /// The tokens of the uses of each binder, by binder index. Those of a letrec are all listed at the let's binder.
     pub(crate) tokens: TokenLists,
-    /// The runs by which the places are searched for a byte of the text, the tokens of the binders, and of the uses.
+    /// The blocks used to search by byte offset: among subterms, among tokens of binders, and among tokens of uses.
     place_runs: Vec<Stretch>,
     binder_runs: Vec<Stretch>,
     use_runs: Vec<Stretch>,
@@ -38,7 +38,7 @@ impl Scopes {
     ghost use Rattle.lam_scope.specs.PlacedTerms.{variable_at, projection_at, document_terms, term_of};
     ghost use Rattle.lam_scope.specs.inner.OwnWords.{is_target};
 
-    /// The scopes of these rows, whose binders have those uses.
+    /// Makes the scopes from these rows and the tokens of the uses of their binders.
     pub(crate) fn new(alloc: Global, rows: Rows, tokens: TokenLists) -> Result<Scopes, AllocError>
         ensures rows { IfOk result (λ s. s.rows ≡ rows) }
         ensures tokens { IfOk result (λ s. s.tokens ≡ tokens) }
@@ -55,8 +55,8 @@ impl Scopes {
         })
     }
 
-    /// The binder of the name or type name whose token starts at that byte: the one that it is, or the one that it
-    /// uses. An underscore is no name; a letrec's token is the let's binder, and so are its uses.
+    /// Returns the binder of the name or type name whose token starts at that byte offset, whether the token is a binder or a
+    /// use. An underscore is not a name; the answer for a letrec's token and its uses is the let's binder.
     #[tactic(auto, using(crate::proofs::Reading::reading))]
     pub fn binder_at(&self, offset: usize) -> Option<Binder>
         ensures { option_map binder_number result ≡ binder_at (table_of self.now) offset }
@@ -67,7 +67,7 @@ impl Scopes {
         }
     }
 
-    /// The tokens of the uses of a binder, in the order of the text. A letrec's two binders have the same.
+    /// Returns the tokens of the uses of a binder, in text order. A letrec's two binders have the same uses.
     #[tactic(auto, using(crate::proofs::Reading::reading))]
     pub fn uses_of(&self, binder: Binder) -> &[Span]
         ensures { result.now ≡ slice_index_or (uses_in self.now) (binder_numbered (table_of self.now) binder.0).answer [] }
@@ -76,7 +76,7 @@ impl Scopes {
         self.tokens.get(answer.0)
     }
 
-    /// What binds a name in sight of a place, from the outside in: hidden binders and underscores count as any other.
+    /// Returns the binders of names in scope at a subterm, outermost first, including shadowed ones and underscores.
     #[tactic(auto, using(crate::proofs::Reading::reading))]
     pub fn visible_at(&self, alloc: Global, place: Place) -> Result<Vec<Binder>, AllocError>
         ensures { IfOk result (λ bs. map binder_number bs.items ≡ visible_at (table_of self.now) place.0) }
@@ -88,8 +88,8 @@ impl Scopes {
         Ok(found)
     }
 
-    /// The innermost place of a byte of the text: the first in their order that has it (`innermost_place` says that it
-    /// is the innermost). None of those that stand for a letrec's lambda and fix is.
+    /// Returns the innermost subterm that contains a byte: the first one in order that does (see `innermost_place`). The derived
+    /// lambda and fix of a letrec are never returned.
     pub fn place_at(&self, offset: usize) -> Option<Place>
         ensures { option_map place_number result ≡ place_at (table_of self.now) offset }
     {
@@ -99,8 +99,7 @@ impl Scopes {
         }
     }
 
-    /// From the first byte of a place to the one behind its last. The lambda and the fix of a letrec have that of its
-    /// first term.
+    /// Returns the half-open byte span of a subterm. The derived lambda and fix of a letrec have the span of its bound term.
     #[tactic(auto, using(crate::proofs::Reading::reading))]
     pub fn span_of(&self, place: Place) -> Span
         ensures { result ≡ (place_row_numbered (table_of self.now) place.0).span }
@@ -111,15 +110,15 @@ impl Scopes {
         }
     }
 
-    /// The places of the immediate terms of a place, from left to right.
+    /// Returns the immediate subterms of a subterm, from left to right.
     pub fn terms_of(&self, place: Place) -> &[Place]
         ensures { map place_number result.now ≡ (place_row_numbered (table_of self.now) place.0).terms }
     {
         self.rows.terms_of(place)
     }
 
-    /// The place of the variable whose token begins at that byte, in these commands, of which the scopes are; none where
-    /// none begins there. The search for it goes over the terms before it.
+    /// Returns the variable whose token begins at that byte offset, or `None` if there is none. `commands` must be those that
+    /// were bound; the search visits the terms before it.
     pub fn variable_at(&self, commands: &[Command], offset: usize) -> Option<Place>
         requires { AreScopesOf self.now (map command_of commands.now) }
         ensures { option_map place_number result ≡ variable_at offset (map command_of commands.now) }
@@ -127,8 +126,8 @@ impl Scopes {
         self.place_of(commands, Target::Variable(offset))
     }
 
-    /// The place of the projection whose label's token begins at that byte; none where none begins there. The search
-    /// for it goes over the terms before it.
+    /// Returns the projection whose label's token begins at that byte offset, or `None` if there is none. The search visits the
+    /// terms before it.
     pub fn projection_at(&self, commands: &[Command], offset: usize) -> Option<Place>
         requires { AreScopesOf self.now (map command_of commands.now) }
         ensures { option_map place_number result ≡ projection_at offset (map command_of commands.now) }
@@ -136,7 +135,7 @@ impl Scopes {
         self.place_of(commands, Target::Projection(offset))
     }
 
-    /// The place that is sought in these commands, of which the scopes are.
+    /// Returns the subterm that is searched for. `commands` must be those that were bound.
     fn place_of(&self, commands: &[Command], target: Target) -> Option<Place>
         requires { AreScopesOf self.now (map command_of commands.now) }
         ensures { option_map place_number result ≡ position (λ t. is_target target (term_of t).own) (document_terms (map command_of commands.now)) }
@@ -145,7 +144,7 @@ impl Scopes {
         Some(Place(number))
     }
 
-    /// The name of a binder; `_` where it is an underscore, and for a number that no binder has.
+    /// Returns the name of a binder, or `_` for an underscore and for an index that no binder has.
     #[tactic(auto, using(crate::proofs::Reading::reading))]
     pub fn name_of(&self, binder: Binder) -> &str
         ensures { result.now ≡ shown_name (binder_numbered (table_of self.now) binder.0).name }
@@ -156,7 +155,7 @@ impl Scopes {
         }
     }
 
-    /// The name of a binder; none where it is an underscore, and for a number that no binder has.
+    /// Returns the name of a binder, or `None` for an underscore and for an index that no binder has.
     #[tactic(auto, using(crate::proofs::Reading::reading))]
     pub fn bound_name(&self, binder: Binder) -> Option<&str>
         ensures { option_map (λ s. s.now) result ≡ (binder_numbered (table_of self.now) binder.0).name }
@@ -167,7 +166,7 @@ impl Scopes {
         }
     }
 
-    /// The token of a binder. A letrec's two binders have the same.
+    /// Returns the token of a binder. A letrec's two binders have the same token.
     #[tactic(auto, using(crate::proofs::Reading::reading))]
     pub fn token_of(&self, binder: Binder) -> Span
         ensures { result ≡ (binder_numbered (table_of self.now) binder.0).token }
@@ -179,7 +178,7 @@ impl Scopes {
     }
 }
 
-/// The span of what is not there: a place or a token past the last.
+/// The span returned for an index past the last subterm or binder.
 const NO_SPAN: Span = Span { start: 0, end: 0 };
 
 fn shown_name(name: &Option<Text>) -> &str
@@ -200,7 +199,7 @@ fn written_name(name: &Option<Text>) -> Option<&str>
     }
 }
 
-/// The binder given as the answer for a binder's uses.
+/// Returns the binder reported for the uses of a binder: for a letrec's derived lambda, the let's.
 #[tactic(auto, using(crate::proofs::Reading::reading))]
 pub(crate) fn answer_of(binders: &[BinderRow], binder: Binder) -> Binder
     ensures { result.0 ≡ (binder_in (map text_binder binders.now) binder.0).answer }
@@ -211,7 +210,7 @@ pub(crate) fn answer_of(binders: &[BinderRow], binder: Binder) -> Binder
     }
 }
 
-/// The innermost binder of a name that a place sees.
+/// Returns the innermost binder of a name in scope at a subterm.
 #[tactic(auto, using(crate::proofs::Reading::reading))]
 fn innermost_at(rows: &Rows, place: Place) -> Option<Binder>
     ensures { option_map binder_number result ≡ (place_row_numbered (rows_of rows.now) place.0).inner }
@@ -222,7 +221,7 @@ fn innermost_at(rows: &Rows, place: Place) -> Option<Binder>
     }
 }
 
-/// The binder whose name has its token there.
+/// Returns the binder whose own token starts at that byte offset.
 fn binder_token_at(binders: &[BinderRow], runs: &[Stretch], offset: usize) -> Option<Binder>
     requires { AreRuns runs.now (map binder_stretch binders.now) }
     ensures { option_map binder_number result ≡ binder_token_at offset (map text_binder binders.now) }
@@ -233,7 +232,7 @@ fn binder_token_at(binders: &[BinderRow], runs: &[Stretch], offset: usize) -> Op
     }
 }
 
-/// The binder given as the answer for the token of the binder of that number.
+/// Returns the binder reported for the token of the binder with that index.
 #[tactic(auto, using(crate::proofs::StretchedRows::row_reading))]
 fn answer_at(binders: &[BinderRow], index: usize) -> Option<Binder>
     ensures { option_map binder_number result ≡ answer_at (map text_binder binders.now) index }
@@ -244,7 +243,7 @@ fn answer_at(binders: &[BinderRow], index: usize) -> Option<Binder>
     }
 }
 
-/// The binder of the first use whose token starts there.
+/// Returns the binder of the first use whose token starts at that byte offset.
 fn binder_used_at(uses: &[UseRow], runs: &[Stretch], offset: usize) -> Option<Binder>
     requires { AreRuns runs.now (map use_stretch uses.now) }
     ensures { option_map binder_number result ≡ binder_used_at offset (map text_use uses.now) }
@@ -255,7 +254,7 @@ fn binder_used_at(uses: &[UseRow], runs: &[Stretch], offset: usize) -> Option<Bi
     }
 }
 
-/// The binder of the use of that number.
+/// Returns the binder of the use with that index.
 #[tactic(auto, using(crate::proofs::StretchedRows::row_reading))]
 fn used_at(uses: &[UseRow], index: usize) -> Option<Binder>
     ensures { option_map binder_number result ≡ used_at (map text_use uses.now) index }
@@ -265,7 +264,7 @@ fn used_at(uses: &[UseRow], index: usize) -> Option<Binder>
     Some(bound.binder)
 }
 
-/// A binder, the one just outside of it, and so on.
+/// Collects a binder, the next one outwards, and so on.
 #[tactic(auto, using(crate::proofs::Reading::reading))]
 fn chain(
     alloc: Global,

@@ -1,18 +1,18 @@
-//! The search for the place of a number.
+//! The search for the subterm with an index.
 ghost use Rattle.std.specs.Prelude.{◌≡◌, ◌∷◌, []};
 ghost use Rattle.lam_rules.specs.TermViews.{term_of, terms_of};
 ghost use Rattle.lam_scope.specs.inner.Found.{seek, seek_on, sought_of, terms_at, terms_at_fields};
 
 use lam_rules::Core;
 
-/// The term at the place that is sought, or the number of that place, counted from the first behind those searched.
+/// The term searched for, or its index counted from the first subterm after those searched.
 #[derive(Clone, Copy)]
 pub(crate) enum Found<'t> {
     Here(&'t Core),
     Behind(usize),
 }
 
-/// The place of a number, counted from the first place of the term.
+/// Searches a term for the subterm with an index, counted from the term's first subterm.
 #[cycle(search)]
 #[tactic(auto, using(crate::proofs::Finding::finding))]
 pub(crate) fn find_place<'t>(core: &'t Core, number: usize) -> Found<'t>
@@ -49,7 +49,7 @@ pub(crate) fn find_place<'t>(core: &'t Core, number: usize) -> Found<'t>
     }
 }
 
-/// The search goes on in a term behind those where it was.
+/// Continues the search in a term that comes after those searched.
 #[cycle(search)]
 #[tactic(auto, using(crate::proofs::Finding::finding))]
 fn find_behind<'t>(found: Found<'t>, core: &'t Core) -> Found<'t>
@@ -74,7 +74,7 @@ fn find_in_fields<'t>(fields: &'t [(String, Core)], number: usize) -> Found<'t>
     found
 }
 
-/// The search ends in the term's own place, behind those in it.
+/// Ends the search at the term itself, which comes after its subterms.
 #[tactic(auto, using(crate::proofs::Finding::finding))]
 fn at_end<'t>(found: Found<'t>, core: &'t Core) -> Found<'t>
     ensures { sought_of result ≡ seek_on (sought_of found.entry) (term_of core.now ∷ []) }

@@ -1,4 +1,4 @@
-//! The binders of one kind that a term sees.
+//! The binders of one kind in scope for a term.
 ghost use Rattle.std.specs.Prelude.{◌≡◌, ◌∷◌, [], IfOk, OnOk};
 ghost use Rattle.std.specs.Option.{option_map};
 ghost use Rattle.lam_scope.specs.Stacks.{outside};
@@ -13,7 +13,7 @@ use lam_syntax::Text;
 use std::alloc::{AllocError, Global};
 use std::marker::Model;
 
-/// A binder that is seen: its name, if it is no underscore, its number, and the binder given as the answer for its uses.
+/// A binder in scope: its name, unless it is an underscore, its index, and the binder reported for its uses.
 #[derive(Drop)]
 pub(crate) struct SeenBinder<'a> {
     pub(crate) name: Option<&'a Text>,
@@ -21,19 +21,19 @@ pub(crate) struct SeenBinder<'a> {
     pub(crate) answer: Binder,
 }
 
-/// What a name that is seen means.
+/// What a name in scope is bound to.
 #[derive(Clone, Copy)]
 pub(crate) struct Bound {
-    /// The binder given as the answer for its uses.
+    /// The binder reported for its uses.
     pub(crate) binder: Binder,
-    /// How many binders of its kind are seen further inside.
+    /// The number of binders of its kind further inside, which is the de Bruijn index.
     pub(crate) between: usize,
 }
 
-/// The binders that a term sees. A clause sees them as a list, the innermost first.
+/// The binders in scope for a term. Contracts see them as a list, innermost first.
 #[derive(Drop)]
 pub(crate) struct Seen<'a> {
-    /// The innermost last.
+    /// Innermost last.
     stack: Vec<SeenBinder<'a>>,
     names: Names<'a>,
 }
@@ -51,7 +51,7 @@ impl<'a> Model for Seen<'a> {
 }
 
 impl<'a> Seen<'a> {
-    /// No binder is seen.
+    /// No binder is in scope.
     pub(crate) fn new(alloc: Global) -> Seen<'a>
         ensures { result ≡ [] }
     {
@@ -61,7 +61,7 @@ impl<'a> Seen<'a> {
         }
     }
 
-    /// No binder is seen, and there is room for so many.
+    /// No binder is in scope, and there is room for this many.
     pub(crate) fn with_capacity(alloc: Global, capacity: usize) -> Result<Seen<'a>, AllocError>
         ensures { IfOk result (λ s. s ≡ []) }
     {
@@ -71,28 +71,28 @@ impl<'a> Seen<'a> {
         })
     }
 
-    /// One more binder is seen, inside of the others.
+    /// Brings one more binder into scope, innermost.
     pub(crate) fn enter(&mut self, binder: SeenBinder<'a>) -> Result<(), AllocError>
         ensures { OnOk result (self.new ≡ entry_of binder.entry ∷ self.old) }
     {
         enter_in(&mut self.stack, &mut self.names, binder)
     }
 
-    /// The innermost binder is seen no more.
+    /// Takes the innermost binder out of scope.
     pub(crate) fn leave(&mut self)
         ensures { self.new ≡ outside self.old }
     {
         leave_in(&mut self.stack, &mut self.names)
     }
 
-    /// The innermost of all.
+    /// Returns the innermost binder.
     pub(crate) fn innermost(&self) -> Option<Binder>
         ensures { option_map binder_number result ≡ innermost self.now }
     {
         innermost_in(&self.stack)
     }
 
-    /// The innermost of that name.
+    /// Returns what a use of that name is bound to.
     pub(crate) fn find(&self, name: &str) -> Option<Bound>
         ensures binder { option_map binder_of result ≡ bound_to name.now self.now }
         ensures between { option_map between_of result ≡ count name.now (entry_names self.now) }
@@ -111,7 +111,7 @@ fn enter_in<'a>(
     ensures names { names.new ≡ entry_names (entries_of stack.new.items) }
     ensures entered { OnOk result (entries_of stack.new.items ≡ entry_of binder.entry ∷ entries_of stack.old.items) }
 {
-    // With its room made first the push cannot fail, and leave a name without its binder.
+    // Reserving first means that the push can't fail and leave a name without its binder.
     stack.reserve(1)?;
     names.enter(text_of(binder.name))?;
     stack.push(binder)?;

@@ -1,8 +1,8 @@
-//! Commands without names.
+//! Commands in nameless form.
 
 use lam_rules::{Core, Ty};
 
-/// A command without names. Its types are the expansions of the written ones, or none where those are faulty.
+/// A command in nameless form. Its types are the expansions of the written ones, or `None` where those are faulty.
 #[derive(Drop)]
 pub enum Statement {
     /// `name = term`

@@ -1,33 +1,32 @@
-//! Stretches of a text, among which the first that has a byte is found without a walk over all of them.
+//! Byte intervals of a text, and a search for the first of many that contains a byte, without a walk over all of them.
 ghost use Rattle.std.specs.Prelude.{◌≡◌, ◌+◌, ◌<◌, ◌≤◌, ◌^◌, length, map, position, IfOk, take, drop};
 ghost use Rattle.std.specs.List.{position_from};
 ghost use Rattle.lam_scope.specs.Stretches.{has, IsPart, AreParts, AreRuns, no_bytes, one_byte};
 
 use std::alloc::{AllocError, Global};
 
-/// The bytes of a text from the lowest to the highest, which is one of them. There are none where the lowest is above
-/// the highest.
+/// A closed interval of byte offsets, from the lowest to the highest. Empty if the lowest is above the highest.
 #[derive(Drop)]
 pub(crate) struct Stretch {
     pub(crate) lowest: usize,
     pub(crate) highest: usize,
 }
 
-/// What stands in a text.
+/// Something with a byte interval in a text.
 pub(crate) trait Stretched {
     ghost use Rattle.lam_scope.specs.declared.stretches.Stretch.{Stretch as Bytes};
 
     ghost stretch_of: { Self → Bytes };
 
-    /// Its bytes.
+    /// Returns its byte interval.
     fn stretch(&self) -> Stretch
         ensures { result ≡ stretch_of self.now };
 }
 
-/// How many rows a run has.
+/// The number of rows in a block.
 const RUN: usize = 64;
 
-/// For each run of rows a stretch that theirs are parts of, so that a search skips the runs that have not the byte.
+/// Returns for each block of rows an interval that contains theirs, so that a search can skip blocks without the byte.
 pub(crate) fn runs_of<T: Stretched>(alloc: Global, rows: &[T]) -> Result<Vec<Stretch>, AllocError>
     requires { length rows.now < 2 ^ 64 }
     ensures { IfOk result (λ runs. AreRuns runs.items (map T.stretch_of rows.now)) }
@@ -43,7 +42,7 @@ pub(crate) fn runs_of<T: Stretched>(alloc: Global, rows: &[T]) -> Result<Vec<Str
     Ok(runs)
 }
 
-/// The number of the first row that has the byte.
+/// Returns the index of the first row that contains the byte.
 pub(crate) fn first_with<T: Stretched>(runs: &[Stretch], rows: &[T], offset: usize) -> Option<usize>
     requires runs { AreRuns runs.now (map T.stretch_of rows.now) }
     requires count { length rows.now < 2 ^ 64 }
@@ -61,7 +60,7 @@ pub(crate) fn first_with<T: Stretched>(runs: &[Stretch], rows: &[T], offset: usi
     None
 }
 
-/// The run that has so many rows before it; the last is shorter than the others.
+/// Returns the block that starts after `before` rows; the last block may be shorter.
 fn run_behind<T>(rows: &[T], before: usize) -> &[T]
     requires { before ≤ length rows.now }
     ensures { result.now ≡ take 64 (drop before rows.now) }
@@ -79,7 +78,7 @@ fn first_run<T>(rows: &[T]) -> &[T]
     &rows[..RUN]
 }
 
-/// A stretch that those of a run are parts of.
+/// Returns an interval that contains those of a block.
 fn around<T: Stretched>(run: &[T]) -> Stretch
     ensures { AreParts (map T.stretch_of run.now) result }
 {
@@ -92,7 +91,7 @@ fn around<T: Stretched>(run: &[T]) -> Stretch
     whole
 }
 
-/// A stretch that has the bytes of both.
+/// Returns an interval that contains both.
 fn joined(one: Stretch, other: Stretch) -> Stretch
     ensures one { IsPart one result }
     ensures other { IsPart other result }
@@ -103,7 +102,7 @@ fn joined(one: Stretch, other: Stretch) -> Stretch
     }
 }
 
-/// The number of the first row of a run that has the byte, where so many stand before the run.
+/// Returns the index of the first row of a block that contains the byte, given the number of rows before the block.
 fn first_in_run<T: Stretched>(
     whole: &Stretch,
     run: &[T],
@@ -134,7 +133,7 @@ fn first_of<T: Stretched>(run: &[T], before: usize, offset: usize) -> Option<usi
     None
 }
 
-/// Whether a stretch has the byte.
+/// Whether an interval contains the byte.
 fn has(stretch: &Stretch, offset: usize) -> bool
     ensures { result ≡ has offset stretch.now }
 {
@@ -147,7 +146,7 @@ fn has(stretch: &Stretch, offset: usize) -> bool
     true
 }
 
-/// The stretch without a byte. It adds nothing to a stretch around it.
+/// The empty interval. It adds nothing to an interval around it.
 pub(crate) fn no_bytes() -> Stretch
     ensures { result ≡ no_bytes }
 {
@@ -157,7 +156,7 @@ pub(crate) fn no_bytes() -> Stretch
     }
 }
 
-/// The stretch of that byte alone.
+/// The interval of that byte alone.
 pub(crate) fn one_byte(offset: usize) -> Stretch
     ensures { result ≡ one_byte offset }
 {

@@ -1,4 +1,4 @@
-//! Lists of tokens, with the tokens of all lists in one block of memory.
+//! Lists of tokens, all stored in one vector.
 ghost use Rattle.std.specs.Prelude.{◌≡◌, ◌+◌, ◌<◌, [], length, map, drop, slice_index_or, IfOk};
 ghost use Rattle.lam_scope.specs.Slices.{first_start, AreInOrder, AreInOrder-prop};
 
@@ -7,12 +7,12 @@ use crate::use_chains::{UseChains, push_tokens};
 use lam_token::Span;
 use std::alloc::{AllocError, Global};
 
-/// Lists of tokens, numbered from zero.
+/// Lists of tokens, with zero-based indices.
 #[derive(Drop)]
 pub(crate) struct TokenLists {
-    /// The tokens of all lists, one list behind the other.
+    /// The tokens of all lists, one list after another.
     tokens: Vec<Span>,
-    /// Where each list starts among them. It ends where the next starts, the last where all end.
+    /// Where each list starts in `tokens`. It ends where the next one starts, or at the end.
     starts: Vec<usize>,
     ghost starts_in_order: { AreInOrder (λ s. s) (length tokens.items) starts.items } by { AreInOrder-prop (λ s. s) (length tokens.items) starts.items },
 }
@@ -22,7 +22,7 @@ impl TokenLists {
     ghost use Rattle.lam_scope.specs.Tables.{tokens_by};
     ghost use Rattle.lam_scope.specs.inner.UseChains.{AreChains};
 
-    /// The tokens of the uses of each binder that has a chain, in the order of the text.
+    /// Makes the list of the tokens of the uses of each binder that has a chain, in text order.
     pub(crate) fn of_chains(
         alloc: Global,
         chains: &UseChains,
@@ -40,7 +40,7 @@ impl TokenLists {
         Ok(TokenLists { tokens, starts })
     }
 
-    /// The list of that number.
+    /// Returns the list with that index.
     #[tactic(auto, using(crate::proofs::TokenLists::listing))]
     pub(crate) fn get(&self, number: usize) -> &[Span]
         ensures { result.now ≡ slice_index_or (lists_in self.now) number [] }
@@ -51,7 +51,7 @@ impl TokenLists {
         }
     }
 
-    /// Where the list of that number ends.
+    /// Returns where the list with that index ends.
     #[tactic(auto, using(crate::proofs::TokenLists::listing))]
     fn end(&self, number: usize) -> usize
         requires { number < length self.now.starts.items }

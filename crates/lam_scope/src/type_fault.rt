@@ -1,12 +1,12 @@
-//! What can be wrong with written types: a diagnostic of the text.
+//! Diagnostics of written types.
 
 use lam_token::Span;
 
-/// A fault of a written type, at its token.
+/// A diagnostic of a written type, with its span.
 #[derive(Clone, Copy, Debug, PartialEq, Eq)]
 pub enum TypeFault {
-    /// A type name that no command before binds.
+    /// A type name that no earlier command binds.
     UnboundTypeName(Span),
-    /// The label of a field that has the same label as a field before it.
+    /// A label that an earlier field of the record type has too.
     RepeatedLabel(Span),
 }

@@ -1,4 +1,4 @@
-//! The type names that a written type sees, with the numbers of what they stand for.
+//! The type names in scope for a written type, with the ids of what they stand for.
 ghost use Rattle.std.specs.Prelude.{◌≡◌, ◌∷◌, [], OnOk, OnErr};
 ghost use Rattle.lam_scope.specs.NumberedNames.{numbered_names_of, numbered_name_of, number_named};
 
@@ -7,17 +7,17 @@ use lam_rules::TyNo;
 use std::alloc::{AllocError, Global};
 use std::marker::Model;
 
-/// A type name and the number of what it stands for, or none where its written type is faulty.
+/// A type name and the id of what it stands for, or `None` where its written type is faulty.
 #[derive(Drop)]
 pub(crate) struct TypeName<'a> {
     pub(crate) name: &'a str,
     pub(crate) number: Option<TyNo>,
 }
 
-/// The type names that a written type sees. A clause sees them as a list, the innermost first.
+/// The type names in scope for a written type. Contracts see them as a list, innermost first.
 #[derive(Drop)]
 pub(crate) struct TypeNames<'a> {
-    /// The innermost last.
+    /// Innermost last.
     stack: Vec<TypeName<'a>>,
 }
 
@@ -31,7 +31,7 @@ impl<'a> Model for TypeNames<'a> {
 }
 
 impl<'a> TypeNames<'a> {
-    /// None is seen.
+    /// No type name is in scope.
     pub(crate) fn new(alloc: Global) -> TypeNames<'a>
         ensures { result ≡ [] }
     {
@@ -40,7 +40,7 @@ impl<'a> TypeNames<'a> {
         }
     }
 
-    /// One more is seen, inside of the others.
+    /// Brings one more type name into scope, innermost.
     #[tactic(auto, using(crate::proofs::TypeNames::type_names))]
     pub(crate) fn enter(&mut self, entered: TypeName<'a>) -> Result<(), AllocError>
         ensures entered { OnOk result (self.new ≡ numbered_name_of entered.entry ∷ self.old) }
@@ -50,7 +50,7 @@ impl<'a> TypeNames<'a> {
         Ok(())
     }
 
-    /// What the innermost of that name stands for.
+    /// Returns what the innermost one of that name stands for.
     pub(crate) fn find(&self, name: &str) -> Option<Option<TyNo>>
         ensures { result ≡ number_named name.now self.now }
     {

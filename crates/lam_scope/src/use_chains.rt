@@ -1,4 +1,4 @@
-//! The uses of each binder in a chain, from each to the next in the text.
+//! The uses of each binder as a linked list, in text order.
 ghost use Rattle.std.specs.Prelude.{◌≡◌, ◌+◌, ◌<◌, ◌++◌, length, map, drop, IfOk, OnOk};
 ghost use Rattle.lam_scope.specs.Tables.{use_tokens};
 ghost use Rattle.lam_scope.specs.TableViews.{text_use};
@@ -8,17 +8,17 @@ use crate::rows::UseRow;
 use lam_token::Span;
 use std::alloc::{AllocError, Global};
 
-/// The chains of the uses of some binders. A use goes by how many uses there are from it on, itself included, and 0 is
-/// none: so they are made from the last use to the first, each in front of its chain, with no list for each binder.
+/// The chains of the uses of some binders. A link is the number of uses from the target to the last use, both included, and 0 is
+/// the end: so chains are built from the last use to the first, each use prepended, with no vector per binder.
 #[derive(Drop)]
 pub(crate) struct UseChains {
     /// The first use of each binder.
     pub(crate) firsts: Vec<usize>,
-    /// The use behind each use in its chain, for the last use first.
+    /// The link from each use to the next in its chain, indexed from the last use.
     pub(crate) nexts: Vec<usize>,
 }
 
-/// The chains of the uses of so many binders. A use of none of these is in no chain.
+/// Returns the chains of the uses of the first `binders` binders. Other uses are in no chain.
 pub(crate) fn chains_of(
     alloc: Global,
     binders: usize,
@@ -37,7 +37,7 @@ pub(crate) fn chains_of(
     Ok(chains)
 }
 
-/// Puts the use of that index in front of the chain of its binder.
+/// Prepends the use at that index to the chain of its binder.
 fn chain_use(chains: &mut UseChains, uses: &[UseRow], index: usize) -> Result<(), AllocError>
     requires index { length chains.old.nexts.items + index + 1 ≡ length uses.now }
     requires later { AreChains chains.old.firsts.items chains.old.nexts.items uses.now (drop (index + 1) uses.now) }
@@ -60,7 +60,7 @@ fn chain_use(chains: &mut UseChains, uses: &[UseRow], index: usize) -> Result<()
     Ok(())
 }
 
-/// Puts the tokens of the uses of a binder behind others.
+/// Appends the tokens of the uses of a binder.
 pub(crate) fn push_tokens(
     tokens: &mut Vec<Span>,
     chains: &UseChains,

@@ -1,4 +1,4 @@
-//! The uses that a walk over the commands has yet to come to.
+//! The uses that a walk over the commands has not reached yet.
 ghost use Rattle.std.specs.Prelude.{◌≡◌, map};
 ghost use Rattle.lam_syntax.specs.Views.{type_of, type_fields_of};
 ghost use Rattle.lam_scope.specs.Counted.{first_between, past_first, past_type, past_type_fields};
@@ -8,7 +8,7 @@ use crate::rows::UseRow;
 use lam_syntax::{TyField, TyNode, WrittenTy};
 use std::marker::Model;
 
-/// The uses that are left, in the order of the text. A clause sees them as a list.
+/// The uses left, in text order. Contracts see them as a list.
 #[derive(Drop)]
 pub(crate) struct UsesLeft<'a> {
     rows: &'a [UseRow],
@@ -25,14 +25,14 @@ impl<'a> Model for UsesLeft<'a> {
 }
 
 impl<'a> UsesLeft<'a> {
-    /// These uses, of which none was passed.
+    /// All of these uses are left.
     pub(crate) fn new(rows: &'a [UseRow]) -> UsesLeft<'a>
         ensures { result ≡ map text_use rows.now }
     {
         UsesLeft { rows }
     }
 
-    /// Passes the first use, and answers how many binders stand between it and its own. None where it is unbound.
+    /// Consumes the first use and returns its de Bruijn index, or `None` if it is unbound.
     pub(crate) fn pass(&mut self) -> Option<usize>
         ensures between { result ≡ first_between self.old }
         ensures left { self.new ≡ past_first self.old }
@@ -44,7 +44,7 @@ impl<'a> UsesLeft<'a> {
     }
 }
 
-/// Passes the uses of type names in a written type.
+/// Consumes the uses of type names in a written type.
 #[cycle(pass_type)]
 #[tactic(auto, using(crate::proofs::CountedForms::passing))]
 pub(crate) fn pass_type(uses: &mut UsesLeft<'_>, ty: &WrittenTy)

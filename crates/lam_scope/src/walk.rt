@@ -1,5 +1,4 @@
-//! The walk over terms that binding makes: the binders and the uses in the order of the text, the places each behind
-//! its immediate terms.
+//! The walk over commands that fills the tables: binders and uses in text order, subterms each after its immediate subterms.
 ghost use Rattle.std.specs.Prelude.{◌≡◌, ◌∷◌, [], ◌+◌, ◌<◌, length, map, true, false, Some, IfOk, OnOk};
 ghost use Rattle.lam_syntax.specs.Letters.{letters};
 ghost use Rattle.std.specs.Option.{option_map};
@@ -20,7 +19,7 @@ use lam_syntax::{
 use lam_token::Span;
 use std::alloc::AllocError;
 
-/// Adds the rows of a command, of that number. Those behind it then see what it binds.
+/// Adds the rows of the command with that index, and brings what it binds into scope for those after it.
 #[tactic(auto, using(crate::proofs::TableRows::walks))]
 pub(crate) fn walk_command<'a>(
     rows: &mut Rows,
@@ -63,7 +62,7 @@ pub(crate) fn walk_command<'a>(
     }
 }
 
-/// The binder of a command, as those behind it see it.
+/// The binder of a command, as it is in scope for those after it.
 fn named<'a>(name: &'a Identifier, own: Binder) -> SeenBinder<'a>
     ensures entry { entry_of result ≡ entry (Some (letters name.now.text)) own.0 own.0 }
     ensures name { option_map (λ x. letters x.now) result.name ≡ Some (letters name.now.text) }
@@ -111,7 +110,7 @@ fn walk_type_fields(rows: &mut Rows, types: &Seen<'_>, fields: &[TyField]) -> Re
     Ok(())
 }
 
-/// Adds the rows of a term, and answers its place.
+/// Adds the rows of a term, and returns its index.
 #[cycle(terms)]
 #[tactic(auto, using(crate::proofs::TableRows::walks))]
 fn walk_term<'a>(
@@ -142,7 +141,7 @@ fn walk_term<'a>(
     }
 }
 
-/// The place of a term that has no terms.
+/// Adds a term without subterms.
 fn add_leaf(rows: &mut Rows, names: &Seen<'_>, span: Span) -> Result<Place, AllocError>
     ensures table { OnOk result (rows_of rows.new ≡ rows_of rows.old ⊕ place_row span false [] names.now) }
     ensures place { IfOk result (λ p. p.0 ≡ length rows.old.places.items) }
@@ -167,7 +166,7 @@ fn add_variable(
     rows.add_place(span, false, &[], names)
 }
 
-/// A term that has one term, and no binder or type.
+/// Adds a term with one immediate subterm, and no binder or type.
 #[cycle(terms)]
 #[tactic(auto, using(crate::proofs::TableRows::walks))]
 fn walk_operand<'a>(
@@ -315,7 +314,7 @@ fn walk_fields<'a>(
     Ok(terms)
 }
 
-/// The term under one more binder.
+/// Walks a term under one more binder.
 #[cycle(terms)]
 #[tactic(auto, using(crate::proofs::TableRows::walks))]
 fn walk_under<'a>(
@@ -334,7 +333,7 @@ fn walk_under<'a>(
     Ok(place)
 }
 
-/// A binder of the name, and the term that it takes its type from.
+/// Adds a binder, and walks the term that it takes its type from.
 #[cycle(terms)]
 #[tactic(auto, using(crate::proofs::TableRows::walks))]
 fn walk_bound<'a>(
@@ -377,8 +376,8 @@ fn walk_lambda<'a>(
     rows.add_place(span, false, &[body], names)
 }
 
-/// The token of a letrec is the binder of the derived lambda, and then of the let. The lambda and its fix are places of
-/// their own, behind those of the first term.
+/// Walks the first part of a letrec. Its token is the binder of the derived lambda, and then of the let. The lambda and its fix
+/// are subterms of their own, after those of the bound term.
 #[cycle(terms)]
 #[tactic(auto, using(crate::proofs::TableRows::walks))]
 fn walk_fix<'a>(
@@ -406,7 +405,7 @@ fn walk_fix<'a>(
     Ok(fixed)
 }
 
-/// The derived lambda and fix of a letrec, whose first term is at that place.
+/// Adds the derived lambda and fix of a letrec, given its bound term.
 #[tactic(auto, using(crate::proofs::TableRows::walks))]
 fn add_derived(
     rows: &mut Rows,
@@ -430,7 +429,7 @@ fn add_derived(
     Ok(fixed)
 }
 
-/// A binder as the terms under it see it.
+/// A binder as it is in scope for the terms under it.
 fn seen_as<'a>(binder: &'a WrittenBinder, number: usize) -> SeenBinder<'a>
     ensures entry { entry_of result ≡ entry (option_map (λ s. letters s) binder.now.name) number number }
     ensures name { option_map (λ x. letters x.now) result.name ≡ option_map (λ s. letters s) binder.now.name }

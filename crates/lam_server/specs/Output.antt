@@ -1,4 +1,4 @@
--- What the bytes of a client are answered with: the frames of what each message asks to be sent, message after message.
+-- The answer to the bytes of a client: the frames of the values sent for each message, message by message.
 use Rattle.std.specs.Prelude.{◌≡◌, ℕ, List, [], ◌∷◌, ◌++◌, Option, Some, None, Result, Ok, Err}
 use Rattle.serde_json.specs.Data.{Data}
 use Rattle.serde_json.specs.Written.{compact_text}
@@ -10,12 +10,12 @@ use Rattle.lam_session.specs.Step.{Steps}
 
 -- ---- one message
 
--- a frame for the text of each value, one behind the other
+-- a frame with the text of each value, one after another
 abbrev pub frames_of : List Data → List ℕ
 frames_of [] = []
 frames_of (d ∷ ds) = frame_text (compact_text d) ++ frames_of ds
 
--- a message stands at the front of the bytes: these frames answer it, this is the state after it, and these bytes are left
+-- A message is at the start of the bytes: these frames answer it, this is the state after it, and these bytes remain.
 pub record Takes (s : State) (bytes out : List ℕ) (next : State) (left : List ℕ) : Type 0 where
   pub body : List ℕ
   pub message : Message
@@ -25,13 +25,13 @@ pub record Takes (s : State) (bytes out : List ℕ) (next : State) (left : List 
   pub steps : Steps s message values next
   pub frames : out ≡ frames_of values
 
--- ---- message after message
+-- ---- several messages
 
--- the session has not ended
+-- The session has not ended.
 abbrev pub IsLive : State → Type 0
 IsLive s = ended_status s.life ≡ None
 
--- some messages at the front of the bytes, while the session lives: the frames that answer them, the state after them, and the bytes left
+-- Some messages at the start of the bytes are answered while the session has not ended: by these frames, which leads to this state and leaves these bytes.
 pub data Turns (start : State) (bytes : List ℕ) : List ℕ → State → List ℕ → Type 0 where
   no_turn : Turns start bytes [] start bytes
   next_turn : {done first : List ℕ} {s next : State} {left after : List ℕ}
@@ -40,17 +40,17 @@ pub data Turns (start : State) (bytes : List ℕ) : List ℕ → State → List 
 
 -- ---- whole runs
 
--- how a run comes out: with a status, or with the fault of the bytes that are left
+-- the outcome of a run: an exit status, or the error in the bytes that remain
 abbrev pub Outcome : Type 0
 Outcome = Result ℕ FrameFault
 
--- the session has ended with its status; or no frame is left: a clean end without an `exit` is status 1
+-- The session has ended with this status; or no frame remains, where a clean end without an `exit` has status 1.
 abbrev pub ComesTo : Option ℕ → List ℕ → Outcome → Type 0
 ComesTo (Some status) left outcome = outcome ≡ Ok status
 ComesTo None left (Ok status) = IsRest left None × (status ≡ 1)
 ComesTo None left (Err fault) = IsRest left (Some fault)
 
--- the output is allowed for the input, with this outcome
+-- The output is allowed for the input, with this outcome.
 pub record IsAllowed (start : State) (input out : List ℕ) (outcome : Outcome) : Type 0 where
   pub state : State
   pub left : List ℕ
@@ -59,13 +59,13 @@ pub record IsAllowed (start : State) (input out : List ℕ) (outcome : Outcome) 
 
 -- ---- parts of runs
 
--- with some more behind it, the output is one that is allowed for the bytes
+-- The output is a prefix of one that is allowed for the bytes.
 pub record IsFront (start : State) (bytes out : List ℕ) : Type 0 where
   pub rest : List ℕ
   pub outcome : Outcome
   pub allowed : IsAllowed start bytes (out ++ rest) outcome
 
--- every message that is whole among the bytes is answered whole, the session lives, and what is left decides nothing yet
+-- Every complete message in the bytes is completely answered, the session has not ended, and the bytes that remain are still open.
 pub record IsAwaiting (start : State) (bytes out : List ℕ) : Type 0 where
   pub state : State
   pub left : List ℕ
@@ -73,14 +73,14 @@ pub record IsAwaiting (start : State) (bytes out : List ℕ) : Type 0 where
   pub live : IsLive state
   pub undecided : IsOpen left
 
--- all that is whole among the bytes is answered at the front of the output, the session lives, and what is left decides nothing yet
+-- Every complete message in the bytes is answered at the start of the output, the session has not ended, and the bytes that remain are still open.
 pub record IsAnsweredIn (start : State) (out bytes : List ℕ) : Type 0 where
   pub done : List ℕ
   pub more : List ℕ
   pub awaiting : IsAwaiting start bytes done
   pub begins : out ≡ done ++ more
 
--- the first so many messages are answered whole, and behind them is a front of what answers the next one
+-- Some first messages are completely answered, followed by a prefix of the answer to the next one.
 pub record EndsInAnswer (start : State) (bytes out : List ℕ) : Type 0 where
   pub done : List ℕ
   pub state : State
@@ -96,7 +96,7 @@ pub record EndsInAnswer (start : State) (bytes out : List ℕ) : Type 0 where
   pub split : answer ≡ front ++ rest
   pub begins : out ≡ done ++ front
 
--- the first so many messages are answered whole; of what the next one asks to be sent, the first so many values may be behind them
+-- Some first messages are completely answered, perhaps followed by the frames of the first values of the answer to the next one.
 pub data EndsInFrames (start : State) (bytes out : List ℕ) : Type 0 where
   behind_message : {state : State} {left : List ℕ} → Turns start bytes out state left → IsLive state → EndsInFrames start bytes out
   behind_value : {done answer : List ℕ} {state next : State} {left after : List ℕ} → Turns start bytes done state left → IsLive state

@@ -1,11 +1,11 @@
--- How the program ends: its status, and its line on standard error.
+-- The end of the program: its exit status, and its line on standard error.
 use Rattle.std.specs.Prelude.{ℕ, List, codes}
 use Rattle.lam_frame.specs.declared.fault.FrameFault.{FrameFault}
 use Rattle.lam_frame.specs.declared.fault.FrameFault.TheVariants.{NoLength, BadLength, TooLong, BadHeader, Truncated, Device, Memory, TooManyTurns, Spent}
 use Rattle.lam_server.specs.declared.faults.RunFault.{RunFault}
 use Rattle.lam_server.specs.declared.faults.RunFault.TheVariants.{Header, Device as DeviceRun, Memory as MemoryRun}
 
--- where reading a frame failed, the run's fault: those of the bytes keep their names
+-- the error of a run when reading a frame fails; errors in the bytes keep their names
 abbrev pub fault_of_run : FrameFault → RunFault
 fault_of_run NoLength = Header NoLength
 fault_of_run BadLength = Header BadLength
@@ -17,7 +17,7 @@ fault_of_run Memory = MemoryRun
 fault_of_run TooManyTurns = DeviceRun
 fault_of_run Spent = DeviceRun
 
--- 3 for the bytes, 4 for a device, 5 for memory
+-- the exit status: 3 for the bytes, 4 for a device, 5 for memory
 abbrev pub status_of : RunFault → ℕ
 status_of (Header NoLength) = 3
 status_of (Header BadLength) = 3
@@ -31,7 +31,7 @@ status_of (Header Spent) = 4
 status_of DeviceRun = 4
 status_of MemoryRun = 5
 
--- the fault's code and name
+-- the line on standard error: the error's code and name
 abbrev pub line_of : RunFault → List ℕ
 line_of (Header NoLength) = codes "lam_server: F1 NoLength"
 line_of (Header BadLength) = codes "lam_server: F2 BadLength"

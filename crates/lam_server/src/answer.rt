@@ -1,4 +1,4 @@
-//! One body in, the frames of its answer out.
+//! The answer to one message body.
 
 ghost use Rattle.std.specs.Prelude.{◌≡◌, ◌-◌, ◌^◌, ◌<◌, false, map};
 ghost use Rattle.lam_frame.specs.Device.{sink_of};
@@ -14,7 +14,7 @@ use lam_session::Session;
 use serde_json::Value;
 use std::alloc::Global;
 
-/// Takes one body's message and writes its answer.
+/// Handles the message in one body and writes its answer.
 pub fn answer<W: Sink>(
     alloc: Global,
     session: &mut Session,
@@ -33,7 +33,7 @@ pub fn answer<W: Sink>(
     write_values(alloc, writer, &values)
 }
 
-/// Writes the frame of each value's text, in order, and flushes each.
+/// Writes a frame with the text of each value, in order, and flushes after each.
 fn write_values<W: Sink>(alloc: Global, writer: &mut W, values: &[Value]) -> Result<(), RunFault>
     requires failures { W.failed writer.old < 2 ^ 64 - 1 }
     requires plain { All (λ v. has_float (view v) ≡ false) values.now }

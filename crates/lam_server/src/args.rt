@@ -1,4 +1,4 @@
-//! The words of the command line.
+//! Command-line arguments.
 
 ghost use Rattle.std.specs.Prelude.{◌≡◌, false, IfOk, codes, map, option_map};
 ghost use Rattle.clap.specs.Simple.{app_of, new_app};
@@ -18,7 +18,7 @@ const NAME: &str = "lam_server";
 
 static NAME_ALONE: [&str; 1] = [NAME];
 
-/// The names of the dialects that there are.
+/// The accepted values of `--dialect`.
 static DIALECTS: [&str; 2] = ["1", "2"];
 
 const ABOUT: &str = "A language server for the typed lambda calculus with records and subtyping. \
@@ -28,22 +28,21 @@ const STATUSES: &str = "Exit status: 0 after shutdown and exit, 1 if the input e
     2 on a usage error, 3 if the input is not made of frames, 4 if reading or writing fails, 5 when \
     it runs out of memory.";
 
-/// Why the words start no run.
+/// Why the arguments start no run.
 #[derive(Debug, Drop, FaultError)]
 pub enum ArgsFault {
-    /// Help was asked for: its text, for standard output.
+    /// Help was requested: its text, for standard output.
     #[error("{0}")]
     Help(String),
-    /// The words are no command line of this program: what is wrong, for standard error.
+    /// A usage error: its message, for standard error.
     #[error("{0}")]
     Usage(String),
     #[error("F7 Memory")]
     Memory,
 }
 
-/// What the words say: `--dialect 1`, which is the default, or `--dialect 2`, and `--stdio` and `--clientProcessId TEXT`,
-/// which editors give and which change nothing. The first word names the program; without any word
-/// the program has its own name.
+/// Parses the arguments: `--dialect 1`, which is the default, or `--dialect 2`, and `--stdio` and `--clientProcessId TEXT`, which
+/// editors pass and which have no effect. The first argument is the name of the program; if there are none, its own name is used.
 pub fn read_args(alloc: Global, words: &[&str]) -> Result<Config, ArgsFault>
     ensures { ReadsWords (map (λ word. word.now) words.now) result }
 {
@@ -56,7 +55,7 @@ pub fn read_args(alloc: Global, words: &[&str]) -> Result<Config, ArgsFault>
     }
 }
 
-/// The rules that a value of `--dialect` names.
+/// The dialect that a value of `--dialect` names.
 fn chosen(name: Option<&str>) -> Dialect
     ensures { result ≡ dialect_named (option_map (λ word. word.now) name.entry) }
 {
@@ -69,7 +68,7 @@ fn chosen(name: Option<&str>) -> Dialect
     Dialect::One
 }
 
-/// The words, or where there is none the program's name.
+/// The arguments, or only the program's name if there are none.
 fn named<'a>(words: &'a [&'a str]) -> &'a [&'a str]
     ensures { map (λ word. word.now) result.now ≡ named_words (map (λ word. word.now) words.now) }
 {
@@ -126,7 +125,7 @@ fn dialect<'a>(alloc: Global) -> Arg<'a>
         .help("The subtyping rules: 1 for the book's, 2 for these and Bool below Nat")
 }
 
-/// A text that memory cut short is no text: the kind is looked at first.
+/// Converts an error of the parser. If allocation failed, its text may be cut short, so the kind is examined first.
 fn fault_of(alloc: Global, error: &Error) -> ArgsFault
     ensures { TellsKind (kind_of error.now) result }
 {

@@ -1,4 +1,4 @@
-//! Why a run ended without a status of the session's, and how the program then ends.
+//! Errors that end a run without an exit status from the session, and the exit statuses for them.
 
 ghost use Rattle.std.specs.Prelude.{◌≡◌};
 ghost use Rattle.lam_server.specs.Program.{fault_of_run, line_of, status_of};
@@ -8,19 +8,19 @@ use thiserror::Error;
 
 #[derive(Clone, Copy, Debug, PartialEq, Eq, Error)]
 pub enum RunFault {
-    /// No frame stands behind the messages answered, by one of the five faults of the bytes
-    /// themselves: `NoLength`, `BadLength`, `TooLong`, `BadHeader`, `Truncated`.
+    /// The bytes after the answered messages do not begin with a frame, for one of five reasons: `NoLength`, `BadLength`,
+    /// `TooLong`, `BadHeader`, `Truncated`.
     #[error("{0}")]
     Header(FrameFault),
-    /// A device failed, or the source was pulled 2^48 times.
+    /// A device failed, or the limit of 2^48 pulls was reached.
     #[error("F6 Device")]
     Device,
-    /// Memory was refused.
+    /// An allocation failed.
     #[error("F7 Memory")]
     Memory,
 }
 
-/// The fault of a run in which reading a frame failed.
+/// Converts an error of reading a frame.
 pub fn fault_of_run(fault: FrameFault) -> RunFault
     ensures { result ≡ fault_of_run fault }
 {
@@ -31,7 +31,7 @@ pub fn fault_of_run(fault: FrameFault) -> RunFault
     }
 }
 
-/// The status that the program ends with.
+/// Returns the exit status of the program.
 pub fn status_of(fault: &RunFault) -> u8
     ensures { result ≡ status_of fault.now }
 {
@@ -46,7 +46,7 @@ pub fn status_of(fault: &RunFault) -> u8
     }
 }
 
-/// The line that the program writes to standard error, without its line feed.
+/// Returns the line that the program writes to standard error, without its line feed.
 pub fn line_of(fault: &RunFault) -> &'static str
     ensures { result.now ≡ line_of fault.now }
 {

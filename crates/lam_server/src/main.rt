@@ -1,8 +1,8 @@
-//! The language server's program: frames of the base protocol from standard input, the session's
-//! answers to standard output.
+//! The language server: reads frames of the base protocol from standard input, and writes the session's answers to standard
+//! output.
 //!
-//! `run::run` is all that happens between the two, and its contract says which bytes are answered
-//! with which, whatever comes and in whatever pieces. Nothing here knows what a message means.
+//! `run::run` does all the work between the two, and its contract defines the answer to every input, however it is split into
+//! pieces. Nothing here deals with the meaning of a message.
 #![tactic(auto)]
 
 ghost use Rattle.std.specs.Prelude.{◌≡◌, ◌≢◌, ◌-◌, ◌^◌, ◌<◌, map, string_bytes};
@@ -31,7 +31,7 @@ use std::env::{self, Env};
 use std::io::{self, ErrorKind, Printer};
 use std::process::ExitCode;
 
-/// The status after words that start no run.
+/// The exit status after a usage error.
 const USAGE: u8 = 2;
 
 fn main(rt: HostRuntime) -> ExitCode {
@@ -46,7 +46,7 @@ fn words<R: AllocGlobal + Env>(rt: &R) -> io::Result<Vec<String>> {
     Ok(env::args(rt)?.collect(rt.alloc())?)
 }
 
-/// Says why the words could not be read. The status to end with.
+/// Reports that the arguments could not be read, and returns the exit status.
 fn refuse<R: Eprint>(rt: &R, error: &io::Error) -> u8
     ensures memory { error_kind error.now ≡ ErrorKind.OutOfMemory → result ≡ 5 }
     ensures usage { error_kind error.now ≢ ErrorKind.OutOfMemory → result ≡ 2 }
@@ -58,7 +58,7 @@ fn refuse<R: Eprint>(rt: &R, error: &io::Error) -> u8
     USAGE
 }
 
-/// Reads the words, and then runs or says why not. The status to end with.
+/// Parses the arguments and runs the server, or reports what is wrong. Returns the exit status.
 fn start<R: AllocGlobal + Input + Print + Eprint>(rt: &R, words: &[String]) -> u8
     ensures { let source = ⟦<FromRead<R::Reader> as Source>⟧ in let sink = ⟦<ToWrite<Printer<'static, R>> as Sink>⟧ in
         EndsByWords (EndsAsSomeRun (source_of source.coming source.failed source.gave) (sink_of sink.taken sink.flushed sink.failed)) (map string_bytes words.now) result }
@@ -87,7 +87,7 @@ fn read_words(alloc: Global, words: &[String]) -> Result<Config, ArgsFault>
     read_args(alloc, slices.as_slice())
 }
 
-/// Serves standard input and output. The status to end with.
+/// Serves standard input and output, and returns the exit status.
 fn serve<R: AllocGlobal + Input + Print + Eprint>(rt: &R, config: Config) -> u8
     ensures { let source = ⟦<FromRead<R::Reader> as Source>⟧ in let sink = ⟦<ToWrite<Printer<'static, R>> as Sink>⟧ in
         EndsAsSomeRun (source_of source.coming source.failed source.gave) (sink_of sink.taken sink.flushed sink.failed) (fresh (dialect_of config)) result }
@@ -97,7 +97,7 @@ fn serve<R: AllocGlobal + Input + Print + Eprint>(rt: &R, config: Config) -> u8
     served(rt, &mut reader, &mut writer, config)
 }
 
-/// Serves a source and a sink. The status to end with.
+/// Serves a source and a sink, and returns the exit status.
 fn served<R: AllocGlobal + Eprint, S: Source, W: Sink>(
     rt: &R,
     reader: &mut S,
@@ -114,7 +114,7 @@ fn served<R: AllocGlobal + Eprint, S: Source, W: Sink>(
     }
 }
 
-/// Says on standard error why a run ended. That this may fail too changes nothing. The status to end with.
+/// Reports on standard error why a run ended, and returns the exit status. A failure to report is ignored.
 fn report<R: Eprint>(rt: &R, fault: RunFault) -> u8
     ensures { result ≡ status_of fault }
 {

@@ -1,4 +1,4 @@
-//! A run: turn after turn, to the end.
+//! The main loop of the server.
 
 ghost use Rattle.std.specs.Prelude.{◌-◌, ◌^◌, ◌<◌, List, ℕ};
 ghost use Rattle.lam_frame.specs.Device.{source_of, sink_of};
@@ -12,24 +12,25 @@ use lam_frame::{Sink, Source};
 use lam_session::Config;
 use std::alloc::Global;
 
-/// Answers all that the reader brings, and says with which status the program ends.
+/// Serves the input to its end or the end of the session, and returns the exit status of the program.
 ///
-/// What goes out are the session's answers about the texts as the client's edits left them, in the dialect of `config`:
-/// a hover shows the least type that the declarative rules give the innermost term, and a derivation of it is handed
-/// out; a term is blamed just where they give it no type, though they give one to each of its parts and the fault lies
-/// nowhere else, and faults of types are told in just those texts in which a written type stands for no type, or a
-/// definition, or a command that is a term, has none; the edits of a rename leave binding as it was; after a dot exactly
-/// those labels are listed with which the projection has a type. This is said of terms in pieces that are commands
-/// (after a dot, with the label put in) and of texts without a type of more than 4,096 nodes; what is answered otherwise
-/// is in the clauses too. `told` says it of a source that tells its bytes, `runs` of every source, by the pieces that it
-/// gave; after a device's fault or want of memory they say it of a front of the answers, which has all that was owed
-/// before the last pull. A pull that fails finds all answered, taken and flushed (`failed_pull`). That an answer is out
-/// before a pull that does not fail is said of `turn`; when memory is wanting is said nowhere.
-/// That the edits of a rename leave binding as it was, and in which texts there are faults of types, follows from what is
-/// told by two laws of lam_query, `renames_keep_binding` and `no_fault_is_well_typed`.
+/// The output is the session's answers about the current texts, in the dialect of `config`:
+/// - A hover shows the least type of the innermost term under the declarative rules, and a derivation of it is provided.
+/// - A term is reported exactly where the rules give it no type, although each of its parts has one and the error is nowhere
+///   else. A text has type errors exactly if a written type denotes no type, or a definition or a term command has no type.
+/// - The edits of a rename preserve binding.
+/// - After a dot, exactly those labels are listed for which the projection has a type.
 ///
-/// Which output is allowed depends on the bytes and the dialect alone: every input has one, but for which derivation of a
-/// shown type is given, and what begins the output for some bytes begins it for any more of them.
+/// This holds for terms in pieces that are commands (after a dot, with the label inserted) and for texts without a type of more
+/// than 4,096 nodes; the clauses also cover the other answers. `told` states it for a source whose bytes are observable, `runs`
+/// for every source, by the pieces that it returned. After a device error or a failed allocation they state it for a prefix of
+/// the answers, which includes all that was due before the last pull. When a pull fails, all that was due has been answered,
+/// accepted and flushed (`failed_pull`). The contract of `turn` states that an answer is sent before a pull that succeeds; no
+/// clause says when an allocation fails. That the edits of a rename preserve binding, and which texts have type errors, follows
+/// from two laws of lam_query, `renames_keep_binding` and `no_fault_is_well_typed`.
+///
+/// The allowed output depends only on the bytes and the dialect: every input has exactly one, except for which derivation of a
+/// shown type is given, and a prefix of the output for some bytes is also one for any extension of them.
 pub fn run<R: Source, W: Sink>(
     alloc: Global,
     reader: &mut R,

@@ -1,4 +1,4 @@
-//! A server, turn by turn.
+//! The server, one message at a time.
 
 ghost use Rattle.std.specs.Prelude.{◌≡◌, ◌-◌, ◌^◌, ◌<◌, IfOk, []};
 ghost use Rattle.lam_frame.specs.Device.{source_of, sink_of};
@@ -11,7 +11,7 @@ use lam_session::{Config, Session};
 use std::alloc::{AllocError, Global};
 use std::marker::Model;
 
-/// The status of a clean end without an `exit`.
+/// The exit status at a clean end of the input without an `exit`.
 const NO_EXIT: u8 = 1;
 
 /// A server between two messages.
@@ -22,7 +22,7 @@ pub struct Server {
     session: Session,
 }
 
-// Seen as the bytes that it holds for later, the pulls that it has made, and its session's state.
+// The model is the bytes held for later, the number of pulls made, and the state of the session.
 impl Model for Server {
     ghost use Rattle.std.specs.Prelude.{◌≡◌, false, None};
     ghost use Rattle.lam_frame.specs.declared.reader.State.TheVariants.{Reading};
@@ -36,19 +36,19 @@ impl Model for Server {
     ghost invariant = { λ s. (s.frames.state ≡ Reading) × ((s.session.gave_up ≡ false) × (ended_status s.session.state.life ≡ None)) };
 }
 
-/// What a turn leads to.
+/// The outcome of a turn.
 #[derive(Drop)]
 pub enum Turn {
-    /// A message was answered, and the session goes on.
+    /// A message was answered, and the session continues.
     More(Server),
-    /// The session is over: the program's status.
+    /// The session has ended, with the exit status of the program.
     End(u8),
 }
 
 impl Server {
     ghost use Rattle.lam_server.specs.inner.Turn.{TakesTurn, ShrinksWork};
 
-    /// A server before its first message. What later calls need of memory they ask of `alloc`.
+    /// Creates a server before its first message. Later calls allocate with `alloc`.
     pub fn new(alloc: Global, config: Config) -> Result<Server, AllocError>
         ensures { IfOk result (λ s. s ≡ record { held = []; pulls = 0; state = fresh (dialect_of config) }) }
     {
@@ -61,12 +61,11 @@ impl Server {
         })
     }
 
-    /// Reads the next message and sends its answer; where no message comes any more, the session is
-    /// over.
+    /// Reads the next message and sends its answer. If the input has ended, so does the session.
     ///
-    /// A fault uses the server up. `RunFault::Header` says what is wrong with the bytes that come
-    /// next, and then nothing was sent. `Device` comes where a device failed in this call, or before
-    /// a pull that would be one more than 2^48, and `Memory` where memory was refused.
+    /// An error consumes the server. `RunFault::Header` tells what is wrong with the next bytes, and nothing was sent. `Device`
+    /// is returned if a device failed in this call, or before a pull that would exceed 2^48, and `Memory` if an allocation
+    /// failed.
     pub fn turn<R: Source, W: Sink>(self, reader: &mut R, writer: &mut W) -> Result<Turn, RunFault>
         requires source { R.failed reader.old < 2 ^ 64 - 1 }
         requires sink { W.failed writer.old < 2 ^ 64 - 1 }

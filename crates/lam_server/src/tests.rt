@@ -1,5 +1,5 @@
-//! What only devices in memory show: a run goes turn by turn, and answers each message before it reads on; and what it
-//! leaves where one call of a device fails.
+//! Tests that need in-memory devices: a run goes turn by turn and answers each message before it reads on, and what it leaves
+//! when one call of a device fails.
 ghost use Rattle.std.specs.Prelude.{◌≡◌, Some, ⊤};
 
 use crate::faults::RunFault;
@@ -19,18 +19,18 @@ const SHUTDOWN: &str =
 
 const EXIT: &str = "Content-Length: 33\r\n\r\n{\"jsonrpc\":\"2.0\",\"method\":\"exit\"}";
 
-/// These three.
+/// The three messages above.
 const WHOLE: &str =
     "Content-Length: 46\r\n\r\n{\"jsonrpc\":\"2.0\",\"id\":0,\"method\":\"initialize\"}\
     Content-Length: 44\r\n\r\n{\"jsonrpc\":\"2.0\",\"id\":2,\"method\":\"shutdown\"}\
     Content-Length: 33\r\n\r\n{\"jsonrpc\":\"2.0\",\"method\":\"exit\"}";
 
-/// What is answered to them.
+/// The answers to them.
 const ANSWERS: &str = "Content-Length: 273\r\n\r\n\
     {\"id\":0,\"jsonrpc\":\"2.0\",\"result\":{\"capabilities\":{\"completionProvider\":{\"triggerCharacters\":[\".\"]},\"definitionProvider\":true,\"hoverProvider\":true,\"positionEncoding\":\"utf-16\",\"referencesProvider\":true,\"renameProvider\":true,\"textDocumentSync\":{\"change\":2,\"openClose\":true}}}}\
     Content-Length: 38\r\n\r\n{\"id\":2,\"jsonrpc\":\"2.0\",\"result\":null}";
 
-/// How many turns go on, and the status of the one that ends.
+/// Returns the number of turns that continue, and the exit status of the last one.
 fn turns(alloc: Global, input: &[u8], writer: &mut BytesOut) -> Result<(usize, u8), RunFault>
     requires { writer.old.failures ≡ 0 }
 {
@@ -51,7 +51,7 @@ fn turns(alloc: Global, input: &[u8], writer: &mut BytesOut) -> Result<(usize, u
     Err(RunFault::Device)
 }
 
-/// An input, how many turns go on, and the status of the one that ends.
+/// An input, the number of turns that continue, and the exit status of the last one.
 const TURNS: [(&str, usize, u8); 2] = [(WHOLE, 2, 0), (SHUTDOWN, 1, 1)];
 
 #[test]
@@ -63,11 +63,11 @@ fn turn_by_turn(rt: HostRuntime) {
     }
 }
 
-/// Brings a message a pull, and fails where it is pulled before the last one is answered.
+/// Yields one message per pull, and fails if pulled before the previous one is answered.
 #[derive(Drop)]
 struct Asker<'a> {
     frames: &'a [&'a str],
-    /// How many answers are flushed before each message is given, and at the end.
+    /// The number of answers that must be flushed before each message, and at the end.
     owed: &'a [usize],
     given: usize,
     answered: &'a Cell<usize>,
@@ -102,7 +102,7 @@ impl Source for Asker<'_> {
     }
 }
 
-/// Counts the flushes behind some bytes.
+/// Counts the flushes that follow some bytes.
 #[derive(Drop)]
 struct Hearer<'a> {
     inner: BytesOut,
@@ -135,7 +135,7 @@ impl Sink for Hearer<'_> {
     }
 }
 
-/// A run that is asked for one message at a time: its outcome, and what is written.
+/// Runs the server with one message per pull, and returns the outcome and the output.
 fn asked(alloc: Global, frames: &[&str], owed: &[usize]) -> (Result<u8, RunFault>, BytesOut) {
     let answered = Cell::new(0);
     let mut reader = Asker {
@@ -162,7 +162,7 @@ fn answers_before_it_pulls_again(rt: HostRuntime) {
     assert_eq!(rt; writer.bytes(), ANSWERS.as_bytes());
 }
 
-/// The bodies of a session: a text is opened and changed, and a type is asked for.
+/// The bodies of a session that opens and changes a text, and requests a type.
 const BODIES: [&str; 6] = [
     "{\"jsonrpc\":\"2.0\",\"id\":0,\"method\":\"initialize\"}",
     "{\"jsonrpc\":\"2.0\",\"method\":\"textDocument/didOpen\",\"params\":{\"textDocument\":{\"uri\":\"file:///h\",\"text\":\"f : {a:Nat}->Nat; f {a=0, b=true}; f {}\"}}}",
@@ -172,7 +172,7 @@ const BODIES: [&str; 6] = [
     "{\"jsonrpc\":\"2.0\",\"method\":\"exit\"}",
 ];
 
-/// How many of them were answered before each pull, and at the end.
+/// The number of answers due before each pull, and at the end.
 const OWED: [usize; 7] = [0, 1, 2, 3, 4, 5, 5];
 
 /// The bodies as frames.
@@ -184,8 +184,8 @@ fn frames(alloc: Global) -> Result<Vec<String>, AllocError> {
     Ok(made)
 }
 
-/// The first so many messages of the session, where a pull of one number fails and a push or a flush of another, 0 for
-/// none: the outcome, and what is written.
+/// Runs the first `count` messages of the session, with failures in pull number `pull` and in push or flush number `call`, where
+/// 0 means none. Returns the outcome and the output.
 fn session(
     alloc: Global,
     count: usize,

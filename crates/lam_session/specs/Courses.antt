@@ -1,4 +1,4 @@
--- How a session stands in its field: for its model alone.
+-- The model of `Session`.
 use Rattle.std.specs.Prelude.{◌≡◌, true, false, None}
 use Rattle.lam_rules.specs.declared.rules.Dialect.TheVariants.{One}
 use Rattle.lam_session.specs.declared.session.Course.{Course}
@@ -6,16 +6,16 @@ use Rattle.lam_session.specs.declared.session.Course.TheVariants.{Going, GaveUp}
 use Rattle.lam_session.specs.declared.states.Life.{Life}
 use Rattle.lam_session.specs.State.{State, fresh, Snapshot, ended_status}
 
--- what is left of a session that gave up: how far it had come; all else is as before the first message
+-- The state of a session that gave up: only the lifecycle state is kept, and all else is as before the first message.
 abbrev pub left : Life → State
 left life = record (fresh One) { life = life }
 
--- the session as it is seen
+-- the observable value of a session
 abbrev pub snapshot_of : Course → Snapshot
 snapshot_of (Going state) = record { state = state; gave_up = false }
 snapshot_of (GaveUp life) = record { state = left life; gave_up = true }
 
--- a session gives up only while it lives
+-- A session gives up only before it has ended.
 abbrev pub IsWhole : Course → Type 0
 IsWhole (Going state) = Unit {0}
 IsWhole (GaveUp life) = ended_status life ≡ None

@@ -1,4 +1,4 @@
--- Faults as a client is told them (LSP 3.17, "Diagnostic").
+-- Diagnostics as they are published (LSP 3.17, "Diagnostic").
 use Rattle.std.specs.Prelude.{ℕ, List, [], ◌∷◌, codes, map, if◌then◌else◌}
 use Rattle.std.specs.Str.{bytes_eq}
 use Rattle.serde_json.specs.Data.{Data, number, unsigned, string, object, Items, member, no_members}
@@ -7,7 +7,7 @@ use Rattle.lam_text.specs.declared.units.Encoding.{Encoding}
 use Rattle.lam_query.specs.Faults.{Fault}
 use Rattle.lam_session.specs.Ranges.{range_value}
 
--- the codes, each with what a person reads
+-- the codes with their messages
 abbrev pub messages : List (List ℕ × List ℕ)
 messages =
     (codes "B1", codes "character not allowed")
@@ -29,16 +29,16 @@ messages =
     ∷ (codes "E9", codes "label used twice in a record")
     ∷ []
 
--- the message beside a code, none for another word
+-- the message for a code in this list; empty if the code is not in it
 abbrev pub message_beside : List ℕ → List (List ℕ × List ℕ) → List ℕ
 message_beside code [] = []
 message_beside code (m ∷ ms) = if bytes_eq code m.0 then m.1 else message_beside code ms
 
--- what a person reads of a code
+-- the message for a code
 abbrev pub message_of : List ℕ → List ℕ
 message_of code = message_beside code messages
 
--- a fault of a text; every one is an error (severity 1)
+-- one diagnostic, always of severity 1 (Error)
 abbrev pub diagnostic : Encoding → List ℕ → Fault → Data
 diagnostic encoding text fault =
     object (member (codes "code") (string fault.code)
@@ -47,6 +47,6 @@ diagnostic encoding text fault =
     (member (codes "severity") (number (unsigned 1))
     (member (codes "source") (string (codes "fullsub")) no_members)))))
 
--- the faults of a text, in their order
+-- the diagnostics of a text, in order
 abbrev pub diagnostics : Encoding → List ℕ → List Fault → Items
 diagnostics encoding text faults = items_of (map (diagnostic encoding text) faults)

@@ -1,18 +1,18 @@
--- What a case of a step says: the values sent and the state after it.
+-- The outcome of a step: the values sent and the state after it.
 use Rattle.std.specs.Prelude.{◌≡◌, List, [], ◌∷◌}
 use Rattle.serde_json.specs.Data.{Data}
 use Rattle.lam_session.specs.Refusals.{refused}
 use Rattle.lam_session.specs.State.{State}
 use Rattle.lam_session.specs.declared.refusals.Refusal.{Refusal}
 
--- these values are sent, and this is the state after it
+-- These values are sent, and this is the state after it.
 abbrev pub Does : List Data → State → List Data → State → Type 0
 Does values after sent next = (sent ≡ values) × (next ≡ after)
 
--- nothing is sent and nothing changes
+-- Nothing is sent and nothing changes.
 abbrev pub Ignores : State → List Data → State → Type 0
 Ignores s = Does [] s
 
--- the message is refused, in a reply with this id, and nothing changes
+-- The message is refused in a reply with this id, and nothing changes.
 abbrev pub Refuses : State → Data → Refusal → List Data → State → Type 0
 Refuses s id refusal = Does (refused id refusal ∷ []) s

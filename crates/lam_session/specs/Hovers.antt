@@ -1,4 +1,4 @@
--- What a hover is answered with (LSP 3.17, "Hover").
+-- Replies to hover requests (LSP 3.17, "Hover").
 use Rattle.std.specs.Prelude.{◌≡◌, ℕ, List, codes, Option, None, Some}
 use Rattle.serde_json.specs.Data.{Data, null, string, object, member, no_members}
 use Rattle.lam_rpc.specs.Reply.{result_reply}
@@ -7,17 +7,17 @@ use Rattle.lam_text.specs.declared.units.Encoding.{Encoding}
 use Rattle.lam_query.specs.Hovers.{Shown, IsShownIn}
 use Rattle.lam_session.specs.Ranges.{range_value}
 
--- a text that a client shows as it is (LSP 3.17, MarkupKind plaintext)
+-- a text that the client shows verbatim (LSP 3.17, MarkupKind plaintext)
 abbrev pub plain_contents : List ℕ → Data
 plain_contents text = object (member (codes "kind") (string (codes "plaintext")) (member (codes "value") (string text) no_members))
 
--- the text of the type and the range of its term; null where there is none
+-- the text of the type and the range of its term; null if there is none
 abbrev pub hover_value : Encoding → List ℕ → Option Shown → Data
 hover_value encoding text None = null
 hover_value encoding text (Some shown) =
     object (member (codes "contents") (plain_contents shown.text) (member (codes "range") (range_value encoding text shown.span) no_members))
 
--- the reply shows the least type of the innermost term round the offset
+-- The reply shows the least type of the innermost term around the offset.
 pub record IsHoverReply (encoding : Encoding) (d : Dialect) (text : List ℕ) (offset : ℕ) (id reply : Data) : Type 0 where
   pub shown : Option Shown
   pub right : IsShownIn text offset shown d

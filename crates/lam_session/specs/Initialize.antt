@@ -1,4 +1,4 @@
--- What `initialize` settles: the unit of columns, and what the server says that it can do.
+-- The outcome of `initialize`: the position encoding and the capabilities of the server.
 use Rattle.std.specs.Prelude.{ℕ, List, codes, true, if◌then◌else◌, Option, Some, None, option_and_then, unwrap_or}
 use Rattle.std.specs.Option.{option_or}
 use Rattle.std.specs.Str.{bytes_eq}
@@ -7,7 +7,7 @@ use Rattle.serde_json.specs.Find.{get, as_array, as_str}
 use Rattle.lam_text.specs.declared.units.Encoding.{Encoding}
 use Rattle.lam_text.specs.declared.units.Encoding.TheVariants.{Utf8, Utf16, Utf32}
 
--- the protocol's name of an encoding (LSP 3.17, PositionEncodingKind)
+-- the name of an encoding in the protocol (LSP 3.17, PositionEncodingKind)
 abbrev pub encoding_name : Encoding → List ℕ
 encoding_name Utf8 = codes "utf-8"
 encoding_name Utf16 = codes "utf-16"
@@ -21,7 +21,7 @@ encoding_named name =
     else (if bytes_eq name (encoding_name Utf32) then Some Utf32
     else None))
 
--- the list that the client offers, where its params have one
+-- the list of encodings that the client offers, if its params have one
 abbrev pub offered : Data → Option Items
 offered params =
     option_and_then as_array
@@ -37,19 +37,19 @@ abbrev pub first_known : Items → Option Encoding
 first_known no_items = None
 first_known (item offer offers) = option_or (encoding_of offer) (first_known offers)
 
--- the unit that is chosen: that of the first such offer; without one columns count UTF-16 units, as the protocol has it
+-- The chosen encoding: the first offer that names one, or else UTF-16, as the protocol requires.
 abbrev pub chosen : Data → Encoding
 chosen params = unwrap_or (option_and_then first_known (offered params)) Utf16
 
--- how documents come: each is opened and closed, and changes come piece by piece (TextDocumentSyncKind.Incremental)
+-- documents are opened and closed, and changes are incremental (TextDocumentSyncKind.Incremental)
 abbrev pub document_sync : Data
 document_sync = object (member (codes "change") (number (unsigned 2)) (member (codes "openClose") (boolean true) no_members))
 
--- when a client asks for completion by itself: as soon as a dot is typed
+-- the characters that trigger completion: a dot
 abbrev pub completion_options : Data
 completion_options = object (member (codes "triggerCharacters") (array (item (string (codes ".")) no_items)) no_members)
 
--- what the server can do, with the unit that it has chosen
+-- the capabilities of the server, with the chosen encoding
 abbrev pub capabilities : Encoding → Data
 capabilities encoding =
     object (member (codes "completionProvider") completion_options
@@ -60,6 +60,6 @@ capabilities encoding =
     (member (codes "renameProvider") (boolean true)
     (member (codes "textDocumentSync") document_sync no_members)))))))
 
--- the answer to `initialize`
+-- the result of `initialize`
 abbrev pub initialize_answer : Encoding → Data
 initialize_answer encoding = object (member (codes "capabilities") (capabilities encoding) no_members)

@@ -1,4 +1,4 @@
--- The methods that are served, by their names; any other is unknown.
+-- The supported methods, by name; any other is unknown.
 use Rattle.std.specs.Prelude.{ℕ, List, [], ◌∷◌, codes, if◌then◌else◌}
 use Rattle.std.specs.Str.{bytes_eq}
 use Rattle.lam_session.specs.declared.questions.Question.TheVariants as question
@@ -7,12 +7,12 @@ use Rattle.lam_session.specs.declared.methods.RequestMethod.TheVariants as reque
 use Rattle.lam_session.specs.declared.methods.NoticeMethod.{NoticeMethod}
 use Rattle.lam_session.specs.declared.methods.NoticeMethod.TheVariants as notice
 
--- the method of the first pair with this name; where there is none, it is unknown
+-- the method of the first pair with this name, or `unknown` if there is none
 abbrev pub method_named : {M : Type 0} → M → List ℕ → List (List ℕ × M) → M
 method_named unknown name [] = unknown
 method_named unknown name (p ∷ ps) = if bytes_eq name p.0 then p.1 else method_named unknown name ps
 
--- the requests by their names
+-- the requests by name
 abbrev pub requests : List (List ℕ × RequestMethod)
 requests =
     (codes "initialize", request.Initialize)
@@ -25,11 +25,11 @@ requests =
     ∷ (codes "textDocument/rename", request.Ask question.Rename)
     ∷ []
 
--- the request that a name means
+-- the request with this name
 abbrev pub request_method : List ℕ → RequestMethod
 request_method name = method_named request.Unknown name requests
 
--- the notices by their names
+-- the notifications by name
 abbrev pub notices : List (List ℕ × NoticeMethod)
 notices =
     (codes "exit", notice.Exit)
@@ -38,6 +38,6 @@ notices =
     ∷ (codes "textDocument/didClose", notice.DidClose)
     ∷ []
 
--- the notice that a name means
+-- the notification with this name
 abbrev pub notice_method : List ℕ → NoticeMethod
 notice_method name = method_named notice.Unknown name notices

@@ -1,4 +1,4 @@
--- A law of steps: each message has an answer in each state, and one alone, but for replies that may vary: derivations.
+-- A law of steps: in each state each message has exactly one answer, except for replies that may vary, which are derivations.
 use Rattle.std.specs.Prelude.{◌≡◌, ℕ, List, [], ◌∷◌, Some}
 use Rattle.serde_json.specs.Data.{Data}
 use Rattle.lam_rpc.specs.Kind.{Message, request}
@@ -11,7 +11,7 @@ use Rattle.lam_session.specs.Questions.{MayVary}
 use Rattle.lam_session.specs.State.{State, open_in}
 use Rattle.lam_session.specs.Step.{Steps}
 
--- a question about a place in an open document, and two replies to it, each of which may vary
+-- a question about a position in an open document, and two replies to it that may both vary
 pub record BothMayVary (s : State) (m : Message) (values sent : List Data) : Type 0 where
   pub id : Data
   pub method : List ℕ
@@ -30,12 +30,12 @@ pub record BothMayVary (s : State) (m : Message) (values sent : List Data) : Typ
   pub other_varies : MayVary question (asked_at (open_in s) params place text) id other
   pub other_replied : sent ≡ other ∷ []
 
--- two answers to a message are the same, or replies that may vary
+-- Two answers to a message are equal, or both are replies that may vary.
 pub data AreAlike (s : State) (m : Message) (values sent : List Data) : Type 0 where
   same : values ≡ sent → AreAlike s m values sent
   both_may_vary : BothMayVary s m values sent → AreAlike s m values sent
 
--- the values sent and the state after them; and any two answers to the message are alike and lead to one state
+-- The values sent and the state after them exist, and any two answers to the message are alike and lead to the same state.
 pub record HasOneAnswer (s : State) (m : Message) : Type 0 where
   pub values : List Data
   pub next : State

@@ -1,5 +1,4 @@
--- What the questions about a place in a document are answered with. A question whose params lack what it needs is refused first,
--- then one about a document that is not open.
+-- Replies to questions about a position in a document. A question whose params are incomplete is refused first, then one about a document that is not open.
 use Rattle.std.specs.Prelude.{◌≡◌, ℕ, List, [], ◌∷◌, Option, None, Some}
 use Rattle.serde_json.specs.Data.{Data}
 use Rattle.lam_session.specs.Asked.{PlaceAsked, asked_place, Asked, asked_at}
@@ -17,7 +16,7 @@ use Rattle.lam_session.specs.declared.questions.Question.{Question}
 use Rattle.lam_session.specs.declared.questions.Question.TheVariants.{Hover, Derivation, Completion, Definition, References, Rename}
 use Rattle.lam_session.specs.declared.refusals.Refusal.TheVariants.{InvalidParams, DocumentNotOpen}
 
--- the reply to the request with this id answers the question
+-- The reply to the request with this id answers the question.
 abbrev pub IsAnswerTo : Question → Asked → Data → Data → Type 0
 IsAnswerTo Hover a id reply = IsHoverReply a.encoding a.dialect a.text a.offset id reply
 IsAnswerTo Derivation a id reply = IsDerivationReply a.encoding a.dialect a.text a.offset id reply
@@ -26,17 +25,17 @@ IsAnswerTo Definition a id reply = IsDefinitionReply a.encoding a.uri a.text a.o
 IsAnswerTo References a id reply = IsReferencesReply a.encoding a.uri a.text a.offset (is_declared a.params) id reply
 IsAnswerTo Rename a id reply = IsRenameReply a.encoding a.uri a.text a.offset (new_name a.params) id reply
 
--- the reply is one of several that answer the question; only a derivation can be
+-- The reply is one of several that answer the question, which holds only for derivations.
 abbrev pub MayVary : Question → Asked → Data → Data → Type 0
 MayVary Derivation a id reply = GivesDerivation a.encoding a.dialect a.text a.offset id reply
 MayVary _ a id reply = ⊥
 
--- the reply to a question about a place in a document, whose text this is; where it is not open, the question is refused
+-- the reply to a question about a document with this text; refused if the document is not open
 abbrev pub RepliesOpen : Question → OpenDocuments → Data → Data → PlaceAsked → Option (List ℕ) → Data → Type 0
 RepliesOpen question held id params place None reply = reply ≡ refused id DocumentNotOpen
 RepliesOpen question held id params place (Some text) reply = IsAnswerTo question (asked_at held params place text) id reply
 
--- the reply to a question about this place; where the params name none, the question is refused
+-- the reply to a question at this document position; refused if the params give none
 abbrev pub RepliesAt : Question → OpenDocuments → Data → Data → Option PlaceAsked → Data → Type 0
 RepliesAt question held id params None reply = reply ≡ refused id InvalidParams
 RepliesAt question held id params (Some place) reply = RepliesOpen question held id params place (open_text place.uri held.documents) reply
@@ -45,7 +44,7 @@ RepliesAt question held id params (Some place) reply = RepliesOpen question held
 abbrev pub Replies : Question → OpenDocuments → Data → Data → Data → Type 0
 Replies question held id params reply = RepliesAt question held id params (asked_place question params) reply
 
--- a question is replied to, and nothing changes
+-- The question is replied to, and nothing changes.
 pub record Asks (question : Question) (s : State) (id params : Data) (sent : List Data) (next : State) : Type 0 where
   pub reply : Data
   pub replies : Replies question (open_in s) id params reply

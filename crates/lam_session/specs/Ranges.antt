@@ -1,4 +1,4 @@
--- Places of a text as a client is told them (LSP 3.17, "Position", "Range" and "Location").
+-- Positions in a text as JSON values (LSP 3.17, "Position", "Range" and "Location").
 use Rattle.std.specs.Prelude.{ℕ, List, codes}
 use Rattle.serde_json.specs.Data.{Data, number, unsigned, string, object, member, no_members}
 use Rattle.lam_token.specs.declared.span.Span.{Span}
@@ -7,25 +7,25 @@ use Rattle.lam_text.specs.declared.places.Position.{Position}
 use Rattle.lam_text.specs.declared.places.Range.{Range}
 use Rattle.lam_text.specs.Positions.{position_of}
 
--- a line and a column, both counted from 0
+-- a line and a column, both zero-based
 abbrev pub position_value : Position → Data
 position_value p =
     object (member (codes "character") (number (unsigned p.character)) (member (codes "line") (number (unsigned p.line)) no_members))
 
--- the range of a span of that text, in the client's columns
+-- the range of a span of the text, in the client's encoding
 abbrev pub range_of : Encoding → List ℕ → Span → Range
 range_of encoding text span = record { start = position_of encoding text span.start; end = position_of encoding text span.end }
 
--- a range as it is written
+-- a range as a value
 abbrev pub written_range : Range → Data
 written_range range =
     object (member (codes "end") (position_value range.end)
     (member (codes "start") (position_value range.start) no_members))
 
--- the range of that span, as it is written
+-- the range of a span as a value
 abbrev pub range_value : Encoding → List ℕ → Span → Data
 range_value encoding text span = written_range (range_of encoding text span)
 
--- that range in the document of this uri
+-- the location of a span in the document with this URI
 abbrev pub location_value : Encoding → List ℕ → (uri : List ℕ) → Span → Data
 location_value encoding text uri span = object (member (codes "range") (range_value encoding text span) (member (codes "uri") (string uri) no_members))

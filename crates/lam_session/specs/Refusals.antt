@@ -1,11 +1,11 @@
--- The refusals of a message: JSON-RPC 2.0's and LSP 3.17's codes, and this server's texts.
+-- Error responses: codes of JSON-RPC 2.0 and LSP 3.17, and this server's messages.
 use Rattle.std.specs.Prelude.{ℕ, ℤ, negsuc, List, codes}
 use Rattle.serde_json.specs.Data.{Data}
 use Rattle.lam_rpc.specs.Reply.{refusal_reply}
 use Rattle.lam_session.specs.declared.refusals.Refusal.{Refusal}
 use Rattle.lam_session.specs.declared.refusals.Refusal.TheVariants.{UnreadableMessage, InvalidMessage, AlreadyInitialized, ShutDown, NotInitialized, MethodNotFound, InvalidParams, DocumentNotOpen, NotAName, UnparsedCommand, NoBoundName, WrongKind, ChangesBinding}
 
--- the code, counted from -1 downwards: -32700 is `negsuc 32699`
+-- the error code; `negsuc n` is -1 - n, so -32700 is `negsuc 32699`
 abbrev pub code_of : Refusal → ℤ
 code_of UnreadableMessage = negsuc 32699
 code_of InvalidMessage = negsuc 32599
@@ -21,7 +21,7 @@ code_of NoBoundName = negsuc 32802
 code_of WrongKind = negsuc 32601
 code_of ChangesBinding = negsuc 32802
 
--- what a person reads of a refusal
+-- the error message
 abbrev pub refusal_text : Refusal → List ℕ
 refusal_text UnreadableMessage = codes "unreadable message"
 refusal_text InvalidMessage = codes "invalid message"
@@ -37,6 +37,6 @@ refusal_text NoBoundName = codes "no bound name here"
 refusal_text WrongKind = codes "new name is of the wrong kind"
 refusal_text ChangesBinding = codes "binding would change"
 
--- the reply that refuses the request with this id
+-- the error response to the request with this id
 abbrev pub refused : Data → Refusal → Data
 refused id refusal = refusal_reply id (code_of refusal) (refusal_text refusal)

@@ -1,4 +1,4 @@
--- What a rename is answered with (LSP 3.17, "Rename Request").
+-- Replies to rename requests (LSP 3.17, "Rename Request").
 use Rattle.std.specs.Prelude.{◌≡◌, ℕ, List, [], map, codes, Option, None, Some, option_map, option_and_then, unwrap_or, Result, Ok, Err}
 use Rattle.serde_json.specs.Data.{Data, string, array, object, member, no_members}
 use Rattle.serde_json.specs.Find.{get}
@@ -17,30 +17,30 @@ use Rattle.lam_session.specs.Asked.{given_name}
 use Rattle.lam_session.specs.Ranges.{range_of, range_value}
 use Rattle.lam_session.specs.Refusals.{refused}
 
--- the new name; where the params give none, which is refused before, it is an empty text
+-- the new name; empty if the params have none, which is refused before
 abbrev pub new_name : Data → List ℕ
 new_name params = unwrap_or (given_name params) []
 
--- a span of the text gets the new name (LSP 3.17, "TextEdit")
+-- the edit that replaces a span of the text by the new name (LSP 3.17, "TextEdit")
 abbrev pub edit_value : Encoding → List ℕ → (new : List ℕ) → Span → Data
 edit_value encoding text new span = object (member (codes "newText") (string new) (member (codes "range") (range_value encoding text span) no_members))
 
--- the change that a client makes of a span's edit: the edit's range gets the new name
+-- the change that a client makes for a span's edit: the new name replaces the range
 abbrev pub change_of : Encoding → List ℕ → (new : List ℕ) → Span → Edit
 change_of encoding text new span = record { range = Some (range_of encoding text span); text = new }
 
--- the change that such an edit of a reply tells, read by its members
+-- the change that such an edit in a reply describes, read from its members
 abbrev pub change_in : Data → Option Edit
 change_in edit =
     option_and_then (λ new. option_map (λ range. record { range = Some range; text = new }) (option_and_then given_range (get (codes "range") edit)))
     (text_at (codes "newText") edit)
 
--- the edits of the document of this uri, one for each span, in their order (LSP 3.17, "WorkspaceEdit")
+-- the edits in the document with this URI, one for each span, in order (LSP 3.17, "WorkspaceEdit")
 abbrev pub rename_value : Encoding → List ℕ → (uri new : List ℕ) → List Span → Data
 rename_value encoding text uri new spans =
     object (member (codes "changes") (object (member uri (array (items_of (map (edit_value encoding text new) spans))) no_members)) no_members)
 
--- the refusal that tells why a name is not renamed; want of memory is none
+-- the refusal for a rename that fails; `None` for a failed allocation
 abbrev pub refusal_of : RenameFault → Option Refusal
 refusal_of fault.NotAName = Some refusal.NotAName
 refusal_of fault.UnparsedCommand = Some refusal.UnparsedCommand
@@ -49,12 +49,12 @@ refusal_of fault.WrongKind = Some refusal.WrongKind
 refusal_of fault.ChangesBinding = Some refusal.ChangesBinding
 refusal_of fault.Memory = None
 
--- the reply that tells the answer: the edits, or the refusal; none for want of memory
+-- the reply: the edits or the refusal; `None` for a failed allocation
 abbrev pub reply_for : Encoding → (uri text new : List ℕ) → (id : Data) → Result (List Span) RenameFault → Option Data
 reply_for encoding uri text new id (Ok spans) = Some (result_reply id (rename_value encoding text uri new spans))
 reply_for encoding uri text new id (Err f) = option_map (refused id) (refusal_of f)
 
--- the reply tells the edits that give the name at the offset its new name, or why there are none
+-- The reply gives the edits that rename the name at the offset, or the reason why there are none.
 pub record IsRenameReply (encoding : Encoding) (uri text : List ℕ) (offset : ℕ) (new : List ℕ) (id reply : Data) : Type 0 where
   pub found : Result (List Span) RenameFault
   pub right : IsRenameIn text offset new found

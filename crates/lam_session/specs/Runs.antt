@@ -1,4 +1,4 @@
--- Runs of a session, and what they say of one document.
+-- Runs of a session, and what they send about one document.
 use Rattle.std.specs.Prelude.{◌≡◌, ℕ, ℤ, List, [], ◌∷◌, filter, map, codes, Bool, false, ◌||◌, if◌then◌else◌, Option, None, Some}
 use Rattle.std.specs.Str.{bytes_eq}
 use Rattle.std.specs.List.{AllByRecursion}
@@ -12,30 +12,30 @@ use Rattle.lam_session.specs.Step.{Steps}
 use Rattle.lam_session.specs.OneAnswer.{AreAlike}
 use Rattle.lam_session.specs.Sync.{published}
 
--- a message, and the values that were sent for it
+-- a message and the values sent for it
 pub record Exchange : Type 0 where
   pub message : Message
   pub sent : List Data
 
--- the messages, in their order
+-- the messages, in order
 abbrev pub messages_of : List Exchange → List Message
 messages_of exchanges = map (λ e. e.message) exchanges
 
--- these exchanges lead from the one state to the other
+-- These exchanges lead from the first state to the other.
 abbrev pub AreExchanges : State → List Exchange → State → Type 0
 AreExchanges s [] end = end ≡ s
 AreExchanges s (e ∷ es) end = (next : State) × Steps s e.message e.sent next × AreExchanges next es end
 
--- a method that shapes the session as a whole
+-- The method belongs to the lifecycle of the session.
 abbrev pub is_lifecycle : List ℕ → Bool
 is_lifecycle method = bytes_eq method (codes "initialize") || (bytes_eq method (codes "shutdown") || bytes_eq method (codes "exit"))
 
--- the params name the document of this uri
+-- The params name the document with this URI.
 abbrev pub is_named : List ℕ → Option (List ℕ) → Bool
 is_named uri None = false
 is_named uri (Some other) = bytes_eq uri other
 
--- the message shapes the session, or names the document of this uri
+-- The message belongs to the lifecycle, or names the document with this URI.
 abbrev pub concerns : List ℕ → Message → Bool
 concerns uri (request id method params) = is_lifecycle method || is_named uri (named_uri params)
 concerns uri (notice method params) = is_lifecycle method || is_named uri (named_uri params)
@@ -43,23 +43,23 @@ concerns uri reply = false
 concerns uri unreadable = false
 concerns uri invalid = false
 
--- the exchanges that concern the document of this uri, in their order
+-- the exchanges that concern the document with this URI, in order
 abbrev pub concerning : List ℕ → List Exchange → List Exchange
 concerning uri exchanges = filter (λ e. concerns uri e.message) exchanges
 
--- the open document with this uri
+-- the open document with this URI
 abbrev pub document_named : List ℕ → List OpenDocument → Option OpenDocument
 document_named uri [] = None
 document_named uri (d ∷ ds) = if bytes_eq uri d.uri then Some d else document_named uri ds
 
--- two states that are one to whoever asks about this document: it has one text and one version in both, or is open in neither
+-- Two states that cannot be told apart by questions about this document: it has the same text and version in both, or is open in neither.
 pub record SameFor (uri : List ℕ) (s t : State) : Type 0 where
   pub life : s.life ≡ t.life
   pub encoding : s.encoding ≡ t.encoding
   pub dialect : s.dialect ≡ t.dialect
   pub document : document_named uri s.documents ≡ document_named uri t.documents
 
--- the exchanges that concern a document are a run by themselves, which leaves that document as the whole run does
+-- The exchanges that concern a document are a run by themselves, which leaves that document as the whole run does.
 pub record IsAlone (dialect : Dialect) (uri : List ℕ) (exchanges : List Exchange) (end : State) : Type 0 where
   pub alone : State
   pub run : AreExchanges (fresh dialect) (concerning uri exchanges) alone
@@ -72,15 +72,15 @@ pub data AnswerAlike : State → List Exchange → List Exchange → Type 0 wher
       → one.message ≡ other.message → Steps s one.message one.sent next → AreAlike s one.message one.sent other.sent → AnswerAlike next exchanges others
       → AnswerAlike s (one ∷ exchanges) (other ∷ others)
 
--- two runs agree about a document: what concerns it is answered alike in both, and they end in states that are one to whoever asks about it
+-- Two runs agree about a document: they answer what concerns it alike, and their last states cannot be told apart by questions about it.
 pub record AgreeAbout (dialect : Dialect) (uri : List ℕ) (exchanges others : List Exchange) (end later : State) : Type 0 where
   pub answers : AnswerAlike (fresh dialect) (concerning uri exchanges) (concerning uri others)
   pub same : SameFor uri end later
 
--- the value publishes faults of the document of this uri
+-- The value publishes diagnostics of the document with this URI.
 abbrev pub IsAbout : List ℕ → Data → Type 0
 IsAbout uri d = (version : Option ℤ) × (faults : Items) × (d ≡ published uri version faults)
 
--- none of the values does
+-- None of the values publishes diagnostics of the document with this URI.
 abbrev pub SaysNothing : List ℕ → List Data → Type 0
 SaysNothing uri sent = AllByRecursion (λ d. IsAbout uri d → ⊥) sent

@@ -1,5 +1,5 @@
--- What one message does: the values sent back, in order, and the state after it. All questions about a
--- place in a document are one case, and `Questions` says what answers each; what is not served falls under the unknown methods.
+-- The effect of one message: the values sent in response, in order, and the state after it. All questions about a position in a document are one case, which `Questions`
+-- defines; unsupported methods are unknown.
 use Rattle.std.specs.Prelude.{◌≡◌, ℕ, List, [], ◌∷◌, true, false, None}
 use Rattle.serde_json.specs.Data.{Data, null}
 use Rattle.lam_rpc.specs.Kind.{Message, request, notice, reply, unreadable, invalid}
@@ -18,21 +18,21 @@ use Rattle.lam_session.specs.Questions.{Asks}
 use Rattle.lam_session.specs.Sync.{Opens, Changes, Closes}
 use Rattle.lam_session.specs.State.{State, Snapshot, ended_status}
 
--- the session begins to serve with no document open, and says what it can do
+-- The session starts running with no document open, and replies with its capabilities.
 abbrev pub Initializes : State → Data → Data → List Data → State → Type 0
 Initializes s id params =
     Does (result_reply id (initialize_answer (chosen params)) ∷ [])
     (record s { life = Running; encoding = chosen params; documents = [] })
 
--- the session serves no more
+-- The session stops serving requests.
 abbrev pub ShutsDown : State → Data → List Data → State → Type 0
 ShutsDown s id = Does (result_reply id null ∷ []) (record s { life = Down })
 
--- the session ends with this status
+-- The session ends with this status.
 abbrev pub Ends : State → ℕ → List Data → State → Type 0
 Ends s status = Does [] (record s { life = Over status })
 
--- a request while the session serves
+-- a request while the session is running
 abbrev pub Serves : State → Data → RequestMethod → Data → List Data → State → Type 0
 Serves s id Initialize params = Refuses s id AlreadyInitialized
 Serves s id Shutdown params = ShutsDown s id
@@ -44,19 +44,19 @@ abbrev pub Awaits : State → Data → RequestMethod → Data → List Data → 
 Awaits s id Initialize params = Initializes s id params
 Awaits s id _ params = Refuses s id NotInitialized
 
--- a request, by the life
+-- a request in each lifecycle state
 abbrev pub Requested : Life → State → Data → RequestMethod → Data → List Data → State → Type 0
 Requested Fresh s id method params = Awaits s id method params
 Requested Running s id method params = Serves s id method params
 Requested Down s id method params = Refuses s id ShutDown
 Requested (Over status) s id method params = Ignores s
 
--- only after a shutdown the end is a success (LSP 3.17, exit)
+-- `exit` succeeds only after `shutdown` (LSP 3.17, exit)
 abbrev pub exit_status : Life → ℕ
 exit_status Down = 0
 exit_status _ = 1
 
--- a notice while the session serves
+-- a notification while the session is running
 abbrev pub Heeds : State → NoticeMethod → Data → List Data → State → Type 0
 Heeds s Exit params = Ends s (exit_status s.life)
 Heeds s DidOpen params = Opens s params
@@ -64,18 +64,18 @@ Heeds s DidChange params = Changes s params
 Heeds s DidClose params = Closes s params
 Heeds s UnknownNotice params = Ignores s
 
--- a notice while the session does not serve
+-- a notification while the session is not running
 abbrev pub Passes : State → NoticeMethod → List Data → State → Type 0
 Passes s Exit = Ends s (exit_status s.life)
 Passes s _ = Ignores s
 
--- a notice, by the life
+-- a notification in each lifecycle state
 abbrev pub Noticed : Life → State → NoticeMethod → Data → List Data → State → Type 0
 Noticed Running s method params = Heeds s method params
 Noticed (Over status) s method params = Ignores s
 Noticed _ s method params = Passes s method
 
--- a message before the end
+-- a message before the session has ended
 abbrev pub Receives : State → Message → List Data → State → Type 0
 Receives s (request id method params) = Requested s.life s id (request_method method) params
 Receives s (notice method params) = Noticed s.life s (notice_method method) params
@@ -83,22 +83,22 @@ Receives s reply = Ignores s
 Receives s unreadable = Refuses s null UnreadableMessage
 Receives s invalid = Refuses s null InvalidMessage
 
--- after the end every message is ignored
+-- After the session has ended, every message is ignored.
 abbrev pub ReceivesIn : Life → State → Message → List Data → State → Type 0
 ReceivesIn (Over status) s m = Ignores s
 ReceivesIn _ s m = Receives s m
 
--- what one message does
+-- the effect of one message
 abbrev pub Steps : State → Message → List Data → State → Type 0
 Steps s m = ReceivesIn s.life s m
 
--- a session that has not given up does what the message asks
+-- A session that has not given up handles the message.
 pub record Answers (old : Snapshot) (m : Message) (sent : List Data) (new : Snapshot) : Type 0 where
   pub before : old.gave_up ≡ false
   pub after : new.gave_up ≡ false
   pub steps : Steps old.state m sent new.state
 
--- a session that had not ended gives up, or had done so; whether it has ended stays as it was
+-- A session that has not ended gives up, or had already done so; its lifecycle state stays the same.
 pub record GivesUp (old new : Snapshot) : Type 0 where
   pub lives : ended_status old.state.life ≡ None
   pub gave_up : new.gave_up ≡ true

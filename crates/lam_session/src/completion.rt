@@ -1,4 +1,4 @@
-//! What can stand at a position, as a client is told it (LSP 3.17, `textDocument/completion`).
+//! Replies to `textDocument/completion` (LSP 3.17).
 ghost use Rattle.std.specs.Prelude.{◌≡◌, true, map, option_map, string_bytes, IfOk};
 ghost use Rattle.serde_json.specs.Data.{array, no_members};
 ghost use Rattle.serde_json.specs.View.{view, items_of};
@@ -15,7 +15,7 @@ use lam_text::Position;
 use serde_json::Value;
 use std::alloc::{AllocError, Global};
 
-/// The reply to the request with this id: the labels behind a dot, or the names in sight of a variable.
+/// Returns the reply to the request with this id: the labels after a dot, or the names in scope for a variable.
 pub fn completion_reply(
     alloc: Global,
     id: Value,
@@ -50,7 +50,7 @@ fn item_value(alloc: Global, item: &Item) -> Result<Value, AllocError>
         .finish()
 }
 
-/// An object with the detail of an entry, where it has one.
+/// An object with the detail of a completion item, if it has one.
 fn with_detail(alloc: Global, detail: &Option<String>) -> Object
     ensures { Has result (item_members (option_map (λ d. string_bytes d) detail.now) no_members) }
 {
@@ -60,7 +60,7 @@ fn with_detail(alloc: Global, detail: &Option<String>) -> Object
     }
 }
 
-/// The protocol's number of a field or of a variable (LSP 3.17, `CompletionItemKind`).
+/// The `CompletionItemKind` of a field or of a variable (LSP 3.17).
 fn item_kind(field: bool) -> u64
     ensures { result ≡ item_kind field }
 {

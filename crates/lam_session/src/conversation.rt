@@ -1,4 +1,4 @@
-//! What a session and its client have said so far, and what each message adds.
+//! The state of a session, and the effect of each message on it.
 ghost use Rattle.std.specs.Prelude.{◌≡◌, ℕ, List, ◌∷◌, [], map, IfOk, IsSome, OnErr, None, Some};
 ghost use Rattle.serde_json.specs.View.{view};
 ghost use Rattle.lam_rpc.specs.Kind.{message_of};
@@ -25,8 +25,8 @@ use serde_json::Value;
 use std::alloc::{AllocError, Global};
 use std::marker::Model;
 
-/// The life of a session, and the open documents. Each message takes it by value, and gives the next one back with the
-/// values to send, or neither where memory was refused.
+/// The lifecycle state and the open documents. Each message takes the conversation by value, and returns the next one with the
+/// values to send, or neither if allocation fails.
 #[derive(Drop)]
 pub struct Conversation {
     alloc: Global,
@@ -34,7 +34,7 @@ pub struct Conversation {
     documents: Documents,
 }
 
-/// What a notice tells of a change of an open document.
+/// The contents of a `didChange` notification for an open document.
 #[derive(Drop)]
 struct ToldChange {
     uri: String,
@@ -56,7 +56,7 @@ impl Model for Conversation {
 }
 
 impl Conversation {
-    /// Before the first message.
+    /// A conversation before the first message.
     pub fn new(alloc: Global, dialect: Dialect) -> Conversation
         ensures { result ≡ fresh dialect }
     {
@@ -67,14 +67,14 @@ impl Conversation {
         }
     }
 
-    /// How far the session has come.
+    /// Returns the lifecycle state.
     pub fn life(&self) -> Life
         ensures { result ≡ self.now.life }
     {
         self.life
     }
 
-    /// Does what a message asks.
+    /// Handles a message.
     pub fn receive(self, incoming: Incoming) -> Result<(Conversation, Vec<Value>), AllocError>
         ensures steps { IfOk result (λ r. Steps self (message_of incoming) (map view r.1.items) r.0) }
         ensures lives { OnErr result (ended_status self.life ≡ None) }
@@ -188,7 +188,7 @@ impl Conversation {
         self.send(reply)
     }
 
-    /// Answers a question about a place in a document.
+    /// Answers a question about a position in a document.
     fn ask(
         self,
         question: Question,
@@ -266,7 +266,7 @@ impl Conversation {
         ensures { IfOk result (λ r. Changes self (view params) (map view r.1.items) r.0) }
     {
         let told = self.told_change(&params)?;
-        // Blocks of the message would else lie in the room that the old analysis leaves to the new one.
+        // If kept, blocks of the message would occupy the memory that the old analysis frees for the new one.
         drop(params);
         match told {
             Some(change) => self.apply(&change.uri, &change.changes, change.version),
@@ -274,7 +274,7 @@ impl Conversation {
         }
     }
 
-    /// The change that a notice tells; none where it is to be ignored.
+    /// Reads a `didChange` notification; `None` if it is to be ignored.
     fn told_change(&self, params: &Value) -> Result<Option<ToldChange>, AllocError>
         ensures { IfOk result (IsTold self.now (view params.now)) }
     {
@@ -296,7 +296,7 @@ impl Conversation {
         }))
     }
 
-    /// Changes an open document, and tells its faults.
+    /// Changes an open document, and publishes its diagnostics.
     fn apply(
         mut self,
         uri: &str,
@@ -325,7 +325,7 @@ impl Conversation {
         Ok((self, values))
     }
 
-    /// The notice with all faults of an open document.
+    /// The notification with all diagnostics of an open document.
     fn tell(&self, uri: &str, version: Option<i64>) -> Result<Vec<Value>, AllocError>
         requires { IsSome (open_text uri.now self.now.documents) }
         ensures { IfOk result (λ values. (text : List ℕ) → open_text uri.now self.now.documents ≡ Some text
@@ -340,7 +340,7 @@ impl Conversation {
     }
 }
 
-// Only after a shutdown the end is a success (LSP 3.17, exit).
+// `exit` succeeds only after `shutdown` (LSP 3.17, exit).
 fn exit_status(life: Life) -> u8
     ensures { result ≡ exit_status life }
 {

@@ -1,4 +1,4 @@
-//! Where a name comes from, as a client is told it (LSP 3.17, `textDocument/definition`).
+//! Replies to `textDocument/definition` (LSP 3.17).
 ghost use Rattle.std.specs.Prelude.{◌≡◌, true, IfOk, IfSome};
 ghost use Rattle.serde_json.specs.View.{view};
 ghost use Rattle.lam_text.specs.Positions.{offset_of};
@@ -13,7 +13,7 @@ use lam_token::Span;
 use serde_json::Value;
 use std::alloc::{AllocError, Global};
 
-/// The reply to the request with this id: where the name at a position of the document of this uri is bound.
+/// Returns the reply to the request with this id: where the name at a position in the document with this URI is bound.
 pub fn definition_reply(
     alloc: Global,
     id: Value,
@@ -30,7 +30,7 @@ pub fn definition_reply(
     ok_reply(alloc, id, value)
 }
 
-/// The place of the binder; null where there is none.
+/// The location of the binder; null if there is none.
 fn definition_value(
     alloc: Global,
     doc: &Doc,

@@ -1,4 +1,4 @@
-//! Why a term has its type, as a client is told it.
+//! Replies to `fullsub/derivation`.
 ghost use Rattle.std.specs.Prelude.{◌≡◌, true, IfOk};
 ghost use Rattle.serde_json.specs.View.{view};
 ghost use Rattle.lam_text.specs.Positions.{offset_of};
@@ -11,7 +11,7 @@ use lam_text::Position;
 use serde_json::Value;
 use std::alloc::{AllocError, Global};
 
-/// The reply to the request with this id: why the innermost term round a position has its type.
+/// Returns the reply to the request with this id: the derivation of the type of the innermost term around a position.
 pub fn derivation_reply(
     alloc: Global,
     id: Value,

@@ -1,4 +1,4 @@
-//! An open document, and what is known of its text.
+//! An open document with the analysis of its text.
 ghost use Rattle.std.specs.Prelude.{◌≡◌, ◌≢◌, true, map, option_map, All, Ok, Err, IfOk, IfErr, IfSome, OnOk};
 ghost use Rattle.lam_query.specs.Derivations.{IsDerivedIn};
 ghost use Rattle.lam_query.specs.Hovers.{IsShownIn};
@@ -20,7 +20,7 @@ use lam_token::Span;
 use std::alloc::{AllocError, Global};
 use std::marker::Model;
 
-/// A text with the client's number of it, where it gave one. The analysis beside it, if there is one, is of that very text.
+/// A text with the version that the client gave, if any. The analysis, if present, is of exactly this text.
 #[derive(Drop)]
 pub struct Document {
     doc: Doc,
@@ -48,7 +48,7 @@ impl Model for Document {
 }
 
 impl Document {
-    /// A document with this text, analysed.
+    /// Creates a document with this text, and analyses it.
     pub fn new(
         alloc: Global,
         text: &str,
@@ -68,8 +68,8 @@ impl Document {
         })
     }
 
-    /// Changes the text. What is known of the old text is kept as far as the changes do not touch it. After an error the text is
-    /// as it was, and nothing is known of it.
+    /// Changes the text. The analysis is reused where the changes do not touch the text. On an error the text is unchanged, and
+    /// its analysis may be gone.
     pub fn change(
         &mut self,
         alloc: Global,
@@ -91,7 +91,7 @@ impl Document {
         Ok(())
     }
 
-    /// The text, with the unit of its columns.
+    /// Returns the text, with the encoding of its columns.
     pub fn doc(&self) -> &Doc
         ensures text { result.now.text ≡ self.now.text }
         ensures encoding { result.now.encoding ≡ self.now.encoding }
@@ -99,7 +99,7 @@ impl Document {
         &self.doc
     }
 
-    /// What is known of the text.
+    /// The analysis of the text.
     fn analysis(&self) -> &Analysis
         requires { self.now.analysed ≡ true }
         ensures of { IsAnalysisOf self.now.text result.now }
@@ -111,7 +111,7 @@ impl Document {
         analysis
     }
 
-    /// All faults of the text, in their order.
+    /// Returns all diagnostics of the text, in order.
     pub fn faults(&self, alloc: Global) -> Result<Vec<Fault>, AllocError>
         requires { self.now.analysed ≡ true }
         ensures faults { IfOk result (λ found. AreFaults self.now.text (map fault_of found.items) self.now.dialect) }
@@ -120,7 +120,7 @@ impl Document {
         self.analysis().faults(alloc, self.doc.text())
     }
 
-    /// The least type of the innermost term round a position.
+    /// Returns the least type of the innermost term around a position.
     pub fn hover(&self, alloc: Global, position: Position) -> Result<Option<Hover>, AllocError>
         requires { self.now.analysed ≡ true }
         ensures shown { IfOk result (λ found. IsShownIn self.now.text (offset_of self.now.encoding self.now.text position) (option_map shown_of found) self.now.dialect) }
@@ -130,7 +130,7 @@ impl Document {
         self.analysis().hover(alloc, self.doc.text(), offset)
     }
 
-    /// Why that term has that type.
+    /// Returns the derivation of that type.
     pub fn derivation(
         &self,
         alloc: Global,
@@ -144,7 +144,7 @@ impl Document {
         self.analysis().derivation(alloc, self.doc.text(), offset)
     }
 
-    /// What can stand at a position.
+    /// Returns the completions at a position.
     pub fn complete(&self, alloc: Global, position: Position) -> Result<Vec<Item>, AllocError>
         requires { self.now.analysed ≡ true }
         ensures { IfOk result (λ items. AreCompletions self.now.text (offset_of self.now.encoding self.now.text position) (map item_of items.items) self.now.dialect) }
@@ -153,7 +153,7 @@ impl Document {
         self.analysis().complete(alloc, self.doc.text(), offset)
     }
 
-    /// Where the name at a position comes from.
+    /// Returns where the name at a position is bound.
     pub fn definition(&self, alloc: Global, position: Position) -> Result<Option<Span>, AllocError>
         requires { self.now.analysed ≡ true }
         ensures definition { IfOk result (IsDefinitionIn self.now.text (offset_of self.now.encoding self.now.text position)) }
@@ -163,7 +163,7 @@ impl Document {
         self.analysis().definition(alloc, self.doc.text(), offset)
     }
 
-    /// Who uses the name at a position, with its declaration if it is asked for.
+    /// Returns the uses of the name at a position, along with its declaration if `declared`.
     pub fn references(
         &self,
         alloc: Global,
@@ -179,7 +179,7 @@ impl Document {
             .references(alloc, self.doc.text(), offset, declared)
     }
 
-    /// The spans that get a new name: those of the binder of the name at a position, and of its uses.
+    /// Returns the spans that are to be renamed: those of the binder of the name at a position, and of its uses.
     pub fn rename(
         &self,
         alloc: Global,
@@ -196,7 +196,7 @@ impl Document {
     }
 }
 
-/// The analysis of a text that an old one was changed to, from that of the old one where it is known.
+/// Analyses a text, starting from the analysis of the text that it was changed from, if there is one.
 fn analysed(
     alloc: Global,
     known: Option<Analysis>,

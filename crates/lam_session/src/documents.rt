@@ -10,8 +10,7 @@ use lam_text::{Change, Encoding};
 use std::alloc::{AllocError, Global};
 use std::marker::Model;
 
-/// The open documents by their uris, in the order of opening, with the unit of their columns and the rules in force.
-/// Each is analysed.
+/// The open documents by URI, in the order of opening, with the encoding of their columns and the dialect. Each is analysed.
 #[derive(Drop)]
 pub struct Documents {
     alloc: Global,
@@ -37,7 +36,7 @@ impl Model for Documents {
 }
 
 impl Documents {
-    /// No document.
+    /// No open documents.
     pub fn new(alloc: Global, encoding: Encoding, dialect: Dialect) -> Documents
         ensures { result ≡ record { encoding = encoding; dialect = dialect; documents = [] } }
     {
@@ -49,14 +48,14 @@ impl Documents {
         }
     }
 
-    /// The rules in force.
+    /// Returns the dialect.
     pub fn dialect(&self) -> Dialect
         ensures { result ≡ self.now.dialect }
     {
         self.dialect
     }
 
-    /// An open document.
+    /// Returns an open document.
     pub fn document(&self, uri: &str) -> Option<&Document>
         ensures text { option_map (λ d. d.now.text) result ≡ open_text uri.now self.now.documents }
         ensures encoding { IfSome result (λ d. d.now.encoding ≡ self.now.encoding) }
@@ -66,7 +65,7 @@ impl Documents {
         self.by_uri.get(uri)
     }
 
-    /// Opens a document, anew where one of its uri is open: that one keeps its place.
+    /// Opens a document. If one with this URI is already open, it is replaced and keeps its position in the order.
     pub fn open(
         mut self,
         uri: &str,
@@ -83,8 +82,8 @@ impl Documents {
         Ok(self)
     }
 
-    /// Changes an open document, where it stands: no other document is touched. Where memory is refused, the changed
-    /// document may have no analysis, and so the documents are not given back.
+    /// Changes an open document in place; no other document is touched. If allocation fails, the changed document may have lost
+    /// its analysis, so the documents are not returned.
     pub fn change(
         mut self,
         uri: &str,
@@ -106,7 +105,7 @@ impl Documents {
         Ok(self)
     }
 
-    /// Closes a document; the others keep their order.
+    /// Closes a document. The others keep their order.
     pub fn close(mut self, uri: &str) -> Documents
         ensures { result ≡ record self { documents = without_document uri.now self.documents } }
     {

@@ -1,4 +1,4 @@
-//! What a hover shows (LSP 3.17, `Hover`).
+//! Replies to `textDocument/hover` (LSP 3.17, `Hover`).
 ghost use Rattle.std.specs.Prelude.{◌≡◌, true, option_map, string_bytes, IfOk, IfSome};
 ghost use Rattle.serde_json.specs.View.{view};
 ghost use Rattle.lam_text.specs.Positions.{offset_of};
@@ -14,7 +14,7 @@ use lam_text::{Doc, Position};
 use serde_json::Value;
 use std::alloc::{AllocError, Global};
 
-/// The reply to the request with this id: the least type of the innermost term round a position.
+/// Returns the reply to the request with this id: the least type of the innermost term around a position.
 pub fn hover_reply(
     alloc: Global,
     id: Value,
@@ -30,7 +30,7 @@ pub fn hover_reply(
     ok_reply(alloc, id, value)
 }
 
-/// A type and its place; null where there is none.
+/// A type and its range; null if there is none.
 fn hover_value(alloc: Global, doc: &Doc, shown: Option<Hover>) -> Result<Value, AllocError>
     requires { IfSome shown (λ h. IsSpanOfText doc.now.text h.span) }
     ensures { IfOk result (λ value. view value ≡ hover_value doc.now.encoding doc.now.text (option_map shown_of shown)) }
@@ -44,7 +44,7 @@ fn hover_value(alloc: Global, doc: &Doc, shown: Option<Hover>) -> Result<Value, 
         .finish()
 }
 
-/// A text that a client shows as it is (LSP 3.17, `MarkupKind`).
+/// A text that the client shows verbatim (LSP 3.17, `MarkupKind`).
 fn plain_contents(alloc: Global, text: String) -> Result<Value, AllocError>
     ensures { IfOk result (λ value. view value ≡ plain_contents (string_bytes text)) }
 {

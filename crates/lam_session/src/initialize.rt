@@ -1,4 +1,4 @@
-//! What `initialize` settles.
+//! Replies to `initialize`.
 ghost use Rattle.std.specs.Prelude.{◌≡◌, IfOk, option_map};
 ghost use Rattle.serde_json.specs.View.{view, items_view};
 ghost use Rattle.lam_session.specs.Initialize.{encoding_name, encoding_named, encoding_of, offered, first_known, chosen, completion_options, document_sync, capabilities, initialize_answer};
@@ -8,8 +8,8 @@ use lam_text::Encoding;
 use serde_json::Value;
 use std::alloc::{AllocError, Global};
 
-/// The first encoding that the client offers and the server has, else UTF-16
-/// (LSP 3.17, `general.positionEncodings`).
+/// Returns the first encoding that the client offers and the server supports, or else UTF-16 (LSP 3.17,
+/// `general.positionEncodings`).
 pub fn chosen(params: &Value) -> Encoding
     ensures { result ≡ chosen (view params.now) }
 {
@@ -69,7 +69,7 @@ fn encoding_name(encoding: Encoding) -> &'static str
     }
 }
 
-/// The answer to `initialize`: what the server can do.
+/// Returns the result of `initialize`: the capabilities of the server.
 pub fn initialize_answer(alloc: Global, encoding: Encoding) -> Result<Value, AllocError>
     ensures { IfOk result (λ value. view value ≡ initialize_answer encoding) }
 {

@@ -1,4 +1,5 @@
-//! What holds of all runs of a session.
+//! Properties of all runs of a session.
+//!
 //! Each law is the contract of a function that does nothing.
 ghost use Rattle.std.specs.Prelude.{◌≡◌, ◌≢◌, ℕ, List, [], map, reverse, false, All, Some, Ok};
 ghost use Rattle.std.specs.Str.{IsUtf8};
@@ -19,11 +20,10 @@ ghost use Rattle.lam_session.specs.Runs.{Exchange, messages_of, AreExchanges, co
 ghost use Rattle.lam_session.specs.State.{State, fresh};
 ghost use Rattle.lam_session.specs.Step.{Steps};
 
-/// What comes between does not change the answers about a document: the messages that shape the
-/// session or name the document, taken by themselves, are a run with the very values sent, which
-/// leaves the document with the same text and version; and no other message publishes anything
-/// about it. So two sessions in which these messages are the same answer them alike, whatever else
-/// each was told, and leave the document with one text and one version.
+/// Other messages do not affect the answers about a document. The lifecycle messages and those that name the document are by
+/// themselves a run in which the same values are sent, and which leaves the document with the same text and version; and no other
+/// message publishes anything about it. So two sessions in which these messages are the same answer them alike, whatever other
+/// messages they receive, and leave the document with the same text and version.
 pub fn isolation()
     ensures alone { (dialect : Dialect) (uri : List ℕ) (exchanges : List Exchange) (end : State)
         → AreExchanges (fresh dialect) exchanges end → IsAlone dialect uri exchanges end }
@@ -34,30 +34,30 @@ pub fn isolation()
         → AgreeAbout dialect uri exchanges others end later }
 {}
 
-/// Two sessions that are told the same are in one state and have answered alike: with the same values, but for which
-/// derivation of a shown type was given.
+/// Two sessions that receive the same messages reach the same state and have sent the same values, except for which derivation of
+/// a shown type was given.
 pub fn one_run()
     ensures { (s end later : State) (exchanges others : List Exchange)
         → messages_of others ≡ messages_of exchanges → AreExchanges s exchanges end → AreExchanges s others later
         → AnswerAlike s exchanges others × (end ≡ later) }
 {}
 
-/// No value that is sent holds a float. A float has no text in the definition of compact JSON, so without this a frame could
-/// be allowed with a hole in it. The one value of a client that goes back as it came is the id of a request, and a request
-/// that is read from a body has no float in its id.
+/// No value that is sent contains a float. The definition of compact JSON gives a float no text, so without this a frame with a
+/// gap in place of the number would be allowed. The only client value that is sent back unchanged is the id of a request, and the
+/// id of a request that is read from a body contains no float.
 pub fn answers_have_no_floats()
     ensures sent { (s : State) (m : Message) (values : List Data) (next : State)
         → HasPlainId m → Steps s m values next → All (λ (d : Data). has_float d ≡ false) values }
     ensures ids { (body : List ℕ) (m : Message) → IsKindOf body m → HasPlainId m }
 {}
 
-/// Each fault that a text can have is told with a message.
+/// Every diagnostic that a text can have has a message.
 pub fn each_fault_has_a_message()
     ensures { (text : List ℕ) (found : List Fault) (d : Dialect) → AreFaults text found d → All (λ (f : Fault). message_of f.code ≢ []) found }
 {}
 
-/// A client that makes the edits of a rename, from the last to the first, has the text in which the new name stands in the
-/// place of the old one: the ranges that it is told are those of the names, also where the edits behind them are made.
+/// A client that applies the edits of a rename, from the last to the first, gets the text with the old name replaced by the new
+/// one: the ranges in the reply are those of the names, even after the later edits are applied.
 pub fn rename_edits_apply()
     ensures made { (encoding : Encoding) (text new : List ℕ) (offset : ℕ) (spans : List Span) → IsUtf8 text → IsRenameIn text offset new (Ok spans)
         → text_after encoding text (reverse (map (change_of encoding text new) spans)) ≡ edited text spans new }

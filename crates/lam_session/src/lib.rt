@@ -1,8 +1,8 @@
-//! The life of a session: what each message of the client changes, and what is sent back.
+//! An LSP session: how each client message changes its state, and what is sent in response.
 //!
-//! `Session::step` does what one message asks: the relation `Steps` says which values are sent for
-//! it in which state, and which state follows. `values` makes diagnostics and derivations values of
-//! JSON, also for a program that has no session. Nothing here knows frames, bytes or devices.
+//! `Session::step` handles one message. The relation `Steps` defines which values are sent for a message in a given state, and
+//! which state follows. `values` converts diagnostics and derivations to JSON, and can be used without a session. This crate does
+//! not deal with framing, bytes or I/O.
 #![tactic(auto)]
 
 mod completion;

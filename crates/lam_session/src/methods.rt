@@ -1,4 +1,4 @@
-//! The methods that are served, by their names.
+//! The supported methods, by name.
 ghost use Rattle.std.specs.Prelude.{◌≡◌, map};
 ghost use Rattle.lam_session.specs.Methods.{method_named, request_method, notice_method};
 
@@ -8,7 +8,7 @@ use crate::questions::Question;
 pub enum RequestMethod {
     Initialize,
     Shutdown,
-    /// A question about a place in a document.
+    /// A question about a position in a document.
     Ask(Question),
     Unknown,
 }
@@ -22,7 +22,7 @@ pub enum NoticeMethod {
     Unknown,
 }
 
-/// The requests by their names.
+/// The requests by name.
 static REQUESTS: [(&str, RequestMethod); 8] = [
     ("initialize", RequestMethod::Initialize),
     ("shutdown", RequestMethod::Shutdown),
@@ -46,7 +46,7 @@ static REQUESTS: [(&str, RequestMethod); 8] = [
     ("textDocument/rename", RequestMethod::Ask(Question::Rename)),
 ];
 
-/// The notices by their names.
+/// The notifications by name.
 static NOTICES: [(&str, NoticeMethod); 4] = [
     ("exit", NoticeMethod::Exit),
     ("textDocument/didOpen", NoticeMethod::DidOpen),
@@ -54,21 +54,21 @@ static NOTICES: [(&str, NoticeMethod); 4] = [
     ("textDocument/didClose", NoticeMethod::DidClose),
 ];
 
-/// The request of this name.
+/// Returns the request with this name.
 pub fn request_method(name: &str) -> RequestMethod
     ensures { result ≡ request_method name.now }
 {
     method_named(RequestMethod::Unknown, name, REQUESTS.as_slice())
 }
 
-/// The notice of this name.
+/// Returns the notification with this name.
 pub fn notice_method(name: &str) -> NoticeMethod
     ensures { result ≡ notice_method name.now }
 {
     method_named(NoticeMethod::Unknown, name, NOTICES.as_slice())
 }
 
-/// The method of the first pair with this name; where there is none, it is unknown.
+/// The method of the first pair with this name, or `unknown` if there is none.
 fn method_named<M: Copy>(unknown: M, name: &str, methods: &[(&str, M)]) -> M
     ensures { result ≡ method_named unknown name.now (map (λ m. (m.0.now, m.1)) methods.now) }
 {

@@ -1,4 +1,4 @@
-//! The questions about a place in a document, and the reply to each.
+//! The requests about a position in a document, and the reply to each.
 ghost use Rattle.std.specs.Prelude.{◌≡◌, IfOk};
 ghost use Rattle.serde_json.specs.View.{view};
 ghost use Rattle.lam_session.specs.Asked.{has_rest};
@@ -16,24 +16,24 @@ use lam_rpc::{read_position, read_uri};
 use serde_json::Value;
 use std::alloc::{AllocError, Global};
 
-/// What is asked of the innermost term round a position, or of the name there.
+/// A question about the innermost term around a position, or about the name there.
 #[derive(Clone, Copy)]
 pub enum Question {
     /// The type of the term.
     Hover,
-    /// Why it has that type.
+    /// The derivation of that type.
     Derivation,
-    /// What can stand there.
+    /// The completions there.
     Completion,
-    /// Where the name comes from.
+    /// Where the name is bound.
     Definition,
-    /// Who uses it.
+    /// The uses of the name.
     References,
-    /// A new name for the name.
+    /// A new name for it.
     Rename,
 }
 
-/// The reply to a question with these params.
+/// Returns the reply to a question with these params.
 pub fn reply_to(
     alloc: Global,
     question: Question,
@@ -65,7 +65,7 @@ pub fn reply_to(
     }
 }
 
-/// Whether the params have what a question needs beside a position and a uri: a rename needs a new name.
+/// Whether the params have what a question needs besides a position and a URI: a rename needs a new name.
 fn has_rest(question: Question, params: &Value) -> bool
     ensures { result ≡ has_rest question (view params.now) }
 {

@@ -1,4 +1,4 @@
-//! Who uses a name, as a client is told it (LSP 3.17, `textDocument/references`).
+//! Replies to `textDocument/references` (LSP 3.17).
 ghost use Rattle.std.specs.Prelude.{◌≡◌, true, map, option_map, All, IfOk, IfSome};
 ghost use Rattle.serde_json.specs.Data.{array};
 ghost use Rattle.serde_json.specs.View.{view, items_of};
@@ -15,8 +15,8 @@ use lam_token::Span;
 use serde_json::Value;
 use std::alloc::{AllocError, Global};
 
-/// The reply to the request with this id and these params: the uses of the name at a position of the document of this
-/// uri, with its declaration where the params ask for it.
+/// Returns the reply to the request with this id and these params: the uses of the name at a position in the document with this
+/// URI, along with its declaration if the params ask for it.
 pub fn references_reply(
     alloc: Global,
     id: Value,
@@ -34,7 +34,7 @@ pub fn references_reply(
     ok_reply(alloc, id, value)
 }
 
-/// Whether the declaration is asked for (`context.includeDeclaration`): only where the params say so.
+/// Whether the declaration is requested (`context.includeDeclaration`): false unless the params say so.
 fn is_declared(params: &Value) -> bool
     ensures { result ≡ is_declared (view params.now) }
 {
@@ -47,7 +47,7 @@ fn told_declared(params: &Value) -> Option<bool>
     params.get("context")?.get("includeDeclaration")?.as_bool()
 }
 
-/// The places of the references; null where the name is bound to nothing.
+/// The locations of the references; null if the name is unbound.
 fn references_value(
     alloc: Global,
     doc: &Doc,

@@ -1,4 +1,4 @@
-//! The refusals of a message.
+//! Error responses.
 ghost use Rattle.std.specs.Prelude.{◌≡◌, IfOk};
 ghost use Rattle.serde_json.specs.View.{view};
 ghost use Rattle.lam_session.specs.Refusals.{code_of, refusal_text, refused};
@@ -16,7 +16,7 @@ pub enum Refusal {
     MethodNotFound,
     InvalidParams,
     DocumentNotOpen,
-    // Why a name is not renamed.
+    // Why a rename is refused.
     NotAName,
     UnparsedCommand,
     NoBoundName,
@@ -64,7 +64,7 @@ fn text_of(refusal: Refusal) -> &'static str
     }
 }
 
-/// The reply that refuses the request with this id.
+/// Returns the error response to the request with this id.
 pub fn refused(alloc: Global, id: Value, refusal: Refusal) -> Result<Value, AllocError>
     ensures { IfOk result (λ value. view value ≡ refused (view id) refusal) }
 {

@@ -1,4 +1,4 @@
-//! A new name for a name, as a client is told it (LSP 3.17, `textDocument/rename`).
+//! Replies to `textDocument/rename` (LSP 3.17).
 ghost use Rattle.std.specs.Prelude.{◌≡◌, true, map, option_map, All, IfOk};
 ghost use Rattle.std.specs.Result.{result_ok};
 ghost use Rattle.serde_json.specs.Data.{array};
@@ -18,8 +18,8 @@ use lam_token::Span;
 use serde_json::Value;
 use std::alloc::{AllocError, Global};
 
-/// The reply to the request with this id and these params: the edits that give the name at a position of the document of
-/// this uri its new name, or why there are none.
+/// Returns the reply to the request with this id and these params: the edits that rename the name at a position in the document
+/// with this URI, or the reason why there are none.
 pub fn rename_reply(
     alloc: Global,
     id: Value,
@@ -42,21 +42,21 @@ pub fn rename_reply(
     }
 }
 
-/// The new name that the params give, where they give one.
+/// Returns the new name in the params, if there is one.
 pub fn given_name(params: &Value) -> Option<&str>
     ensures { option_map (λ name. name.now) result ≡ given_name (view params.now) }
 {
     params.get("newName")?.as_str()
 }
 
-/// The new name; where the params give none, it is an empty text.
+/// The new name, or an empty string if the params have none.
 fn new_name(params: &Value) -> &str
     ensures { result.now ≡ new_name (view params.now) }
 {
     given_name(params).unwrap_or("")
 }
 
-/// The edits of the document of this uri, one for each span (LSP 3.17, `WorkspaceEdit`).
+/// The edits in the document with this URI, one for each span (LSP 3.17, `WorkspaceEdit`).
 fn rename_value(
     alloc: Global,
     doc: &Doc,
@@ -82,7 +82,7 @@ fn edits_value(alloc: Global, doc: &Doc, new: &str, spans: &[Span]) -> Result<Va
     Ok(Value::Array(values))
 }
 
-/// The text of a span becomes the new name (LSP 3.17, `TextEdit`).
+/// The edit that replaces a span by the new name (LSP 3.17, `TextEdit`).
 fn edit_value(alloc: Global, doc: &Doc, new: &str, span: Span) -> Result<Value, AllocError>
     requires { IsSpanOfText doc.now.text span }
     ensures { IfOk result (λ value. view value ≡ edit_value doc.now.encoding doc.now.text new.now span) }
@@ -93,7 +93,7 @@ fn edit_value(alloc: Global, doc: &Doc, new: &str, span: Span) -> Result<Value, 
         .finish()
 }
 
-/// The refusal that tells why a name is not renamed; want of memory is none.
+/// The refusal for a rename that fails. A failed allocation is not a refusal.
 fn refusal_of(fault: RenameFault) -> Result<Refusal, AllocError>
     ensures { result_ok result ≡ refusal_of fault }
 {

@@ -1,4 +1,4 @@
-//! One message, answered in full.
+//! The session and its step function.
 ghost use Rattle.std.specs.Prelude.{◌≡◌, map, false, IfOk, OnErr};
 ghost use Rattle.std.specs.List.{All};
 ghost use Rattle.serde_json.specs.View.{view};
@@ -22,12 +22,12 @@ pub struct Session {
     course: Course,
 }
 
-/// Whether a session goes on.
+/// Whether a session is still able to answer.
 #[derive(Drop)]
 enum Course {
-    /// Each message is answered.
+    /// Every message is answered.
     Going(Conversation),
-    /// Memory was refused, and nothing is answered any more: how far it had come is all that is kept.
+    /// An allocation failed, and nothing is answered any more. Only the lifecycle state is kept.
     GaveUp(Life),
 }
 
@@ -44,7 +44,7 @@ impl Model for Session {
 }
 
 impl Session {
-    /// A session before its first message. It takes no memory.
+    /// A session before its first message. Does not allocate.
     pub fn new(alloc: Global, config: Config) -> Session
         ensures { result ≡ record { state = fresh (dialect_of config); gave_up = false } }
     {
@@ -53,20 +53,19 @@ impl Session {
         }
     }
 
-    /// The program's status, once the session has ended.
+    /// Returns the exit status of the program, once the session has ended.
     pub fn ended(&self) -> Option<u8>
         ensures { result ≡ ended_status self.now.state.life }
     {
         self.life().ended()
     }
 
-    /// One message, answered in full: the values to send, in order.
+    /// Handles one message, and returns the values to send, in order.
     ///
-    /// `AllocError` says that memory ran out, in this step or an earlier one; from then on every
-    /// step answers it. After the end of the session a step sends nothing and changes nothing.
+    /// Returns `AllocError` if allocation failed in this step or an earlier one; every later step then fails too. After the
+    /// session has ended, a step sends nothing and changes nothing.
     ///
-    /// What the answer is does not depend on memory: each message has one, and one alone, but for
-    /// which derivation of a shown type is given.
+    /// The answer does not depend on memory: each message has exactly one, except for which derivation of a shown type is given.
     pub fn step(&mut self, incoming: Incoming) -> Result<Vec<Value>, AllocError>
         ensures answers { IfOk result (λ values. Answers self.old (message_of incoming) (map view values.items) self.new) }
         ensures gives_up { OnErr result (GivesUp self.old self.new) }

@@ -1,23 +1,23 @@
-//! How far a session has come, and what it is set to.
+//! The lifecycle and the configuration of a session.
 ghost use Rattle.std.specs.Prelude.{◌≡◌};
 ghost use Rattle.lam_session.specs.State.{dialect_of, ended_status};
 
 use lam_rules::Dialect;
 
-/// How far a session has come (LSP 3.17, Server lifecycle).
+/// The lifecycle state of a session (LSP 3.17, Server lifecycle).
 #[derive(Clone, Copy)]
 pub enum Life {
-    /// No `initialize` came yet.
+    /// Before `initialize`.
     Fresh,
     Running,
-    /// A `shutdown` came.
+    /// After `shutdown`.
     Down,
-    /// An `exit` came: the program's status.
+    /// After `exit`, with the exit status of the program.
     Over(u8),
 }
 
 impl Life {
-    /// The program's status, once an `exit` came.
+    /// Returns the exit status of the program, after `exit`.
     pub fn ended(self) -> Option<u8>
         ensures { result ≡ ended_status self }
     {
@@ -28,21 +28,21 @@ impl Life {
     }
 }
 
-/// What the program is started with: the rules of subtyping that are in force.
+/// The configuration of the program: the dialect of the subtyping rules.
 #[derive(Clone, Copy)]
 pub struct Config {
     dialect: Dialect,
 }
 
 impl Config {
-    /// What is started with these rules.
+    /// A configuration with this dialect.
     pub fn new(dialect: Dialect) -> Config
         ensures { dialect_of result ≡ dialect }
     {
         Config { dialect }
     }
 
-    /// These rules.
+    /// Returns the dialect.
     pub fn dialect(self) -> Dialect
         ensures { result ≡ dialect_of self }
     {

@@ -1,4 +1,4 @@
-//! What the notices about documents hold and what follows them.
+//! Reading of document notifications, and the diagnostics published in response.
 ghost use Rattle.std.specs.Prelude.{◌≡◌, ◌∷◌, [], map, codes, IfOk, option_map};
 ghost use Rattle.serde_json.specs.Data.{string, array, object, member};
 ghost use Rattle.serde_json.specs.View.{view, items_view};
@@ -9,21 +9,21 @@ use lam_rpc::notice;
 use serde_json::Value;
 use std::alloc::{AllocError, Global};
 
-/// The text that a client opens a document with (LSP 3.17, `TextDocumentItem`).
+/// Returns the text of an opened document (LSP 3.17, `TextDocumentItem`).
 pub fn opened_text(params: &Value) -> Option<&str>
     ensures { option_map (λ text. text.now) result ≡ opened_text (view params.now) }
 {
     params.get("textDocument")?.get("text")?.as_str()
 }
 
-/// The client's number of a text, where it gave a whole number of 64 bits with a sign.
+/// Returns the version of a document, if the client gave one that is a signed 64-bit integer.
 pub fn given_version(params: &Value) -> Option<i64>
     ensures { result ≡ given_version (view params.now) }
 {
     params.get("textDocument")?.get("version")?.as_i64()
 }
 
-/// The notice with what is to be told of a document (LSP 3.17, `PublishDiagnosticsParams`).
+/// Returns the notification that publishes the diagnostics of a document (LSP 3.17, `PublishDiagnosticsParams`).
 pub fn published(
     alloc: Global,
     uri: &str,

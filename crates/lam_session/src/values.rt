@@ -1,4 +1,4 @@
-//! Answers as values of JSON, in the shapes of LSP 3.17.
+//! Results as JSON values, in the shapes of LSP 3.17.
 mod derivations;
 mod diagnostics;
 mod objects;

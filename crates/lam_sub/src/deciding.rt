@@ -1,4 +1,4 @@
-//! Whether one type is below another.
+//! Deciding subtyping.
 
 ghost use Rattle.std.specs.Prelude.{◌↔◌, IsTrue};
 ghost use Rattle.lam_rules.specs.Types.{IsWellFormed, AreWellFormed};
@@ -9,7 +9,7 @@ ghost use Rattle.lam_sub.specs.inner.FieldsBelow.{AreBelow};
 use crate::fields::field_type;
 use lam_rules::{Dialect, Ty};
 
-/// Whether the first type is below the second.
+/// Whether the first type is a subtype of the second in this dialect.
 #[cycle(is_sub)]
 pub fn is_sub(lower: &Ty, upper: &Ty, dialect: Dialect) -> bool
     requires lower { IsWellFormed (typ_of lower.now) }
@@ -49,7 +49,7 @@ pub fn is_sub(lower: &Ty, upper: &Ty, dialect: Dialect) -> bool
     }
 }
 
-/// Whether each field above has a field below with its label.
+/// Whether `lower` has, for each field of `upper`, a field with its label and a subtype of its type.
 #[cycle(is_sub)]
 fn are_fields_sub(lower: &[(String, Ty)], upper: &[(String, Ty)], dialect: Dialect) -> bool
     requires lower { AreWellFormed (fields_of lower.now) }

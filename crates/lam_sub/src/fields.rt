@@ -1,4 +1,4 @@
-//! Fields looked up by their labels.
+//! Looking up fields by label.
 
 ghost use Rattle.std.specs.Prelude.{◌≡◌, ◌++◌, take, drop, option_map, IfSome, IfNone, OnOk};
 ghost use Rattle.lam_rules.specs.Types.{Has, IsAbsent, joined};
@@ -9,9 +9,8 @@ ghost use Rattle.lam_sub.specs.OtherFields.{other_fields};
 use lam_rules::{Ty, copy_of};
 use std::alloc::{AllocError, Global};
 
-/// The type at a label. The look-up begins at the place `near`, so it is quick where the label is
-/// thought to stand there, and goes on from the front. Where several fields have the label, it is
-/// the type of the first that is met on this way.
+/// Returns the type of the field with this label, or `None` if there is none. The search runs from index `near` to the
+/// end and then from the start, and stops at the first match, so it is fast if the field is at `near`.
 pub fn field_type<'a>(label: &str, fields: &'a [(String, Ty)], near: usize) -> Option<&'a Ty>
     ensures found { IfSome result (λ ty. Has label.now (typ_of ty.now) (fields_of fields.now)) }
     ensures absent { IfNone result (IsAbsent label.now (fields_of fields.now)) }
@@ -37,8 +36,7 @@ fn first_type<'a>(label: &str, fields: &'a [(String, Ty)]) -> Option<&'a Ty>
     None
 }
 
-/// Appends copies of those of `more` whose labels `known` has not. Where memory is wanting, some of
-/// them may have been appended.
+/// Appends copies of the fields of `more` whose labels are not in `known`. On an error, some may have been appended.
 pub(crate) fn append_others(
     alloc: Global,
     fields: &mut Vec<(String, Ty)>,

@@ -1,4 +1,4 @@
-//! The joins and the meets of two types of a table that were once found, by their numbers.
+//! The memo of joins and meets of types in a table, by their ids.
 
 ghost use Rattle.std.specs.Prelude.{◌≡◌, List, Some, IfSome, OnOk};
 ghost use Rattle.lam_rules.specs.Types.{Typ};
@@ -9,7 +9,7 @@ use lam_rules::TyNo;
 use std::alloc::AllocError;
 
 impl Verdicts {
-    /// What is kept as the join of two types.
+    /// Returns the memoized join of two types, if any.
     pub fn known_join(&self, left: TyNo, right: TyNo) -> Option<TyNo>
         ensures kept { result ≡ join_kept self.now (left, right) }
         ensures right { (ts : List Typ) → AreRight ts self.now → IfSome result (IsJoinOf ts self.now.dialect (left, right)) }
@@ -17,7 +17,7 @@ impl Verdicts {
         self.joins.get(&(left, right)).copied()
     }
 
-    /// Keeps a join of two types.
+    /// Memoizes a join of two types.
     pub fn keep_join(&mut self, left: TyNo, right: TyNo, number: TyNo) -> Result<(), AllocError>
         ensures kept { OnOk result (join_kept self.new (left, right) ≡ Some number) }
         ensures dialect { self.new.dialect ≡ self.old.dialect }
@@ -27,7 +27,7 @@ impl Verdicts {
         Ok(())
     }
 
-    /// What is kept as the meet of two types: some none where it is known that there is no meet.
+    /// Returns the memoized meet of two types, if any. `Some(None)` means that they are known to have no meet.
     pub fn known_meet(&self, left: TyNo, right: TyNo) -> Option<Option<TyNo>>
         ensures kept { result ≡ meet_kept self.now (left, right) }
         ensures right { (ts : List Typ) → AreRight ts self.now → IfSome result (IsMeetOf ts self.now.dialect (left, right)) }
@@ -35,7 +35,7 @@ impl Verdicts {
         self.meets.get(&(left, right)).copied()
     }
 
-    /// Keeps a meet of two types, or that they have none.
+    /// Memoizes a meet of two types, or that they have none.
     pub fn keep_meet(
         &mut self,
         left: TyNo,

@@ -1,6 +1,5 @@
-//! Subtyping decided: whether one type is below another by the book's declarative rules (TAPL 15.2),
-//! and a proof by those rules where it is. The way goes by the shape of the two types, with neither
-//! reflexivity nor transitivity as a rule (TAPL 16.1).
+//! Decides subtyping by the declarative rules of TAPL 15.2, and proves it by those rules where it holds. The algorithm
+//! follows the shapes of the two types, without reflexivity or transitivity as rules (TAPL 16.1).
 #![tactic(auto)]
 
 mod deciding;

@@ -1,4 +1,4 @@
-//! Subtyping of types in a table, with what was found once kept for the next time.
+//! Subtyping between types in a table, with memoized results.
 
 ghost use Rattle.std.specs.Prelude.{◌≡◌, ◌↔◌, ◌<◌, ◌++◌, ℕ, List, length, take, drop, IsTrue, IfOk, IfSome, IfNone};
 ghost use Rattle.lam_rules.specs.Types.{Typ, IsWellFormed, AreWellFormed, Has, IsAbsent};
@@ -12,9 +12,8 @@ use crate::verdicts::Verdicts;
 use lam_rules::{Dialect, Shape, TyNo, TyTable, number_under};
 use std::alloc::AllocError;
 
-/// Whether the type of the first number is below that of the second. What is found of their sorted
-/// forms, and of those inside, is kept in `verdicts`, so that types which share cost by their
-/// distinct numbers.
+/// Whether the type with id `lower` is a subtype of the one with id `upper`. Results for their sorted forms, and for the
+/// parts of these, are memoized in `verdicts`, so shared types are compared only once.
 #[cycle(is_sub_no)]
 pub fn is_sub_no(
     table: &TyTable,
@@ -29,7 +28,7 @@ pub fn is_sub_no(
     ensures right { AreRight table.now verdicts.new }
     ensures verdict { IfOk result (λ is_below. IsTrue is_below ↔ IsBelow (type_of table.now lower) (type_of table.now upper) verdicts.old.dialect) }
 {
-    // Types with distinct labels are above and below their sorted forms.
+    // Types with distinct labels are subtypes and supertypes of their sorted forms.
     table.types_differ();
     let lower_sorted = table.sorted(lower);
     let upper_sorted = table.sorted(upper);
@@ -44,7 +43,7 @@ pub fn is_sub_no(
     Ok(is_below)
 }
 
-/// Whether the type of the first number is below that of the second, by the shapes of the two.
+/// Whether the first type is a subtype of the second, by the shapes of the two.
 #[cycle(is_sub_no)]
 fn compare(
     table: &TyTable,
@@ -81,7 +80,7 @@ fn compare(
     }
 }
 
-/// Whether each field above has a field below with its label.
+/// Whether `lower` has, for each field of `upper`, a field with its label and a subtype of its type.
 #[cycle(is_sub_no)]
 fn are_fields_sub_no(
     table: &TyTable,
@@ -109,7 +108,7 @@ fn are_fields_sub_no(
     Ok(true)
 }
 
-/// Whether a type is below Bool, Nat, Unit or Top.
+/// Whether a type is a subtype of Bool, Nat, Unit or Top.
 fn is_below_constant(lower: &Shape, upper: &Shape, dialect: Dialect) -> bool
     requires { IsConstant upper.now }
     ensures { (ts : List Typ) → IsWellFormed (shaped ts lower.now) → (IsTrue result ↔ IsBelow (shaped ts lower.now) (shaped ts upper.now) dialect) }
@@ -133,8 +132,8 @@ fn is_below_constant(lower: &Shape, upper: &Shape, dialect: Dialect) -> bool
     }
 }
 
-/// The number at a label. The look-up begins at the place `near` and goes on from the front, and
-/// where several fields have the label it is that of the first that is met on this way.
+/// Returns the type id of the field with this label, or `None` if there is none. The search runs from index `near` to the
+/// end and then from the start, and stops at the first match.
 pub fn field_number(label: &str, fields: &[(String, TyNo)], near: usize) -> Option<TyNo>
     ensures below { IfSome result (λ number. (n : ℕ) → AreEarlier n fields.now → number.index < n) }
     ensures found { IfSome result (λ number. (ts : List Typ) → Has label.now (type_of ts number) (fields_over ts fields.now)) }

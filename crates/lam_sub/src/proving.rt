@@ -1,5 +1,5 @@
-//! Proofs that one type is below another. What a step does beside its recursion is kept out of line, so that each level
-//! of a type takes a small frame of the stack.
+//! Proofs of subtyping. The work of a step apart from its recursion is kept out of line, so that each level of a type
+//! uses a small stack frame.
 
 ghost use Rattle.std.specs.Prelude.{◌≡◌, IfOk, IfSome, IfNone};
 ghost use Rattle.lam_rules.specs.Types.{Typ, arrow, record_of, AreWellFormed, IsWellFormed};
@@ -19,9 +19,8 @@ use lam_rules::{
 };
 use std::alloc::{AllocError, Global};
 
-/// A proof that the first type is below the second, or none where there is no proof. Equal types
-/// take one step of reflexivity; records at most a permutation, then a step of width, then one of
-/// depth.
+/// Returns a proof that the first type is a subtype of the second, or `None` if it is not. Equal types take a single
+/// S-Refl step; record types take at most a permutation, then a width step, then a depth step.
 pub fn prove_sub(
     alloc: Global,
     lower: &Ty,
@@ -40,7 +39,7 @@ pub fn prove_sub(
     Ok(Some(proof))
 }
 
-/// The proof of what is known to hold.
+/// The proof of a subtyping that is known to hold.
 #[cycle(prove)]
 fn prove(alloc: Global, lower: &Ty, upper: &Ty, dialect: Dialect) -> Result<SubProof, AllocError>
     requires { IsBelow (typ_of lower.now) (typ_of upper.now) dialect }
@@ -75,7 +74,7 @@ fn prove(alloc: Global, lower: &Ty, upper: &Ty, dialect: Dialect) -> Result<SubP
     }
 }
 
-/// The premises of the step between two arrows: that of the parameters goes the other way.
+/// The premises of S-Arrow. The one for the parameters is contravariant.
 #[cycle(prove)]
 #[inline(never)]
 fn prove_sides(
@@ -97,8 +96,7 @@ fn prove_sides(
     Ok(premises)
 }
 
-/// The proof from one record type to another: the fields that are asked for put in front, the
-/// others cut off, each type made wider.
+/// The proof for two record types: required fields are moved to the front, others are dropped, and types are widened.
 #[cycle(prove)]
 fn prove_record(
     alloc: Global,
@@ -116,7 +114,7 @@ fn prove_record(
     record_proof(alloc, lower, upper, premises)
 }
 
-/// That proof, where the premises make the type of each field that is asked for wider.
+/// The proof for two record types, given the premises of the depth step.
 #[inline(never)]
 fn record_proof(
     alloc: Global,
@@ -138,7 +136,7 @@ fn record_proof(
     Ok(proof)
 }
 
-/// The steps between two record types, as few as will do.
+/// The steps between two record types, leaving out those that change nothing.
 #[inline(never)]
 fn steps_between(
     alloc: Global,
@@ -158,8 +156,7 @@ fn steps_between(
     chain(alloc, cut, widened)
 }
 
-/// The steps to the fields that are picked of a record type: they are put in front, and the others
-/// cut off.
+/// The steps from a record type to its picked fields, `front`: they are moved to the front, and the others are dropped.
 #[inline(never)]
 fn prove_picked(
     alloc: Global,
@@ -180,7 +177,7 @@ fn prove_picked(
     chain(alloc, permuted, cut)
 }
 
-/// For each field above, the proof that its type is above that of the field below.
+/// For each field of `upper`, a proof that its type is a supertype of that of the field of `lower` with its label.
 #[cycle(prove)]
 #[inline(never)]
 fn prove_fields(
@@ -206,7 +203,7 @@ fn prove_fields(
     Ok(proofs)
 }
 
-/// Copies of the fields whose labels are asked for, in the order in which they are.
+/// Copies of the fields with the labels in `asked`, in that order.
 #[inline(never)]
 fn picked_fields(
     alloc: Global,
@@ -251,7 +248,7 @@ fn conclude(
     })
 }
 
-/// A proof whose last step goes from one record type to another, or none where they are one type.
+/// A proof whose last step is between two record types, or `None` if they are equal.
 #[inline(never)]
 fn record_step(
     alloc: Global,
@@ -278,7 +275,7 @@ fn record_step(
     }))
 }
 
-/// The first proof and then the second, by transitivity where there are both.
+/// Chains two proofs by transitivity. If one is `None`, the result is the other.
 #[inline(never)]
 fn chain(
     alloc: Global,
@@ -297,7 +294,7 @@ fn chain(
     Ok(Some(joined))
 }
 
-/// A proof whose last step is that of transitivity.
+/// A proof whose last step is S-Trans.
 #[inline(never)]
 fn by_transitivity(alloc: Global, first: SubProof, second: SubProof) -> Result<SubProof, AllocError>
     ensures { IfOk result (λ made. (s u t : Typ) (d : Dialect) → ProvesBelow (sub_tree_of first) s u d → ProvesBelow (sub_tree_of second) u t d → ProvesBelow (sub_tree_of made) s t d) }

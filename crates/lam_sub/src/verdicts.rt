@@ -1,4 +1,4 @@
-//! Whether one type of a table is below another, where that was once found, by their numbers.
+//! The memo of subtyping between types in a table, by their ids.
 
 ghost use Rattle.std.specs.Prelude.{◌≡◌, List, Some, IfSome, OnOk};
 ghost use Rattle.lam_rules.specs.Types.{Typ};
@@ -10,22 +10,22 @@ use lam_rules::{Dialect, TyNo};
 use std::alloc::{AllocError, Global};
 use std::collections::HashMap;
 
-/// Answers on pairs of numbers of one table, in one dialect: subtyping, which this crate decides, and
-/// the bounds that lam_lattice finds, so that a caller carries one thing beside the table. They are
-/// right of a table, not by themselves, so each call on numbers asks that they be.
+/// Memoized results for pairs of type ids of one table, in one dialect: subtyping, which this crate decides, and the
+/// joins and meets that lam_lattice finds, so that a caller passes a single value along with the table. They are only
+/// correct for a particular table, so each function on ids requires that they are.
 #[derive(Drop)]
 pub struct Verdicts {
     pub alloc: Global,
     pub dialect: Dialect,
-    /// Whether the first type is below the second, under the numbers of their sorted forms.
+    /// Whether the first type is a subtype of the second, by the ids of their sorted forms.
     below: HashMap<(TyNo, TyNo), bool>,
     pub(crate) joins: HashMap<(TyNo, TyNo), TyNo>,
-    /// None where no type is below both.
+    /// `None` if no type is a subtype of both.
     pub(crate) meets: HashMap<(TyNo, TyNo), Option<TyNo>>,
 }
 
 impl Verdicts {
-    /// No answers yet. They keep the allocator for those to come.
+    /// An empty memo, which keeps the allocator for later entries.
     pub fn new(alloc: Global, dialect: Dialect) -> Verdicts
         ensures dialect { result.dialect ≡ dialect }
         ensures right { (ts : List Typ) → AreRight ts result }
@@ -39,7 +39,7 @@ impl Verdicts {
         }
     }
 
-    /// What is kept of whether the first type is below the second.
+    /// Returns whether the first type is a subtype of the second, if that is memoized.
     pub fn known_verdict(&self, lower: TyNo, upper: TyNo) -> Option<bool>
         ensures kept { result ≡ verdict_kept self.now (lower, upper) }
         ensures right { (ts : List Typ) → AreRight ts self.now → IfSome result (IsVerdict ts self.now.dialect (lower, upper)) }
@@ -47,7 +47,7 @@ impl Verdicts {
         self.below.get(&(lower, upper)).copied()
     }
 
-    /// Keeps whether the first type is below the second.
+    /// Memoizes whether the first type is a subtype of the second.
     pub fn keep_verdict(
         &mut self,
         lower: TyNo,
@@ -63,7 +63,7 @@ impl Verdicts {
     }
 }
 
-/// A law: what is kept stays right while the table grows.
+/// A law: memoized results stay correct as the table grows.
 pub fn verdicts_stay_right()
     ensures { (old now : List Typ) (verdicts : Verdicts) → Keeps old now → AreRight old verdicts → AreRight now verdicts }
 {}

@@ -1,4 +1,4 @@
--- What `parse` and `pieces` answer.
+-- The results of `parse` and `pieces`.
 use Rattle.std.specs.Prelude.{◌≡◌, ℕ, ◌+◌, ◌<◌, ◌≤◌, Bool, true, false, List, [], ◌∷◌, length, take, filter, if◌then◌else◌}
 use Rattle.std.specs.List.{list_any}
 use Rattle.lam_token.specs.declared.kind.Kind.{Kind}
@@ -9,37 +9,37 @@ use Rattle.lam_syntax.specs.declared.fault.ParseFault.TheVariants as faults
 use Rattle.lam_syntax.specs.Trees.{CommandTree}
 use Rattle.lam_syntax.specs.Grammar.{Spells, Begins}
 
--- how many tokens a command may have
+-- the maximum number of tokens in a command
 abbrev pub token_limit : ℕ
 token_limit = 2000
 
--- what is no lexeme
+-- the kinds of tokens that are not lexemes
 abbrev pub is_bad : Kind → Bool
 is_bad kind.BadCharacter = true
 is_bad kind.BadComment = true
 is_bad k = false
 
--- one of the tokens is no lexeme
+-- some token is not a lexeme
 abbrev pub has_bad : List Lexeme → Bool
 has_bad ts = list_any (λ t. is_bad (kind_of t)) ts
 
--- there are few enough tokens and none is bad, so that the grammar decides
+-- there are not too many tokens and none is bad, so the grammar decides
 pub record IsTaken (ts : List Lexeme) : Type 0 where
   pub few : length ts ≤ token_limit
   pub none_bad : has_bad ts ≡ false
 
--- the token at this index fits nowhere: some command starts with the tokens in front of it, none with it among them
+-- the token at this index does not fit: some command starts with the tokens before it, but none starts with it included
 pub record GoesWrongAt (ts : List Lexeme) (k : ℕ) : Type 0 where
   pub inside : k < length ts
   pub before : Begins (take k ts)
   pub through : Begins (take (k + 1) ts) → ⊥
 
--- some command starts with these tokens, and they are no command themselves
+-- some command starts with these tokens, but they are not a command themselves
 pub record EndsEarly (ts : List Lexeme) : Type 0 where
   pub begins : Begins ts
   pub none : (c : CommandTree) → Spells ts c → ⊥
 
--- what each fault says of the tokens
+-- what each error says about the tokens
 abbrev pub IsFaultOf : List Lexeme → ParseFault → Type 0
 IsFaultOf ts faults.TooManyTokens = token_limit < length ts
 IsFaultOf ts faults.BadToken = (length ts ≤ token_limit) × (has_bad ts ≡ true)
@@ -47,7 +47,7 @@ IsFaultOf ts (faults.WrongToken k) = IsTaken ts × GoesWrongAt ts k
 IsFaultOf ts faults.WrongEnd = IsTaken ts × EndsEarly ts
 IsFaultOf ts faults.Memory = IsTaken ts
 
--- A list of tokens is divided at each semicolon; its pieces are the parts that have tokens.
+-- Tokens are divided at each semicolon, and the pieces are the nonempty parts.
 
 -- the kind of token that ends a piece
 abbrev pub ends_piece : Kind → Bool
@@ -58,12 +58,12 @@ ends_piece k = false
 abbrev pub is_semicolon : Lexeme → Bool
 is_semicolon t = ends_piece (kind_of t)
 
--- a token in front of the first run
+-- add a token to the start of the first run
 abbrev pub onto_first : Lexeme → List (List Lexeme) → List (List Lexeme)
 onto_first t [] = (t ∷ []) ∷ []
 onto_first t (run ∷ runs) = (t ∷ run) ∷ runs
 
--- the runs between the semicolons, the empty ones too
+-- the runs of tokens between semicolons, including empty ones
 abbrev pub runs_of : List Lexeme → List (List Lexeme)
 runs_of [] = [] ∷ []
 runs_of (t ∷ ts) = if is_semicolon t then [] ∷ runs_of ts else onto_first t (runs_of ts)
@@ -73,6 +73,6 @@ abbrev pub has_tokens : List Lexeme → Bool
 has_tokens [] = false
 has_tokens (t ∷ ts) = true
 
--- the pieces, in the order of the text
+-- the pieces, in order
 abbrev pub pieces_of : List Lexeme → List (List Lexeme)
 pieces_of ts = filter has_tokens (runs_of ts)

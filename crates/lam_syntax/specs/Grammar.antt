@@ -1,7 +1,7 @@
--- The grammar: which token lists spell which trees.
+-- The grammar: which lists of tokens derive which trees.
 --
--- `XIs tokens tree rest` says that the tokens begin with a spelling of the tree, and that the rest is left behind it; each
--- constructor is a production. A tree's place goes from its first token to its last; parentheses round it belong to it.
+-- `XIs tokens tree rest` says that the tokens begin with a derivation of the tree, followed by the rest. Each constructor is a production. The span of a tree goes
+-- from its first token to its last, including parentheses around it.
 use Rattle.std.specs.Prelude.{ℕ, Some, None, List, [], ◌∷◌, ◌++◌}
 use Rattle.lam_token.specs.declared.kind.Kind.TheVariants as kind
 use Rattle.lam_token.specs.declared.span.Span.{Span}
@@ -9,20 +9,20 @@ use Rattle.lam_token.specs.Lexeme.{Lexeme, lexeme}
 use Rattle.lam_syntax.specs.declared.terms.Prefix.TheVariants as prefix
 use Rattle.lam_syntax.specs.Trees.{word, Bound, bound, TypeTree, type_tree, bool, nat, unit, top, named, arrow, record_type, TypeFields, no_type_fields, type_field, TermTree, term_tree, true_term, false_term, unit_term, variable, numeral, lambda, if_term, let_term, letrec_term, prefixed, apply, project, ascribe, record_term, FieldTrees, no_fields, field, CommandTree, definition, declaration, abbreviation, evaluation, from_to, type_span, term_span, spanning_type, spanning_term}
 
--- what binds a name is the name, or an underscore in its place
+-- a binder is a name or an underscore
 pub data BinderIs : List Lexeme → Bound → List Lexeme → Type 0 where
   name_binder : {x : List ℕ} {s : Span} {rest : List Lexeme} → BinderIs (lexeme kind.Name x s ∷ rest) (bound (Some x) s) rest
   blank_binder : {x : List ℕ} {s : Span} {rest : List Lexeme} → BinderIs (lexeme kind.Underscore x s ∷ rest) (bound None s) rest
 
 mutual
-  -- A type is an atomic one, or an arrow from an atomic one to any type: so arrows group to the right.
+  -- A type is an atomic type, or an arrow from an atomic type to any type, so arrows associate to the right.
   pub data TypeIs : List Lexeme → TypeTree → List Lexeme → Type 0 where
     atype_type : {ts rest : List Lexeme} {t : TypeTree} → ATypeIs ts t rest → TypeIs ts t rest
     arrow_type : {ts us rest : List Lexeme} {a b : TypeTree} {x : List ℕ} {s : Span}
         → ATypeIs ts a (lexeme kind.Arrow x s ∷ us) → TypeIs us b rest
         → TypeIs ts (type_tree (from_to (type_span a) (type_span b)) (arrow a b)) rest
 
-  -- An atomic type is a type in parentheses, a word, a type name, or labels with their types in braces.
+  -- An atomic type is a parenthesized type, a keyword, a type name, or a record type.
   pub data ATypeIs : List Lexeme → TypeTree → List Lexeme → Type 0 where
     parens_atype : {ts rest : List Lexeme} {t : TypeTree} {x y : List ℕ} {s e : Span}
         → TypeIs ts t (lexeme kind.CloseParen y e ∷ rest)
@@ -38,7 +38,7 @@ mutual
         → TypeFieldsAre ts fs (lexeme kind.CloseBrace y e ∷ rest)
         → ATypeIs (lexeme kind.OpenBrace x s ∷ ts) (type_tree (from_to s e) (record_type fs)) rest
 
-  -- one label with its type, or more of them with commas between; none follows the last
+  -- one label with its type, or more separated by commas; there is no trailing comma
   pub data TypeFieldsAre : List Lexeme → TypeFields → List Lexeme → Type 0 where
     last_type_field : {ts rest : List Lexeme} {t : TypeTree} {l x : List ℕ} {s c : Span}
         → TypeIs ts t rest
@@ -48,7 +48,7 @@ mutual
         → TypeFieldsAre (lexeme kind.Name l s ∷ lexeme kind.Colon x c ∷ ts) (type_field (word l s) t fs) rest
 
 mutual
-  -- A term begins with a word that takes a whole term at its end, or is an application.
+  -- A term begins with a keyword and ends with a whole term, or is an application.
   pub data TermIs : List Lexeme → TermTree → List Lexeme → Type 0 where
     lambda_is : {ts us vs rest : List Lexeme} {b : Bound} {u : TypeTree} {t : TermTree} {x y z : List ℕ} {s c d : Span}
         → BinderIs ts b (lexeme kind.Colon y c ∷ us) → TypeIs us u (lexeme kind.Dot z d ∷ vs) → TermIs vs t rest
@@ -64,14 +64,14 @@ mutual
         → TermIs (lexeme kind.Letrec x s ∷ ts) (term_tree (from_to s (term_span u)) (letrec_term b y t u)) rest
     app_is : {ts rest : List Lexeme} {t : TermTree} → AppIs ts t rest → TermIs ts t rest
 
-  -- An application is a head, or an application and one more path as its argument: so they group to the left.
+  -- An application is a head, or an application with one more path as its argument, so applications associate to the left.
   pub data AppIs : List Lexeme → TermTree → List Lexeme → Type 0 where
     head_app : {ts rest : List Lexeme} {t : TermTree} → HeadIs ts t rest → AppIs ts t rest
     argument_app : {ts us rest : List Lexeme} {f a : TermTree}
         → AppIs ts f us → PathIs us a rest
         → AppIs ts (term_tree (from_to (term_span f) (term_span a)) (apply f a)) rest
 
-  -- A head is a path, perhaps with one of four words before it; arguments have no such word.
+  -- A head is a path, perhaps after one of four keywords; arguments have no such keyword.
   pub data HeadIs : List Lexeme → TermTree → List Lexeme → Type 0 where
     path_head : {ts rest : List Lexeme} {t : TermTree} → PathIs ts t rest → HeadIs ts t rest
     fix_head : {ts rest : List Lexeme} {t : TermTree} {x : List ℕ} {s : Span} → PathIs ts t rest
@@ -83,21 +83,21 @@ mutual
     iszero_head : {ts rest : List Lexeme} {t : TermTree} {x : List ℕ} {s : Span} → PathIs ts t rest
         → HeadIs (lexeme kind.IsZero x s ∷ ts) (term_tree (from_to s (term_span t)) (prefixed prefix.IsZero t)) rest
 
-  -- A path is an ascription, or a path, a dot and a label.
+  -- A path is an ascription, or a path followed by a dot and a label.
   pub data PathIs : List Lexeme → TermTree → List Lexeme → Type 0 where
     asc_path : {ts rest : List Lexeme} {t : TermTree} → AscIs ts t rest → PathIs ts t rest
     label_path : {ts rest : List Lexeme} {t : TermTree} {x l : List ℕ} {d s : Span}
         → PathIs ts t (lexeme kind.Dot x d ∷ lexeme kind.Name l s ∷ rest)
         → PathIs ts (term_tree (from_to (term_span t) s) (project t (word l s))) rest
 
-  -- An ascription is an atom, perhaps with one type written to it.
+  -- An ascription is an atom, perhaps with one `as` and a type.
   pub data AscIs : List Lexeme → TermTree → List Lexeme → Type 0 where
     atom_asc : {ts rest : List Lexeme} {t : TermTree} → AtomIs ts t rest → AscIs ts t rest
     typed_asc : {ts us rest : List Lexeme} {t : TermTree} {u : TypeTree} {x : List ℕ} {s : Span}
         → AtomIs ts t (lexeme kind.As x s ∷ us) → TypeIs us u rest
         → AscIs ts (term_tree (from_to (term_span t) (type_span u)) (ascribe t u)) rest
 
-  -- An atom is a term in parentheses, a single token, or labels with their terms in braces.
+  -- An atom is a parenthesized term, a single token, or a record.
   pub data AtomIs : List Lexeme → TermTree → List Lexeme → Type 0 where
     parens_atom : {ts rest : List Lexeme} {t : TermTree} {x y : List ℕ} {s e : Span}
         → TermIs ts t (lexeme kind.CloseParen y e ∷ rest)
@@ -113,7 +113,7 @@ mutual
         → FieldsAre ts fs (lexeme kind.CloseBrace y e ∷ rest)
         → AtomIs (lexeme kind.OpenBrace x s ∷ ts) (term_tree (from_to s e) (record_term fs)) rest
 
-  -- one label with its term, or more of them with commas between; none follows the last
+  -- one label with its term, or more separated by commas; there is no trailing comma
   pub data FieldsAre : List Lexeme → FieldTrees → List Lexeme → Type 0 where
     last_field : {ts rest : List Lexeme} {t : TermTree} {l x : List ℕ} {s c : Span}
         → TermIs ts t rest
@@ -122,7 +122,7 @@ mutual
         → TermIs ts t (lexeme kind.Comma y d ∷ us) → FieldsAre us fs rest
         → FieldsAre (lexeme kind.Name l s ∷ lexeme kind.Equals x c ∷ ts) (field (word l s) t fs) rest
 
--- A command names a term, gives a name its type, abbreviates a type, or is a term by itself; nothing is left behind it.
+-- A command defines a name, declares the type of a name, abbreviates a type, or is a term on its own. It uses all the tokens.
 pub data Spells : List Lexeme → CommandTree → Type 0 where
   definition_command : {ts : List Lexeme} {t : TermTree} {x y : List ℕ} {s q : Span}
       → TermIs ts t [] → Spells (lexeme kind.Name x s ∷ lexeme kind.Equals y q ∷ ts) (definition (word x s) t)
@@ -132,6 +132,6 @@ pub data Spells : List Lexeme → CommandTree → Type 0 where
       → TypeIs ts t [] → Spells (lexeme kind.TypeName x s ∷ lexeme kind.Equals y q ∷ ts) (abbreviation (word x s) t)
   evaluation_command : {ts : List Lexeme} {t : TermTree} → TermIs ts t [] → Spells ts (evaluation t)
 
--- some tokens behind these make a command of them
+-- these tokens, followed by some others, form a command
 abbrev pub Begins : List Lexeme → Type 0
 Begins ts = (more : List Lexeme) × (c : CommandTree) × Spells (ts ++ more) c

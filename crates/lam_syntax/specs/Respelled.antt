@@ -1,4 +1,4 @@
--- Trees whose words have other letters and whose places are elsewhere, as tokens that are respelled spell them.
+-- Trees with other spellings and spans, as derived from respelled tokens.
 use Rattle.std.specs.Prelude.{ℕ, List, Some, None}
 use Rattle.lam_token.specs.declared.kind.Kind.{Kind}
 use Rattle.lam_token.specs.declared.kind.Kind.TheVariants as kind
@@ -6,15 +6,15 @@ use Rattle.lam_token.specs.declared.span.Span.{Span}
 use Rattle.lam_token.specs.Edits.{span_placed}
 use Rattle.lam_syntax.specs.Trees.{Word, word, Bound, bound, TypeTree, type_tree, TypeNode, named, arrow, record_type, TypeFields, no_type_fields, type_field, TermTree, term_tree, TermNode, variable, numeral, lambda, if_term, let_term, letrec_term, prefixed, apply, project, ascribe, record_term, FieldTrees, no_fields, field, CommandTree, definition, declaration, abbreviation, evaluation}
 
--- the letters of a word by its kind, its letters and its span
+-- a new spelling, given the kind, the old spelling and the old span of a word
 abbrev pub Letters : Type 0
 Letters = Kind → List ℕ → Span → List ℕ
 
--- a word of that kind
+-- a word that is a token of this kind
 abbrev pub respelled_word : Kind → (place : ℕ → ℕ) → Letters → Word → Word
 respelled_word k place letters (word x s) = word (letters k x s) (span_placed place s)
 
--- a binder; an underscore stays one
+-- a binder; an underscore stays an underscore
 abbrev pub respelled_bound : (place : ℕ → ℕ) → Letters → Bound → Bound
 respelled_bound place letters (bound None s) = bound None (span_placed place s)
 respelled_bound place letters (bound (Some x) s) = bound (Some (letters kind.Name x s)) (span_placed place s)

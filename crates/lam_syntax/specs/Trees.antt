@@ -1,22 +1,22 @@
--- Written types, terms and commands as plain trees. Each node has its place in the text.
+-- Written types, terms and commands as plain trees. Each type and term has its span.
 use Rattle.std.specs.Prelude.{ℕ, Option, List}
 use Rattle.lam_token.specs.declared.span.Span.{Span}
 use Rattle.lam_syntax.specs.declared.terms.Prefix.{Prefix}
 
--- a name, a type name, a label or a numeral, with the place of its token
+-- a name, a type name, a label or a numeral, with the span of its token
 pub data Word : Type 0 where
   word : (text : List ℕ) → Span → Word
 
--- what binds a name, with the place of its token; an underscore has no name
+-- a binder with the span of its token; an underscore has no name
 pub data Bound : Type 0 where
   bound : (name : Option (List ℕ)) → Span → Bound
 
 mutual
-  -- a written type and its place
+  -- a written type and its span
   pub data TypeTree : Type 0 where
     type_tree : Span → TypeNode → TypeTree
 
-  -- the form of a written type
+  -- the kind of a written type and its parts
   pub data TypeNode : Type 0 where
     bool : TypeNode
     nat : TypeNode
@@ -32,11 +32,11 @@ mutual
     type_field : Word → TypeTree → TypeFields → TypeFields
 
 mutual
-  -- a term and its place
+  -- a term and its span
   pub data TermTree : Type 0 where
     term_tree : Span → TermNode → TermTree
 
-  -- the form of a term
+  -- the kind of a term and its parts
   pub data TermNode : Type 0 where
     true_term : TermNode
     false_term : TermNode
@@ -58,39 +58,39 @@ mutual
     no_fields : FieldTrees
     field : Word → TermTree → FieldTrees → FieldTrees
 
--- a command: a name and its term, a name and its type, a type name and what it stands for, or a term
+-- a command: a definition, a declaration, a type abbreviation or a term to evaluate
 pub data CommandTree : Type 0 where
   definition : Word → TermTree → CommandTree
   declaration : Word → TypeTree → CommandTree
   abbreviation : Word → TypeTree → CommandTree
   evaluation : TermTree → CommandTree
 
--- from the start of one place to the end of another
+-- from the start of one span to the end of another
 abbrev pub from_to : Span → Span → Span
 from_to a b = record { start = a.start; end = b.end }
 
--- the place of a written type
+-- the span of a written type
 abbrev pub type_span : TypeTree → Span
 type_span (type_tree s n) = s
 
--- the place of a term
+-- the span of a term
 abbrev pub term_span : TermTree → Span
 term_span (term_tree s n) = s
 
--- a written type with another place, as parentheses round it give it
+-- a written type with the span of the parentheses around it
 abbrev pub spanning_type : Span → TypeTree → TypeTree
 spanning_type s (type_tree r n) = type_tree s n
 
--- a term with another place, as parentheses round it give it
+-- a term with the span of the parentheses around it
 abbrev pub spanning_term : Span → TermTree → TermTree
 spanning_term s (term_tree r n) = term_tree s n
 
--- fields of a record type, and more behind them
+-- the fields of a record type, followed by more
 abbrev pub joined_types : TypeFields → TypeFields → TypeFields
 joined_types no_type_fields gs = gs
 joined_types (type_field l t fs) gs = type_field l t (joined_types fs gs)
 
--- fields of a record, and more behind them
+-- the fields of a record, followed by more
 abbrev pub joined : FieldTrees → FieldTrees → FieldTrees
 joined no_fields gs = gs
 joined (field l t fs) gs = field l t (joined fs gs)

@@ -1,4 +1,4 @@
--- The plain trees that written types, terms and commands stand for.
+-- The plain trees of written types, terms and commands.
 use Rattle.std.specs.Prelude.{List, [], ◌∷◌, ◌≡◌, Result, Ok, Err}
 use Rattle.std.specs.Option.{option_map}
 use Rattle.lam_syntax.specs.Trees.{Word, word, Bound, bound, TypeTree, type_tree, TypeNode, bool, nat, unit, top, named, arrow, record_type, TypeFields, no_type_fields, type_field, TermTree, term_tree, TermNode, true_term, false_term, unit_term, variable, numeral, lambda, if_term, let_term, letrec_term, prefixed, apply, project, ascribe, record_term, FieldTrees, no_fields, field, CommandTree, definition, declaration, abbreviation, evaluation}
@@ -18,26 +18,26 @@ use Rattle.lam_syntax.specs.declared.terms.Command.TheVariants as command
 use Rattle.lam_syntax.specs.declared.fault.ParseFault.{ParseFault}
 use Rattle.lam_syntax.specs.declared.fault.ParseFault.TheVariants as faults
 
--- the text of a name, a type name, a label or a numeral, with its place
+-- an identifier as a word with its span
 abbrev pub word_of : Identifier → Word
 word_of i = word (letters i.text) i.span
 
--- the name of a binder, none for an underscore, with its place
+-- a binder with its span; an underscore has no name
 abbrev pub bound_of : Binder → Bound
 bound_of b = bound (option_map (λ s. letters s) b.name) b.span
 
--- One level of a written type, with each type inside already seen as its tree.
+-- One level of a written type, whose parts are already trees.
 
--- labelled types as fields
+-- labelled types as record-type fields
 abbrev pub type_fields_made : List (Word × TypeTree) → TypeFields
 type_fields_made [] = no_type_fields
 type_fields_made (f ∷ fs) = type_field f.0 f.1 (type_fields_made fs)
 
--- the form of an arrow
+-- the node of an arrow
 abbrev pub arrow_step : ArrowTy-F TypeNode TypeNode (Word × TypeTree) TypeTree → TypeNode
 arrow_step a = arrow a.parameter a.outcome
 
--- the form of a type
+-- the node of a type
 abbrev pub type_node_step : TyNode-F TypeNode TypeNode (Word × TypeTree) TypeTree → TypeNode
 type_node_step TyNode-F.Bool = bool
 type_node_step TyNode-F.Nat = nat
@@ -51,11 +51,11 @@ type_node_step (TyNode-F.Record fs) = record_type (type_fields_made fs.items)
 abbrev pub type_field_step : TyField-F TypeNode TypeNode (Word × TypeTree) TypeTree → Word × TypeTree
 type_field_step f = (word_of f.label, f.ty)
 
--- a type with its place
+-- a type with its span
 abbrev pub type_tree_step : WrittenTy-F TypeNode TypeNode (Word × TypeTree) TypeTree → TypeTree
 type_tree_step t = type_tree t.span t.node
 
--- the tree of the form of a written type
+-- the tree of the node of a written type
 unfoldable pub type_node_of : TyNode → TypeNode
 type_node_of = fold-TyNode TypeNode TypeNode (Word × TypeTree) TypeTree type_node_step arrow_step type_field_step type_tree_step
 
@@ -68,42 +68,42 @@ abbrev pub type_fields_of : List TyField → TypeFields
 type_fields_of [] = no_type_fields
 type_fields_of (f ∷ fs) = type_field (word_of f.label) (type_of f.ty) (type_fields_of fs)
 
--- One level of a term, with each term inside already seen as its tree.
+-- One level of a term, whose parts are already trees.
 
--- labelled terms as fields
+-- labelled terms as record fields
 abbrev pub fields_made : List (Word × TermTree) → FieldTrees
 fields_made [] = no_fields
 fields_made (f ∷ fs) = field f.0 f.1 (fields_made fs)
 
--- the form of an application
+-- the node of an application
 abbrev pub application_step : Application-F TermNode TermNode TermNode TermNode TermNode TermNode TermNode TermNode TermTree (Word × TermTree) → TermNode
 application_step a = apply a.function a.argument
 
--- the form of an ascription
+-- the node of an ascription
 abbrev pub ascription_step : Ascription-F TermNode TermNode TermNode TermNode TermNode TermNode TermNode TermNode TermTree (Word × TermTree) → TermNode
 ascription_step a = ascribe a.operand (type_of a.ty)
 
--- the form of an if
+-- the node of an if
 abbrev pub conditional_step : Conditional-F TermNode TermNode TermNode TermNode TermNode TermNode TermNode TermNode TermTree (Word × TermTree) → TermNode
 conditional_step c = if_term c.condition c.then_term c.else_term
 
--- the form of a lambda
+-- the node of a lambda
 abbrev pub lambda_step : Lambda-F TermNode TermNode TermNode TermNode TermNode TermNode TermNode TermNode TermTree (Word × TermTree) → TermNode
 lambda_step l = lambda (bound_of l.binder) (type_of l.ty) l.body
 
--- the form of a let
+-- the node of a let
 abbrev pub let_step : Let-F TermNode TermNode TermNode TermNode TermNode TermNode TermNode TermNode TermTree (Word × TermTree) → TermNode
 let_step l = let_term (bound_of l.binder) l.bound l.body
 
--- the form of a letrec
+-- the node of a letrec
 abbrev pub letrec_step : Letrec-F TermNode TermNode TermNode TermNode TermNode TermNode TermNode TermNode TermTree (Word × TermTree) → TermNode
 letrec_step l = letrec_term (bound_of l.binder) (type_of l.ty) l.bound l.body
 
--- the form of a projection
+-- the node of a projection
 abbrev pub projection_step : Projection-F TermNode TermNode TermNode TermNode TermNode TermNode TermNode TermNode TermTree (Word × TermTree) → TermNode
 projection_step p = project p.record (word_of p.label)
 
--- the form of any term
+-- the node of any term
 abbrev pub node_step : TmNode-F TermNode TermNode TermNode TermNode TermNode TermNode TermNode TermNode TermTree (Word × TermTree) → TermNode
 node_step TmNode-F.True = true_term
 node_step TmNode-F.False = false_term
@@ -124,11 +124,11 @@ node_step (TmNode-F.Record fs) = record_term (fields_made fs.items)
 abbrev pub field_step : TmField-F TermNode TermNode TermNode TermNode TermNode TermNode TermNode TermNode TermTree (Word × TermTree) → Word × TermTree
 field_step f = (word_of f.label, f.term)
 
--- a term with its place
+-- a term with its span
 abbrev pub tree_step : Tm-F TermNode TermNode TermNode TermNode TermNode TermNode TermNode TermNode TermTree (Word × TermTree) → TermTree
 tree_step t = term_tree t.span t.node
 
--- the tree of the form of a term
+-- the tree of the node of a term
 unfoldable pub term_node_of : TmNode → TermNode
 term_node_of = fold-TmNode TermNode TermNode TermNode TermNode TermNode TermNode TermNode TermNode TermTree (Word × TermTree) node_step application_step ascription_step conditional_step lambda_step let_step letrec_step projection_step tree_step field_step
 
@@ -148,7 +148,7 @@ command_of (command.Declaration x t) = declaration (word_of x) (type_of t)
 command_of (command.Abbreviation x t) = abbreviation (word_of x) (type_of t)
 command_of (command.Evaluation t) = evaluation (term_of t)
 
--- the answer is that command, unless memory ran out
+-- the result is this command, unless allocation failed
 abbrev pub Accepts : CommandTree → Result Command ParseFault → Type 0
 Accepts c (Ok d) = command_of d ≡ c
 Accepts c (Err faults.Memory) = Unit {0}

@@ -1,15 +1,15 @@
-//! Names where they stand.
+//! Names and the binders of names, with their spans.
 use crate::text::Text;
 use lam_token::Span;
 
-/// A name, a type name, a label or a numeral, and where its token stands.
+/// A name, a type name, a label or a numeral, with the span of its token.
 #[derive(Drop)]
 pub struct Identifier {
     pub text: Text,
     pub span: Span,
 }
 
-/// What binds a name: a name, or `_`, which has none. The span is its token's.
+/// A binder of a term, with the span of its token. `_` has no name.
 #[derive(Drop)]
 pub struct Binder {
     pub name: Option<Text>,

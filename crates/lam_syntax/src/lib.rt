@@ -1,10 +1,10 @@
-//! The grammar of the language, and the parser of its commands.
+//! The grammar of the language, and a parser for its commands.
 //!
-//! Semicolons divide a document's tokens into pieces, and a fault in one of them leaves the others as they are.
-//! `parse` answers the one tree of a piece, or the token at which the piece stops being the start of a command.
-//! The trees keep the span of each term, type, name and binder, and no part of the text.
+//! Semicolons divide the tokens of a document into pieces, and an error in one piece does not affect the others. `parse`
+//! returns the unique syntax tree of a piece, or the token at which it stops being the start of a command. Trees keep the
+//! span of each term, type, name and binder, and do not borrow the text.
 //!
-//! Nothing here knows which names are bound, what a type or a term means, documents, or columns.
+//! This crate does not resolve names or check types, and knows nothing of documents or columns.
 #![tactic(auto)]
 
 mod fault;

@@ -1,7 +1,7 @@
-//! Reading of terms.
+//! Parsing terms.
 //!
-//! Each function reads its part at the front of the tokens, with one token of lookahead, and stops at the first
-//! token that fits nowhere.
+//! Each function parses a construct at the start of the tokens, with one token of lookahead, and returns it with the
+//! tokens after it. It stops at the first token that does not fit.
 ghost use Rattle.std.specs.Prelude.{◌≡◌, ◌<◌, ◌≤◌, length, IfOk, MatchBool};
 ghost use Rattle.lam_token.specs.declared.span.Span.{Span as TokenSpan};
 ghost use Rattle.lam_syntax.specs.inner.Run.{Purpose, for_lambda, for_let, for_letrec, of_lambda, of_letrec, InTerm, InPath, need_binder, need_term, in_condition, in_parens, after_atom, need_field, next_field, begin_app, begin_atom, run, look};
@@ -22,7 +22,7 @@ use crate::types::WrittenTy;
 use lam_token::{Kind, Span, Token};
 use std::alloc::Global;
 
-/// A term, and the tokens behind it.
+/// Parses a term.
 #[cycle(terms)]
 pub(crate) fn parse_term<'a, 'b>(
     alloc: Global,
@@ -44,7 +44,7 @@ pub(crate) fn parse_term<'a, 'b>(
     }
 }
 
-/// A term behind a token of this kind.
+/// Parses a token of this kind and then a term.
 #[cycle(terms)]
 fn parse_term_behind<'a, 'b>(
     alloc: Global,
@@ -58,7 +58,7 @@ fn parse_term_behind<'a, 'b>(
     parse_term(alloc, rest)
 }
 
-/// The binder, type and body of a lambda, behind the keyword, whose span is `first`.
+/// Parses the rest of a lambda, after the keyword, whose span is `first`.
 #[cycle(terms)]
 fn parse_lambda<'a, 'b>(
     alloc: Global,
@@ -74,7 +74,7 @@ fn parse_lambda<'a, 'b>(
     Ok((term, rest))
 }
 
-/// The three terms of an if, behind the keyword, whose span is `first`.
+/// Parses the rest of an `if`, after the keyword, whose span is `first`.
 #[cycle(terms)]
 fn parse_if<'a, 'b>(
     alloc: Global,
@@ -91,7 +91,7 @@ fn parse_if<'a, 'b>(
     Ok((term, rest))
 }
 
-/// The binder and terms of a let, behind the keyword, whose span is `first`.
+/// Parses the rest of a `let`, after the keyword, whose span is `first`.
 #[cycle(terms)]
 fn parse_let<'a, 'b>(
     alloc: Global,
@@ -108,7 +108,7 @@ fn parse_let<'a, 'b>(
     Ok((term, rest))
 }
 
-/// The binder, type and terms of a letrec, behind the keyword, whose span is `first`.
+/// Parses the rest of a `letrec`, after the keyword, whose span is `first`.
 #[cycle(terms)]
 fn parse_letrec<'a, 'b>(
     alloc: Global,
@@ -125,7 +125,7 @@ fn parse_letrec<'a, 'b>(
     Ok((term, rest))
 }
 
-/// A path, perhaps behind a prefix, and the paths that it is applied to.
+/// Parses an application: a path with an optional prefix, and its arguments, which are paths.
 #[cycle(terms)]
 fn parse_app<'a, 'b>(
     alloc: Global,
@@ -145,7 +145,7 @@ fn parse_app<'a, 'b>(
     Ok((head, rest))
 }
 
-/// An atom, perhaps with its type, and the labels behind it.
+/// Parses a path: an atom, an optional ascription, and any projections.
 #[cycle(terms)]
 fn parse_path<'a, 'b>(
     alloc: Global,
@@ -158,7 +158,7 @@ fn parse_path<'a, 'b>(
     parse_suffixes(alloc, atom, rest)
 }
 
-/// A single token, or a term in parentheses or braces.
+/// Parses an atom: a single token, a parenthesized term or a record.
 #[cycle(terms)]
 #[tactic(auto, using(crate::proofs::Shapes::term_shapes))]
 fn parse_atom<'a, 'b>(
@@ -185,7 +185,7 @@ fn parse_atom<'a, 'b>(
     Ok((Tm { span, node }, rest))
 }
 
-/// A term in parentheses, behind the opening one.
+/// Parses the rest of a parenthesized term, after the opening parenthesis.
 #[cycle(terms)]
 fn parse_parens<'a, 'b>(
     alloc: Global,
@@ -200,7 +200,7 @@ fn parse_parens<'a, 'b>(
     Ok((term.spanning(first, last), rest))
 }
 
-/// A record, behind its opening brace.
+/// Parses the rest of a record, after its opening brace.
 #[cycle(terms)]
 #[tactic(auto, using(crate::proofs::Shapes::term_shapes))]
 fn parse_record<'a, 'b>(
@@ -226,7 +226,7 @@ fn parse_record<'a, 'b>(
     Ok((make_record(first, last, fields), rest))
 }
 
-/// A label of a record and its term.
+/// Parses a field of a record: a label, an equals sign and a term.
 #[cycle(terms)]
 fn parse_field<'a, 'b>(
     alloc: Global,
@@ -240,7 +240,7 @@ fn parse_field<'a, 'b>(
     Ok((TmField { label, term }, rest))
 }
 
-/// The name of a binder, or its underscore.
+/// Parses a binder: a name or `_`.
 fn parse_binder<'a, 'b>(
     alloc: Global,
     tokens: &'a [Token<'b>],
@@ -262,7 +262,7 @@ fn parse_binder<'a, 'b>(
     }
 }
 
-/// The name of a binder, or its underscore, and the type that is written to it.
+/// Parses a binder, a colon and a type.
 fn parse_typed_binder<'a, 'b>(
     alloc: Global,
     tokens: &'a [Token<'b>],
@@ -277,7 +277,7 @@ fn parse_typed_binder<'a, 'b>(
     Ok(((binder, ty), rest))
 }
 
-/// The word that stands before a path, if there is one, and the tokens from the path on.
+/// Reads the prefix of a path, if there is one, and returns it with the tokens after it.
 fn take_prefix<'a, 'b>(tokens: &'a [Token<'b>]) -> (Option<(Prefix, Span)>, &'a [Token<'b>])
     ensures begun { (k : InTerm) → look tokens.now (λ o. begin_app o k) ≡ look result.1.now (λ o. begin_atom o (placed result.0 k)) }
     ensures shorter { length result.1.now ≤ length tokens.now }
@@ -295,7 +295,7 @@ fn take_prefix<'a, 'b>(tokens: &'a [Token<'b>]) -> (Option<(Prefix, Span)>, &'a 
     }
 }
 
-/// Whether an atom begins here.
+/// Whether the first token may begin an atom.
 fn starts_atom(tokens: &[Token<'_>]) -> bool
     ensures { MatchBool result (Starts tokens.now) (Starts tokens.now → ⊥) }
 {
@@ -314,7 +314,7 @@ fn starts_atom(tokens: &[Token<'_>]) -> bool
     }
 }
 
-/// An atom with the type that may be written to it.
+/// Parses an optional ascription of the atom.
 fn parse_ascription<'a, 'b>(
     alloc: Global,
     atom: Tm,
@@ -331,7 +331,7 @@ fn parse_ascription<'a, 'b>(
     Ok((term, rest))
 }
 
-/// The type that may be written to an atom, and the labels behind it.
+/// Parses an optional ascription of the atom and any projections.
 fn parse_suffixes<'a, 'b>(
     alloc: Global,
     atom: Tm,

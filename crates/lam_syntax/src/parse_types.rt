@@ -1,7 +1,7 @@
-//! Reading of types.
+//! Parsing types.
 //!
-//! Each function reads its part at the front of the tokens, with one token of lookahead, and stops at the first
-//! token that fits nowhere.
+//! Each function parses a construct at the start of the tokens, with one token of lookahead, and returns it with the
+//! tokens after it. It stops at the first token that does not fit.
 ghost use Rattle.std.specs.Prelude.{◌<◌, length, IfOk};
 ghost use Rattle.lam_token.specs.declared.span.Span.{Span as TokenSpan};
 ghost use Rattle.lam_syntax.specs.inner.Run.{InType, in_type_parens, need_type, need_type_field, next_type_field, run};
@@ -14,7 +14,7 @@ use crate::types::{TyField, TyNode, WrittenTy, make_arrow, make_record_type};
 use lam_token::{Kind, Span, Token};
 use std::alloc::Global;
 
-/// A type, and the tokens behind it.
+/// Parses a type.
 #[cycle(types)]
 pub(crate) fn parse_type<'a, 'b>(
     alloc: Global,
@@ -32,7 +32,7 @@ pub(crate) fn parse_type<'a, 'b>(
     Ok((ty, rest))
 }
 
-/// A type that is no arrow, or stands in parentheses.
+/// Parses an atomic type: any type but an unparenthesized arrow.
 #[cycle(types)]
 #[tactic(auto, using(crate::proofs::Shapes::type_shapes))]
 fn parse_atype<'a, 'b>(
@@ -59,7 +59,7 @@ fn parse_atype<'a, 'b>(
     Ok((WrittenTy { span, node }, rest))
 }
 
-/// A type in parentheses, behind the opening one.
+/// Parses the rest of a parenthesized type, after the opening parenthesis.
 #[cycle(types)]
 fn parse_type_parens<'a, 'b>(
     alloc: Global,
@@ -74,7 +74,7 @@ fn parse_type_parens<'a, 'b>(
     Ok((ty.spanning(first, last), rest))
 }
 
-/// A record type, behind its opening brace.
+/// Parses the rest of a record type, after its opening brace.
 #[cycle(types)]
 #[tactic(auto, using(crate::proofs::Shapes::type_shapes))]
 fn parse_record_type<'a, 'b>(
@@ -100,7 +100,7 @@ fn parse_record_type<'a, 'b>(
     Ok((make_record_type(first, last, fields), rest))
 }
 
-/// A label of a record type and its type.
+/// Parses a field of a record type: a label, a colon and a type.
 #[cycle(types)]
 fn parse_type_field<'a, 'b>(
     alloc: Global,

@@ -1,4 +1,4 @@
-//! Reading of commands.
+//! Parsing commands.
 ghost use Rattle.std.specs.Prelude.{◌≡◌, IfOk, IfErr};
 ghost use Rattle.lam_token.specs.Lexeme.{text_of, span_of};
 ghost use Rattle.lam_syntax.specs.Trees.{CommandTree, word};
@@ -17,10 +17,10 @@ use crate::tokens::{expect, identifier_of, take};
 use lam_token::{Kind, Token};
 use std::alloc::Global;
 
-/// How many tokens a command may have.
+/// The maximum number of tokens in a command.
 const MAX_TOKENS: usize = 2_000;
 
-/// The command that the tokens spell. No other tree, with other places or another grouping, is spelled by them.
+/// Parses the tokens as a command. The grammar derives no other tree, with other spans or grouping, from them.
 pub fn parse(alloc: Global, tokens: &[Token<'_>]) -> Result<Command, ParseFault>
     ensures taken { IfOk result (λ c. IsTaken tokens.now) }
     ensures spelled { IfOk result (λ c. Spells tokens.now (command_of c)) }
@@ -41,7 +41,7 @@ pub fn parse(alloc: Global, tokens: &[Token<'_>]) -> Result<Command, ParseFault>
     }
 }
 
-/// What the tokens that are left say of all of them.
+/// The error for a parser that stopped with these tokens left.
 fn fault_at(tokens: &[Token<'_>], left: &[Token<'_>]) -> ParseFault
     requires taken { IsTaken tokens.now }
     requires stopped { run tokens.now need_command ≡ fault left.now }
@@ -54,7 +54,7 @@ fn fault_at(tokens: &[Token<'_>], left: &[Token<'_>]) -> ParseFault
     }
 }
 
-/// Whether a token is a bad character or a comment that is not closed.
+/// Whether some token is a stray character or an unclosed comment.
 fn has_bad(tokens: &[Token<'_>]) -> bool
     ensures { result ≡ has_bad tokens.now }
 {
@@ -71,7 +71,7 @@ fn is_bad(kind: Kind) -> bool
     }
 }
 
-/// A command, up to the end of the tokens.
+/// Parses a command, which must extend to the end of the tokens.
 fn parse_command<'a, 'b>(alloc: Global, tokens: &'a [Token<'b>]) -> Result<Command, Stop<'a, 'b>>
     ensures { ReadsAll result (run tokens.now need_command) }
 {
@@ -93,7 +93,7 @@ fn parse_command<'a, 'b>(alloc: Global, tokens: &'a [Token<'b>]) -> Result<Comma
     }
 }
 
-/// `name = term`, from the term on.
+/// Parses `name = term`, from the term on.
 fn parse_definition<'a, 'b>(
     alloc: Global,
     name: &Token<'b>,
@@ -107,7 +107,7 @@ fn parse_definition<'a, 'b>(
     Ok(Command::Definition(name, term))
 }
 
-/// `name : type`, from the type on.
+/// Parses `name : type`, from the type on.
 fn parse_declaration<'a, 'b>(
     alloc: Global,
     name: &Token<'b>,
@@ -121,7 +121,7 @@ fn parse_declaration<'a, 'b>(
     Ok(Command::Declaration(name, ty))
 }
 
-/// `TypeName = type`, from the mark on.
+/// Parses `TypeName = type`, from the equals sign on.
 fn parse_abbreviation<'a, 'b>(
     alloc: Global,
     name: &Token<'b>,
@@ -136,7 +136,7 @@ fn parse_abbreviation<'a, 'b>(
     Ok(Command::Abbreviation(name, ty))
 }
 
-/// A term by itself.
+/// Parses a term on its own.
 fn parse_evaluation<'a, 'b>(alloc: Global, tokens: &'a [Token<'b>]) -> Result<Command, Stop<'a, 'b>>
     ensures { ReadsAll result (run tokens.now (need_term of_evaluation)) }
 {
@@ -145,7 +145,7 @@ fn parse_evaluation<'a, 'b>(alloc: Global, tokens: &'a [Token<'b>]) -> Result<Co
     Ok(Command::Evaluation(term))
 }
 
-/// Nothing, at the end of the tokens.
+/// Stops unless there are no more tokens.
 fn expect_end<'a, 'b>(tokens: &'a [Token<'b>]) -> Result<(), Stop<'a, 'b>>
     ensures { EndsAll tokens.now result }
 {

@@ -1,10 +1,10 @@
-//! Spans that join others.
+//! Joining spans.
 ghost use Rattle.std.specs.Prelude.{◌≡◌};
 ghost use Rattle.lam_syntax.specs.Trees.{from_to};
 
 use lam_token::Span;
 
-/// From the start of one span to the end of another.
+/// The span from the start of one span to the end of another.
 pub(crate) fn from_to(first: Span, last: Span) -> Span
     ensures { result ≡ from_to first last }
 {

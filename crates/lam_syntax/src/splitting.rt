@@ -1,4 +1,4 @@
-//! The pieces of a document's tokens.
+//! Splitting the tokens of a document into pieces.
 ghost use Rattle.std.specs.Prelude.{◌≡◌, ◌<◌, ◌≤◌, length, drop, map, IfOk, All};
 ghost use Rattle.lam_syntax.specs.Answers.{is_semicolon, pieces_of};
 ghost use Rattle.lam_syntax.specs.inner.Reads.{run_len};
@@ -6,7 +6,7 @@ ghost use Rattle.lam_syntax.specs.inner.Reads.{run_len};
 use lam_token::{Kind, Token};
 use std::alloc::{AllocError, Global};
 
-/// What stands between the semicolons: a slice for each stretch of other tokens, in the order of the text.
+/// Returns the nonempty slices of tokens between semicolons, in order. Fails if allocation fails.
 pub fn pieces<'a, 'b>(
     alloc: Global,
     tokens: &'a [Token<'b>],
@@ -26,7 +26,7 @@ pub fn pieces<'a, 'b>(
     Ok(found)
 }
 
-/// Whether the token ends a piece.
+/// Whether the token is a semicolon, which ends a piece.
 pub fn is_semicolon(token: &Token<'_>) -> bool
     ensures { result ≡ is_semicolon token.now }
 {
@@ -36,7 +36,7 @@ pub fn is_semicolon(token: &Token<'_>) -> bool
     }
 }
 
-/// How many tokens stand before the first semicolon.
+/// The number of tokens before the first semicolon.
 fn run_len(tokens: &[Token<'_>]) -> usize
     ensures within { result ≤ length tokens.now }
     ensures run { result ≡ run_len tokens.now }
@@ -49,7 +49,7 @@ fn run_len(tokens: &[Token<'_>]) -> usize
     tokens.len()
 }
 
-/// The tokens behind the first one.
+/// The tokens after the first one.
 fn behind_first<'a, 'b>(tokens: &'a [Token<'b>]) -> &'a [Token<'b>]
     ensures { result.now ≡ drop 1 tokens.now }
 {

@@ -1,11 +1,11 @@
-//! Why the reading of a part of a command stops.
+//! Why parsing a construct stops.
 ghost use Rattle.std.specs.Prelude.{◌≡◌};
 ghost use Rattle.lam_syntax.specs.declared.stop.Stop.TheVariants.{Memory};
 
 use lam_token::Token;
 use std::alloc::{AllocError, AllocFailed};
 
-/// Why reading stops: at these tokens, the first of which fits nowhere, or because memory ran out.
+/// Why parsing stops: the first of these tokens does not fit, or allocation failed.
 #[derive(Drop)]
 pub(crate) enum Stop<'a, 'b> {
     At(&'a [Token<'b>]),

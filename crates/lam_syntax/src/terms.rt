@@ -1,4 +1,4 @@
-//! Terms and commands.
+//! Terms and commands as written in the source.
 ghost use Rattle.std.specs.Prelude.{◌≡◌, IfOk};
 ghost use Rattle.lam_syntax.specs.Trees.{from_to, term_span, type_span, term_tree, lambda, if_term, let_term, letrec_term, apply, project, ascribe, record_term, spanning_term};
 ghost use Rattle.lam_syntax.specs.Views.{word_of, bound_of, type_of, term_of, fields_of};
@@ -10,14 +10,14 @@ use crate::types::WrittenTy;
 use lam_token::Span;
 use std::alloc::{AllocError, Global};
 
-/// A term, its own parentheses included in its span.
+/// A term. Its span includes the parentheses around it.
 #[cycle(terms)]
 pub struct Tm {
     pub span: Span,
     pub node: TmNode,
 }
 
-/// A function of its own, so that what drops a term calls it in place of going through all forms of terms itself.
+/// A separate function, so that code which drops a term calls it instead of handling all kinds of terms itself.
 impl Drop for Tm {
     #[cycle(terms)]
     fn drop(self) {
@@ -25,7 +25,7 @@ impl Drop for Tm {
     }
 }
 
-/// The words that stand before a path.
+/// The keywords that may precede a path.
 #[derive(Clone, Copy, Debug, PartialEq, Eq)]
 pub enum Prefix {
     Fix,
@@ -34,8 +34,8 @@ pub enum Prefix {
     IsZero,
 }
 
-/// What a term is. A name or a numeral stands in the node itself; the parts of any other term stand in a box of
-/// their own, so that a node is no wider than a name.
+/// The kind of a term. Names and numerals are stored in the node itself, and the parts of other terms are boxed, so that
+/// a node is no larger than a name.
 #[cycle(terms)]
 #[derive(Drop)]
 pub enum TmNode {
@@ -116,7 +116,7 @@ pub struct Ascription {
     pub ty: WrittenTy,
 }
 
-/// A label of a record and its term.
+/// A field of a record: a label and its term.
 #[cycle(terms)]
 #[derive(Drop)]
 pub struct TmField {
@@ -137,7 +137,7 @@ pub enum Command {
 }
 
 impl Tm {
-    /// The term with the span of the parentheses round it.
+    /// Replaces the span of the term by that of the parentheses around it.
     pub(crate) fn spanning(self, first: Span, last: Span) -> Tm
         ensures { term_of result ≡ spanning_term (from_to first last) (term_of self) }
     {
@@ -149,7 +149,7 @@ impl Tm {
     }
 }
 
-/// The function of this binder.
+/// Makes a lambda.
 #[tactic(auto, using(crate::proofs::Shapes::term_shapes))]
 pub(crate) fn make_lambda(
     alloc: Global,
@@ -168,7 +168,7 @@ pub(crate) fn make_lambda(
     })
 }
 
-/// The choice between two terms.
+/// Makes a conditional.
 #[tactic(auto, using(crate::proofs::Shapes::term_shapes))]
 pub(crate) fn make_if(
     alloc: Global,
@@ -191,7 +191,7 @@ pub(crate) fn make_if(
     })
 }
 
-/// The term with a name for another.
+/// Makes a `let`.
 #[tactic(auto, using(crate::proofs::Shapes::term_shapes))]
 pub(crate) fn make_let(
     alloc: Global,
@@ -214,7 +214,7 @@ pub(crate) fn make_let(
     })
 }
 
-/// The term with a name for another that may use it.
+/// Makes a `letrec`.
 #[tactic(auto, using(crate::proofs::Shapes::term_shapes))]
 pub(crate) fn make_letrec(
     alloc: Global,
@@ -239,7 +239,7 @@ pub(crate) fn make_letrec(
     })
 }
 
-/// The term behind a prefix, or behind none.
+/// Applies the prefix to the term, if there is one.
 #[tactic(auto, using(crate::proofs::Shapes::term_shapes))]
 pub(crate) fn with_prefix(
     alloc: Global,
@@ -260,7 +260,7 @@ pub(crate) fn with_prefix(
     }
 }
 
-/// A function at its argument.
+/// Makes an application.
 #[tactic(auto, using(crate::proofs::Shapes::term_shapes))]
 pub(crate) fn make_apply(alloc: Global, function: Tm, argument: Tm) -> Result<Tm, AllocError>
     ensures { IfOk result (λ t. term_of t ≡ term_tree (from_to (term_span (term_of function)) (term_span (term_of argument))) (apply (term_of function) (term_of argument))) }
@@ -273,7 +273,7 @@ pub(crate) fn make_apply(alloc: Global, function: Tm, argument: Tm) -> Result<Tm
     })
 }
 
-/// The field of a record.
+/// Makes a projection.
 #[tactic(auto, using(crate::proofs::Shapes::term_shapes))]
 pub(crate) fn make_project(alloc: Global, term: Tm, label: Identifier) -> Result<Tm, AllocError>
     ensures { IfOk result (λ t. term_of t ≡ term_tree (from_to (term_span (term_of term)) label.span) (project (term_of term) (word_of label))) }
@@ -289,7 +289,7 @@ pub(crate) fn make_project(alloc: Global, term: Tm, label: Identifier) -> Result
     })
 }
 
-/// The term with a type that is written to it.
+/// Makes an ascription.
 #[tactic(auto, using(crate::proofs::Shapes::term_shapes))]
 pub(crate) fn make_ascribe(alloc: Global, term: Tm, ty: WrittenTy) -> Result<Tm, AllocError>
     ensures { IfOk result (λ t. term_of t ≡ term_tree (from_to (term_span (term_of term)) (type_span (type_of ty))) (ascribe (term_of term) (type_of ty))) }
@@ -302,12 +302,12 @@ pub(crate) fn make_ascribe(alloc: Global, term: Tm, ty: WrittenTy) -> Result<Tm,
     })
 }
 
-/// The record of these fields between these braces.
+/// Makes a record of these fields, given the spans of its braces.
 #[tactic(auto, using(crate::proofs::Shapes::term_shapes))]
 pub(crate) fn make_record(first: Span, last: Span, mut fields: Vec<TmField>) -> Tm
     ensures { term_of result ≡ term_tree (from_to first last) (record_term (fields_of fields.items)) }
 {
-    // Up to half of a vector that grew is spare, and a document has thousands of records.
+    // Up to half the capacity of a grown vector is unused, and a document has thousands of records.
     fields.shrink_to_fit();
     Tm {
         span: from_to(first, last),

@@ -7,13 +7,13 @@ use std::marker::Model;
 use std::rc::RcStr;
 use std::str;
 
-/// The text of a name, a type name, a label or a numeral. Nearly all have a few letters, and such a text stands in the
-/// value itself: it takes no memory of its own, and is read where the name is. The copies of a longer one share it.
+/// The text of a name, a type name, a label or a numeral. Most are short, and a short text is stored inline, without an
+/// allocation. Clones of a longer text share its memory.
 pub struct Text {
     kept: Kept,
 }
 
-/// A function of its own, so that what drops a text calls it in place of going through both forms of texts itself.
+/// A separate function, so that code which drops a text calls it instead of handling both representations itself.
 impl Drop for Text {
     fn drop(self) {
         let Text { kept: _ } = self;
@@ -26,10 +26,10 @@ enum Kept {
     Long(RcStr<Global>),
 }
 
-/// How many bytes a text may have that stands in the value itself.
+/// The largest length in bytes of a text that is stored inline.
 const ROOM: usize = 15;
 
-/// A text of few bytes. A clause sees it as these bytes.
+/// A short text, stored inline. Contracts see it as its bytes.
 #[derive(Drop)]
 struct Short {
     block: [u8; ROOM],
@@ -47,7 +47,7 @@ impl Model for Short {
 }
 
 impl Text {
-    /// The text of these letters.
+    /// Creates a text with this content. Fails if allocation fails.
     pub fn new(alloc: Global, text: &str) -> Result<Text, AllocError>
         ensures { IfOk result (λ made. letters made ≡ text.now) }
     {
@@ -63,7 +63,7 @@ impl Text {
         })
     }
 
-    /// Its letters.
+    /// Returns the content of the text.
     pub fn as_str(&self) -> &str
         ensures { result.now ≡ letters self.now }
     {
@@ -73,7 +73,7 @@ impl Text {
         }
     }
 
-    /// The same text.
+    /// Returns a copy of the text, which shares the memory of a long one.
     pub fn clone(&self) -> Result<Text, AllocError>
         ensures { IfOk result (λ same. letters same ≡ letters self.now) }
     {
@@ -117,7 +117,7 @@ impl Short {
         ensures { result.now ≡ self.now }
     {
         let bytes = &self.block[..self.used as usize];
-        // By the invariant they are UTF-8.
+        // The invariant says that these bytes are UTF-8.
         unsafe { str::from_utf8_unchecked(bytes) }
     }
 }

@@ -1,4 +1,4 @@
-//! Single tokens at the front of others.
+//! Reading single tokens from the start of a list.
 ghost use Rattle.std.specs.Prelude.{◌≡◌, ◌<◌, IfOk};
 ghost use Rattle.lam_token.specs.Lexeme.{text_of, span_of};
 ghost use Rattle.lam_syntax.specs.Trees.{word};
@@ -11,7 +11,7 @@ use crate::text::Text;
 use lam_token::{Kind, Span, Token};
 use std::alloc::{AllocError, Global};
 
-/// Takes a token of this kind off the front, if there is one: its span, and the tokens after it.
+/// Returns the span of the first token and the tokens after it, if the first token is of this kind.
 pub(crate) fn take<'a, 'b>(tokens: &'a [Token<'b>], kind: Kind) -> Option<(Span, &'a [Token<'b>])>
     ensures takes { Takes kind tokens.now result }
 {
@@ -23,7 +23,7 @@ pub(crate) fn take<'a, 'b>(tokens: &'a [Token<'b>], kind: Kind) -> Option<(Span,
     }
 }
 
-/// Takes a token of this kind off the front; any other token stops the reading.
+/// Like `take`, but stops if the first token is not of this kind.
 pub(crate) fn expect<'a, 'b>(
     tokens: &'a [Token<'b>],
     kind: Kind,
@@ -36,7 +36,7 @@ pub(crate) fn expect<'a, 'b>(
     }
 }
 
-/// The token's text and span.
+/// The text and span of the token.
 pub(crate) fn identifier_of(alloc: Global, token: &Token<'_>) -> Result<Identifier, AllocError>
     ensures { IfOk result (λ i. word_of i ≡ word (text_of token.now) (span_of token.now)) }
 {
@@ -46,7 +46,7 @@ pub(crate) fn identifier_of(alloc: Global, token: &Token<'_>) -> Result<Identifi
     })
 }
 
-/// A name with its text, where another token stops the reading.
+/// Reads a name, and stops at any other token.
 pub(crate) fn expect_name<'a, 'b>(
     alloc: Global,
     tokens: &'a [Token<'b>],

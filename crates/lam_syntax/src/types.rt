@@ -1,4 +1,4 @@
-//! Types as they are written.
+//! Types as written in the source.
 ghost use Rattle.std.specs.Prelude.{◌≡◌, IfOk};
 ghost use Rattle.lam_syntax.specs.Trees.{from_to, type_span, type_tree, arrow, record_type, spanning_type};
 ghost use Rattle.lam_syntax.specs.Views.{type_of, type_fields_of};
@@ -8,14 +8,14 @@ use crate::spans::from_to;
 use lam_token::Span;
 use std::alloc::{AllocError, Global};
 
-/// A type as it is written, its own parentheses included in its span.
+/// A type as written in the source. Its span includes the parentheses around it.
 #[cycle(types)]
 pub struct WrittenTy {
     pub span: Span,
     pub node: TyNode,
 }
 
-/// A function of its own, so that what drops a type calls it in place of going through all forms of types itself.
+/// A separate function, so that code which drops a type calls it instead of handling all kinds of types itself.
 impl Drop for WrittenTy {
     #[cycle(types)]
     fn drop(self) {
@@ -23,7 +23,7 @@ impl Drop for WrittenTy {
     }
 }
 
-/// What a written type is.
+/// The kind of a written type.
 #[cycle(types)]
 #[derive(Drop)]
 pub enum TyNode {
@@ -44,7 +44,7 @@ pub struct ArrowTy {
     pub outcome: WrittenTy,
 }
 
-/// A label of a record type and its type.
+/// A field of a record type: a label and its type.
 #[cycle(types)]
 #[derive(Drop)]
 pub struct TyField {
@@ -53,7 +53,7 @@ pub struct TyField {
 }
 
 impl WrittenTy {
-    /// The type with the span of the parentheses round it.
+    /// Replaces the span of the type by that of the parentheses around it.
     pub(crate) fn spanning(self, first: Span, last: Span) -> WrittenTy
         ensures { type_of result ≡ spanning_type (from_to first last) (type_of self) }
     {
@@ -65,7 +65,7 @@ impl WrittenTy {
     }
 }
 
-/// The arrow from one type to another.
+/// Makes an arrow type.
 #[tactic(auto, using(crate::proofs::Shapes::type_shapes))]
 pub(crate) fn make_arrow(
     alloc: Global,
@@ -82,12 +82,12 @@ pub(crate) fn make_arrow(
     })
 }
 
-/// The record type of these fields between these braces.
+/// Makes a record type of these fields, given the spans of its braces.
 #[tactic(auto, using(crate::proofs::Shapes::type_shapes))]
 pub(crate) fn make_record_type(first: Span, last: Span, mut fields: Vec<TyField>) -> WrittenTy
     ensures { type_of result ≡ type_tree (from_to first last) (record_type (type_fields_of fields.items)) }
 {
-    // Up to half of a vector that grew is spare, and a document has thousands of record types.
+    // Up to half the capacity of a grown vector is unused, and a document has thousands of record types.
     fields.shrink_to_fit();
     WrittenTy {
         span: from_to(first, last),

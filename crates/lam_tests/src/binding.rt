@@ -1,11 +1,11 @@
-//! What names are bound to, what places see, and what written types stand for.
+//! Name resolution: what names are bound to, what is in scope at subterms, and what written types stand for.
 
 use crate::written::{check_rows, commands_of, resolved_of, scopes_of};
 use lam_scope::{Binder, Place, Scopes, bind, resolve};
 use std::alloc::{AllocError, Global};
 use std::test::Fail;
 
-/// The number and the token of a binder, and the tokens of its uses, as `0: 0..1 16..17`.
+/// The number and the span of a binder, and the spans of its uses, as `0: 0..1 16..17`.
 fn push_bound(shown: &mut String, scopes: &Scopes, binder: Binder) -> Result<(), AllocError> {
     let token = scopes.token_of(binder);
     write!(shown, "{}: {}..{}", binder.0, token.start, token.end)?;
@@ -15,7 +15,7 @@ fn push_bound(shown: &mut String, scopes: &Scopes, binder: Binder) -> Result<(),
     Ok(())
 }
 
-/// That of the name at an offset; nothing where there is none.
+/// The binder of the name at an offset; empty if there is none.
 fn bound_at(alloc: Global, (text, offset): (&str, usize)) -> Result<String, Fail> {
     let scopes = scopes_of(alloc, text)?;
     let mut shown = String::new(alloc);
@@ -63,7 +63,7 @@ fn names_are_bound_by_the_innermost_binder_before(rt: HostRuntime) -> Result<(),
     check_rows(&rt, rt.alloc(), bound_at, &NAMES)
 }
 
-/// The span of a place, as `0..37`, its immediate terms, and the binders that it sees.
+/// The span of a subterm, as `0..37`, its immediate subterms, and the binders in scope.
 fn push_place(
     shown: &mut String,
     alloc: Global,
@@ -82,7 +82,7 @@ fn push_place(
     )
 }
 
-/// The innermost place of a byte; nothing where there is none.
+/// The innermost subterm around a byte; empty if there is none.
 fn place_shown(alloc: Global, (text, offset): (&str, usize)) -> Result<String, Fail> {
     let scopes = scopes_of(alloc, text)?;
     let mut shown = String::new(alloc);
@@ -94,7 +94,7 @@ fn place_shown(alloc: Global, (text, offset): (&str, usize)) -> Result<String, F
 
 const APPLIED: &str = "(lambda r:{x:Nat}. r.x) {y=true, x=0};";
 
-/// Texts, offsets, and the innermost places there.
+/// Texts, offsets, and the innermost subterms there.
 static PLACES: [((&str, usize), &str); 9] = [
     ((APPLIED, 23), "0..37 [Place(2), Place(5)] []"),
     ((APPLIED, 19), "19..20 [] [Binder(0)]"),
@@ -121,7 +121,7 @@ fn the_innermost_place_is_touched(rt: HostRuntime) -> Result<(), Fail> {
     check_rows(&rt, rt.alloc(), place_shown, &PLACES)
 }
 
-/// So many places of a text, from the first.
+/// The first `count` subterms of a text.
 fn places_shown(alloc: Global, (text, count): (&str, usize)) -> Result<String, Fail> {
     let scopes = scopes_of(alloc, text)?;
     let mut shown = String::new(alloc);
@@ -132,8 +132,7 @@ fn places_shown(alloc: Global, (text, count): (&str, usize)) -> Result<String, F
     Ok(shown)
 }
 
-/// `g` and `f`, their application, the lambda over it and the fix of that, the body, and the let; past the last place there
-/// is nothing.
+/// `g` and `f`, their application, the lambda over it and the fix of that, the body, and the let; nothing after the last subterm.
 static LETREC: [((&str, usize), &str); 1] = [(
     ("letrec f:Nat = g f in f", 8),
     "15..16 [] [Binder(0)]; 17..18 [] [Binder(0)]; 15..18 [Place(0), Place(1)] [Binder(0)]; 15..18 [Place(2)] []; 15..18 [Place(3)] []; 22..23 [] [Binder(1)]; 0..23 [Place(4), Place(5)] []; 0..0 [] []; ",
@@ -144,8 +143,7 @@ fn a_letrec_has_a_lambda_and_a_fix(rt: HostRuntime) -> Result<(), Fail> {
     check_rows(&rt, rt.alloc(), places_shown, &LETREC)
 }
 
-/// How many statements and places a text has, where each of its binders takes its type from, and the faults of its written
-/// types.
+/// The number of statements and subterms of a text, where each binder gets its type from, and the diagnostics of written types.
 fn form(alloc: Global, text: &str) -> Result<String, Fail> {
     let resolved = resolved_of(alloc, text)?;
     let count = resolved.statements().len();
@@ -210,11 +208,11 @@ fn statements_origins_and_faults_of_written_types(rt: HostRuntime) -> Result<(),
     check_rows(&rt, rt.alloc(), form, &FORMS)
 }
 
-/// Abbreviations of twice the one before: the last of ten has 4,095 nodes. It has 212 bytes.
+/// Abbreviations that each double the one before; `T10` has 4,095 nodes. The text has 212 bytes.
 const DOUBLED: &str =
     "T0 = {a:Nat, b:Nat}; T1 = {a:T0, b:T0}; T2 = {a:T1, b:T1}; T3 = {a:T2, b:T2}; T4 = {a:T3, b:T3}; T5 = {a:T4, b:T4}; T6 = {a:T5, b:T5}; T7 = {a:T6, b:T6}; T8 = {a:T7, b:T7}; T9 = {a:T8, b:T8}; T10 = {a:T9, b:T9}; ";
 
-/// Why a document that goes on behind those has no nameless form; nothing where it has one.
+/// Why a document that continues with `more` has no nameless form; empty if it has one.
 fn limit_behind(alloc: Global, more: &str) -> Result<String, Fail> {
     let commands = commands_of(alloc, &format!(in alloc; "{DOUBLED}{more}")?)?;
     let scopes = bind(alloc, &commands)?;
@@ -241,7 +239,7 @@ fn expansions_have_a_limit(rt: HostRuntime) -> Result<(), Fail> {
     check_rows(&rt, rt.alloc(), limit_behind, &LIMITS)
 }
 
-/// Whether a definition is found behind others of the same name and the same length.
+/// Whether a definition is found after others of the same name and length.
 fn is_found(scopes: &Scopes, number: usize) -> bool {
     let start = number.saturating_mul(7);
     let behind = start.saturating_add(4);

@@ -1,5 +1,5 @@
-//! Joins and meets on trees and on numbers. Both bounds of two types are one type: an arrow from the join to the meet, or
-//! the join alone where there is no meet.
+//! Joins and meets of trees and of type ids. Both bounds of two types are shown as one type: an arrow from the join to the meet,
+//! or only the join if there is no meet.
 
 ghost use Rattle.std.specs.Prelude.{IfOk};
 ghost use Rattle.lam_rules.specs.Numbers.{Stands};
@@ -23,7 +23,7 @@ fn bounds_type(alloc: Global, joined: Ty, met: Option<Ty>) -> Result<Ty, AllocEr
     }
 }
 
-/// By the trees.
+/// The bounds of trees.
 fn bounds(alloc: Global, left: &Ty, right: &Ty, dialect: Dialect) -> Result<String, AllocError>
     requires left { IsWellFormed (typ_of left.now) }
     requires right { IsWellFormed (typ_of right.now) }
@@ -33,7 +33,7 @@ fn bounds(alloc: Global, left: &Ty, right: &Ty, dialect: Dialect) -> Result<Stri
     plain_text_of(alloc, &bounds_type(alloc, joined, met)?)
 }
 
-/// By the numbers in a table.
+/// The join of type ids in a table.
 fn numbered_join(alloc: Global, left: &Ty, right: &Ty, dialect: Dialect) -> Result<Ty, AllocError>
     requires left { IsWellFormed (typ_of left.now) }
     requires right { IsWellFormed (typ_of right.now) }
@@ -77,7 +77,7 @@ fn numbered_bounds(
     plain_text_of(alloc, &bounds_type(alloc, joined, met)?)
 }
 
-/// By the trees, where the numbers give the same.
+/// The bounds of trees, followed by those of type ids if they differ.
 fn both_bounds(alloc: Global, left: &Ty, right: &Ty, dialect: Dialect) -> Result<String, AllocError>
     requires left { IsWellFormed (typ_of left.now) }
     requires right { IsWellFormed (typ_of right.now) }
@@ -94,7 +94,7 @@ const AB: &str = "{a:Nat, b:Bool}";
 
 const BC: &str = "{b:Bool, c:Unit}";
 
-/// The dialect, two types, and their bounds, with the fields in the order of the first type's.
+/// The dialect, two types, and their bounds, with fields in the order of the first type.
 static ROWS: [((Dialect, &str, &str), &str); 22] = [
     ((One, AB, BC), "{b:Bool}->{a:Nat, b:Bool, c:Unit}"),
     ((One, BC, AB), "{b:Bool}->{b:Bool, c:Unit, a:Nat}"),
@@ -148,7 +148,7 @@ fn wanted_of_wide(alloc: Global) -> Result<String, AllocError> {
     format!(in alloc; "{{{shared}}}->{{{front}, {lesser}}}")
 }
 
-/// Two records of a thousand fields that have five hundred labels in common, where Bool is below Nat.
+/// Two records of a thousand fields with five hundred labels in common, in the dialect where Bool is a subtype of Nat.
 fn bounds_of_wide(alloc: Global) -> Result<String, Fail> {
     let left = well_formed(make_record(fields(alloc, 0, 1_000, &Ty::Nat)?))?;
     let right = well_formed(make_record(fields(alloc, 500, 1_500, &Ty::Bool)?))?;
@@ -165,7 +165,7 @@ fn records_of_a_thousand_fields(rt: HostRuntime) -> Result<(), Fail> {
     Ok(())
 }
 
-/// Two records of five thousand fields, more nodes than a type of a document may have.
+/// Two records of five thousand fields, which is over the size limit of a document.
 fn bounds_of_large(alloc: Global) -> Result<String, Fail> {
     let left = well_formed(make_record(fields(alloc, 0, 5_000, &Ty::Nat)?))?;
     let right = well_formed(make_record(fields(alloc, 0, 5_000, &Ty::Bool)?))?;
@@ -188,7 +188,7 @@ fn records_of_five_thousand_fields(rt: HostRuntime) -> Result<(), Fail> {
     Ok(())
 }
 
-/// Two types of a trillion nodes each, neither of which is below the other.
+/// Two types of a trillion nodes each, neither of which is a subtype of the other.
 #[tactic(auto, using(lam_rules::proofs::Tables::numbers))]
 fn sides(table: &mut TyTable) -> Result<(TyNo, TyNo), AllocError>
     ensures { IfOk result (λ both. Stands table.new both.0 × Stands table.new both.1) }

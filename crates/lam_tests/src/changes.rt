@@ -1,4 +1,4 @@
-//! How many commands a change types again: those that it touches, and those whose names mean something else.
+//! How many commands a change types again: those that it touches, and those with names whose meaning changes.
 
 use crate::written::check_rows;
 use Uses::{First, Nothing, Previous};
@@ -15,7 +15,7 @@ enum Uses {
     First,
 }
 
-/// A thousand commands, which bind `x0`, `x1` and so on; in the place of the one of this number stands another text.
+/// A thousand commands that bind `x0`, `x1` and so on, with another text in place of the one at this index.
 fn commands(alloc: Global, uses: Uses, number: usize, other: &str) -> Result<String, AllocError> {
     let mut text = String::new(alloc);
     for i in 0..1000 {
@@ -38,7 +38,7 @@ fn push_command(text: &mut String, uses: Uses, i: usize) -> Result<(), AllocErro
     }
 }
 
-/// How many are typed when the text is read, and how many when this other text is put in.
+/// How many are typed when the text is read, and how many more when `other` is put in.
 fn typed(alloc: Global, change: (Uses, usize, &str)) -> Result<String, AllocError> {
     let (uses, number, other) = change;
     let old = commands(alloc, uses, 1000, "")?;
@@ -51,7 +51,7 @@ fn typed(alloc: Global, change: (Uses, usize, &str)) -> Result<String, AllocErro
 }
 
 const CHANGES: [((Uses, usize, &str), &str); 21] = [
-    // A blank in a command, a name, a term, a command more and one less.
+    // A blank in a command, a name, a term, one command more and one less.
     ((Nothing, 0, "x0  = 0;"), "1000 1"),
     ((Nothing, 500, "x500  = 0;"), "1000 1"),
     ((Nothing, 999, "x999  = 0;"), "1000 1"),
@@ -59,10 +59,10 @@ const CHANGES: [((Uses, usize, &str), &str); 21] = [
     ((Nothing, 500, "x500 = true;"), "1000 1"),
     ((Nothing, 500, "x500 = 0; n = 0;"), "1000 1"),
     ((Nothing, 500, ""), "1000 0"),
-    // Two pieces become one, which is no command; a comment takes the rest of the text.
+    // Two pieces become one, which is not a command; a comment takes up the rest of the text.
     ((Nothing, 500, "x500 = 0"), "1000 0"),
     ((Nothing, 500, "/*"), "1000 0"),
-    // Each command uses the one in front of it.
+    // Each command uses the one before it.
     ((Previous, 500, "x500  = x499;"), "1000 1"),
     ((Previous, 0, "x0 = 1;"), "1000 1"),
     ((Previous, 0, "x0 = true;"), "1000 1000"),
@@ -84,7 +84,7 @@ fn a_change_types_what_it_touches(rt: HostRuntime) -> Result<(), AllocError> {
     check_rows(&rt, rt.alloc(), typed, &CHANGES)
 }
 
-/// How many commands are counted as typed after so many changes, each of which types all of them.
+/// The number of commands counted as typed after this many changes, each of which types all of them.
 fn typed_after(alloc: Global, changes: usize) -> Result<String, AllocError> {
     let mut old = commands(alloc, First, 1000, "")?;
     let mut analysis = Analysis::new(alloc, &old, Dialect::One)?;
@@ -97,8 +97,8 @@ fn typed_after(alloc: Global, changes: usize) -> Result<String, AllocError> {
     format!(in alloc; "{}", analysis.commands_typed())
 }
 
-/// The text has 9,889 bytes, and three more after every other change. The ninth change makes all anew: more bytes were read by
-/// then than twice these and 65,536.
+/// The text has 9,889 bytes, and three more after every other change. The ninth change starts from scratch, since by then more
+/// than twice as many bytes plus 65,536 have been read.
 const ANEW: [(usize, &str); 3] = [(0, "1000"), (8, "9000"), (9, "1000")];
 
 #[test]

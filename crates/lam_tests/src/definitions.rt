@@ -1,4 +1,4 @@
-//! Where a name comes from, and who uses it.
+//! Definitions and references.
 
 use crate::written::check_rows;
 use lam_query::{definition, references};
@@ -6,13 +6,13 @@ use lam_token::Span;
 use std::alloc::{AllocError, Global};
 use std::test::Fail;
 
-/// A place, as ` 0..1`.
+/// A span, as ` 0..1`.
 fn push_span(shown: &mut String, span: Span) -> Result<(), AllocError> {
     write!(shown, " {}..{}", span.start, span.end)?;
     Ok(())
 }
 
-/// The definition of the name at an offset; nothing where there is none.
+/// The definition of the name at an offset; empty if there is none.
 fn definition_at(alloc: Global, (text, offset): (&str, usize)) -> Result<String, Fail> {
     let mut shown = String::new(alloc);
     if let Some(span) = definition(alloc, text, offset)? {
@@ -21,7 +21,7 @@ fn definition_at(alloc: Global, (text, offset): (&str, usize)) -> Result<String,
     Ok(shown)
 }
 
-/// The references of the name at an offset, with its declaration or without; `none` where it is bound to nothing.
+/// The references of the name at an offset, with its declaration or without; `none` if it is not bound.
 fn references_at(
     alloc: Global,
     (text, offset, declared): (&str, usize, bool),
@@ -39,7 +39,7 @@ fn references_at(
 const DOWN: &str =
     "letrec down:Nat->Bool = lambda n:Nat. if iszero n then true else down (pred n) in down 3";
 
-/// Texts, offsets, and where the names there come from.
+/// Texts, offsets, and the definitions of the names there.
 static DEFINITIONS: [((&str, usize), &str); 31] = [
     (("x = 0; x = succ x; x", 16), " 0..1"),
     (("x = 0; x = succ x; x", 17), " 0..1"),
@@ -79,7 +79,7 @@ fn names_come_from_their_innermost_binder(rt: HostRuntime) -> Result<(), Fail> {
     check_rows(&rt, rt.alloc(), definition_at, &DEFINITIONS)
 }
 
-/// Texts, offsets, whether the declaration is asked for, and the references.
+/// Texts, offsets, whether the declaration is included, and the references.
 static REFERENCES: [((&str, usize, bool), &str); 14] = [
     (("x = 0; x = succ x; x", 7, true), " 7..8 19..20"),
     (("x = 0; x = succ x; x", 7, false), " 19..20"),
@@ -105,7 +105,7 @@ fn a_binder_has_its_uses_in_the_order_of_the_text(rt: HostRuntime) -> Result<(),
     check_rows(&rt, rt.alloc(), references_at, &REFERENCES)
 }
 
-/// How many references a name has that stands so often behind its binder.
+/// The number of references of a name that is used this often after its binder.
 fn references_of_many(alloc: Global, uses: usize) -> Result<usize, AllocError> {
     let mut text = String::from_str(alloc, "m = 0")?;
     for _ in 0..uses {

@@ -1,4 +1,4 @@
-//! Derivations, built again from their steps: the checker takes each for the term that it is of.
+//! Derivations, rebuilt from their steps: the checker accepts each for its term.
 
 use crate::written::{check_rows, commands_of, equal, labelled};
 use Dialect::{One, Two};
@@ -121,7 +121,7 @@ static ROWS: [((&str, usize, Dialect), &str); 25] = [
         (HIDDEN, 85, One),
         "y; x:Nat; r:{b:Nat, a:Bool}; _:Nat; x:{b:Nat, a:Bool}; |- {a:Bool, b:Nat}, true",
     ),
-    // Where no type is shown.
+    // Offsets without a hover.
     (("z", 0, One), "none"),
     (("lambda x:Q. x;", 12, One), "none"),
     (("x = 0; 1", 6, One), "none"),
@@ -138,8 +138,8 @@ fn derivations_that_the_checker_accepts(rt: HostRuntime) -> Result<(), Fail> {
     check_rows(&rt, rt.alloc(), derived, &ROWS)
 }
 
-/// The derivation at the fourth byte of a definition whose record has labels from 500 and then those from 200, and what is
-/// before and behind that record.
+/// The derivation at offset 4 of a definition whose record has labels from 500 and then those from 200, given the text before and
+/// after that record.
 fn of_record(
     alloc: Global,
     before: &str,
@@ -162,7 +162,7 @@ fn a_record_of_499_fields(rt: HostRuntime) -> Result<(), Fail> {
     Ok(())
 }
 
-/// Of 1,998 tokens: three a field, 496 commas, two braces, and nine round them.
+/// Of 1,998 tokens: three a field, 496 commas, two braces, and nine around them.
 #[test]
 fn a_written_type_of_497_fields(rt: HostRuntime) -> Result<(), Fail> {
     let sorted = labelled(rt.alloc(), 200, 697, ":Nat")?;
@@ -172,7 +172,7 @@ fn a_written_type_of_497_fields(rt: HostRuntime) -> Result<(), Fail> {
     Ok(())
 }
 
-/// `x0`, `x1` and so on, so many, with the one text behind the even ones and the other behind the odd ones.
+/// `x0`, `x1` and so on, each even one followed by one text and each odd one by the other.
 fn numbered(alloc: Global, count: u32, even: &str, odd: &str) -> Result<String, AllocError> {
     let mut text = String::new(alloc);
     for number in 0..count {

@@ -1,4 +1,4 @@
-//! Frames, their faults, and devices that give and take little.
+//! Frames, their errors, and devices with short reads and writes.
 
 ghost use Rattle.std.specs.Prelude.{◌-◌, ◌^◌, ◌<◌, ⊤};
 
@@ -11,7 +11,7 @@ use std::alloc::{AllocError, Global};
 use std::io;
 use std::io::{ErrorKind, Read, Write};
 
-/// Gives at most `step` bytes at a time, and tells counts alone.
+/// Gives at most `step` bytes at a time. Its contract is only about counts.
 #[derive(Drop)]
 struct Trickle<'a> {
     rest: &'a [u8],
@@ -36,7 +36,7 @@ impl Source for Trickle<'_> {
     }
 }
 
-/// What a reader answers: a body and a `|`, a `.` at the clean end, or the code of a fault and a `;`.
+/// What a reader returns: a body and a `|`, a `.` at a clean end, or the code of an error and a `;`.
 fn push_answer(
     seen: &mut String,
     alloc: Global,
@@ -49,7 +49,7 @@ fn push_answer(
     }
 }
 
-/// The first three answers to what a source brings.
+/// The first three results of reading from a source.
 fn answers<S: Source>(alloc: Global, source: &mut S) -> Result<String, AllocError>
     requires { S.failed source.old < 2 ^ 64 - 3 }
 {
@@ -61,7 +61,7 @@ fn answers<S: Source>(alloc: Global, source: &mut S) -> Result<String, AllocErro
     Ok(seen)
 }
 
-/// The answers to an input that comes in pieces of so many bytes.
+/// The results for an input that comes in pieces of `step` bytes.
 fn trickled(alloc: Global, input: &[u8], step: usize) -> Result<String, AllocError> {
     answers(alloc, &mut Trickle { rest: input, step })
 }
@@ -78,7 +78,7 @@ fn by_hundreds(alloc: Global, input: &[u8]) -> Result<String, AllocError> {
     trickled(alloc, input, 100)
 }
 
-/// The answers where the first one is that fault.
+/// The results if the first one is that error.
 const NO_LENGTH: &str = "F1 NoLength;F9 Spent;F9 Spent;";
 
 const BAD_LENGTH: &str = "F2 BadLength;F9 Spent;F9 Spent;";
@@ -87,7 +87,7 @@ const BAD_HEADER: &str = "F4 BadHeader;F9 Spent;F9 Spent;";
 
 const TRUNCATED: &str = "F5 Truncated;F9 Spent;F9 Spent;";
 
-/// An input, and the first three answers.
+/// An input, and the first three results.
 type Row = (&'static [u8], &'static str);
 
 static INPUTS: [Row; 24] = [
@@ -138,7 +138,7 @@ fn answers_do_not_depend_on_the_pieces_and_the_last_one_stays(
     check_rows(&rt, rt.alloc(), by_hundreds, &INPUTS)
 }
 
-/// The answers to a frame whose header part has 26 bytes and so many letters, in pieces of so many bytes.
+/// The results for a frame whose header part has 26 bytes plus this many letters, in pieces of `step` bytes.
 fn long_header(alloc: Global, (letters, step): (usize, usize)) -> Result<String, AllocError> {
     let value = "a".repeat(alloc, letters)?;
     let input = format!(in alloc; "Content-Length: 2\r\nX: {value}\r\n\r\n{{}}")?;
@@ -159,7 +159,7 @@ fn a_header_part_has_at_most_4096_bytes(rt: HostRuntime) -> Result<(), AllocErro
     check_rows(&rt, rt.alloc(), long_header, &LONG_HEADERS)
 }
 
-/// The answers to a frame of so many letters.
+/// The results for a frame with this body.
 fn long_body(alloc: Global, body: &str) -> Result<String, AllocError> {
     let input = format!(in alloc; "Content-Length: {}\r\n\r\n{body}", body.len())?;
     answers(alloc, &mut BytesIn::new(input.as_bytes()))
@@ -224,8 +224,7 @@ fn a_frame_is_written_whole(rt: HostRuntime) -> Result<(), FrameFault> {
     Ok(())
 }
 
-/// Writes three bytes at a time, is interrupted once, and counts flushes up to the second one; it takes at most `room`
-/// bytes.
+/// Writes three bytes at a time, is interrupted once, and counts flushes up to the second one; it accepts at most `room` bytes.
 #[derive(Drop)]
 struct Slow {
     bytes: Vec<u8>,
@@ -255,8 +254,8 @@ impl Write for Slow {
     }
 }
 
-/// Writes a frame to a writer with so much room, which was flushed so often before: what the writer has then, how often it
-/// is flushed by then, how often the sink failed, and the answer.
+/// Writes a frame to a writer with this much room, which was flushed `before` times: what the writer then has, its number of
+/// flushes, the number of failures of the sink, and the result.
 fn slowly(alloc: Global, (room, before): (usize, u8)) -> Result<String, AllocError> {
     let mut writer = Slow {
         bytes: Vec::new(alloc),
@@ -296,7 +295,7 @@ fn a_long_frame_reaches_a_writer_in_memory_whole(rt: HostRuntime) -> Result<(), 
     Ok(())
 }
 
-/// The answers to a frame whose pull of this number fails, and how many pulls have failed.
+/// The results for a frame if this pull fails, and the number of failed pulls.
 fn answers_with_a_failed_pull(alloc: Global, call: u64) -> Result<String, AllocError> {
     let rest = b"Content-Length: 1\r\n\r\nx".as_slice();
     let mut source = FailAt::new(Trickle { rest, step: 20 }, call);
@@ -317,7 +316,7 @@ fn one_pull_fails_and_no_other(rt: HostRuntime) -> Result<(), AllocError> {
     check_rows(&rt, rt.alloc(), answers_with_a_failed_pull, &FAILED_PULLS)
 }
 
-/// Writes two frames to a sink whose call of this number fails: the answers, how many calls have failed, and what was taken.
+/// Writes two frames to a sink in which this call fails: the results, the number of failed calls, and what was accepted.
 fn written_with_a_failed_call(alloc: Global, call: u64) -> Result<String, AllocError> {
     let mut sink = FailAt::new(BytesOut::new(alloc), call);
     let first = write_frame(&mut sink, b"1");

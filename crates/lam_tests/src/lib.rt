@@ -1,8 +1,7 @@
-//! Tests of the libraries by their public calls: tables of rows, each with what it gives.
+//! Tests of the library crates through their public functions: tables of inputs with the expected results.
 //!
-//! A crate with tests is proved once more than one without, so those below have none, and this one has nothing else.
-//! Whole runs of the server are rows of another kind: the files in `rows/` at the top of the repository, which are
-//! played through the program.
+//! A crate with tests is proved a second time, so the library crates have none, and this crate has nothing else. Runs of the
+//! whole server are tested by the files in `rows/` at the top of the repository, which are played through the program.
 #![tactic(auto)]
 
 #[cfg(test)]

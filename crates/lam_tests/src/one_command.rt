@@ -1,6 +1,5 @@
-//! One command by itself: what it takes from outside, its form over a table of types, and the types of its places. The
-//! commands here see the names `n` of Nat and `f` of `Nat->Nat`, and the type names `P` of a type of the table and `Q` of
-//! none.
+//! One command on its own: its free names, its form over a type table, and the types of its subterms. In scope are the names `n`
+//! of type Nat and `f` of type `Nat->Nat`, and the type names `P` for a type of the table and `Q` for none.
 
 ghost use Rattle.std.specs.Prelude.{List, IfOk};
 ghost use Rattle.lam_rules.specs.Types.{Typ};
@@ -21,7 +20,7 @@ use lam_typing::{Blame, Checked, TypeChecker};
 use std::alloc::{AllocError, Global};
 use std::test::Fail;
 
-/// The numbers of Nat, of `Nat->Nat`, and of what `P` stands for.
+/// The type ids of Nat, of `Nat->Nat`, and of what `P` stands for.
 #[derive(Clone, Copy)]
 struct Outside {
     natural: TyNo,
@@ -47,7 +46,7 @@ fn add_small(table: &mut TyTable) -> Result<Outside, AllocError>
     })
 }
 
-/// `P` is `{c:T}` of 4,096 nodes, where T is Nat doubled eleven times.
+/// `P` is `{c:T}`, of 4,096 nodes, where `T` is Nat doubled eleven times.
 #[tactic(auto, using(lam_rules::proofs::Tables::numbers))]
 fn add_large(table: &mut TyTable) -> Result<Outside, AllocError>
     ensures keeps { Keeps table.old table.new }
@@ -66,7 +65,7 @@ fn add_large(table: &mut TyTable) -> Result<Outside, AllocError>
     })
 }
 
-/// What the commands see.
+/// The environment of the commands.
 fn environment_of<'a>(alloc: Global, outside: Outside) -> Result<Environment<'a>, AllocError>
     ensures { IfOk result (λ e. (ts : List Typ) → Stands ts outside.named → TypeNamesStand ts e) }
 {
@@ -78,7 +77,7 @@ fn environment_of<'a>(alloc: Global, outside: Outside) -> Result<Environment<'a>
     Ok(environment)
 }
 
-/// The entries of its names.
+/// The context entries of its names.
 fn entries_of(alloc: Global, outside: Outside) -> Result<Vec<Option<TyNo>>, AllocError>
     ensures { IfOk result (λ entries. (ts : List Typ) → Stands ts outside.natural → Stands ts outside.function → AllStandIn ts entries.items) }
 {
@@ -88,7 +87,7 @@ fn entries_of(alloc: Global, outside: Outside) -> Result<Vec<Option<TyNo>>, Allo
     Ok(entries)
 }
 
-/// Those, and one more inside of them.
+/// Those, and one more inside them.
 fn entries_with(
     alloc: Global,
     outside: Outside,
@@ -103,7 +102,7 @@ fn entries_with(
     Ok(entries)
 }
 
-/// The form of a command over the checker's table.
+/// The nameless form of a command over the checker's table.
 fn interned<'a>(
     alloc: Global,
     checker: &mut TypeChecker,
@@ -120,7 +119,7 @@ fn interned<'a>(
     intern_command(alloc, checker.table_mut(), environment, command)
 }
 
-/// The faults of a command's written types, and what is found of its places under these entries.
+/// The diagnostics of a command's written types, and what is found for its subterms with these entries.
 fn found_of<'a>(
     alloc: Global,
     checker: &mut TypeChecker,
@@ -142,7 +141,7 @@ fn found_of<'a>(
     Ok((faults, checked))
 }
 
-/// The names and type names that a command takes from outside.
+/// The free names and type names of a command.
 fn push_free(line: &mut String, alloc: Global, command: &Command) -> Result<(), AllocError> {
     let free = free_names(alloc, command)?;
     for name in &free.names {
@@ -155,7 +154,7 @@ fn push_free(line: &mut String, alloc: Global, command: &Command) -> Result<(), 
     line.push_str("| ")
 }
 
-/// The faults of its written types.
+/// The diagnostics of its written types.
 fn push_faults(line: &mut String, faults: &[TypeFault]) -> Result<(), AllocError> {
     for fault in faults {
         match fault {
@@ -170,7 +169,7 @@ fn push_faults(line: &mut String, faults: &[TypeFault]) -> Result<(), AllocError
     line.push_str("| ")
 }
 
-/// A type, or that there is none.
+/// A type, or `none`.
 fn push_type(line: &mut String, table: &TyTable, number: Option<TyNo>) -> Result<(), AllocError>
     requires { StandsIfAny table.now number }
 {
@@ -180,7 +179,7 @@ fn push_type(line: &mut String, table: &TyTable, number: Option<TyNo>) -> Result
     }
 }
 
-/// The types of its places.
+/// The types of its subterms.
 fn push_types(
     line: &mut String,
     table: &TyTable,
@@ -196,7 +195,7 @@ fn push_types(
     push_types(line, table, others)
 }
 
-/// Those of them that are to blame, and for what.
+/// Those of them that are at fault, with the codes.
 fn push_blames(line: &mut String, blames: &[Blame]) -> Result<(), AllocError> {
     for blame in blames {
         write!(line, "{} {}; ", blame.place.0, blame.code)?;
@@ -204,7 +203,7 @@ fn push_blames(line: &mut String, blames: &[Blame]) -> Result<(), AllocError> {
     line.push_str("| ")
 }
 
-/// All that was found of its places, and its entry.
+/// All that was found for its subterms, and its entry.
 fn push_checked(line: &mut String, table: &TyTable, checked: &Checked) -> Result<(), AllocError>
     requires types { AllStandIn table.now checked.now.types.items }
     requires entry { StandsIfAny table.now checked.now.entry }
@@ -218,8 +217,8 @@ fn push_checked(line: &mut String, table: &TyTable, checked: &Checked) -> Result
     Ok(())
 }
 
-/// The names and type names that a command takes from outside, the faults of its written types, the types of its places,
-/// those to blame, and its entry.
+/// The free names and type names of a command, the diagnostics of its written types, the types of its subterms, those at fault,
+/// and its entry.
 fn shown(alloc: Global, command: &Command) -> Result<String, Fail> {
     let mut checker = TypeChecker::new(alloc, One)?;
     let outside = add_small(checker.table_mut())?;
@@ -233,7 +232,7 @@ fn shown(alloc: Global, command: &Command) -> Result<String, Fail> {
     Ok(line)
 }
 
-/// That of the command of a text.
+/// The same for the command of a text.
 fn command_shown(alloc: Global, text: &str) -> Result<String, Fail> {
     let commands = commands_of(alloc, text)?;
     match commands.as_slice() {
@@ -244,7 +243,7 @@ fn command_shown(alloc: Global, text: &str) -> Result<String, Fail> {
 
 static COMMANDS: [(&str, &str); 22] = [
     ("f n", "f n | | | Nat->Nat; Nat; Nat; | | none"),
-    // Each name once.
+    // Each name is listed once.
     (
         "y = f (f n)",
         "f n | | | Nat->Nat; Nat->Nat; Nat; Nat; Nat; | | Nat",
@@ -253,7 +252,7 @@ static COMMANDS: [(&str, &str); 22] = [
         "{b=n, a=f, c=n}",
         "n f | | | Nat; Nat->Nat; Nat; {a:Nat->Nat, b:Nat, c:Nat}; | | none",
     ),
-    // A binder inside of a name that is seen.
+    // A binder that shadows a name in scope.
     ("lambda n:Bool. n", "| | | Bool; Bool->Bool; | | none"),
     (
         "(lambda n:Bool. n) n",
@@ -264,13 +263,13 @@ static COMMANDS: [(&str, &str); 22] = [
         "if iszero n then f else lambda n:Bool. n",
         "n f | | | Nat; Bool; Nat->Nat; Bool; Bool->Bool; Top; | | none",
     ),
-    // The name of a letrec is seen in both of its terms. The lambda and the fix that it stands for are places.
+    // The name of a letrec is in scope in both of its terms. The lambda and the fix that it stands for are subterms.
     (
         "g = letrec f:Nat->Nat = lambda m:Nat. f n in f",
         "n | | | Nat->Nat; Nat; Nat; Nat->Nat; (Nat->Nat)->Nat->Nat; Nat->Nat; Nat->Nat; Nat->Nat; | | Nat->Nat",
     ),
     ("y = f m", "f m | | | Nat->Nat; none; none; | 1 E1; | none"),
-    // The name that a definition binds is not seen in its term.
+    // The name that a definition binds is not in scope in its term.
     ("y = y", "y | | | none; | 0 E1; | none"),
     ("n n", "n | | | Nat; Nat; none; | 2 E2; | none"),
     (
@@ -297,9 +296,9 @@ static COMMANDS: [(&str, &str); 22] = [
     ("x : P->Nat", "| P | | | | {a:Nat}->Nat"),
     ("x : Q->U->Q", "| Q U | unbound 7..8; | | | none"),
     ("T = P->P", "| P | | | | none"),
-    // The type name that an abbreviation binds is not seen in its type.
+    // The type name that an abbreviation binds is not in scope in its type.
     ("T = {r:P, s:T}", "| P T | unbound 12..13; | | | none"),
-    // What binds no name is a binder all the same.
+    // An underscore is a binder too.
     (
         "lambda _:P. f n",
         "f n | P | | Nat->Nat; Nat; Nat; {a:Nat}->Nat; | | none",
@@ -311,8 +310,7 @@ fn commands_by_themselves(rt: HostRuntime) -> Result<(), Fail> {
     check_rows(&rt, rt.alloc(), command_shown, &COMMANDS)
 }
 
-/// What is found of a command where `P` is as large as a written type may be: how many places have been found, and whether
-/// these are all.
+/// What is found for a command if `P` is exactly at the size limit: the number of subterms typed, and whether these are all.
 fn found_at_limit(alloc: Global, command: &Command) -> Result<String, Fail> {
     let mut checker = TypeChecker::new(alloc, One)?;
     let outside = add_large(checker.table_mut())?;
@@ -324,7 +322,7 @@ fn found_at_limit(alloc: Global, command: &Command) -> Result<String, Fail> {
     }
 }
 
-/// That of the command of a text.
+/// The same for the command of a text.
 fn limit_shown(alloc: Global, text: &str) -> Result<String, Fail> {
     let commands = commands_of(alloc, text)?;
     match commands.as_slice() {
@@ -352,8 +350,8 @@ fn types_of_one_node_too_many(rt: HostRuntime) -> Result<(), Fail> {
     check_rows(&rt, rt.alloc(), limit_shown, &LIMITS)
 }
 
-/// What is found of the places of two commands, one after the other in one checker, where the second sees the first as `y`;
-/// and once more what was found of the first.
+/// What is found for the subterms of two commands, one after the other in one checker, where the second sees the first as `y`;
+/// and again what was found for the first.
 fn found_of_both(alloc: Global, first: &Command, second: &Command) -> Result<String, Fail> {
     let mut checker = TypeChecker::new(alloc, One)?;
     let outside = add_small(checker.table_mut())?;
@@ -373,7 +371,7 @@ fn found_of_both(alloc: Global, first: &Command, second: &Command) -> Result<Str
     Ok(line)
 }
 
-/// That of the two commands of a text.
+/// The same for the two commands of a text.
 fn both_shown(alloc: Global, text: &str) -> Result<String, Fail> {
     let commands = commands_of(alloc, text)?;
     match commands.as_slice() {
@@ -387,12 +385,12 @@ static BOTH: [(&str, &str); 3] = [
         "y = lambda r:P. f r.a; y {a=n, b=y}",
         "Nat->Nat; {a:Nat}; Nat; Nat; {a:Nat}->Nat; | | {a:Nat}->Nat, {a:Nat}->Nat; Nat; {a:Nat}->Nat; {a:Nat, b:{a:Nat}->Nat}; Nat; | | none, Nat->Nat; {a:Nat}; Nat; Nat; {a:Nat}->Nat; | | {a:Nat}->Nat",
     ),
-    // The fault of the second is in the first.
+    // The error that makes the second ill-typed is in the first.
     (
         "y = m; x = f y",
         "none; | 0 E1; | none, Nat->Nat; none; none; | | none, none; | 0 E1; | none",
     ),
-    // Places are counted from 0 in each.
+    // Subterms are numbered from 0 in each.
     (
         "y : P; f y.b",
         "| | {a:Nat}, Nat->Nat; {a:Nat}; none; none; | 2 E4; | none, | | {a:Nat}",

@@ -1,5 +1,4 @@
-//! Types, their texts, and trees of the rules that are proofs or are none. A tree is a list of steps, each behind those of
-//! its premises.
+//! Types, their texts, and derivation trees that are valid or not. A tree is a list of steps, each after its premises.
 
 use crate::written::{arrows, check_rows, equal, fields, resolved_of, type_of};
 use Dialect::{One, Two};
@@ -25,13 +24,13 @@ fn described(alloc: Global, ty: &Ty) -> Result<String, AllocError> {
     )
 }
 
-/// That of `Nat->Nat->..->{l0:Nat, l1:Nat, ..}` with so many arrows and so many fields.
+/// The same for `Nat->Nat->..->{l0:Nat, l1:Nat, ..}` with this many arrows and fields.
 fn large(alloc: Global, (depth, labels): (usize, u32)) -> Result<String, AllocError> {
     let record = make_record(fields(alloc, 0, labels, &Ty::Nat)?);
     described(alloc, &arrows(alloc, depth, record)?)
 }
 
-/// The labels are an `l` and digits, each with `:Nat`, and `, ` between.
+/// The labels are an `l` and digits, each with `:Nat`, separated by `, `.
 static LARGE: [((usize, u32), &str); 10] = [
     ((0, 0), "1 2 2 true"),
     ((1, 0), "3 7 7 true"),
@@ -50,7 +49,7 @@ fn large_types(rt: HostRuntime) -> Result<(), AllocError> {
     check_rows(&rt, rt.alloc(), large, &LARGE)
 }
 
-/// `{l0:Nat, l1:Nat, l0:Bool}`, which no document may write.
+/// `{l0:Nat, l1:Nat, l0:Bool}`, which no document can contain.
 fn labelled_twice(alloc: Global) -> Result<Ty, AllocError> {
     let mut items = fields(alloc, 0, 2, &Ty::Nat)?;
     items.push((String::from_str(alloc, "l0")?, Ty::Bool))?;
@@ -65,7 +64,7 @@ fn texts_of_twice(alloc: Global) -> Result<String, AllocError> {
     Ok(shown)
 }
 
-/// Whether it is below itself by reflexivity.
+/// Whether it is a subtype of itself by reflexivity.
 fn twice_below_itself(alloc: Global) -> Result<bool, AllocError> {
     let proof = SubProof {
         rule: SubRule::Refl,
@@ -76,7 +75,7 @@ fn twice_below_itself(alloc: Global) -> Result<bool, AllocError> {
     Ok(check_sub(&proof, One))
 }
 
-/// Whether unit has its type under a binder of it.
+/// Whether `unit` has its type under a binder of that type.
 fn unit_under_twice(alloc: Global) -> Result<bool, AllocError> {
     let proof = TypeProof {
         rule: TypeRule::Unit,
@@ -101,7 +100,7 @@ fn a_label_that_stands_twice(rt: HostRuntime) -> Result<(), AllocError> {
     Ok(())
 }
 
-/// In which dialects a tree is a proof.
+/// The dialects in which a tree is a proof.
 fn dialects(alloc: Global, one: bool, two: bool) -> Result<String, Fail> {
     let name = match (one, two) {
         (true, true) => "both",
@@ -112,7 +111,7 @@ fn dialects(alloc: Global, one: bool, two: bool) -> Result<String, Fail> {
     Ok(String::from_str(alloc, name)?)
 }
 
-/// A step of subtyping: its rule, the lower and the upper type, and how many of the steps before are its premises.
+/// A subtyping step: its rule, the lower and the upper type, and how many of the preceding steps are its premises.
 type SubStep = (SubRule, &'static str, &'static str, usize);
 
 fn sub_step(alloc: Global, row: &SubStep, premises: Vec<SubProof>) -> Result<SubProof, Fail> {
@@ -126,7 +125,7 @@ fn sub_step(alloc: Global, row: &SubStep, premises: Vec<SubProof>) -> Result<Sub
     })
 }
 
-/// The tree of these steps; none of none.
+/// The tree of these steps; `None` if there are none.
 fn sub_tree(alloc: Global, steps: &[SubStep]) -> Result<Option<SubProof>, Fail> {
     let mut made = Vec::new(alloc);
     for row in steps {
@@ -154,7 +153,7 @@ const AB: &str = "{a:Nat, b:Nat}";
 
 const BA: &str = "{b:Nat, a:Nat}";
 
-/// Trees of subtyping, and in which dialects they are proofs.
+/// Subtyping trees, and the dialects in which they are proofs.
 static SUB_TREES: [(&[SubStep], &str); 27] = [
     (&[(SubRule::RcdWidth, AB, A, 0)], "both"),
     (&[(SubRule::RcdWidth, AB, B, 0)], "none"),
@@ -173,7 +172,7 @@ static SUB_TREES: [(&[SubStep], &str); 27] = [
     (&[(SubRule::Top, AB, NONE, 0)], "none"),
     (&[(SubRule::BoolNat, "Bool", "Nat", 0)], "two"),
     (&[(SubRule::BoolNat, "Nat", "Bool", 0)], "none"),
-    // The two premises of transitivity have one type in the middle.
+    // The two premises of transitivity share the type in the middle.
     (
         &[
             (SubRule::RcdPerm, AB, BA, 0),
@@ -256,8 +255,8 @@ fn trees_of_subtyping(rt: HostRuntime) -> Result<(), Fail> {
     check_rows(&rt, rt.alloc(), sub_dialects, &SUB_TREES)
 }
 
-/// A step of typing: its rule, its type, how many of the steps before are its premises, and the steps of its premise of
-/// subtyping, if it has one.
+/// A typing step: its rule, its type, how many of the preceding steps are its premises, and the steps of its subtyping premise,
+/// if it has one.
 type TypeStep = (TypeRule, &'static str, usize, &'static [SubStep]);
 
 fn type_step(alloc: Global, row: &TypeStep, typing: Vec<TypeProof>) -> Result<TypeProof, Fail> {
@@ -306,7 +305,7 @@ type Typing = (
     &'static [TypeStep],
 );
 
-/// In which dialects the tree is a proof for the term.
+/// The dialects in which the tree is a proof for the term.
 fn typed(
     alloc: Global,
     context: &[Option<Ty>],
@@ -359,14 +358,14 @@ const UNLIFTED: &[TypeStep] = &[
     (TypeRule::App, "Nat", 2, &[]),
 ];
 
-/// Entries for the last three of four names.
+/// Context entries for the last three of four names.
 const ENTRIES: &[Option<&str>] = &[Some("Bool"), None, Some("Nat")];
 
 static TYPINGS: [(Typing, &str); 15] = [
     ((&[], PROJECTED, LIFTED), "both"),
     ((&[], PROJECTED, UNLIFTED), "none"),
     ((&[], "unit", LIFTED), "none"),
-    // Branches of two types.
+    // Branches of different types.
     (
         (
             &[],
@@ -444,7 +443,7 @@ static TYPINGS: [(Typing, &str); 15] = [
         (ENTRIES, "unit", &[(TypeRule::Unit, "Unit", 0, &[])]),
         "both",
     ),
-    // A premise of subtyping stands at T-Sub, and only there.
+    // T-Sub, and no other rule, has a subtyping premise.
     (
         (
             &[],

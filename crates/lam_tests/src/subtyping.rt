@@ -1,4 +1,4 @@
-//! Subtyping on trees and on numbers, with deep and wide types.
+//! Subtyping of trees and of type ids, with deep and wide types.
 
 ghost use Rattle.std.specs.Prelude.{IfOk};
 ghost use Rattle.lam_rules.specs.Types.{IsWellFormed};
@@ -22,7 +22,7 @@ fn steps(proof: &SubProof) -> u64 {
     count
 }
 
-/// How many steps the proof has that the one is below the other, or 0 where there is none that the checker accepts.
+/// The number of steps of the proof that one type is a subtype of the other, or 0 if there is none that the checker accepts.
 fn steps_below(alloc: Global, lower: &Ty, upper: &Ty, dialect: Dialect) -> Result<u64, AllocError>
     requires lower { IsWellFormed (typ_of lower.now) }
     requires upper { IsWellFormed (typ_of upper.now) }
@@ -33,7 +33,7 @@ fn steps_below(alloc: Global, lower: &Ty, upper: &Ty, dialect: Dialect) -> Resul
     }
 }
 
-/// The numbers of two types.
+/// The type ids of two types.
 #[tactic(auto, using(lam_rules::proofs::Tables::numbers))]
 pub(crate) fn add_both(
     table: &mut TyTable,
@@ -49,8 +49,8 @@ pub(crate) fn add_both(
     Ok((left_number, right_number))
 }
 
-/// Whether the number of the one is below that of the other, asked for the first time and again, and whether the two are
-/// the same to the rules.
+/// Whether one type id is a subtype of the other, computed for the first time and again, and whether the two are the same type to
+/// the rules.
 fn numbers_below(
     alloc: Global,
     lower: &Ty,
@@ -83,7 +83,7 @@ const AB: &str = "{a:Nat, b:Bool}";
 
 const BA: &str = "{b:Bool, a:Nat}";
 
-/// Neither a proof nor a yes.
+/// Not a subtype, and no proof.
 const UNRELATED: &str = "false 0 false false false";
 
 /// A lower type, an upper type, and how they are related in both dialects.
@@ -136,14 +136,14 @@ static ROWS: [((&str, &str), &str); 19] = [
     (("Unit", "Bool"), UNRELATED),
 ];
 
-/// In dialect one alone.
+/// In dialect one only.
 static IN_ONE: [((&str, &str), &str); 3] = [
     (("Bool", "Nat"), UNRELATED),
     ((AB, "{a:Top, b:Nat}"), UNRELATED),
     (("{a:Bool}", "{a:Nat}"), UNRELATED),
 ];
 
-/// In dialect two alone.
+/// In dialect two only.
 static IN_TWO: [((&str, &str), &str); 3] = [
     (("Bool", "Nat"), "true 1 true true false"),
     ((AB, "{a:Top, b:Nat}"), "true 3 true true false"),
@@ -177,7 +177,7 @@ fn types_that_texts_write(rt: HostRuntime) -> Result<(), Fail> {
     check_rows(&rt, rt.alloc(), in_two, &IN_TWO)
 }
 
-/// How `Nat->Nat->..->lower`, a thousand arrows deep, is related to that with the other type at its end.
+/// How `Nat->Nat->..->lower`, a thousand arrows deep, is related to the same type ending in `upper`.
 fn deep_arrows(alloc: Global, lower: Ty, upper: Ty, dialect: Dialect) -> Result<String, Fail> {
     let left = well_formed(arrows(alloc, 1_000, lower)?)?;
     let right = well_formed(arrows(alloc, 1_000, upper)?)?;
@@ -206,7 +206,7 @@ fn nested(alloc: Global, last: Ty) -> Result<Ty, Fail>
     well_formed(ty)
 }
 
-/// How many steps the proof has that such a type over Bool is below one over Nat, or 0.
+/// The number of steps of the proof that such a type over Bool is a subtype of one over Nat, or 0.
 fn nested_steps(alloc: Global, dialect: Dialect) -> Result<u64, Fail> {
     let lower = nested(alloc, Ty::Bool)?;
     let upper = nested(alloc, Ty::Nat)?;
@@ -220,7 +220,7 @@ fn a_thousand_records_deep(rt: HostRuntime) -> Result<(), Fail> {
     Ok(())
 }
 
-/// Fields of Nat with the labels `l0` to `l999`, from the last.
+/// A record of Nat fields with the labels `l0` to `l999`, in descending order.
 fn downward(alloc: Global) -> Result<Ty, Fail>
     ensures { IfOk result (λ ty. IsWellFormed (typ_of ty)) }
 {
@@ -229,14 +229,14 @@ fn downward(alloc: Global) -> Result<Ty, Fail>
     well_formed(make_record(items))
 }
 
-/// How the record type of those labels from the first is related to that from the last.
+/// How the record type with those labels in ascending order is related to that in descending order.
 fn turned(alloc: Global) -> Result<String, Fail> {
     let upward = well_formed(make_record(fields(alloc, 0, 1_000, &Ty::Nat)?))?;
     let downward = downward(alloc)?;
     Ok(related(alloc, &upward, &downward, One)?)
 }
 
-/// How `{l999:Top}` is related to it, and it to that.
+/// How `{l999:Top}` and the ascending record type are related, in both directions.
 fn last_field(alloc: Global) -> Result<String, Fail> {
     let all = well_formed(make_record(fields(alloc, 0, 1_000, &Ty::Nat)?))?;
     let one = type_of(alloc, "{l999:Top}")?;
@@ -269,7 +269,7 @@ fn narrow_and_wide(table: &mut TyTable) -> Result<(TyNo, TyNo), AllocError>
     Ok((narrow, wide))
 }
 
-/// Whether the wide one is below the narrow one, and the other way round.
+/// Whether the wide one is a subtype of the narrow one, and vice versa.
 fn doubled_verdicts(alloc: Global) -> Result<(bool, bool), AllocError> {
     let mut table = TyTable::new(alloc);
     let mut verdicts = Verdicts::new(alloc, One);

@@ -1,4 +1,4 @@
-//! Types by their numbers in a table.
+//! Types by their ids in a table.
 
 ghost use Rattle.std.specs.Prelude.{◌≡◌, IfOk};
 ghost use Rattle.lam_rules.specs.Numbers.{Stands, Keeps};
@@ -8,7 +8,7 @@ use lam_rules::{Shape, TyNo, TyTable, labels_differ, number_under, plain_text_of
 use std::alloc::{AllocError, Global};
 use std::test::Fail;
 
-/// The tree and the text that the number of a type gives back.
+/// The tree and the text of the type with this id.
 fn push_texts(
     line: &mut String,
     alloc: Global,
@@ -46,7 +46,7 @@ fn types_are_given_back(rt: HostRuntime) -> Result<(), Fail> {
     check_rows(&rt, rt.alloc(), given_back, &TYPES)
 }
 
-/// The type of a field, or nothing where there is none.
+/// The type of a field; empty if there is none.
 fn field_of(alloc: Global, (text, label): (&str, &str)) -> Result<String, Fail> {
     let mut table = TyTable::new(alloc);
     let number = table.add(&type_of(alloc, text)?)?;
@@ -68,7 +68,7 @@ fn fields_by_their_labels(rt: HostRuntime) -> Result<(), Fail> {
     check_rows(&rt, rt.alloc(), field_of, &FIELDS)
 }
 
-/// What is read of the outermost form of a type: the outcome of an arrow, or what is known of the labels of a record type.
+/// The outermost form of a type: the result of an arrow, or facts about the labels of a record type.
 fn form(alloc: Global, table: &TyTable, number: TyNo) -> Result<String, AllocError>
     requires { Stands table.now number }
 {
@@ -101,7 +101,7 @@ fn outermost_forms(rt: HostRuntime) -> Result<(), Fail> {
     check_rows(&rt, rt.alloc(), form_of, &FORMS)
 }
 
-/// So many times `{first:t, second:t}` of what the type was before.
+/// Replaces a type `t` by `{first:t, second:t}`, this many times.
 #[tactic(auto, using(lam_rules::proofs::Tables::numbers))]
 pub(crate) fn doubled(
     table: &mut TyTable,
@@ -122,8 +122,8 @@ pub(crate) fn doubled(
     Ok(number)
 }
 
-/// `{a:t, b:t}` and `{b:t, a:t}`, so many times of Nat: how many nodes they have, whether they are one type to the rules, and
-/// whether the first is how the second sorts, though they have two numbers.
+/// `{a:t, b:t}` and `{b:t, a:t}`, applied this many times to Nat: their size, whether they are the same type to the rules,
+/// whether the second sorts to the first, and whether their ids differ.
 #[tactic(auto, using(lam_rules::proofs::Tables::numbers))]
 fn turned(alloc: Global, times: usize) -> Result<String, AllocError> {
     let mut table = TyTable::new(alloc);

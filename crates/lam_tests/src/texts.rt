@@ -1,4 +1,4 @@
-//! Positions and edits in three encodings, and a thousand edits against documents made anew.
+//! Positions and edits in three encodings, and a thousand edits compared with documents made from scratch.
 
 use crate::written::{check_rows, equal};
 use lam_text::{Change, Doc, Encoding, Position, Range};
@@ -19,7 +19,7 @@ fn byte(
     Ok(doc.offset_of(position))
 }
 
-/// The bytes that a line and a character of a text mean in UTF-8, UTF-16 and UTF-32.
+/// The byte offsets of a line and a character of a text in UTF-8, UTF-16 and UTF-32.
 fn bytes(alloc: Global, (text, line, character): (&str, u64, u64)) -> Result<String, AllocError> {
     let position = at(line, character);
     let utf8 = byte(alloc, text, Encoding::Utf8, position)?;
@@ -68,7 +68,7 @@ fn bytes_of_positions(rt: HostRuntime) -> Result<(), AllocError> {
     check_rows(&rt, rt.alloc(), bytes, &OFFSETS)
 }
 
-/// The line and the character of a byte.
+/// The line and the character of a byte offset.
 fn position(
     alloc: Global,
     (text, encoding, byte): (&str, Encoding, usize),
@@ -83,7 +83,7 @@ fn position(
 
 const BETWEEN: &str = "x = 0;\r\ny = x;";
 
-/// Where the `x` starts and ends, and the byte between a CR and its LF.
+/// Where the `x` starts and ends, and the offset between a CR and its LF.
 static POSITIONS: [((&str, Encoding, usize), &str); 9] = [
     ((COMMENTED, Encoding::Utf8, 9), "0 9"),
     ((COMMENTED, Encoding::Utf8, 10), "0 10"),
@@ -101,7 +101,7 @@ fn positions_of_bytes(rt: HostRuntime) -> Result<(), AllocError> {
     check_rows(&rt, rt.alloc(), position, &POSITIONS)
 }
 
-/// Where an edit starts and ends, or none where it takes the whole text, and the new text.
+/// The start and end of an edit, or `None` if it replaces the whole text, and the new text.
 type Edit = (Option<(u64, u64, u64, u64)>, &'static str);
 
 fn change_of(alloc: Global, edit: &Edit) -> Result<Change, AllocError> {
@@ -135,7 +135,7 @@ fn edited(
 /// A text and edits.
 type Edits = (&'static str, &'static [Edit]);
 
-/// The text after the edits, with the number of its last line and the byte at which its line 1 starts.
+/// The text after the edits, with the number of its last line and the byte offset at which its line 1 starts.
 static EDITED: [(Edits, &str); 10] = [
     (
         (
@@ -163,7 +163,7 @@ static EDITED: [(Edits, &str); 10] = [
         ),
         "xa\r\né\n 2 4",
     ),
-    // Line ends that join and part.
+    // Line ends that are joined and split.
     (("x\ry\n", &[]), "x\ry\n 2 2"),
     (("x\ry\n", &[(Some((1, 0, 1, 1)), "")]), "x\r\n 1 3"),
     (("a\rb", &[(Some((1, 0, 1, 0)), "\n")]), "a\r\nb 1 3"),
@@ -197,7 +197,7 @@ fn edits_of_a_few_lines(rt: HostRuntime) -> Result<(), AllocError> {
     check_rows(&rt, rt.alloc(), in_utf32, &EDITED)
 }
 
-/// For a run whose allocations fail in turn.
+/// Meant for a run in which each allocation fails in turn.
 #[test]
 fn unchanged_where_memory_is_refused(rt: HostRuntime) -> Result<(), AllocError> {
     let mut doc = Doc::new(rt.alloc(), "a\r\nb", Encoding::Utf8)?;
@@ -210,10 +210,10 @@ fn unchanged_where_memory_is_refused(rt: HostRuntime) -> Result<(), AllocError> 
     Ok(())
 }
 
-/// Ten letters, each put in before those of before.
+/// Ten letters, each inserted before the previous ones.
 static LETTERS: [Edit; 10] = [(Some((50_000, 4, 50_000, 4)), "y"); 10];
 
-/// The length of a text of so many lines after those edits, where its next line starts, and the number of its last one.
+/// The length of a text of this many lines after those edits, the start of the next line, and the number of the last one.
 fn lengthened(alloc: Global, lines: usize) -> Result<String, AllocError> {
     let text = "x = 0;\r\n".repeat(alloc, lines)?;
     let doc = edited(alloc, &text, Encoding::Utf16, &LETTERS)?;
@@ -229,7 +229,7 @@ fn a_long_text_takes_many_changes(rt: HostRuntime) -> Result<(), AllocError> {
     check_rows(&rt, rt.alloc(), lengthened, &LONG)
 }
 
-/// The next of a fixed run of numbers.
+/// The next number of a fixed pseudorandom sequence.
 fn next(seed: &mut u64) -> u64 {
     *seed = seed
         .wrapping_mul(6364136223846793005)
@@ -241,7 +241,7 @@ const PIECES: [&str; 12] = [
     "", "\r", "\n", "\r\n", "ab", "é", "😀", "\n\r", "z\n", "\ry", "ü\r\nq", "c",
 ];
 
-/// A fixed edit of a few bytes near the text's front, which a third of the time takes some of it away.
+/// A pseudorandom edit of a few bytes near the start of the text, which replaces a range a third of the time.
 fn fixed_edit(seed: &mut u64) -> Edit {
     let text = PIECES[(next(seed) % 12) as usize];
     let (line, character) = (next(seed) % 9, next(seed) % 7);
@@ -268,7 +268,7 @@ fn compare_offsets(rt: &impl Abort, mended: &Doc, anew: &Doc) {
     }
 }
 
-/// Makes an edit, and compares the document with one that is made anew.
+/// Applies an edit, and compares the document with one made from scratch.
 fn check_mended(
     rt: &impl Abort,
     alloc: Global,
@@ -283,7 +283,7 @@ fn check_mended(
     Ok(())
 }
 
-/// A thousand edits in one encoding; the texts between are of some length.
+/// A thousand edits in one encoding. The texts after them add up to more than 10,000 bytes.
 fn check_many(rt: &impl Abort, alloc: Global, encoding: Encoding) -> Result<(), AllocError> {
     let mut seed = 20261122;
     let mut doc = Doc::new(alloc, "é\r\nab\n\rü😀\nz", encoding)?;

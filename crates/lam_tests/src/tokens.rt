@@ -1,10 +1,10 @@
-//! The tokens of texts, each text's on one line.
+//! The tokens of texts, on one line for each text.
 
 use crate::written::{check_rows, equal};
 use lam_token::{Span, Token, first_token, is_name, is_type_name, lex};
 use std::alloc::{AllocError, Global};
 
-/// The tokens of a text, each as `Name x 0..1; `: its kind, its text, and where it starts and ends.
+/// The tokens of a text, each as `Name x 0..1; `: its kind, its text, and its span.
 fn shown(alloc: Global, text: &str) -> Result<String, AllocError> {
     let mut line = String::new(alloc);
     for token in &lex(alloc, text)? {
@@ -20,7 +20,7 @@ fn push_token(line: &mut String, token: &Token<'_>) -> Result<(), AllocError> {
 
 /// Texts and their tokens.
 static TEXTS: [(&str, &str); 36] = [
-    // The longest front is a token.
+    // The longest prefix is a token.
     ("", ""),
     (" \t\r\n", ""),
     (
@@ -39,7 +39,7 @@ static TEXTS: [(&str, &str); 36] = [
         ";=:,(){}",
         "Semicolon ; 0..1; Equals = 1..2; Colon : 2..3; Comma , 3..4; OpenParen ( 4..5; CloseParen ) 5..6; OpenBrace { 6..7; CloseBrace } 7..8; ",
     ),
-    // The words of the language.
+    // Keywords.
     ("lambda", "Lambda lambda 0..6; "),
     ("if", "If if 0..2; "),
     ("then", "Then then 0..4; "),
@@ -59,7 +59,7 @@ static TEXTS: [(&str, &str); 36] = [
     ("Nat", "NatType Nat 0..3; "),
     ("Unit", "UnitType Unit 0..4; "),
     ("Top", "TopType Top 0..3; "),
-    // Comments, which nest, and characters that begin no token.
+    // Comments, which nest, and characters that start no token.
     ("/* a /* b */ */ 0", "Numeral 0 16..17; "),
     ("/**/ /***/", ""),
     ("/*/", "BadComment /*/ 0..3; "),
@@ -85,7 +85,7 @@ fn tokens_of_texts(rt: HostRuntime) -> Result<(), AllocError> {
     check_rows(&rt, rt.alloc(), shown, &TEXTS)
 }
 
-/// How many tokens a text has that is repeated so often, and where the last one ends.
+/// The number of tokens of a text repeated this often, and where the last one ends.
 fn counted(alloc: Global, (text, times): (&str, usize)) -> Result<String, AllocError> {
     let long = text.repeat(alloc, times)?;
     let tokens = lex(alloc, &long)?;
@@ -102,7 +102,7 @@ fn a_long_text_is_cut_to_its_end(rt: HostRuntime) -> Result<(), AllocError> {
     check_rows(&rt, rt.alloc(), counted, &LONG)
 }
 
-/// The first token of a text whose first byte has the offset 7, and the text behind it.
+/// The first token of a text that starts at offset 7, and the text after it.
 fn first_shown(alloc: Global, text: &str) -> Result<String, AllocError> {
     let mut line = String::new(alloc);
     if let Some((token, rest)) = first_token(text, 7) {
@@ -112,7 +112,7 @@ fn first_shown(alloc: Global, text: &str) -> Result<String, AllocError> {
     Ok(line)
 }
 
-/// Texts, their first tokens and what is behind them.
+/// Texts, their first tokens and what follows them.
 static FIRST: [(&str, &str); 7] = [
     (" x y", "Name x 8..9;  y"),
     ("/* a */0.1", "Numeral 0 14..15; .1"),
@@ -128,7 +128,7 @@ fn first_tokens_and_the_texts_behind_them(rt: HostRuntime) -> Result<(), AllocEr
     check_rows(&rt, rt.alloc(), first_shown, &FIRST)
 }
 
-/// What a whole text is.
+/// What kind of name the whole text is.
 fn name_kind(text: &str) -> &'static str {
     match (is_name(text), is_type_name(text)) {
         (true, false) => "name",
@@ -138,7 +138,7 @@ fn name_kind(text: &str) -> &'static str {
     }
 }
 
-/// Texts and what they are.
+/// Texts and their kinds.
 static NAMES: [(&str, &str); 43] = [
     ("x", "name"),
     ("_a", "name"),

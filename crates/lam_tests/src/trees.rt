@@ -1,4 +1,4 @@
-//! The pieces of texts, their faults, and the spans and names of their trees.
+//! The pieces of texts, their syntax errors, and the spans and names of their trees.
 
 use crate::written::{check_rows, commands_of, equal};
 use lam_syntax::{Command, TmNode, TyNode, parse, pieces};
@@ -6,7 +6,7 @@ use lam_token::{Span, lex};
 use std::alloc::{AllocError, Global};
 use std::test::Fail;
 
-/// What keeps a text from being one command.
+/// The error for which a text is not one command.
 fn fault(alloc: Global, text: &str) -> Result<String, AllocError> {
     let tokens = lex(alloc, text)?;
     match parse(alloc, &tokens).err() {
@@ -15,7 +15,7 @@ fn fault(alloc: Global, text: &str) -> Result<String, AllocError> {
     }
 }
 
-/// Texts and their faults, with the number of the wrong token.
+/// Texts and their errors, with the index of the wrong token.
 static FAULTS: [(&str, &str); 25] = [
     ("", "WrongEnd"),
     ("x = if true then 0", "WrongEnd"),
@@ -49,7 +49,7 @@ fn faults_at_their_tokens(rt: HostRuntime) -> Result<(), AllocError> {
     check_rows(&rt, rt.alloc(), fault, &FAULTS)
 }
 
-/// The spans of an application and its two terms, or of the arrow that a declaration has and its two types.
+/// The spans of an application and its two terms, or of the arrow type of a declaration and its two types.
 fn spans_of(command: &Command) -> Option<[Span; 3]> {
     match command {
         Command::Evaluation(term) => match &term.node {
@@ -64,7 +64,7 @@ fn spans_of(command: &Command) -> Option<[Span; 3]> {
     }
 }
 
-/// Those of a text's first command.
+/// The same for the first command of a text.
 fn spans_shown(alloc: Global, text: &str) -> Result<String, Fail> {
     let commands = commands_of(alloc, text)?;
     let Some(command) = commands.first() else {
@@ -89,7 +89,7 @@ fn spans_and_groups(rt: HostRuntime) -> Result<(), Fail> {
     check_rows(&rt, rt.alloc(), spans_shown, &SPANS)
 }
 
-/// Whether the definition of a name keeps its letters, and a copy of them does.
+/// Whether the definition of a name keeps its letters, and so does a copy.
 fn is_kept(alloc: Global, name: &str) -> Result<bool, Fail> {
     let commands = commands_of(alloc, &format!(in alloc; "{name} = 0")?)?;
     let Some(Command::Definition(given, _)) = commands.first() else {
@@ -108,7 +108,7 @@ fn names_of_any_length_have_their_letters(rt: HostRuntime) -> Result<(), Fail> {
     Ok(())
 }
 
-/// The number of tokens of each piece of a text that is repeated so often.
+/// The number of tokens of each piece of a text repeated this often.
 fn piece_lengths(alloc: Global, (text, times): (&str, usize)) -> Result<String, AllocError> {
     let long = text.repeat(alloc, times)?;
     let tokens = lex(alloc, &long)?;

@@ -1,4 +1,4 @@
-//! The types of large documents and deep terms, the entries of binders, and a proof of what is shown.
+//! The types of large documents and deep terms, the context entries of binders, and a proof of an inferred type.
 
 ghost use Rattle.std.specs.Prelude.{IfOk};
 ghost use Rattle.lam_scope.specs.Views.{statements_of};
@@ -12,11 +12,11 @@ use lam_typing::{Typing, analyse, analyse_to};
 use std::alloc::{AllocError, Global};
 use std::test::Fail;
 
-/// x0 = {a=0, b=0}; and so on to x10, whose type has 4,095 nodes.
+/// `x0 = {a=0, b=0};` and so on to `x10`, whose type has 4,095 nodes.
 const DOUBLED: &str =
     "x0 = {a=0, b=0}; x1 = {a=x0, b=x0}; x2 = {a=x1, b=x1}; x3 = {a=x2, b=x2}; x4 = {a=x3, b=x3}; x5 = {a=x4, b=x4}; x6 = {a=x5, b=x5}; x7 = {a=x6, b=x6}; x8 = {a=x7, b=x7}; x9 = {a=x8, b=x8}; x10 = {a=x9, b=x9};";
 
-/// What an analysis of a document that goes on behind those ends with.
+/// The error of analysing a document that continues with `more`.
 fn fault_behind(alloc: Global, more: &str) -> Result<String, Fail> {
     let resolved = resolved_of(alloc, &format!(in alloc; "{DOUBLED}{more}")?)?;
     match analyse(alloc, &resolved, One).err() {
@@ -25,7 +25,7 @@ fn fault_behind(alloc: Global, more: &str) -> Result<String, Fail> {
     }
 }
 
-/// The record of each definition is a place behind those of its two fields.
+/// The record of each definition is numbered after its two fields.
 static LARGE: [(&str, &str); 3] = [
     ("", ""),
     (" y = {a=x10};", ""),
@@ -40,7 +40,7 @@ fn the_first_type_that_is_too_large_is_refused(rt: HostRuntime) -> Result<(), Fa
     check_rows(&rt, rt.alloc(), fault_behind, &LARGE)
 }
 
-/// Whether an analysis up to that place ends with a fault, where the place 37 has too large a type.
+/// Whether an analysis up to that place ends with an error, where place 37 has a type over the size limit.
 fn is_fault_up_to(alloc: Global, place: usize) -> Result<String, Fail> {
     let text = format!(in alloc; "{DOUBLED} y = {{a=x10}}; z = {{a=x10, b=0}}")?;
     let resolved = resolved_of(alloc, &text)?;
@@ -55,14 +55,14 @@ fn places_up_to_one_are_analysed(rt: HostRuntime) -> Result<(), Fail> {
     check_rows(&rt, rt.alloc(), is_fault_up_to, &UP_TO)
 }
 
-/// The types of a text's places.
+/// The types of the subterms of a text.
 fn typing_of(alloc: Global, resolved: &Resolved) -> Result<Typing, Fail>
     ensures { IfOk result (λ typing. IsTypingOf (statements_of resolved.now) typing) }
 {
     Ok(analyse(alloc, resolved, One)?)
 }
 
-/// The entry of each binder of a text, in the order of their numbers.
+/// The context entry of each binder of a text, by number.
 fn entries(alloc: Global, text: &str) -> Result<String, Fail> {
     let resolved = resolved_of(alloc, text)?;
     let typing = typing_of(alloc, &resolved)?;
@@ -95,8 +95,8 @@ fn each_binder_has_its_least_entry(rt: HostRuntime) -> Result<(), Fail> {
     check_rows(&rt, rt.alloc(), entries, &ENTRIES)
 }
 
-/// The type that is proved of the term of a text's one command, which is the place of that number, and whether the checker
-/// takes the proof.
+/// The type proved for the term of a text's only command, which is the place with this number, and whether the checker accepts
+/// the proof.
 fn proved(alloc: Global, (text, number): (&str, usize)) -> Result<String, Fail> {
     let resolved = resolved_of(alloc, text)?;
     let typing = typing_of(alloc, &resolved)?;
@@ -120,7 +120,7 @@ fn a_proof_of_what_is_shown(rt: HostRuntime) -> Result<(), Fail> {
     check_rows(&rt, rt.alloc(), proved, &PROVED)
 }
 
-/// What is before a term, the term, what is behind it, and how often.
+/// The text before a term, the term, the text after it, and how often both are repeated.
 type Deep = (&'static str, &'static str, &'static str, usize);
 
 fn deep_text(alloc: Global, (before, inner, behind, times): Deep) -> Result<String, AllocError> {
@@ -129,7 +129,7 @@ fn deep_text(alloc: Global, (before, inner, behind, times): Deep) -> Result<Stri
     format!(in alloc; "{front}{inner}{back}")
 }
 
-/// The number of statements of such a text, its last place, and whether that is proved.
+/// The number of statements of such a text, its last place, and whether that has a proof.
 fn deepest(alloc: Global, deep: Deep) -> Result<String, Fail> {
     let resolved = resolved_of(alloc, &deep_text(alloc, deep)?)?;
     let typing = typing_of(alloc, &resolved)?;

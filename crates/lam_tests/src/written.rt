@@ -1,5 +1,4 @@
-//! What texts say: their commands, what their names are bound to, and the types that they write. And what rows are
-//! compared by.
+//! Texts as commands, scopes, nameless forms and types, and the comparison of rows with expected results.
 
 ghost use Rattle.std.specs.Prelude.{IfOk};
 ghost use Rattle.lam_rules.specs.Types.{IsWellFormed};
@@ -13,12 +12,12 @@ use std::alloc::{AllocError, Global};
 use std::process::Abort;
 use std::test::Fail;
 
-/// Compares two texts: where they differ, both are printed.
+/// Asserts that two texts are equal, and prints both if not.
 pub(crate) fn equal(rt: &impl Abort, shown: &str, wanted: &str) {
     assert_eq!(rt; shown, wanted);
 }
 
-/// Compares what is shown of each row with what stands behind it.
+/// Compares what is shown for each row with the expected text.
 pub(crate) fn check_rows<T: Copy, E, F: Fn(Global, T) -> Result<String, E>>(
     rt: &impl Abort,
     alloc: Global,
@@ -33,7 +32,7 @@ pub(crate) fn check_rows<T: Copy, E, F: Fn(Global, T) -> Result<String, E>>(
     Ok(())
 }
 
-/// The commands of a text each of whose pieces is one.
+/// The commands of a text whose pieces are all commands.
 pub(crate) fn commands_of(alloc: Global, text: &str) -> Result<Vec<Command>, Fail> {
     let tokens = lex(alloc, text)?;
     let mut commands = Vec::new(alloc);
@@ -43,20 +42,20 @@ pub(crate) fn commands_of(alloc: Global, text: &str) -> Result<Vec<Command>, Fai
     Ok(commands)
 }
 
-/// What its names are bound to.
+/// The scopes of such a text.
 pub(crate) fn scopes_of(alloc: Global, text: &str) -> Result<Scopes, Fail> {
     let commands = commands_of(alloc, text)?;
     Ok(bind(alloc, &commands)?)
 }
 
-/// Its nameless form.
+/// The nameless form of such a text.
 pub(crate) fn resolved_of(alloc: Global, text: &str) -> Result<Resolved, Fail> {
     let commands = commands_of(alloc, text)?;
     let scopes = bind(alloc, &commands)?;
     Ok(resolve(alloc, &commands, &scopes)?)
 }
 
-/// The type that a text writes.
+/// The type written in a text.
 pub(crate) fn type_of(alloc: Global, text: &str) -> Result<Ty, Fail>
     ensures { IfOk result (λ ty. IsWellFormed (typ_of ty)) }
 {
@@ -67,7 +66,7 @@ pub(crate) fn type_of(alloc: Global, text: &str) -> Result<Ty, Fail>
     well_formed(copy_of(alloc, ty)?)
 }
 
-/// This type, whose labels have to be distinct.
+/// Returns this type if its labels are distinct, otherwise fails.
 pub(crate) fn well_formed(ty: Ty) -> Result<Ty, Fail>
     ensures { IfOk result (λ ty. IsWellFormed (typ_of ty)) }
 {
@@ -78,7 +77,7 @@ pub(crate) fn well_formed(ty: Ty) -> Result<Ty, Fail>
     }
 }
 
-/// `Nat->Nat->..->last` with so many arrows.
+/// `Nat->Nat->..->last` with `depth` arrows.
 pub(crate) fn arrows(alloc: Global, depth: usize, last: Ty) -> Result<Ty, AllocError> {
     let mut ty = last;
     for _ in 0..depth {
@@ -87,7 +86,7 @@ pub(crate) fn arrows(alloc: Global, depth: usize, last: Ty) -> Result<Ty, AllocE
     Ok(ty)
 }
 
-/// Fields with the labels from that number to the one before `end`, as `l500:Nat` and `l501:Nat`.
+/// Fields with labels numbered from `first` up to but not including `end`, as `l500:Nat` and `l501:Nat`.
 pub(crate) fn fields(
     alloc: Global,
     first: u32,
@@ -101,7 +100,7 @@ pub(crate) fn fields(
     Ok(items)
 }
 
-/// Those labels as a text, each with that behind it, as `l500:Nat, l501:Nat`.
+/// The same labels as a text, each followed by `behind`, as `l500:Nat, l501:Nat`.
 pub(crate) fn labelled(
     alloc: Global,
     first: u32,

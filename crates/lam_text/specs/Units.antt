@@ -1,4 +1,4 @@
--- The units in which a client counts the characters of a line (LSP 3.17, "Position Encoding Kind").
+-- Position encodings (LSP 3.17, "Position Encoding Kind").
 use Rattle.std.specs.Prelude.{ℕ, ◌-◌, List, [], ◌∷◌, length, nat_lt, nat_le, if◌then◌else◌}
 use Rattle.std.specs.List.{sum_by}
 use Rattle.std.specs.Char.{len_utf8}
@@ -6,26 +6,26 @@ use Rattle.std.specs.Str.{chars, encode_utf8_all}
 use Rattle.lam_text.specs.declared.units.Encoding.{Encoding}
 use Rattle.lam_text.specs.declared.units.Encoding.TheVariants.{Utf8, Utf16, Utf32}
 
--- the units of one character: its bytes, its 16-bit units, or itself
+-- the number of units in a character: its bytes in UTF-8, its 16-bit units in UTF-16, or 1
 abbrev pub units_of : Encoding → ℕ → ℕ
 units_of Utf8 c = len_utf8 c
 units_of Utf16 c = if nat_lt c 0x1_0000 then 1 else 2
 units_of Utf32 c = 1
 
--- the units of some characters
+-- the number of units in some characters
 abbrev pub units : Encoding → List ℕ → ℕ
 units encoding cs = sum_by (units_of encoding) cs
 
--- the units of the text that these bytes are
+-- the number of units in the text that these bytes encode
 abbrev pub units_in : Encoding → List ℕ → ℕ
 units_in encoding bytes = units encoding (chars bytes)
 
--- the longest front of some characters whose units are at most `room`
+-- the longest prefix of some characters that takes at most `room` units
 abbrev pub front_within : Encoding → ℕ → List ℕ → List ℕ
 front_within encoding room [] = []
 front_within encoding room (c ∷ cs) =
     if nat_le (units_of encoding c) room then c ∷ front_within encoding (room - units_of encoding c) cs else []
 
--- the bytes of the longest front of a line whose units are at most `room`
+-- the length in bytes of the longest prefix of a line that takes at most `room` units
 abbrev pub bytes_within : Encoding → ℕ → List ℕ → ℕ
 bytes_within encoding room line = length (encode_utf8_all (front_within encoding room (chars line)))

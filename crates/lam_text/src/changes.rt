@@ -1,8 +1,8 @@
-//! A change of a text (LSP 3.17, `TextDocumentContentChangeEvent`).
+//! Changes of a text (LSP 3.17, `TextDocumentContentChangeEvent`).
 use crate::places::Range;
 use std::marker::Model;
 
-/// A change: `text` in place of what `range` holds, or in place of the whole text where there is no range.
+/// A change: `text` replaces the contents of `range`, or the whole text if there is no range.
 #[derive(Debug, Drop)]
 pub struct Change {
     pub range: Option<Range>,

@@ -1,4 +1,4 @@
-//! An open document.
+//! Open documents.
 ghost use Rattle.std.specs.Prelude.{◌≡◌, ◌≤◌, ◌++◌, take, drop, IfOk, OnOk, OnErr};
 ghost use Rattle.std.specs.Str.{IsCharBoundary};
 ghost use Rattle.std.specs.String.{string_bytes};
@@ -13,7 +13,7 @@ use crate::units::Encoding;
 use std::alloc::{AllocError, Global};
 use std::marker::Model;
 
-/// A text, the units in which its client counts, and an index of its lines.
+/// A text, the encoding of its positions, and an index of its lines.
 #[derive(Drop)]
 pub struct Doc {
     alloc: Global,
@@ -36,7 +36,7 @@ impl Model for Doc {
 }
 
 impl Doc {
-    /// A document of this text. It keeps the allocator for its later texts.
+    /// Creates a document with this text. It keeps the allocator for its later texts.
     pub fn new(alloc: Global, text: &str, encoding: Encoding) -> Result<Doc, AllocError>
         ensures text { IfOk result (λ doc. doc.text ≡ text.now) }
         ensures encoding { IfOk result (λ doc. doc.encoding ≡ encoding) }
@@ -51,15 +51,15 @@ impl Doc {
         })
     }
 
-    /// The text as the changes so far have left it.
+    /// Returns the current text.
     pub fn text(&self) -> &str
         ensures { result.now ≡ self.now.text }
     {
         self.text.as_str()
     }
 
-    /// The byte offset that a position means: in a line that is too short its end, without the line end; past the
-    /// last line the text's end; inside a character that character's start.
+    /// Returns the byte offset of a position. A column past the end of its line means the end of the line, before its line
+    /// ending; a line past the last one means the end of the text; a column inside a character means its start.
     pub fn offset_of(&self, position: Position) -> usize
         ensures value { result ≡ offset_of self.now.encoding self.now.text position }
         ensures boundary { IsCharBoundary self.now.text result }
@@ -75,7 +75,7 @@ impl Doc {
         mark.start + front_len(mark, self.encoding, line, position.character)
     }
 
-    /// The position of a byte offset. Between a CR and its LF it is the end of the line's content.
+    /// Returns the position of a byte offset. Between a CR and its LF that is the end of the line's content.
     pub fn position_of(&self, offset: usize) -> Position
         requires { IsCharBoundary self.now.text offset }
         ensures { result ≡ position_of self.now.encoding self.now.text offset }
@@ -92,7 +92,7 @@ impl Doc {
         }
     }
 
-    /// Makes one change after the other: each is about the text as it is by then. On an error nothing is changed.
+    /// Applies the changes one after another, each to the result of the one before. On an error nothing is changed.
     pub fn apply(&mut self, changes: &[Change]) -> Result<(), AllocError>
         ensures text { OnOk result (self.new.text ≡ text_after self.old.encoding self.old.text changes.now) }
         ensures encoding { self.new.encoding ≡ self.old.encoding }
@@ -102,7 +102,7 @@ impl Doc {
         Ok(())
     }
 
-    /// The document after these changes, of which each is about the text as it is by then.
+    /// Returns the document after these changes, each of which applies to the result of the one before.
     pub fn after(&self, changes: &[Change]) -> Result<Doc, AllocError>
         ensures text { IfOk result (λ doc. doc.text ≡ text_after self.now.encoding self.now.text changes.now) }
         ensures encoding { IfOk result (λ doc. doc.encoding ≡ self.now.encoding) }

@@ -1,4 +1,4 @@
-//! The index that a document keeps of its lines: how it is built and read.
+//! The line index of a document.
 ghost use Rattle.std.specs.Prelude.{◌≡◌, ◌+◌, ◌-◌, ◌<◌, ◌≤◌, ◌++◌, length, take, drop, slice_index, nat_lt, ◌==◌, ◌&&◌, if◌then◌else◌, IfOk, IsTrue};
 ghost use Rattle.std.specs.List.{prefix_len};
 ghost use Rattle.std.specs.Str.{IsAscii};
@@ -12,7 +12,7 @@ use crate::units::{Encoding, bytes_within, units_in};
 use memchr::memchr2;
 use std::alloc::{AllocError, Global};
 
-/// A line: the byte at which it starts, and whether all its bytes are ASCII.
+/// A line: the byte offset of its start, and whether its content is all ASCII.
 #[derive(Clone, Copy, Debug, PartialEq, Eq)]
 pub(crate) struct Mark {
     pub(crate) start: usize,
@@ -34,7 +34,7 @@ pub(crate) fn is_ascii_between(text: &[u8], from: usize, to: usize) -> bool
     is_ascii(&text[from..to])
 }
 
-/// Whether the byte at `at` ends a line: a CR does not where an LF follows.
+/// Whether the byte at `at` ends a line. A CR that an LF follows does not.
 fn ends_line(text: &[u8], at: usize) -> bool
     requires { at < length text.now }
     ensures { result ≡ ends (slice_index text.now at) (begins_with_lf (drop (at + 1) text.now)) }
@@ -51,7 +51,7 @@ fn ends_line(text: &[u8], at: usize) -> bool
     text[at + 1] != b'\n'
 }
 
-/// An open line with some more of its bytes.
+/// An open line extended by more of its bytes.
 fn lengthened(open_line: Mark, bytes: &[u8]) -> Mark
     ensures { result ≡ lengthened open_line bytes.now }
 {
@@ -61,8 +61,8 @@ fn lengthened(open_line: Mark, bytes: &[u8]) -> Mark
     }
 }
 
-/// Finds the line ends from `from` up to `to`: pushes a mark for each line that ends there, and answers the one that
-/// is open at `to`. `open_line` is the line that is open at `from`.
+/// Pushes a mark for each line that ends between `from` and `to`, and returns the line that is open at `to`. `open_line` is the
+/// line that is open at `from`.
 pub(crate) fn push_marks(
     marks: &mut Vec<Mark>,
     open_line: Mark,
@@ -92,7 +92,7 @@ pub(crate) fn push_marks(
     Ok(lengthened(open, &text[at..to]))
 }
 
-/// The index of a text.
+/// Builds the index of a text.
 pub(crate) fn index_of(alloc: Global, text: &[u8]) -> Result<Vec<Mark>, AllocError>
     ensures { IfOk result (λ marks. marks.items ≡ index_of text.now) }
 {
@@ -106,7 +106,7 @@ pub(crate) fn index_of(alloc: Global, text: &[u8]) -> Result<Vec<Mark>, AllocErr
     Ok(marks)
 }
 
-/// The number of the line that the byte `offset` belongs to, its end included.
+/// Returns the number of the line that contains the byte offset; a line includes its line ending.
 pub(crate) fn line_at(marks: &[Mark], offset: usize) -> usize
     requires { IsIndex marks.now }
     ensures within { result < length marks.now }
@@ -115,8 +115,8 @@ pub(crate) fn line_at(marks: &[Mark], offset: usize) -> usize
     marks.partition_point(|mark| mark.start <= offset) - 1
 }
 
-/// Where the content of a line ends that starts at `start` and has its last byte at `last`: an LF there is one line
-/// end with a CR before it.
+/// The end of the content of a line that starts at `start` and whose last byte is at `last`. A final LF and a CR before it are
+/// one line ending.
 fn before_end(text: &[u8], start: usize, last: usize) -> usize
     requires { last < length text.now }
     ensures { result ≡ (if slice_index text.now last == 10
@@ -134,7 +134,7 @@ fn before_end(text: &[u8], start: usize, last: usize) -> usize
     last - 1
 }
 
-/// Where the content of a line ends: before its line end, and for the last line at the text's end.
+/// The end of the content of a line: before its line ending, or at the end of the text for the last line.
 fn content_end(marks: &[Mark], text: &[u8], number: usize) -> usize
     requires index { marks.now ≡ index_of text.now }
     requires number { number < length marks.now }
@@ -146,7 +146,7 @@ fn content_end(marks: &[Mark], text: &[u8], number: usize) -> usize
     before_end(text, marks[number].start, marks[number + 1].start - 1)
 }
 
-/// What a line holds, its end left out.
+/// Returns the content of a line, without its line ending.
 pub(crate) fn content<'a>(marks: &[Mark], text: &'a str, number: usize) -> &'a str
     requires index { marks.now ≡ index_of text.now }
     requires number { number < length marks.now }
@@ -156,7 +156,8 @@ pub(crate) fn content<'a>(marks: &[Mark], text: &'a str, number: usize) -> &'a s
     &text[marks[number].start..end]
 }
 
-/// The bytes of the longest front of a line whose units are at most `room`; a line that is all ASCII is not walked.
+/// Returns the length in bytes of the longest prefix of a line that takes at most `room` units. A line that is all ASCII is not
+/// scanned.
 pub(crate) fn front_len(mark: Mark, encoding: Encoding, line: &str, room: u64) -> usize
     requires { IsTrue mark.ascii → IsAscii line.now }
     ensures { result ≡ bytes_within encoding room line.now }
@@ -167,7 +168,7 @@ pub(crate) fn front_len(mark: Mark, encoding: Encoding, line: &str, room: u64) -
     bytes_within(encoding, room, line)
 }
 
-/// The units of the front of a line; a line that is all ASCII is not walked.
+/// Returns the number of units in a prefix of a line. A line that is all ASCII is not scanned.
 pub(crate) fn units(mark: Mark, encoding: Encoding, front: &str) -> u64
     requires { IsTrue mark.ascii → IsAscii front.now }
     ensures { result ≡ units_in encoding front.now }

@@ -1,11 +1,10 @@
-//! Texts as an editor counts them: lines, positions in the units that the client chose, and edits.
+//! Texts as an editor sees them: lines, positions in the units that the client chose, and edits.
 //!
-//! A [`Doc`] holds a text and says which byte offset a position means, which position an offset has, and what the
-//! text is after a list of changes. Contracts see a document as its text and its encoding. Inside it
-//! keeps, for each line, where it starts and whether it is all ASCII. This index is built with `memchr` when the
-//! document is opened, and only mended by a change.
+//! A [`Doc`] holds a text. It converts between positions and byte offsets, and applies lists of changes. In contracts a document
+//! is its text and its encoding. Internally it also keeps, for each line, where it starts and whether it is all ASCII. This index
+//! is built with `memchr` when the text is set as a whole, and only updated by a change to a range.
 //!
-//! Nothing here knows JSON, uris or versions, nor what the text means.
+//! This crate does not deal with JSON, URIs or versions, or the meaning of the text.
 #![tactic(auto)]
 
 mod changes;

@@ -1,6 +1,6 @@
 //! Positions and ranges (LSP 3.17, `Position` and `Range`).
 
-/// A place in a text; both numbers count from 0.
+/// A position in a text, zero-based.
 #[derive(Clone, Copy, Debug, PartialEq, Eq)]
 pub struct Position {
     pub line: u64,
@@ -8,7 +8,7 @@ pub struct Position {
     pub character: u64,
 }
 
-/// Two positions. An edit takes the text between them, whichever comes first.
+/// Two positions. An edit replaces the text between them, whichever comes first.
 #[derive(Clone, Copy, Debug, PartialEq, Eq)]
 pub struct Range {
     pub start: Position,

@@ -1,4 +1,4 @@
-//! How the index of a text is mended when a part of the text is replaced.
+//! Updates of the line index when a part of the text is replaced.
 ghost use Rattle.std.specs.Prelude.{◌≡◌, ◌+◌, ◌-◌, ◌^◌, ◌<◌, ◌≤◌, ◌++◌, length, drop, map, ◌&&◌, IfOk, All};
 ghost use Rattle.std.specs.List.{prefix_len};
 ghost use Rattle.lam_text.specs.Lines.{lines_of};
@@ -9,7 +9,7 @@ ghost use Rattle.lam_text.specs.inner.Splice.{closed, first_ascii_on, first_star
 use crate::index::{Mark, is_ascii_between, line_at, push_marks};
 use std::alloc::{AllocError, Global};
 
-/// A replacement in a text: the bytes from `start` to `end` give way to `inserted` others.
+/// A replacement in a text: `inserted` bytes replace the bytes from `start` to `end`.
 #[derive(Clone, Copy)]
 pub(crate) struct Splice {
     pub(crate) start: usize,
@@ -17,8 +17,8 @@ pub(crate) struct Splice {
     pub(crate) inserted: usize,
 }
 
-/// The index of `new`, which is `old` after the splice, mended from the index of `old`: only the inserted bytes are
-/// searched, and the byte before them, which may be a CR.
+/// Updates the index of `old` to that of `new`, which is `old` after the splice. Only the inserted bytes are searched, and the
+/// byte before them, which may be a CR.
 pub(crate) fn mended(
     alloc: Global,
     old_marks: &[Mark],
@@ -30,7 +30,7 @@ pub(crate) fn mended(
     requires splice { IsSplice old.now new.now splice.start splice.end splice.inserted }
     ensures { IfOk result (λ marks. marks.items ≡ index_of new.now) }
 {
-    // Room for one line more, as typing adds them.
+    // Room for one more line, which typing may add.
     let mut marks = Vec::with_capacity(alloc, old_marks.len().saturating_add(1))?;
     let from = splice.start.saturating_sub(1);
     let first = line_at(old_marks, from);
@@ -43,8 +43,7 @@ pub(crate) fn mended(
     Ok(marks)
 }
 
-/// The line that is open at the byte `at`, as far as that byte. The bytes are looked at only where the line is not all
-/// ASCII.
+/// The line that is open at `at`, up to that byte. Its bytes are read only if the line is not all ASCII.
 fn open_at(marks: &[Mark], text: &[u8], number: usize, at: usize) -> Mark
     requires index { marks.now ≡ index_of text.now }
     requires within { at ≤ length text.now }
@@ -59,7 +58,7 @@ fn open_at(marks: &[Mark], text: &[u8], number: usize, at: usize) -> Mark
     }
 }
 
-/// An open line whose last bytes are those of another line, from `at` on.
+/// An open line that ends like another line, from `at` on.
 fn closed(open_line: Mark, marks: &[Mark], text: &[u8], number: usize, at: usize) -> Mark
     requires index { marks.now ≡ index_of text.now }
     requires within { at ≤ length text.now }
@@ -73,7 +72,7 @@ fn closed(open_line: Mark, marks: &[Mark], text: &[u8], number: usize, at: usize
     }
 }
 
-/// Whether the bytes of a line from `at` on are all ASCII. They are looked at only where the line is not all ASCII.
+/// Whether a line is all ASCII from `at` on. Its bytes are read only if the line is not all ASCII.
 fn ascii_from(marks: &[Mark], text: &[u8], number: usize, at: usize) -> bool
     requires index { marks.now ≡ index_of text.now }
     requires within { at ≤ length text.now }
@@ -88,7 +87,7 @@ fn ascii_from(marks: &[Mark], text: &[u8], number: usize, at: usize) -> bool
     is_ascii_between(text, at, end)
 }
 
-/// Where the first of these lines starts, or where the text ends.
+/// The start of the first of these lines, or the end of the text.
 fn first_start(marks: &[Mark], end: usize) -> usize
     ensures { result ≡ first_start marks.now end }
 {
@@ -98,7 +97,7 @@ fn first_start(marks: &[Mark], end: usize) -> usize
     }
 }
 
-/// Pushes these marks, each moved with its text: what was at `splice.end` is then behind the inserted bytes.
+/// Pushes these marks, each moved with its text: what was at `splice.end` then follows the inserted bytes.
 fn push_moved(marks: &mut Vec<Mark>, behind: &[Mark], splice: Splice) -> Result<(), AllocError>
     requires { All (λ mark. (splice.end ≤ mark.start)
         × (mark.start - splice.end + (splice.start + splice.inserted) < 2 ^ 64)) behind.now }

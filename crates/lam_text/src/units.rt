@@ -1,19 +1,19 @@
-//! The units in which a client counts the characters of a line, and walks along a line that is not all ASCII.
+//! Position encodings, and the scan of lines that are not all ASCII.
 ghost use Rattle.std.specs.Prelude.{◌≡◌};
 ghost use Rattle.lam_text.specs.Units.{units_of, units_in, bytes_within};
 
 /// The unit of `Position::character` (LSP 3.17, `PositionEncodingKind`).
 #[derive(Clone, Copy, Debug, PartialEq, Eq)]
 pub enum Encoding {
-    /// Bytes of UTF-8: 1 to 4 for a character.
+    /// Bytes of UTF-8: 1 to 4 per character.
     Utf8,
-    /// Units of UTF-16: 1, or 2 from U+10000 on.
+    /// Units of UTF-16: 1 per character, or 2 from U+10000 on.
     Utf16,
     /// Characters.
     Utf32,
 }
 
-/// How many units a character takes.
+/// The number of units in a character.
 fn units_of(encoding: Encoding, c: char) -> u64
     ensures { result ≡ units_of encoding c }
 {
@@ -24,7 +24,7 @@ fn units_of(encoding: Encoding, c: char) -> u64
     }
 }
 
-/// The units of a text.
+/// The number of units in a text.
 pub(crate) fn units_in(encoding: Encoding, text: &str) -> u64
     ensures { result ≡ units_in encoding text.now }
 {
@@ -35,7 +35,7 @@ pub(crate) fn units_in(encoding: Encoding, text: &str) -> u64
     units
 }
 
-/// The bytes of the longest front of a line whose units are at most `room`.
+/// The length in bytes of the longest prefix of a line that takes at most `room` units.
 pub(crate) fn bytes_within(encoding: Encoding, room: u64, line: &str) -> usize
     ensures { result ≡ bytes_within encoding room line.now }
 {

@@ -11,12 +11,11 @@ SemicolonEndsAt end [] = ⊥
 SemicolonEndsAt end (t ∷ []) = (kind_of t ≡ Semicolon) × (end_of t ≡ end)
 SemicolonEndsAt end (t ∷ u ∷ ts) = SemicolonEndsAt end (u ∷ ts)
 
--- the last of a text's tokens is a semicolon, and ends where the text ends
+-- the last of the tokens of a text is a semicolon, and ends where the text ends
 abbrev pub EndsInSemicolon : (front : List ℕ) → List Lexeme → Type 0
 EndsInSemicolon front tokens = SemicolonEndsAt (length front) tokens
 
--- A text falls into a front, which ends with this semicolon among its tokens, and a rest: the tokens up to it are those of the front,
--- and the others those of the rest.
+-- A text is divided after this semicolon into a prefix and a rest: the tokens up to and including it are those of the prefix, and the others are those of the rest.
 pub record IsDividedAfter (text : List ℕ) (before : List Lexeme) (t : Lexeme) (behind : List Lexeme) : Type 0 where
   pub is_front : IsUtf8 (take (end_of t) text)
   pub are_front : AreTokensOf (take (end_of t) text) (before ++ (t ∷ []))

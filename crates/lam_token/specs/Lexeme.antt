@@ -1,13 +1,13 @@
--- A token, apart from where it lies in memory.
+-- A token, without its address in memory.
 use Rattle.std.specs.Prelude.{ℕ, ◌+◌, List, length}
 use Rattle.lam_token.specs.declared.kind.Kind.{Kind}
 use Rattle.lam_token.specs.declared.span.Span.{Span}
 
--- its kind, the bytes of its text, and its place
+-- its kind, the bytes of its text, and its span
 pub data Lexeme : Type 0 where
   lexeme : (kind : Kind) → (text : List ℕ) → (span : Span) → Lexeme
 
--- what kind of token it is
+-- the kind of the token
 abbrev pub kind_of : Lexeme → Kind
 kind_of (lexeme kind text span) = kind
 
@@ -15,7 +15,7 @@ kind_of (lexeme kind text span) = kind
 abbrev pub text_of : Lexeme → List ℕ
 text_of (lexeme kind text span) = text
 
--- its place, from its first byte to behind its last
+-- its span, from its first byte to the one after its last
 abbrev pub span_of : Lexeme → Span
 span_of (lexeme kind text span) = span
 
@@ -23,10 +23,10 @@ span_of (lexeme kind text span) = span
 abbrev pub start_of : Lexeme → ℕ
 start_of t = (span_of t).start
 
--- the byte offset behind its last byte
+-- the byte offset just after its last byte
 abbrev pub end_of : Lexeme → ℕ
 end_of t = (span_of t).end
 
--- a token of that text that begins at that offset
+-- the token with this text that begins at this byte offset
 abbrev pub lexeme_at : Kind → List ℕ → (start : ℕ) → Lexeme
 lexeme_at kind text start = lexeme kind text (record { start = start; end = start + length text })

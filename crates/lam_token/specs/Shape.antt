@@ -17,11 +17,11 @@ is_blank c = (c == 32) || (c == 9) || (c == 10) || (c == 13)
 unfoldable pub is_digit : ℕ → Bool
 is_digit c = nat_le 48 c && nat_le c 57
 
--- what an identifier may go on with: XID_Continue, or an apostrophe
+-- the characters that may continue an identifier: XID_Continue, or an apostrophe
 unfoldable pub is_continuing : ℕ → Bool
 is_continuing c = (c == 39) || is_xid_continue c
 
--- what may begin with a character that is neither a blank, a digit nor a letter
+-- what may begin with a character that is not a blank, digit or letter
 unfoldable pub mark_of : ℕ → Beginning
 mark_of c =
     if c == 47 then first.Slash
@@ -54,8 +54,8 @@ is_opening before c = (before == 47) && (c == 42)
 unfoldable pub is_closing : ℕ → ℕ → Bool
 is_closing before c = (before == 42) && (c == 47)
 
--- What is left behind a comment of which so many marks are open; None where the text ends first.
--- Marks are two characters, taken from the left: `before` is the character before, or a space if a mark took it.
+-- What is left after a comment with this many open marks; None if the text ends before it closes.
+-- Marks are two characters and are read from the left: `before` is the previous character, or a space if it was part of a mark.
 unfoldable pub rest_of_comment : (depth before : ℕ) → List ℕ → Option (List ℕ)
 rest_of_comment depth before [] = None
 rest_of_comment depth before (c ∷ cs) =
@@ -63,7 +63,7 @@ rest_of_comment depth before (c ∷ cs) =
     else if is_closing before c then (if depth == 1 then Some cs else rest_of_comment (depth - 1) 32 cs)
     else rest_of_comment depth c cs
 
--- a segment of that sort, if nothing follows
+-- a segment of this sort, if nothing follows
 abbrev pub alone : Segment → List ℕ → Option Segment
 alone s [] = Some s
 alone s (c ∷ cs) = None
@@ -73,7 +73,7 @@ abbrev pub closed_at_end : Option (List ℕ) → Option Segment
 closed_at_end (Some rest) = alone segment.Comment rest
 closed_at_end None = None
 
--- what the first character and those behind it are together, by what may begin so
+-- what the first character and the following ones are together, given what the first may begin
 abbrev pub begun : Beginning → ℕ → List ℕ → Option Segment
 begun first.Blank c cs = alone segment.Blank cs
 begun first.Slash c [] = None
@@ -92,7 +92,7 @@ abbrev pub shape_of : List ℕ → Option Segment
 shape_of [] = None
 shape_of (c ∷ cs) = begun (beginning_of c) c cs
 
--- the first character is the slash, and the second a star
+-- the first character is a slash and the second is a star
 abbrev pub opened : Beginning → List ℕ → Bool
 opened first.Slash (d ∷ cs) = d == 42
 opened _ _ = false

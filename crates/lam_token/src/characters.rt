@@ -1,4 +1,4 @@
-//! A text as its characters, and what a character may begin or continue.
+//! Splitting a text into characters, and classifying characters.
 ghost use Rattle.std.specs.Prelude.{◌≡◌, [], MatchOption};
 ghost use Rattle.std.specs.Str.{chars};
 ghost use Rattle.lam_token.specs.Shape.{is_blank, is_digit, is_continuing, is_opening, is_closing, mark_of, beginning_of};
@@ -8,7 +8,7 @@ ghost use Rattle.unicode_ident.specs.Ident.{is_xid_start, is_xid_continue};
 use crate::kind::Kind;
 use crate::segment::Beginning;
 
-/// The first character, and the text behind it.
+/// Returns the first character and the text after it, or `None` if the text is empty.
 pub(crate) fn split_first(text: &str) -> Option<(char, &str)>
     ensures { MatchOption result (text.now ≡ []) (λ found. FirstIs text.now found.0 found.1.now) }
 {
@@ -24,7 +24,7 @@ fn is_blank(c: char) -> bool
     c == ' ' || c == '\t' || c == '\n' || c == '\r'
 }
 
-/// Whether a character is a digit of a numeral: one of ASCII's.
+/// Whether a character is an ASCII digit.
 #[tactic(auto, unfolding(crate::specs::Shape::is_digit))]
 pub(crate) fn is_digit(c: char) -> bool
     ensures { result ≡ is_digit c }
@@ -32,7 +32,7 @@ pub(crate) fn is_digit(c: char) -> bool
     c >= '0' && c <= '9'
 }
 
-/// Whether Unicode has identifiers begin with the character. Of ASCII these are letters, which are told without a table.
+/// Whether a character is `XID_Start`. ASCII letters are recognized without the table.
 #[tactic(auto, using(crate::proofs::AsciiNames::ascii_names))]
 fn is_xid_start(c: char) -> bool
     ensures { result ≡ is_xid_start c }
@@ -44,8 +44,7 @@ fn is_xid_start(c: char) -> bool
     }
 }
 
-/// Whether Unicode has identifiers go on with the character. Of ASCII these are letters, digits and `_`, which are told
-/// without a table.
+/// Whether a character is `XID_Continue`. ASCII letters, digits and `_` are recognized without the table.
 #[tactic(auto, using(crate::proofs::AsciiNames::ascii_names))]
 fn is_xid_continue(c: char) -> bool
     ensures { result ≡ is_xid_continue c }
@@ -56,7 +55,7 @@ fn is_xid_continue(c: char) -> bool
     c.is_ascii_alphanumeric() || c == '_'
 }
 
-/// Whether a name goes on with the character: with `'`, or as Unicode has identifiers go on.
+/// Whether a character may continue a name: `'` or any `XID_Continue` character.
 #[tactic(auto, unfolding(crate::specs::Shape::is_continuing))]
 pub(crate) fn is_continuing(c: char) -> bool
     ensures { result ≡ is_continuing c }
@@ -64,7 +63,7 @@ pub(crate) fn is_continuing(c: char) -> bool
     c == '\'' || is_xid_continue(c)
 }
 
-/// Whether the two characters open a comment.
+/// Whether two adjacent characters open a comment.
 #[tactic(auto, unfolding(crate::specs::Shape::is_opening))]
 pub(crate) fn is_opening(before: char, c: char) -> bool
     ensures { result ≡ is_opening before c }
@@ -72,7 +71,7 @@ pub(crate) fn is_opening(before: char, c: char) -> bool
     before == '/' && c == '*'
 }
 
-/// Whether the two characters close a comment.
+/// Whether two adjacent characters close a comment.
 #[tactic(auto, unfolding(crate::specs::Shape::is_closing))]
 pub(crate) fn is_closing(before: char, c: char) -> bool
     ensures { result ≡ is_closing before c }
@@ -101,7 +100,7 @@ fn mark_of(c: char) -> Beginning
     }
 }
 
-/// What begins with the character.
+/// What kind of segment may begin with the character.
 #[tactic(auto, unfolding(crate::specs::Shape::beginning_of))]
 pub(crate) fn beginning_of(c: char) -> Beginning
     ensures { result ≡ beginning_of c }

@@ -1,13 +1,13 @@
 //! The kinds of tokens.
 
-/// What a token is.
+/// The kind of a token.
 #[derive(Clone, Copy, Debug, PartialEq, Eq)]
 pub enum Kind {
-    /// An identifier that begins with a letter other than `A` to `Z`, or with `_`.
+    /// An identifier whose first character is `_` or a letter other than `A` to `Z`.
     Name,
-    /// An identifier that begins with `A` to `Z`.
+    /// An identifier whose first character is `A` to `Z`.
     TypeName,
-    /// Decimal digits, any number of them.
+    /// One or more decimal digits.
     Numeral,
     Lambda,
     If,
@@ -22,12 +22,12 @@ pub enum Kind {
     IsZero,
     True,
     False,
-    /// The word `unit`.
+    /// The keyword `unit`.
     UnitTerm,
     As,
     BoolType,
     NatType,
-    /// The word `Unit`.
+    /// The keyword `Unit`.
     UnitType,
     TopType,
     Semicolon,
@@ -43,8 +43,8 @@ pub enum Kind {
     Arrow,
     /// A `_` by itself.
     Underscore,
-    /// A character with which nothing begins.
+    /// A character with which no lexeme begins.
     BadCharacter,
-    /// A comment that is not closed, up to the end of the text.
+    /// An unclosed comment, which extends to the end of the text.
     BadComment,
 }

@@ -1,5 +1,5 @@
-//! What holds of all texts.
-//! Each law is the contract of a function that does nothing.
+//! Properties of the lexer that hold for all texts.
+//! Each is stated as the contract of a function that does nothing.
 ghost use Rattle.std.specs.Prelude.{◌≡◌, ◌↔◌, ℕ, ◌+◌, List, ◌∷◌, ◌++◌, Some, length, map};
 ghost use Rattle.std.specs.Str.{IsUtf8};
 ghost use Rattle.lam_token.specs.declared.kind.Kind.{Kind};
@@ -13,27 +13,26 @@ ghost use Rattle.lam_token.specs.Edits.{edited, retold, IsNewName};
 ghost use Rattle.lam_token.specs.Divided.{SemicolonEndsAt, EndsInSemicolon, IsDividedAfter};
 ghost use Rattle.lam_token.specs.MovedTokens.{moved_by, moved_from};
 
-/// Marks that are read one after another from the left, with a count of the open ones, find what the grammar of
-/// comments says: comments nest.
+/// Comments nest: scanning marks from the left while counting the open ones agrees with the grammar of comments.
 pub fn comments_nest()
     ensures { (text rest : List ℕ) → (rest_of_comment 1 32 text ≡ Some rest) ↔ Inside text rest }
 {}
 
-/// Every list of characters falls into segments. That it does so in one way only is said by `lex`.
+/// Every list of characters can be cut into segments. That the cut is unique is stated by `lex`.
 pub fn some_cut()
     ensures { (text : List ℕ) → (parts : List Part) × IsCut text parts }
 {}
 
-/// A name in the place of names, or a type name in the place of type names, leaves all other tokens of a text as they are,
-/// as much further on, or back, as the text in front of them is longer, or shorter.
+/// Replacing names by a name, or type names by a type name, leaves all other tokens of the text unchanged, except that
+/// their offsets shift by the change in length of the text before them.
 pub fn names_change_alone()
     ensures tokens { (kind : Kind) (text new : List ℕ) (tokens : List Lexeme) (spans : List Span) → IsNewName kind text new tokens spans → AreTokensOf (edited text spans new) (map (retold spans new) tokens) }
     ensures text { (kind : Kind) (text new : List ℕ) (tokens : List Lexeme) (spans : List Span) → IsNewName kind text new tokens spans → IsUtf8 (edited text spans new) }
 {}
 
-/// A semicolon divides a text. If the tokens of a front end in one, at the last byte of the front, then the tokens of the whole
-/// text are those of the front and then those of the rest, and no others; so it is with a part of a text too. And after each
-/// semicolon among its tokens a text falls into such a front and the rest.
+/// A semicolon divides a text. If the last token of a prefix is a semicolon that ends at the last byte of the prefix, the
+/// tokens of the whole text are those of the prefix followed by those of the rest, and no others. Parts of a text can be
+/// joined in this way too, and a text can be divided in this way after each semicolon among its tokens.
 pub fn a_semicolon_divides()
     ensures joined { (front rest : List ℕ) (before behind : List Lexeme) → IsUtf8 front → AreTokensOf front before → EndsInSemicolon front before → AreTokensFrom (length front) rest behind → AreTokensOf (front ++ rest) (before ++ behind) }
     ensures only { (front rest : List ℕ) (before all : List Lexeme) → IsUtf8 front → AreTokensOf front before → EndsInSemicolon front before → AreTokensOf (front ++ rest) all → (behind : List Lexeme) × (all ≡ before ++ behind) × AreTokensFrom (length front) rest behind }
@@ -41,8 +40,8 @@ pub fn a_semicolon_divides()
     ensures after { (text : List ℕ) (before : List Lexeme) (t : Lexeme) (behind : List Lexeme) → IsUtf8 text → AreTokensOf text (before ++ (t ∷ behind)) → kind_of t ≡ Semicolon → IsDividedAfter text before t behind }
 {}
 
-/// The tokens of a text whose first byte has an offset are those of the text by itself, each so many bytes further on. From one
-/// offset of the first byte they can be moved to any other. Moved tokens still end in a semicolon.
+/// The tokens of a text that starts at a byte offset are those of the text alone, moved forward by that offset. They can
+/// be moved from any starting offset to any other. Tokens that end in a semicolon still do when moved.
 pub fn places_move()
     ensures further { (count : ℕ) (text : List ℕ) (tokens : List Lexeme) → AreTokensOf text tokens → AreTokensFrom count text (map (moved_by count) tokens) }
     ensures back { (count : ℕ) (text : List ℕ) (tokens : List Lexeme) → AreTokensFrom count text tokens → (others : List Lexeme) × AreTokensOf text others × (tokens ≡ map (moved_by count) others) }

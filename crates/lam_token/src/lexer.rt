@@ -1,4 +1,4 @@
-//! A text's tokens.
+//! Lexing a text into tokens.
 ghost use Rattle.std.specs.Prelude.{◌≡◌, ◌+◌, ◌-◌, ◌<◌, ◌^◌, List, [], ◌∷◌, length, drop, Some, IfOk, IfSome, IfNone, All, map};
 ghost use Rattle.std.specs.List.{slice_range};
 ghost use Rattle.std.specs.List.Sorted.{IsStrictlyIncreasing};
@@ -10,8 +10,8 @@ use crate::segment::Segment;
 use crate::token::{Token, token_at};
 use std::alloc::{AllocError, Global};
 
-/// The first token of a text, and the text behind it. `start` is the byte offset of `text` in the source. The tokens
-/// of `text` are this one and then those of the text behind it.
+/// Returns the first token of a text and the text after it, or `None` if there is no token. `start` is the byte offset of
+/// `text` in the source. The tokens of `text` are this one followed by those of the returned rest.
 pub fn first_token<'a>(text: &'a str, start: usize) -> Option<(Token<'a>, &'a str)>
     requires { start + length text.now < 2 ^ 64 }
     ensures first { IfSome result (λ found. (others : List Lexeme) → AreTokensFrom (end_of found.0) found.1.now others → AreTokensFrom start text.now (found.0 ∷ others)) }
@@ -33,7 +33,7 @@ pub fn first_token<'a>(text: &'a str, start: usize) -> Option<(Token<'a>, &'a st
     None
 }
 
-/// The tokens of a text, in order. It fails only for want of memory.
+/// Returns the tokens of a text, in order. Fails only if allocation fails.
 pub fn lex<'a>(alloc: Global, text: &'a str) -> Result<Vec<Token<'a>>, AllocError>
     ensures tokens { IfOk result (λ found. AreTokensOf text.now found.items) }
     ensures only { IfOk result (λ found. (others : List Lexeme) → AreTokensOf text.now others → others ≡ found.items) }

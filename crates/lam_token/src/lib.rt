@@ -1,11 +1,10 @@
-//! The tokens of a text of the language: the one cut into longest segments.
+//! The lexer of the language: cuts a text into tokens, always taking the longest match.
 //!
-//! A text is cut from its start, each time behind the longest front that is white space, a closed
-//! comment or a lexeme. Where there is no such front, an open comment takes all that is left, and any
-//! other character stands alone as a fault. White space and closed comments are dropped; what stays
-//! are the tokens, each with its kind and its span in bytes.
+//! Each segment is the longest prefix of the remaining text that is one white-space character, a closed comment or a
+//! lexeme. Without such a prefix it is an error token: an unclosed comment, which takes the rest of the text, or a single
+//! character. White space and closed comments are dropped; each remaining token has its kind and its span in bytes.
 //!
-//! Nothing here knows what tokens make together.
+//! This crate does not parse.
 #![tactic(auto)]
 
 mod characters;

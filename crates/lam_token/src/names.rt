@@ -1,4 +1,4 @@
-//! Whether a text is one name by itself; and a name where none is.
+//! Recognizing names, and a placeholder for a missing name.
 ghost use Rattle.std.specs.Prelude.{◌≡◌, ◌↔◌, ◌+◌, ◌<◌, ◌^◌, codes, Some, IsTrue};
 ghost use Rattle.std.specs.Str.{chars};
 ghost use Rattle.lam_token.specs.Shape.{shape_of};
@@ -10,7 +10,7 @@ use crate::scan::next_segment;
 use crate::segment::Segment;
 use crate::token::{Token, token_at};
 
-/// Whether a whole text is one name: neither a word of the language, nor anything more or less.
+/// Whether the whole text is a single name that is not a keyword.
 pub fn is_name(text: &str) -> bool
     ensures { IsTrue result ↔ (shape_of (chars text.now) ≡ Some (Segment.Token Kind.Name)) }
 {
@@ -20,7 +20,7 @@ pub fn is_name(text: &str) -> bool
     }
 }
 
-/// Whether a whole text is one type name.
+/// Whether the whole text is a single type name that is not a keyword.
 pub fn is_type_name(text: &str) -> bool
     ensures { IsTrue result ↔ (shape_of (chars text.now) ≡ Some (Segment.Token Kind.TypeName)) }
 {
@@ -30,7 +30,7 @@ pub fn is_type_name(text: &str) -> bool
     }
 }
 
-/// The name `a` as a token that begins at this byte: it stands for a name that is still to be written.
+/// Returns the name `a` as a token that begins at byte offset `start`: a placeholder for a name not written yet.
 pub fn placeholder(start: usize) -> Token<'static>
     requires { start + 1 < 2 ^ 64 }
     ensures { result ≡ lexeme_at Kind.Name (codes "a") start }
@@ -38,7 +38,7 @@ pub fn placeholder(start: usize) -> Token<'static>
     token_at(Kind::Name, "a", start)
 }
 
-/// The kind of a text that is one segment, where that is a token.
+/// The token kind of a text that is exactly one segment, or `None` if the text is not one token.
 fn whole_kind(text: &str) -> Option<Kind>
     ensures { IsWholeKind (chars text.now) result }
 {

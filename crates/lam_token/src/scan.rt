@@ -1,4 +1,4 @@
-//! The first segment of a text.
+//! Scanning the first segment of a text.
 ghost use Rattle.std.specs.Prelude.{◌≡◌, [], MatchOption};
 ghost use Rattle.std.specs.Option.{option_copied};
 ghost use Rattle.lam_token.specs.Shape.{is_digit, is_continuing, beginning_of};
@@ -11,7 +11,7 @@ use crate::kind::Kind;
 use crate::segment::{Beginning, Segment};
 use crate::words::word_kind;
 
-/// The text behind the longest run of characters that an identifier may go on with.
+/// The text after the longest run of characters that may continue an identifier.
 fn behind_word(text: &str) -> &str
     ensures { RunIs is_continuing text.now result.now }
 {
@@ -25,7 +25,7 @@ fn behind_word(text: &str) -> &str
     rest
 }
 
-/// The text behind the longest run of digits.
+/// The text after the longest run of digits.
 fn behind_digits(text: &str) -> &str
     ensures { RunIs is_digit text.now result.now }
 {
@@ -39,13 +39,13 @@ fn behind_digits(text: &str) -> &str
     rest
 }
 
-/// The text behind a comment whose first mark stands before this text, if it closes.
+/// The text after a comment whose opening mark precedes `text`, or `None` if the comment is not closed.
 fn behind_comment(text: &str) -> Option<&str>
     ensures { IsBehind 1 32 text.now (option_copied result) }
 {
     let mut rest = text;
     let mut depth: usize = 1;
-    // The character before, or a space where a mark took it.
+    // The previous character, or a space if it was already part of a mark.
     let mut before = ' ';
     while let Some((c, after)) = split_first(rest) {
         rest = after;
@@ -65,7 +65,7 @@ fn behind_comment(text: &str) -> Option<&str>
     None
 }
 
-/// A comment, or a stray slash.
+/// Scans a comment or a stray slash.
 fn slash_segment<'a>(text: &'a str, first: char, rest: &'a str) -> (Segment, &'a str)
     requires first { FirstIs text.now first rest.now }
     requires beginning { beginning_of first ≡ Beginning.Slash }
@@ -83,7 +83,7 @@ fn slash_segment<'a>(text: &'a str, first: char, rest: &'a str) -> (Segment, &'a
     }
 }
 
-/// A numeral.
+/// Scans a numeral.
 fn digit_segment<'a>(text: &'a str, first: char, rest: &'a str) -> (Segment, &'a str)
     requires first { FirstIs text.now first rest.now }
     requires beginning { beginning_of first ≡ Beginning.Digit }
@@ -92,7 +92,7 @@ fn digit_segment<'a>(text: &'a str, first: char, rest: &'a str) -> (Segment, &'a
     (Segment::Token(Kind::Numeral), behind_digits(rest))
 }
 
-/// A word of the language, a name or a type name.
+/// Scans a keyword, a name or a type name.
 fn letter_segment<'a>(text: &'a str, first: char, rest: &'a str) -> (Segment, &'a str)
     requires first { FirstIs text.now first rest.now }
     requires beginning { beginning_of first ≡ Beginning.Letter }
@@ -103,7 +103,7 @@ fn letter_segment<'a>(text: &'a str, first: char, rest: &'a str) -> (Segment, &'
     (Segment::Token(word_kind(first, word)), after)
 }
 
-/// A name, or an underscore by itself.
+/// Scans a name or a lone underscore.
 fn underscore_segment<'a>(text: &'a str, first: char, rest: &'a str) -> (Segment, &'a str)
     requires first { FirstIs text.now first rest.now }
     requires beginning { beginning_of first ≡ Beginning.Underscore }
@@ -117,7 +117,7 @@ fn underscore_segment<'a>(text: &'a str, first: char, rest: &'a str) -> (Segment
     }
 }
 
-/// An arrow, or a stray dash.
+/// Scans an arrow or a stray dash.
 fn dash_segment<'a>(text: &'a str, first: char, rest: &'a str) -> (Segment, &'a str)
     requires first { FirstIs text.now first rest.now }
     requires beginning { beginning_of first ≡ Beginning.Dash }
@@ -132,7 +132,7 @@ fn dash_segment<'a>(text: &'a str, first: char, rest: &'a str) -> (Segment, &'a 
     (Segment::Token(Kind::Arrow), after)
 }
 
-/// The first segment of a text that is not empty, and the text behind it.
+/// Returns the first segment and the text after it, or `None` if the text is empty.
 pub(crate) fn next_segment(text: &str) -> Option<(Segment, &str)>
     ensures { MatchOption result (text.now ≡ []) (λ found. SegmentIs text.now found.0 found.1.now) }
 {

@@ -1,8 +1,8 @@
-//! The kinds of segments, and what a first character tells of them.
+//! The kinds of segments, and what a first character says about them.
 
 use crate::kind::Kind;
 
-/// What a segment of a text is: white space, a closed comment, or a token.
+/// The kind of a segment: one white-space character, a closed comment, or a token.
 #[derive(Clone, Copy)]
 pub enum Segment {
     Blank,
@@ -10,7 +10,7 @@ pub enum Segment {
     Token(Kind),
 }
 
-/// What a segment is, so far as its first character tells.
+/// What the first character of a segment says about the kind of the segment.
 #[derive(Clone, Copy)]
 pub(crate) enum Beginning {
     Blank,

@@ -1,7 +1,6 @@
-//! Spans of a text.
+//! Byte ranges in a text.
 
-/// A range of a text, in bytes of its UTF-8: from its first byte to the one behind its last. Ranges are ordered by
-/// their starts, and those with one start by their ends.
+/// A byte range in a UTF-8 text, from its first byte to the one after its last. Ordered by start, then by end.
 #[derive(Clone, Copy, Debug, PartialEq, Eq, PartialOrd, Ord)]
 pub struct Span {
     pub start: usize,

@@ -1,4 +1,4 @@
-//! A token of a text, which borrows the text.
+//! A token, which borrows its text.
 ghost use Rattle.std.specs.Prelude.{◌≡◌, ◌+◌, ◌^◌, ◌<◌, length, Some};
 ghost use Rattle.std.specs.Str.{chars};
 ghost use Rattle.lam_token.specs.Lexeme.{kind_of, text_of, span_of, start_of, end_of, lexeme_at};
@@ -8,7 +8,7 @@ use crate::kind::Kind;
 use crate::span::Span;
 use std::marker::Model;
 
-/// A lexeme of a text, or what stands where none begins. A clause sees it as a `Lexeme`.
+/// A lexeme of a text, or an error token where no lexeme begins. Contracts see it as a `Lexeme`.
 #[derive(Drop, Debug)]
 pub struct Token<'a> {
     kind: Kind,
@@ -28,14 +28,14 @@ impl<'a> Model for Token<'a> {
 }
 
 impl<'a> Token<'a> {
-    /// What it is.
+    /// Returns the kind of the token.
     pub fn kind(&self) -> Kind
         ensures { result ≡ kind_of self.now }
     {
         self.kind
     }
 
-    /// The slice of the source that it is.
+    /// Returns the slice of the source that the token covers.
     pub fn text(&self) -> &'a str
         ensures text { result.now ≡ text_of self.now }
         ensures whole { end_of self.now ≡ start_of self.now + length result.now }
@@ -44,14 +44,14 @@ impl<'a> Token<'a> {
         self.text
     }
 
-    /// Where its first byte is, in bytes from the start of the source.
+    /// Returns the byte offset in the source at which the token begins.
     pub fn start(&self) -> usize
         ensures { result ≡ start_of self.now }
     {
         self.span().start
     }
 
-    /// Where the byte behind its last one is, in bytes from the start of the source.
+    /// Returns the byte offset in the source just after the token.
     pub fn end(&self) -> usize
         ensures { result ≡ end_of self.now }
     {
@@ -66,7 +66,7 @@ impl<'a> Token<'a> {
     }
 }
 
-/// The token with this text that begins at this byte.
+/// The token of this kind and text that begins at byte offset `start`.
 pub(crate) fn token_at<'a>(kind: Kind, text: &'a str, start: usize) -> Token<'a>
     requires place { start + length text.now < 2 ^ 64 }
     requires kind { IsWholeKind (chars text.now) (Some kind) }

@@ -1,10 +1,10 @@
-//! The words of the language.
+//! The keywords of the language.
 ghost use Rattle.std.specs.Prelude.{◌≡◌};
 ghost use Rattle.lam_token.specs.Words.{words, kind_among, is_capital, kind_of_name, word_kind};
 
 use crate::kind::Kind;
 
-/// The kind of a word that begins with this character.
+/// The kind of a word whose first character is `first`: a keyword, or else a name or type name.
 #[tactic(auto, unfolding(crate::specs::Words::word_kind))]
 pub(crate) fn word_kind(first: char, word: &str) -> Kind
     ensures { result ≡ word_kind first word.now }
@@ -32,8 +32,7 @@ fn is_capital(c: char) -> bool
     c >= 'A' && c <= 'Z'
 }
 
-/// The kind of a word of the language. Its bytes are looked at one by one, where a `str` would be compared with each
-/// word in turn.
+/// The kind of a keyword. Matching on bytes avoids comparing the whole `str` with each keyword in turn.
 #[tactic(auto, unfolding(crate::specs::Words::words))]
 fn language_word(word: &str) -> Option<Kind>
     ensures { result ≡ kind_among words word.now }

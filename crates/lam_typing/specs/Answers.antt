@@ -1,4 +1,4 @@
--- Numbers of a table that answer for places and binders: each stands for a type, or there is none.
+-- Optional type ids found for subterms and binders.
 use Rattle.std.specs.Prelude.{List, [], ◌∷◌, map, Option}
 use Rattle.std.specs.Option.{option_map}
 use Rattle.lam_rules.specs.Types.{Typ}
@@ -7,28 +7,28 @@ use Rattle.lam_rules.specs.Numbers.{type_of}
 use Rattle.lam_rules.specs.declared.numbers.TyNo.{TyNo}
 use Rattle.lam_scope.specs.Numbered.{StandsIfAny}
 
--- the type that a number stands for, if there is one
+-- the type with this id, if there is one
 abbrev pub answer : List Typ → Option TyNo → Option Typ
 answer ts o = option_map (type_of ts) o
 
--- the types that numbers stand for, or none, one by one
+-- the types with these ids, or none, one by one
 abbrev pub answers : List Typ → List (Option TyNo) → List (Option Typ)
 answers ts os = map (answer ts) os
 
--- the number, if there is one, is one of the table
+-- the type id, if there is one, is in the table
 abbrev pub StandsWhereFound : List Typ → Option TyNo → Type 0
 StandsWhereFound = StandsIfAny
 
--- each number among them is one of the table
+-- each type id among them is in the table
 abbrev pub AllStandIn : List Typ → List (Option TyNo) → Type 0
 AllStandIn ts [] = Unit {0}
 AllStandIn ts (o ∷ os) = StandsWhereFound ts o × AllStandIn ts os
 
--- a context with entries put onto it one by one, so that the last of them is the innermost
+-- a context with entries pushed onto it one by one, so that the last of them is the innermost
 abbrev pub under_entries : List Typ → Context → List (Option TyNo) → Context
 under_entries ts g [] = g
 under_entries ts g (o ∷ os) = under_entries ts (answer ts o ∷ g) os
 
--- the context of these entries alone, which begin with the outermost
+-- the context of just these entries, given outermost first
 abbrev pub context_under : List Typ → List (Option TyNo) → Context
 context_under ts os = under_entries ts [] os

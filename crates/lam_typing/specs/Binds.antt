@@ -1,4 +1,4 @@
--- What a statement binds for the statements after it, and what these see of it.
+-- What a statement binds for the statements after it, and the scope that they have.
 use Rattle.std.specs.Prelude.{◌≡◌, ◌∷◌, Option, None}
 use Rattle.lam_rules.specs.Types.{Typ}
 use Rattle.lam_rules.specs.Typing.{Context}
@@ -6,7 +6,7 @@ use Rattle.lam_rules.specs.declared.rules.Dialect.{Dialect}
 use Rattle.lam_scope.specs.Places.{written, of_term, Scope, Statement, defines, declares, abbreviates, states}
 use Rattle.lam_typing.specs.LeastTypes.{IsLeastAt}
 
--- the entry of the binder that a statement makes in this scope: the least type of a definition's term, or what is declared; none where it makes no binder
+-- the context entry of the binder that a statement makes in this scope: the least type of a definition's term, or what is declared; none if it makes no binder
 abbrev pub BindsEntry : Scope → Statement → Option Typ → Dialect → Type 0
 BindsEntry s (defines e) entry d = IsLeastAt s e entry d
 BindsEntry s (declares w) entry d = entry ≡ w
@@ -19,7 +19,7 @@ scope_with s (defines e) = of_term e ∷ s
 scope_with s (declares w) = written w ∷ s
 scope_with s a = s
 
--- a context of it, where the statement's binder, if it makes one, has this entry
+-- a context of that scope, where the statement's binder, if it makes one, has this entry
 abbrev pub context_with : Context → Statement → Option Typ → Context
 context_with g (defines e) entry = entry ∷ g
 context_with g (declares w) entry = entry ∷ g

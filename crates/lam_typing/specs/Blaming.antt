@@ -1,4 +1,4 @@
--- Where a document is to blame for a term without a type, and for what.
+-- Which subterms are at fault for having no type, and for what.
 use Rattle.std.specs.Prelude.{◌≡◌, ◌≢◌, ◌⊎◌, ℕ, zero, suc, ◌+◌, List, [], ◌∷◌, Some, None, codes}
 use Rattle.lam_rules.specs.Types.{Label, Typ, arrow}
 use Rattle.lam_rules.specs.Terms.{Term, if_then_else, succ, pred, is_zero, variable, free, lambda, apply, ascribe, let_in, record_term, project, fix, TermFields, no_terms, term_field}
@@ -9,7 +9,7 @@ use Rattle.lam_scope.specs.Places.{written, of_term, Scope, Place}
 use Rattle.lam_typing.specs.Contexts.{IsContext}
 use Rattle.lam_typing.specs.LeastTypes.{IsTyped, IsLeastAt}
 
--- each immediate term has a type
+-- each immediate subterm has a type
 abbrev mutual
   pub ArePartsTyped : Scope → Term → Dialect → Type 0
   ArePartsTyped s (if_then_else c a b) d = IsTyped s c d × IsTyped s a d × IsTyped s b d
@@ -30,32 +30,32 @@ abbrev mutual
   AreFieldsTyped s no_terms d = Unit {0}
   AreFieldsTyped s (term_field l e es) d = IsTyped s e d × AreFieldsTyped s es d
 
--- the entry of the binder that a variable counts to is none
+-- the context entry at this de Bruijn index is none
 abbrev pub HasNoType : ℕ → Context → Type 0
 HasNoType n [] = ⊥
 HasNoType zero (entry ∷ g) = entry ≡ None
 HasNoType (suc n) (entry ∷ g) = HasNoType n g
 
--- the fault lies elsewhere: the use of a binder without a type, and a lambda or an ascription whose type has no expansion
+-- a term is excused: the use of a binder without a type, and a lambda or an ascription whose written type is faulty
 abbrev pub IsExcused : Scope → Term → Dialect → Type 0
 IsExcused s (variable n) d = (g : Context) × IsContext s g d × HasNoType n g
 IsExcused s (lambda None e) d = Unit {0}
 IsExcused s (ascribe e None) d = Unit {0}
 IsExcused s _ d = ⊥
 
--- a term to blame has no type, each of its immediate terms has one, and the fault does not lie elsewhere
+-- a term is at fault: it has no type, each of its immediate subterms has one, and it is not excused
 pub record IsBlamed (s : Scope) (e : Term) (d : Dialect) : Type 0 where
   pub untyped : IsTyped s e d → ⊥
   pub parts : ArePartsTyped s e d
   pub unexcused : IsExcused s e d → ⊥
 
--- what an application is blamed for, from the least type of its first term
+-- the code for an application at fault, by the least type of its first term
 abbrev pub application_code : Typ → Text
 application_code (arrow p r) = codes "E3"
 application_code _ = codes "E2"
 
--- What a term is blamed for: an unbound name (or a count past all binders), a first term that is no function or an argument that does not fit, a field that
--- is not there, a condition, an operand of arithmetic, an ascription, a fix, a label that is repeated.
+-- The code for a term at fault: an unbound name (or an index past all binders), a first term that is no function or an argument that does not fit, a missing field, a
+-- condition, an operand of arithmetic, an ascription, a fix, a repeated label.
 abbrev pub IsBlamedFor : Scope → Term → Text → Dialect → Type 0
 IsBlamedFor s (free x) code d = code ≡ codes "E1"
 IsBlamedFor s (variable n) code d = code ≡ codes "E1"
@@ -70,12 +70,12 @@ IsBlamedFor s (fix e) code d = code ≡ codes "E8"
 IsBlamedFor s (record_term es) code d = code ≡ codes "E9"
 IsBlamedFor s _ code d = ⊥
 
--- a place by its number, and what it is blamed for
+-- a subterm at fault, by its index, and its code
 pub record Blamed : Type 0 where
   pub number : ℕ
   pub code : Text
 
--- the blamed among these places and no others, in their order, where the first has this number
+-- exactly the subterms at fault among these, in order, where the first has this index
 abbrev pub AreBlamed : ℕ → List Place → List Blamed → Dialect → Type 0
 AreBlamed n [] blames d = blames ≡ []
 AreBlamed n (p ∷ ps) blames d =
@@ -83,17 +83,17 @@ AreBlamed n (p ∷ ps) blames d =
     ⊎ ((code : Text) × (rest : List Blamed) × (blames ≡ record { number = n; code = code } ∷ rest)
     × IsBlamed p.scope p.here d × IsBlamedFor p.scope p.here code d × AreBlamed (n + 1) ps rest d)
 
--- the same blames, where the places have numbers that are so many more
+-- the same faults, with indices shifted by this much
 abbrev pub renumbered : ℕ → List Blamed → List Blamed
 renumbered k [] = []
 renumbered k (b ∷ bs) = record { number = b.number + k; code = b.code } ∷ renumbered k bs
 
--- the label is none of these terms'
+-- no term has this label
 abbrev pub IsNoLabelOf : Label → TermFields → Type 0
 IsNoLabelOf l no_terms = Unit {0}
 IsNoLabelOf l (term_field k e es) = (l ≢ k) × IsNoLabelOf l es
 
--- no label stands twice
+-- no label is repeated
 abbrev pub DifferInLabels : TermFields → Type 0
 DifferInLabels no_terms = Unit {0}
 DifferInLabels (term_field l e es) = IsNoLabelOf l es × DifferInLabels es

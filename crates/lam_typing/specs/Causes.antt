@@ -5,7 +5,7 @@ use Rattle.lam_scope.specs.Places.{Place}
 use Rattle.lam_typing.specs.LeastTypes.{IsTyped}
 use Rattle.lam_typing.specs.Blaming.{IsBlamed, IsExcused}
 
--- among these places is one without a type that is to blame, or whose fault lies elsewhere
+-- among these subterms is one without a type that is at fault or excused
 pub record HasCause (ps : List Place) (d : Dialect) : Type 0 where
   pub place : Place
   pub among : Contains ps place

@@ -16,15 +16,15 @@ use Rattle.lam_typing.specs.declared.checker.TypeChecker.{TypeChecker}
 use Rattle.lam_typing.specs.declared.checker.Checked.{Checked}
 use Rattle.lam_typing.specs.contracts.checker.TypeChecker as checkers
 
--- the types of its table, by number
+-- the types of its table, by type id
 abbrev pub types_in : TypeChecker → List Typ
 types_in c = c.table
 
--- the dialect that it checks by
+-- the dialect that it uses
 abbrev pub dialect_in : TypeChecker → Dialect
 dialect_in c = c.verdicts.dialect
 
--- what it knows of its types is right
+-- its memo of subtyping and its type ids of constants are right
 pub record IsSoundChecker (c : TypeChecker) : Type 0 where
   pub verdicts : AreRight c.table c.verdicts
   pub boolean : IsNumberOf c.table c.leaves.boolean bool
@@ -35,12 +35,12 @@ pub record IsSoundChecker (c : TypeChecker) : Type 0 where
 abbrev pub with_types : TypeChecker → List Typ → TypeChecker
 with_types c ts = record c { table = ts }
 
--- it ends over the types that are last behind the other reference
+-- when the loan of the table ends, the checker has the types that are then in it
 abbrev pub LendsTypes : MutBor TypeChecker → MutBor (List Typ) → Fml
 LendsTypes c t = Lends checkers.the_row tables.the_row c t (with_types c.now)
 
--- what is told of a command whose binders outside have these entries: the types of all its places and the entry of what it binds,
--- or those of the places before the first that is too large
+-- the result for a command in this context of outer binders: the types of all its subterms and the entry of what it binds, or the types of those before the first over
+-- the size limit
 pub record IsChecked (ts : List Typ) (g : Context) (statement : Statement) (c : Checked) (d : Dialect) : Type 0 where
   pub stand : AllStandIn ts c.types.items
   pub entry_stands : StandsWhereFound ts c.entry

@@ -1,12 +1,12 @@
--- The contexts that a place may have: each binder's entry is chosen by itself.
+-- The contexts that a scope may have: the entry of each binder is chosen independently.
 use Rattle.std.specs.Prelude.{◌≡◌, [], ◌∷◌, Option, Some, None}
 use Rattle.lam_rules.specs.Types.{Typ}
 use Rattle.lam_rules.specs.Typing.{Context, HasType}
 use Rattle.lam_rules.specs.declared.rules.Dialect.{Dialect}
 use Rattle.lam_scope.specs.Places.{Binding, written, of_term, Scope}
 
--- An entry fits a binder: that of a written type is the type that this stands for, or none. That of a term is any type that
--- the rules derive for the term in some context of the scope outside the binder, or none where they derive no type in any.
+-- An entry fits a binder. That of a written type is the type that it stands for, or none. That of a term is any type that the rules derive for it in some context of the
+-- scope outside the binder, or none if there is no such type.
 abbrev pub Fits : Binding → (Context → Type 0) → Option Typ → Dialect → Type 0
 Fits (written w) IsOutside entry d = entry ≡ w
 Fits (of_term e) IsOutside (Some t) d = (g : Context) × IsOutside g × HasType g e t d

@@ -1,4 +1,4 @@
--- The types of a place, over all its contexts, and the least of them.
+-- The types of a subterm over all its contexts, and the least of them.
 use Rattle.std.specs.Prelude.{◌≡◌, Option, Some, None, [], ◌∷◌}
 use Rattle.lam_rules.specs.Types.{Typ}
 use Rattle.lam_rules.specs.Terms.{Term}
@@ -16,12 +16,12 @@ IsTypeAt s e t d = (g : Context) × IsContext s g d × HasType g e t d
 abbrev pub IsTyped : Scope → Term → Dialect → Type 0
 IsTyped s e d = (t : Typ) × IsTypeAt s e t d
 
--- a type among them with each of them above it, or none where there is none
+-- a type among them that is below each of them, or none if there is none
 abbrev pub IsLeastAt : Scope → Term → Option Typ → Dialect → Type 0
 IsLeastAt s e (Some t) d = IsTypeAt s e t d × ((u : Typ) → IsTypeAt s e u d → IsBelow t u d)
 IsLeastAt s e None d = (u : Typ) → IsTypeAt s e u d → ⊥
 
--- the least entry of a binder, that stands just inside of this scope: what is written, or the least type of its term
+-- the least entry of a binder in this outer scope: its written type, or the least type of its term
 abbrev pub IsLeastEntry : Scope → Binding → Option Typ → Dialect → Type 0
 IsLeastEntry outside (written w) entry d = entry ≡ w
 IsLeastEntry outside (of_term e) entry d = IsLeastAt outside e entry d

@@ -1,4 +1,4 @@
--- The law of narrowing, on the rules alone.
+-- The law of narrowing, stated on the rules alone.
 use Rattle.std.specs.Prelude.{[], ◌∷◌, Option, Some, None}
 use Rattle.lam_rules.specs.Types.{Typ}
 use Rattle.lam_rules.specs.Terms.{Term}

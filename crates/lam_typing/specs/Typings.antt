@@ -15,19 +15,19 @@ use Rattle.lam_typing.specs.declared.fault.TypingFault.{TypingFault}
 use Rattle.lam_typing.specs.declared.typing.Typing.{Typing}
 use Rattle.lam_typing.specs.LeastTypes.{AreLeastEntries}
 
--- the types of its table, by number
+-- the types of its table, by type id
 abbrev pub types_of : Typing → List Typ
 types_of t = t.table
 
--- the type of each place that was analysed, in the order of places
+-- the type of each subterm that was analysed, in order
 abbrev pub found_of : Typing → List (Option Typ)
 found_of t = answers t.table t.found.items
 
--- the entry of each binder, by its number
+-- the context entry of each binder, by binder index
 abbrev pub entries_in : Typing → List (Option Typ)
 entries_in t = answers t.table t.entries.items
 
--- the places that are to blame, each with its code
+-- the subterms at fault, each with its code
 abbrev pub blamed_in : Typing → List Blamed
 blamed_in t = blames_of t.blames.items
 
@@ -35,32 +35,31 @@ blamed_in t = blames_of t.blames.items
 abbrev pub dialect_of : Typing → Dialect
 dialect_of t = t.dialect
 
--- these places and no others were analysed: each has its least type or none, of no more nodes than a place may show, and
--- those to blame are told in their order
+-- exactly these subterms were analysed: each has its least type or none, within the size limit, and those at fault are listed in order
 pub record IsAnalysis (ps : List Place) (t : Typing) (d : Dialect) : Type 0 where
   pub least : AreLeast ps (found_of t) d
   pub small : AreSmall (found_of t)
   pub blames : AreBlamed 0 ps (blamed_in t) d
 
--- a fault other than want of memory is the first place that is too large
+-- an error other than a failed allocation names the first subterm over the size limit
 abbrev pub IsFaultOf : TypingFault → List Place → Dialect → Type 0
 IsFaultOf (TypingFault.TooLarge place) ps d = IsFirstTooLarge ps place.0 d
 IsFaultOf TypingFault.Memory ps d = Unit {0}
 
--- A typing is one of this document: what was found are the least types of its first places, or none where a place has none.
+-- A typing is one of this document: it has the least types of its first subterms, or none where a subterm has none.
 pub record IsTypingOf (ss : List Statement) (t : Typing) : Type 0 where
   pub least : AreLeast (take (length (found_of t)) (places_of [] ss)) (found_of t) (dialect_of t)
 
--- the entry of each binder is told by its origin, and is the least one, where the term that it may come from was analysed
+-- the entry of each binder is given by its origin, and is the least one, provided that the term that it may come from was analysed
 pub record AreEntries (ss : List Statement) (origins : List Origin) (t : Typing) : Type 0 where
   pub each : entries_in t ≡ map (entry_from ss (found_of t)) origins
   pub least : (o : Origin) → HasTermAmong o (length (found_of t)) → IsLeastFrom ss o (entry_from ss (found_of t) o) (dialect_of t)
 
--- the entries of the binders that a place sees, the innermost first
+-- the entries of the binders in scope at a subterm, innermost first
 abbrev pub context_at : List Statement → Typing → ℕ → Context
 context_at ss t n = map (entry_from ss (found_of t)) (sight_numbered ss n)
 
--- a proof, in the context of least entries, of the type that was found of a place
+-- a proof, in the context of least entries, of the type found for a subterm
 pub record IsProofAt (ss : List Statement) (t : Typing) (n : ℕ) (p : TypingTree) : Type 0 where
   pub least : AreLeastEntries (place_numbered ss n).scope (context_at ss t n) (dialect_of t)
   pub proof : IsTyping (context_at ss t n) (place_numbered ss n).here p (dialect_of t)

@@ -1,4 +1,4 @@
--- What a `Walk` holds, and what the contracts of its steps say of it.
+-- What a `Walk` holds, and what the contracts of its steps say.
 use Rattle.std.specs.Prelude.{◌≡◌, ◌<◌, ◌≤◌, ℕ, ◌+◌, List, [], ◌∷◌, ◌++◌, length, Bool, Option, Some, None, Result, Ok, Err, String}
 use Rattle.std.specs.declared.alloc.Global.{Global}
 use denote.Ref.{Bor}
@@ -25,35 +25,35 @@ use Rattle.lam_typing.specs.declared.walking.Stop.{Stop}
 abbrev pub blamed_of : Blame → Blamed
 blamed_of b = record { number = b.place.0; code = b.code.now }
 
--- what several stand for, in their order
+-- what several stand for, in order
 abbrev pub blames_of : List Blame → List Blamed
 blames_of [] = []
 blames_of (b ∷ bs) = blamed_of b ∷ blames_of bs
 
--- the types that a walk has found so far, and the places that it blames
+-- the types that a walk has found so far, and the subterms at fault
 abbrev pub progress_of : Walk → Progress
 progress_of w = record { found = answers w.table w.found.items; blames = blames_of w.blames.items }
 
--- the entries of the binders that it is under, the innermost first
+-- the context entries of the binders in scope, innermost first
 abbrev pub entries_of : Walk → Context
 entries_of w = context_under w.table w.entries.items
 
--- a place of this number lies behind the last one that is asked for
+-- a subterm with this index comes after the last one requested
 abbrev pub IsBehind : Option PlaceNumber → ℕ → Type 0
 IsBehind None n = ⊥
 IsBehind (Some last) n = last.0 < n
 
--- a place of this number is the last one that is asked for, or before it
+-- a subterm with this index is the last one requested, or before it
 abbrev pub IsUpTo : Option PlaceNumber → ℕ → Type 0
 IsUpTo None n = Unit {0}
 IsUpTo (Some last) n = n ≤ last.0
 
--- so many places may have been found
+-- this many subterms may have been found
 abbrev pub IsWithin : Option PlaceNumber → ℕ → Type 0
 IsWithin None n = Unit {0}
 IsWithin (Some last) n = n ≤ last.0 + 1
 
--- its numbers are of its table, what is known of them is right, and no more was found than was asked for
+-- its type ids are in its table, its memo and constants are right, and no more was found than requested
 pub record IsSoundWalk (w : Walk) : Type 0 where
   pub entries : AllStandIn w.table w.entries.items
   pub found : AllStandIn w.table w.found.items
@@ -70,32 +70,32 @@ pub record Grows (old now : Walk) : Type 0 where
   pub dialect : now.verdicts.dialect ≡ old.verdicts.dialect
   pub last : now.last ≡ old.last
 
--- it went over a term of this type, and is under the same binders as before
+-- it visited a term of this type, and has the same binders in scope as before
 pub record WalkedOver (old now : Walk) (e : Term) (found : Option TyNo) : Type 0 where
   pub entries : now.entries.items ≡ old.entries.items
   pub stands : StandsWhereFound now.table found
   pub over : WentOver (entries_of old) e (progress_of old) (progress_of now) (answer now.table found) old.verdicts.dialect
 
--- it stopped among these places: before one that is too large, or that lies behind the last one asked for, or wherever memory was wanting
+-- it stopped among these subterms: before one that is over the size limit or comes after the last one requested, or because allocation failed
 abbrev pub HasStoppedAmong : Stop → Context → (Scope → List Place) → Walk → Walk → Dialect → Type 0
 HasStoppedAmong Stop.TooLarge g ps old now d = StoppedIn g ps (progress_of old) (progress_of now) next_is_too_large d × IsUpTo now.last (length now.found.items)
 HasStoppedAmong Stop.Enough g ps old now d = StoppedIn g ps (progress_of old) (progress_of now) enough d × IsBehind now.last (length now.found.items)
 HasStoppedAmong Stop.Memory g ps old now d = Unit {0}
 
--- it stopped among the places of a term
+-- it stopped among the subterms of a term
 abbrev pub HasStopped : Stop → Walk → Walk → Term → Type 0
 HasStopped stop old now e = HasStoppedAmong stop (entries_of old) (λ s. places s e) old now old.verdicts.dialect
 
--- it stopped among the places of a record's terms
+-- it stopped among the subterms of a record's terms
 abbrev pub HasStoppedInFields : Stop → Walk → Walk → TermFields → Type 0
 HasStoppedInFields stop old now es = HasStoppedAmong stop (entries_of old) (λ s. field_places s es) old now old.verdicts.dialect
 
--- it went over a term, or stopped among its places
+-- it visited a term, or stopped among its subterms
 abbrev pub HasWalked : Result (Option TyNo) Stop → Walk → Walk → Term → Type 0
 HasWalked (Ok found) old now e = WalkedOver old now e found
 HasWalked (Err stop) old now e = HasStopped stop old now e
 
--- it went over the terms of a record, and put what has a type behind the parts that were there
+-- it visited the terms of a record, and appended those that have a type to the parts
 pub record FieldsWalked (old now : Walk) (es : TermFields) (before after : List (String Global × TyNo)) (all : Bool) : Type 0 where
   pub entries : now.entries.items ≡ old.entries.items
   pub parts : List (String Global × TyNo)
@@ -104,17 +104,17 @@ pub record FieldsWalked (old now : Walk) (es : TermFields) (before after : List 
   pub went : Went (entries_of old) (λ s. field_places s es) (progress_of old) (progress_of now) old.verdicts.dialect
   pub fields : (s : Scope) → IsLowest s (entries_of old) old.verdicts.dialect → AreFieldsAt s es (if_all all (fields_over now.table parts)) old.verdicts.dialect
 
--- it went over the terms of a record, or stopped among their places
+-- it visited the terms of a record, or stopped among their subterms
 abbrev pub HasWalkedFields : Result Bool Stop → Walk → Walk → TermFields → List (String Global × TyNo) → List (String Global × TyNo) → Type 0
 HasWalkedFields (Ok all) old now es before after = FieldsWalked old now es before after all
 HasWalkedFields (Err stop) old now es before after = HasStoppedInFields stop old now es
 
--- the blame of the place of a number, if there is a code
+-- the fault of the subterm with this index, if there is a code
 abbrev pub blame_at : ℕ → Option (Bor Text) → List Blamed
 blame_at n None = []
 blame_at n (Some code) = record { number = n; code = code.now } ∷ []
 
--- it took down the next place, with what it is blamed for
+-- it recorded the next subterm, with its fault if any
 pub record Settles (old now : Walk) (found : Option TyNo) (blame : Option (Bor Text)) : Type 0 where
   pub table : now.table ≡ old.table
   pub entries : now.entries.items ≡ old.entries.items
@@ -122,18 +122,18 @@ pub record Settles (old now : Walk) (found : Option TyNo) (blame : Option (Bor T
   pub blames_are : blames_of now.blames.items ≡ blames_of old.blames.items ++ blame_at (length old.found.items) blame
   pub small : IsSmallType (answer old.table found)
 
--- it stopped at the next place
+-- it stopped at the next subterm
 abbrev pub StopsAt : Stop → Walk → Walk → Option TyNo → Option (Bor Text) → Type 0
 StopsAt Stop.TooLarge old now found blame = (now ≡ old) × IsLarge (answer old.table found) × IsUpTo old.last (length old.found.items)
 StopsAt Stop.Enough old now found blame = (now ≡ old) × IsBehind old.last (length old.found.items)
 StopsAt Stop.Memory old now found blame = Unit {0}
 
--- it took down the next place, or stopped at it
+-- it recorded the next subterm, or stopped at it
 abbrev pub HasSettled : Result (Option TyNo) Stop → Walk → Walk → Option TyNo → Option (Bor Text) → Type 0
 HasSettled (Ok number) old now found blame = (number ≡ found) × Settles old now found blame
 HasSettled (Err stop) old now found blame = StopsAt stop old now found blame
 
--- a statement is done: what is found of those that follow, or where the walk stops among them, is so of all
+-- a statement is done: what is found for the statements after it, or where the walk stops among them, extends to all
 pub record GoesOn (old now : Walk) (statement : Statement) : Type 0 where
   pub went : (rest : List Statement) (end : Walk)
       → Went (entries_of now) (λ s. places_of s rest) (progress_of now) (progress_of end) now.verdicts.dialect
@@ -142,7 +142,7 @@ pub record GoesOn (old now : Walk) (statement : Statement) : Type 0 where
       → HasStoppedAmong stop (entries_of now) (λ s. places_of s rest) now end now.verdicts.dialect
       → HasStoppedAmong stop (entries_of old) (λ s. places_of s (statement ∷ rest)) old end old.verdicts.dialect
 
--- the entry of what a statement binds, in each scope of which these are the entries
+-- the entry of what a statement binds, in each scope with this lowest context
 abbrev pub Binds : Context → Statement → Option Typ → Dialect → Type 0
 Binds g statement entry d = (s : Scope) → IsLowest s g d → BindsEntry s statement entry d
 

@@ -1,4 +1,4 @@
--- Documents in which nothing is at fault.
+-- Documents without faults.
 use Rattle.std.specs.Prelude.{◌↔◌, List, [], ◌∷◌}
 use Rattle.lam_rules.specs.declared.rules.Dialect.{Dialect}
 use Rattle.lam_scope.specs.Places.{written, of_term, Scope, Place, Statement, defines, declares, abbreviates, states, places_of}
@@ -14,11 +14,11 @@ AreTyped s (declares w ∷ rest) d = AreTyped (written w ∷ s) rest d
 AreTyped s (abbreviates w ∷ rest) d = AreTyped s rest d
 AreTyped s (states e ∷ rest) d = IsTyped s e d × AreTyped s rest d
 
--- no place is to blame
+-- no subterm is at fault
 abbrev pub AreUnblamed : List Place → Dialect → Type 0
 AreUnblamed [] d = Unit {0}
 AreUnblamed (p ∷ ps) d = (IsBlamed p.scope p.here d → ⊥) × AreUnblamed ps d
 
--- where each written type stands for a type, no blame and a type for each command are the same
+-- if each written type stands for a type, no subterm is at fault if and only if each definition and each evaluation has a type
 abbrev pub IsTypedWhereUnblamed : List Statement → Dialect → Type 0
 IsTypedWhereUnblamed statements d = IsExpanded statements → (AreUnblamed (places_of [] statements) d ↔ AreTyped [] statements d)

@@ -1,4 +1,4 @@
--- A scope for a context: each of its binders has the entry written.
+-- The scope made of a context: each binder's written type is its entry.
 use Rattle.std.specs.Prelude.{[], ◌∷◌}
 use Rattle.lam_rules.specs.Typing.{Context}
 use Rattle.lam_scope.specs.Places.{written, Scope}

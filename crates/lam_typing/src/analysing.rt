@@ -1,5 +1,5 @@
-//! The analysis of a document: a walk over its places finds their types, and these, with what is written, give the
-//! entries of its binders.
+//! The analysis of a document: a walk over its subterms finds their types, which with the written types give the context entries
+//! of its binders.
 
 ghost use Rattle.std.specs.Prelude.{◌≡◌, ◌+◌, List, [], take, IfOk, IfErr};
 ghost use Rattle.lam_scope.specs.Places.{Statement, places_of};
@@ -20,7 +20,7 @@ use lam_scope::{Place, Resolved};
 use lam_sub::Verdicts;
 use std::alloc::{AllocError, Global};
 
-/// Analyses all places of a document.
+/// Analyses all subterms of a document.
 pub fn analyse(alloc: Global, resolved: &Resolved, dialect: Dialect) -> Result<Typing, TypingFault>
     ensures analysis { IfOk result (λ typing. IsAnalysis (places_of [] (statements_of resolved.now)) typing dialect) }
     ensures of { IfOk result (λ typing. IsTypingOf (statements_of resolved.now) typing) }
@@ -31,7 +31,7 @@ pub fn analyse(alloc: Global, resolved: &Resolved, dialect: Dialect) -> Result<T
     analyse_up_to(alloc, resolved, None, dialect)
 }
 
-/// Analyses the places up to a given one.
+/// Analyses the subterms up to and including a given one.
 pub fn analyse_to(
     alloc: Global,
     resolved: &Resolved,
@@ -59,7 +59,7 @@ fn analyse_up_to(
     ensures dialect { IfOk result (λ typing. dialect_of typing ≡ dialect) }
     ensures fault { IfErr result (λ fault. IsFaultOf fault (up_to last (places_of [] (statements_of resolved.now))) dialect) }
 {
-    // Before the walk, so that the notes that this takes are given back before memory is at its peak.
+    // Before the walk, so that the notes that this needs are freed before memory use peaks.
     let Ok(sources) = sources_of(alloc, resolved) else {
         return Err(TypingFault::Memory);
     };
@@ -72,7 +72,7 @@ fn analyse_up_to(
     }
 }
 
-/// What is known where a walk ended early: all that was asked for, or why not.
+/// Returns the result of a walk that ended early: the typing if all that was requested is found, or else the error.
 fn end(
     alloc: Global,
     walk: Walk,
@@ -90,8 +90,8 @@ fn end(
     }
 }
 
-/// What a walk found, with the entries of the document's binders, which these sources tell. What the walk held beside
-/// that is given back.
+/// Returns what a walk found, with the context entries of the document's binders, taken from `sources`. Frees the rest of the
+/// walk.
 fn complete(
     alloc: Global,
     walk: Walk,
@@ -112,7 +112,7 @@ fn complete(
         last: _last,
     } = walk;
     let dialect = verdicts.dialect;
-    // What was known of pairs of types is of no use any more, and up to half of a list that grew is spare.
+    // The memo of subtyping is of no more use, and up to half of a vector that grew is spare.
     drop(verdicts);
     drop(entries);
     found.shrink_to_fit();

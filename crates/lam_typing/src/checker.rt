@@ -1,5 +1,5 @@
-//! The types of commands, one command at a time: each under the entries of its own free names, in one table of types
-//! that stays and grows from command to command.
+//! Types of commands, one command at a time: each under the context entries of its own free names, in one type table that
+//! persists and grows from command to command.
 
 ghost use Rattle.std.specs.Prelude.{◌≡◌, List, IfOk};
 ghost use Rattle.std.specs.Borrow.{sem};
@@ -19,30 +19,30 @@ use lam_sub::Verdicts;
 use std::alloc::{AllocError, Global};
 use std::mem;
 
-/// Finds the types of commands, one command at a time, in one table of types.
+/// Finds the types of commands, one command at a time, in one type table.
 #[derive(Drop)]
 pub struct TypeChecker {
     table: TyTable,
-    /// What was found of two types of the table, in the checker's dialect.
+    /// The memo of subtyping for the types of the table, in the checker's dialect.
     verdicts: Verdicts,
     leaves: Leaves,
 }
 
-/// What was found of one command.
+/// The result of checking one command.
 #[derive(Drop)]
 pub struct Checked {
-    /// The types of its places, in their order: of all, or of those before the first that is too large.
+    /// The types of its subterms, in order: of all, or of those before the first that is over the size limit.
     pub types: Vec<Option<TyNo>>,
-    /// Those to blame among these places, which are counted from 0.
+    /// The subterms at fault among these, with indices from 0.
     pub blames: Vec<Blame>,
-    /// The least entry of the name that it binds, if it binds one that has an entry.
+    /// The least context entry of the name that the command binds, if it binds one that has an entry.
     pub entry: Option<TyNo>,
-    /// Whether no place is too large, so that all have been found.
+    /// Whether no subterm is over the size limit, so that all types were found.
     pub complete: bool,
 }
 
 impl TypeChecker {
-    /// A checker that knows the types of constants alone. It keeps the allocator for what it finds.
+    /// A checker that knows only the types of constants. Keeps the allocator for later use.
     pub fn new(alloc: Global, dialect: Dialect) -> Result<TypeChecker, AllocError>
         ensures sound { IfOk result (λ checker. IsSoundChecker checker) }
         ensures dialect { IfOk result (λ checker. dialect_in checker ≡ dialect) }
@@ -63,15 +63,15 @@ impl TypeChecker {
         })
     }
 
-    /// The table that the numbers of types are of.
+    /// Returns the table that type ids refer to.
     pub fn table(&self) -> &TyTable
         ensures { result.now ≡ types_in self.now }
     {
         &self.table
     }
 
-    /// The table, for types that are written in the next command. The checker stays sound where the numbers that it had
-    /// keep their types.
+    /// Returns the table for adding the written types of the next command. The checker stays sound if existing ids keep their
+    /// types.
     pub fn table_mut(&mut self) -> &mut TyTable
         ensures* lends { sem 𝓛 (LendsTypes self.entry result) }
         ensures table { result.now ≡ types_in self.old }
@@ -80,14 +80,14 @@ impl TypeChecker {
         &mut self.table
     }
 
-    /// The table, without what was known of its types.
+    /// Returns the table, dropping the memo of subtyping.
     pub fn into_table(self) -> TyTable
         ensures { result ≡ types_in self }
     {
         self.table
     }
 
-    /// The types of the places of a command, whose binders outside have these entries, the outermost first.
+    /// Returns the types of a command's subterms. `entries` are those of the binders in scope for it, outermost first.
     pub fn check(
         &mut self,
         entries: Vec<Option<TyNo>>,
@@ -128,7 +128,7 @@ impl TypeChecker {
     }
 }
 
-/// What is answered at the end of a walk over one command, which asked for all its places.
+/// The result of a walk over one command of which all subterms were requested.
 fn end_check(
     outcome: Result<Option<TyNo>, Stop>,
     types: Vec<Option<TyNo>>,

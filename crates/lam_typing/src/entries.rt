@@ -1,4 +1,4 @@
-//! The entries of binders.
+//! The context entries of binders.
 
 ghost use Rattle.std.specs.Prelude.{◌≡◌, List, Option, [], map, IfOk};
 ghost use Rattle.lam_rules.specs.Types.{Typ};
@@ -17,7 +17,7 @@ use lam_rules::{TyNo, TyTable};
 use lam_scope::{Origin, Resolved, Statement};
 use std::alloc::{AllocError, Global};
 
-/// Where the entry of each binder is from, by the number of the binder.
+/// Returns where the context entry of each binder is from, by binder index.
 pub(crate) fn sources_of(
     alloc: Global,
     resolved: &Resolved,
@@ -34,7 +34,7 @@ pub(crate) fn sources_of(
     Ok(sources)
 }
 
-/// The entries that these sources tell, where these types were found of the places.
+/// Returns the context entries that these sources give, using the types found for the subterms.
 pub(crate) fn number_entries(
     alloc: Global,
     table: &mut TyTable,
@@ -55,7 +55,7 @@ pub(crate) fn number_entries(
     Ok(entries)
 }
 
-/// Where the entry of a binder with this origin is from.
+/// Returns where the context entry of a binder with this origin is from.
 fn source_of<'t>(
     noted: &[Note<'t>],
     statements: &'t [Statement],
@@ -72,7 +72,7 @@ fn source_of<'t>(
     }
 }
 
-/// The number of the entry that a source tells.
+/// Returns the type id of the entry that a source gives.
 fn number_of(
     table: &mut TyTable,
     found: &[Option<TyNo>],

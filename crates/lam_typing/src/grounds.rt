@@ -1,4 +1,4 @@
-//! What derivations are made from.
+//! The data that derivations are made from.
 
 use crate::noting::{Note, Source, note_statements};
 use crate::proving::prove_term;
@@ -8,12 +8,12 @@ use lam_rules::{Ty, TypeProof};
 use lam_scope::{Place, Resolved};
 use std::alloc::{AllocError, Global};
 
-/// A typing, the document that it is of, and the entries that the document's places speak of.
+/// A typing, its document, and the context entries that the document's subterms refer to.
 #[derive(Drop)]
 pub(crate) struct Grounds<'t> {
     pub(crate) typing: &'t Typing,
     pub(crate) resolved: &'t Resolved,
-    /// The note of each place, in the order of places.
+    /// The note of each subterm, in order.
     pub(crate) noted: Vec<Note<'t>>,
 }
 
@@ -27,7 +27,7 @@ impl<'t> Grounds<'t> {
     ghost use Rattle.lam_typing.specs.Typings.{IsTypingOf, IsProofAt};
     ghost use Rattle.lam_typing.specs.inner.Grounds.{found_in, noted_in, AreGrounds, AreGroundsOf};
 
-    /// It goes once over the document, which has to be the one that was analysed.
+    /// Walks the document once; it must be the one that was analysed.
     pub(crate) fn new(
         alloc: Global,
         typing: &'t Typing,
@@ -44,7 +44,7 @@ impl<'t> Grounds<'t> {
         })
     }
 
-    /// A proof of the least type of a place; none, where no type was found of it.
+    /// Returns a proof of the least type of a subterm, or `None` if no type was found for it.
     pub(crate) fn prove_at(
         &self,
         alloc: Global,
@@ -64,7 +64,7 @@ impl<'t> Grounds<'t> {
         Ok(Some(made.proof))
     }
 
-    /// The entry of the binder that the variable at a place counts to.
+    /// Returns the context entry of the binder of the variable at a subterm index.
     pub(crate) fn entry_counted(
         &self,
         alloc: Global,
@@ -76,7 +76,7 @@ impl<'t> Grounds<'t> {
         self.tree_of(alloc, source)
     }
 
-    /// The entry that a source tells, with nothing shared.
+    /// Returns the context entry that a source gives, as a tree of its own.
     fn tree_of(&self, alloc: Global, source: Option<Source<'t>>) -> Result<Option<Ty>, AllocError>
         ensures { IfOk result (λ tree. written_of tree ≡ entry_told (found_in self.now) source.entry) }
     {

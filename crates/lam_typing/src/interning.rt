@@ -1,4 +1,4 @@
-//! Commands over the numbers of a table: each type that is written in a command gets its number.
+//! Commands over the ids of a type table: each written type is replaced by its id.
 
 ghost use Rattle.std.specs.Prelude.{◌≡◌, IfOk, OnOk};
 ghost use Rattle.lam_rules.specs.TermViews.{term_of, terms_of, written_of};
@@ -14,7 +14,7 @@ use lam_rules::{Core, Ty, TyTable};
 use lam_scope::{InternedField, InternedStatement, InternedTerm, Statement};
 use std::alloc::{AllocError, Global};
 
-/// The form of a command over the numbers of a table, to which its written types are added.
+/// Returns the form of a command over the ids of a table, to which its written types are added.
 pub(crate) fn intern_statement<'t>(
     alloc: Global,
     table: &mut TyTable,
@@ -44,7 +44,7 @@ pub(crate) fn intern_statement<'t>(
     }
 }
 
-/// The form of a term.
+/// Returns the form of a term.
 #[cycle(intern_term)]
 fn intern_term<'t>(
     alloc: Global,
@@ -76,7 +76,7 @@ fn intern_term<'t>(
     }
 }
 
-/// The form of a part of a term, in its box.
+/// Returns the form of a part of a term, boxed.
 #[cycle(intern_term)]
 fn intern_part<'t>(
     alloc: Global,
@@ -209,7 +209,7 @@ fn intern_project<'t>(
     Ok(InternedTerm::Proj(form, label))
 }
 
-/// The forms of a record's terms, from the first to the last, are put behind those that are there.
+/// Appends the forms of a record's terms, from first to last.
 #[cycle(intern_term)]
 fn intern_fields<'t>(
     alloc: Global,

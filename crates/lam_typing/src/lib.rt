@@ -1,12 +1,11 @@
-//! The least type of each place of a document, over all contexts that the place may have, and which
-//! places are to blame for having none.
+//! Finds the least type of each subterm of a document over all contexts that it may have, and the subterms at fault where there
+//! is none.
 //!
-//! What is promised stands in `specs/Contexts.antt`, `LeastTypes.antt`, `Entries.antt`, `Blaming.antt`
-//! and `Analysis.antt`, over the declarative rules alone, of a `Typing` in `Typings.antt`, and of a
-//! `TypeChecker` in `Checking.antt`. The walk
-//! behind it has no rule of subsumption (TAPL chapter 16): a place and a binder have one type each.
+//! What is promised is stated over the declarative rules alone, in `specs/Contexts.antt`, `LeastTypes.antt`, `Entries.antt`,
+//! `Blaming.antt` and `Analysis.antt`, of a `Typing` in `Typings.antt`, and of a `TypeChecker` in `Checking.antt`. The walk that
+//! implements it has no rule of subsumption (TAPL chapter 16): a subterm and a binder have one type each.
 //!
-//! Nothing here knows names, spans, texts of a document, how subtyping is decided or a join is built.
+//! Nothing here knows names, spans, the text of a document, or how subtyping is decided and joins are computed.
 #![tactic(auto)]
 
 mod analysing;

@@ -1,5 +1,5 @@
-//! A pass over the places of a document: which entries of binders they speak of, told by where these are from. An
-//! analysis takes from it what is written at lambdas, a derivation which entry each variable counts to.
+//! A pass over the subterms of a document that notes which binders' context entries they refer to, and where these entries are
+//! from. An analysis uses the entries written at lambdas, a derivation the entry of each variable.
 
 ghost use Rattle.std.specs.Prelude.{map, IfOk, OnOk};
 ghost use Rattle.lam_rules.specs.Terms.{Term, if_then_else, variable, lambda, apply, let_in, record_term};
@@ -11,36 +11,36 @@ use lam_rules::{Core, Ty};
 use lam_scope::{Place, Statement};
 use std::alloc::{AllocError, Global};
 
-/// Where the entry of a binder is from.
+/// Where the context entry of a binder is from.
 #[derive(Clone, Copy)]
 pub(crate) enum Source<'t> {
-    /// It is what is written of the binder.
+    /// The written type of the binder.
     Written(&'t Option<Ty>),
-    /// It is the type of the term of this place.
+    /// The type of this subterm.
     Term(Place),
 }
 
-/// The entry that a place speaks of.
+/// The context entry that a subterm refers to.
 #[derive(Clone, Copy)]
 pub(crate) enum Note<'t> {
-    /// A lambda speaks of that of its own binder, which is what is written there.
+    /// A lambda: its own binder's, which is the written type.
     Lambda(&'t Option<Ty>),
-    /// A variable speaks of that of the binder that it counts to.
+    /// A variable: that of its binder.
     Variable(Source<'t>),
-    /// The other places speak of none, and so does a variable that counts past all binders.
+    /// Any other subterm, and a variable with a de Bruijn index past all binders.
     Nothing,
 }
 
 /// What was noted so far.
 #[derive(Drop)]
 pub(crate) struct Notes<'t> {
-    /// Where the entries of the binders are from that the next place is under, the outermost first.
+    /// Where the entries of the binders in scope for the next subterm are from, outermost first.
     pub sources: Vec<Source<'t>>,
-    /// The note of each place, in the order of places.
+    /// The note of each subterm, in order.
     pub noted: Vec<Note<'t>>,
 }
 
-/// The notes of a document's places, of which there are so many.
+/// Returns the notes of a document's subterms. `places` is the number of them.
 pub(crate) fn note_statements<'t>(
     alloc: Global,
     places: usize,
@@ -79,7 +79,7 @@ fn note_statement<'t>(notes: &mut Notes<'t>, statement: &'t Statement) -> Result
     }
 }
 
-/// The notes of a term, whose places all come behind those that were noted; its own place.
+/// Adds the notes of a term, whose subterms all come after those noted so far. Returns the term's own index.
 #[cycle(note_term)]
 fn note_term<'t>(notes: &mut Notes<'t>, term: &'t Core) -> Result<Place, AllocError>
     ensures { IfOk result (λ place. NotesTerm notes.old notes.new (term_of term.now) place.0) }
@@ -105,14 +105,14 @@ fn note_term<'t>(notes: &mut Notes<'t>, term: &'t Core) -> Result<Place, AllocEr
     }
 }
 
-/// A term without parts that is no variable.
+/// Notes a term without parts that is not a variable.
 fn note_leaf<'t>(notes: &mut Notes<'t>) -> Result<Place, AllocError>
     ensures { (e : Term) → IsLeaf e → IfOk result (λ place. NotesTerm notes.old notes.new e place.0) }
 {
     note_here(notes, Note::Nothing)
 }
 
-/// A term of one part that binds nothing.
+/// Notes a term with one part that binds nothing.
 #[cycle(note_term)]
 fn note_over<'t>(notes: &mut Notes<'t>, operand: &'t Core) -> Result<Place, AllocError>
     ensures { (e : Term) → IsOver e (term_of operand.now) → IfOk result (λ place. NotesTerm notes.old notes.new e place.0) }
@@ -136,7 +136,7 @@ fn note_if<'t>(
     note_here(notes, Note::Nothing)
 }
 
-/// A variable has the entry of the binder that it counts to.
+/// Notes a variable, which has the entry of its binder.
 fn note_variable<'t>(notes: &mut Notes<'t>, count: usize) -> Result<Place, AllocError>
     ensures { IfOk result (λ place. NotesTerm notes.old notes.new (variable count) place.0) }
 {
@@ -171,7 +171,7 @@ fn note_apply<'t>(
     note_here(notes, Note::Nothing)
 }
 
-/// A let: the binder's entry is the type of the term that is bound.
+/// Notes a let. The entry of its binder is the type of the bound term.
 #[cycle(note_term)]
 fn note_let<'t>(notes: &mut Notes<'t>, bound: &'t Core, body: &'t Core) -> Result<Place, AllocError>
     ensures { IfOk result (λ place. NotesTerm notes.old notes.new (let_in (term_of bound.now) (term_of body.now)) place.0) }
@@ -191,7 +191,7 @@ fn note_record<'t>(notes: &mut Notes<'t>, fields: &'t [(String, Core)]) -> Resul
     note_here(notes, Note::Nothing)
 }
 
-/// The terms of a record, from the first to the last.
+/// Notes the terms of a record, from first to last.
 #[cycle(note_term)]
 fn note_fields<'t>(notes: &mut Notes<'t>, fields: &'t [(String, Core)]) -> Result<(), AllocError>
     ensures { OnOk result (NotesFields notes.old notes.new (terms_of fields.now)) }
@@ -203,7 +203,7 @@ fn note_fields<'t>(notes: &mut Notes<'t>, fields: &'t [(String, Core)]) -> Resul
     note_fields(notes, others)
 }
 
-/// Takes down the note of the next place, which is answered.
+/// Appends the note of the next subterm and returns its index.
 fn note_here<'t>(notes: &mut Notes<'t>, note: Note<'t>) -> Result<Place, AllocError>
     ensures { IfOk result (λ place. NotesOne notes.old notes.new note.entry place.0) }
 {
@@ -212,7 +212,7 @@ fn note_here<'t>(notes: &mut Notes<'t>, note: Note<'t>) -> Result<Place, AllocEr
     Ok(place)
 }
 
-/// The note of a variable: the entry of the binder that its count finds, if it does not count past all of them.
+/// Returns the note of a variable with this de Bruijn index.
 fn note_of_count<'t>(sources: &[Source<'t>], count: usize) -> Note<'t>
     ensures { IsEntryCounted result count sources.now }
 {

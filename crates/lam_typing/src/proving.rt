@@ -1,10 +1,10 @@
-//! Proofs by the declarative rules that places have the types found of them.
+//! Proofs by the declarative rules that subterms have the types found for them.
 //!
-//! What is known of a type that was found is that it is least, and two least types may differ in the order of fields.
-//! So each step is followed by one of subsumption where it does not conclude in the very type that was found.
+//! A type that was found is known to be least, and two least types may differ in the order of fields. So a step is followed by
+//! one of subsumption unless it concludes in exactly the type that was found.
 //!
-//! Each rule is kept out of line, and so is what is done behind the recursion, so that each level of a term takes the
-//! frame of the match and of one rule.
+//! Each rule is kept out of line, and so is the work after the recursion, so that each level of a term takes the stack frames of
+//! the match and of one rule only.
 
 ghost use Rattle.std.specs.Prelude.{◌≡◌, ◌<◌, ◌≤◌, ℕ, IfOk, OnOk, Some, None};
 ghost use Rattle.std.specs.Option.{option_map};
@@ -29,14 +29,14 @@ use lam_scope::Place;
 use lam_sub::{field_type, prove_sub};
 use std::alloc::{AllocError, Global};
 
-/// A proof of the type that was found of a term, and the number of the term's first place.
+/// A proof of the type found for a term, and the index of the term's first subterm.
 #[derive(Drop)]
 pub(crate) struct Proven {
     pub proof: TypeProof,
     pub first: usize,
 }
 
-/// The proofs and the types of the terms of a record, from the last to the first, and the number of the first place.
+/// The proofs and types of the terms of a record, from last to first, and the index of the first subterm.
 #[derive(Drop)]
 struct ProvenFields {
     proofs: Vec<TypeProof>,
@@ -44,7 +44,7 @@ struct ProvenFields {
     first: usize,
 }
 
-/// A proof of the type that was found of a term, whose places end before this number; none, where none was found.
+/// Returns a proof of the type found for a term, or `None` if none was found. `behind` is the index after the term's own.
 #[cycle(prove_term)]
 pub(crate) fn prove_term(
     alloc: Global,
@@ -62,7 +62,7 @@ pub(crate) fn prove_term(
     prove_form(alloc, grounds, term, place, &ty)
 }
 
-/// A proof of the type that was found of the term of a place, by the rule of its form.
+/// Returns a proof of `ty`, the type found for the term at this index, by the rule of its form.
 #[cycle(prove_term)]
 fn prove_form(
     alloc: Global,
@@ -163,7 +163,7 @@ fn prove_number(
     finish_over(alloc, grounds, rule, conclusion, made, ty)
 }
 
-/// T-If: both branches are made as wide as the whole.
+/// T-If: both branches are widened to the type of the whole term.
 #[inline(never)]
 #[cycle(prove_term)]
 fn prove_if(
@@ -248,7 +248,7 @@ fn prove_apply(
     finish_apply(alloc, grounds, made, second, ty)
 }
 
-/// The step of T-App from a function and its argument, which is made as wide as the parameter.
+/// The step of T-App from a function and its argument, which is widened to the parameter type.
 #[inline(never)]
 fn finish_apply(
     alloc: Global,
@@ -277,7 +277,7 @@ fn finish_apply(
     )
 }
 
-/// T-Ascribe: the term is made as wide as what is written.
+/// T-Ascribe: the term is widened to the ascribed type.
 #[inline(never)]
 #[cycle(prove_term)]
 fn prove_ascribe(
@@ -367,7 +367,7 @@ fn prove_record(
     )
 }
 
-/// The terms of a record, from the last to the first.
+/// Proves the terms of a record, from last to first.
 #[cycle(prove_term)]
 fn prove_fields(
     alloc: Global,
@@ -395,7 +395,7 @@ fn prove_fields(
     Ok(Some(made))
 }
 
-/// Puts the term of a field before those that stand, which are kept from the last to the first.
+/// Prepends the proof of a field's term to those so far, which are stored from last to first.
 #[inline(never)]
 fn put_field(
     alloc: Global,
@@ -441,7 +441,7 @@ fn prove_project(
     finish_over(alloc, grounds, TypeRule::Proj, conclusion, made, ty)
 }
 
-/// T-Fix: the function is made one from its outcome to its outcome.
+/// T-Fix: the function is widened to one from its outcome to its outcome.
 #[inline(never)]
 #[cycle(prove_term)]
 fn prove_fix(
@@ -462,7 +462,7 @@ fn prove_fix(
     finish_over(alloc, grounds, TypeRule::Fix, conclusion, made, ty)
 }
 
-/// A proof that a term has this type, which may be wider than the one that was found; none, where it has not.
+/// Returns a proof that a term has this type, which may be wider than the one found, or `None` if it doesn't.
 #[cycle(prove_term)]
 fn prove_as(
     alloc: Global,
@@ -484,7 +484,7 @@ fn prove_as(
     Ok(Some(Proven { proof, first }))
 }
 
-/// The arrow from a type to another, in memory of its own.
+/// Returns the arrow between copies of two types.
 #[inline(never)]
 fn arrow_between(alloc: Global, parameter: &Ty, outcome: &Ty) -> Result<Ty, AllocError>
     ensures { IfOk result (λ made. typ_of made ≡ arrow (typ_of parameter.now) (typ_of outcome.now)) }
@@ -494,7 +494,7 @@ fn arrow_between(alloc: Global, parameter: &Ty, outcome: &Ty) -> Result<Ty, Allo
     make_arrow(alloc, parameter, outcome)
 }
 
-/// The step of a rule of one premise, which begins at the same place.
+/// The step of a rule with one premise, which begins at the same subterm.
 #[inline(never)]
 fn finish_over(
     alloc: Global,
@@ -511,7 +511,7 @@ fn finish_over(
     finish(alloc, grounds, rule, conclusion, premises, ty, first)
 }
 
-/// The step of a rule of two premises, of which the first begins at the same place.
+/// The step of a rule with two premises, of which the first begins at the same subterm.
 #[inline(never)]
 fn finish_over_two(
     alloc: Global,
@@ -529,7 +529,7 @@ fn finish_over_two(
     finish(alloc, grounds, rule, conclusion, premises, ty, first)
 }
 
-/// The step of a rule, and one to the type that was found where it concludes in another.
+/// The step of a rule, followed by one of subsumption unless its conclusion is `ty` already.
 #[inline(never)]
 fn finish(
     alloc: Global,
@@ -554,8 +554,8 @@ fn finish(
     Ok(Some(Proven { proof, first }))
 }
 
-/// A proof with one step of subsumption more, where its type is not this one already; none, where it is not below this
-/// one. Types in which a label is repeated have no proofs.
+/// Adds a step of subsumption to a proof, unless its type is `upper` already. `None` if its type is not below `upper`; types with
+/// a repeated label have no proofs.
 #[inline(never)]
 #[tactic(auto, using(lam_rules::proofs::TypingShapes::typing_shapes))]
 fn widened(
@@ -582,7 +582,7 @@ fn widened(
     Ok(Some(step))
 }
 
-/// The step of subsumption from a proof, by a proof that its type is below this one.
+/// The step of subsumption from a proof, given a proof that its type is below `upper`.
 #[inline(never)]
 fn subsumed(
     alloc: Global,

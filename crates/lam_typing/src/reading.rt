@@ -1,4 +1,4 @@
-//! What is read by number: a type that was found, and where the entry is from that a note or a declaration tells.
+//! Look-ups by index: of types found, and of where the context entry that a note or a declaration gives is from.
 
 ghost use Rattle.std.specs.Prelude.{◌≡◌, List, Option, get_or, map, None, IfOk};
 ghost use Rattle.lam_rules.specs.Types.{Typ};
@@ -14,7 +14,7 @@ use lam_rules::{Ty, TyNo, copy_of};
 use lam_scope::Statement;
 use std::alloc::{AllocError, Global};
 
-/// The answer of that number, if there are so many and it is one.
+/// Returns the type id at an index, or `None` if it has none or is past the end.
 pub(crate) fn found_at(found: &[Option<TyNo>], number: usize) -> Option<TyNo>
     ensures { result ≡ get_or found.now number None }
 {
@@ -24,7 +24,7 @@ pub(crate) fn found_at(found: &[Option<TyNo>], number: usize) -> Option<TyNo>
     found[number]
 }
 
-/// Where the entry of the lambda's binder is from, at the place of that number.
+/// Returns where the entry of the binder of the lambda at that index is from.
 pub(crate) fn written_at<'t>(notes: &[Note<'t>], number: usize) -> Option<Source<'t>>
     ensures { (found : List (Option Typ)) → entry_told found result ≡ (note_among (noted_by found notes.now) number).written }
 {
@@ -38,7 +38,7 @@ pub(crate) fn written_at<'t>(notes: &[Note<'t>], number: usize) -> Option<Source
     }
 }
 
-/// Where the entry of the binder is from that the variable at the place of that number counts to.
+/// Returns where the entry of the binder of the variable at that index is from.
 pub(crate) fn bound_at<'t>(notes: &[Note<'t>], number: usize) -> Option<Source<'t>>
     ensures { (found : List (Option Typ)) → entry_told found result ≡ (note_among (noted_by found notes.now) number).bound }
 {
@@ -52,7 +52,7 @@ pub(crate) fn bound_at<'t>(notes: &[Note<'t>], number: usize) -> Option<Source<'
     }
 }
 
-/// Where the entry of the binder is from that the statement of that number declares.
+/// Returns where the entry of the binder declared by the statement at that index is from.
 pub(crate) fn declared_at<'t>(statements: &'t [Statement], number: usize) -> Option<Source<'t>>
     ensures { (found : List (Option Typ)) → entry_told found result ≡ declared_type (statement_numbered (map statement_of statements.now) number) }
 {
@@ -67,7 +67,7 @@ pub(crate) fn declared_at<'t>(statements: &'t [Statement], number: usize) -> Opt
     }
 }
 
-/// What is written, with nothing shared.
+/// Returns a deep copy of a written type.
 pub(crate) fn copy_of_written(alloc: Global, written: &Option<Ty>) -> Result<Option<Ty>, AllocError>
     ensures { IfOk result (λ copy. written_of copy ≡ written_of written.now) }
 {

@@ -1,5 +1,5 @@
-//! What each rule of typing makes of the types of a term's parts, by the numbers of a table (TAPL chapter 16: no rule
-//! of subsumption, a join at `if`). A part without a type has no number, and no more has a term whose rule fails.
+//! Applies each typing rule to the types of a term's parts, as type ids (TAPL chapter 16: no rule of subsumption, a join at
+//! `if`). A part without a type has no id, and neither has a term whose rule fails.
 
 ghost use Rattle.std.specs.Prelude.{◌≡◌, IfOk, IfSome, IfNone, List, length};
 ghost use Rattle.lam_rules.specs.Types.{Typ, arrow, bool, nat};
@@ -16,7 +16,7 @@ use lam_rules::{Shape, Ty, TyNo, TyTable, labels_differ};
 use lam_sub::{Verdicts, is_sub_no};
 use std::alloc::AllocError;
 
-/// The two sides of an arrow.
+/// Returns the two sides of an arrow.
 fn sides(table: &TyTable, number: TyNo) -> Option<(TyNo, TyNo)>
     requires { Stands table.now number }
     ensures stand { IfSome result (λ found. Stands table.now found.0 × Stands table.now found.1) }
@@ -29,7 +29,7 @@ fn sides(table: &TyTable, number: TyNo) -> Option<(TyNo, TyNo)>
     }
 }
 
-/// What is written, if it stands for a type.
+/// Returns the type id of a written type, if it stands for a type.
 pub(crate) fn number_of_written(
     table: &mut TyTable,
     written: &Option<Ty>,
@@ -128,7 +128,7 @@ pub(crate) fn type_of_apply(
     }
 }
 
-/// T-Ascribe: a term below the type that is written.
+/// T-Ascribe: a term below the ascribed type.
 pub(crate) fn type_of_ascribe(
     table: &TyTable,
     verdicts: &mut Verdicts,
@@ -243,7 +243,7 @@ pub(crate) fn type_of_project(table: &TyTable, operand: Option<TyNo>, label: &st
     Some(found)
 }
 
-/// T-Rcd: all the terms have types, and no label is there twice.
+/// T-Rcd: every term has a type, and no label is repeated.
 pub(crate) fn type_of_record(
     table: &mut TyTable,
     all: bool,

@@ -1,4 +1,4 @@
-//! The types of a document's places and the entries of its binders.
+//! The types of a document's subterms and the context entries of its binders.
 
 ghost use Rattle.std.specs.Prelude.{◌≡◌, ◌<◌, ℕ, get_or, length, Some, None, IfOk, IfSome, IfNone};
 ghost use Rattle.lam_rules.specs.declared.numbers.TyNo.{TyNo as Number};
@@ -10,14 +10,14 @@ use lam_rules::{Dialect, Ty, TyNo, TyTable, TypeProof};
 use lam_scope::{Binder, Place, Resolved};
 use std::alloc::{AllocError, Global};
 
-/// The least types of a document's places and the least entries of its binders, in one table, and which places are to
-/// blame for having no type.
+/// The least types of a document's subterms and the least context entries of its binders, in one type table, and the subterms at
+/// fault for having no type.
 #[derive(Drop)]
 pub struct Typing {
     pub(crate) table: TyTable,
-    /// The type of each place that was analysed, in the order of places.
+    /// The type of each subterm that was analysed, in order.
     pub(crate) found: Vec<Option<TyNo>>,
-    /// The entry of each binder, by its number.
+    /// The context entry of each binder, by binder index.
     pub(crate) entries: Vec<Option<TyNo>>,
     pub(crate) blames: Vec<Blame>,
     pub(crate) dialect: Dialect,
@@ -33,7 +33,7 @@ impl Typing {
     ghost use Rattle.lam_typing.specs.Walk.{blames_of};
     ghost use Rattle.lam_typing.specs.Typings.{types_of, found_of, entries_in, blamed_in, IsTypingOf, IsProofAt};
 
-    /// The least type of a place, if it has one and was analysed.
+    /// Returns the least type of a subterm, if it has one and was analysed.
     pub fn type_at(&self, place: Place) -> Option<TyNo>
         ensures found { answer (types_of self.now) result ≡ get_or (found_of self.now) place.0 None }
         ensures stands { StandsWhereFound (types_of self.now) result }
@@ -41,8 +41,8 @@ impl Typing {
         found_at(&self.found, place.0)
     }
 
-    /// The least entry of a binder: what is written of it, or the least type of its term, if that was analysed. The
-    /// binder of a type name has none.
+    /// Returns the least context entry of a binder: its written type, or the least type of its term if that was analysed. `None`
+    /// for the binder of a type name.
     pub fn type_of_binder(&self, binder: Binder) -> Option<TyNo>
         ensures entry { answer (types_of self.now) result ≡ get_or (entries_in self.now) binder.0 None }
         ensures stands { StandsWhereFound (types_of self.now) result }
@@ -50,9 +50,9 @@ impl Typing {
         found_at(&self.entries, binder.0)
     }
 
-    /// A proof by the declarative rules of the least type of a place, in the context of the least entries of the binders
-    /// that it sees; none, where no type was found of it. `resolved` has to be the document that was analysed; it is
-    /// gone over once for what its places speak of, and once more up to the place.
+    /// Returns a proof by the declarative rules of the least type of a subterm, in the context of the least entries of the
+    /// binders in scope, or `None` if no type was found for it. `resolved` must be the document that was analysed; it is walked
+    /// once for the notes of its subterms, and once more up to this one.
     pub fn prove_at(
         &self,
         alloc: Global,
@@ -66,21 +66,21 @@ impl Typing {
         Grounds::new(alloc, self, resolved)?.prove_at(alloc, place)
     }
 
-    /// The places to blame, in their order.
+    /// Returns the subterms at fault, in order.
     pub fn blamed(&self) -> &[Blame]
         ensures { blames_of result.now ≡ blamed_in self.now }
     {
         &self.blames
     }
 
-    /// The table that the numbers of types are of.
+    /// Returns the table that type ids refer to.
     pub fn table(&self) -> &TyTable
         ensures { result.now ≡ types_of self.now }
     {
         &self.table
     }
 
-    /// The least type of a place with nothing shared, if it has one and was analysed.
+    /// Returns the least type of a subterm as a tree of its own, if it has one and was analysed.
     pub(crate) fn tree_at(&self, place: Place) -> Result<Option<Ty>, AllocError>
         ensures { IfOk result (λ tree. written_of tree ≡ get_or (found_of self.now) place.0 None) }
     {

@@ -1,4 +1,4 @@
-//! The walk over the places of a term, each after its immediate terms: one type for each, found from those of its parts.
+//! The walk over the subterms of a term, each after its own: it finds one type for each from those of its parts.
 
 ghost use Rattle.std.specs.Prelude.{◌≡◌, ◌&&◌, ◌++◌, ◌<◌, length, map, IfOk, IfErr, OnOk, IsTrue, IsFalse, ℕ, List, is_some};
 ghost use Rattle.lam_rules.specs.Types.{Typ};
@@ -27,11 +27,11 @@ use lam_scope::{InternedField, InternedStatement, InternedTerm, NODE_LIMIT, Plac
 use lam_sub::Verdicts;
 use std::alloc::{AllocError, AllocFailed};
 
-/// Why a walk ends before its last place.
+/// Why a walk ends before the last subterm.
 pub(crate) enum Stop {
-    /// The next place has a type of more nodes than may be.
+    /// The next subterm has a type over the size limit.
     TooLarge,
-    /// The next place lies behind the last one that was asked for.
+    /// The next subterm comes after the last one requested.
     Enough,
     Memory,
 }
@@ -52,7 +52,7 @@ impl<T: Drop> From<AllocFailed<T>> for Stop {
     }
 }
 
-/// The numbers of Bool, Nat and Unit, the types of constants and numerals.
+/// The type ids of Bool, Nat and Unit, the types of constants and numerals.
 #[derive(Clone, Copy)]
 pub(crate) struct Leaves {
     pub boolean: TyNo,
@@ -64,19 +64,19 @@ pub(crate) struct Leaves {
 #[derive(Drop)]
 pub(crate) struct Walk {
     pub table: TyTable,
-    /// What was found of two types of the table, in the walk's dialect: asked again of other terms it costs a look-up.
+    /// The memo of subtyping for the types of the table, in the walk's dialect: a repeated query costs a look-up.
     pub verdicts: Verdicts,
     pub leaves: Leaves,
-    /// The entries of the binders that it is under, the outermost first.
+    /// The context entries of the binders in scope, outermost first.
     pub entries: Vec<Option<TyNo>>,
-    /// The type of each place, in the order of places.
+    /// The type of each subterm, in order.
     pub found: Vec<Option<TyNo>>,
     pub blames: Vec<Blame>,
-    /// The last place that is asked for, if not all are.
+    /// The last subterm requested, or `None` if all are.
     pub last: Option<Place>,
 }
 
-/// All that a document states, from the first statement to the last.
+/// Walks the statements of a document, from first to last.
 pub(crate) fn walk_statements(walk: &mut Walk, statements: &[Statement]) -> Result<(), Stop>
     requires sound { IsSoundWalk walk.old }
     requires wf { AreWellFormedStatements (map statement_of statements.now) }
@@ -90,7 +90,7 @@ pub(crate) fn walk_statements(walk: &mut Walk, statements: &[Statement]) -> Resu
     Ok(())
 }
 
-/// What a command states whose written types are trees: they get numbers first.
+/// Walks a statement whose written types are trees, which are first interned.
 fn walk_owned_statement(walk: &mut Walk, statement: &Statement) -> Result<(), Stop>
     requires sound { IsSoundWalk walk.old }
     requires wf { IsWellFormedStatement (statement_of statement.now) }
@@ -104,7 +104,7 @@ fn walk_owned_statement(walk: &mut Walk, statement: &Statement) -> Result<(), St
     Ok(())
 }
 
-/// What a command states, and the entry that it puts onto the others; that entry, if it puts one.
+/// Walks a statement and pushes the context entry of the binder that it makes, if any. Returns that entry.
 pub(crate) fn walk_statement(
     walk: &mut Walk,
     statement: &InternedStatement<'_>,
@@ -137,7 +137,7 @@ pub(crate) fn walk_statement(
     }
 }
 
-/// The type of a term, whose places all come behind those that were found.
+/// Walks a term, whose subterms all come after those found so far, and returns its type.
 #[cycle(walk_term)]
 fn walk_term(walk: &mut Walk, term: &InternedTerm<'_>) -> Result<Option<TyNo>, Stop>
     requires sound { IsSoundWalk walk.old }
@@ -201,7 +201,7 @@ fn walk_if(
     settle(walk, found, blame)
 }
 
-/// T-Succ, T-Pred and T-IsZero, by the number of the type that the whole has.
+/// T-Succ, T-Pred and T-IsZero, given the id of the type of the whole term.
 #[cycle(walk_term)]
 fn walk_number(
     walk: &mut Walk,
@@ -343,7 +343,7 @@ fn walk_fix(walk: &mut Walk, operand: &InternedTerm<'_>) -> Result<Option<TyNo>,
     settle(walk, found, blame)
 }
 
-/// The terms of a record from the first to the last, with the labels and the types of those that have one; whether all
+/// Walks the terms of a record from first to last, and collects the labels and types of those that have one. Returns whether all
 /// of them have.
 #[cycle(walk_term)]
 fn walk_fields(
@@ -369,7 +369,7 @@ fn walk_fields(
     walk_fields(walk, others, parts)
 }
 
-/// A variable has the entry of its binder; where that is none, the fault is not the variable's. A count past all
+/// Walks a variable, which has the entry of its binder; if that is `None`, the variable is not at fault. An index past all
 /// binders is an unbound name.
 fn walk_variable(walk: &mut Walk, count: usize) -> Result<Option<TyNo>, Stop>
     requires sound { IsSoundWalk walk.old }
@@ -385,7 +385,7 @@ fn walk_variable(walk: &mut Walk, count: usize) -> Result<Option<TyNo>, Stop>
     settle(walk, entry, None)
 }
 
-/// The entry of the binder that a count finds, counted from the innermost one.
+/// Returns the context entry at a de Bruijn index.
 pub(crate) fn entry_of(entries: &[Option<TyNo>], count: usize) -> Option<TyNo>
     requires { count < length entries.now }
     ensures entry { (ts : List Typ) → answer ts result ≡ entry_at count (context_under ts entries.now) }
@@ -394,7 +394,7 @@ pub(crate) fn entry_of(entries: &[Option<TyNo>], count: usize) -> Option<TyNo>
     entries[entries.len() - 1 - count]
 }
 
-/// What an application is blamed for, by the type of its first term.
+/// Returns the code for an application at fault, by the type of its first term.
 fn application_code(table: &TyTable, function: Option<TyNo>) -> &'static str
     requires { StandsWhereFound table.now function }
     ensures { IsApplicationCode result.now (answer table.now function) }
@@ -426,7 +426,7 @@ fn are_all_found(first: Option<TyNo>, second: Option<TyNo>, third: Option<TyNo>)
     are_both_found(second, third)
 }
 
-/// The code, where the parts of a term have types and the term has none.
+/// Returns the code if all parts of a term have types and the term has none.
 fn blame_if(parts: bool, found: Option<TyNo>, code: &'static str) -> Option<&'static str>
     ensures { (ts : List Typ) (n : ℕ) → blame_at n result ≡ blame_step n parts (answer ts found) code.now }
 {
@@ -436,7 +436,7 @@ fn blame_if(parts: bool, found: Option<TyNo>, code: &'static str) -> Option<&'st
     if parts { Some(code) } else { None }
 }
 
-/// Takes down the type of the next place, and what it is blamed for.
+/// Records the type of the next subterm, and its fault if any.
 fn settle(
     walk: &mut Walk,
     found: Option<TyNo>,
@@ -459,7 +459,7 @@ fn settle(
     Ok(found)
 }
 
-/// Whether a place lies behind the last one that is asked for.
+/// Whether a subterm comes after the last one requested.
 fn is_behind(place: Place, last: Option<Place>) -> bool
     ensures behind { IsTrue result → IsBehind last place.0 }
     ensures within { IsFalse result → IsUpTo last place.0 }
@@ -470,7 +470,7 @@ fn is_behind(place: Place, last: Option<Place>) -> bool
     place.0 > last_place.0
 }
 
-/// Puts what a place is blamed for, if anything, behind the others.
+/// Appends the fault of a subterm, if any.
 fn put_blame(
     blames: &mut Vec<Blame>,
     place: Place,
@@ -485,7 +485,7 @@ fn put_blame(
     Ok(())
 }
 
-/// Whether a type has more nodes than a place may show.
+/// Whether a type is over the size limit.
 fn is_large(table: &TyTable, found: Option<TyNo>) -> bool
     requires { StandsWhereFound table.now found }
     ensures small { IsFalse result → IsSmallType (answer table.now found) }

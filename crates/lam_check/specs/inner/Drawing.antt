@@ -1,21 +1,21 @@
--- A list of steps while it is drawn.
+-- The steps of proofs within a list, for drawing.
 use Rattle.std.specs.Prelude.{◌≡◌, ℕ, ◌+◌, ◌≤◌, List, ◌++◌, drop}
 use Rattle.lam_rules.specs.Texts.{Text}
 use Rattle.lam_query.specs.Steps.{Step, Proof, Proofs, steps_of, steps_of_each, last_steps, number_of_steps}
 use Rattle.lam_check.specs.declared.forms.Form.{Form}
 use Rattle.lam_check.specs.Drawings.{drawn_each}
 
--- the steps of a proof stand in a list from this number on
+-- The steps of a proof are in the list from this index on.
 pub record Stands (steps : List Step) (start : ℕ) (p : Proof) : Type 0 where
   pub after : List Step
   pub are : drop start steps ≡ steps_of start p ++ after
 
--- those of several proofs, one behind the other
+-- the same for several proofs, one after another
 pub record AllStand (steps : List Step) (start : ℕ) (ps : Proofs) : Type 0 where
   pub after : List Step
   pub are : drop start steps ≡ steps_of_each start ps ++ after
 
--- What is left to be drawn: the proofs that end in these steps, all before this end. What is written and they make the whole.
+-- What is left to be drawn: the proofs that end in these steps, all before `end`. What is written, followed by them, is the whole.
 pub record AreLeft (form : Form) (text : List ℕ) (depth : ℕ) (steps : List Step) (end : ℕ) (numbers : List ℕ) (written whole : Text) : Type 0 where
   pub start : ℕ
   pub proofs : Proofs

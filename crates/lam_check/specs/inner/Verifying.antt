@@ -1,4 +1,4 @@
--- What is known while a derivation is held against a text. For private functions alone.
+-- Intermediate facts of the verification. For private functions alone.
 use Rattle.std.specs.Prelude.{◌≡◌, ◌<◌, ℕ, List, length, Option, Some, None}
 use Rattle.lam_rules.specs.Typing.{TypingTree}
 use Rattle.lam_rules.specs.declared.rules.Dialect.{Dialect}
@@ -19,19 +19,19 @@ pub record AreFormsOf (commands : List CommandTree) (scopes : Scopes) (resolved 
   pub are_scopes : AreScopesOf scopes commands
   pub are_statements : statements_of resolved ≡ statements_in commands
 
--- the steps are those of a proof of typing that has this tree
+-- The steps are those of a typing proof that has this tree.
 pub record MakeTree (steps : List Step) (tree : TypingTree) : Type 0 where
   pub whole : Proof
   pub are_steps : steps ≡ steps_of 0 whole
   pub is_tree : typing_tree_in whole ≡ Some tree
 
--- the derivation is of one of the terms of these commands
+-- The derivation is about one of the terms of these commands.
 pub record IsOfSomeTerm (commands : List CommandTree) (derivation : Derivation) (d : Dialect) : Type 0 where
   pub number : ℕ
   pub inside : number < length (document_terms commands)
   pub is_proof : IsProofAt commands number derivation d
 
--- the span of the term that a conclusion of typing is about
+-- the span of the term that a typing conclusion is about
 abbrev pub span_in : Option Conclusion → Option Span
 span_in None = None
 span_in (Some (typing rule s type)) = Some s

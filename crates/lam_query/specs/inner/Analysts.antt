@@ -1,4 +1,4 @@
--- What is known of a text while it is read, piece after piece. For private functions alone.
+-- Analyses under construction, which read their text piece by piece. For private functions only.
 use Rattle.std.specs.Prelude.{◌≡◌, ◌<◌, ◌+◌, ℕ, Bool, true, false, List, [], ◌∷◌, ◌++◌, length, All, Option}
 use Rattle.std.specs.Str.{IsUtf8}
 use Rattle.lam_rules.specs.Types.{Typ}
@@ -15,23 +15,23 @@ use Rattle.lam_query.specs.inner.PieceRows.{Sight, sight_with, AreTokensIn, IsEn
 use Rattle.lam_query.specs.inner.Reading.{AreRead}
 use Rattle.lam_query.specs.inner.Rows.{names_with, types_with, IsKeptOf}
 
--- what it knows of types is right, and each number that it keeps stands for one
+-- its type checker is sound, and each type id that it keeps stands for a type
 pub record IsSound (a : Analyst) : Type 0 where
   pub types : IsSoundChecker a.types
   pub stand : AllStand (types_in a.types) a.bound
   pub numbers : HaveNumbers a.bound
 
--- names and type names mean this by the table of types
+-- the meanings of names and type names, over the type table
 pub record IsBoundAs (of_names of_types : Lookup) (ts : List Typ) (b : Bound) : Type 0 where
   pub names : (x : Name) → found_over ts b.names x ≡ of_names x
   pub types : (x : Name) → found_over ts b.type_names x ≡ of_types x
 
--- no token is read that does not belong to a piece
+-- no tokens of a further piece have been read
 pub record IsBetweenPieces (a : Analyst) : Type 0 where
   pub nothing_read : AreRead [] [] a.reader
   pub no_piece : a.reader.piece.items ≡ []
 
--- This was kept of the command of the next piece, if it has one: what names mean behind it they mean now.
+-- This is kept of the command of the next piece, if it has one, and names now mean what they mean after it.
 pub record IsKeptBy (own : List CommandTree) (row : Option CommandRow) (old now : Analyst) : Type 0 where
   pub keeps : Keeps (types_in old.types) (types_in now.types)
   pub numbers : KeepsNumbers old.bound now.bound
@@ -43,7 +43,7 @@ pub record IsKeptBy (own : List CommandTree) (row : Option CommandRow) (old now 
   pub reader : now.reader ≡ old.reader
   pub end : now.end ≡ old.end
 
--- the row of one more piece, in front of which names mean this
+-- the row of one more piece is added, before which names have these meanings
 pub record IsRowAdded (piece : List ℕ) (s : Sight) (old now : Analyst) : Type 0 where
   pub own : List CommandTree
   pub row : Row
@@ -51,7 +51,7 @@ pub record IsRowAdded (piece : List ℕ) (s : Sight) (old now : Analyst) : Type 
   pub is_row : IsPieceRow piece s own row (types_in now.types) now.bound (dialect_in now.types)
   pub bound : let behind = sight_with s own (types_in now.types) row.command in IsBoundAs behind.names behind.types (types_in now.types) now.bound
 
--- the tokens that were left are those of a piece of so many bytes, and its row is kept
+-- the tokens that were read are those of a piece of this many bytes, and its row is kept
 pub record IsPieceEnded (bytes : ℕ) (old now : Analyst) : Type 0 where
   pub between : IsBetweenPieces now
   pub end : now.end ≡ old.end + bytes
@@ -60,7 +60,7 @@ pub record IsPieceEnded (bytes : ℕ) (old now : Analyst) : Type 0 where
   pub added : (piece : List ℕ) (s : Sight) → bytes ≡ length piece → IsUtf8 piece → AreTokensIn piece old.reader.piece.items → AreRead [] [] old.reader
       → IsBoundAs s.names s.types (types_in old.types) old.bound → IsRowAdded piece s old now
 
--- Behind these bytes of a text, where names mean this, pieces were read: a semicolon ends each, and this is left.
+-- After these bytes of a text, where names have these meanings, pieces that all end with a semicolon were read, and this is left.
 pub record IsReadTo (ahead : List ℕ) (s : Sight) (text rest : List ℕ) (a : Analyst) : Type 0 where
   pub ahead_is_text : IsUtf8 ahead
   pub pieces : List (List ℕ)
@@ -72,7 +72,7 @@ pub record IsReadTo (ahead : List ℕ) (s : Sight) (text rest : List ℕ) (a : A
   pub bound : IsBoundAs sight.names sight.types (types_in a.types) a.bound
   pub between : IsBetweenPieces a
 
--- all pieces were read: a semicolon ends each but the last, and none ends that one
+-- all pieces were read: each but the last ends with a semicolon
 pub record IsReadThrough (ahead : List ℕ) (s : Sight) (text : List ℕ) (a : Analyst) : Type 0 where
   pub ended : List (List ℕ)
   pub last : List ℕ
@@ -82,7 +82,7 @@ pub record IsReadThrough (ahead : List ℕ) (s : Sight) (text : List ℕ) (a : A
   pub sight : Sight
   pub rows : AreRows s (ended ++ last ∷ []) (rows_of a.rows.items) sight (types_in a.types) a.bound (dialect_in a.types)
 
--- one piece more was read: less is left, or that was the last one
+-- one more piece was read: less is left, or it was the last one
 abbrev pub IsReadOn : Bool → (ahead : List ℕ) (s : Sight) (text rest : List ℕ) → Analyst → Type 0
 IsReadOn true ahead s text rest a = (left : List ℕ) × (length left < length rest) × IsReadTo ahead s text left a
 IsReadOn false ahead s text rest a = IsReadThrough ahead s text a

@@ -1,4 +1,4 @@
--- The piece of an analysed text that has an offset. For private functions alone.
+-- The piece of an analysed text around an offset. For private functions only.
 use Rattle.std.specs.Prelude.{◌≡◌, ◌<◌, ℕ, List, [], ◌∷◌, length, take, slice_range}
 use Rattle.lam_syntax.specs.Trees.{CommandTree}
 use Rattle.lam_scope.specs.Names.{Name}
@@ -12,7 +12,7 @@ use Rattle.lam_query.specs.inner.PieceRows.{Sight, outset, AreRows}
 use Rattle.lam_query.specs.inner.Rows.{IsRowAround}
 use Rattle.lam_query.specs.inner.StandIns.{IsAlone}
 
--- The piece is the one of the row that has the offset; in front of it names and type names mean this, by the rows before.
+-- The piece of the row around the offset, before which names and type names have these meanings, by the rows before.
 pub record IsPieceAround (text : List ℕ) (offset : ℕ) (a : Analysis) (p : PieceAt) : Type 0 where
   pub inside : p.number < length a.rows.items
   pub around : IsRowAround text offset (placed 0 (rows_of a.rows.items)) (record { start = p.start; number = p.number }) (types_in a.types) a.dialect
@@ -29,11 +29,11 @@ pub record IsCommandAround (text : List ℕ) (offset : ℕ) (a : Analysis) (p : 
   pub here : IsPieceAround text offset a p
   pub own : here.around.own ≡ c ∷ []
 
--- It stands alone here, and sees what it sees in the text.
+-- The command alone, in which names mean what they mean in the text.
 pub record IsAloneAround (text : List ℕ) (offset : ℕ) (a : Analysis) (p : PieceAt) (c : CommandTree) (alone : Alone) : Type 0 where
   pub there : IsCommandAround text offset a p c
   pub is_alone : IsAlone there.here.sight c alone
 
--- the number of its first term among those of the text
+-- the number of the first term of the piece among those of the text
 abbrev pub first_term : {text : List ℕ} {offset : ℕ} {a : Analysis} {p : PieceAt} → IsPieceAround text offset a p → ℕ
 first_term here = length (document_terms here.around.front.commands)

@@ -1,4 +1,4 @@
--- What commands have bound: names and type names as numbers, and what is kept for each as a number of a table of types. For private functions alone.
+-- What commands have bound: names and type names as numbers, each with a type id of a type table. For private functions only.
 use Rattle.std.specs.Prelude.{◌≡◌, ◌<◌, ℕ, List, [], length, map, get_or, Option, Some, None, string_bytes, IfSome, if◌then◌else◌}
 use Rattle.std.specs.Option.{option_map, option_and_then}
 use Rattle.std.specs.Str.{bytes_eq}
@@ -23,30 +23,30 @@ use Rattle.lam_query.specs.inner.Entered.{Lookup, entered, names_onto, entries_o
 abbrev pub numbered : Meanings → Name → Option ℕ
 numbered m x = get_by (λ k. bytes_eq x (string_bytes k)) m.numbers
 
--- what is kept under a number: nothing where the name is unbound
+-- what is bound under a number, or nothing if the name is unbound
 abbrev pub kept_under : Meanings → ℕ → Option (Option TyNo)
 kept_under m n = get_or m.entries.items n None
 
--- what is kept under the number of a name or of a type name
+-- what is bound under the number of a name or of a type name
 abbrev pub means : Bound → NameNo → Option (Option TyNo)
 means b (binding.Name n) = kept_under b.names n
 means b (binding.TypeName n) = kept_under b.type_names n
 
--- what is kept for a name
+-- what is bound for a name
 abbrev pub number_of : Meanings → Name → Option (Option TyNo)
 number_of m x = option_and_then (kept_under m) (numbered m x)
 
--- each name has a number of its own, which has a place for what is kept
+-- each name has a number of its own, which is an index of the entries
 pub record AreNumbered (m : Meanings) : Type 0 where
   pub inside : (x : Name) (n : ℕ) → numbered m x ≡ Some n → n < length m.entries.items
   pub own : (x y : Name) (n : ℕ) → numbered m x ≡ Some n → numbered m y ≡ Some n → x ≡ y
 
--- so it is of names and of type names
+-- the same for names and for type names
 pub record HaveNumbers (b : Bound) : Type 0 where
   pub names : AreNumbered b.names
   pub type_names : AreNumbered b.type_names
 
--- names keep the numbers that they have
+-- names keep their numbers
 pub record KeepsNumbers (old now : Bound) : Type 0 where
   pub names : (x : Name) (n : ℕ) → numbered old.names x ≡ Some n → numbered now.names x ≡ Some n
   pub type_names : (x : Name) (n : ℕ) → numbered old.type_names x ≡ Some n → numbered now.type_names x ≡ Some n
@@ -57,25 +57,25 @@ IsBinding b c None = (name_bound c ≡ None) × (type_name_bound c ≡ None)
 IsBinding b c (Some (binding.Name n)) = (x : Name) × (name_bound c ≡ Some x) × (type_name_bound c ≡ None) × (numbered b.names x ≡ Some n)
 IsBinding b c (Some (binding.TypeName n)) = (x : Name) × (name_bound c ≡ None) × (type_name_bound c ≡ Some x) × (numbered b.type_names x ≡ Some n)
 
--- what is kept for a name, over the types of a table
+-- the meaning of a name over the types of a table
 abbrev pub found_over : List Typ → Meanings → Lookup
 found_over ts m x = option_map (answer ts) (number_of m x)
 
--- each number that is kept stands for a type of the table
+-- each type id that is bound stands for a type of the table
 abbrev pub NumbersStandIn : List Typ → Meanings → Type 0
 NumbersStandIn ts m = (x : Name) → IfSome (number_of m x) (StandsIfAny ts)
 
--- so do those of names and of type names
+-- the same for names and for type names
 pub record AllStand (ts : List Typ) (b : Bound) : Type 0 where
   pub names : NumbersStandIn ts b.names
   pub type_names : NumbersStandIn ts b.type_names
 
--- all that a command takes from outside, each name once
+-- the free names and type names of a command, each once
 pub record AreFreeIn (c : CommandTree) (free : FreeNames) : Type 0 where
   pub names : map (λ x. x.now) free.names.items ≡ each_once (free_in_command c)
   pub type_names : map (λ x. x.now) free.type_names.items ≡ each_once (free_type_names_in_command c)
 
--- The free names of a command that are bound, each entered once, with their entries; and its type names.
+-- The free names of a command that are bound, each entered once, with their entries; and its free type names.
 pub record IsSurroundedBy (ts : List Typ) (b : Bound) (c : CommandTree) (s : Surroundings) : Type 0 where
   pub names : names_seen s.environment ≡ names_onto [] (entered (found_over ts b.names) (each_once (free_in_command c)))
   pub entries : context_under ts s.entries.items ≡ entries_onto [] (entered (found_over ts b.names) (each_once (free_in_command c)))
@@ -83,11 +83,11 @@ pub record IsSurroundedBy (ts : List Typ) (b : Bound) (c : CommandTree) (s : Sur
   pub type_names_stand : TypeNamesStand ts s.environment
   pub entries_stand : AllStandIn ts s.entries.items
 
--- one more name has this entry, if there is one
+-- the entry of this name, if there is one, is set
 abbrev pub IsSetIn : Option Name → Option TyNo → Meanings → Meanings → Type 0
 IsSetIn b number old now = (x : Name) → number_of now x ≡ (if binds b x then Some number else number_of old x)
 
--- what a command binds has this entry
+-- the entry of what a command binds is set
 pub record IsBoundAfter (c : CommandTree) (number : Option TyNo) (old now : Bound) : Type 0 where
   pub names : IsSetIn (name_bound c) number old.names now.names
   pub type_names : IsSetIn (type_name_bound c) number old.type_names now.type_names

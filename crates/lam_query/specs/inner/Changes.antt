@@ -1,4 +1,4 @@
--- A text that was changed, while the rows behind the change are followed. For private functions alone.
+-- Changed texts, while the rows after the change are followed. For private functions only.
 use Rattle.std.specs.Prelude.{◌≡◌, ◌<◌, ◌≤◌, ◌-◌, ◌⊎◌, ℕ, List, [], ◌∷◌, ◌++◌, length, take, drop}
 use Rattle.std.specs.List.{AllZip}
 use Rattle.lam_rules.specs.Types.{Typ}
@@ -13,12 +13,12 @@ use Rattle.lam_query.specs.inner.Ends.{IsLeftOf}
 use Rattle.lam_query.specs.inner.Kept.{rows_of}
 use Rattle.lam_query.specs.inner.PieceRows.{Sight, outset, AreRows, IsMadeUpOf, joined}
 
--- What is left of a text is made up of the old text's pieces from this number on; or all of it was read, and the number is that of all pieces.
+-- The rest of the text consists of the old text's pieces from this index on; or all of it was read, and the index is past all pieces.
 abbrev pub IsMet : (ahead : List ℕ) (s : Sight) (text : List ℕ) (pieces : List (List ℕ)) (next : ℕ) → Analyst → Type 0
 IsMet ahead s text pieces next a =
     ((next < length pieces) × IsReadTo ahead s text (joined (drop next pieces)) a) ⊎ ((next ≡ length pieces) × IsReadThrough ahead s text a)
 
--- The rows are those of the old text's pieces, and what is left of these is counted; both texts end with the same bytes, as many as are common.
+-- The rows are those of the old text's pieces, of which the rest is counted; the common suffix of both texts has `common` bytes.
 pub record AreOldPieces (old new : List ℕ) (pieces : List (List ℕ)) (b : Behind) : Type 0 where
   pub whole : old ≡ joined pieces
   pub lengths : AllZip (λ r p. r.end ≡ length p) (rows_of b.rows.now) pieces
@@ -27,8 +27,8 @@ pub record AreOldPieces (old new : List ℕ) (pieces : List (List ℕ)) (b : Beh
   pub fits : b.common ≤ length new
   pub same : drop (length old - b.common) old ≡ drop (length new - b.common) new
 
--- The first rows, so many, are those of the text's pieces, and names mean behind them what is bound. The others were right in the old text, by the table
--- of types and the numbers of that time. What names meant there in front of them is related to what they mean now.
+-- The first n rows are those of the text's pieces, after which names mean what is bound. The others were right in the old text, by the type table and the
+-- numbers of that time. What names meant before them is related to what names mean now.
 pub record IsFollowedTo (text : List ℕ) (n : ℕ) (ts : List Typ) (b : Bound) (AreRelated : (then now : Sight) → Type 0) (a : Analyst) : Type 0 where
   pub ended : List (List ℕ)
   pub last : List ℕ

@@ -1,4 +1,4 @@
--- What is known of the commands of a document from the first one on, where each was typed in an environment of its own.
+-- What is known of the first commands of a document, each typed in an environment of its own.
 use Rattle.std.specs.Prelude.{◌≡◌, List, [], ◌∷◌, length, Option, None}
 use Rattle.lam_rules.specs.Types.{Typ}
 use Rattle.lam_rules.specs.Typing.{Context, IsWellFormedContext}
@@ -16,30 +16,30 @@ use Rattle.lam_typing.specs.Progress.{IsLowest, Shown}
 use Rattle.lam_query.specs.Sizes.{places_in}
 pub use Rattle.lam_scope.specs.TypeNames.{abbreviations_seen_after as abbreviations_behind, binders_seen_after as names_behind}
 
--- what a command after these sees, by what it takes its types from, where the first of them sees this
+-- the scope after these commands, given what is in scope at the first
 abbrev pub scope_from : List Abbreviation → List (Option Name) → Scope → List CommandTree → Scope
 scope_from bs xs s [] = s
 scope_from bs xs s (c ∷ cs) = scope_from (abbreviations_after bs c) (names_after xs c) (scope_after bs xs s c) cs
 
--- that of a document from its beginning
+-- the scope after the first commands of a document
 abbrev pub scope_behind : List CommandTree → Scope
 scope_behind cs = scope_from [] [] [] cs
 
--- the context after a command, if this is the entry that it binds
+-- the context after a command that binds this entry
 abbrev pub context_after : Context → CommandTree → Option Typ → Context
 context_after g (definition w t) entry = entry ∷ g
 context_after g (declaration w u) entry = entry ∷ g
 context_after g c entry = g
 
--- The lowest context of what a command after these sees, with an entry for each name; and what was found of their places, none of which is too large.
+-- The least context after these commands, with an entry for each name, and what was found for their terms, none of which is over the size limit.
 pub record AreChecked (done : List CommandTree) (g : Context) (found : List (Option Typ)) (blames : List Blamed) (d : Dialect) : Type 0 where
   pub lowest : IsLowest (scope_behind done) g d
   pub lengths : length (names_behind done) ≡ length g
   pub shown : Shown (places_in done) 0 found blames d
   pub none_too_large : first_too_large [] done ≡ None
 
--- An environment of a command's own: abbreviations, names and their entries, in which all that the command takes from outside means what it means after
--- these commands, which have this context.
+-- An environment for one command: abbreviations, names and their entries, in which its free names and type names mean what they mean after these commands, which have
+-- this context.
 pub record IsEnvironmentFor (c : CommandTree) (done : List CommandTree) (g : Context)
     (types : List Abbreviation) (names : List (Option Name)) (entries : Context) : Type 0 where
   pub wf : IsWellFormedContext entries

@@ -1,4 +1,4 @@
--- The entries of a context while it is told. For private functions alone.
+-- The context entries of a derivation. For private functions only.
 use Rattle.std.specs.Prelude.{List}
 use Rattle.lam_rules.specs.Types.{Typ}
 use Rattle.lam_scope.specs.Names.{shown_name}

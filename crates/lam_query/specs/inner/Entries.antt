@@ -1,4 +1,4 @@
--- What names mean at one place of a text, by their numbers. For private functions alone.
+-- The meanings of names at one point of a text, by name number. For private functions only.
 use Rattle.std.specs.Prelude.{◌≡◌, ◌<◌, ℕ, List, [], ◌∷◌, length, get_or, replicate, Option, Some, None, IfSome}
 use Rattle.std.specs.Option.{option_map, option_and_then}
 use Rattle.lam_rules.specs.Types.{Typ}
@@ -15,7 +15,7 @@ use Rattle.lam_query.specs.inner.Entered.{Lookup}
 use Rattle.lam_query.specs.inner.Kept.{CommandRow, Row, bound_by}
 use Rattle.lam_query.specs.inner.PieceRows.{Sight}
 
--- what is kept under a number: nothing where the name was unbound
+-- what is kept under a number, or nothing if the name was unbound
 abbrev pub meant : Entries → NameNo → Option (Option TyNo)
 meant e (number.Name n) = get_or e.names.items n None
 meant e (number.TypeName n) = get_or e.type_names.items n None
@@ -24,58 +24,58 @@ meant e (number.TypeName n) = get_or e.type_names.items n None
 abbrev pub name_kept : Bound → Entries → Name → Option (Option TyNo)
 name_kept b e x = option_and_then (λ n. meant e (number.Name n)) (numbered b.names x)
 
--- for a type name
+-- what is kept for a type name
 abbrev pub type_name_kept : Bound → Entries → Name → Option (Option TyNo)
 type_name_kept b e x = option_and_then (λ n. meant e (number.TypeName n)) (numbered b.type_names x)
 
--- what a name means by it, over the types of a table
+-- the meaning of a name over the types of a table
 abbrev pub name_meant : List Typ → Bound → Entries → Lookup
 name_meant ts b e x = option_map (answer ts) (name_kept b e x)
 
--- and a type name
+-- the meaning of a type name over the types of a table
 abbrev pub type_name_meant : List Typ → Bound → Entries → Lookup
 type_name_meant ts b e x = option_map (answer ts) (type_name_kept b e x)
 
--- each number that is kept for a name stands for a type of the table
+-- each type id that is kept for a name stands for a type of the table
 pub record EntriesStand (ts : List Typ) (b : Bound) (e : Entries) : Type 0 where
   pub names : (x : Name) → IfSome (name_kept b e x) (StandsIfAny ts)
   pub types : (x : Name) → IfSome (type_name_kept b e x) (StandsIfAny ts)
 
--- names and type names mean this by it; what has no number is unbound
+-- the meanings of names and type names; one without a number is unbound
 pub record AreMeanings (s : Sight) (ts : List Typ) (b : Bound) (e : Entries) : Type 0 where
   pub names : (x : Name) → name_meant ts b e x ≡ s.names x
   pub types : (x : Name) → type_name_meant ts b e x ≡ s.types x
   pub stand : EntriesStand ts b e
 
--- there is a place for the name of this number
+-- the number of this name is in bounds
 abbrev pub HasRoomFor : NameNo → Entries → Type 0
 HasRoomFor (number.Name n) e = n < length e.names.items
 HasRoomFor (number.TypeName n) e = n < length e.type_names.items
 
--- one name more has this entry; the places are the same
+-- one more name has this entry; the numbers in bounds are the same
 pub record IsPassedWith (binds : Option NameNo) (entry : Option TyNo) (old now : Entries) : Type 0 where
   pub set : (name : NameNo) → binds ≡ Some name → HasRoomFor name old → meant now name ≡ Some entry
   pub others : (name : NameNo) → (binds ≡ Some name → ⊥) → meant now name ≡ meant old name
   pub room : (name : NameNo) → HasRoomFor name old → HasRoomFor name now
 
--- what the command of a piece binds was passed
+-- what the command of a piece binds was recorded
 abbrev pub IsPassedOver : Option CommandRow → Entries → Entries → Type 0
 IsPassedOver None old now = old ≡ now
 IsPassedOver (Some k) old now = IsPassedWith k.binds (bound_by k.found) old now
 
--- what the commands of these pieces bind was passed, one after another
+-- what the commands of these pieces bind was recorded in order
 abbrev pub IsPassedBy : List Row → Entries → Entries → Type 0
 IsPassedBy [] old now = old ≡ now
 IsPassedBy (r ∷ rows) old now = (mid : Entries) × IsPassedOver r.command old mid × IsPassedBy rows mid now
 
--- they are those that nothing is kept in, with what the commands of these pieces bind
+-- the entries with nothing but what the commands of these pieces bind
 pub record IsPassedBehind (b : Bound) (rows : List Row) (e : Entries) : Type 0 where
   pub first : Entries
   pub names : first.names.items ≡ replicate (length b.names.entries.items) None
   pub type_names : first.type_names.items ≡ replicate (length b.type_names.entries.items) None
   pub passed : IsPassedBy rows first e
 
--- names mean this by their numbers, over the types of a table
+-- the meanings of names by their numbers, over the types of a table
 pub record IsMeantBy (s : Sight) (ts : List Typ) (b : Bound) (e : Entries) : Type 0 where
   pub names : (x : Name) (n : ℕ) → numbered b.names x ≡ Some n → option_map (answer ts) (meant e (number.Name n)) ≡ s.names x
   pub types : (x : Name) (n : ℕ) → numbered b.type_names x ≡ Some n → option_map (answer ts) (meant e (number.TypeName n)) ≡ s.types x

@@ -1,4 +1,4 @@
--- Faults while what there is to tell of them is put beside them. For private functions alone.
+-- Diagnostics that are being explained. For private functions only.
 use Rattle.std.specs.Prelude.{◌≡◌, ◌<◌, ◌^◌, ℕ, List, [], ◌∷◌, ◌++◌, length, map, Option, Some, None, codes, All}
 use Rattle.lam_rules.specs.Types.{Typ}
 use Rattle.lam_rules.specs.Terms.{Term, if_then_else, succ, pred, is_zero, apply, ascribe, project, fix}
@@ -23,7 +23,7 @@ use Rattle.lam_query.specs.inner.Around.{IsPieceAround}
 use Rattle.lam_query.specs.inner.Entries.{AreMeanings}
 use Rattle.lam_query.specs.inner.Typings.{AreTypesOf}
 
--- what there is to tell of a term whose parts have these types, from left to right
+-- the mismatch of a term whose parts have these types, from left to right
 abbrev pub mismatch_in : Term → List Typ → Option Mismatch
 mismatch_in (apply f a) (t ∷ u ∷ []) = Some (in_application t u)
 mismatch_in (project e l) (t ∷ []) = Some (found (text t))
@@ -35,7 +35,7 @@ mismatch_in (ascribe e (Some w)) (t ∷ []) = Some (expected (text w) (text t))
 mismatch_in (fix e) (t ∷ []) = Some (in_fix t)
 mismatch_in e ts = None
 
--- so many parts a term of this form has, where anything is told of it
+-- the number of parts of a term of this form, for forms that have a mismatch
 abbrev pub HasParts : Term → ℕ → Type 0
 HasParts (apply f a) n = n ≡ 2
 HasParts (project e l) n = n ≡ 1
@@ -47,7 +47,7 @@ HasParts (ascribe e w) n = n ≡ 1
 HasParts (fix e) n = n ≡ 1
 HasParts e n = Unit {0}
 
--- the term at a place of commands is to blame, whose scopes and types these are
+-- the term at a place is at fault in commands with these scopes and types
 pub record IsBlamedAt (scopes : Scopes) (types : Types) (place : Place) : Type 0 where
   pub commands : List CommandTree
   pub dialect : Dialect
@@ -56,25 +56,25 @@ pub record IsBlamedAt (scopes : Scopes) (types : Types) (place : Place) : Type 0
   pub inside : place.0 < length (places_in commands)
   pub blamed : IsBlamed (place_in commands place.0).scope (place_in commands place.0).here dialect
 
--- a fault of which there is nothing more to tell
+-- a diagnostic without a mismatch
 abbrev pub unexplained : Fault → ExplainedFault
 unexplained f = record { fault = f; mismatch = None }
 
--- these faults of the commands were added, each with what there is to tell of it
+-- these diagnostics of the commands were appended, each with its explanation
 pub record AreAdded (commands : List CommandTree) (faults : List Fault) (old now : List ExplainedFault) (d : Dialect) : Type 0 where
   pub added : List ExplainedFault
   pub are : now ≡ old ++ added
   pub same : map (λ e. e.fault) added ≡ faults
   pub each : All (IsExplained commands d) added
 
--- the faults of these terms of commands that are to blame, each with what there is to tell of the term
+-- the diagnostics of these terms at fault, each with its mismatch
 abbrev pub AreToldOf : List CommandTree → List Blamed → List ExplainedFault → Dialect → Type 0
 AreToldOf commands [] [] d = Unit {0}
 AreToldOf commands (b ∷ bs) (e ∷ es) d =
     (e.fault ≡ blame_fault commands b) × IsMismatch (place_in commands b.number).scope (place_in commands b.number).here e.mismatch d × AreToldOf commands bs es d
 AreToldOf commands bs es d = ⊥
 
--- names mean in front of a piece what these entries say; the bytes of the text are numbers that the code can hold
+-- before the piece, names have the meanings in these entries; the offsets of the text fit in 64 bits
 pub record AreEntriesAround (text : List ℕ) (a : Analysis) (p : PieceAt) (e : Entries) : Type 0 where
   pub offset : ℕ
   pub here : IsPieceAround text offset a p

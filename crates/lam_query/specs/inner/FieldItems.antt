@@ -1,10 +1,10 @@
--- The items for the fields of a type. For private functions alone.
+-- Completion items for the fields of a type. For private functions only.
 use Rattle.std.specs.Prelude.{List, [], ◌∷◌, true, Option, Some, None}
 use Rattle.lam_rules.specs.Types.{Label, Typ, record_of, Fields, no_fields, field}
 use Rattle.lam_rules.specs.Texts.{text, sorted}
 use Rattle.lam_query.specs.Completions.{Item}
 
--- the item for a field: its label, and the text of its type
+-- the item for a field: its label, and its type as text
 abbrev pub field_item : Label → Typ → Item
 field_item l t = record { label = l; detail = Some (text t); is_field = true }
 
@@ -13,12 +13,12 @@ abbrev pub field_items : Fields → List Item
 field_items no_fields = []
 field_items (field l t rest) = field_item l t ∷ field_items rest
 
--- those of a record type; other types have none
+-- the items of a record type; other types have none
 abbrev pub items_in : Typ → List Item
 items_in (record_of fs) = field_items fs
 items_in t = []
 
--- those of the sorted form of a type that was found, if one was
+-- the items of the sorted form of a type, if there is one
 abbrev pub items_found : Option Typ → List Item
 items_found None = []
 items_found (Some t) = items_in (sorted t)

@@ -1,5 +1,5 @@
--- What is kept of each piece of a text, as values. Bytes count from the start of the piece, or, of a row that is placed in a text, from the start of
--- the text. For private functions alone.
+-- What an analysis keeps of each piece of a text, as values. Offsets are relative to the start of the piece, or, in a row placed in a text, to the start of the text. For
+-- private functions only.
 use Rattle.std.specs.Prelude.{ℕ, ◌+◌, ◌<◌, ◌^◌, List, [], ◌∷◌, map, flat_map, All, Option, Some, None}
 use Rattle.std.specs.Option.{option_map, option_or}
 use Rattle.lam_token.specs.Edits.{span_placed}
@@ -18,37 +18,37 @@ use Rattle.lam_query.specs.Views.{fault_of}
 
 -- ---- the values
 
--- the types of a command in which none is too large: of its terms, in the order of their numbers; the faults; and what it binds
+-- the types of a command in which none is over the size limit: those of its terms, by number; the diagnostics; and the entry of what it binds
 pub record FoundTypes : Type 0 where
   pub types : List (Option TyNo)
   pub faults : List Fault
   pub bound : Option TyNo
 
--- what was found of the types of a command: where the first written type is that is too large, or the first term; or else all types
+-- the types of a command, or the span of the first written type or else the first term over the size limit
 pub data Found : Type 0 where
   written_too_large : Span → Found
   term_too_large : Span → Found
   typed : FoundTypes → Found
 
--- of a command: the names that it asks for, and the one that it binds, by their numbers; and what was found
+-- what is kept of a command: the numbers of its free names and of the name that it binds, and the types found
 pub record CommandRow : Type 0 where
   pub asks : List NameNo
   pub binds : Option NameNo
   pub found : Found
 
--- of a piece: the byte behind it, the faults that its tokens and the grammar decide, and what is kept of its command
+-- what is kept of a piece: where it ends, its lexical and syntactic diagnostics, and what is kept of its command
 pub record Row : Type 0 where
   pub end : ℕ
   pub syntax : List Fault
   pub command : Option CommandRow
 
--- ---- those that the code's values stand for
+-- ---- what the code's values denote
 
--- types of a command in which none is too large
+-- types of a command in which none is over the size limit
 abbrev pub found_types_of : RustFoundTypes → FoundTypes
 found_types_of t = record { types = t.types.items; faults = map fault_of t.faults.items; bound = t.bound }
 
--- what was found of the types of a command
+-- the types of a command
 abbrev pub found_of : RustFound → Found
 found_of (rust.LargeWrittenType s) = written_too_large s
 found_of (rust.LargeTerm s) = term_too_large s
@@ -62,13 +62,13 @@ command_row_of k = record { asks = k.asks.items; binds = k.binds; found = found_
 abbrev pub row_of : RustRow → Row
 row_of r = record { end = r.end; syntax = map fault_of r.syntax.items; command = option_map command_row_of r.command }
 
--- piece after piece
+-- the rows of several pieces
 abbrev pub rows_of : List RustRow → List Row
 rows_of = map row_of
 
--- ---- what a row tells
+-- ---- the contents of a row
 
--- the entry of what a command binds, as a number of the table of types
+-- the entry of what a command binds, as a type id
 abbrev pub bound_by : Found → Option TyNo
 bound_by (typed t) = t.bound
 bound_by f = None
@@ -78,56 +78,56 @@ abbrev pub entry_in : Option CommandRow → Option TyNo
 entry_in None = None
 entry_in (Some k) = bound_by k.found
 
--- what was found of the command of a row
+-- what was found for the command of a row
 abbrev pub found_in : Row → Option Found
 found_in r = option_map (λ k. k.found) r.command
 
--- where a written type is too large
+-- the span of a written type over the size limit
 abbrev pub large_written_type : Option Found → Option Span
 large_written_type (Some (written_too_large s)) = Some s
 large_written_type f = None
 
--- where a term has a type that is too large
+-- the span of a term whose type is over the size limit
 abbrev pub large_term : Option Found → Option Span
 large_term (Some (term_too_large s)) = Some s
 large_term f = None
 
--- its types, where none is too large
+-- its types, if none is over the size limit
 abbrev pub types_of_found : Option Found → Option FoundTypes
 types_of_found (Some (typed t)) = Some t
 types_of_found f = None
 
--- the types of terms that were found
+-- the types of terms
 abbrev pub types_listed : Option FoundTypes → List (Option TyNo)
 types_listed None = []
 types_listed (Some t) = t.types
 
--- and the faults
+-- the diagnostics
 abbrev pub faults_listed : Option FoundTypes → List Fault
 faults_listed None = []
 faults_listed (Some t) = t.faults
 
--- the types of its terms
+-- the types of the terms of a command
 abbrev pub types_found : Option Found → List (Option TyNo)
 types_found f = types_listed (types_of_found f)
 
--- the faults that types decide
+-- the diagnostics of the types and terms of a command
 abbrev pub faults_found : Option Found → List Fault
 faults_found f = faults_listed (types_of_found f)
 
--- ---- what rows tell
+-- ---- the contents of rows
 
--- how many bytes pieces have together
+-- the total length of pieces in bytes
 abbrev pub bytes_of : List Row → ℕ
 bytes_of [] = 0
 bytes_of (r ∷ rows) = r.end + bytes_of rows
 
--- the first span that this gives of a row
+-- the first span that this function gives for a row
 abbrev pub first_in : (Option Found → Option Span) → List Row → Option Span
 first_in f [] = None
 first_in f (r ∷ rows) = option_or (f (found_in r)) (first_in f rows)
 
--- where the one type is that is too large: the first written type, and where there is none the first term
+-- the span of the type over the size limit: the first written type, or else the first term
 abbrev pub first_large : List Row → Option Span
 first_large rows = option_or (first_in large_written_type rows) (first_in large_term rows)
 
@@ -135,55 +135,55 @@ first_large rows = option_or (first_in large_written_type rows) (first_in large_
 abbrev pub all_types : List Row → List (Option TyNo)
 all_types rows = flat_map (λ r. types_found (found_in r)) rows
 
--- all faults that types decide, row after row
+-- all type diagnostics, row by row
 abbrev pub all_faults : List Row → List Fault
 all_faults rows = flat_map (λ r. faults_found (found_in r)) rows
 
--- all faults that tokens and the grammar decide, row after row
+-- all lexical and syntactic diagnostics, row by row
 abbrev pub all_syntax : List Row → List Fault
 all_syntax rows = flat_map (λ r. r.syntax) rows
 
--- ---- further on in a text
+-- ---- moved forward in a text
 
--- a span, so many bytes further on
+-- a span, moved forward by n bytes
 abbrev pub span_after : ℕ → Span → Span
 span_after n = span_placed (λ o. o + n)
 
--- where a span of the piece that starts at this byte is in the text
+-- the span in the text of a span in the piece that starts at this byte
 abbrev pub place_after : ℕ × Span → Span
 place_after p = span_after p.0 p.1
 
--- a fault
+-- a diagnostic, moved forward
 abbrev pub fault_after : ℕ → Fault → Fault
 fault_after n f = record { code = f.code; span = span_after n f.span }
 
--- its bytes are numbers that the code can hold
+-- its offsets fit in 64 bits
 abbrev pub Fits : Span → Type 0
 Fits s = (s.start < 2 ^ 64) × (s.end < 2 ^ 64)
 
--- so it is with all of these faults
+-- the spans of all these diagnostics fit
 abbrev pub AllFit : List Fault → Type 0
 AllFit fs = All (λ f. Fits f.span) fs
 
--- a command, with all its words
+-- a command, moved forward with all its tokens
 abbrev pub command_after : ℕ → CommandTree → CommandTree
 command_after n = respelled_command (λ o. o + n) (λ kind text span. text)
 
--- its types, and the faults among them
+-- the types of a command, with moved diagnostics
 abbrev pub found_types_after : ℕ → FoundTypes → FoundTypes
 found_types_after n t = record { types = t.types; faults = map (fault_after n) t.faults; bound = t.bound }
 
--- what was found of it
+-- what was found for a command, moved forward
 abbrev pub found_after : ℕ → Found → Found
 found_after n (written_too_large s) = written_too_large (span_after n s)
 found_after n (term_too_large s) = term_too_large (span_after n s)
 found_after n (typed t) = typed (found_types_after n t)
 
--- what is kept of it
+-- what is kept of a command, moved forward
 abbrev pub command_row_after : ℕ → CommandRow → CommandRow
 command_row_after n k = record { asks = k.asks; binds = k.binds; found = found_after n k.found }
 
--- what is kept of a piece
+-- what is kept of a piece, moved forward
 abbrev pub row_after : ℕ → Row → Row
 row_after n r = record { end = r.end + n; syntax = map (fault_after n) r.syntax; command = option_map (command_row_after n) r.command }
 

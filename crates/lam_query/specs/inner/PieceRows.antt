@@ -1,4 +1,4 @@
--- The row of a piece by itself, wherever the piece stands in a text. For private functions alone.
+-- The row of a piece, wherever the piece is in a text. For private functions only.
 use Rattle.std.specs.Prelude.{◌≡◌, ℕ, List, [], ◌∷◌, ◌++◌, length, All, Contains, flat_map, Option, Some, None}
 use Rattle.std.specs.Str.{IsUtf8}
 use Rattle.lam_token.specs.declared.kind.Kind.TheVariants.{Semicolon}
@@ -19,9 +19,9 @@ use Rattle.lam_query.specs.inner.Kept.{CommandRow, Row}
 use Rattle.lam_query.specs.inner.OnePiece.{HaveNoSemicolon, IsOwnOf}
 use Rattle.lam_query.specs.inner.Rows.{unbound, names_with, types_with, IsKeptOf}
 
--- ---- what names mean
+-- ---- meanings of names
 
--- what names and type names mean where a piece begins
+-- the meanings of names and type names where a piece starts
 pub record Sight : Type 0 where
   pub names : Lookup
   pub types : Lookup
@@ -30,7 +30,7 @@ pub record Sight : Type 0 where
 abbrev pub outset : Sight
 outset = record { names = unbound; types = unbound }
 
--- behind a piece that has these commands
+-- the meanings after a piece that has these commands
 abbrev pub sight_with : Sight → List CommandTree → List Typ → Option CommandRow → Sight
 sight_with s own ts r = record { names = names_with own ts r s.names; types = types_with own ts r s.types }
 
@@ -49,18 +49,18 @@ pub data AreTokensIn (piece : List ℕ) (tokens : List Lexeme) : Type 0 where
   before_semicolon : (t : Lexeme) → AreTokensOf piece (tokens ++ t ∷ []) → kind_of t ≡ Semicolon → token_end t ≡ length piece → AreTokensIn piece tokens
   alone : AreTokensOf piece tokens → AreTokensIn piece tokens
 
--- all that a command takes from outside has a number and is asked for
+-- each free name and type name of a command has a number, which is in the list
 pub record AreAsked (b : Bound) (c : CommandTree) (asks : List NameNo) : Type 0 where
   pub names : (x : Name) → Contains (free_in_command c) x → (n : ℕ) × (numbered b.names x ≡ Some n) × Contains asks (NameNumber n)
   pub types : (x : Name) → Contains (free_type_names_in_command c) x → (n : ℕ) × (numbered b.type_names x ≡ Some n) × Contains asks (TypeNameNumber n)
 
--- the numbers in a row are those of the names that its command asks for and binds
+-- the numbers in a row are those of the names that are free in its command and that it binds
 abbrev pub AreItsNumbers : Bound → List CommandTree → Option CommandRow → Type 0
 AreItsNumbers b [] None = Unit {0}
 AreItsNumbers b (c ∷ []) (Some k) = IsBinding b c k.binds × AreAsked b c k.asks
 AreItsNumbers b own r = ⊥
 
--- The row of a piece in front of which names mean this. These are its commands: one, or none.
+-- The row of a piece before which names have these meanings, with its commands: one, or none.
 pub record IsPieceRow (piece : List ℕ) (s : Sight) (own : List CommandTree) (r : Row) (ts : List Typ) (b : Bound) (d : Dialect) : Type 0 where
   pub counted : r.end ≡ length piece
   pub is_text : IsUtf8 piece
@@ -72,20 +72,20 @@ pub record IsPieceRow (piece : List ℕ) (s : Sight) (own : List CommandTree) (r
   pub kept : IsKeptOf s.names s.types own ts r.command d
   pub numbers : AreItsNumbers b own r.command
 
--- ---- piece after piece
+-- ---- several pieces
 
--- the rows of these pieces: names mean the one in front of them, and the other behind them
+-- the rows of these pieces, with the meanings of names before and after them
 abbrev pub AreRows : Sight → List (List ℕ) → List Row → Sight → List Typ → Bound → Dialect → Type 0
 AreRows s [] [] last ts b d = s ≡ last
 AreRows s (piece ∷ pieces) (r ∷ rows) last ts b d =
     (own : List CommandTree) × IsPieceRow piece s own r ts b d × AreRows (sight_with s own ts r.command) pieces rows last ts b d
 AreRows s pieces rows last ts b d = ⊥
 
--- pieces one behind the other
+-- pieces joined in order
 abbrev pub joined : List (List ℕ) → List ℕ
 joined pieces = flat_map (λ piece. piece) pieces
 
--- a text is made up of these pieces: a semicolon ends each but the last, and none ends that one
+-- a text consists of these pieces: each but the last ends with a semicolon
 pub record IsMadeUpOf (text : List ℕ) (ended : List (List ℕ)) (last : List ℕ) : Type 0 where
   pub whole : text ≡ joined (ended ++ last ∷ [])
   pub all_ended : All IsEnded ended

@@ -1,4 +1,4 @@
--- Pieces in their text. For private functions alone.
+-- Pieces in their text. For private functions only.
 use Rattle.std.specs.Prelude.{ℕ, List, take, drop, slice_range}
 use Rattle.lam_token.specs.Lexeme.{Lexeme}
 use Rattle.lam_query.specs.inner.OnePiece.{IsPieceOf}

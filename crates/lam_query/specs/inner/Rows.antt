@@ -1,4 +1,4 @@
--- The rows of a text's pieces, with bytes that count from the start of the text. For private functions alone.
+-- The rows of a text's pieces, with offsets relative to the start of the text. For private functions only.
 use Rattle.std.specs.Prelude.{◌≡◌, ◌⊎◌, ◌≤◌, ◌<◌, ◌+◌, ℕ, List, [], ◌∷◌, ◌++◌, length, map, take, drop, slice_range, All, Contains, Option, Some, None, if◌then◌else◌}
 use Rattle.std.specs.List.Sorted.{IsPermutation}
 use Rattle.lam_token.specs.declared.span.Span.{Span}
@@ -31,54 +31,54 @@ use Rattle.lam_query.specs.inner.Kept.{FoundTypes, Found, written_too_large, ter
 use Rattle.lam_query.specs.inner.OnePiece.{IsOwnOf, IsOffsetIn}
 use Rattle.lam_query.specs.inner.Pieces.{IsPieceBetween}
 
--- ---- what is found of names
+-- ---- lookups of names
 
 -- nothing is bound
 abbrev pub unbound : Lookup
 unbound x = None
 
--- one more name has this entry, if there is one
+-- a lookup with this entry for one more name, if there is one
 abbrev pub with_entry : Option Name → Option Typ → Lookup → Lookup
 with_entry b entry look x = if binds b x then Some entry else look x
 
--- the same is found of these names
+-- both lookups give the same for these names
 abbrev pub AgreeOn : List Name → Lookup → Lookup → Type 0
 AgreeOn xs f g = (x : Name) → Contains xs x → f x ≡ g x
 
--- the entries of names behind these commands, which have this context
+-- the entries of names after these commands, which have this context
 abbrev pub entries_of : List CommandTree → Context → Lookup
 entries_of done g x = entry_named x (names_behind done) g
 
--- what type names stand for where these abbreviations are in sight
+-- what type names stand for with these abbreviations in scope
 abbrev pub types_of : List Abbreviation → Lookup
 types_of bs x = type_named x bs
 
--- of all that a command takes from outside the same is found behind these commands
+-- for the free names and type names of a command, the same is found after these commands
 pub record SeesAs (c : CommandTree) (of_names of_types : Lookup) (done : List CommandTree) (g : Context) : Type 0 where
   pub names : AgreeOn (free_in_command c) of_names (entries_of done g)
   pub types : AgreeOn (free_type_names_in_command c) of_types (types_of (abbreviations_behind done))
 
 -- ---- one command
 
--- its written types, where these abbreviations are in sight: the first that is too large; or none is, and this is what its type name stands for
+-- its written types, with these abbreviations in scope: the first over the size limit; or none is, and this is what its type name stands for
 abbrev pub IsWrittenIn : List Abbreviation → CommandTree → List Typ → Found → Type 0
 IsWrittenIn bs c ts (written_too_large s) = first_over_limit bs (written_in_command c) ≡ Some s
 IsWrittenIn bs c ts (term_too_large s) = (first_over_limit bs (written_in_command c) ≡ None) × (type_name_bound c ≡ None)
 IsWrittenIn bs c ts (typed t) =
     (first_over_limit bs (written_in_command c) ≡ None) × ((x : Name) → type_name_bound c ≡ Some x → answer ts t.bound ≡ type_bound bs c)
 
--- behind so many terms, its first term whose type is too large is the first of the document, whatever comes behind the command; it is here
+-- its first term whose type is over the size limit is the first of the document, whatever follows the command; this many terms precede the command, and this is the span
 pub record IsLargeTermAt (done : List CommandTree) (before : ℕ) (c : CommandTree) (s : Span) (d : Dialect) : Type 0 where
   pub number : ℕ
   pub inside : number < length (table (c ∷ [])).places
   pub first : (rest : List CommandTree) → IsFirstTooLarge (places_in (done ++ c ∷ rest)) (before + number) d
   pub span : s ≡ (place_row_numbered (table (c ∷ [])) number).span
 
--- the fault of a term of one command that is to blame
+-- the diagnostic of a term at fault in one command
 abbrev pub own_fault : CommandTree → Blamed → Fault
 own_fault c b = fault_at b.code (place_row_numbered (table (c ∷ [])) b.number).span
 
--- with what is known of the commands before it these types and faults are known of all
+-- together with the commands before it, these are the types and the terms at fault of all
 pub record AreTypesFound (done : List CommandTree) (g : Context) (found : List (Option Typ)) (blames : List Blamed)
     (c : CommandTree) (ts : List Typ) (t : FoundTypes) (d : Dialect) : Type 0 where
   pub own : List Blamed
@@ -86,20 +86,19 @@ pub record AreTypesFound (done : List CommandTree) (g : Context) (found : List (
   pub checked : AreChecked (done ++ c ∷ []) (context_after g c (answer ts t.bound)) (found ++ answers ts t.types) (blames ++ renumbered (length found) own) d
   pub faults : t.faults ≡ map written_fault (faults_in (abbreviations_behind done) (written_in_command c)) ++ map (own_fault c) own
 
--- what was found of it behind these commands
+-- what was found for it after these commands
 abbrev pub IsFoundIn : (done : List CommandTree) (g : Context) (found : List (Option Typ)) (blames : List Blamed)
     → CommandTree → List Typ → Found → Dialect → Type 0
 IsFoundIn done g found blames c ts (written_too_large s) d = Unit {0}
 IsFoundIn done g found blames c ts (term_too_large s) d = IsLargeTermAt done (length found) c s d
 IsFoundIn done g found blames c ts (typed t) d = AreTypesFound done g found blames c ts t d
 
--- the numbers in it stand for types of the table
+-- the type ids in it stand for types of the table
 abbrev pub StandInFound : List Typ → Found → Type 0
 StandInFound ts (typed t) = AllStandIn ts t.types × StandsIfAny ts t.bound
 StandInFound ts f = Unit {0}
 
--- This was found of a command where names and type names mean this. It holds behind all commands that give the names which the command
--- takes from outside these meanings.
+-- This was found for a command where names and type names have these meanings. It holds after all commands that give these meanings to its free names.
 pub record IsFoundOf (names types : Lookup) (c : CommandTree) (ts : List Typ) (f : Found) (d : Dialect) : Type 0 where
   pub stand : StandInFound ts f
   pub written : (bs : List Abbreviation) → AgreeOn (free_type_names_in_command c) types (types_of bs) → IsWrittenIn bs c ts f
@@ -108,28 +107,28 @@ pub record IsFoundOf (names types : Lookup) (c : CommandTree) (ts : List Typ) (f
 
 -- ---- one piece
 
--- what stands in front of a byte of a text: its commands, and what they give names and type names to mean
+-- what precedes a byte of a text: the commands, and the meanings of names and type names after them
 pub record Front : Type 0 where
   pub end : ℕ
   pub commands : List CommandTree
   pub names : Lookup
   pub types : Lookup
 
--- nothing
+-- the empty front
 abbrev pub nothing : Front
 nothing = record { end = 0; commands = []; names = unbound; types = unbound }
 
--- what the command of a piece gives names to mean
+-- the meanings of names after the command of a piece
 abbrev pub names_with : List CommandTree → List Typ → Option CommandRow → Lookup → Lookup
 names_with (c ∷ []) ts (Some r) names = with_entry (name_bound c) (answer ts (bound_by r.found)) names
 names_with own ts r names = names
 
--- and type names
+-- the meanings of type names after it
 abbrev pub types_with : List CommandTree → List Typ → Option CommandRow → Lookup → Lookup
 types_with (c ∷ []) ts (Some r) types = with_entry (type_name_bound c) (answer ts (bound_by r.found)) types
 types_with own ts r types = types
 
--- with a piece that has these commands
+-- a front extended by a piece that has these commands
 abbrev pub front_with : Front → List CommandTree → List Typ → Row → Front
 front_with f own ts r = record {
   end = r.end;
@@ -138,13 +137,13 @@ front_with f own ts r = record {
   types = types_with own ts r.command f.types;
 }
 
--- what is kept of the one command of a piece; of no command nothing is kept
+-- what is kept of the only command of a piece, or nothing if it has none
 abbrev pub IsKeptOf : (names types : Lookup) → List CommandTree → List Typ → Option CommandRow → Dialect → Type 0
 IsKeptOf names types [] ts None d = Unit {0}
 IsKeptOf names types (c ∷ []) ts (Some r) d = IsFoundOf names types c ts r.found d
 IsKeptOf names types own ts r d = ⊥
 
--- The row of the piece that begins where the front ends. These are its commands: one, or none.
+-- The row of the piece that starts where the front ends, with its commands: one, or none.
 pub record IsRow (text : List ℕ) (f : Front) (own : List CommandTree) (r : Row) (ts : List Typ) (d : Dialect) : Type 0 where
   pub forward : f.end ≤ r.end
   pub inside : r.end ≤ length text
@@ -154,7 +153,7 @@ pub record IsRow (text : List ℕ) (f : Front) (own : List CommandTree) (r : Row
   pub syntax : AreSyntaxFaults tokens r.syntax
   pub kept : IsKeptOf f.names f.types own ts r.command d
 
--- ---- piece after piece
+-- ---- several pieces
 
 -- the rows of the pieces between one front and another
 abbrev pub AreRowsFrom : (text : List ℕ) → Front → List Row → Front → List Typ → Dialect → Type 0
@@ -162,15 +161,15 @@ AreRowsFrom text f [] last ts d = f ≡ last
 AreRowsFrom text f (r ∷ rows) last ts d =
     (own : List CommandTree) × IsRow text f own r ts d × AreRowsFrom text (front_with f own ts r) rows last ts d
 
--- ---- what rows tell
+-- ---- the contents of rows
 
--- the commands have this size fault, or none
+-- the commands have this size diagnostic, or none
 abbrev pub IsSizedBy : List CommandTree → Option Span → Dialect → Type 0
 IsSizedBy commands (Some s) d = IsSizeFault commands s d
 IsSizedBy commands None d = IsSmall commands d
 
--- None of the types up to a front is too large, and this is known of its commands and of what names mean behind them. Their faults are those
--- of the rows; where a term stands does not depend on the commands behind it.
+-- No type up to a front is over the size limit; this is known of its commands and of the meanings of names after them. Their diagnostics are those of the rows; the span
+-- of a term does not depend on later commands.
 pub record AreAllTyped (f : Front) (rows : List Row) (ts : List Typ) (d : Dialect) : Type 0 where
   pub context : Context
   pub blames : List Blamed
@@ -179,7 +178,7 @@ pub record AreAllTyped (f : Front) (rows : List Row) (ts : List Typ) (d : Dialec
   pub types : (x : Name) → f.types x ≡ types_of (abbreviations_behind f.commands) x
   pub faults : (rest : List CommandTree) → IsPermutation (map written_fault (faults [] f.commands) ++ map (blame_fault (f.commands ++ rest)) blames) (all_faults rows)
 
--- the tokens up to a front spell its commands, and their faults are those of the rows
+-- the tokens up to a front derive its commands, and their diagnostics are those of the rows
 pub record AreSpelled (text : List ℕ) (f : Front) (rows : List Row) : Type 0 where
   pub tokens : List Lexeme
   pub are_tokens : AreTokensOf (take f.end text) tokens
@@ -188,7 +187,7 @@ pub record AreSpelled (text : List ℕ) (f : Front) (rows : List Row) : Type 0 w
   pub are_of_syntax : AreSyntaxFaults tokens of_syntax
   pub same : IsPermutation of_syntax (all_syntax rows)
 
--- The piece that has an offset, by the number of its row; the last one has all offsets from its start on.
+-- The piece around an offset, by the index of its row; the last one covers every offset from its start on.
 pub record IsRowAround (text : List ℕ) (offset : ℕ) (rows : List Row) (p : PlacedRow) (ts : List Typ) (d : Dialect) : Type 0 where
   pub before : List Row
   pub row : Row

@@ -1,4 +1,4 @@
--- The binders that a term sees. For private functions alone.
+-- The binders in scope at a term. For private functions only.
 use Rattle.std.specs.Prelude.{◌≡◌, List, map, reverse, Option}
 use Rattle.std.specs.Option.{option_map}
 use Rattle.lam_rules.specs.Types.{Typ}
@@ -18,11 +18,11 @@ name_seen b = option_map (λ x. x.now) b.name
 abbrev pub entries_seen : List Typ → List SeenBinder → List (Option Typ)
 entries_seen ts bs = map (λ b. answer ts b.entry) bs
 
--- the commands up to a front bind these names, from the first on
+-- the commands up to a front bind these names, in order
 abbrev pub AreBindersBehind : Front → List SeenBinder → Type 0
 AreBindersBehind f bs = names_behind f.commands ≡ reverse (map name_seen bs)
 
--- None of their types is too large, these are their entries, and names mean this by them.
+-- None of their types is over the size limit, these are their entries, and names mean this by them.
 pub record AreEntriesBehind (f : Front) (bs : List SeenBinder) (ts : List Typ) (d : Dialect) : Type 0 where
   pub found : List (Option Typ)
   pub blames : List Blamed

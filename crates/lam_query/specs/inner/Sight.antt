@@ -1,4 +1,4 @@
--- The names that a term sees, while they are listed. For private functions alone.
+-- The names in scope at a term, while they are listed. For private functions only.
 use Rattle.std.specs.Prelude.{◌≡◌, ℕ, List, [], ◌∷◌, Option, Some, String, string_bytes, false, option_map, IfSome, if◌then◌else◌}
 use Rattle.std.specs.Option.{option_and_then}
 use Rattle.std.specs.BTreeMap.{BTreeMap, get, get_by_text}
@@ -14,11 +14,11 @@ use Rattle.lam_query.specs.declared.binders.SeenBinder.{SeenBinder}
 use Rattle.lam_query.specs.inner.SeenBinders.{name_seen}
 use Rattle.lam_query.specs.Completions.{Item}
 
--- the text of an entry over the types of a table, if there are any
+-- an entry as text, over the types of a table if there is one
 abbrev pub detail_seen : Option (List Typ) → Option TyNo → Option Text
 detail_seen types entry = option_and_then (λ ts. option_map text (answer ts entry)) types
 
--- what is told of the innermost binder of a name, after one more binder inside of those before
+-- the detail of the innermost binder of a name, after one more binder inside those before
 abbrev pub detail_with : Option (List Typ) → Name → (before : Option (Option Text)) → SeenBinder → Option (Option Text)
 detail_with types x before b = if binds (name_seen b) x then Some (detail_seen types b.entry) else before
 
@@ -27,14 +27,14 @@ abbrev pub detail_after : Option (List Typ) → Name → (before : Option (Optio
 detail_after types x before [] = before
 detail_after types x before (b ∷ bs) = detail_after types x (detail_with types x before b) bs
 
--- what a map has for a name
+-- what a map holds for a name
 abbrev pub detail_for : BTreeMap (String Global) (Option (String Global)) → Name → Option (Option Text)
 detail_for m x = option_map (option_map (λ s. string_bytes s)) (get_by_text m x)
 
--- the entry of the list for a name and what is told of it
+-- the completion item for a name and its detail
 abbrev pub item_seen : String Global × Option (String Global) → Item
 item_seen e = record { label = string_bytes e.0; detail = option_map (λ s. string_bytes s) e.1; is_field = false }
 
--- the text that a map has for a number is that of the number's type
+-- the text that a map holds for a type id is that of the type
 abbrev pub AreTexts : List Typ → BTreeMap ℕ (String Global) → Type 0
 AreTexts types m = (n : ℕ) → IfSome (get nat_cmp m n) (λ s. string_bytes s ≡ text (type_at types n))

@@ -1,4 +1,4 @@
--- Declarations that stand in for the commands in front of one. For private functions alone.
+-- Declarations that stand in for the commands before one. For private functions only.
 use Rattle.std.specs.Prelude.{◌≡◌, List, [], ◌∷◌, ◌++◌, length, map, codes, Option, Some, None}
 use Rattle.lam_token.specs.declared.span.Span.{Span}
 use Rattle.lam_rules.specs.Types as type
@@ -11,7 +11,7 @@ use Rattle.lam_query.specs.declared.stand_ins.Alone.{Alone}
 use Rattle.lam_query.specs.inner.Entered.{entered}
 use Rattle.lam_query.specs.inner.PieceRows.{Sight}
 
--- the place of what stands in no text
+-- the span of what is in no text
 abbrev pub nowhere : Span
 nowhere = record { start = 0; end = 0 }
 
@@ -34,30 +34,30 @@ abbrev mutual
 abbrev pub written_type : Typ → TypeTree
 written_type t = type_tree nowhere (written_node t)
 
--- a written type that stands for this entry; for none it is a faulty one, in which a label stands twice
+-- a written type that stands for this entry; for none it is an invalid one, which repeats a label
 abbrev pub written_entry : Option Typ → TypeTree
 written_entry (Some t) = written_type t
 written_entry None =
     type_tree nowhere (record_type (type_field (word (codes "a") nowhere) (written_type type.unit) (type_field (word (codes "a") nowhere) (written_type type.unit) no_type_fields)))
 
--- a name is declared to have this entry
+-- the declaration of a name with this entry
 abbrev pub declared : Name × Option Typ → CommandTree
 declared p = declaration (word p.0 nowhere) (written_entry p.1)
 
--- a type name stands for this
+-- the abbreviation of a type name for this
 abbrev pub abbreviated : Name × Option Typ → CommandTree
 abbreviated p = abbreviation (word p.0 nowhere) (written_entry p.1)
 
--- a declaration of each name that the command takes from outside and that is bound, and behind them an abbreviation of each such type name
+-- a declaration of each free name of the command that is bound, followed by an abbreviation of each such type name
 abbrev pub stand_ins : Sight → CommandTree → List CommandTree
 stand_ins s c = map declared (entered s.names (each_once (free_in_command c))) ++ map abbreviated (entered s.types (each_once (free_type_names_in_command c)))
 
--- these alone
+-- exactly these stand-ins
 pub record AreStandIns (s : Sight) (c : CommandTree) (a : Alone) : Type 0 where
   pub commands : map command_of a.commands.items ≡ stand_ins s c
   pub names : a.names ≡ length (entered s.names (each_once (free_in_command c)))
 
--- the command is the last one, behind its stand-ins, of which so many declare names
+-- the command comes last, after its stand-ins, and this many of them declare names
 pub record IsAlone (s : Sight) (c : CommandTree) (a : Alone) : Type 0 where
   pub commands : map command_of a.commands.items ≡ stand_ins s c ++ c ∷ []
   pub names : a.names ≡ length (entered s.names (each_once (free_in_command c)))

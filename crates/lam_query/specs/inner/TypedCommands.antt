@@ -1,4 +1,4 @@
--- One command without names, in an environment of its own. For private functions alone.
+-- One command in nameless form, in an environment of its own. For private functions only.
 use Rattle.std.specs.Prelude.{◌≡◌, List, [], Option}
 use Rattle.lam_rules.specs.Types.{Typ}
 use Rattle.lam_rules.specs.Typing.{Context}
@@ -17,20 +17,20 @@ use Rattle.lam_query.specs.declared.typed_commands.Stated.{Stated}
 use Rattle.lam_query.specs.inner.Bound.{found_over}
 use Rattle.lam_query.specs.inner.Entered.{entered, names_onto, entries_onto, abbreviations_onto}
 
--- the type names that a command takes from outside, each entered once with what it is bound to
+-- the free type names of a command that are bound, each entered once with what it is bound to
 abbrev pub types_around : List Typ → Bound → CommandTree → List Abbreviation
 types_around ts b c = abbreviations_onto [] (entered (found_over ts b.type_names) (each_once (free_type_names_in_command c)))
 
--- its free names, those that are bound
+-- its free names that are bound
 abbrev pub names_around : List Typ → Bound → CommandTree → List (Option Name)
 names_around ts b c = names_onto [] (entered (found_over ts b.names) (each_once (free_in_command c)))
 
--- and their entries
+-- the entries of its free names
 abbrev pub entries_around : List Typ → Bound → CommandTree → Context
 entries_around ts b c = entries_onto [] (entered (found_over ts b.names) (each_once (free_in_command c)))
 
--- This is the statement of the command in that environment, with the entries of its names and the faults of its written types. The numbers
--- in it stand for types of another table.
+-- The statement of the command in that environment, with the entries of its names and the diagnostics of its written types. The type ids in it stand for types of another
+-- table.
 pub record IsStatedBy (ts : List Typ) (b : Bound) (c : CommandTree) (us : List Typ) (s : Stated) : Type 0 where
   pub states : interned_statement us s.statement ≡ statement (types_around ts b c) (names_around ts b c) c
   pub entries : context_under us s.entries.items ≡ entries_around ts b c
@@ -38,7 +38,7 @@ pub record IsStatedBy (ts : List Typ) (b : Bound) (c : CommandTree) (us : List T
   pub statement_stands : StandInStatement us s.statement
   pub entries_stand : AllStandIn us s.entries.items
 
--- the number that a statement binds: that of an abbreviation's type, or else this entry
+-- the type id that a statement binds: that of an abbreviation's type, otherwise this entry
 abbrev pub bound_number : InternedStatement → Option TyNo → Option TyNo
 bound_number (interned.Abbreviation number) entry = number
 bound_number s entry = entry

@@ -1,4 +1,4 @@
--- The types of a few commands. For private functions alone.
+-- The types of a few commands. For private functions only.
 use Rattle.std.specs.Prelude.{◌≡◌, List, [], map, None}
 use Rattle.lam_rules.specs.declared.rules.Dialect.{Dialect}
 use Rattle.lam_syntax.specs.Trees.{CommandTree}
@@ -23,6 +23,6 @@ pub record AreFoundOf (commands : List CommandTree) (resolved : Resolved) (typin
   pub entries : AreEntries (statements_of resolved) (origins_of resolved) typing
   pub dialect : dialect_of typing ≡ d
 
--- so it is of both together
+-- the same for both together
 abbrev pub AreTypesOf : List CommandTree → Types → Dialect → Type 0
 AreTypesOf commands types d = AreFoundOf commands types.resolved types.typing d

@@ -1,4 +1,4 @@
--- How the value of a model may hold types: a type is told apart from others by a code of numbers.
+-- An encoding of types, so that they can be held in the value of a model: types are told apart by their codes.
 use Rattle.std.specs.Prelude.{◌≡◌, List}
 use Rattle.std.specs.Coded.{Coded, coded_ℕ, coded_list}
 use Rattle.std.proofs.Common.{ap, refl}
@@ -52,6 +52,6 @@ mutual
 abbrev pub coded_type : Coded Typ
 coded_type = record { code = code_of; inj = code_of-injective }
 
--- and so are lists of types
+-- lists of types are told apart by their codes
 abbrev pub coded_types : Coded (List Typ)
 coded_types = coded_list coded_type

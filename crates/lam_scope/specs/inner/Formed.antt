@@ -1,4 +1,4 @@
--- What the form of a term and a command that is passed add to what was found before.
+-- What resolving a term and a command adds to what was found before.
 use Rattle.std.specs.Prelude.{◌≡◌, List, ◌++◌, Result, IfOk, OnOk}
 use Rattle.lam_rules.specs.declared.terms.Core.{Core}
 use Rattle.lam_rules.specs.TermViews.{term_of}
@@ -11,14 +11,16 @@ use Rattle.lam_scope.specs.Expansions.{Abbreviation}
 use Rattle.lam_scope.specs.Nameless.{abbreviations_after, written_in_node, written_in_command, faults_in, first_over_limit}
 use Rattle.lam_scope.specs.Views.{abbreviations_of, IsLimit}
 
--- The answer is the nameless form of a term that sees these abbreviations: its uses were the first of those that were left, and the faults of its written types are behind those before them. There is none where one of its written types is too large, of which the answer then tells the first, or where memory ran out.
+-- The answer is the nameless form of a term under these abbreviations: it consumed the term's uses, the first of those left, and appended the diagnostics of its written
+-- types. It is an error if one of the written types is over the size limit, naming the first, or if allocation fails.
 pub record IsFormed (bs : List Abbreviation) (n : TermNode) (old new : Forming) (answer : Result Core ScopeFault) : Type 0 where
   pub form : IfOk answer (λ e. term_of e ≡ counted_node bs n old.uses)
   pub uses : OnOk answer (new.uses ≡ past_node n old.uses)
   pub faults : OnOk answer (new.faults.items ≡ old.faults.items ++ faults_in bs (written_in_node n))
   pub limit : IsLimit (first_over_limit bs (written_in_node n)) answer
 
--- A command is passed: those behind it see the type name that it binds, its uses were the first of those that were left, and the faults of its written types are behind those before them. It is not where one of its written types is too large, of which the answer then tells the first, or where memory ran out.
+-- A command was resolved: the type name that it binds is in scope, its uses are consumed, and the diagnostics of its written types are appended. It is an error if one of
+-- the written types is over the size limit, naming the first, or if allocation fails.
 pub record IsPassed {T : Type 0} (c : CommandTree) (old new : Resolver) (answer : Result T ScopeFault) : Type 0 where
   pub abbreviations : OnOk answer (abbreviations_of new.abbreviations ≡ abbreviations_after (abbreviations_of old.abbreviations) c)
   pub uses : OnOk answer (new.forming.uses ≡ past_command c old.forming.uses)

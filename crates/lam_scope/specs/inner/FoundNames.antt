@@ -1,4 +1,4 @@
--- Names that are found one after the other, each kept where it comes first. For private contracts only.
+-- Names in the order in which they are first found. For private contracts only.
 use Rattle.std.specs.Prelude.{ℕ, List, [], ◌∷◌, ◌++◌, map, Bool, false, ◌||◌, Option, if◌then◌else◌}
 use Rattle.std.specs.Str.{bytes_eq}
 use denote.Ref.{Bor}
@@ -9,21 +9,21 @@ use Rattle.lam_scope.specs.FreeNames.{without}
 abbrev pub letters_of : List (Bor (List ℕ)) → List Name
 letters_of = map (λ x. x.now)
 
--- whether a name is one of some
+-- whether a name is one of these
 abbrev pub is_among : Name → List Name → Bool
 is_among x [] = false
 is_among x (y ∷ ys) = bytes_eq y x || is_among x ys
 
--- one more name behind those before, unless it is one of them
+-- the names with one more appended, unless it is one of them
 abbrev pub with_name : Name → List Name → List Name
 with_name x found = if is_among x found then found else found ++ x ∷ []
 
--- names behind those before, each but once
+-- the names with others appended, each once
 abbrev pub found_after : List Name → List Name → List Name
 found_after found [] = found
 found_after found (x ∷ xs) = found_after (with_name x found) xs
 
--- those of some names that none of these binders binds
+-- the names among these that none of the binders binds
 abbrev pub free_under : List (Option Name) → List Name → List Name
 free_under [] xs = xs
 free_under (b ∷ bs) xs = free_under bs (without b xs)

@@ -1,4 +1,4 @@
--- What the interning of written types and of terms adds to a table and to the faults before, and answers. For private contracts only.
+-- What interning written types and terms adds to a table and to the diagnostics before, and its result. For private contracts only.
 use Rattle.std.specs.Prelude.{◌≡◌, ℕ, List, [], ◌∷◌, ◌++◌, Bool, true, false, Option, None, Some, Result, Vec, IfOk, OnOk}
 use Rattle.std.specs.Option.{option_map}
 use Rattle.std.specs.declared.alloc.Global.{Global}
@@ -23,7 +23,7 @@ use Rattle.lam_scope.specs.Expansions.{expansion, expansion_of_node, expansion_o
 use Rattle.lam_scope.specs.Numbered.{Numbered, succ, pred, is_zero, fix, written_over, StandsIfAny}
 use Rattle.lam_scope.specs.NumberedNames.{NumberedName, abbreviations_over}
 
--- the number that a type name is told to stand for, if it is bound and stands for a type
+-- the type id of what a type name stands for, if it is bound and stands for a type
 abbrev pub number_of_named : Option (Option TyNo) → Option TyNo
 number_of_named None = None
 number_of_named (Some w) = w
@@ -33,57 +33,58 @@ abbrev pub is_named : Option (Option TyNo) → Bool
 is_named None = false
 is_named (Some w) = true
 
--- a word before a term, as the term of that form
+-- a term with a prefix keyword
 abbrev pub prefixed_numbers : Prefix → Numbered → Numbered
 prefixed_numbers prefix.Fix e = fix e
 prefixed_numbers prefix.Succ e = succ e
 prefixed_numbers prefix.Pred e = pred e
 prefixed_numbers prefix.IsZero e = is_zero e
 
--- labelled numbers, if there are any
+-- labelled type ids, if there are any
 abbrev pub items_in : Option (Vec (Bor (List ℕ) × TyNo) Global) → Option (List (Bor (List ℕ) × TyNo))
 items_in = option_map (λ v. v.items)
 
--- the fields of labelled numbers, if there are any
+-- the fields of labelled type ids, if there are any
 abbrev pub given_over : List Typ → Option (List (Bor (List ℕ) × TyNo)) → Option Fields
 given_over ts = option_map (fields_given ts)
 
--- each of the numbers stands for a type of the table
+-- each of the type ids is that of a type of the table
 abbrev pub GivenStand : List Typ → Option (List (Bor (List ℕ) × TyNo)) → Type 0
 GivenStand ts None = Unit {0}
 GivenStand ts (Some items) = AllStand ts items
 
--- one more labelled number behind the others
+-- labelled type ids with one more appended
 abbrev pub with_given : Bor (List ℕ) → List (Bor (List ℕ) × TyNo) → TyNo → List (Bor (List ℕ) × TyNo)
 with_given label items number = items ++ (label, number) ∷ []
 
--- The answer has the number of what a written type of this form stands for, and its faults are behind those before them, unless memory ran out.
+-- The answer is the type id of what a written type of this form stands for, and its diagnostics are appended, unless allocation fails.
 pub record IsTypeInterned (names : List NumberedName) (n : TypeNode) (old new : List Typ) (before after : List TypeFault) (answer : Result (Option TyNo) AllocError) : Type 0 where
   pub keeps : Keeps old new
   pub number : IfOk answer (λ w. written_over new w ≡ expansion_of_node (abbreviations_over old names) n)
   pub stands : IfOk answer (λ w. StandsIfAny new w)
   pub faults : OnOk answer (after ≡ before ++ node_faults (abbreviations_over old names) n)
 
--- The answer has the numbers of what the types of these fields stand for, if they all do and no label stands twice.
+-- The answer has the type ids of what the types of these fields stand for, if they all do and no label is repeated.
 pub record AreFieldsInterned (names : List NumberedName) (fs : TypeFields) (old new : List Typ) (before after : List TypeFault) (answer : Result (Option (Vec (Bor (List ℕ) × TyNo) Global)) AllocError) : Type 0 where
   pub keeps : Keeps old new
   pub numbers : IfOk answer (λ o. given_over new (items_in o) ≡ expansion_of_fields (abbreviations_over old names) fs)
   pub stand : IfOk answer (λ o. GivenStand new (items_in o))
   pub faults : OnOk answer (after ≡ before ++ field_faults (abbreviations_over old names) no_type_fields fs)
 
--- The written types of a text have their numbers, and their faults are behind those before them, unless one of them is too large, of which the answer then tells the first, or memory ran out.
+-- These written types are interned and their diagnostics appended, unless one of them is over the size limit, in which case the error names the first, or allocation
+-- fails.
 pub record AreTypesInterned {T : Type 0} (names : List NumberedName) (us : List TypeTree) (old new : List Typ) (before after : List TypeFault) (answer : Result T ScopeFault) : Type 0 where
   pub keeps : Keeps old new
   pub faults : OnOk answer (after ≡ before ++ faults_in (abbreviations_over old names) us)
   pub limit : IsLimit (first_over_limit (abbreviations_over old names) us) answer
 
--- The answer has the number of what one of them stands for.
+-- The answer is the type id of what a written type stands for.
 pub record IsWrittenInterned (names : List NumberedName) (u : TypeTree) (old new : List Typ) (before after : List TypeFault) (answer : Result (Option TyNo) ScopeFault) : Type 0 where
   pub types : AreTypesInterned names (u ∷ []) old new before after answer
   pub number : IfOk answer (λ w. written_over new w ≡ expansion (abbreviations_over old names) u)
   pub stands : IfOk answer (λ w. StandsIfAny new w)
 
--- The answer is the nameless form of a term of this form that sees these type names and these binders of names.
+-- The answer is the nameless form of a term of this form under these type names and these binders of names.
 pub record IsInterned (names : List NumberedName) (xs : List (Option Name)) (n : TermNode) (old new : List Typ) (before after : List TypeFault) (answer : Result InternedTerm ScopeFault) : Type 0 where
   pub types : AreTypesInterned names (written_in_node n) old new before after answer
   pub form : IfOk answer (λ e. interned_term new e ≡ nameless_node (abbreviations_over old names) xs n)

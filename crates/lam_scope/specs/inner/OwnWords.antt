@@ -1,4 +1,4 @@
--- The own words of the terms of a tree, in the order of places, and the search for one of them. For private contracts only.
+-- The tokens by which the terms of a tree are found, in the order of subterms, and the search for one of them. For private contracts only.
 use Rattle.std.specs.Prelude.{ℕ, ◌-◌, List, [], ◌∷◌, ◌++◌, Bool, Option, Some, None, if◌then◌else◌}
 use Rattle.lam_syntax.specs.Trees as tree
 use Rattle.lam_syntax.specs.Trees.{TermTree, term_tree, TermNode, CommandTree, definition, declaration, evaluation}
@@ -8,12 +8,12 @@ use Rattle.lam_scope.specs.declared.own_words.Target.{Target}
 use Rattle.lam_scope.specs.declared.own_words.Target.TheVariants as target
 use Rattle.lam_scope.specs.PlacedTerms.{OwnWord, no_word, own_word, is_variable_at, is_projection_at}
 
--- The own words of the terms in a term: those of its parts, from left to right, and its own behind them.
+-- Those of the terms in a term: of its parts, from left to right, and then its own.
 abbrev mutual
   pub words_in : TermTree → List OwnWord
   words_in (term_tree r n) = words_below n ++ own_word n ∷ []
 
-  -- those in the parts of a term of this form; the first part of a letrec is its derived fix, behind the derived lambda
+  -- those in the parts of a term of this form; the first part of a letrec is its derived fix, after the derived lambda
   pub words_below : TermNode → List OwnWord
   words_below (tree.lambda b u t) = words_in t
   words_below (tree.if_term c t u) = words_in c ++ words_in t ++ words_in u
@@ -43,22 +43,22 @@ abbrev pub commands_words : List CommandTree → List OwnWord
 commands_words [] = []
 commands_words (c ∷ cs) = command_words c ++ commands_words cs
 
--- whether a word is the one that is sought
+-- whether a token is the one searched for
 abbrev pub is_target : Target → OwnWord → Bool
 is_target (target.Variable o) w = is_variable_at o w
 is_target (target.Projection o) w = is_projection_at o w
 
--- the search comes to a word, where so many places are left, or has found another before it
+-- the search passes a token, where this many subterms are left, or has found another before it
 abbrev pub at_word : Reached → (is_sought : Bool) → Reached
 at_word (Here n) b = Here n
 at_word (Behind n) b = if b then Here n else Behind (n - 1)
 
--- the search goes on among words
+-- the search continues among tokens
 abbrev pub seek_on : Target → Reached → List OwnWord → Reached
 seek_on t r [] = r
 seek_on t r (w ∷ ws) = seek_on t (at_word r (is_target t w)) ws
 
--- the number of the place that the search found, counted from 0, where there are so many places
+-- the zero-based index of the subterm that the search found, where there are this many subterms
 abbrev pub number_of : (places : ℕ) → Reached → Option ℕ
 number_of m (Here n) = Some (m - n)
 number_of m (Behind n) = None

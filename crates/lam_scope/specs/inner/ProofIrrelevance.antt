@@ -1,4 +1,4 @@
--- That labels are distinct has one proof at most, as what an invariant says must have: two documents that agree in all else are one.
+-- That labels are distinct has at most one proof, as an invariant must have: documents that agree in all else are equal.
 use Rattle.std.specs.Prelude.{List, [], ◌∷◌, Option, Some, None}
 use Rattle.std.specs.Coded.{×_prop, Unit-prop}
 use Rattle.lam_rules.specs.Types.{Label, Typ, bool, nat, unit, top, arrow, record_of, Fields, no_fields, field, IsAbsent, IsWellFormed, AreWellFormed}
@@ -58,7 +58,7 @@ IsWellFormedStatement-prop (declares w) = IsWellFormedEntry-prop w
 IsWellFormedStatement-prop (abbreviates w) = IsWellFormedEntry-prop w
 IsWellFormedStatement-prop (states e) = IsWellFormedTerm-prop e
 
--- of all statements of a document, as `Resolved` holds it
+-- for all statements of a document, as in `Resolved`
 pub AreWellFormedStatements-prop : (statements : List Statement) → IsProp (AreWellFormedStatements statements)
 AreWellFormedStatements-prop [] = Unit-prop
 AreWellFormedStatements-prop (statement ∷ rest) = ×_prop (IsWellFormedStatement-prop statement) (AreWellFormedStatements-prop rest)

@@ -1,4 +1,4 @@
--- With which status the program ends: by the answer of its run, and by the words of its command line.
+-- The exit status of the program, by the result of its run and by its arguments.
 use Rattle.std.specs.Prelude.{◌≡◌, ℕ, List, Option, Result, Ok, Err}
 use Rattle.lam_session.specs.State.{State, dialect_of, fresh}
 use Rattle.lam_session.specs.declared.states.Config.{Config}
@@ -12,12 +12,12 @@ use Rattle.lam_server.specs.declared.faults.RunFault.{RunFault}
 
 -- ---- a run
 
--- the status that a run answered, or that of its fault
+-- the status that a run returned, or that of its error
 abbrev pub status_after : Result ℕ RunFault → ℕ
 status_after (Ok status) = status
 status_after (Err fault) = status_of fault
 
--- the status is that of a run from this state over this source and this sink
+-- The status is that of a run from this state with this source and this sink.
 pub record EndsAsRun {S W : Type 0} (from : SourceView S) (to : SinkView W)
     (start : State) (source : S) (sink : W) (status : ℕ) (source_after : S) (sink_after : W) : Type 0 where
   pub answer : Result ℕ RunFault
@@ -25,7 +25,7 @@ pub record EndsAsRun {S W : Type 0} (from : SourceView S) (to : SinkView W)
   pub runs : Runs from to start source sink answer source_after sink_after
   pub ends : status ≡ status_after answer
 
--- the status is that of a run from this state over some source and some sink, neither of which had failed before
+-- The status is that of a run from this state with some source and some sink, neither of which had failed before.
 pub record EndsAsSomeRun {S W : Type 0} (from : SourceView S) (to : SinkView W) (start : State) (status : ℕ) : Type 0 where
   pub source : S
   pub sink : W
@@ -35,16 +35,16 @@ pub record EndsAsSomeRun {S W : Type 0} (from : SourceView S) (to : SinkView W) 
   pub sink_new : to.failed sink ≡ 0
   pub run : EndsAsRun from to start source sink status source_after sink_after
 
--- ---- by the words
+-- ---- by the arguments
 
--- by what the words are read as: a run in their dialect ends so; 0 behind the help, 2 where they are wrong, 5 for want of memory
+-- by the parsed arguments: a run in their dialect ends with this status; 0 after the help, 2 after a usage error, 5 after a failed allocation
 abbrev pub EndsAsRead : (State → ℕ → Type 0) → Result Config ArgsFault → ℕ → Type 0
 EndsAsRead Run (Ok config) status = Run (fresh (dialect_of config)) status
 EndsAsRead Run (Err (Help text)) status = status ≡ 0
 EndsAsRead Run (Err (Usage text)) status = status ≡ 2
 EndsAsRead Run (Err Memory) status = status ≡ 5
 
--- the status is that of the words as they are read
+-- The status is that of the arguments as they are parsed.
 pub record EndsByWords (Run : State → ℕ → Type 0) (words : List (List ℕ)) (status : ℕ) : Type 0 where
   pub read : Result Config ArgsFault
   pub reads : ReadsWords words read

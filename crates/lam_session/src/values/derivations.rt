@@ -1,4 +1,4 @@
-//! Why a term has its type, as a value.
+//! Derivations as JSON values.
 ghost use Rattle.std.specs.Prelude.{◌≡◌, ℕ, List, false, map, option_map, All, IfOk, IfSome};
 ghost use Rattle.serde_json.specs.Data.{string, array};
 ghost use Rattle.serde_json.specs.View.{view, items_of};
@@ -20,7 +20,7 @@ use lam_token::Span;
 use serde_json::Value;
 use std::alloc::{AllocError, Global};
 
-/// A derivation; null where there is none.
+/// Returns a derivation as a value; null if there is none.
 pub fn derivation_value(
     alloc: Global,
     doc: &Doc,
@@ -67,7 +67,7 @@ fn type_value(alloc: Global, ty: &Option<Ty>) -> Result<Value, AllocError>
     }
 }
 
-/// The text of a type, with the fields in their own order.
+/// The text of a type, with its fields in their own order.
 fn text_value(alloc: Global, ty: &Ty) -> Result<Value, AllocError>
     ensures { IfOk result (λ value. view value ≡ string (plain_text (typ_of ty.now))) }
 {

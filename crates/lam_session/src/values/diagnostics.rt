@@ -1,4 +1,4 @@
-//! Faults as a client is told them (LSP 3.17, `Diagnostic`).
+//! Diagnostics as JSON values (LSP 3.17, `Diagnostic`).
 ghost use Rattle.std.specs.Prelude.{◌≡◌, false, map, All, IfOk};
 ghost use Rattle.serde_json.specs.View.{view, items_view};
 ghost use Rattle.serde_json.specs.Written.{items_have_float};
@@ -12,7 +12,7 @@ use lam_text::Doc;
 use serde_json::Value;
 use std::alloc::{AllocError, Global};
 
-/// The codes, each with its message.
+/// The message for each code.
 static MESSAGES: [(&str, &str); 17] = [
     ("B1", "character not allowed"),
     ("B2", "comment not closed"),
@@ -33,7 +33,7 @@ static MESSAGES: [(&str, &str); 17] = [
     ("E9", "label used twice in a record"),
 ];
 
-/// A value for each fault, in their order.
+/// Returns a value for each diagnostic, in order.
 pub fn diagnostic_values(
     alloc: Global,
     doc: &Doc,
@@ -63,7 +63,7 @@ fn diagnostic(alloc: Global, doc: &Doc, fault: &Fault) -> Result<Value, AllocErr
         .finish()
 }
 
-/// What a person reads of a code.
+/// Returns the message for a code.
 pub fn message_of(code: &str) -> &'static str
     ensures { result.now ≡ message_of code.now }
 {

@@ -1,4 +1,4 @@
-//! Objects, built member by member.
+//! JSON objects, built member by member.
 ghost use Rattle.std.specs.Prelude.{◌≡◌, IfOk};
 ghost use Rattle.serde_json.specs.Data.{Data, Members, no_members, string, object, put as with_member};
 ghost use Rattle.serde_json.specs.View.{view, members_view};
@@ -7,7 +7,7 @@ ghost use Rattle.lam_session.specs.Objects.{Has};
 use serde_json::{Map, Value, put};
 use std::alloc::{AllocError, Global};
 
-/// An object that is being built. That memory was refused is told at its end.
+/// A JSON object under construction. A failed allocation is reported by `finish`.
 #[derive(Drop)]
 pub struct Object {
     alloc: Global,
@@ -15,7 +15,7 @@ pub struct Object {
 }
 
 impl Object {
-    /// Without members.
+    /// An object without members.
     pub fn new(alloc: Global) -> Object
         ensures { Has result no_members }
     {
@@ -25,7 +25,7 @@ impl Object {
         }
     }
 
-    /// With this member too.
+    /// Adds a member.
     pub fn value(self, name: &str, value: Result<Value, AllocError>) -> Object
         ensures { (members : Members) (member : Data) → Has self members → IfOk value (λ v. view v ≡ member) → Has result (with_member name.now member members) }
     {
@@ -35,7 +35,7 @@ impl Object {
         }
     }
 
-    /// With this text too.
+    /// Adds a member that is a string.
     pub fn text(self, name: &str, text: &str) -> Object
         ensures { (members : Members) → Has self members → Has result (with_member name.now (string text.now) members) }
     {
@@ -43,7 +43,7 @@ impl Object {
         self.value(name, value)
     }
 
-    /// The whole object.
+    /// Returns the object, or an error if an allocation failed.
     pub fn finish(self) -> Result<Value, AllocError>
         ensures { (members : Members) → Has self members → IfOk result (λ value. view value ≡ object members) }
     {

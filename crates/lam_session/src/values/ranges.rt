@@ -1,4 +1,4 @@
-//! Places of a text as a client is told them (LSP 3.17, `Position`, `Range` and `Location`).
+//! Positions in a text as JSON values (LSP 3.17, `Position`, `Range` and `Location`).
 ghost use Rattle.std.specs.Prelude.{◌≡◌, IfOk};
 ghost use Rattle.serde_json.specs.View.{view};
 ghost use Rattle.lam_query.specs.Within.{IsSpanOfText};
@@ -10,7 +10,7 @@ use lam_token::Span;
 use serde_json::Value;
 use std::alloc::{AllocError, Global};
 
-/// The range of a span of the text.
+/// Returns the range of a span of the text.
 pub fn range_value(alloc: Global, doc: &Doc, span: Span) -> Result<Value, AllocError>
     requires { IsSpanOfText doc.now.text span }
     ensures { IfOk result (λ value. view value ≡ range_value doc.now.encoding doc.now.text span) }
@@ -21,7 +21,7 @@ pub fn range_value(alloc: Global, doc: &Doc, span: Span) -> Result<Value, AllocE
         .finish()
 }
 
-/// That range in the document of this uri.
+/// Returns the location of a span in the document with this URI.
 pub fn location_value(alloc: Global, doc: &Doc, uri: &str, span: Span) -> Result<Value, AllocError>
     requires { IsSpanOfText doc.now.text span }
     ensures { IfOk result (λ value. view value ≡ location_value doc.now.encoding doc.now.text uri.now span) }

@@ -1,7 +1,7 @@
--- How a command is read: one run over the tokens with a stack of what is begun.
+-- Parsing a command as a single run over the tokens, with a stack of unfinished constructs.
 --
--- For the contracts of private functions alone, which can cite no lemma file. What is right is said by `Grammar`, and no public
--- contract cites this file; `proofs/Complete`, `Sound` and `Wrong` prove that the two agree.
+-- Only for the contracts of private functions, which cannot cite lemma files. `Grammar` defines what is correct, and no public contract cites this file;
+-- `proofs/Complete`, `Sound` and `Wrong` prove that the two agree.
 use Rattle.std.specs.Prelude.{Option, Some, None, List, [], ◌∷◌}
 use Rattle.lam_token.specs.declared.kind.Kind.TheVariants as kind
 use Rattle.lam_token.specs.declared.span.Span.{Span}
@@ -10,14 +10,14 @@ use Rattle.lam_syntax.specs.declared.terms.Prefix.{Prefix}
 use Rattle.lam_syntax.specs.declared.terms.Prefix.TheVariants as prefix
 use Rattle.lam_syntax.specs.Trees.{Word, word, Bound, bound, TypeTree, type_tree, bool, nat, unit, top, named, arrow, record_type, TypeFields, no_type_fields, type_field, TermTree, term_tree, true_term, false_term, unit_term, variable, numeral, lambda, if_term, let_term, letrec_term, prefixed, apply, project, ascribe, record_term, FieldTrees, no_fields, field, CommandTree, definition, declaration, abbreviation, evaluation, from_to, type_span, term_span, spanning_type, spanning_term, joined_types, joined}
 
--- what a binder is for
+-- the keyword that a binder belongs to
 pub data Purpose : Type 0 where
   for_lambda : Purpose
   for_let : Purpose
   for_letrec : Purpose
 
 mutual
-  -- what is begun where a term is read: the places are those of the first tokens
+  -- what is unfinished around a term; the spans are those of the first tokens
   pub data InTerm : Type 0 where
     of_evaluation : InTerm
     of_definition : Word → InTerm
@@ -32,13 +32,13 @@ mutual
     in_parens : Span → InPath → InTerm
     in_field : Span → (before : FieldTrees) → (label : Word) → InPath → InTerm
 
-  -- what is begun where a path is read
+  -- what is unfinished around a path
   pub data InPath : Type 0 where
     as_head : InTerm → InPath
     as_operand : Span → Prefix → InTerm → InPath
     as_argument : (function : TermTree) → InTerm → InPath
 
--- what is begun where a type is read
+-- what is unfinished around a type
 pub data InType : Type 0 where
   of_declaration : Word → InType
   of_abbreviation : Word → InType
@@ -76,7 +76,7 @@ pub data Next : Type 0 where
   done : CommandTree → Next
   stop : Next
 
--- a term that ends before a token, or before the end
+-- after a complete term, given the next token or the end
 abbrev pub ended_term : Option Lexeme → TermTree → InTerm → Next
 ended_term o t (in_lambda s b u k) = ended_term o (term_tree (from_to s (term_span t)) (lambda b u t)) k
 ended_term o t (in_else s c a k) = ended_term o (term_tree (from_to s (term_span t)) (if_term c a t)) k
@@ -93,19 +93,19 @@ ended_term (Some (lexeme kind.Comma x e)) t (in_field s before l k) = go (next_f
 ended_term (Some (lexeme kind.CloseBrace x e)) t (in_field s before l k) = go (after_atom (term_tree (from_to s e) (record_term (joined before (field l t no_fields)))) k)
 ended_term o t k = stop
 
--- a path that is read whole, in its place: as a head, as an operand, or as an argument
+-- the term that a complete path makes as a head, an operand or an argument
 abbrev pub applied : TermTree → InPath → TermTree
 applied t (as_head k) = t
 applied t (as_operand s p k) = term_tree (from_to s (term_span t)) (prefixed p t)
 applied a (as_argument f k) = term_tree (from_to (term_span f) (term_span a)) (apply f a)
 
--- what is begun round such a path
+-- what is unfinished around the term that such a path makes
 abbrev pub outside : InPath → InTerm
 outside (as_head k) = k
 outside (as_operand s p k) = k
 outside (as_argument f k) = k
 
--- the first token of an atom
+-- at the first token of an atom
 abbrev pub begin_atom : Option Lexeme → InPath → Next
 begin_atom (Some (lexeme kind.OpenParen x s)) k = go (need_term (in_parens s k))
 begin_atom (Some (lexeme kind.True x s)) k = go (after_atom (term_tree s true_term) k)
@@ -116,7 +116,7 @@ begin_atom (Some (lexeme kind.Numeral x s)) k = go (after_atom (term_tree s (num
 begin_atom (Some (lexeme kind.OpenBrace x s)) k = go (need_field s k)
 begin_atom o k = stop
 
--- an application that goes on with an argument, or ends
+-- after an application: another argument, or its end
 abbrev pub ended_app : Option Lexeme → TermTree → InTerm → Next
 ended_app (Some (lexeme kind.OpenParen x s)) t k = begin_atom (Some (lexeme kind.OpenParen x s)) (as_argument t k)
 ended_app (Some (lexeme kind.True x s)) t k = begin_atom (Some (lexeme kind.True x s)) (as_argument t k)
@@ -127,17 +127,17 @@ ended_app (Some (lexeme kind.Numeral x s)) t k = begin_atom (Some (lexeme kind.N
 ended_app (Some (lexeme kind.OpenBrace x s)) t k = begin_atom (Some (lexeme kind.OpenBrace x s)) (as_argument t k)
 ended_app o t k = ended_term o t k
 
--- a path that goes on with a label, or ends
+-- after a path: a projection, or its end
 abbrev pub ended_asc : Option Lexeme → TermTree → InPath → Next
 ended_asc (Some (lexeme kind.Dot x s)) t k = go (need_label t k)
 ended_asc o t k = ended_app o (applied t k) (outside k)
 
--- an atom that goes on with its type, or ends
+-- after an atom: an ascription, or its end
 abbrev pub ended_atom : Option Lexeme → TermTree → InPath → Next
 ended_atom (Some (lexeme kind.As x s)) t k = go (need_type (of_ascription t k))
 ended_atom o t k = ended_asc o t k
 
--- a type that ends before a token, or before the end
+-- after a complete type, given the next token or the end
 abbrev pub ended_type : Option Lexeme → TypeTree → InType → Next
 ended_type o b (right_of a k) = ended_type o (type_tree (from_to (type_span a) (type_span b)) (arrow a b)) k
 ended_type o u (of_ascription t k) = ended_asc o (term_tree (from_to (term_span t) (type_span u)) (ascribe t u)) k
@@ -150,12 +150,12 @@ ended_type (Some (lexeme kind.Comma x e)) t (in_type_field s before l k) = go (n
 ended_type (Some (lexeme kind.CloseBrace x e)) t (in_type_field s before l k) = go (after_atype (type_tree (from_to s e) (record_type (joined_types before (type_field l t no_type_fields)))) k)
 ended_type o t k = stop
 
--- a type that goes on with an arrow, or ends
+-- after an atomic type: an arrow, or its end
 abbrev pub ended_atype : Option Lexeme → TypeTree → InType → Next
 ended_atype (Some (lexeme kind.Arrow x s)) t k = go (need_type (right_of t k))
 ended_atype o t k = ended_type o t k
 
--- the first token of a type
+-- at the first token of a type
 abbrev pub begin_type : Option Lexeme → InType → Next
 begin_type (Some (lexeme kind.OpenParen x s)) k = go (need_type (in_type_parens s k))
 begin_type (Some (lexeme kind.BoolType x s)) k = go (after_atype (type_tree s bool) k)
@@ -166,7 +166,7 @@ begin_type (Some (lexeme kind.TypeName x s)) k = go (after_atype (type_tree s (n
 begin_type (Some (lexeme kind.OpenBrace x s)) k = go (need_type_field s k)
 begin_type o k = stop
 
--- the first token of an application
+-- at the first token of an application
 abbrev pub begin_app : Option Lexeme → InTerm → Next
 begin_app (Some (lexeme kind.Fix x s)) k = go (need_path (as_operand s prefix.Fix k))
 begin_app (Some (lexeme kind.Succ x s)) k = go (need_path (as_operand s prefix.Succ k))
@@ -174,7 +174,7 @@ begin_app (Some (lexeme kind.Pred x s)) k = go (need_path (as_operand s prefix.P
 begin_app (Some (lexeme kind.IsZero x s)) k = go (need_path (as_operand s prefix.IsZero k))
 begin_app o k = begin_atom o (as_head k)
 
--- the first token of a term
+-- at the first token of a term
 abbrev pub begin_term : Option Lexeme → InTerm → Next
 begin_term (Some (lexeme kind.Lambda x s)) k = go (need_binder for_lambda s k)
 begin_term (Some (lexeme kind.If x s)) k = go (need_term (in_condition s k))
@@ -182,7 +182,7 @@ begin_term (Some (lexeme kind.Let x s)) k = go (need_binder for_let s k)
 begin_term (Some (lexeme kind.Letrec x s)) k = go (need_binder for_letrec s k)
 begin_term o k = begin_app o k
 
--- the name of a binder
+-- at the name of a binder
 abbrev pub binder_next : Option Lexeme → Purpose → Span → InTerm → Next
 binder_next (Some (lexeme kind.Name x r)) p s k = go (after_binder p s (bound (Some x) r) k)
 binder_next (Some (lexeme kind.Underscore x r)) p s k = go (after_binder p s (bound None r) k)
@@ -195,7 +195,7 @@ bound_next (Some (lexeme kind.Equals x c)) for_let s b k = go (need_term (in_let
 bound_next (Some (lexeme kind.Colon x c)) for_letrec s b k = go (need_type (of_letrec s b k))
 bound_next o p s b k = stop
 
--- the first token of a command
+-- at the first token of a command
 abbrev pub begin_command : Option Lexeme → Next
 begin_command (Some (lexeme kind.Name x s)) = go (after_name (word x s))
 begin_command (Some (lexeme kind.TypeName x s)) = go (after_type_name (word x s))
@@ -205,13 +205,13 @@ begin_command o = begin_term o of_evaluation
 abbrev pub variable_at : Word → TermTree
 variable_at (word x s) = term_tree s (variable (word x s))
 
--- what follows a name that begins a command: it is defined or declared, or is the first atom of a term
+-- what follows a name at the start of a command: it is defined or declared, or is the first atom of a term
 abbrev pub name_next : Option Lexeme → Word → Next
 name_next (Some (lexeme kind.Equals x s)) n = go (need_term (of_definition n))
 name_next (Some (lexeme kind.Colon x s)) n = go (need_type (of_declaration n))
 name_next o n = ended_atom o (variable_at n) (as_head of_evaluation)
 
--- what follows a type name that begins a command: it is abbreviated
+-- what follows a type name at the start of a command: an equals sign
 abbrev pub type_name_next : Option Lexeme → Word → Next
 type_name_next (Some (lexeme kind.Equals x s)) n = go (need_type (of_abbreviation n))
 type_name_next o n = stop
@@ -274,29 +274,29 @@ step (need_field s k) o = begin_field o s k
 step (next_field s before k) o = more_field o s before k
 step (after_label s before l k) o = label_next o s before l k
 
--- a command, or the tokens from the first on that fits nowhere
+-- a command, or the tokens from the first one that does not fit
 pub data Outcome : Type 0 where
   tree : CommandTree → Outcome
   fault : (left : List Lexeme) → Outcome
 
--- the end of the tokens
+-- at the end of the tokens
 abbrev pub at_last : Next → Outcome
 at_last (done c) = tree c
 at_last (go s) = fault []
 at_last stop = fault []
 
--- a token, where the run over those behind it is known for each state
+-- at a token, given the outcome of the run over those after it for each state
 abbrev pub went : (left : List Lexeme) → (State → Outcome) → Next → Outcome
 went left rest (go s) = rest s
 went left rest (done c) = fault left
 went left rest stop = fault left
 
--- the run over tokens from a state
+-- the run over the tokens from a state
 abbrev pub run : List Lexeme → State → Outcome
 run [] s = at_last (step s None)
 run (t ∷ ts) s = went (t ∷ ts) (run ts) (step s (Some t))
 
--- the run that has still to look at its next token
+-- the run whose next step is given as a function of the next token
 abbrev pub look : List Lexeme → (Option Lexeme → Next) → Outcome
 look [] f = at_last (f None)
 look (t ∷ ts) f = went (t ∷ ts) (run ts) (f (Some t))

@@ -1,4 +1,4 @@
--- What a splice leaves of a text and of its index, for the contracts of its steps: no public contract names these.
+-- The effect of a splice on a text and its index. For private contracts alone.
 use Rattle.std.specs.Prelude.{◌≡◌, ℕ, ◌+◌, ◌-◌, ◌≤◌, Bool, ◌&&◌, List, [], ◌∷◌, length, take, drop}
 use Rattle.lam_text.specs.declared.index.Mark.{Mark}
 use Rattle.lam_text.specs.Lines.{Lines, Cut, content, lines_of}
@@ -9,20 +9,20 @@ abbrev pub first_ascii_on : Lines → Bool
 first_ascii_on (Cut [] last) = all_ascii last
 first_ascii_on (Cut (line ∷ lines) last) = all_ascii (content line)
 
--- an open line up to its end, where these bytes follow
+-- an open line up to its end, if these bytes follow
 abbrev pub closed : Mark → List ℕ → Mark
 closed open_line bytes = record { start = open_line.start; ascii = open_line.ascii && first_ascii_on (lines_of bytes) }
 
--- where the first of these lines starts, or where the text ends
+-- the start of the first of these lines, or the end of the text
 abbrev pub first_start : List Mark → ℕ → ℕ
 first_start [] end = end
 first_start (mark ∷ marks) end = mark.start
 
--- a mark that is moved with its text from the byte `from` to the byte `to`
+-- a mark that moves with its text from byte `from` to byte `to`
 abbrev pub moved : ℕ → ℕ → Mark → Mark
 moved from to mark = record { start = mark.start - from + to; ascii = mark.ascii }
 
--- the bytes from `start` to `end` of a text gave way to `inserted` others
+-- `inserted` bytes replace the bytes from `start` to `end` of a text.
 pub record IsSplice (old new : List ℕ) (start end inserted : ℕ) : Type 0 where
   pub ordered : start ≤ end
   pub within_old : end ≤ length old

@@ -1,4 +1,4 @@
--- From a walk to the typing that is made of it, for private functions alone.
+-- From a walk to its typing. For private contracts only.
 use Rattle.std.specs.Prelude.{◌≡◌, ℕ, ◌+◌, List, [], length, map, take, get_or, Option, Some, None, Result, Ok, Err, Vec, true, false}
 use Rattle.std.specs.declared.alloc.Global.{Global}
 use Rattle.std.specs.declared.alloc.AllocError.{AllocError}
@@ -21,7 +21,7 @@ use Rattle.lam_typing.specs.declared.typing.Typing.{Typing}
 use Rattle.lam_typing.specs.declared.walking.Walk.{Walk}
 use Rattle.lam_typing.specs.declared.walking.Stop.{Stop}
 
--- the places up to the last one that is asked for
+-- the subterms up to the last one requested
 abbrev pub up_to : Option PlaceNumber → List Place → List Place
 up_to None ps = ps
 up_to (Some last) ps = take (last.0 + 1) ps
@@ -33,15 +33,15 @@ pub record Begins (w : Walk) (asked : Option PlaceNumber) : Type 0 where
   pub blames : w.blames.items ≡ []
   pub last : w.last ≡ asked
 
--- these sources tell, whatever is found of the places, the entries of the binders with these origins
+-- these sources give the entries of the binders with these origins, whatever types are found
 abbrev pub AreSourcesOf : List Statement → List Origin → List (Option Source) → Type 0
 AreSourcesOf ss origins sources = (found : List (Option Typ)) → map (entry_told found) sources ≡ map (entry_from ss found) origins
 
--- what is written of a binder has distinct labels
+-- the written types of binders have distinct labels
 abbrev pub AreWellFormedSources : List (Option Source) → Type 0
 AreWellFormedSources sources = (i : ℕ) → IsWellFormedEntry (entry_told [] (get_or sources i None))
 
--- what a walk found, with the entries of the binders of the document that it went over
+-- what a walk found, with the entries of the binders of its document
 pub record Completes (w : Walk) (ss : List Statement) (origins : List Origin) (t : Typing) : Type 0 where
   pub keeps : Keeps w.table t.table
   pub found : t.found.items ≡ w.found.items
@@ -49,14 +49,14 @@ pub record Completes (w : Walk) (ss : List Statement) (origins : List Origin) (t
   pub blames : t.blames.items ≡ w.blames.items
   pub dialect : t.dialect ≡ w.verdicts.dialect
 
--- what is answered where a walk stopped
+-- the result of a walk that stopped early
 abbrev pub IsEndOf : Stop → Walk → List Statement → List Origin → Result Typing TypingFault → Type 0
 IsEndOf Stop.Enough w ss origins (Ok t) = Completes w ss origins t
 IsEndOf Stop.TooLarge w ss origins (Err (TypingFault.TooLarge place)) = place.0 ≡ length w.found.items
 IsEndOf stop w ss origins (Err TypingFault.Memory) = Unit {0}
 IsEndOf _ w ss origins r = ⊥
 
--- what is answered at the end of a walk over one command, by what the walk answered and found
+-- the result of checking one command, given the result and the findings of its walk
 abbrev pub IsEndOfCheck : Result (Option TyNo) Stop → Vec (Option TyNo) Global → Vec Blame Global → Result Checked AllocError → Type 0
 IsEndOfCheck (Ok entry) types blames (Ok c) = c ≡ record { types = types; blames = blames; entry = entry; complete = true }
 IsEndOfCheck (Ok entry) types blames (Err refused) = ⊥

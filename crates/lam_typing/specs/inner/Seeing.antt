@@ -1,4 +1,4 @@
--- What was found and noted of a term and of its parts, each at its place among all: what a proof of its type is made from.
+-- What was found and noted of a term and of its parts, each at its index among all subterms: the data for a proof of its type.
 use Rattle.std.specs.Prelude.{◌≡◌, ◌<◌, ℕ, List, [], ◌∷◌, length, Option, None, get_or}
 use Rattle.lam_rules.specs.Types.{Typ}
 use Rattle.lam_rules.specs.Terms.{Term, true_term, false_term, if_then_else, numeral, succ, pred, is_zero, variable, free, lambda, apply, unit_term, ascribe, let_in, record_term, project, fix, TermFields, no_terms, term_field}
@@ -10,23 +10,24 @@ use Rattle.lam_typing.specs.LeastTypes.{IsLeastAt}
 use Rattle.lam_typing.specs.inner.Steps.{entry_at}
 use Rattle.lam_typing.specs.inner.Notes.{Noted}
 
--- the place of a number, counted from 0
+-- the subterm with this zero-based index
 abbrev pub place_among : List Place → ℕ → Place
 place_among all n = get_or all n (record { scope = []; here = unit_term })
 
--- the note of the place of a number
+-- the note of the subterm with this index
 abbrev pub note_among : List Noted → ℕ → Noted
 note_among ns n = get_or ns n (record { written = None; bound = None })
 
--- each type that was found is the least one of its place
+-- each type found is the least one of its subterm
 abbrev pub LeastAmong : List Place → List (Option Typ) → Dialect → Type 0
 LeastAmong all found d = (n : ℕ) → n < length found → IsLeastAt (place_among all n).scope (place_among all n).here (get_or found n None) d
 
--- the term is the one of that place
+-- the term is the one at this index
 abbrev pub IsPlace : List Place → ℕ → Scope → Term → Type 0
 IsPlace all n s e = place_among all n ≡ record { scope = s; here = e }
 
--- The places of a term stand among all, the first of them at k. In a variable, the entry that was noted is that of this context; under a let, the entry is the type that was found.
+-- The subterms of a term are among all, the first of them at index k. For a variable, the noted entry is that of this context; under a let, the binder's entry is the
+-- type found for its term.
 abbrev mutual
   pub Sees : List Place → List (Option Typ) → List Noted → (k : ℕ) → Scope → Context → Term → Type 0
   Sees all found ns k s g (if_then_else c a b) =

@@ -1,4 +1,4 @@
--- What each rule of typing makes of the least types of a term's parts, said of types alone. A part or a term without a type has none.
+-- What each typing rule makes of the least types of a term's parts, in terms of types alone; none stands for no type.
 use Rattle.std.specs.Prelude.{◌≡◌, ℕ, zero, suc, [], ◌∷◌, Option, Some, None}
 use Rattle.lam_rules.specs.Types.{Label, Typ, bool, nat, arrow, record_of, Fields, field, Has, IsAbsent, AreWellFormed}
 use Rattle.lam_rules.specs.Subtyping.{IsBelow}
@@ -7,13 +7,13 @@ use Rattle.lam_rules.specs.Typing.{Context}
 use Rattle.lam_rules.specs.declared.rules.Dialect.{Dialect}
 use Rattle.lam_lattice.specs.inner.Bounds.{IsJoin}
 
--- a variable has its entry
+-- the context entry at a de Bruijn index, or none past the last one
 abbrev pub entry_at : ℕ → Context → Option Typ
 entry_at n [] = None
 entry_at zero (entry ∷ g) = entry
 entry_at (suc n) (entry ∷ g) = entry_at n g
 
--- an operation on a number: this is its operand, and this its type where the operand is below Nat
+-- an operation on a number: its operand, and its type if the operand is below Nat
 abbrev pub IsNumeric : Term → Term → Typ → Type 0
 IsNumeric (succ e) operand t = (e ≡ operand) × (t ≡ nat)
 IsNumeric (pred e) operand t = (e ≡ operand) × (t ≡ nat)
@@ -38,7 +38,7 @@ ArrowRule (arrow p r) s (Some t) d = (t ≡ r) × IsBelow s p d
 ArrowRule (arrow p r) s None d = IsBelow s p d → ⊥
 ArrowRule _ s o d = o ≡ None
 
--- a first term and an argument that both have types, of which the first takes the other
+-- a first term and an argument that both have types, the first a function that accepts the second
 abbrev pub ApplyRule : Option Typ → Option Typ → Option Typ → Dialect → Type 0
 ApplyRule None y o d = o ≡ None
 ApplyRule (Some f) None o d = o ≡ None
@@ -51,12 +51,12 @@ AscribeRule (Some w) (Some s) None d = IsBelow s w d → ⊥
 AscribeRule (Some w) None o d = o ≡ None
 AscribeRule None x o d = o ≡ None
 
--- a let has the type of its second term where its first has one
+-- a let has the type of its second term if its first has one
 abbrev pub LetRule : Option Typ → Option Typ → Option Typ → Type 0
 LetRule (Some s) y o = o ≡ y
 LetRule None y o = o ≡ None
 
--- a condition below Bool, and branches, which have a join whatever they are
+-- a condition below Bool, and branches, which always have a join
 abbrev pub IfRule : Option Typ → Option Typ → Option Typ → Option Typ → Dialect → Type 0
 IfRule None y z o d = o ≡ None
 IfRule (Some c) None z o d = o ≡ None
@@ -82,13 +82,13 @@ abbrev pub ProjectRule : Label → Option Typ → Option Typ → Type 0
 ProjectRule l None o = o ≡ None
 ProjectRule l (Some t) o = FieldRule l t o
 
--- one more field before the others
+-- one more field prepended
 abbrev pub MoreRule : Label → Option Typ → Option Fields → Option Fields → Type 0
 MoreRule l None y o = o ≡ None
 MoreRule l (Some t) None o = o ≡ None
 MoreRule l (Some t) (Some fs) o = o ≡ Some (field l t fs)
 
--- a record of them, where no label is repeated
+-- a record of these fields, if no label is repeated
 abbrev pub RecordRule : Option Fields → Option Typ → Type 0
 RecordRule None o = o ≡ None
 RecordRule (Some fs) (Some t) = (t ≡ record_of fs) × AreWellFormed fs
