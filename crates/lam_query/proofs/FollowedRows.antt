@@ -5,7 +5,7 @@ use Rattle.std.specs.List.{Contains}
 use Rattle.std.specs.Option.{option_map, option_and_then}
 use Rattle.std.specs.Str.{IsUtf8, IsCharBoundary, bytes_eq}
 use Rattle.std.proofs.lemmas.Slice.Eq.{bytes_eq-Decides}
-use Rattle.std.proofs.lemmas.List.{length-append, drop_more, take_more_set, drop-set-lt, set-get_or, get_or_default, map_push, map-append, drop_all, take_all, take_at, drop_at}
+use Rattle.std.proofs.lemmas.List.{length-append, get_or-set_other, drop_more, take_more_set, drop-set-lt, set-get_or, get_or_default, map_push, map-append, drop_all, take_all, take_at, drop_at}
 use Rattle.std.proofs.lemmas.Str.{IsUtf8-append, IsCharBoundary-at_seam}
 use Rattle.lam_rules.specs.Types.{Typ}
 use Rattle.lam_rules.specs.Numbers.{Keeps}
@@ -168,13 +168,6 @@ marked_here [] n v un = let clash : true ≡ false = un in absurd cc
 marked_here (m ∷ marks) zero v un = un
 marked_here (m ∷ marks) (suc n) v un = marked_here marks n v un
 
-marked_elsewhere : (marks : List Bool) (n k : ℕ) (v : Bool) → (n ≡ k → ⊥) → get_or (set marks n v) k true ≡ get_or marks k true
-marked_elsewhere [] n k v other = refl
-marked_elsewhere (m ∷ marks) zero zero v other = absurd (other refl)
-marked_elsewhere (m ∷ marks) zero (suc k) v other = refl
-marked_elsewhere (m ∷ marks) (suc n) zero v other = refl
-marked_elsewhere (m ∷ marks) (suc n) (suc k) v other = marked_elsewhere marks n k v (λ e. other (ap suc e))
-
 -- names of one kind that are not marked agree
 abbrev AgreeByMarks : Meanings → List Bool → Lookup → Lookup → Type 0
 AgreeByMarks m marks s z = (x : Name) (n : ℕ) → numbered m x ≡ Some n → get_or marks n true ≡ false → s x ≡ z x
@@ -199,7 +192,7 @@ one_marked m marks s z y n v then now numbers at same agree x k is un = by (byte
             let names : y ≡ x = numbers.own y x k (at ∙ ap Some one) is in
             let both : true ≡ false = sym ((bytes_eq-Decides y x).1 names) ∙ e in
             cc in
-        agree x k is (sym (marked_elsewhere marks n k v differ) ∙ un)
+        agree x k is (sym (get_or-set_other marks n k v true (λ one. differ (sym one))) ∙ un)
 
 -- A command binds one name, which has an entry now and had one then: it is marked, unless both are the same.
 agree_bound : (b : Bound) (old now : ChangedNames) (s z : Sight) (c : CommandTree) (binds : Option NameNo) (v : Bool) (before after : Option Typ) → HaveNumbers b

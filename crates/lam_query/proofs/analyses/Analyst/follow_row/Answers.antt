@@ -7,21 +7,21 @@ use Rattle.lam_query.proofs.analyses.Analyst.follow_row.Goals as goal
 pub overflow_add-self : goal.overflow_add-self
 overflow_add-self c =
     let f = c.requires.followed in
-    let fits = row_fits c.args.text.now c.args.number f.0 f.1 c.args.earlier.now c.args.self.now c.index.result.now f.2 c.requires.inside c.index.ensures in
+    let fits = row_fits c.args.text.now c.args.number f.0 f.1 c.args.changed.now c.args.self.now c.index.result.now f.2 c.requires.inside c.index.ensures in
     omega (arith, fits)
 
 pub returns-in_default-clause-followed : goal.returns-in_default-clause-followed
 returns-in_default-clause-followed c ts b f =
     let a = c.args.self.now in
     let same = one_row a.rows.items c.args.number c.index.result.now c.index-2.result.now c.requires.inside c.index.ensures c.index-2.ensures in
-    no_command_followed c.args.text.now c.args.number ts b c.args.earlier.now a c.index-2.result.now f c.requires.inside c.index-2.ensures
+    no_command_followed c.args.text.now c.args.number ts b c.args.changed.now a c.index-2.result.now f c.requires.inside c.index-2.ensures
     _ c.in_default.is refl refl refl (ap (λ r. a.end + r.end) same)
 
 pub returns-then-same-clause-followed : goal.returns-then-same-clause-followed
 returns-then-same-clause-followed c ts b f =
     let a = c.args.self.now in
     let same = one_row a.rows.items c.args.number c.index.result.now c.index-2.result.now c.requires.inside c.index.ensures c.index-2.ensures in
-    same_followed c.args.text.now c.args.number ts b c.args.earlier.now a c.index-2.result.now f c.requires.inside c.index-2.ensures
+    same_followed c.args.text.now c.args.number ts b c.args.changed.now a c.index-2.result.now f c.requires.inside c.index-2.ensures
     c.in-Some.command c.in-Some.is (rw c.deref.ensures.value at (c.if-same.ensures.same refl)) _ c.rebind.new.self refl refl (ap (λ r. a.end + r.end) same)
     (λ t binding. subst (λ n. IsBoundAfter t n a.bound c.rebind-then-same.new.self) c.bound-entry.ensures (c.rebind-then-same.ensures.bound t binding))
     c.rebind-then-same.ensures.keeps
@@ -31,19 +31,19 @@ pub returns-then-same-clause-sound : goal.returns-then-same-clause-sound
 returns-then-same-clause-sound c =
     let f = c.requires.followed in
     let a = c.args.self.now in
-    same_sound c.args.text.now c.args.number f.0 f.1 c.args.earlier.now a c.index-2.result.now f.2 c.requires.inside c.index-2.ensures
+    same_sound c.args.text.now c.args.number f.0 f.1 c.args.changed.now a c.index-2.result.now f.2 c.requires.inside c.index-2.ensures
     c.in-Some.command c.in-Some.is (rw c.deref.ensures.value at (c.if-same.ensures.same refl)) _ refl c.requires.sound c.rebind-then-same.ensures.numbers
     (λ t binding. subst (λ n. IsBoundAfter t n a.bound c.rebind-then-same.new.self) c.bound-entry.ensures (c.rebind-then-same.ensures.bound t binding))
 
 pub range-requires-clause-start_boundary : goal.range-requires-clause-start_boundary
 range-requires-clause-start_boundary c = λ positive.
     let f = c.requires.followed in
-    row_starts c.args.text.now c.args.number f.0 f.1 c.args.earlier.now c.args.self.now c.index.result.now f.2 c.requires.inside c.index.ensures
+    row_starts c.args.text.now c.args.number f.0 f.1 c.args.changed.now c.args.self.now c.index.result.now f.2 c.requires.inside c.index.ensures
 
 pub range-requires-clause-end_boundary : goal.range-requires-clause-end_boundary
 range-requires-clause-end_boundary c =
     let f = c.requires.followed in
-    row_stops c.args.text.now c.args.number f.0 f.1 c.args.earlier.now c.args.self.now c.index.result.now f.2 c.requires.inside c.index.ensures
+    row_stops c.args.text.now c.args.number f.0 f.1 c.args.changed.now c.args.self.now c.index.result.now f.2 c.requires.inside c.index.ensures
 
 pub returns-clause-followed : goal.returns-clause-followed
 returns-clause-followed c ts b f =
@@ -56,7 +56,7 @@ returns-clause-followed c ts b f =
     let same = one_row a.rows.items n c.index.result.now q c.requires.inside c.index.ensures c.index-2.ensures in
     let again : r ≡ q =
     one_row a.rows.items n r q c.requires.inside (c.index_mut.ensures.value ∙ ap (λ v. get_or v.items n r) by.rows) c.index-2.ensures in
-    anew_followed c.args.text.now n ts b c.args.earlier.now a q f c.requires.inside c.index-2.ensures c.in-Some.command c.in-Some.is
+    anew_followed c.args.text.now n ts b c.args.changed.now a q f c.requires.inside c.index-2.ensures c.in-Some.command c.in-Some.is
     _ c.keep.new.self c.rebind.new.self _ o c.range.result.now
     (c.range.ensures.value ∙ ap (λ p. slice_range c.args.text.now a.end (a.end + p.end)) same)
     c.in_ok-command.ensures refl refl by c.keep.ensures.dialect _ refl refl
