@@ -172,17 +172,17 @@ marked_here (m ∷ marks) (suc n) v un = marked_here marks n v un
 abbrev AgreeByMarks : Meanings → List Bool → Lookup → Lookup → Type 0
 AgreeByMarks m marks s z = (x : Name) (n : ℕ) → numbered m x ≡ Some n → get_or marks n true ≡ false → s x ≡ z x
 
-none_marked : (m : Meanings) (marks : List Bool) (s z : Lookup) (bound : Option Name) (then now : Option Typ) → bound ≡ None → AgreeByMarks m marks s z
-    → AgreeByMarks m marks (with_entry bound then s) (with_entry bound now z)
-none_marked m marks s z bound then now none agree x n is un =
-    sym (ap (λ o. with_entry o then s x) (sym none)) ∙ agree x n is un ∙ ap (λ o. with_entry o now z x) (sym none)
+none_marked : (m : Meanings) (marks : List Bool) (s z : Lookup) (bound : Option Name) (was now : Option Typ) → bound ≡ None → AgreeByMarks m marks s z
+    → AgreeByMarks m marks (with_entry bound was s) (with_entry bound now z)
+none_marked m marks s z bound was now none agree x n is un =
+    sym (ap (λ o. with_entry o was s x) (sym none)) ∙ agree x n is un ∙ ap (λ o. with_entry o now z x) (sym none)
 
-one_marked : (m : Meanings) (marks : List Bool) (s z : Lookup) (y : Name) (n : ℕ) (v : Bool) (then now : Option Typ) → AreNumbered m → numbered m y ≡ Some n
-    → (v ≡ false → then ≡ now) → AgreeByMarks m marks s z
-    → AgreeByMarks m (set marks n v) (with_entry (Some y) then s) (with_entry (Some y) now z)
-one_marked m marks s z y n v then now numbers at same agree x k is un = by (bytes_eq y x) refl
+one_marked : (m : Meanings) (marks : List Bool) (s z : Lookup) (y : Name) (n : ℕ) (v : Bool) (was now : Option Typ) → AreNumbered m → numbered m y ≡ Some n
+    → (v ≡ false → was ≡ now) → AgreeByMarks m marks s z
+    → AgreeByMarks m (set marks n v) (with_entry (Some y) was s) (with_entry (Some y) now z)
+one_marked m marks s z y n v was now numbers at same agree x k is un = by (bytes_eq y x) refl
   where
-    by : (b : Bool) → bytes_eq y x ≡ b → (if b then Some then else s x) ≡ (if b then Some now else z x)
+    by : (b : Bool) → bytes_eq y x ≡ b → (if b then Some was else s x) ≡ (if b then Some now else z x)
     by true e =
         let both : Some k ≡ Some n = sym is ∙ ap (numbered m) (sym ((bytes_eq-Decides y x).0 e)) ∙ at in
         let here : k ≡ n = cc in
@@ -526,7 +526,7 @@ module _ (text : List ℕ) (n : ℕ) (ts : List Typ) (b : Bound) (changed : Chan
 pub one_row : (xs : List RustRow) (i : ℕ) (q p : RustRow) → i < length xs → q ≡ get_or xs i q → p ≡ get_or xs i p → q ≡ p
 one_row xs i q p inside is_q is_p = is_q ∙ get_or_default xs i q p inside ∙ sym is_p
 
-pub all_followed : (text : List ℕ) (n : ℕ) (ts : List Typ) (b : Bound) (e : Entries) (a : Analyst) → IsFollowedTo text n ts b (λ then now. IsMeantBy then ts b e) a
+pub all_followed : (text : List ℕ) (n : ℕ) (ts : List Typ) (b : Bound) (e : Entries) (a : Analyst) → IsFollowedTo text n ts b (λ was now. IsMeantBy was ts b e) a
     → ((name : NameNo) → HasRoomFor name e → meant e name ≡ means a.bound name) → IsReadThrough [] outset text a
 all_followed text n ts b e a f same =
     let us = types_in a.types in
@@ -551,7 +551,7 @@ all_followed text n ts b e a f same =
 
 -- before the first row that is left, names that are not marked mean what they meant
 pub begun_followed : (text : List ℕ) (n : ℕ) (ts : List Typ) (b : Bound) (e : Entries) (changed : ChangedNames) (a : Analyst)
-    → IsFollowedTo text n ts b (λ then now. IsMeantBy then ts b e) a
+    → IsFollowedTo text n ts b (λ was now. IsMeantBy was ts b e) a
     → ((name : NameNo) → is_changed changed name ≡ false → meant e name ≡ means a.bound name) → IsFollowedTo text n ts b (AgreeOnUnchanged b changed) a
 begun_followed text n ts b e changed a f same = record {
   ended = f.ended;
@@ -579,7 +579,7 @@ none_left s [] last ts b d are = refl
 none_left s (p ∷ pieces) last ts b d are = absurd are
 
 -- no row is left
-pub end_followed : (text : List ℕ) (n : ℕ) (ts : List Typ) (b : Bound) (R : (then now : Sight) → Type 0) (a : Analyst) → IsFollowedTo text n ts b R a → length a.rows.items ≤ n
+pub end_followed : (text : List ℕ) (n : ℕ) (ts : List Typ) (b : Bound) (R : (was now : Sight) → Type 0) (a : Analyst) → IsFollowedTo text n ts b R a → length a.rows.items ≤ n
     → IsReadThrough [] outset text a
 end_followed text n ts b R a f all =
     let us = types_in a.types in

@@ -147,7 +147,7 @@ impl<'t> Analyst<'t> {
     /// changed.
     fn follow(&mut self, text: &'t str, next: usize, earlier: &Entries) -> Result<(), AllocError>
         requires sound { IsSound self.old }
-        requires followed { (ts : List Typ) × (b : Bound) × IsFollowedTo text.now next ts b (λ then now. IsMeantBy then ts b earlier.now) self.old }
+        requires followed { (ts : List Typ) × (b : Bound) × IsFollowedTo text.now next ts b (λ was now. IsMeantBy was ts b earlier.now) self.old }
         ensures read { OnOk result (IsReadThrough [] outset text.now self.new) }
         ensures sound { OnOk result (IsSound self.new) }
         ensures dialect { dialect_in self.new.types ≡ dialect_in self.old.types }

@@ -27,6 +27,6 @@ IsMarked (Some (number.Name n)) changed old now = (now.names.items ≡ set old.n
 IsMarked (Some (number.TypeName n)) changed old now = (now.type_names.items ≡ set old.type_names.items n changed) × (now.names ≡ old.names)
 
 -- names and type names that have a number and are not marked mean the same at both places
-pub record AgreeOnUnchanged (b : Bound) (c : ChangedNames) (then now : Sight) : Type 0 where
-  pub names : (x : Name) (n : ℕ) → numbered b.names x ≡ Some n → is_changed c (number.Name n) ≡ false → then.names x ≡ now.names x
-  pub types : (x : Name) (n : ℕ) → numbered b.type_names x ≡ Some n → is_changed c (number.TypeName n) ≡ false → then.types x ≡ now.types x
+pub record AgreeOnUnchanged (b : Bound) (c : ChangedNames) (was now : Sight) : Type 0 where
+  pub names : (x : Name) (n : ℕ) → numbered b.names x ≡ Some n → is_changed c (number.Name n) ≡ false → was.names x ≡ now.names x
+  pub types : (x : Name) (n : ℕ) → numbered b.type_names x ≡ Some n → is_changed c (number.TypeName n) ≡ false → was.types x ≡ now.types x

@@ -29,7 +29,7 @@ pub record AreOldPieces (old new : List ℕ) (pieces : List (List ℕ)) (b : Beh
 
 -- The first n rows are those of the text's pieces, after which names mean what is bound. The others were right in the old text, by the type table and the
 -- numbers of that time. What names meant before them is related to what names mean now.
-pub record IsFollowedTo (text : List ℕ) (n : ℕ) (ts : List Typ) (b : Bound) (AreRelated : (then now : Sight) → Type 0) (a : Analyst) : Type 0 where
+pub record IsFollowedTo (text : List ℕ) (n : ℕ) (ts : List Typ) (b : Bound) (AreRelated : (was now : Sight) → Type 0) (a : Analyst) : Type 0 where
   pub ended : List (List ℕ)
   pub last : List ℕ
   pub made_up : IsMadeUpOf text ended last
