@@ -102,6 +102,7 @@ pub mod RowBytes
 pub mod CommonEnds
 pub mod ReboundNames
 pub mod EarlierNames
+pub mod MarkedNames
 pub mod ChangedTexts
 pub mod RowsPutBetween
 pub mod Surroundings

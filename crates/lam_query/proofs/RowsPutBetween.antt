@@ -147,7 +147,7 @@ module _ {old new : List ℕ} {a : Analysis} {front : FrontRows} {x : Analyst} (
 
   pub some_left : (to next : ℕ) (e : Entries) → IsPutBetween a front.count to now y → next ≡ front.count + length now.rows.items → to < length (Pieces h)
       → IsReadTo (ahead h) (front_sight h) new (joined (drop to (Pieces h))) now → IsLeftFrom to e
-      → IsFollowedTo new next (types_in a.types) x.bound e y
+      → IsFollowedTo new next (types_in a.types) x.bound (λ was now. IsMeantBy was (types_in a.types) x.bound e) y
   some_left to next e put is lt read left =
       let inside = count_inside h in
       let under : to ≤ length h.of.ended = omega (arith, lt, length-append h.of.ended (h.of.last ∷ [])) in
@@ -189,7 +189,7 @@ module _ {old new : List ℕ} {a : Analysis} {front : FrontRows} {x : Analyst} (
             (sym (ap dialect_in put.types ∙ same_dialect))
             (subst (λ rs. AreRows left.sight (drop to (Pieces h)) rs h.of.sight (types_in a.types) x.bound a.dialect)
             (drop-map row_of to a.rows.items ∙ ap rows_of (sym others)) left.rows);
-        meant = left.meant;
+        related = left.meant;
         old_numbers = h.numbers;
         keeps = subst (λ t. Keeps (types_in a.types) (types_in t)) (sym put.types) keeps_all;
         numbers = subst (KeepsNumbers x.bound) (sym put.bound) on.numbers;

@@ -19,6 +19,7 @@ pub mod Analysts
 pub mod Fronts
 pub mod Ends
 pub mod Entries
+pub mod ChangedNames
 pub mod Changes
 pub mod ShownCommands
 pub mod Around

@@ -205,7 +205,7 @@ impl Meanings {
     }
 
     /// Returns the meaning of the name with this number.
-    fn under(&self, place: usize) -> Option<Option<TyNo>>
+    pub(crate) fn under(&self, place: usize) -> Option<Option<TyNo>>
         ensures { result ≡ kept_under self.now place }
     {
         match self.entries.get(place) {

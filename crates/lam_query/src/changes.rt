@@ -1,23 +1,28 @@
 //! Incremental update of an analysis when its text changes.
 ghost use Rattle.std.specs.Prelude.{◌≡◌, ◌<◌, ◌≤◌, ◌+◌, ◌++◌, [], ℕ, List, length, take, drop, IfOk, OnOk};
+ghost use Rattle.std.specs.Option.{option_map};
 ghost use Rattle.lam_rules.specs.Numbers.{Keeps};
 ghost use Rattle.lam_rules.specs.Types.{Typ};
 ghost use Rattle.lam_typing.specs.Checking.{types_in, dialect_in};
 ghost use Rattle.lam_query.specs.Analyses.{IsAnalysisOf, dialect_of};
 ghost use Rattle.lam_query.specs.inner.Analysts.{IsSound, IsBetweenPieces, IsReadTo, IsReadThrough};
 ghost use Rattle.lam_query.specs.inner.Bound.{HaveNumbers, KeepsNumbers};
+ghost use Rattle.lam_query.specs.inner.ChangedNames.{AgreeOnUnchanged};
 ghost use Rattle.lam_query.specs.inner.Changes.{IsMet, IsFollowedTo, AreOldPieces};
+ghost use Rattle.lam_query.specs.inner.Entries.{IsMeantBy};
 ghost use Rattle.lam_query.specs.inner.Fronts.{AreBoundBy, StandBy};
-ghost use Rattle.lam_query.specs.inner.Kept.{rows_of};
+ghost use Rattle.lam_query.specs.inner.Kept.{command_row_of, entry_in, rows_of};
 ghost use Rattle.lam_query.specs.inner.PieceRows.{Sight, outset};
 ghost use Rattle.lam_query.specs.declared.bound.Bound.{Bound};
 
 use crate::analyses::{Analysis, Analyst};
+use crate::changed_names::ChangedNames;
 use crate::ends::{Behind, common_end};
 use crate::entries::Entries;
 use crate::fronts::{FrontRows, bind_again, common_front, rows_within};
 use crate::reading::{Reader, command_in};
-use crate::rows::Row;
+use crate::rows::{CommandRow, Row};
+use lam_rules::TyNo;
 use std::alloc::{AllocError, Global};
 use std::mem;
 
@@ -48,7 +53,7 @@ impl Analysis {
         if met == count {
             return analyst.finish(new, dialect);
         }
-        analyst.follow(new, next, &mut earlier)?;
+        analyst.follow(new, next, &earlier)?;
         analyst.finish(new, dialect)
     }
 
@@ -140,14 +145,9 @@ impl<'t> Analyst<'t> {
 
     /// Goes over the rows after a change, starting with this one, and rebuilds those of commands with a free name whose meaning
     /// changed.
-    fn follow(
-        &mut self,
-        text: &'t str,
-        next: usize,
-        earlier: &mut Entries,
-    ) -> Result<(), AllocError>
+    fn follow(&mut self, text: &'t str, next: usize, earlier: &Entries) -> Result<(), AllocError>
         requires sound { IsSound self.old }
-        requires followed { (ts : List Typ) × (b : Bound) × IsFollowedTo text.now next ts b earlier.old self.old }
+        requires followed { (ts : List Typ) × (b : Bound) × IsFollowedTo text.now next ts b (λ was now. IsMeantBy was ts b earlier.now) self.old }
         ensures read { OnOk result (IsReadThrough [] outset text.now self.new) }
         ensures sound { OnOk result (IsSound self.new) }
         ensures dialect { dialect_in self.new.types ≡ dialect_in self.old.types }
@@ -155,8 +155,9 @@ impl<'t> Analyst<'t> {
         if earlier.is_now(&self.bound) {
             return Ok(());
         }
+        let mut changed = ChangedNames::between(self.alloc, earlier, &self.bound)?;
         for i in next..self.rows.len() {
-            self.follow_row(text, i, earlier)?;
+            self.follow_row(text, i, &mut changed)?;
         }
         Ok(())
     }
@@ -166,12 +167,12 @@ impl<'t> Analyst<'t> {
         &mut self,
         text: &'t str,
         number: usize,
-        earlier: &mut Entries,
+        changed: &mut ChangedNames,
     ) -> Result<(), AllocError>
         requires sound { IsSound self.old }
         requires inside { number < length self.old.rows.items }
-        requires followed { (ts : List Typ) × (b : Bound) × IsFollowedTo text.now number ts b earlier.old self.old }
-        ensures followed { OnOk result ((ts : List Typ) (b : Bound) → IsFollowedTo text.now number ts b earlier.old self.old → IsFollowedTo text.now (number + 1) ts b earlier.new self.new) }
+        requires followed { (ts : List Typ) × (b : Bound) × IsFollowedTo text.now number ts b (AgreeOnUnchanged b changed.old) self.old }
+        ensures followed { OnOk result ((ts : List Typ) (b : Bound) → IsFollowedTo text.now number ts b (AgreeOnUnchanged b changed.old) self.old → IsFollowedTo text.now (number + 1) ts b (AgreeOnUnchanged b changed.new) self.new) }
         ensures count { OnOk result (length self.new.rows.items ≡ length self.old.rows.items) }
         ensures sound { OnOk result (IsSound self.new) }
         ensures dialect { dialect_in self.new.types ≡ dialect_in self.old.types }
@@ -181,17 +182,25 @@ impl<'t> Analyst<'t> {
         let Some(command) = &self.rows[number].command else {
             return Ok(());
         };
-        let same = earlier.agrees_on(&self.bound, &command.asks);
         let binds = command.binds;
         let entry = command.found.bound();
-        earlier.rebind(binds, entry);
-        if same {
+        if !changed.has_any(&command.asks) {
             self.bound.rebind(binds, entry);
+            changed.set(binds, false);
             return Ok(());
         }
         self.read = self.read.saturating_add(self.rows[number].end);
         let command = command_in(self.alloc, &text[start..self.end], 0)?;
-        self.rows[number].command = self.keep(&command)?;
+        let row = self.keep(&command)?;
+        changed.set(binds, entry_of(&row) != entry);
+        self.rows[number].command = row;
         Ok(())
     }
+}
+
+/// Returns the entry of what a command binds, or `None` if there is no command.
+fn entry_of(command: &Option<CommandRow>) -> Option<TyNo>
+    ensures { result ≡ entry_in (option_map command_row_of command.now) }
+{
+    command.as_ref()?.found.bound()
 }

@@ -1,5 +1,5 @@
 //! The meanings of names at one point of a text.
-ghost use Rattle.std.specs.Prelude.{◌≡◌, ◌<◌, ℕ, List, IsTrue, IsFalse, length, get_or, replicate, Contains, Some, None, IfOk};
+ghost use Rattle.std.specs.Prelude.{◌≡◌, ◌<◌, ℕ, List, IsTrue, length, get_or, replicate, Some, None, IfOk};
 ghost use Rattle.lam_rules.specs.Types.{Typ};
 ghost use Rattle.lam_rules.specs.declared.rules.Dialect.{Dialect};
 ghost use Rattle.lam_rules.specs.declared.numbers.TyNo.{TyNo};
@@ -100,20 +100,6 @@ impl Entries {
                 self.rebind(command.binds, command.found.bound());
             }
         }
-    }
-
-    /// Whether each of these names has the same meaning here and in `bound`.
-    pub(crate) fn agrees_on(&self, bound: &Bound, names: &[NameNo]) -> bool
-        ensures same { IsTrue result → (name : NameNo) → Contains names.now name → meant self.now name ≡ means bound.now name }
-        ensures other { IsFalse result → (name : NameNo) × Contains names.now name × (meant self.now name ≡ means bound.now name → ⊥) }
-    {
-        for i in 0..names.len() {
-            let name = names[i];
-            if self.meaning(name) != bound.meaning(name) {
-                return false;
-            }
-        }
-        true
     }
 
     /// Returns `true` only if all names here have the same meaning in `bound`. A `false` may be wrong, which only costs time.

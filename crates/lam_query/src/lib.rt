@@ -9,6 +9,7 @@ mod analyses;
 pub mod answers;
 mod binders;
 mod bound;
+mod changed_names;
 mod changes;
 mod completions;
 mod contexts;

@@ -6,11 +6,9 @@ use Rattle.lam_rules.specs.Numbers.{Keeps}
 use Rattle.lam_typing.specs.Checking.{types_in, dialect_in}
 use Rattle.lam_query.specs.declared.analyses.Analyst.{Analyst}
 use Rattle.lam_query.specs.declared.bound.Bound.{Bound}
-use Rattle.lam_query.specs.declared.entries.Entries.{Entries}
 use Rattle.lam_query.specs.declared.ends.Behind.{Behind}
 use Rattle.lam_query.specs.inner.Analysts.{IsBoundAs, IsReadTo, IsReadThrough}
 use Rattle.lam_query.specs.inner.Bound.{HaveNumbers, KeepsNumbers}
-use Rattle.lam_query.specs.inner.Entries.{IsMeantBy}
 use Rattle.lam_query.specs.inner.Ends.{IsLeftOf}
 use Rattle.lam_query.specs.inner.Kept.{rows_of}
 use Rattle.lam_query.specs.inner.PieceRows.{Sight, outset, AreRows, IsMadeUpOf, joined}
@@ -29,9 +27,9 @@ pub record AreOldPieces (old new : List ℕ) (pieces : List (List ℕ)) (b : Beh
   pub fits : b.common ≤ length new
   pub same : drop (length old - b.common) old ≡ drop (length new - b.common) new
 
--- The first n rows are those of the text's pieces, after which names mean what is bound. The others were right in the old text, before which names had these meanings, by
--- the type table and the numbers of that time.
-pub record IsFollowedTo (text : List ℕ) (n : ℕ) (ts : List Typ) (b : Bound) (e : Entries) (a : Analyst) : Type 0 where
+-- The first n rows are those of the text's pieces, after which names mean what is bound. The others were right in the old text, by the type table and the
+-- numbers of that time. What names meant before them is related to what names mean now.
+pub record IsFollowedTo (text : List ℕ) (n : ℕ) (ts : List Typ) (b : Bound) (AreRelated : (was now : Sight) → Type 0) (a : Analyst) : Type 0 where
   pub ended : List (List ℕ)
   pub last : List ℕ
   pub made_up : IsMadeUpOf text ended last
@@ -46,7 +44,7 @@ pub record IsFollowedTo (text : List ℕ) (n : ℕ) (ts : List Typ) (b : Bound) 
   pub old_sight : Sight
   pub old_last : Sight
   pub old_rows : AreRows old_sight left (rows_of (drop n a.rows.items)) old_last ts b (dialect_in a.types)
-  pub meant : IsMeantBy old_sight ts b e
+  pub related : AreRelated old_sight sight
   pub old_numbers : HaveNumbers b
   pub keeps : Keeps ts (types_in a.types)
   pub numbers : KeepsNumbers b a.bound

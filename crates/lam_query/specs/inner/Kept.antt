@@ -73,6 +73,11 @@ abbrev pub bound_by : Found → Option TyNo
 bound_by (typed t) = t.bound
 bound_by f = None
 
+-- the entry of what a piece binds, if it is a command
+abbrev pub entry_in : Option CommandRow → Option TyNo
+entry_in None = None
+entry_in (Some k) = bound_by k.found
+
 -- what was found for the command of a row
 abbrev pub found_in : Row → Option Found
 found_in r = option_map (λ k. k.found) r.command

@@ -1,5 +1,5 @@
 use Rattle.std.proofs.Common.{refl, ◌∙◌, sym, arith}
-use Rattle.lam_query.proofs.FollowedRows.{all_followed, end_followed}
+use Rattle.lam_query.proofs.FollowedRows.{all_followed, begun_followed, end_followed}
 use Rattle.lam_query.proofs.analyses.Analyst.follow.Goals as goal
 
 pub returns-then-is_now-clause-read : goal.returns-then-is_now-clause-read
@@ -12,7 +12,9 @@ loop-i-init c = record {
   sound = c.requires.sound;
   dialect = refl;
   count = sym (c.len-i-end.ensures ∙ c.args.self.now.rows.ok.0);
-  followed = c.requires.followed;
+  followed =
+      let f = c.requires.followed in
+      (f.0, f.1, begun_followed c.args.text.now c.args.next f.0 f.1 c.args.earlier.now c.in_ok-changed.changed c.args.self.now f.2 c.in_ok-changed.ensures.same);
 }
 
 pub loop-i-preserved : goal.loop-i-preserved
@@ -30,4 +32,4 @@ pub returns-clause-read : goal.returns-clause-read
 returns-clause-read c =
     let before = c.loop-i.invariant in
     let f = before.followed in
-    end_followed c.args.text.now c.loop-i.i f.0 f.1 c.loop-i.earlier c.loop-i.self f.2 (omega (arith, before.count))
+    end_followed c.args.text.now c.loop-i.i f.0 f.1 _ c.loop-i.self f.2 (omega (arith, before.count))
