@@ -3,6 +3,7 @@
 //! The producer of the derivation is not trusted: the context must list the least types of the names that a term of the text sees,
 //! the steps are built into a proof tree that the proof checker accepts for that term, and the steps of the tree, with the ranges
 //! of the term's parts, must equal those given.
+ghost use Rattle.std.specs.List.{AllZip};
 ghost use Rattle.std.specs.Prelude.{◌≡◌, ◌<◌, ◌↔◌, IsTrue, List, [], length, Some, None, map, reverse, get_or, IfOk};
 ghost use Rattle.lam_rules.specs.TermViews.{written_of};
 ghost use Rattle.lam_rules.specs.Typing.{TypingTree};
@@ -25,7 +26,7 @@ ghost use Rattle.lam_typing.specs.Typings.{entries_in};
 ghost use Rattle.lam_query.specs.Steps.{steps_of, typing_proof, typing, subtyping};
 ghost use Rattle.lam_query.specs.Views.{derivation_of, entry_of, step_of};
 ghost use Rattle.lam_check.specs.Verified.{IsProofAt, IsVerified};
-ghost use Rattle.lam_check.specs.inner.Verifying.{AreFormsOf, EachPair, MakeTree, IsOfSomeTerm, StandsFor, span_in};
+ghost use Rattle.lam_check.specs.inner.Verifying.{AreFormsOf, MakeTree, IsOfSomeTerm, StandsFor, span_in};
 
 use crate::commands::commands_of;
 use lam_query::answers::{Derivation, Step};
@@ -232,7 +233,7 @@ fn first_wrong(
     dialect: Dialect,
 ) -> Result<Option<usize>, AllocError>
     ensures { IfOk result (λ wrong. wrong ≡ None
-        ↔ EachPair (λ b entry. StandsFor (get_or origins.now b TypeName) (get_or (entries_in typing.now) b None) entry dialect) (map binder_number binders.now) (map written_of entries.now)) }
+        ↔ AllZip (λ b entry. StandsFor (get_or origins.now b TypeName) (get_or (entries_in typing.now) b None) entry dialect) (map binder_number binders.now) (map written_of entries.now)) }
 {
     if entries.len() != binders.len() {
         return Ok(Some(entries.len().min(binders.len())));

@@ -1,5 +1,5 @@
 -- Intermediate facts of the verification. For private functions alone.
-use Rattle.std.specs.Prelude.{◌≡◌, ◌<◌, ℕ, List, [], ◌∷◌, length, map, Option, Some, None}
+use Rattle.std.specs.Prelude.{◌≡◌, ◌<◌, ℕ, List, [], length, map, Option, Some, None}
 use Rattle.lam_rules.specs.Subtyping.{IsBelow}
 use Rattle.lam_rules.specs.Types.{Typ}
 use Rattle.lam_rules.specs.Typing.{TypingTree}
@@ -36,13 +36,6 @@ StandsFor (TermAt p) (Some t) (Some u) d = IsBelow t u d × IsBelow u t d
 StandsFor (TermAt p) None entry d = entry ≡ None
 StandsFor (TermAt p) (Some t) None d = ⊥
 StandsFor _ found entry d = entry ≡ found
-
--- the two lists are equally long, and the relation holds of their elements one by one
-abbrev pub EachPair : {A B : Type 0} → (A → B → Type 0) → List A → List B → Type 0
-EachPair R [] [] = Unit {0}
-EachPair R (x ∷ xs) (y ∷ ys) = R x y × EachPair R xs ys
-EachPair R [] (y ∷ ys) = ⊥
-EachPair R (x ∷ xs) [] = ⊥
 
 -- The steps are those of a typing proof that has this tree.
 pub record MakeTree (steps : List Step) (tree : TypingTree) : Type 0 where

@@ -1,4 +1,4 @@
-use Rattle.std.proofs.Common.{map, ap, sym, ◌∙◌}
+use Rattle.std.proofs.Common.{map, ap, sym, ◌∙◌, arith}
 use Rattle.lam_rules.specs.TermViews.{term_of}
 use Rattle.lam_rules.specs.TypingViews.{typing_tree_of}
 use Rattle.lam_query.specs.Views.{derivation_of, entry_of, step_of}
@@ -16,7 +16,7 @@ pub returns-then-not-check_type : goal.returns-then-not-check_type
 returns-then-not-check_type c = λ commands forms. (
   λ b. never b,
   λ h. not_so c.check_type.result c.if-not-check_type.true (c.check_type.ensures.1
-      (proof_is commands c.args.scopes.now c.args.resolved.now c.args.place.0 c.args.entries.now (derivation_of c.args.derivation.now) (typing_tree_of c.args.proof.now) (term_of c.core_at.result.now) c.args.dialect
+      (proof_is commands c.args.scopes.now c.args.resolved.now c.args.typing.now c.args.place.0 c.args.entries.now (derivation_of c.args.derivation.now) (typing_tree_of c.args.proof.now) (term_of c.core_at.result.now) c.args.dialect
       forms c.requires.entries c.core_at.ensures c.requires.tree h)),
 )
 
@@ -27,7 +27,7 @@ returns c = λ commands forms.
     let listed = c.in_ok-steps.ensures.of_term commands forms.are_scopes in
     let given = ap (map step_of) c.deref-3.ensures.value in
     let made = ap (map step_of) c.deref-4.ensures.value in (
-      λ b. is_proof commands c.args.scopes.now c.args.resolved.now c.args.place.0 c.args.entries.now derivation tree (term_of c.core_at.result.now) c.args.dialect forms c.requires.entries c.core_at.ensures
+      λ b. is_proof commands c.args.scopes.now c.args.resolved.now c.args.typing.now c.args.place.0 c.args.entries.now derivation tree (term_of c.core_at.result.now) c.args.dialect forms c.requires.entries c.core_at.ensures
           (ap (λ es. map (λ e. e.name) (map entry_of es)) (sym c.deref-2.ensures.value) ∙ c.in_ok-has_names.ensures.0 c.if-not-branch.false)
           (c.check_type.ensures.0 c.if-not-check_type.false)
           (sym given ∙ c.are_same.ensures.0 b ∙ made ∙ listed),
