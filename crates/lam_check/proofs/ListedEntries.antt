@@ -1,7 +1,8 @@
 -- The entries that a context lists, held against the least ones of the binders that a term sees.
-use Rattle.std.proofs.Common.{◌≡◌, ◌↔◌, ℕ, zero, suc, ◌<◌, List, [], ◌∷◌, ◌++◌, length, get_or, map, reverse, Option, Some, None, refl, sym, ap, subst, ◌∙◌, arith}
+use Rattle.std.proofs.Common.{◌≡◌, ◌↔◌, ℕ, zero, suc, ◌+◌, ◌<◌, ◌≤◌, List, [], ◌∷◌, ◌++◌, length, get_or, map, take, reverse, Option, Some, None, Bool, true, false, IsTrue, true≢false, refl, sym, ap, subst, ◌∙◌, arith}
+use Rattle.std.specs.Option.{is_some}
 use Rattle.std.specs.List.{AllZip}
-use Rattle.std.proofs.lemmas.List.{reverse-append, reverse-reverse, length-map}
+use Rattle.std.proofs.lemmas.List.{reverse-append, reverse-reverse, length-map, take_more, take_all, map-append}
 use Rattle.lam_rules.specs.Types.{Typ}
 use Rattle.lam_rules.specs.Terms.{Term}
 use Rattle.lam_rules.specs.Subtyping.{IsBelow, ProvesBelow}
@@ -40,7 +41,7 @@ use Rattle.lam_query.specs.WellTypedDocuments.{statements_in}
 use Rattle.lam_query.proofs.RowsAndTerms.{number_told}
 use Rattle.lam_query.proofs.Small.{least_at}
 use Rattle.lam_check.proofs.Verifying.{context_reversed}
-use Rattle.lam_check.specs.inner.Verifying.{AreFormsOf, StandsFor}
+use Rattle.lam_check.specs.inner.Verifying.{AreFormsOf, StandsFor, StandsAt}
 
 -- ---- least types of one term
 
@@ -100,6 +101,40 @@ reversed R (x ∷ xs) (y ∷ ys) h =
 reversed R [] (y ∷ ys) h = absurd h
 reversed R (x ∷ xs) [] h = absurd h
 
+-- lists that are compared one by one
+pub zip_front : {A B C D : Type 0} (R : C → D → Type 0) (f : A → C) (g : B → D) (xs : List A) (ys : List B) (i : ℕ) (x : A) (y : B) → i < length xs → i < length ys
+    → x ≡ get_or xs i x → y ≡ get_or ys i y → R (f x) (g y) → AllZip R (map f (take i xs)) (map g (take i ys)) → AllZip R (map f (take (i + 1) xs)) (map g (take (i + 1) ys))
+zip_front R f g xs ys i x y inside within at there here so_far =
+    let left : map f (take (i + 1) xs) ≡ map f (take i xs) ++ f x ∷ [] =
+    ap (map f) (take_more xs i x inside) ∙ map-append f (take i xs) (get_or xs i x ∷ []) ∙ ap (λ a. map f (take i xs) ++ f a ∷ []) (sym at) in
+    let right : map g (take (i + 1) ys) ≡ map g (take i ys) ++ g y ∷ [] =
+    ap (map g) (take_more ys i y within) ∙ map-append g (take i ys) (get_or ys i y ∷ []) ∙ ap (λ b. map g (take i ys) ++ g b ∷ []) (sym there) in
+    subst (λ l. AllZip R l (map g (take (i + 1) ys))) (sym left)
+    (subst (λ l. AllZip R (map f (take i xs) ++ f x ∷ []) l) (sym right) (pushed R (map f (take i xs)) (map g (take i ys)) (f x) (g y) so_far here))
+
+pub zip_all : {A B C D : Type 0} (R : C → D → Type 0) (f : A → C) (g : B → D) (xs : List A) (ys : List B) (i : ℕ) → length xs ≤ i → length ys ≤ i
+    → AllZip R (map f (take i xs)) (map g (take i ys)) → AllZip R (map f xs) (map g ys)
+zip_all R f g xs ys i past beyond h =
+    subst (λ l. AllZip R (map f xs) (map g l)) (take_all i ys beyond) (subst (λ l. AllZip R (map f l) (map g (take i ys))) (take_all i xs past) h)
+
+zip_there : {A B C D : Type 0} (R : C → D → Type 0) (f : A → C) (g : B → D) (xs : List A) (ys : List B) (i : ℕ) (x : A) (y : B) → i < length xs
+    → AllZip R (map f xs) (map g ys) → R (f (get_or xs i x)) (g (get_or ys i y))
+zip_there R f g [] ys i x y inside h = absurd (omega arith)
+zip_there R f g (a ∷ xs) [] i x y inside h = absurd h
+zip_there R f g (a ∷ xs) (b ∷ ys) zero x y inside h = h.0
+zip_there R f g (a ∷ xs) (b ∷ ys) (suc i) x y inside h = zip_there R f g xs ys i x y (omega arith) h.1
+
+pub zip_read : {A B C D : Type 0} (R : C → D → Type 0) (f : A → C) (g : B → D) (xs : List A) (ys : List B) (i : ℕ) (x : A) (y : B) → i < length xs
+    → x ≡ get_or xs i x → y ≡ get_or ys i y → AllZip R (map f xs) (map g ys) → R (f x) (g y)
+zip_read R f g xs ys i x y inside at there h =
+    subst (λ a. R (f a) (g y)) (sym at) (subst (λ b. R (f (get_or xs i x)) (g b)) (sym there) (zip_there R f g xs ys i x y inside h))
+
+pub zip_long : {A B C D : Type 0} (R : C → D → Type 0) (f : A → C) (g : B → D) (xs : List A) (ys : List B) → AllZip R (map f xs) (map g ys) → length xs ≡ length ys
+zip_long R f g [] [] h = refl
+zip_long R f g (x ∷ xs) (y ∷ ys) h = ap suc (zip_long R f g xs ys h.1)
+zip_long R f g [] (y ∷ ys) h = absurd h
+zip_long R f g (x ∷ xs) [] h = absurd h
+
 -- along a map, where one relation leads to the other
 mapped : {A B C : Type 0} (R : A → C → Type 0) (Q : B → C → Type 0) (f : A → B) (xs : List A) (ys : List C) → ((x : A) (y : C) → R x y → Q (f x) y) → AllZip R xs ys → AllZip Q (map f xs) ys
 mapped R Q f [] [] each h = tt
@@ -112,6 +147,19 @@ unmapped R Q f [] [] each h = tt
 unmapped R Q f (x ∷ xs) (y ∷ ys) each h = (each x y h.0, unmapped R Q f xs ys each h.1)
 unmapped R Q f [] (y ∷ ys) each h = absurd h
 unmapped R Q f (x ∷ xs) [] each h = absurd h
+
+-- ---- what is wrong
+
+pub no_number : {A : Type 0} (n : ℕ) → Some n ≡ None → A
+no_number n none = let clash : Some n ≡ None = none in absurd cc
+
+pub is_wrong : {A : Type 0} (o : Option ℕ) (b : Bool) → b ≡ is_some o → IsTrue b → o ≡ None → A
+is_wrong None b is so none = absurd (true≢false (sym so ∙ is))
+is_wrong (Some n) b is so none = no_number n none
+
+pub not_wrong : (o : Option ℕ) (b : Bool) → b ≡ is_some o → b ≡ false → o ≡ None
+not_wrong None b is no = refl
+not_wrong (Some n) b is no = absurd (true≢false (sym is ∙ no))
 
 -- ---- by number
 
@@ -157,7 +205,7 @@ module _ (cs : List CommandTree) (scopes : Scopes) (resolved : Resolved) (typing
       (λ m lt. least_at (places_of [] Stated) (found_of typing) m _ d (omega (arith, long, lt)) found_least) (document-wf cs) refl inside).entries (omega (arith, long, inside))
 
   abbrev ByNumber : ℕ → Option Typ → Type 0
-  ByNumber b entry = StandsFor (get_or (origins_of resolved) b TypeName) (get_or (entries_in typing) b None) entry d
+  ByNumber = StandsAt (origins_of resolved) typing d
 
   abbrev ByOrigin : Origin → Option Typ → Type 0
   ByOrigin o entry = StandsFor o (Found o) entry d
@@ -170,7 +218,7 @@ module _ (cs : List CommandTree) (scopes : Scopes) (resolved : Resolved) (typing
 
   -- entries that stand for those of the binders in scope at a term are its least entries
   pub listed_least : (n : ℕ) (bs : List ℕ) (entries : List (Option Ty)) → n < length (document_terms cs) → bs ≡ visible_at (table_of scopes) n
-      → (AllZip ByNumber bs (map written_of entries) ↔ AreLeastEntries (term_of (tree_in (document_terms cs) n)).place.scope (context_of entries) d)
+      → (AllZip (StandsAt (origins_of resolved) typing d) bs (map written_of entries) ↔ AreLeastEntries (term_of (tree_in (document_terms cs) n)).place.scope (context_of entries) d)
   listed_least n bs entries inside seen =
       let sight = sight_numbered Stated n in
       let types = map written_of entries in
@@ -189,4 +237,14 @@ module _ (cs : List CommandTree) (scopes : Scopes) (resolved : Resolved) (typing
             let inward = subst (λ g. AllZip ByOrigin sight g) listed own in
             let outward = subst (λ es. AllZip ByOrigin (reverse sight) es) (reverse-reverse types) (reversed ByOrigin sight (reverse types) inward) in
             unmapped ByNumber ByOrigin origin_of bs types at_number (subst (λ os. AllZip ByOrigin os types) (sym visible) outward),
+      )
+
+  -- what is found wrong, if anything, by the numbers of the binders
+  pub wrong_is : (n : ℕ) (origins : List Origin) (bs : List ℕ) (entries : List (Option Ty)) (wrong : Option ℕ) → n < length (document_terms cs) → bs ≡ visible_at (table_of scopes) n → origins ≡ origins_of resolved
+      → (wrong ≡ None ↔ AllZip (StandsAt origins typing d) bs (map written_of entries))
+      → (wrong ≡ None ↔ AreLeastEntries (term_of (tree_in (document_terms cs) n)).place.scope (context_of entries) d)
+  wrong_is n origins bs entries wrong inside seen are h =
+      let least = listed_least n bs entries inside seen in (
+        λ none. least.0 (subst (λ os. AllZip (StandsAt os typing d) bs (map written_of entries)) are (h.0 none)),
+        λ all. h.1 (subst (λ os. AllZip (StandsAt os typing d) bs (map written_of entries)) (sym are) (least.1 all)),
       )

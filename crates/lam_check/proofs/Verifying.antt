@@ -91,13 +91,13 @@ entries_are : (term : PlacedTree) (entries : List (Option Ty)) (derivation : Der
 entries_are term entries derivation d types h = context_reversed entries ∙ ap reverse (types ∙ h.types) ∙ reverse-reverse h.entries
 
 -- what the tests say of a term is that the derivation is of it
-pub is_proof : (commands : List CommandTree) (scopes : Scopes) (resolved : Resolved) (typing : Typing) (n : ℕ) (entries : List (Option Ty)) (derivation : Derivation) (made : TypingTree) (e : Term) (d : Dialect)
-    → AreFormsOf commands scopes resolved typing d → map written_of entries ≡ map (λ x. x.type) derivation.context → e ≡ (place_numbered (statements_of resolved) n).here
+pub is_proof : (commands : List CommandTree) (scopes : Scopes) (resolved : Resolved) (analysed : Typing) (n : ℕ) (entries : List (Option Ty)) (derivation : Derivation) (made : TypingTree) (e : Term) (d : Dialect)
+    → AreFormsOf commands scopes resolved analysed d → map written_of entries ≡ map (λ x. x.type) derivation.context → e ≡ (place_numbered (statements_of resolved) n).here
     → map (λ x. x.name) derivation.context ≡ map (λ b. shown_name (binder_numbered (table_of scopes) b).name) (visible_at (table_of scopes) n)
     → AreLeastEntries (term_of (tree_in (document_terms commands) n)).place.scope (context_of entries) d
     → IsTyping (context_of entries) e made d → derivation.steps ≡ steps_of 0 (typing_proof (tree_in (document_terms commands) n) made)
     → IsProofAt commands n derivation d
-is_proof commands scopes resolved typing n entries derivation made e d forms types here names least proof steps = record {
+is_proof commands scopes resolved analysed n entries derivation made e d forms types here names least proof steps = record {
   entries = context_of entries;
   least = least;
   names = names ∙ names_there commands scopes n forms.are_scopes;
@@ -122,10 +122,10 @@ pub steps_are : (commands : List CommandTree) (n : ℕ) (derivation : Derivation
 steps_are commands n derivation made d makes h =
     h.steps ∙ ap (λ t. steps_of 0 (typing_proof (tree_in (document_terms commands) n) t)) (one_tree derivation.steps made h.tree (tree_in (document_terms commands) n) makes h.steps)
 
-pub proof_is : (commands : List CommandTree) (scopes : Scopes) (resolved : Resolved) (typing : Typing) (n : ℕ) (entries : List (Option Ty)) (derivation : Derivation) (made : TypingTree) (e : Term) (d : Dialect)
-    → AreFormsOf commands scopes resolved typing d → map written_of entries ≡ map (λ x. x.type) derivation.context → e ≡ (place_numbered (statements_of resolved) n).here
+pub proof_is : (commands : List CommandTree) (scopes : Scopes) (resolved : Resolved) (analysed : Typing) (n : ℕ) (entries : List (Option Ty)) (derivation : Derivation) (made : TypingTree) (e : Term) (d : Dialect)
+    → AreFormsOf commands scopes resolved analysed d → map written_of entries ≡ map (λ x. x.type) derivation.context → e ≡ (place_numbered (statements_of resolved) n).here
     → MakeTree derivation.steps made → IsProofAt commands n derivation d → IsTyping (context_of entries) e made d
-proof_is commands scopes resolved typing n entries derivation made e d forms types here makes h =
+proof_is commands scopes resolved analysed n entries derivation made e d forms types here makes h =
     let term = tree_in (document_terms commands) n in
     let same = one_tree derivation.steps made h.tree term makes h.steps in
     subst (λ t. IsTyping (context_of entries) e t d) same

@@ -4,7 +4,7 @@
 //! the steps are built into a proof tree that the proof checker accepts for that term, and the steps of the tree, with the ranges
 //! of the term's parts, must equal those given.
 ghost use Rattle.std.specs.List.{AllZip};
-ghost use Rattle.std.specs.Prelude.{◌≡◌, ◌<◌, ◌↔◌, IsTrue, List, [], length, Some, None, map, reverse, get_or, IfOk};
+ghost use Rattle.std.specs.Prelude.{◌≡◌, ◌<◌, ◌↔◌, IsTrue, List, [], length, Some, None, map, reverse, IfOk};
 ghost use Rattle.lam_rules.specs.TermViews.{written_of};
 ghost use Rattle.lam_rules.specs.Typing.{TypingTree};
 ghost use Rattle.lam_rules.specs.TypingViews.{context_of, typing_tree_of};
@@ -19,14 +19,12 @@ ghost use Rattle.lam_scope.specs.PlacedTerms.{document_terms, tree_in};
 ghost use Rattle.lam_scope.specs.Tables.{binder_numbered, visible_at};
 ghost use Rattle.lam_scope.specs.TableViews.{binder_number};
 ghost use Rattle.lam_scope.specs.Views.{table_of, statements_of, AreScopesOf};
-ghost use Rattle.lam_scope.specs.declared.numbers.Origin.TheVariants.{TypeName};
 ghost use Rattle.lam_syntax.specs.Trees.{CommandTree};
 ghost use Rattle.lam_typing.specs.LeastTypes.{AreLeastEntries};
-ghost use Rattle.lam_typing.specs.Typings.{entries_in};
 ghost use Rattle.lam_query.specs.Steps.{steps_of, typing_proof, typing, subtyping};
 ghost use Rattle.lam_query.specs.Views.{derivation_of, entry_of, step_of};
 ghost use Rattle.lam_check.specs.Verified.{IsProofAt, IsVerified};
-ghost use Rattle.lam_check.specs.inner.Verifying.{AreFormsOf, MakeTree, IsOfSomeTerm, StandsFor, span_in};
+ghost use Rattle.lam_check.specs.inner.Verifying.{AreFormsOf, MakeTree, IsOfSomeTerm, StandsAt, span_in};
 
 use crate::commands::commands_of;
 use lam_query::answers::{Derivation, Step};
@@ -233,7 +231,7 @@ fn first_wrong(
     dialect: Dialect,
 ) -> Result<Option<usize>, AllocError>
     ensures { IfOk result (λ wrong. wrong ≡ None
-        ↔ AllZip (λ b entry. StandsFor (get_or origins.now b TypeName) (get_or (entries_in typing.now) b None) entry dialect) (map binder_number binders.now) (map written_of entries.now)) }
+        ↔ AllZip (StandsAt origins.now typing.now dialect) (map binder_number binders.now) (map written_of entries.now)) }
 {
     if entries.len() != binders.len() {
         return Ok(Some(entries.len().min(binders.len())));
@@ -255,8 +253,7 @@ fn is_least(
     entry: &Option<Ty>,
     dialect: Dialect,
 ) -> Result<bool, AllocError>
-    ensures { IfOk result (λ is. IsTrue is
-        ↔ StandsFor (get_or origins.now binder.0 TypeName) (get_or (entries_in typing.now) binder.0 None) (written_of entry.now) dialect) }
+    ensures { IfOk result (λ is. IsTrue is ↔ StandsAt origins.now typing.now dialect binder.0 (written_of entry.now)) }
 {
     let Some(number) = typing.type_of_binder(binder) else {
         return Ok(entry.is_none());
