@@ -103,14 +103,13 @@ reversed R (x ∷ xs) [] h = absurd h
 
 -- lists that are compared one by one
 pub zip_front : {A B C D : Type 0} (R : C → D → Type 0) (f : A → C) (g : B → D) (xs : List A) (ys : List B) (i : ℕ) (x : A) (y : B) → i < length xs → i < length ys
-    → x ≡ get_or xs i x → y ≡ get_or ys i y → R (f x) (g y) → AllZip R (map f (take i xs)) (map g (take i ys)) → AllZip R (map f (take (i + 1) xs)) (map g (take (i + 1) ys))
-zip_front R f g xs ys i x y inside within at there here so_far =
-    let left : map f (take (i + 1) xs) ≡ map f (take i xs) ++ f x ∷ [] =
-    ap (map f) (take_more xs i x inside) ∙ map-append f (take i xs) (get_or xs i x ∷ []) ∙ ap (λ a. map f (take i xs) ++ f a ∷ []) (sym at) in
+    → y ≡ get_or ys i y → R (f (get_or xs i x)) (g y) → AllZip R (map f (take i xs)) (map g (take i ys)) → AllZip R (map f (take (i + 1) xs)) (map g (take (i + 1) ys))
+zip_front R f g xs ys i x y inside within at here so_far =
+    let left : map f (take (i + 1) xs) ≡ map f (take i xs) ++ f (get_or xs i x) ∷ [] = ap (map f) (take_more xs i x inside) ∙ map-append f (take i xs) (get_or xs i x ∷ []) in
     let right : map g (take (i + 1) ys) ≡ map g (take i ys) ++ g y ∷ [] =
-    ap (map g) (take_more ys i y within) ∙ map-append g (take i ys) (get_or ys i y ∷ []) ∙ ap (λ b. map g (take i ys) ++ g b ∷ []) (sym there) in
+    ap (map g) (take_more ys i y within) ∙ map-append g (take i ys) (get_or ys i y ∷ []) ∙ ap (λ b. map g (take i ys) ++ g b ∷ []) (sym at) in
     subst (λ l. AllZip R l (map g (take (i + 1) ys))) (sym left)
-    (subst (λ l. AllZip R (map f (take i xs) ++ f x ∷ []) l) (sym right) (pushed R (map f (take i xs)) (map g (take i ys)) (f x) (g y) so_far here))
+    (subst (λ l. AllZip R (map f (take i xs) ++ f (get_or xs i x) ∷ []) l) (sym right) (pushed R (map f (take i xs)) (map g (take i ys)) (f (get_or xs i x)) (g y) so_far here))
 
 pub zip_all : {A B C D : Type 0} (R : C → D → Type 0) (f : A → C) (g : B → D) (xs : List A) (ys : List B) (i : ℕ) → length xs ≤ i → length ys ≤ i
     → AllZip R (map f (take i xs)) (map g (take i ys)) → AllZip R (map f xs) (map g ys)
@@ -125,9 +124,8 @@ zip_there R f g (a ∷ xs) (b ∷ ys) zero x y inside h = h.0
 zip_there R f g (a ∷ xs) (b ∷ ys) (suc i) x y inside h = zip_there R f g xs ys i x y (omega arith) h.1
 
 pub zip_read : {A B C D : Type 0} (R : C → D → Type 0) (f : A → C) (g : B → D) (xs : List A) (ys : List B) (i : ℕ) (x : A) (y : B) → i < length xs
-    → x ≡ get_or xs i x → y ≡ get_or ys i y → AllZip R (map f xs) (map g ys) → R (f x) (g y)
-zip_read R f g xs ys i x y inside at there h =
-    subst (λ a. R (f a) (g y)) (sym at) (subst (λ b. R (f (get_or xs i x)) (g b)) (sym there) (zip_there R f g xs ys i x y inside h))
+    → y ≡ get_or ys i y → AllZip R (map f xs) (map g ys) → R (f (get_or xs i x)) (g y)
+zip_read R f g xs ys i x y inside at h = subst (λ b. R (f (get_or xs i x)) (g b)) (sym at) (zip_there R f g xs ys i x y inside h)
 
 pub zip_long : {A B C D : Type 0} (R : C → D → Type 0) (f : A → C) (g : B → D) (xs : List A) (ys : List B) → AllZip R (map f xs) (map g ys) → length xs ≡ length ys
 zip_long R f g [] [] h = refl

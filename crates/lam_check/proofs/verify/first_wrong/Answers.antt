@@ -16,14 +16,14 @@ pub returns-then-not-branch : goal.returns-then-not-branch
 returns-then-not-branch c = (
   λ none. no_number c.loop-i.i none,
   λ h. not_so c.in_ok-is_least.field-0 c.if-not-branch.true (c.in_ok-is_least.ensures.1
-      (zip_read (StandsAt c.args.origins.now c.args.typing.now c.args.dialect) binder_number written_of c.args.binders.now c.args.entries.now c.loop-i.i c.index-binders-i.result c.index-entries-i.result (omega arith)
-      c.index-binders-i.is c.index-entries-i.is h)),
+      (zip_read (StandsAt c.args.origins.now c.args.typing.now c.args.dialect) binder_number written_of c.args.binders.now c.args.entries.now c.loop-i.i _ c.index-entries-i.result (omega arith)
+      c.index-entries-i.is h)),
 )
 
 pub loop-i-preserved : goal.loop-i-preserved
 loop-i-preserved c =
-    zip_front (StandsAt c.args.origins.now c.args.typing.now c.args.dialect) binder_number written_of c.args.binders.now c.args.entries.now c.loop-i.i c.index-binders-i.result c.index-entries-i.result (omega arith) (omega arith)
-    c.index-binders-i.is c.index-entries-i.is (c.in_ok-is_least.ensures.0 c.if-not-branch.false) c.loop-i.invariant
+    zip_front (StandsAt c.args.origins.now c.args.typing.now c.args.dialect) binder_number written_of c.args.binders.now c.args.entries.now c.loop-i.i _ c.index-entries-i.result (omega arith) (omega arith)
+    c.index-entries-i.is (c.in_ok-is_least.ensures.0 c.if-not-branch.false) c.loop-i.invariant
 
 pub returns : goal.returns
 returns c = (
