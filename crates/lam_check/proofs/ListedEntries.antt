@@ -47,9 +47,10 @@ use Rattle.lam_check.specs.inner.Verifying.{AreFormsOf, StandsFor, StandsAt}
 
 -- by subsumption a term has each type above one of its types
 widened : (g : Context) (e : Term) (s t : Typ) (d : Dialect) → HasType g e s d → IsBelow s t d → HasType g e t d
-widened g e s t d (typing_step r u ps q, typing, is) below =
-    (typing_step TypeRule.Sub t (typing_first (typing_step r u ps q) no_typings) (Some below.0),
-    ((typing.0, (below_wf s t d below).1, (typing, subst (λ z. ProvesBelow below.0 z t d) (sym is) below.1)), refl))
+widened g e s t d (typing_step r u ps q, typing, is) below = (
+  typing_step TypeRule.Sub t (typing_first (typing_step r u ps q) no_typings) (Some below.0),
+  ((typing.0, (below_wf s t d below).1, (typing, subst (λ z. ProvesBelow below.0 z t d) (sym is) below.1)), refl),
+)
 
 least_alike : (s : Scope) (e : Term) (t u : Typ) (d : Dialect) → IsLeastAt s e (Some t) d → IsBelow t u d × IsBelow u t d → IsLeastAt s e (Some u) d
 least_alike s e t u d least alike =

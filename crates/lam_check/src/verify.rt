@@ -14,8 +14,7 @@ ghost use Rattle.lam_rules.specs.Types.{IsWellFormed};
 ghost use Rattle.lam_rules.specs.declared.types.Ty.{Ty as RustTy};
 ghost use Rattle.lam_scope.specs.Names.{shown_name};
 ghost use Rattle.lam_scope.specs.Places.{places_of};
-ghost use Rattle.lam_scope.specs.PlacedTerms as placed_term;
-ghost use Rattle.lam_scope.specs.PlacedTerms.{document_terms, tree_in};
+ghost use Rattle.lam_scope.specs.PlacedTerms.{document_terms, term_of, tree_in};
 ghost use Rattle.lam_scope.specs.Tables.{binder_numbered, visible_at};
 ghost use Rattle.lam_scope.specs.TableViews.{binder_number};
 ghost use Rattle.lam_scope.specs.Views.{table_of, statements_of, AreScopesOf};
@@ -217,7 +216,7 @@ pub fn wrong_entry(
 ) -> Result<Option<usize>, AllocError>
     ensures { IfOk result (λ wrong. (commands : List CommandTree) → AreFormsOf commands scopes.now resolved.now typing.now dialect
         → place.0 < length (document_terms commands)
-        → (wrong ≡ None ↔ AreLeastEntries (placed_term.term_of (tree_in (document_terms commands) place.0)).place.scope (context_of entries.now) dialect)) }
+        → (wrong ≡ None ↔ AreLeastEntries (term_of (tree_in (document_terms commands) place.0)).place.scope (context_of entries.now) dialect)) }
 {
     let binders = scopes.visible_at(alloc, place)?;
     first_wrong(typing, resolved.origins(), &binders, entries, dialect)

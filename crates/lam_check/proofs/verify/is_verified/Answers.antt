@@ -56,5 +56,5 @@ returns c =
     let found = found_of_terms cs c.in-Ok.resolved typing c.args.dialect stated c.in-Ok-analyse.ensures.analysis in
     if_ok c.is_of_some_term.result
     (λ b h. verified c.args.text.now cs (derivation_of c.args.derivation.now) c.args.dialect b c.in_ok-commands.ensures (is_small cs (found_of typing) c.args.dialect none found.least found.small)
-        (h cs (record { are_scopes = scopes; are_statements = stated; are_origins = origins; analysis = c.in-Ok-analyse.ensures.analysis; entries = c.in-Ok-analyse.ensures.entries })))
+    (h cs (record { are_scopes = scopes; are_statements = stated; are_origins = origins; analysis = c.in-Ok-analyse.ensures.analysis; entries = c.in-Ok-analyse.ensures.entries })))
     c.is_of_some_term.ensures

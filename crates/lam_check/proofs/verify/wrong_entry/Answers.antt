@@ -7,6 +7,6 @@ use Rattle.lam_check.proofs.verify.wrong_entry.Goals as goal
 pub returns : goal.returns
 returns c = if_ok c.first_wrong.result
     (λ wrong h commands forms inside.
-        wrong_is commands c.args.scopes.now c.args.resolved.now c.args.typing.now c.args.dialect forms c.args.place.0 c.origins.result.now _ c.args.entries.now wrong inside
-        (ap (map binder_number) c.deref.ensures.value ∙ c.in_ok-binders.ensures) c.origins.ensures h)
+    wrong_is commands c.args.scopes.now c.args.resolved.now c.args.typing.now c.args.dialect forms c.args.place.0 c.origins.result.now _ c.args.entries.now wrong inside
+    (ap (map binder_number) c.deref.ensures.value ∙ c.in_ok-binders.ensures) c.origins.ensures h)
     c.first_wrong.ensures
