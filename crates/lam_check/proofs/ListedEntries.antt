@@ -47,7 +47,7 @@ use Rattle.lam_check.specs.inner.Verifying.{AreFormsOf, StandsFor, StandsAt}
 
 -- by subsumption a term has each type above one of its types
 widened : (g : Context) (e : Term) (s t : Typ) (d : Dialect) → HasType g e s d → IsBelow s t d → HasType g e t d
-widened g e s t d (typing_step r u ps q, typing, is) below = (
+widened g e s t d (typing_step r u ps q, (typing, is)) below = (
   typing_step TypeRule.Sub t (typing_first (typing_step r u ps q) no_typings) (Some below.0),
   ((typing.0, (below_wf s t d below).1, (typing, subst (λ z. ProvesBelow below.0 z t d) (sym is) below.1)), refl),
 )
@@ -157,8 +157,8 @@ is_wrong None b is so none = absurd (true≢false (sym so ∙ is))
 is_wrong (Some n) b is so none = no_number n none
 
 pub not_wrong : (o : Option ℕ) (b : Bool) → b ≡ is_some o → b ≡ false → o ≡ None
-not_wrong None b is no = refl
-not_wrong (Some n) b is no = absurd (true≢false (sym is ∙ no))
+not_wrong None b is other = refl
+not_wrong (Some n) b is other = absurd (true≢false (sym is ∙ other))
 
 -- ---- by number
 
