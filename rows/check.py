@@ -164,6 +164,15 @@ PROOF = [
 NAMES = [{"name": "point", "type": WIDE}, {"name": "next", "type": "{x:Nat}->Nat"}]
 ACCEPTED = f"d: accepted: point:{WIDE}, next:{{x:Nat}}->Nat |- next point : Nat\n"
 BELOW = "step {} does not follow by its rule from its premises"
+ENTRY = "d: entry {} of the context is not the least type of its name\n"
+# A name of a term, a declared one, and a use of the first.
+USED = "r = {a=0, b=true}; s : {b:Bool, a:Nat}; r"
+
+
+def used(first, second):
+    """A line with a derivation of the use of the name in the file `a`, in the context of these types."""
+    names = [{"name": "r", "type": first}, {"name": "s", "type": second}]
+    return line({"derivation": {"context": names, "steps": [{"from": [], "range": place(0, 40, 41), "rule": "T-Var", "type": first}]}, "file": "a"})
 
 
 def sent(change=None, names=None, steps=None):
@@ -243,6 +252,15 @@ CASES = [
     Case("a range outside", ["--verify", "d"], {"a": CALL, "d": sent((0, {"range": place(9, 0, 4)}))}, "d: step 0 has a range that is not in the text\n", 1),
     Case("another text", ["--verify", "d"], {"a": CALL.replace("next p", "nest p"), "d": sent()}, "d: " + BELOW.format(0) + "\n", 1),
     Case("other names", ["--verify", "d"], {"a": CALL, "d": sent(names=NAMES[:1])}, "d: the context has other names than those that the term sees\n", 1),
+    Case("the least types of names", ["--verify", "d"], {"a": USED, "d": used("{a:Nat, b:Bool}", "{b:Bool, a:Nat}")}, "d: accepted: r:{a:Nat, b:Bool}, s:{b:Bool, a:Nat} |- r : {a:Nat, b:Bool}\n", 0),
+    Case("another order of fields in the type of a term", ["--verify", "d"], {"a": USED, "d": used("{b:Bool, a:Nat}", "{b:Bool, a:Nat}")}, "d: accepted: r:{b:Bool, a:Nat}, s:{b:Bool, a:Nat} |- r : {b:Bool, a:Nat}\n", 0),
+    Case("another order of fields in a written type", ["--verify", "d"], {"a": USED, "d": used("{a:Nat, b:Bool}", "{a:Nat, b:Bool}")}, ENTRY.format(1), 1),
+    Case("a context with another type of a name", ["--verify", "d"], {"a": USED, "d": used("Bool", "{b:Bool, a:Nat}")}, ENTRY.format(0), 1),
+    Case("a context with a supertype of the least type of a name", ["--verify", "d"], {"a": USED, "d": used("{a:Nat}", "{b:Bool, a:Nat}")}, ENTRY.format(0), 1),
+    Case("a context with another type of a name that is not used", ["--verify", "d"], {"a": USED, "d": used("{a:Nat, b:Bool}", "Nat")}, ENTRY.format(1), 1),
+    Case("a context with no type of a name", ["--verify", "d"], {"a": USED, "d": used("{a:Nat, b:Bool}", None)}, ENTRY.format(1), 1),
+    Case("a label twice in a context", ["--verify", "d"], {"a": USED, "d": used("{a:Nat, b:Bool, b:Bool}", "{b:Bool, a:Nat}")}, ENTRY.format(0), 1),
+    Case("a derivation of a text with a type that is too large", ["--verify", "d"], {"a": "0;\n" + LARGE, "d": line({"derivation": STEPS, "file": "a"})}, "d: the text has a type of more than 4,096 nodes\n", 1),
     Case("no such rule", ["--verify", "d"], {"a": CALL, "d": sent((0, {"rule": "T-Foo"}))}, "d: step 0 names a rule that there is not\n", 1),
     Case("no type", ["--verify", "d"], {"a": CALL, "d": sent((0, {"type": "{x:Nat"}))}, "d: step 0 has a type that is none of the language\n", 1),
     Case("no derivation", ["--verify", "d"], {"a": CALL, "d": line({"derivation": None, "file": "a"})}, "d: it is no derivation: an object of `context` and `steps`, both lists\n", 1),

@@ -5,3 +5,4 @@ pub mod Drawing
 pub mod PlainTypes
 pub mod ReadValues
 pub mod Verifying
+pub mod ListedEntries

@@ -1,6 +1,6 @@
 -- Derivations that are held against a text.
 use Rattle.std.proofs.Common.{◌≡◌, ◌↔◌, ℕ, ◌+◌, ◌-◌, ◌<◌, ◌≤◌, zero, suc, List, [], ◌∷◌, ◌++◌, length, get_or, map, take, reverse, Option, Some, None, Result, Ok, Err, IfOk, Bool, true, false, not, IsTrue, true≢false, refl, sym, ap, subst, ◌∙◌, arith}
-use Rattle.std.proofs.lemmas.List.{length-map, reverse-append, take_more, take_all, map-append}
+use Rattle.std.proofs.lemmas.List.{length-map, reverse-append, reverse-reverse, take_more, take_all, map-append}
 use Rattle.std.proofs.lemmas.Simd.{map-map}
 use Rattle.std.proofs.lemmas.Option.{same_Some}
 use Rattle.std.specs.Str.{bytes_eq}
@@ -30,13 +30,15 @@ use Rattle.lam_query.specs.Derivations.{Derivation, names_seen}
 use Rattle.lam_query.specs.ProofTrees.{typing_tree_in}
 use Rattle.lam_query.specs.Steps.{Conclusion, typing, Step, steps_of, steps_of_each, last_steps, typing_proof, typing_proofs, premise_terms, with_side}
 use Rattle.lam_query.specs.WellTypedDocuments.{statements_in}
-use Rattle.lam_scope.specs.Nameless.{first_too_large}
+use Rattle.lam_typing.specs.LeastTypes.{AreLeastEntries}
+use Rattle.lam_typing.specs.declared.typing.Typing.{Typing}
 use Rattle.lam_query.specs.Commands.{AreCommandsOfText}
+use Rattle.lam_query.specs.Sizes.{IsSizeFault, IsSmall}
 use Rattle.lam_query.proofs.OneAnswer.{one_document}
 use Rattle.lam_query.proofs.OneProof.{one_proof_of_steps}
 use Rattle.lam_query.proofs.ReadTrees.{tree_read}
 use Rattle.lam_query.proofs.RowsAndTerms.{span_told, names_told, number_told}
-use Rattle.lam_check.specs.Verified.{IsProofAt, IsVerified}
+use Rattle.lam_check.specs.Verified.{IsProofOf, IsProofAt, IsVerified}
 use Rattle.lam_check.specs.inner.Verifying.{AreFormsOf, MakeTree, IsOfSomeTerm, span_in}
 
 -- the context of entries
@@ -83,20 +85,25 @@ typed_there : (commands : List CommandTree) (resolved : Resolved) (n : ℕ) (e :
     → e ≡ (term_of (tree_in (document_terms commands) n)).place.here
 typed_there commands resolved n e are is = is ∙ ap (λ ss. (place_numbered ss n).here) are ∙ ap (λ (p : Place). p.here) (number_told commands n)
 
-context_there : (entries : List (Option Ty)) (types : List (Option Typ)) → map written_of entries ≡ types → context_of entries ≡ reverse types
-context_there entries types are = context_reversed entries ∙ ap reverse are
+-- the context of the entries that a derivation lists
+entries_are : (term : PlacedTree) (entries : List (Option Ty)) (derivation : Derivation) (d : Dialect) → map written_of entries ≡ map (λ x. x.type) derivation.context
+    → (h : IsProofOf term derivation d) → context_of entries ≡ h.entries
+entries_are term entries derivation d types h = context_reversed entries ∙ ap reverse (types ∙ h.types) ∙ reverse-reverse h.entries
 
 -- what the tests say of a term is that the derivation is of it
-pub is_proof : (commands : List CommandTree) (scopes : Scopes) (resolved : Resolved) (n : ℕ) (entries : List (Option Ty)) (derivation : Derivation) (made : TypingTree) (e : Term) (d : Dialect)
-    → AreFormsOf commands scopes resolved → map written_of entries ≡ map (λ x. x.type) derivation.context → e ≡ (place_numbered (statements_of resolved) n).here
+pub is_proof : (commands : List CommandTree) (scopes : Scopes) (resolved : Resolved) (analysed : Typing) (n : ℕ) (entries : List (Option Ty)) (derivation : Derivation) (made : TypingTree) (e : Term) (d : Dialect)
+    → AreFormsOf commands scopes resolved analysed d → map written_of entries ≡ map (λ x. x.type) derivation.context → e ≡ (place_numbered (statements_of resolved) n).here
     → map (λ x. x.name) derivation.context ≡ map (λ b. shown_name (binder_numbered (table_of scopes) b).name) (visible_at (table_of scopes) n)
+    → AreLeastEntries (term_of (tree_in (document_terms commands) n)).place.scope (context_of entries) d
     → IsTyping (context_of entries) e made d → derivation.steps ≡ steps_of 0 (typing_proof (tree_in (document_terms commands) n) made)
     → IsProofAt commands n derivation d
-is_proof commands scopes resolved n entries derivation made e d forms types here names proof steps = record {
+is_proof commands scopes resolved analysed n entries derivation made e d forms types here names least proof steps = record {
+  entries = context_of entries;
+  least = least;
   names = names ∙ names_there commands scopes n forms.are_scopes;
+  types = sym types ∙ sym (reverse-reverse (map written_of entries)) ∙ ap reverse (sym (context_reversed entries));
   tree = made;
-  proof = subst (λ g. IsTyping g (term_of (tree_in (document_terms commands) n)).place.here made d) (context_there entries _ types)
-      (subst (λ t. IsTyping (context_of entries) t made d) (typed_there commands resolved n e forms.are_statements here) proof);
+  proof = subst (λ t. IsTyping (context_of entries) t made d) (typed_there commands resolved n e forms.are_statements here) proof;
   steps = steps;
 }
 
@@ -104,19 +111,26 @@ pub names_are : (commands : List CommandTree) (scopes : Scopes) (n : ℕ) (deriv
     → map (λ x. x.name) derivation.context ≡ map (λ b. shown_name (binder_numbered (table_of scopes) b).name) (visible_at (table_of scopes) n)
 names_are commands scopes n derivation d forms h = h.names ∙ sym (names_there commands scopes n forms)
 
+pub least_are : (commands : List CommandTree) (n : ℕ) (entries : List (Option Ty)) (derivation : Derivation) (d : Dialect) → map written_of entries ≡ map (λ x. x.type) derivation.context
+    → IsProofAt commands n derivation d → AreLeastEntries (term_of (tree_in (document_terms commands) n)).place.scope (context_of entries) d
+least_are commands n entries derivation d types h =
+    let term = tree_in (document_terms commands) n in
+    subst (λ g. AreLeastEntries (term_of term).place.scope g d) (sym (entries_are term entries derivation d types h)) h.least
+
 pub steps_are : (commands : List CommandTree) (n : ℕ) (derivation : Derivation) (made : TypingTree) (d : Dialect) → MakeTree derivation.steps made → IsProofAt commands n derivation d
     → derivation.steps ≡ steps_of 0 (typing_proof (tree_in (document_terms commands) n) made)
 steps_are commands n derivation made d makes h =
     h.steps ∙ ap (λ t. steps_of 0 (typing_proof (tree_in (document_terms commands) n) t)) (one_tree derivation.steps made h.tree (tree_in (document_terms commands) n) makes h.steps)
 
-pub proof_is : (commands : List CommandTree) (scopes : Scopes) (resolved : Resolved) (n : ℕ) (entries : List (Option Ty)) (derivation : Derivation) (made : TypingTree) (e : Term) (d : Dialect)
-    → AreFormsOf commands scopes resolved → map written_of entries ≡ map (λ x. x.type) derivation.context → e ≡ (place_numbered (statements_of resolved) n).here
+pub proof_is : (commands : List CommandTree) (scopes : Scopes) (resolved : Resolved) (analysed : Typing) (n : ℕ) (entries : List (Option Ty)) (derivation : Derivation) (made : TypingTree) (e : Term) (d : Dialect)
+    → AreFormsOf commands scopes resolved analysed d → map written_of entries ≡ map (λ x. x.type) derivation.context → e ≡ (place_numbered (statements_of resolved) n).here
     → MakeTree derivation.steps made → IsProofAt commands n derivation d → IsTyping (context_of entries) e made d
-proof_is commands scopes resolved n entries derivation made e d forms types here makes h =
-    let same = one_tree derivation.steps made h.tree (tree_in (document_terms commands) n) makes h.steps in
+proof_is commands scopes resolved analysed n entries derivation made e d forms types here makes h =
+    let term = tree_in (document_terms commands) n in
+    let same = one_tree derivation.steps made h.tree term makes h.steps in
     subst (λ t. IsTyping (context_of entries) e t d) same
     (subst (λ t. IsTyping (context_of entries) t h.tree d) (sym (typed_there commands resolved n e forms.are_statements here))
-    (subst (λ g. IsTyping g (term_of (tree_in (document_terms commands) n)).place.here h.tree d) (sym (context_there entries _ types)) h.proof))
+    (subst (λ g. IsTyping g (term_of term).place.here h.tree d) (sym (entries_are term entries derivation d types h)) h.proof))
 
 -- ---- lists that are compared one by one
 
@@ -202,14 +216,17 @@ last_is steps found term tree is are = ap span_of_step is ∙ sym (last_got step
 
 -- ---- whole texts
 
-pub not_both : {A : Type 0} (o : Option Span) (s : Span) → o ≡ Some s → o ≡ None → A
-not_both o s some none = let clash : None ≡ Some s = sym none ∙ some in absurd cc
+-- a derivation is not verified in a text with a type that is too large
+pub too_large : (text : List ℕ) (commands : List CommandTree) (derivation : Derivation) (d : Dialect) (s : Span) → AreCommandsOfText text commands → IsSizeFault commands s d
+    → IsVerified text derivation d → ⊥
+too_large text commands derivation d s are fault v =
+    v.small s (subst (λ cs. IsSizeFault cs s d) (one_document text commands v.commands are v.are_commands) fault)
 
 pub if_ok : {T E : Type 0} {P Q : T → Type 0} (r : Result T E) → ((x : T) → P x → Q x) → IfOk r P → IfOk r Q
 if_ok (Ok x) f h = f x h
 if_ok (Err e) f h = tt
 
-pub verified : (text : List ℕ) (commands : List CommandTree) (derivation : Derivation) (d : Dialect) (b : Bool) → AreCommandsOfText text commands → first_too_large [] commands ≡ None
+pub verified : (text : List ℕ) (commands : List CommandTree) (derivation : Derivation) (d : Dialect) (b : Bool) → AreCommandsOfText text commands → IsSmall commands d
     → (IsTrue b ↔ IsOfSomeTerm commands derivation d) → (IsTrue b ↔ IsVerified text derivation d)
 verified text commands derivation d b are small h = (
   λ so. let it = h.0 so in record { commands = commands; are_commands = are; small = small; number = it.number; inside = it.inside; is_proof = it.is_proof },

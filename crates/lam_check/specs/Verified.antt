@@ -1,34 +1,38 @@
 -- Verification of a derivation against its text.
-use Rattle.std.specs.Prelude.{◌≡◌, ◌<◌, ℕ, List, [], length, map, reverse, Some, None}
+use Rattle.std.specs.Prelude.{◌≡◌, ◌<◌, ℕ, List, length, map, reverse, Some}
 use Rattle.serde_json.specs.Data.{Data}
-use Rattle.lam_rules.specs.Typing.{TypingTree, IsTyping}
+use Rattle.lam_rules.specs.Typing.{Context, TypingTree, IsTyping}
 use Rattle.lam_rules.specs.declared.rules.Dialect.{Dialect}
 use Rattle.lam_syntax.specs.Trees.{CommandTree}
-use Rattle.lam_scope.specs.Nameless.{first_too_large}
 use Rattle.lam_scope.specs.PlacedTerms.{PlacedTree, document_terms, term_of, tree_in}
 use Rattle.lam_text.specs.declared.units.Encoding.TheVariants.{Utf16}
 use Rattle.lam_query.specs.Commands.{AreCommandsOfText}
 use Rattle.lam_query.specs.Derivations.{Derivation, names_seen}
+use Rattle.lam_query.specs.Sizes.{IsSmall}
 use Rattle.lam_query.specs.Steps.{steps_of, typing_proof}
+use Rattle.lam_typing.specs.LeastTypes.{AreLeastEntries}
 use Rattle.lam_session.specs.Derivations.{derivation_value}
 
--- The derivation is about this term: its context lists the names in scope there, each with a type or none, and its steps, with their ranges, are those of a proof that
+-- The derivation is about this term: its context lists the names in scope there with their least entries, and its steps, with their ranges, are those of a proof that
 -- the term has the concluded type in this context.
 pub record IsProofOf (term : PlacedTree) (derivation : Derivation) (d : Dialect) : Type 0 where
+  pub entries : Context
+  pub least : AreLeastEntries (term_of term).place.scope entries d
   pub names : map (λ e. e.name) derivation.context ≡ names_seen term
+  pub types : map (λ e. e.type) derivation.context ≡ reverse entries
   pub tree : TypingTree
-  pub proof : IsTyping (reverse (map (λ e. e.type) derivation.context)) (term_of term).place.here tree d
+  pub proof : IsTyping entries (term_of term).place.here tree d
   pub steps : derivation.steps ≡ steps_of 0 (typing_proof term tree)
 
 -- The derivation is about the term with this id among those of these commands.
 abbrev pub IsProofAt : List CommandTree → (number : ℕ) → Derivation → Dialect → Type 0
 IsProofAt commands number derivation d = IsProofOf (tree_in (document_terms commands) number) derivation d
 
--- The derivation is about a term of the text, in which no written type has more than 4,096 nodes.
+-- The derivation is about a term of the text, in which no type has more than 4,096 nodes.
 pub record IsVerified (text : List ℕ) (derivation : Derivation) (d : Dialect) : Type 0 where
   pub commands : List CommandTree
   pub are_commands : AreCommandsOfText text commands
-  pub small : first_too_large [] commands ≡ None
+  pub small : IsSmall commands d
   pub number : ℕ
   pub inside : number < length (document_terms commands)
   pub is_proof : IsProofAt commands number derivation d

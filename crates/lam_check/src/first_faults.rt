@@ -1,12 +1,11 @@
 //! Finds the first error in a derivation that was rejected, for the error message.
 use crate::commands::commands_of;
-use crate::verify::{ends_at, entries_of, has_names, is_same};
+use crate::verify::{ends_at, entries_of, has_names, is_same, wrong_entry};
 use lam_query::answers::{Derivation, Step};
 use lam_query::{proof_of_steps, steps_of_proof};
-use lam_rules::{
-    Core, Dialect, SubProof, Ty, TypeProof, TypeRule, check_sub, check_type, copy_of, wf,
-};
+use lam_rules::{Core, Dialect, SubProof, Ty, TypeProof, TypeRule, check_sub, check_type, copy_of};
 use lam_scope::{Place, Resolved, ScopeFault, Scopes, bind, resolve};
+use lam_typing::{Typing, TypingFault, analyse};
 use std::alloc::{AllocError, Global};
 use thiserror::Error;
 
@@ -27,7 +26,7 @@ pub enum FirstFault {
     NoTerm(usize),
     #[error("the context has other names than those that the term sees")]
     Names,
-    #[error("entry {0} of the context has a label twice in a record type")]
+    #[error("entry {0} of the context is not the least type of its name")]
     Entry(usize),
     #[error("step {0} does not follow by its rule from its premises")]
     Step(usize),
@@ -39,11 +38,12 @@ pub enum FirstFault {
 /// deeper: its term has at most 2,000 tokens, and its types at most 4,096 nodes.
 const LEVELS: usize = 16_384;
 
-/// A subterm occurrence, with the name resolution of its text.
+/// A subterm occurrence, with the name resolution and the types of its text.
 #[derive(Clone, Copy)]
 struct Ground<'a> {
     scopes: &'a Scopes,
     resolved: &'a Resolved,
+    typing: &'a Typing,
     place: Place,
 }
 
@@ -92,12 +92,18 @@ pub fn first_fault(
         Err(ScopeFault::TooLarge(_)) => return Ok(FirstFault::TooLarge),
         Err(ScopeFault::Memory) => return Err(AllocError),
     };
+    let typing = match analyse(alloc, &resolved, dialect) {
+        Ok(typing) => typing,
+        Err(TypingFault::TooLarge(_)) => return Ok(FirstFault::TooLarge),
+        Err(TypingFault::Memory) => return Err(AllocError),
+    };
     let Some(place) = place_of(&scopes, &resolved, &derivation.steps) else {
         return Ok(FirstFault::NoTerm(last));
     };
     let ground = Ground {
         scopes: &scopes,
         resolved: &resolved,
+        typing: &typing,
         place,
     };
     fault_at(alloc, &ground, derivation, &proof, dialect)
@@ -165,7 +171,16 @@ fn fault_at(
         return Ok(FirstFault::Names);
     }
     let context = entries_of(alloc, &derivation.context)?;
-    if let Some(number) = ill_formed(&context) {
+    let wrong = wrong_entry(
+        alloc,
+        ground.scopes,
+        ground.resolved,
+        ground.typing,
+        ground.place,
+        &context,
+        dialect,
+    )?;
+    if let Some(number) = wrong {
         return Ok(FirstFault::Entry(number));
     }
     if ground.place.0 >= ground.resolved.place_count() {
@@ -178,18 +193,6 @@ fn fault_at(
     }
     let steps = steps_of_proof(alloc, ground.scopes, ground.place, proof)?;
     Ok(FirstFault::Range(first_other(&derivation.steps, &steps)))
-}
-
-/// The first context entry in whose type a record type repeats a label.
-fn ill_formed(context: &[Option<Ty>]) -> Option<usize> {
-    for i in 0..context.len() {
-        if let Some(ty) = &context[i] {
-            if !wf(ty) {
-                return Some(i);
-            }
-        }
-    }
-    None
 }
 
 /// The index of the first step that differs from the one in the second list.

@@ -1,31 +1,38 @@
 //! Verification of a derivation against its text.
 //!
-//! The producer of the derivation is not trusted: its steps are built into a proof tree, the proof checker accepts the tree for a
-//! term of the text, and the steps of the tree, with the ranges of that term's parts, must equal those given.
-ghost use Rattle.std.specs.Prelude.{◌≡◌, ◌<◌, ◌↔◌, IsTrue, List, [], length, Some, map, reverse, IfOk};
+//! The producer of the derivation is not trusted: the context must list the least types of the names that a term of the text sees,
+//! the steps are built into a proof tree that the proof checker accepts for that term, and the steps of the tree, with the ranges
+//! of the term's parts, must equal those given.
+ghost use Rattle.std.specs.List.{AllZip};
+ghost use Rattle.std.specs.Prelude.{◌≡◌, ◌<◌, ◌↔◌, IsTrue, List, [], length, Some, None, map, reverse, IfOk};
 ghost use Rattle.lam_rules.specs.TermViews.{written_of};
 ghost use Rattle.lam_rules.specs.Typing.{TypingTree};
 ghost use Rattle.lam_rules.specs.TypingViews.{context_of, typing_tree_of};
 ghost use Rattle.lam_rules.specs.TypeViews.{typ_of};
+ghost use Rattle.lam_rules.specs.Subtyping.{IsBelow};
+ghost use Rattle.lam_rules.specs.Types.{IsWellFormed};
 ghost use Rattle.lam_rules.specs.declared.types.Ty.{Ty as RustTy};
 ghost use Rattle.lam_scope.specs.Names.{shown_name};
 ghost use Rattle.lam_scope.specs.Places.{places_of};
-ghost use Rattle.lam_scope.specs.PlacedTerms.{document_terms, tree_in};
+ghost use Rattle.lam_scope.specs.PlacedTerms.{document_terms, term_of, tree_in};
 ghost use Rattle.lam_scope.specs.Tables.{binder_numbered, visible_at};
 ghost use Rattle.lam_scope.specs.TableViews.{binder_number};
 ghost use Rattle.lam_scope.specs.Views.{table_of, statements_of, AreScopesOf};
 ghost use Rattle.lam_syntax.specs.Trees.{CommandTree};
+ghost use Rattle.lam_typing.specs.LeastTypes.{AreLeastEntries};
 ghost use Rattle.lam_query.specs.Steps.{steps_of, typing_proof, typing, subtyping};
 ghost use Rattle.lam_query.specs.Views.{derivation_of, entry_of, step_of};
 ghost use Rattle.lam_check.specs.Verified.{IsProofAt, IsVerified};
-ghost use Rattle.lam_check.specs.inner.Verifying.{AreFormsOf, MakeTree, IsOfSomeTerm, span_in};
+ghost use Rattle.lam_check.specs.inner.Verifying.{AreFormsOf, MakeTree, IsOfSomeTerm, StandsAt, span_in};
 
 use crate::commands::commands_of;
 use lam_query::answers::{Derivation, Step};
 use lam_query::{proof_of_steps, steps_of_proof};
-use lam_rules::{Dialect, SubRule, Ty, TypeProof, TypeRule, check_type, copy_of, same};
-use lam_scope::{Binder, Place, Resolved, ScopeFault, Scopes, bind, resolve};
+use lam_rules::{Dialect, SubRule, Ty, TypeProof, TypeRule, check_type, copy_of, same, wf};
+use lam_scope::{Binder, Origin, Place, Resolved, ScopeFault, Scopes, bind, resolve};
+use lam_sub::is_sub;
 use lam_token::Span;
+use lam_typing::{Typing, TypingFault, analyse};
 use std::alloc::{AllocError, Global};
 
 /// Returns whether a derivation is about a term of the text.
@@ -47,9 +54,14 @@ pub fn is_verified(
         Err(ScopeFault::TooLarge(_)) => return Ok(false),
         Err(ScopeFault::Memory) => return Err(AllocError),
     };
+    let typing = match analyse(alloc, &resolved, dialect) {
+        Ok(typing) => typing,
+        Err(TypingFault::TooLarge(_)) => return Ok(false),
+        Err(TypingFault::Memory) => return Err(AllocError),
+    };
     let entries = entries_of(alloc, &derivation.context)?;
     is_of_some_term(
-        alloc, &scopes, &resolved, derivation, &entries, &proof, dialect,
+        alloc, &scopes, &resolved, &typing, derivation, &entries, &proof, dialect,
     )
 }
 
@@ -83,6 +95,7 @@ fn is_of_some_term(
     alloc: Global,
     scopes: &Scopes,
     resolved: &Resolved,
+    typing: &Typing,
     derivation: &Derivation,
     entries: &[Option<Ty>],
     proof: &TypeProof,
@@ -90,13 +103,13 @@ fn is_of_some_term(
 ) -> Result<bool, AllocError>
     requires entries { map written_of entries.now ≡ map (λ e. e.type) (derivation_of derivation.now).context }
     requires tree { MakeTree (derivation_of derivation.now).steps (typing_tree_of proof.now) }
-    ensures { IfOk result (λ is_one. (commands : List CommandTree) → AreFormsOf commands scopes.now resolved.now
+    ensures { IfOk result (λ is_one. (commands : List CommandTree) → AreFormsOf commands scopes.now resolved.now typing.now dialect
         → (IsTrue is_one ↔ IsOfSomeTerm commands (derivation_of derivation.now) dialect)) }
 {
     for i in 0..resolved.place_count() {
         let place = Place(i);
         if is_of_term(
-            alloc, scopes, resolved, derivation, entries, proof, place, dialect,
+            alloc, scopes, resolved, typing, derivation, entries, proof, place, dialect,
         )? {
             return Ok(true);
         }
@@ -109,6 +122,7 @@ pub fn is_of_term(
     alloc: Global,
     scopes: &Scopes,
     resolved: &Resolved,
+    typing: &Typing,
     derivation: &Derivation,
     entries: &[Option<Ty>],
     proof: &TypeProof,
@@ -118,13 +132,17 @@ pub fn is_of_term(
     requires inside { place.0 < length (places_of [] (statements_of resolved.now)) }
     requires entries { map written_of entries.now ≡ map (λ e. e.type) (derivation_of derivation.now).context }
     requires tree { MakeTree (derivation_of derivation.now).steps (typing_tree_of proof.now) }
-    ensures { IfOk result (λ is_it. (commands : List CommandTree) → AreFormsOf commands scopes.now resolved.now
+    ensures { IfOk result (λ is_it. (commands : List CommandTree) → AreFormsOf commands scopes.now resolved.now typing.now dialect
         → (IsTrue is_it ↔ IsProofAt commands place.0 (derivation_of derivation.now) dialect)) }
 {
     if !ends_at(scopes, place, &derivation.steps) {
         return Ok(false);
     }
     if !has_names(alloc, scopes, place, &derivation.context)? {
+        return Ok(false);
+    }
+    let wrong = wrong_entry(alloc, scopes, resolved, typing, place, entries, dialect)?;
+    if wrong.is_some() {
         return Ok(false);
     }
     if !check_type(entries, resolved.core_at(place), proof, dialect) {
@@ -183,6 +201,85 @@ fn are_named(scopes: &Scopes, binders: &[Binder], context: &[(String, Option<Ty>
         }
     }
     true
+}
+
+/// Returns the index of the first entry of a context, outermost first, that is not the least one of its binder, or `None` if the
+/// entries are the least ones of the binders in scope at a subterm.
+pub fn wrong_entry(
+    alloc: Global,
+    scopes: &Scopes,
+    resolved: &Resolved,
+    typing: &Typing,
+    place: Place,
+    entries: &[Option<Ty>],
+    dialect: Dialect,
+) -> Result<Option<usize>, AllocError>
+    ensures { IfOk result (λ wrong. (commands : List CommandTree) → AreFormsOf commands scopes.now resolved.now typing.now dialect
+        → place.0 < length (document_terms commands)
+        → (wrong ≡ None ↔ AreLeastEntries (term_of (tree_in (document_terms commands) place.0)).place.scope (context_of entries.now) dialect)) }
+{
+    let binders = scopes.visible_at(alloc, place)?;
+    first_wrong(typing, resolved.origins(), &binders, entries, dialect)
+}
+
+fn first_wrong(
+    typing: &Typing,
+    origins: &[Origin],
+    binders: &[Binder],
+    entries: &[Option<Ty>],
+    dialect: Dialect,
+) -> Result<Option<usize>, AllocError>
+    ensures { IfOk result (λ wrong. wrong ≡ None
+        ↔ AllZip (StandsAt origins.now typing.now dialect) (map binder_number binders.now) (map written_of entries.now)) }
+{
+    if entries.len() != binders.len() {
+        return Ok(Some(entries.len().min(binders.len())));
+    }
+    for i in 0..binders.len() {
+        let entry = &entries[i];
+        if !is_least(typing, origins, binders[i], entry, dialect)? {
+            return Ok(Some(i));
+        }
+    }
+    Ok(None)
+}
+
+/// Whether an entry is the least one of a binder. Least types of a term differ in the order of fields.
+fn is_least(
+    typing: &Typing,
+    origins: &[Origin],
+    binder: Binder,
+    entry: &Option<Ty>,
+    dialect: Dialect,
+) -> Result<bool, AllocError>
+    ensures { IfOk result (λ is. IsTrue is ↔ StandsAt origins.now typing.now dialect binder.0 (written_of entry.now)) }
+{
+    let Some(number) = typing.type_of_binder(binder) else {
+        return Ok(entry.is_none());
+    };
+    let Some(ty) = entry else {
+        return Ok(false);
+    };
+    typing.table().types_differ();
+    let least = typing.table().tree(number)?;
+    match origins.get(binder.0) {
+        Some(Origin::Term(_)) => Ok(are_alike(&least, ty, dialect)),
+        _ => Ok(same(&least, ty)),
+    }
+}
+
+/// Whether two types are subtypes of each other.
+fn are_alike(left: &Ty, right: &Ty, dialect: Dialect) -> bool
+    requires { IsWellFormed (typ_of left.now) }
+    ensures { IsTrue result ↔ IsBelow (typ_of left.now) (typ_of right.now) dialect × IsBelow (typ_of right.now) (typ_of left.now) dialect }
+{
+    if !wf(right) {
+        return false;
+    }
+    if !is_sub(left, right, dialect) {
+        return false;
+    }
+    is_sub(right, left, dialect)
 }
 
 /// Whether two lists have the same steps.

@@ -7,4 +7,4 @@ use Rattle.lam_check.proofs.verify.is_of_some_term.Given as goal
 
 -- it is of none of the terms so far
 abbrev pub invariant-loop-i : goal.invariant-loop-i
-invariant-loop-i l = (commands : List CommandTree) → AreFormsOf commands l.scopes l.resolved → (n : ℕ) → n < l.i → IsProofAt commands n (derivation_of l.derivation) l.dialect → ⊥
+invariant-loop-i l = (commands : List CommandTree) → AreFormsOf commands l.scopes l.resolved l.typing l.dialect → (n : ℕ) → n < l.i → IsProofAt commands n (derivation_of l.derivation) l.dialect → ⊥

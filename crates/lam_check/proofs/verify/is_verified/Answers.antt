@@ -2,12 +2,16 @@ use Rattle.std.proofs.Common.{[], map, ap, sym, subst, ◌∙◌}
 use Rattle.lam_syntax.specs.Views.{command_of}
 use Rattle.lam_scope.specs.Nameless.{first_too_large, statements}
 use Rattle.lam_scope.specs.PlacedTerms.{document_terms, tree_in}
+use Rattle.lam_scope.specs.Tables.{table}
 use Rattle.lam_scope.specs.Views.{AreScopesOf}
+use Rattle.lam_typing.specs.Typings.{found_of}
 use Rattle.lam_query.specs.Steps.{typing_proof}
 use Rattle.lam_query.specs.Views.{derivation_of, step_of}
-use Rattle.lam_query.proofs.OneAnswer.{one_document}
+use Rattle.lam_query.specs.Sizes.{of_written_type}
+use Rattle.lam_query.proofs.Answering.{large_place, found_of_terms}
 use Rattle.lam_query.proofs.ReadTrees.{tree_read}
-use Rattle.lam_check.proofs.Verifying.{never, not_both, if_ok, verified}
+use Rattle.lam_query.proofs.Small.{is_small}
+use Rattle.lam_check.proofs.Verifying.{never, if_ok, too_large, verified}
 use Rattle.lam_check.proofs.verify.is_verified.Goals as goal
 
 pub returns-in_default : goal.returns-in_default
@@ -23,18 +27,34 @@ pub returns-in-Err-TooLarge : goal.returns-in-Err-TooLarge
 returns-in-Err-TooLarge c = (
   λ b. never b,
   λ h.
-      let same = one_document c.args.text.now h.commands (map command_of c.in_ok-commands.commands.items) h.are_commands c.in_ok-commands.ensures in
+      let cs = map command_of c.in_ok-commands.commands.items in
       let large = rw c.in-Err-TooLarge.field-0-is at c.in-Err-TooLarge.ensures.limit in
-      not_both (first_too_large [] (map command_of c.in_ok-commands.commands.items)) c.in-Err-TooLarge.field-0-0 (ap (λ cs. first_too_large [] (map command_of cs)) (sym c.deref-3.ensures.value) ∙ large)
-      (ap (first_too_large []) (sym same) ∙ h.small),
+      let over = ap (λ ds. first_too_large [] (map command_of ds)) (sym c.deref-3.ensures.value) ∙ large in
+      absurd (too_large c.args.text.now cs (derivation_of c.args.derivation.now) c.args.dialect c.in-Err-TooLarge.field-0-0 c.in_ok-commands.ensures (of_written_type over) h),
+)
+
+pub returns-in-Err-TooLarge-analyse : goal.returns-in-Err-TooLarge-analyse
+returns-in-Err-TooLarge-analyse c = (
+  λ b. never b,
+  λ h.
+      let cs = map command_of c.in_ok-commands.commands.items in
+      let stated = c.in-Ok.ensures.statements ∙ ap (λ ds. statements [] [] (map command_of ds)) c.deref-3.ensures.value in
+      let none = ap (λ ds. first_too_large [] (map command_of ds)) (sym c.deref-3.ensures.value) ∙ c.in-Ok.ensures.limit in
+      let large = rw c.in-Err-TooLarge-analyse.field-0-is at c.in-Err-TooLarge-analyse.ensures.fault in
+      let fault = large_place cs _ _ c.args.dialect stated none large in
+      absurd (too_large c.args.text.now cs (derivation_of c.args.derivation.now) c.args.dialect fault.0 c.in_ok-commands.ensures fault.1 h),
 )
 
 pub returns : goal.returns
 returns c =
     let cs = map command_of c.in_ok-commands.commands.items in
+    let typing = c.in-Ok-analyse.typing in
     let scopes = subst (AreScopesOf c.in_ok-scopes.scopes) (ap (map command_of) c.deref-2.ensures.value) c.in_ok-scopes.ensures in
     let stated = c.in-Ok.ensures.statements ∙ ap (λ ds. statements [] [] (map command_of ds)) c.deref-3.ensures.value in
-    let small = ap (λ ds. first_too_large [] (map command_of ds)) (sym c.deref-3.ensures.value) ∙ c.in-Ok.ensures.limit in
+    let origins = c.in-Ok.ensures.origins ∙ ap (λ ds. map (λ b. b.origin) (table (map command_of ds)).binders) c.deref-3.ensures.value in
+    let none = ap (λ ds. first_too_large [] (map command_of ds)) (sym c.deref-3.ensures.value) ∙ c.in-Ok.ensures.limit in
+    let found = found_of_terms cs c.in-Ok.resolved typing c.args.dialect stated c.in-Ok-analyse.ensures.analysis in
     if_ok c.is_of_some_term.result
-    (λ b h. verified c.args.text.now cs (derivation_of c.args.derivation.now) c.args.dialect b c.in_ok-commands.ensures small (h cs (record { are_scopes = scopes; are_statements = stated })))
+    (λ b h. verified c.args.text.now cs (derivation_of c.args.derivation.now) c.args.dialect b c.in_ok-commands.ensures (is_small cs (found_of typing) c.args.dialect none found.least found.small)
+    (h cs (record { are_scopes = scopes; are_statements = stated; are_origins = origins; analysis = c.in-Ok-analyse.ensures.analysis; entries = c.in-Ok-analyse.ensures.entries })))
     c.is_of_some_term.ensures
