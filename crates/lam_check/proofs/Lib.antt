@@ -4,4 +4,6 @@ pub mod Writing
 pub mod Drawing
 pub mod PlainTypes
 pub mod ReadValues
+pub mod SentValues
+pub mod Levels
 pub mod Verifying
