@@ -1,9 +1,11 @@
 -- The levels of steps, and the longest chains from them.
-use Rattle.std.proofs.Common.{◌≡◌, ◌⊎◌, inl, inr, ℕ, ◌+◌, ◌<◌, ◌≤◌, zero, suc, List, [], ◌∷◌, ◌++◌, length, get_or, max, map, drop, refl, sym, ap, subst, ◌∙◌, arith}
+use Rattle.std.proofs.Common.{◌≡◌, ◌↔◌, ◌⊎◌, inl, inr, ℕ, ◌+◌, ◌<◌, ◌≤◌, zero, suc, List, [], ◌∷◌, ◌++◌, length, get_or, max, map, drop, true, false, IsTrue, true≢false, refl, sym, ap, subst, ◌∙◌, arith}
 use Rattle.std.specs.List.{Contains}
 use Rattle.std.proofs.lemmas.Bool.{cases_lt}
 use Rattle.std.proofs.lemmas.List.{length-map, drop_more, drop_all}
 use Rattle.lam_query.specs.Steps.{Step}
+use Rattle.lam_query.specs.Views.{step_of}
+use Rattle.lam_query.specs.declared.answers.Step.{Step as RustStep}
 use Rattle.lam_check.specs.Levels.{premises_at, IsChain, AreTooDeep}
 use Rattle.lam_check.specs.inner.Levels.{highest_level}
 
@@ -157,3 +159,27 @@ still_small levels more level pushed low small number = subst (λ ls. get_or ls 
     by [] small (suc k) = omega arith
     by (l ∷ ls) small zero = small zero
     by (l ∷ ls) small (suc k) = by ls (λ n. small (suc n)) k
+
+-- ---- what the code finds
+
+premises_there : (steps : List RustStep) (i : ℕ) (step : RustStep) → i < length steps → step ≡ get_or steps i step → premises_at (map step_of steps) i ≡ (step_of step).premises
+premises_there [] i step inside at = absurd (omega (arith, inside))
+premises_there (s ∷ steps) zero step inside at = ap (λ (t : RustStep). (step_of t).premises) (sym at)
+premises_there (s ∷ steps) (suc i) step inside at = premises_there steps i step (omega (arith, inside)) at
+
+pub level_there : (steps : List RustStep) (levels : List ℕ) (i : ℕ) (step : RustStep) (premises : List ℕ) (level : ℕ) → i < length steps → step ≡ get_or steps i step → premises ≡ (step_of step).premises
+    → level ≡ highest_level levels premises + 1 → length levels ≡ i → AreLevels (map step_of steps) i levels → IsLevel (map step_of steps) i level
+level_there steps levels i step premises level inside at follows is many are =
+    let here : premises_at (map step_of steps) i ≡ premises = premises_there steps i step inside at ∙ sym follows in
+    let within : i < length (map step_of steps) = rw (length-map step_of steps) inside in
+    let found = next_level (map step_of steps) levels i within many are in
+    subst (IsLevel (map step_of steps) i) (ap (λ ps. highest_level levels ps + 1) here ∙ sym is) found
+
+pub is_too_deep_there : (steps : List Step) (number level : ℕ) → IsLevel steps number level → 16384 < level → IsTrue true ↔ AreTooDeep steps
+is_too_deep_there steps number level is high = (λ e. too_deep_at steps number level is high, λ deep. refl)
+
+pub is_not_too_deep : (steps : List RustStep) (end : ℕ) (levels : List ℕ) → length steps ≤ end → AreLevels (map step_of steps) end levels → ((number : ℕ) → get_or levels number 0 ≤ 16384)
+    → IsTrue false ↔ AreTooDeep (map step_of steps)
+is_not_too_deep steps end levels past are small =
+    let all : length (map step_of steps) ≤ end = rw (length-map step_of steps) past in
+    (λ e. absurd (true≢false (sym e)), λ deep. absurd (none_too_deep (map step_of steps) end levels all are small deep))

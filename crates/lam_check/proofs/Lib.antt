@@ -6,4 +6,5 @@ pub mod PlainTypes
 pub mod ReadValues
 pub mod SentValues
 pub mod Levels
+pub mod Verdicts
 pub mod Verifying
