@@ -43,7 +43,6 @@ one_is_highest levels (p ∷ premises) some =
       | inr here ↦ record { premise = p; there = (zero, omega arith, refl); highest = omega (arith, here) }
     ]
 
-
 -- the highest of the premises so far, and that of the others
 abbrev pub IsHighestSoFar : (levels premises : List ℕ) → (index highest : ℕ) → Type 0
 IsHighestSoFar levels premises index highest = max highest (highest_level levels (drop index premises)) ≡ highest_level levels premises
@@ -104,7 +103,7 @@ chain_inside : (steps : List Step) (number : ℕ) (others : List ℕ) → IsChai
 chain_inside steps number [] chain = chain
 chain_inside steps number (premise ∷ others) chain =
     let within = some_premise (map (λ s. s.premises) steps) number premise chain.0 in
-    let many = length-map (λ (s : Step). s.premises) steps in
+    let many = length-map steps (λ (s : Step). s.premises) in
     omega (arith, within, many)
   where
     some_premise : (each : List (List ℕ)) (k premise : ℕ) → Contains (get_or each k []) premise → k < length each
@@ -171,7 +170,7 @@ pub level_there : (steps : List RustStep) (levels : List ℕ) (i : ℕ) (step : 
     → level ≡ highest_level levels premises + 1 → length levels ≡ i → AreLevels (map step_of steps) i levels → IsLevel (map step_of steps) i level
 level_there steps levels i step premises level inside at follows is many are =
     let here : premises_at (map step_of steps) i ≡ premises = premises_there steps i step inside at ∙ sym follows in
-    let within : i < length (map step_of steps) = rw (length-map step_of steps) inside in
+    let within : i < length (map step_of steps) = rw (length-map steps step_of) inside in
     let found = next_level (map step_of steps) levels i within many are in
     subst (IsLevel (map step_of steps) i) (ap (λ ps. highest_level levels ps + 1) here ∙ sym is) found
 
@@ -181,5 +180,5 @@ is_too_deep_there steps number level is high = (λ e. too_deep_at steps number l
 pub is_not_too_deep : (steps : List RustStep) (end : ℕ) (levels : List ℕ) → length steps ≤ end → AreLevels (map step_of steps) end levels → ((number : ℕ) → get_or levels number 0 ≤ 16384)
     → IsTrue false ↔ AreTooDeep (map step_of steps)
 is_not_too_deep steps end levels past are small =
-    let all : length (map step_of steps) ≤ end = rw (length-map step_of steps) past in
+    let all : length (map step_of steps) ≤ end = rw (length-map steps step_of) past in
     (λ e. absurd (true≢false (sym e)), λ deep. absurd (none_too_deep (map step_of steps) end levels all are small deep))

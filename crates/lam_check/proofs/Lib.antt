@@ -6,5 +6,5 @@ pub mod PlainTypes
 pub mod ReadValues
 pub mod SentValues
 pub mod Levels
-pub mod Verdicts
+pub mod Accepting
 pub mod Verifying

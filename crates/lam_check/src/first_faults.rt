@@ -58,7 +58,8 @@ pub fn is_too_deep(alloc: Global, steps: &[Step]) -> Result<bool, AllocError>
 {
     let mut levels: Vec<usize> = Vec::with_capacity(alloc, steps.len())?;
     for i in 0..steps.len() {
-        let level = level_over(&levels, premises_of(&steps[i]));
+        let step = &steps[i];
+        let level = level_over(&levels, premises_of(step));
         if level > LEVELS {
             return Ok(true);
         }
@@ -74,11 +75,19 @@ fn level_over(levels: &[usize], premises: &[usize]) -> usize
 {
     let mut highest = 0;
     for premise in premises {
-        if let Some(level) = levels.get(*premise) {
-            highest = highest.max(*level);
-        }
+        highest = highest.max(level_at(levels, *premise));
     }
     highest + 1
+}
+
+/// The level of a step; 0 if it has none yet.
+fn level_at(levels: &[usize], number: usize) -> usize
+    ensures { result ≡ get_or levels.now number 0 }
+{
+    match levels.get(number) {
+        Some(level) => *level,
+        None => 0,
+    }
 }
 
 /// Returns the first error in a derivation that is not valid for any term of the text.

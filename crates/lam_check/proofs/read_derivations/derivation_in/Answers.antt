@@ -20,7 +20,7 @@ pub returns-in-Ok-clause-only : goal.returns-in-Ok-clause-only
 returns-in-Ok-clause-only c = λ sent readable is.
     let both = two_views c.in-Some.ensures.some is in
     let context = c.in-Ok.ensures.only sent.context readable.context
-        (listed_there (view c.in-Some.context.now) c.in-Some-as_array.context.now.items c.deref.result.now (map entry_value sent.context) c.in-Some-as_array.ensures c.deref.ensures.value both.0) in
+    (listed_there (view c.in-Some.context.now) c.in-Some-as_array.context.now.items c.deref.result.now (map entry_value sent.context) c.in-Some-as_array.ensures c.deref.ensures.value both.0) in
     let steps = c.in-Ok-steps_in.ensures.only sent.steps readable.steps
-        (listed_there (view c.in-Some.steps.now) c.in-Some-as_array-2.steps.now.items c.deref-2.result.now (map (step_value c.args.doc.now.encoding c.args.doc.now.text) sent.steps) c.in-Some-as_array-2.ensures c.deref-2.ensures.value both.1) in
+    (listed_there (view c.in-Some.steps.now) c.in-Some-as_array-2.steps.now.items c.deref-2.result.now (map (step_value c.args.doc.now.encoding c.args.doc.now.text) sent.steps) c.in-Some-as_array-2.ensures c.deref-2.ensures.value both.1) in
     λ i. record { context = context i; steps = steps i }
