@@ -140,6 +140,15 @@ get_pushed [] level (suc number) is = absurd (omega (arith, is))
 get_pushed (l ∷ levels) level zero is = absurd (omega (arith, is))
 get_pushed (l ∷ levels) level (suc number) is = get_pushed levels level number (omega (arith, is))
 
+pushed_length : (levels : List ℕ) (level : ℕ) → length (levels ++ level ∷ []) ≡ length levels + 1
+pushed_length [] level = refl
+pushed_length (l ∷ levels) level = let rest = pushed_length levels level in omega (arith, rest)
+
+pub one_more_long : (levels more : List ℕ) (level number : ℕ) → more ≡ levels ++ level ∷ [] → length levels ≡ number → length more ≡ number + 1
+one_more_long levels more level number pushed many =
+    let long : length more ≡ length levels + 1 = ap length pushed ∙ pushed_length levels level in
+    omega (arith, long, many)
+
 pub one_more_level : (steps : List Step) (levels more : List ℕ) (level number : ℕ) → more ≡ levels ++ level ∷ [] → length levels ≡ number → IsLevel steps number level → AreLevels steps number levels
     → AreLevels steps (number + 1) more
 one_more_level steps levels more level number pushed many is are k within = subst (λ ls. IsLevel steps k (get_or ls k 0)) (sym pushed) (by (cases_lt k number))
