@@ -1,5 +1,5 @@
 -- Values that are accepted.
-use Rattle.std.proofs.Common.{◌≡◌, ◌↔◌, ℕ, List, Some, Result, Ok, Err, IfOk, Bool, true, false, IsTrue, true≢false, sym, ◌∙◌}
+use Rattle.std.proofs.Common.{◌≡◌, ◌↔◌, ℕ, List, Some, Result, Ok, Err, IfOk, Bool, true, false, IsTrue, true≢false, sym, subst, ◌∙◌}
 use Rattle.serde_json.specs.Data.{Data}
 use Rattle.lam_rules.specs.declared.rules.Dialect.{Dialect}
 use Rattle.lam_text.specs.declared.units.Encoding.{Encoding}
@@ -25,5 +25,5 @@ verified_value encoding there text value dialect read steps deep verified in_utf
       derivation = read;
       is_value = is ∙ is_there;
       verified = verified_if.0 yes;
-      not_deep = λ high. true≢false (sym (deep_if.1 (rw are high)) ∙ no);
+      not_deep = λ high. true≢false (sym (deep_if.1 (subst AreTooDeep (sym are) high)) ∙ no);
     }
