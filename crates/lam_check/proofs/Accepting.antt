@@ -19,11 +19,11 @@ pub verified_value : (encoding : Encoding) (there text : List ℕ) (value : Data
     → encoding ≡ Utf16 → there ≡ text → value ≡ derivation_value encoding there (Some read)
     → steps ≡ read.steps → (IsTrue deep ↔ AreTooDeep steps) → deep ≡ false
     → (IsTrue verified ↔ IsVerified text read dialect) → verified ≡ true → IsVerifiedValue text value dialect
-verified_value encoding there text value dialect read steps deep verified in_utf16 same is are deep_if no verified_if yes =
+verified_value encoding there text value dialect read steps deep verified in_utf16 same is are deep_if not_deep verified_if accepted =
     let is_there : derivation_value encoding there (Some read) ≡ derivation_value Utf16 text (Some read) = λ i. derivation_value (in_utf16 i) (same i) (Some read) in
     record {
       derivation = read;
       is_value = is ∙ is_there;
-      verified = verified_if.0 yes;
-      not_deep = λ high. true≢false (sym (deep_if.1 (subst AreTooDeep (sym are) high)) ∙ no);
+      verified = verified_if.0 accepted;
+      not_deep = λ high. true≢false (sym (deep_if.1 (subst AreTooDeep (sym are) high)) ∙ not_deep);
     }
