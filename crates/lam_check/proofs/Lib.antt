@@ -4,5 +4,8 @@ pub mod Writing
 pub mod Drawing
 pub mod PlainTypes
 pub mod ReadValues
+pub mod SentValues
+pub mod Levels
+pub mod Accepting
 pub mod Verifying
 pub mod ListedEntries

@@ -102,7 +102,7 @@ pub unread_before : {T P Q : Type 0} (r : Result T Unread) → (Q → P) → IsU
 unread_before (Ok x) f h = tt
 unread_before (Err e) f h = λ other q. h other (f q)
 
-items_same : (xs ys : List Data) → items_of xs ≡ items_of ys → xs ≡ ys
+pub items_same : (xs ys : List Data) → items_of xs ≡ items_of ys → xs ≡ ys
 items_same [] [] e = refl
 items_same [] (y ∷ ys) e = let clash : no_items ≡ item y (items_of ys) = e in absurd cc
 items_same (x ∷ xs) [] e = let clash : item x (items_of xs) ≡ no_items = e in absurd cc

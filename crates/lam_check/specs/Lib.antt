@@ -5,5 +5,6 @@ pub mod Drawings
 pub mod Types
 pub mod Json
 pub mod Readable
+pub mod Levels
 pub mod Verified
 pub mod inner

@@ -12,6 +12,7 @@ use Rattle.lam_query.specs.Sizes.{IsSmall}
 use Rattle.lam_query.specs.Steps.{steps_of, typing_proof}
 use Rattle.lam_typing.specs.LeastTypes.{AreLeastEntries}
 use Rattle.lam_session.specs.Derivations.{derivation_value}
+use Rattle.lam_check.specs.Levels.{AreTooDeep}
 
 -- The derivation is about this term: its context lists the names in scope there with their least entries, and its steps, with their ranges, are those of a proof that
 -- the term has the concluded type in this context.
@@ -37,8 +38,9 @@ pub record IsVerified (text : List ℕ) (derivation : Derivation) (d : Dialect) 
   pub inside : number < length (document_terms commands)
   pub is_proof : IsProofAt commands number derivation d
 
--- The value is a derivation in the form that the language server sends, and it is about a term of the text.
+-- The value is a derivation in the form that the language server sends, it is about a term of the text, and its steps follow from each other on at most 16,384 levels.
 pub record IsVerifiedValue (text : List ℕ) (value : Data) (d : Dialect) : Type 0 where
   pub derivation : Derivation
   pub is_value : value ≡ derivation_value Utf16 text (Some derivation)
   pub verified : IsVerified text derivation d
+  pub not_deep : ¬ (AreTooDeep derivation.steps)

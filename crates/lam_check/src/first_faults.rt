@@ -1,4 +1,9 @@
 //! Finds the first error in a derivation that was rejected, for the error message.
+ghost use Rattle.std.specs.Prelude.{◌≡◌, ◌+◌, ◌≤◌, ◌↔◌, ℕ, IsTrue, IfOk, get_or, map};
+ghost use Rattle.lam_query.specs.Views.{step_of};
+ghost use Rattle.lam_check.specs.Levels.{AreTooDeep};
+ghost use Rattle.lam_check.specs.inner.Levels.{highest_level};
+
 use crate::commands::commands_of;
 use crate::verify::{ends_at, entries_of, has_names, is_same, wrong_entry};
 use lam_query::answers::{Derivation, Step};
@@ -48,10 +53,13 @@ struct Ground<'a> {
 }
 
 /// Returns whether steps depend on each other through more than `LEVELS` levels.
-pub fn is_too_deep(alloc: Global, steps: &[Step]) -> Result<bool, AllocError> {
+pub fn is_too_deep(alloc: Global, steps: &[Step]) -> Result<bool, AllocError>
+    ensures { IfOk result (λ deep. IsTrue deep ↔ AreTooDeep (map step_of steps.now)) }
+{
     let mut levels: Vec<usize> = Vec::with_capacity(alloc, steps.len())?;
     for i in 0..steps.len() {
-        let level = level_over(&levels, premises_of(&steps[i]));
+        let step = &steps[i];
+        let level = level_over(&levels, premises_of(step));
         if level > LEVELS {
             return Ok(true);
         }
@@ -61,14 +69,25 @@ pub fn is_too_deep(alloc: Global, steps: &[Step]) -> Result<bool, AllocError> {
 }
 
 /// One more than the greatest level of the premises.
-fn level_over(levels: &[usize], premises: &[usize]) -> usize {
+fn level_over(levels: &[usize], premises: &[usize]) -> usize
+    requires { (number : ℕ) → get_or levels.now number 0 ≤ 16384 }
+    ensures { result ≡ highest_level levels.now premises.now + 1 }
+{
     let mut highest = 0;
     for premise in premises {
-        if let Some(level) = levels.get(*premise) {
-            highest = highest.max(*level);
-        }
+        highest = highest.max(level_at(levels, *premise));
     }
-    highest.saturating_add(1)
+    highest + 1
+}
+
+/// The level of a step; 0 if it has none yet.
+fn level_at(levels: &[usize], number: usize) -> usize
+    ensures { result ≡ get_or levels.now number 0 }
+{
+    match levels.get(number) {
+        Some(level) => *level,
+        None => 0,
+    }
 }
 
 /// Returns the first error in a derivation that is not valid for any term of the text.
@@ -141,7 +160,9 @@ fn start_of(starts: &[usize], number: usize, premises: &[usize]) -> Option<usize
     Some(start)
 }
 
-fn premises_of(step: &Step) -> &[usize] {
+fn premises_of(step: &Step) -> &[usize]
+    ensures { result.now ≡ (step_of step.now).premises }
+{
     match step {
         Step::Typing { premises, .. } => premises,
         Step::Sub { premises, .. } => premises,

@@ -18,6 +18,7 @@ const LEVELS: usize = 4_096;
 pub fn type_of_text(alloc: Global, text: &str) -> Result<Option<Ty>, AllocError>
     ensures some { IfOk result (λ found. IfSome found (λ ty. plain_text (typ_of ty) ≡ text.now)) }
     ensures none { IfOk result (λ found. IfNone found ((t : Typ) → HasReadableLabels t → nodes t ≤ 4096 → text.now ≡ plain_text t → ⊥)) }
+    ensures only { IfOk result (λ found. IfSome found (λ ty. (t : Typ) → HasReadableLabels t → nodes t ≤ 4096 → text.now ≡ plain_text t → typ_of ty ≡ t)) }
 {
     let Some((ty, _)) = type_at(alloc, text, LEVELS)? else {
         return Ok(None);

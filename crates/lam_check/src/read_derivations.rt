@@ -57,6 +57,7 @@ pub fn derivation_in(alloc: Global, doc: &Doc, value: &Value) -> Result<Derivati
     requires { IsUtf8 doc.now.text }
     ensures read { IfOk result (λ d. view value.now ≡ derivation_value doc.now.encoding doc.now.text (Some (derivation_of d))) }
     ensures unread { IsUnread result ((d : DerivationTree) × IsReadable doc.now.text d × (view value.now ≡ derivation_value doc.now.encoding doc.now.text (Some d))) }
+    ensures only { IfOk result (λ d. (sent : DerivationTree) → IsReadable doc.now.text sent → view value.now ≡ derivation_value doc.now.encoding doc.now.text (Some sent) → derivation_of d ≡ sent) }
     ensures whole_characters { IfOk result (λ d. All (StepStandsIn doc.now.text) d.steps.items) }
 {
     let Some((context, steps)) = two_members(value, "context", "steps") else {
@@ -81,6 +82,7 @@ pub fn derivation_in(alloc: Global, doc: &Doc, value: &Value) -> Result<Derivati
 fn context_in(alloc: Global, values: &[Value]) -> Result<Vec<(String, Option<Ty>)>, Unread>
     ensures read { IfOk result (λ context. map view values.now ≡ map entry_value (map entry_of context.items)) }
     ensures unread { IsUnread result ((context : List ContextEntry) × AreReadableEntries context × (map view values.now ≡ map entry_value context)) }
+    ensures only { IfOk result (λ context. (sent : List ContextEntry) → AreReadableEntries sent → map view values.now ≡ map entry_value sent → map entry_of context.items ≡ sent) }
 {
     let mut context = Vec::new(alloc);
     for i in 0..values.len() {
@@ -100,6 +102,7 @@ fn context_in(alloc: Global, values: &[Value]) -> Result<Vec<(String, Option<Ty>
 fn entry_in(alloc: Global, number: usize, value: &Value) -> Result<(String, Option<Ty>), Unread>
     ensures read { IfOk result (λ entry. view value.now ≡ entry_value (entry_of entry)) }
     ensures unread { IsUnread result ((entry : ContextEntry) × IsReadableEntry entry.type × (view value.now ≡ entry_value entry)) }
+    ensures only { IfOk result (λ entry. (sent : ContextEntry) → IsReadableEntry sent.type → view value.now ≡ entry_value sent → entry_of entry ≡ sent) }
 {
     let Some((name, ty)) = two_members(value, "name", "type") else {
         return Err(Unread::Entry(number));
@@ -118,6 +121,7 @@ fn entry_in(alloc: Global, number: usize, value: &Value) -> Result<(String, Opti
 fn entry_type_in(alloc: Global, number: usize, value: &Value) -> Result<Option<Ty>, Unread>
     ensures read { IfOk result (λ ty. view value.now ≡ type_value (written_of ty)) }
     ensures unread { IsUnread result ((type : Option Typ) × IsReadableEntry type × (view value.now ≡ type_value type)) }
+    ensures only { IfOk result (λ ty. (sent : Option Typ) → IsReadableEntry sent → view value.now ≡ type_value sent → written_of ty ≡ sent) }
 {
     if value.is_null() {
         return Ok(None);
@@ -133,6 +137,7 @@ fn entry_type_in(alloc: Global, number: usize, value: &Value) -> Result<Option<T
 fn type_in(alloc: Global, value: &Value) -> Result<Option<Ty>, AllocError>
     ensures some { IfOk result (λ found. IfSome found (λ ty. view value.now ≡ string (plain_text (typ_of ty)))) }
     ensures none { IfOk result (λ found. IfNone found ((t : Typ) → IsReadableType t → view value.now ≡ string (plain_text t) → ⊥)) }
+    ensures only { IfOk result (λ found. IfSome found (λ ty. (sent : Typ) → IsReadableType sent → view value.now ≡ string (plain_text sent) → typ_of ty ≡ sent)) }
 {
     match value.as_str() {
         Some(text) => type_of_text(alloc, text),
@@ -144,6 +149,7 @@ fn steps_in(alloc: Global, doc: &Doc, values: &[Value]) -> Result<Vec<Step>, Unr
     requires { IsUtf8 doc.now.text }
     ensures read { IfOk result (λ steps. map view values.now ≡ map (step_value doc.now.encoding doc.now.text) (map step_of steps.items)) }
     ensures unread { IsUnread result ((steps : List StepTree) × AreReadableSteps doc.now.text steps × (map view values.now ≡ map (step_value doc.now.encoding doc.now.text) steps)) }
+    ensures only { IfOk result (λ steps. (sent : List StepTree) → AreReadableSteps doc.now.text sent → map view values.now ≡ map (step_value doc.now.encoding doc.now.text) sent → map step_of steps.items ≡ sent) }
     ensures whole_characters { IfOk result (λ steps. All (StepStandsIn doc.now.text) steps.items) }
 {
     let mut steps = Vec::new(alloc);
@@ -165,6 +171,7 @@ fn step_in(alloc: Global, doc: &Doc, number: usize, value: &Value) -> Result<Ste
     requires { IsUtf8 doc.now.text }
     ensures read { IfOk result (λ step. view value.now ≡ step_value doc.now.encoding doc.now.text (step_of step)) }
     ensures unread { IsUnread result ((step : StepTree) × IsReadableConclusion doc.now.text step.conclusion × (view value.now ≡ step_value doc.now.encoding doc.now.text step)) }
+    ensures only { IfOk result (λ step. (sent : StepTree) → IsReadableConclusion doc.now.text sent.conclusion → view value.now ≡ step_value doc.now.encoding doc.now.text sent → step_of step ≡ sent) }
     ensures whole_characters { IfOk result (λ step. StepStandsIn doc.now.text step) }
 {
     if let Some((from, range, rule, ty)) = four_members(value, "from", "range", "rule", "type") {
@@ -191,6 +198,8 @@ fn typing_in(
     ensures read { IfOk result (λ step. typing_members (view from.now) (view range.now) (view rule.now) (view ty.now) ≡ step_value doc.now.encoding doc.now.text (step_of step)) }
     ensures unread { IsUnread result ((step : StepTree) × IsReadableConclusion doc.now.text step.conclusion
         × (typing_members (view from.now) (view range.now) (view rule.now) (view ty.now) ≡ step_value doc.now.encoding doc.now.text step)) }
+    ensures only { IfOk result (λ step. (sent : StepTree) → IsReadableConclusion doc.now.text sent.conclusion
+        → typing_members (view from.now) (view range.now) (view rule.now) (view ty.now) ≡ step_value doc.now.encoding doc.now.text sent → step_of step ≡ sent) }
     ensures whole_characters { IfOk result (λ step. StepStandsIn doc.now.text step) }
 {
     let Some(rule) = type_rule_in(rule) else {
@@ -222,6 +231,8 @@ fn subtyping_in(
         → subtyping_members (view from.now) (view lower.now) (view rule.now) (view upper.now) ≡ step_value encoding text (step_of step)) }
     ensures unread { (encoding : Encoding) (text : List ℕ) → IsUnread result ((step : StepTree) × IsReadableConclusion text step.conclusion
         × (subtyping_members (view from.now) (view lower.now) (view rule.now) (view upper.now) ≡ step_value encoding text step)) }
+    ensures only { IfOk result (λ step. (encoding : Encoding) (text : List ℕ) (sent : StepTree) → IsReadableConclusion text sent.conclusion
+        → subtyping_members (view from.now) (view lower.now) (view rule.now) (view upper.now) ≡ step_value encoding text sent → step_of step ≡ sent) }
     ensures whole_characters { IfOk result (λ step. (text : List ℕ) → StepStandsIn text step) }
 {
     let Some(rule) = sub_rule_in(rule) else {
@@ -242,6 +253,7 @@ fn subtyping_in(
 fn step_type_in(alloc: Global, number: usize, value: &Value) -> Result<Ty, Unread>
     ensures read { IfOk result (λ ty. view value.now ≡ string (plain_text (typ_of ty))) }
     ensures unread { IsUnread result ((t : Typ) × IsReadableType t × (view value.now ≡ string (plain_text t))) }
+    ensures only { IfOk result (λ ty. (sent : Typ) → IsReadableType sent → view value.now ≡ string (plain_text sent) → typ_of ty ≡ sent) }
 {
     match type_in(alloc, value) {
         Ok(Some(ty)) => Ok(ty),
@@ -283,6 +295,7 @@ fn span_in(doc: &Doc, value: &Value) -> Option<Span>
     requires { IsUtf8 doc.now.text }
     ensures some { IfSome result (λ span. view value.now ≡ range_value doc.now.encoding doc.now.text span) }
     ensures none { IfNone result ((span : Span) → IsReadableSpan doc.now.text span → view value.now ≡ range_value doc.now.encoding doc.now.text span → ⊥) }
+    ensures only { IfSome result (λ span. (sent : Span) → IsReadableSpan doc.now.text sent → view value.now ≡ range_value doc.now.encoding doc.now.text sent → span ≡ sent) }
     ensures whole_characters { IfSome result (λ span. IsSpanOfText doc.now.text span) }
 {
     let Some((end, start)) = two_members(value, "end", "start") else {
@@ -299,6 +312,8 @@ fn offset_in(doc: &Doc, value: &Value) -> Option<usize>
     ensures some { IfSome result (λ offset. view value.now ≡ position_value (position_of doc.now.encoding doc.now.text offset)) }
     ensures none { IfNone result ((offset : ℕ) → IsCharBoundary doc.now.text offset → ¬ (IsInsideCrLf doc.now.text offset)
         → view value.now ≡ position_value (position_of doc.now.encoding doc.now.text offset) → ⊥) }
+    ensures only { IfSome result (λ offset. (sent : ℕ) → IsCharBoundary doc.now.text sent → ¬ (IsInsideCrLf doc.now.text sent)
+        → view value.now ≡ position_value (position_of doc.now.encoding doc.now.text sent) → offset ≡ sent) }
     ensures boundary { IfSome result (λ offset. IsCharBoundary doc.now.text offset) }
 {
     let position = position_in(value)?;

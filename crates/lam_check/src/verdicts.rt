@@ -2,6 +2,7 @@
 ghost use Rattle.std.specs.Prelude.{◌≡◌, All, IfOk};
 ghost use Rattle.serde_json.specs.View.{view};
 ghost use Rattle.lam_query.specs.Views.{StepStandsIn};
+ghost use Rattle.lam_check.specs.Readable.{IsReadable};
 ghost use Rattle.lam_check.specs.Verified.{IsVerifiedValue};
 
 use crate::drawings::claim_of;
@@ -24,7 +25,8 @@ pub fn sent_of(value: &Value) -> (&Value, Option<&str>) {
     }
 }
 
-/// Verifies that a value is a derivation of a term of the text. The report says so, or names the first error.
+/// Verifies that a value is a derivation of a term of the text. The report says so, or names the first error. A value can be
+/// accepted although its derivation is not readable, as one with a type of more than 4,096 nodes; so there are two clauses.
 pub fn verdict(
     alloc: Global,
     name: &str,
@@ -32,7 +34,8 @@ pub fn verdict(
     value: &Value,
     dialect: Dialect,
 ) -> Result<Checked, AllocError>
-    ensures { IfOk result (λ verdict. verdict.count ≡ 0 → IsVerifiedValue text.now (view value.now) dialect) }
+    ensures accepted { IfOk result (λ verdict. verdict.count ≡ 0 → IsVerifiedValue text.now (view value.now) dialect) }
+    ensures every_readable { IfOk result (λ verdict. (sent : IsVerifiedValue text.now (view value.now) dialect) → IsReadable text.now sent.derivation → verdict.count ≡ 0) }
 {
     let doc = Doc::new(alloc, text, Encoding::Utf16)?;
     let derivation = match derivation_in(alloc, &doc, value) {

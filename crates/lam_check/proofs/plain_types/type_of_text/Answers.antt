@@ -13,3 +13,7 @@ returns-then-ne-clause-none c = λ t readable small is.
     let type = type_read c.in_ok-ty.field-0 (c.in-Some.ty, c.in-Some.field-0-1) t c.in-Some.is (type_there c.args.text.now 4096 c.in_ok-ty.field-0 c.in_ok-ty.ensures.read t readable small is) in
     let same : c.as_str.result.now ≡ c.args.text.now = c.as_str.ensures.value ∙ c.in_ok-again.ensures ∙ ap plain_text type ∙ sym is in
     other_texts c.as_str.result.now c.args.text.now c.if-ne.ensures same
+
+pub returns-clause-only : goal.returns-clause-only
+returns-clause-only c = λ t readable small is.
+    type_read c.in_ok-ty.field-0 (c.in-Some.ty, c.in-Some.field-0-1) t c.in-Some.is (type_there c.args.text.now 4096 c.in_ok-ty.field-0 c.in_ok-ty.ensures.read t readable small is)
