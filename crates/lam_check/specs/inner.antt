@@ -2,3 +2,4 @@ pub mod Drawing
 pub mod Verifying
 pub mod PlainTypes
 pub mod Read
+pub mod Roles
