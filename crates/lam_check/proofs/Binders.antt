@@ -1,0 +1,80 @@
+-- Texts without comments, character by character; and roles of terms.
+use Rattle.std.proofs.Common.{◌≡◌, ℕ, ◌+◌, ◌-◌, ◌<◌, ◌≤◌, ◌==◌, List, [], ◌++◌, Bool, true, false, Option, Some, None, MatchOption, Bor, if◌then◌else◌, length, drop, get_or, ap, sym, ◌∙◌, arith}
+use Rattle.std.specs.List.{before_first, after_first, position_or_len}
+use Rattle.std.proofs.lemmas.List.{drop_all, take_all, append_assoc, append-nil}
+use Rattle.std.proofs.lemmas.Str.Pattern.{IsSplitOnceResult, split_once_first}
+use Rattle.lam_token.specs.declared.span.Span.{Span}
+use Rattle.lam_rules.specs.declared.rules.TypeRule.{TypeRule}
+use Rattle.lam_query.specs.Views.{step_of, StepStandsIn}
+use Rattle.lam_query.specs.Within.{IsSpanOfText}
+use Rattle.lam_query.specs.declared.answers.Step.{Step as RustStep}
+use Rattle.lam_query.specs.declared.answers.Step.TheVariants as rust
+use Rattle.lam_check.specs.declared.terms.Role.{Role}
+use Rattle.lam_check.specs.declared.terms.Role.TheVariants.{Other, Bound, Fixed}
+use Rattle.lam_check.specs.Terms.{is_opening, is_closing, kept, next_before, next_depth, uncommented, under_fix, role_under, first_role}
+use Rattle.lam_check.specs.inner.Roles.{RoleStandsIn}
+use Rattle.lam_check.proofs.Writing.{next_char}
+
+-- what is kept of the next character, and of those behind it, is what was left
+pub kept_more : (was now total cs : List ℕ) (depth before n c : ℕ) → (n < length cs) × (c ≡ get_or cs n c)
+    → now ≡ was ++ kept depth before c → was ++ uncommented depth before (drop n cs) ≡ total
+    → now ++ uncommented (next_depth depth before c) (next_before before c) (drop (n + 1) cs) ≡ total
+kept_more was now total cs depth before n c h is all =
+    let rest = uncommented (next_depth depth before c) (next_before before c) (drop (n + 1) cs) in
+    ap (λ text. text ++ rest) is ∙ (append_assoc was (kept depth before c) rest ∙ (ap (λ ds. was ++ uncommented depth before ds) (sym (next_char cs n c h)) ∙ all))
+
+pub kept_all : (was total cs : List ℕ) (depth before n : ℕ) → length cs ≤ n → was ++ uncommented depth before (drop n cs) ≡ total → was ≡ total
+kept_all was total cs depth before n past all = sym (append-nil was) ∙ rw (drop_all n cs past) at all
+
+-- one comment more at most
+pub next_depth_small : (depth before c : ℕ) → next_depth depth before c ≤ depth + 1
+next_depth_small depth before c = by (is_opening before c) (is_closing before c)
+  where
+    by : (opens closes : Bool) → (if opens then depth + 1 else (if closes then depth - 1 else depth)) ≤ depth + 1
+    by true closes = omega arith
+    by false true = omega arith
+    by false false = omega arith
+
+-- ---- where a text is split
+
+-- what `split_once` gives, or the whole text and nothing
+pub around_first : (c : ℕ) (bs : List ℕ) (r : Option (Bor (List ℕ) × Bor (List ℕ))) → IsSplitOnceResult c bs r → c < 128
+    → MatchOption r ((bs ≡ before_first (λ b. b == c) bs) × ([] ≡ after_first (λ b. b == c) bs)) (λ x. (x.0.now ≡ before_first (λ b. b == c) bs) × (x.1.now ≡ after_first (λ b. b == c) bs))
+around_first c bs r is small = by r (split_once_first c bs r is small)
+  where
+    by : (r : Option (Bor (List ℕ) × Bor (List ℕ)))
+        → MatchOption r (position_or_len (λ b. b == c) bs ≡ length bs) (λ x. (position_or_len (λ b. b == c) bs < length bs) × (x.0.now ≡ before_first (λ b. b == c) bs) × (x.1.now ≡ after_first (λ b. b == c) bs))
+        → MatchOption r ((bs ≡ before_first (λ b. b == c) bs) × ([] ≡ after_first (λ b. b == c) bs)) (λ x. (x.0.now ≡ before_first (λ b. b == c) bs) × (x.1.now ≡ after_first (λ b. b == c) bs))
+    by None all = (sym (take_all (position_or_len (λ b. b == c) bs) bs (omega (arith, all))), sym (drop_all (position_or_len (λ b. b == c) bs + 1) bs (omega (arith, all))))
+    by (Some x) h = (h.1, h.2)
+
+-- ---- roles
+
+-- the span of the next role is that of a step or of the role before it
+pub role_stands : (text : List ℕ) (role : Role) (x : RustStep) → RoleStandsIn text role → StepStandsIn text x → RoleStandsIn text (first_role role (step_of x).conclusion)
+role_stands text role (rust.Sub rule lower upper premises) stands inside = tt
+role_stands text role (rust.Typing rule span ty premises) stands inside = by rule
+  where
+    under : (role : Role) → RoleStandsIn text role → RoleStandsIn text (under_fix role)
+    under Other stands = tt
+    under (Bound whole) stands = stands
+    under (Fixed whole) stands = tt
+
+    by : (rule : TypeRule) → RoleStandsIn text (role_under rule span role)
+    by TypeRule.Let = inside
+    by TypeRule.Sub = stands
+    by TypeRule.Fix = under role stands
+    by TypeRule.True = tt
+    by TypeRule.False = tt
+    by TypeRule.If = tt
+    by TypeRule.Num = tt
+    by TypeRule.Succ = tt
+    by TypeRule.Pred = tt
+    by TypeRule.IsZero = tt
+    by TypeRule.Var = tt
+    by TypeRule.Abs = tt
+    by TypeRule.App = tt
+    by TypeRule.Unit = tt
+    by TypeRule.Ascribe = tt
+    by TypeRule.Rcd = tt
+    by TypeRule.Proj = tt
