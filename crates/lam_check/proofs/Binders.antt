@@ -1,8 +1,6 @@
 -- Texts without comments, character by character; and roles of terms.
-use Rattle.std.proofs.Common.{◌≡◌, ℕ, ◌+◌, ◌-◌, ◌<◌, ◌≤◌, ◌==◌, List, [], ◌++◌, Bool, true, false, Option, Some, None, MatchOption, Bor, if◌then◌else◌, length, drop, get_or, ap, sym, ◌∙◌, arith}
-use Rattle.std.specs.List.{before_first, after_first, position_or_len}
-use Rattle.std.proofs.lemmas.List.{drop_all, take_all, append_assoc, append-nil}
-use Rattle.std.proofs.lemmas.Str.Pattern.{IsSplitOnceResult, split_once_first}
+use Rattle.std.proofs.Common.{◌≡◌, ℕ, ◌+◌, ◌-◌, ◌<◌, ◌≤◌, List, ◌++◌, Bool, true, false, if◌then◌else◌, length, drop, get_or, ap, sym, ◌∙◌, arith}
+use Rattle.std.proofs.lemmas.List.{drop_all, append_assoc, append-nil}
 use Rattle.lam_token.specs.declared.span.Span.{Span}
 use Rattle.lam_rules.specs.declared.rules.TypeRule.{TypeRule}
 use Rattle.lam_query.specs.Views.{step_of, StepStandsIn}
@@ -34,19 +32,6 @@ next_depth_small depth before c = by (is_opening before c) (is_closing before c)
     by true closes = omega arith
     by false true = omega arith
     by false false = omega arith
-
--- ---- where a text is split
-
--- what `split_once` gives, or the whole text and nothing
-pub around_first : (c : ℕ) (bs : List ℕ) (r : Option (Bor (List ℕ) × Bor (List ℕ))) → IsSplitOnceResult c bs r → c < 128
-    → MatchOption r ((bs ≡ before_first (λ b. b == c) bs) × ([] ≡ after_first (λ b. b == c) bs)) (λ x. (x.0.now ≡ before_first (λ b. b == c) bs) × (x.1.now ≡ after_first (λ b. b == c) bs))
-around_first c bs r is small = by r (split_once_first c bs r is small)
-  where
-    by : (r : Option (Bor (List ℕ) × Bor (List ℕ)))
-        → MatchOption r (position_or_len (λ b. b == c) bs ≡ length bs) (λ x. (position_or_len (λ b. b == c) bs < length bs) × (x.0.now ≡ before_first (λ b. b == c) bs) × (x.1.now ≡ after_first (λ b. b == c) bs))
-        → MatchOption r ((bs ≡ before_first (λ b. b == c) bs) × ([] ≡ after_first (λ b. b == c) bs)) (λ x. (x.0.now ≡ before_first (λ b. b == c) bs) × (x.1.now ≡ after_first (λ b. b == c) bs))
-    by None all = (sym (take_all (position_or_len (λ b. b == c) bs) bs (omega (arith, all))), sym (drop_all (position_or_len (λ b. b == c) bs + 1) bs (omega (arith, all))))
-    by (Some x) h = (h.1, h.2)
 
 -- ---- roles
 

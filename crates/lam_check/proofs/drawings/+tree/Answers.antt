@@ -1,4 +1,4 @@
-use Rattle.std.proofs.Common.{◌+◌, length, drop, get_or, map, ap, ◌∙◌, arith}
+use Rattle.std.proofs.Common.{rules, ◌+◌, length, drop, get_or, map, ap, ◌∙◌, arith}
 use Rattle.std.proofs.lemmas.List.{drop_more, drop_all}
 use Rattle.std.proofs.lemmas.Result.{on_ok_weaker}
 use Rattle.lam_query.specs.Views.{step_of}
@@ -16,7 +16,7 @@ push_tree-returns t c =
 
 pub push_trees-loop-i-init : goal.push_trees-loop-i-init
 push_trees-loop-i-init t c =
-    (c.requires.role, λ start ps stand are within. left_all c.args.form c.args.text.now c.args.depth c.args.first (map step_of c.args.steps.now) c.args.end c.args.numbers.now _ start ps stand are within)
+    (search rules, λ start ps stand are within. left_all c.args.form c.args.text.now c.args.depth c.args.first (map step_of c.args.steps.now) c.args.end c.args.numbers.now _ start ps stand are within)
 
 pub push_trees-loop-i-preserved : goal.push_trees-loop-i-preserved
 push_trees-loop-i-preserved t c = (tt, λ start ps stand are within.

@@ -11,7 +11,7 @@ abbrev pub invariant-push_trees-loop-i : goal.invariant-push_trees-loop-i
 invariant-push_trees-loop-i l =
     RoleStandsIn l.text l.role
     × ((start : ℕ) (ps : Proofs) → AllStand (map step_of l.steps) start ps → l.numbers ≡ last_steps start ps → start + number_of_steps ps ≤ l.end
-    → AreLeft l.form l.text l.depth l.role (map step_of l.steps) l.end (drop l.i l.numbers) (string_bytes l.out) (string_bytes l.initial.out ++ drawn_each l.form l.text l.depth l.first ps))
+    → AreLeft l.form l.text l.depth l.role (map step_of l.steps) l.end (drop l.i l.numbers) (string_bytes l.out) (string_bytes l.initial.out ++ drawn_each l.form l.text l.depth l.fn.first ps))
 
 abbrev pub decreases-push_tree : goal.decreases-push_tree
 decreases-push_tree l = 2 * l.number + 1
