@@ -84,7 +84,7 @@ tree_drawn form text depth role next steps number x was first second now size in
     let says : (step_of x).conclusion ≡ c = ap (λ (y : Step). y.conclusion) own in
     let from : (step_of x).premises ≡ last_steps start ps = ap (λ (y : Step). y.premises) own in
     let sized : size ≡ count ps = size_is ∙ (ap length from ∙ length-last_steps start ps) in
-        let a = before form text depth role c in
+    let a = before form text depth role c in
     let b = drawn_each form text (depth + 1) (first_role role c) ps in
     let z = behind form text (count ps) role c in
     let onward : next ≡ first_role role c = next_is ∙ ap (first_role role) says in

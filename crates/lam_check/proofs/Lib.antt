@@ -1,7 +1,7 @@
 pub mod LineEnds
 pub mod PiecesRead
 pub mod Writing
-pub mod Binders
+pub mod Uncommented
 pub mod Drawing
 pub mod PlainTypes
 pub mod ReadValues

@@ -19,15 +19,18 @@ push_trees-loop-i-init t c =
     (search rules, λ start ps stand are within. left_all c.args.form c.args.text.now c.args.depth c.args.first (map step_of c.args.steps.now) c.args.end c.args.numbers.now _ start ps stand are within)
 
 pub push_trees-loop-i-preserved : goal.push_trees-loop-i-preserved
-push_trees-loop-i-preserved t c = (tt, λ start ps stand are within.
-    let numbers = c.args.numbers.now in
-    let i = c.loop-i.i in
-    let left = rw (drop_more numbers i 0 c.loop-i-test.true) at (c.loop-i.invariant.1 start ps stand are within) in
-    let next = left_first c.args.form c.args.text.now c.args.depth c.loop-i.role (map step_of c.args.steps.now) c.args.end (get_or numbers i 0) (drop (i + 1) numbers) _ _ left in
-    elim c.if-number-end.branch [
-      | push_trees-then-number-end+in_ok-push_tree w ↦ rw w.out-is (next.others _ (w.in_ok-push_tree.ensures next.start next.proof next.stands next.ends))
-      | push_trees-else-number-end w ↦ absurd (omega (arith, next.within, w.if-number-end.false))
-    ])
+push_trees-loop-i-preserved t c = (
+  tt,
+  λ start ps stand are within.
+      let numbers = c.args.numbers.now in
+      let i = c.loop-i.i in
+      let left = rw (drop_more numbers i 0 c.loop-i-test.true) at (c.loop-i.invariant.1 start ps stand are within) in
+      let next = left_first c.args.form c.args.text.now c.args.depth c.loop-i.role (map step_of c.args.steps.now) c.args.end (get_or numbers i 0) (drop (i + 1) numbers) _ _ left in
+      elim c.if-number-end.branch [
+        | push_trees-then-number-end+in_ok-push_tree w ↦ rw w.out-is (next.others _ (w.in_ok-push_tree.ensures next.start next.proof next.stands next.ends))
+        | push_trees-else-number-end w ↦ absurd (omega (arith, next.within, w.if-number-end.false))
+      ],
+)
 
 pub push_trees-returns : goal.push_trees-returns
 push_trees-returns t c = λ start ps stand are within.
