@@ -26,6 +26,56 @@ TREE = """next point : Nat  (T-App)
     point : {x:Nat, name:Bool}  (T-Var)
     {x:Nat, name:Bool} <: {x:Nat}  (S-RcdWidth)
 """
+RECURSIVE = "letrec f:Nat->Nat = lambda n:Nat. if iszero n then 0 else f (pred n) in f 3"
+RECURSION = f"""{RECURSIVE} : Nat  (T-Let)
+  fix (lambda f:Nat->Nat. lambda n:Nat. if iszero n then 0 else f (pred n)) : Nat->Nat  (T-Fix)
+    lambda f:Nat->Nat. lambda n:Nat. if iszero n then 0 else f (pred n) : (Nat->Nat)->Nat->Nat  (T-Abs)
+      lambda n:Nat. if iszero n then 0 else f (pred n) : Nat->Nat  (T-Abs)
+        if iszero n then 0 else f (pred n) : Nat  (T-If)
+          iszero n : Bool  (T-IsZero)
+            n : Nat  (T-Var)
+          0 : Nat  (T-Num)
+          f (pred n) : Nat  (T-App)
+            f : Nat->Nat  (T-Var)
+            (pred n) : Nat  (T-Pred)
+              n : Nat  (T-Var)
+  f 3 : Nat  (T-App)
+    f : Nat->Nat  (T-Var)
+    3 : Nat  (T-Num)
+"""
+# The first term has a smaller type than the written one.
+BELOW_WRITTEN = """letrec f:Nat->Top = lambda n:Nat. n in f : Nat->Nat  (T-Let)
+  fix (lambda f:Nat->Top. lambda n:Nat. n) : Nat->Nat  (T-Fix)
+    lambda f:Nat->Top. lambda n:Nat. n : (Nat->Nat)->Nat->Nat  (T-Sub)
+      lambda f:Nat->Top. lambda n:Nat. n : (Nat->Top)->Nat->Nat  (T-Abs)
+        lambda n:Nat. n : Nat->Nat  (T-Abs)
+          n : Nat  (T-Var)
+      (Nat->Top)->Nat->Nat <: (Nat->Nat)->Nat->Nat  (S-Arrow)
+        Nat->Nat <: Nat->Top  (S-Arrow)
+          Nat <: Nat  (S-Refl)
+          Nat <: Top  (S-Top)
+        Nat->Nat <: Nat->Nat  (S-Refl)
+  f : Nat->Nat  (T-Var)
+"""
+ARGUMENT = "(/* /* a */ letrec c:Nat = */ (letrec\n\tf /* = */ :Nat\n->Nat\n= /* letrec b:Nat = */ (lambda n:Nat. n) in f))"
+FLAT = ARGUMENT.replace("\n", " ").replace("\t", " ")
+AS_ARGUMENT = f"""(lambda y:Nat->Nat. y) {FLAT} : Nat->Nat  (T-App)
+  (lambda y:Nat->Nat. y) : (Nat->Nat)->Nat->Nat  (T-Abs)
+    y : Nat->Nat  (T-Var)
+  {FLAT} : Nat->Nat  (T-Let)
+    fix (lambda f   :Nat ->Nat. (lambda n:Nat. n)) : Nat->Nat  (T-Fix)
+      lambda f   :Nat ->Nat. (lambda n:Nat. n) : (Nat->Nat)->Nat->Nat  (T-Abs)
+        (lambda n:Nat. n) : Nat->Nat  (T-Abs)
+          n : Nat  (T-Var)
+    f : Nat->Nat  (T-Var)
+"""
+# No letrec, although the name begins as if it were one.
+BOUND = """let letrec' = fix (lambda y:Nat. y) in letrec' : Nat  (T-Let)
+  fix (lambda y:Nat. y) : Nat  (T-Fix)
+    (lambda y:Nat. y) : Nat->Nat  (T-Abs)
+      y : Nat  (T-Var)
+  letrec' : Nat  (T-Var)
+"""
 LATEX = r"""\documentclass[border=8pt]{standalone}
 \usepackage{bussproofs}
 \makeatletter
@@ -58,6 +108,24 @@ LATEX = r"""\documentclass[border=8pt]{standalone}
 \DisplayProof
 \end{document}
 """
+RECURSION_LATEX = (
+    LATEX[: LATEX.index("\\AxiomC")]
+    + r"""\AxiomC{}
+\RightLabel{\scriptsize T-Var}
+\UnaryInfC{\texttt{f : Nat}}
+\RightLabel{\scriptsize T-Abs}
+\UnaryInfC{\texttt{lambda f:Nat. f : Nat->Nat}}
+\RightLabel{\scriptsize T-Fix}
+\UnaryInfC{\texttt{fix (lambda f:Nat. f) : Nat}}
+\AxiomC{}
+\RightLabel{\scriptsize T-Var}
+\UnaryInfC{\texttt{f : Nat}}
+\RightLabel{\scriptsize T-Let}
+\BinaryInfC{\texttt{letrec f:Nat = f in f : Nat}}
+\DisplayProof
+\end{document}
+"""
+)
 DIAGNOSTIC = {
     "code": "E1",
     "message": "unbound name",
@@ -225,6 +293,12 @@ CASES = [
     Case("faults before types", ["--types", "a"], {"a": "succ true; a = 0"}, "a:1:1: error[E6]: operand is not Nat\nsucc true; a = 0\n^^^^^^^^^ expected Nat, found Bool\na : Nat\n", 1),
     Case("a derivation", ["--why", "3:1", "a"], {"a": CALL.replace("next point;", " next point;")}, "", 1, refused("a", "no term with a type is there")),
     Case("a derivation as a tree", ["--why", "3:5", "a"], {"a": CALL}, TREE, 0),
+    Case("a letrec is drawn as what it is short for", ["--why", "1:6", "a"], {"a": f"x = {RECURSIVE};"}, RECURSION, 0),
+    Case("of a smaller type than the written one", ["--why", "1:1", "a"], {"a": "letrec f:Nat->Top = lambda n:Nat. n in f"}, BELOW_WRITTEN, 0),
+    Case("as an argument, with line ends and comments", ["--why", "1:23", "a"], {"a": f"(lambda y:Nat->Nat. y) {ARGUMENT};"}, AS_ARGUMENT, 0),
+    Case("a letrec in LaTeX", ["--why", "1:1", "--latex", "a"], {"a": "letrec f:Nat = f in f"}, RECURSION_LATEX, 0),
+    Case("a fix in a let is drawn as it is written", ["--why", "1:1", "a"], {"a": "let x = fix (lambda y:Nat. y) in x"}, BOUND.replace("letrec'", "x"), 0),
+    Case("a let of a name that begins as letrec", ["--why", "1:1", "a"], {"a": "let letrec' = fix (lambda y:Nat. y) in letrec'"}, BOUND, 0),
     Case("a derivation in LaTeX", ["--why", "1:1", "--latex", "a"], {"a": "{a=0}"}, LATEX, 0),
     Case("a place outside", ["--why", "9:1", "a"], {"a": "0"}, "", 1, refused("a", "no term with a type is there")),
     Case("a place past the end of a line", ["--why", "1:3", "a"], {"a": "0\n0"}, "", 1, refused("a", "no term with a type is there")),

@@ -43,10 +43,52 @@ Eglot reads an object as a property list, lsp-mode as a hash table."
         (lsp--position-to-point position)
       (eglot--lsp-position-to-point position))))
 
-(defun fullsub-why--term (range)
-  "The text of RANGE, on one line."
-  (let ((text (buffer-substring-no-properties (fullsub-why--place range "start") (fullsub-why--place range "end"))))
-    (truncate-string-to-width (replace-regexp-in-string "[ \t\r\n]+" " " text) fullsub-why-width nil nil "...")))
+(defun fullsub-why--line (text)
+  "TEXT on one line."
+  (replace-regexp-in-string "[ \t\r\n]+" " " text))
+
+(defun fullsub-why--uncommented (text)
+  "TEXT with a blank in place of each comment.
+Comments nest."
+  (with-temp-buffer
+    (insert text)
+    (goto-char (point-min))
+    (let ((depth 0) from)
+      (while (re-search-forward "/\\*\\|\\*/" nil t)
+        (if (eq (char-before) ?*)
+            (when (= (setq depth (1+ depth)) 1)
+              (setq from (match-beginning 0)))
+          (when (= (setq depth (1- depth)) 0)
+            (delete-region from (point))
+            (insert " ")))))
+    (buffer-string)))
+
+(defun fullsub-why--binder (whole first)
+  "The `x:T' of a `letrec x:T = ..' with the range WHOLE, or nil for a `let'.
+Its first term has the range FIRST."
+  (let* ((text (buffer-substring-no-properties (fullsub-why--place whole "start") (fullsub-why--place first "start")))
+         (header (fullsub-why--line (fullsub-why--uncommented text))))
+    (when (string-match "\\`[ (]*letrec \\(.*?\\) ?=" header)
+      (match-string 1 header))))
+
+(defun fullsub-why--first-role (step role)
+  "What the term of the first premise of STEP is to a `let', or nil.
+It is a cons of `bound', the term that it binds, or of `fixed', what a bound
+`fix' is applied to, and the range of the `let'.  ROLE is that of the term of
+STEP."
+  (pcase (fullsub-why--get step "rule")
+    ("T-Let" (cons 'bound (fullsub-why--get step "range")))
+    ("T-Sub" role)
+    ("T-Fix" (and (eq (car role) 'bound) (cons 'fixed (cdr role))))))
+
+(defun fullsub-why--term (range role)
+  "The text of the term with this RANGE and this ROLE, on one line.
+What a `letrec x:T = t' is short for is shown in full, `fix (lambda x:T. t)'."
+  (let* ((text (fullsub-why--line (buffer-substring-no-properties (fullsub-why--place range "start") (fullsub-why--place range "end"))))
+         (binder (and role (fullsub-why--binder (cdr role) range)))
+         (function (if binder (format "lambda %s. %s" binder text) text)))
+    (truncate-string-to-width (if (and binder (eq (car role) 'bound)) (format "fix (%s)" function) function)
+                              fullsub-why-width nil nil "...")))
 
 (defun fullsub-why--context (entries)
   "The ENTRIES of the context as text.
@@ -68,18 +110,21 @@ These are the types of the names that the term sees, from the outside in."
 Each premise stands below its conclusion, one step further in, and the text of
 each step has a property with the place of its term."
   ;; The last step is the root. A list of what is still to be drawn, since a derivation may be deeper than calls can be.
-  (let ((waiting (list (cons (1- (length steps)) 0)))
+  (let ((waiting (list (list (1- (length steps)) 0 nil)))
         lines)
     (while waiting
-      (pcase-let* ((`(,number . ,depth) (pop waiting))
+      (pcase-let* ((`(,number ,depth ,role) (pop waiting))
                    (step (elt steps number))
                    (range (fullsub-why--get step "range"))
                    (says (if range
-                             (concat (fullsub-why--term range) " : " (fullsub-why--get step "type"))
+                             (concat (fullsub-why--term range role) " : " (fullsub-why--get step "type"))
                            (concat (fullsub-why--get step "lower") " <: " (fullsub-why--get step "upper"))))
                    (line (format "%s%s  %s\n" (make-string (* 2 depth) ?\s) (fullsub-why--get step "rule") says)))
         (push (if range (propertize line 'fullsub-why-place (copy-marker (fullsub-why--place range "start"))) line) lines)
-        (setq waiting (append (mapcar (lambda (premise) (cons premise (1+ depth))) (fullsub-why--get step "from")) waiting))))
+        (let ((first (fullsub-why--first-role step role)))
+          (setq waiting (append (seq-map-indexed (lambda (premise at) (list premise (1+ depth) (and (= at 0) first)))
+                                                 (fullsub-why--get step "from"))
+                                waiting)))))
     (apply #'concat (nreverse lines))))
 
 (defun fullsub-why-go ()

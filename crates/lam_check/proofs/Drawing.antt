@@ -7,6 +7,9 @@ use Rattle.lam_query.specs.Views.{step_of}
 use Rattle.lam_query.specs.declared.answers.Step.{Step as RustStep}
 use Rattle.lam_query.proofs.Flat.{length_of_steps, length_of_steps_of_each}
 use Rattle.lam_check.specs.declared.forms.Form.{Form}
+use Rattle.lam_check.specs.declared.terms.Role.{Role}
+use Rattle.lam_check.specs.declared.terms.Role.TheVariants.{Other}
+use Rattle.lam_check.specs.Terms.{first_role}
 use Rattle.lam_check.specs.Drawings.{before, behind, count, drawn, drawn_each}
 use Rattle.lam_check.specs.inner.Drawing.{Stands, AllStand, AreLeft}
 
@@ -69,58 +72,59 @@ own_step steps number x start c ps inside is s place =
     let same : step_of (get_or steps number x) ≡ concluding start c ps = cc in
     ap step_of is ∙ same
 
-pub tree_drawn : (form : Form) (text : List ℕ) (depth : ℕ) (steps : List RustStep) (number : ℕ) (x : RustStep) (was first second now : Text) (size : ℕ)
-    → number < length steps → x ≡ get_or steps number x → size ≡ length (step_of x).premises
-    → first ≡ was ++ before form text depth (step_of x).conclusion
+pub tree_drawn : (form : Form) (text : List ℕ) (depth : ℕ) (role next : Role) (steps : List RustStep) (number : ℕ) (x : RustStep) (was first second now : Text) (size : ℕ)
+    → number < length steps → x ≡ get_or steps number x → size ≡ length (step_of x).premises → next ≡ first_role role (step_of x).conclusion
+    → first ≡ was ++ before form text depth role (step_of x).conclusion
     → ((start : ℕ) (ps : Proofs) → AllStand (map step_of steps) start ps → (step_of x).premises ≡ last_steps start ps → start + number_of_steps ps ≤ number
-    → second ≡ first ++ drawn_each form text (depth + 1) ps)
-    → now ≡ second ++ behind form text size (step_of x).conclusion
-    → (start : ℕ) (p : Proof) → Stands (map step_of steps) start p → number ≡ start + steps_before p → now ≡ was ++ drawn form text depth p
-tree_drawn form text depth steps number x was first second now size inside is size_is opens draws closes start (concludes c ps) s place =
+    → second ≡ first ++ drawn_each form text (depth + 1) next ps)
+    → now ≡ second ++ behind form text size role (step_of x).conclusion
+    → (start : ℕ) (p : Proof) → Stands (map step_of steps) start p → number ≡ start + steps_before p → now ≡ was ++ drawn form text depth role p
+tree_drawn form text depth role next steps number x was first second now size inside is size_is next_is opens draws closes start (concludes c ps) s place =
     let own = own_step steps number x start c ps inside is s place in
     let says : (step_of x).conclusion ≡ c = ap (λ (y : Step). y.conclusion) own in
     let from : (step_of x).premises ≡ last_steps start ps = ap (λ (y : Step). y.premises) own in
     let sized : size ≡ count ps = size_is ∙ (ap length from ∙ length-last_steps start ps) in
-    let middle = draws start ps (premises_stand (map step_of steps) start c ps s) from (omega arith) in
-    let a = before form text depth c in
-    let b = drawn_each form text (depth + 1) ps in
-    let z = behind form text (count ps) c in
-    let begun : first ≡ was ++ a = opens ∙ ap (λ (d : Conclusion). was ++ before form text depth d) says in
-    let ended : now ≡ second ++ z = closes ∙ (ap (λ (d : Conclusion). second ++ behind form text size d) says ∙ ap (λ n. second ++ behind form text n c) sized) in
+    let a = before form text depth role c in
+    let b = drawn_each form text (depth + 1) (first_role role c) ps in
+    let z = behind form text (count ps) role c in
+    let onward : next ≡ first_role role c = next_is ∙ ap (first_role role) says in
+    let middle : second ≡ first ++ b = draws start ps (premises_stand (map step_of steps) start c ps s) from (omega arith) ∙ ap (λ (r : Role). first ++ drawn_each form text (depth + 1) r ps) onward in
+    let begun : first ≡ was ++ a = opens ∙ ap (λ (d : Conclusion). was ++ before form text depth role d) says in
+    let ended : now ≡ second ++ z = closes ∙ (ap (λ (d : Conclusion). second ++ behind form text size role d) says ∙ ap (λ n. second ++ behind form text n role c) sized) in
     ended ∙ (ap (λ t. t ++ z) (middle ∙ (ap (λ t. t ++ b) begun ∙ append_assoc was a b)) ∙ append_assoc was (a ++ b) z)
 
 -- ---- the premises, one behind the other
 
-pub left_all : (form : Form) (text : List ℕ) (depth : ℕ) (steps : List Step) (end : ℕ) (numbers : List ℕ) (was : Text) (start : ℕ) (ps : Proofs)
+pub left_all : (form : Form) (text : List ℕ) (depth : ℕ) (first : Role) (steps : List Step) (end : ℕ) (numbers : List ℕ) (was : Text) (start : ℕ) (ps : Proofs)
     → AllStand steps start ps → numbers ≡ last_steps start ps → start + number_of_steps ps ≤ end
-    → AreLeft form text depth steps end numbers was (was ++ drawn_each form text depth ps)
-left_all form text depth steps end numbers was start ps stand are within = record { start = start; proofs = ps; stand = stand; are_last = are; within = within; parts = refl }
+    → AreLeft form text depth first steps end numbers was (was ++ drawn_each form text depth first ps)
+left_all form text depth first steps end numbers was start ps stand are within = record { start = start; proofs = ps; stand = stand; are_last = are; within = within; parts = refl }
 
 -- the first one that is left
-pub record IsNext (form : Form) (text : List ℕ) (depth : ℕ) (steps : List Step) (end number : ℕ) (rest : List ℕ) (written whole : Text) : Type 0 where
+pub record IsNext (form : Form) (text : List ℕ) (depth : ℕ) (first : Role) (steps : List Step) (end number : ℕ) (rest : List ℕ) (written whole : Text) : Type 0 where
   pub start : ℕ
   pub proof : Proof
   pub stands : Stands steps start proof
   pub ends : number ≡ start + steps_before proof
   pub within : number < end
-  pub others : (now : Text) → now ≡ written ++ drawn form text depth proof → AreLeft form text depth steps end rest now whole
+  pub others : (now : Text) → now ≡ written ++ drawn form text depth first proof → AreLeft form text depth Other steps end rest now whole
 
-pub left_first : (form : Form) (text : List ℕ) (depth : ℕ) (steps : List Step) (end number : ℕ) (rest : List ℕ) (written whole : Text)
-    → AreLeft form text depth steps end (number ∷ rest) written whole → IsNext form text depth steps end number rest written whole
-left_first form text depth steps end number rest written whole left = by left.proofs left.stand left.are_last left.within left.parts
+pub left_first : (form : Form) (text : List ℕ) (depth : ℕ) (first : Role) (steps : List Step) (end number : ℕ) (rest : List ℕ) (written whole : Text)
+    → AreLeft form text depth first steps end (number ∷ rest) written whole → IsNext form text depth first steps end number rest written whole
+left_first form text depth first steps end number rest written whole left = by left.proofs left.stand left.are_last left.within left.parts
   where
     by : (ps : Proofs) → AllStand steps left.start ps → number ∷ rest ≡ last_steps left.start ps → left.start + number_of_steps ps ≤ end
-        → written ++ drawn_each form text depth ps ≡ whole → IsNext form text depth steps end number rest written whole
+        → written ++ drawn_each form text depth first ps ≡ whole → IsNext form text depth first steps end number rest written whole
     by no_proofs stand are within parts = let clash : number ∷ rest ≡ [] = are in absurd cc
     by (proof_first p ps) stand are within parts =
         let both : number ∷ rest ≡ (left.start + steps_before p) ∷ last_steps (left.start + steps_before p + 1) ps = are in
-        let first : number ≡ left.start + steps_before p = cc in
+        let own : number ≡ left.start + steps_before p = cc in
         let others : rest ≡ last_steps (left.start + steps_before p + 1) ps = cc in
         record {
           start = left.start;
           proof = p;
           stands = first_stands steps left.start p ps stand;
-          ends = first;
+          ends = own;
           within = omega arith;
           others = λ now is. record {
             start = left.start + steps_before p + 1;
@@ -128,14 +132,14 @@ left_first form text depth steps end number rest written whole left = by left.pr
             stand = others_stand steps left.start p ps stand;
             are_last = others;
             within = omega arith;
-            parts = ap (λ t. t ++ drawn_each form text depth ps) is ∙ (append_assoc written (drawn form text depth p) (drawn_each form text depth ps) ∙ parts);
+            parts = ap (λ t. t ++ drawn_each form text depth Other ps) is ∙ (append_assoc written (drawn form text depth first p) (drawn_each form text depth Other ps) ∙ parts);
           };
         }
 
-pub left_none : (form : Form) (text : List ℕ) (depth : ℕ) (steps : List Step) (end : ℕ) (numbers : List ℕ) (written whole : Text) → numbers ≡ []
-    → AreLeft form text depth steps end numbers written whole → written ≡ whole
-left_none form text depth steps end numbers written whole none left = by left.proofs (sym none ∙ left.are_last) left.parts
+pub left_none : (form : Form) (text : List ℕ) (depth : ℕ) (first : Role) (steps : List Step) (end : ℕ) (numbers : List ℕ) (written whole : Text) → numbers ≡ []
+    → AreLeft form text depth first steps end numbers written whole → written ≡ whole
+left_none form text depth first steps end numbers written whole none left = by left.proofs (sym none ∙ left.are_last) left.parts
   where
-    by : (ps : Proofs) → [] ≡ last_steps left.start ps → written ++ drawn_each form text depth ps ≡ whole → written ≡ whole
+    by : (ps : Proofs) → [] ≡ last_steps left.start ps → written ++ drawn_each form text depth first ps ≡ whole → written ≡ whole
     by no_proofs are parts = sym (append-nil written) ∙ parts
     by (proof_first p ps) are parts = let clash : [] ≡ (left.start + steps_before p) ∷ last_steps (left.start + steps_before p + 1) ps = are in absurd cc

@@ -1,6 +1,7 @@
 pub mod LineEnds
 pub mod PiecesRead
 pub mod Writing
+pub mod Uncommented
 pub mod Drawing
 pub mod PlainTypes
 pub mod ReadValues

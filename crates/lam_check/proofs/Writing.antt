@@ -4,7 +4,7 @@ use Rattle.std.specs.List.{repeat}
 use Rattle.std.proofs.lemmas.List.{drop_more, drop_all, append_assoc, append-nil, replicate-append-replicate}
 
 -- the characters that are left, by the next one and those behind it
-next_char : (cs : List ℕ) (n c : ℕ) → (n < length cs) × (c ≡ get_or cs n c) → drop n cs ≡ c ∷ drop (n + 1) cs
+pub next_char : (cs : List ℕ) (n c : ℕ) → (n < length cs) × (c ≡ get_or cs n c) → drop n cs ≡ c ∷ drop (n + 1) cs
 next_char cs n c h = drop_more cs n c h.0 ∙ ap (λ x. x ∷ drop (n + 1) cs) (sym h.1)
 
 -- the text of the next element, and those of the elements behind it, are those of the elements that were left

@@ -1,8 +1,6 @@
 -- Derivations drawn as trees.
-use Rattle.std.specs.Prelude.{◌≡◌, ◌⊎◌, ℕ, suc, ◌+◌, ◌*◌, ◌/◌, ◌-◌, ◌==◌, Bool, List, [], ◌∷◌, ◌++◌, Option, Some, None, codes, chars, encode_utf8, encode_utf8_all, flat_map, map, replicate, slice_range, if◌then◌else◌}
-use Rattle.std.specs.Char.{is_control}
+use Rattle.std.specs.Prelude.{◌≡◌, ◌⊎◌, ℕ, suc, ◌+◌, ◌*◌, ◌/◌, ◌-◌, ◌==◌, Bool, List, [], ◌∷◌, ◌++◌, Option, Some, None, codes, chars, encode_utf8, flat_map, replicate, if◌then◌else◌}
 use Rattle.std.specs.List.{list_any, repeat}
-use Rattle.lam_token.specs.declared.span.Span.{Span}
 use Rattle.lam_rules.specs.Rules.{name_of_sub_rule, name_of_type_rule}
 use Rattle.lam_rules.specs.Texts.{Text, plain_text}
 use Rattle.lam_rules.specs.declared.rules.Dialect.{Dialect}
@@ -11,6 +9,9 @@ use Rattle.lam_text.specs.declared.places.Position.{Position}
 use Rattle.lam_text.specs.declared.units.Encoding.TheVariants.{Utf32}
 use Rattle.lam_query.specs.Derivations.{Derivation, IsDerivedIn}
 use Rattle.lam_query.specs.Steps.{Conclusion, typing, subtyping, Proof, concludes, Proofs, no_proofs, proof_first, steps_of}
+use Rattle.lam_check.specs.Terms.{shown_term, first_role}
+use Rattle.lam_check.specs.declared.terms.Role.{Role}
+use Rattle.lam_check.specs.declared.terms.Role.TheVariants as roles
 use Rattle.lam_check.specs.declared.forms.Form.{Form}
 use Rattle.lam_check.specs.declared.forms.Form.TheVariants as forms
 use Rattle.lam_check.specs.declared.forms.Markup.{Markup}
@@ -18,18 +19,10 @@ use Rattle.lam_check.specs.declared.forms.Markup.TheVariants as marks
 
 -- ---- conclusions
 
--- A character of a term on one line: a blank for any control character, including line ends.
-abbrev pub flat : ℕ → ℕ
-flat c = if is_control c then 32 else c
-
--- the term at a span, on one line
-abbrev pub term_text : List ℕ → Span → Text
-term_text text s = encode_utf8_all (map flat (chars (slice_range text s.start s.end)))
-
--- `TERM : TYPE` or `TYPE <: TYPE`, with the fields of each record type in their own order
-abbrev pub claim_text : List ℕ → Conclusion → Text
-claim_text text (typing rule s type) = term_text text s ++ codes " : " ++ plain_text type
-claim_text text (subtyping rule lower upper) = plain_text lower ++ codes " <: " ++ plain_text upper
+-- `TERM : TYPE` or `TYPE <: TYPE`, with the fields of each record type in their own order; the term has this role
+abbrev pub claim_text : List ℕ → Role → Conclusion → Text
+claim_text text role (typing rule s type) = shown_term text role s ++ codes " : " ++ plain_text type
+claim_text text role (subtyping rule lower upper) = plain_text lower ++ codes " <: " ++ plain_text upper
 
 -- the name of the rule
 abbrev pub rule_text : Conclusion → Text
@@ -76,14 +69,14 @@ markup marks.LatexTerm = codes "InfC{\\texttt{"
 markup marks.LatexEnd = codes "}}\n"
 
 -- the opening of a collapsible section
-abbrev pub html_head : List ℕ → Conclusion → Text
-html_head text c = markup marks.HtmlOpen ++ written forms.Html (claim_text text c) ++ markup marks.HtmlRule ++ rule_text c ++ markup marks.HtmlLine
+abbrev pub html_head : List ℕ → Role → Conclusion → Text
+html_head text role c = markup marks.HtmlOpen ++ written forms.Html (claim_text text role c) ++ markup marks.HtmlRule ++ rule_text c ++ markup marks.HtmlLine
 
 -- What comes before the premises of a step: its line, indented by two blanks per level; in HTML the opening of a collapsible section.
-abbrev pub before : Form → List ℕ → (depth : ℕ) → Conclusion → Text
-before forms.Text text depth c = replicate (2 * depth) 32 ++ claim_text text c ++ codes "  (" ++ rule_text c ++ codes ")\n"
-before forms.Html text depth c = html_head text c
-before forms.Latex text depth c = []
+abbrev pub before : Form → List ℕ → (depth : ℕ) → Role → Conclusion → Text
+before forms.Text text depth role c = replicate (2 * depth) 32 ++ claim_text text role c ++ codes "  (" ++ rule_text c ++ codes ")\n"
+before forms.Html text depth role c = html_head text role c
+before forms.Latex text depth role c = []
 
 -- bussproofs draws a step from at most five premises: of more, five are repeatedly combined into one, this many times
 abbrev pub packs : ℕ → ℕ
@@ -106,19 +99,19 @@ abbrev pub pack_text : Text
 pack_text = markup marks.LatexPack
 
 -- the conclusion of a step with this many premises, with the name of its rule next to the line
-abbrev pub latex_claim : List ℕ → ℕ → Conclusion → Text
-latex_claim text n c =
-    markup marks.LatexRule ++ rule_text c ++ markup marks.LatexLine ++ arity n ++ markup marks.LatexTerm ++ written forms.Latex (claim_text text c) ++ markup marks.LatexEnd
+abbrev pub latex_claim : List ℕ → ℕ → Role → Conclusion → Text
+latex_claim text n role c =
+    markup marks.LatexRule ++ rule_text c ++ markup marks.LatexLine ++ arity n ++ markup marks.LatexTerm ++ written forms.Latex (claim_text text role c) ++ markup marks.LatexEnd
 
 -- a step in LaTeX with this many premises
-abbrev pub latex_step : List ℕ → ℕ → Conclusion → Text
-latex_step text n c = axiom_text n ++ repeat (packs n) pack_text ++ latex_claim text (left n) c
+abbrev pub latex_step : List ℕ → ℕ → Role → Conclusion → Text
+latex_step text n role c = axiom_text n ++ repeat (packs n) pack_text ++ latex_claim text (left n) role c
 
 -- what comes after the premises of a step, which has this many
-abbrev pub behind : Form → List ℕ → ℕ → Conclusion → Text
-behind forms.Text text n c = []
-behind forms.Html text n c = markup marks.HtmlEnd
-behind forms.Latex text n c = latex_step text n c
+abbrev pub behind : Form → List ℕ → ℕ → Role → Conclusion → Text
+behind forms.Text text n role c = []
+behind forms.Html text n role c = markup marks.HtmlEnd
+behind forms.Latex text n role c = latex_step text n role c
 
 -- ---- whole drawings
 
@@ -127,14 +120,14 @@ count no_proofs = 0
 count (proof_first p ps) = suc (count ps)
 
 abbrev mutual
-  -- a proof at this depth: each step once, with its premises from left to right
-  pub drawn : Form → List ℕ → (depth : ℕ) → Proof → Text
-  drawn form text depth (concludes c ps) = before form text depth c ++ drawn_each form text (depth + 1) ps ++ behind form text (count ps) c
+  -- a proof at this depth, about a term with this role: each step once, with its premises from left to right
+  pub drawn : Form → List ℕ → (depth : ℕ) → Role → Proof → Text
+  drawn form text depth role (concludes c ps) = before form text depth role c ++ drawn_each form text (depth + 1) (first_role role c) ps ++ behind form text (count ps) role c
 
-  -- the proofs of premises
-  pub drawn_each : Form → List ℕ → (depth : ℕ) → Proofs → Text
-  drawn_each form text depth no_proofs = []
-  drawn_each form text depth (proof_first p ps) = drawn form text depth p ++ drawn_each form text depth ps
+  -- the proofs of premises, the first of which is about a term with this role
+  pub drawn_each : Form → List ℕ → (depth : ℕ) → (first : Role) → Proofs → Text
+  drawn_each form text depth first no_proofs = []
+  drawn_each form text depth first (proof_first p ps) = drawn form text depth first p ++ drawn_each form text depth roles.Other ps
 
 -- ---- whole documents
 
@@ -197,7 +190,7 @@ tail forms.Latex = line (codes "\\DisplayProof") ++ line (codes "\\end{document}
 pub record Draws (form : Form) (text : List ℕ) (derived : Derivation) (drawing : Text) : Type 0 where
   pub proof : Proof
   pub steps : derived.steps ≡ steps_of 0 proof
-  pub is : drawing ≡ head form ++ drawn form text 0 proof ++ tail form
+  pub is : drawing ≡ head form ++ drawn form text 0 roles.Other proof ++ tail form
 
 -- The text has this position, with columns in characters: the offset for it has this very position.
 abbrev pub HasPlace : List ℕ → Position → Type 0

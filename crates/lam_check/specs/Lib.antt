@@ -1,6 +1,7 @@
 pub mod Paints
 pub mod Lines
 pub mod Reports
+pub mod Terms
 pub mod Drawings
 pub mod Types
 pub mod Json

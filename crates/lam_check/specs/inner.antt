@@ -3,3 +3,4 @@ pub mod Verifying
 pub mod PlainTypes
 pub mod Read
 pub mod Levels
+pub mod Roles

@@ -1,18 +1,19 @@
 //! Derivations drawn as trees.
-ghost use Rattle.std.specs.Prelude.{◌≡◌, ◌+◌, ◌*◌, ◌^◌, ◌<◌, ◌≤◌, ◌++◌, ℕ, All, IfOk, IfSome, OnOk, chars, encode_utf8_all, length, map, option_map, replicate, string_bytes};
+ghost use Rattle.std.specs.Prelude.{◌≡◌, ◌+◌, ◌*◌, ◌^◌, ◌<◌, ◌≤◌, ◌++◌, ℕ, All, IfOk, IfSome, OnOk, length, map, option_map, replicate, string_bytes};
 ghost use Rattle.std.specs.List.{repeat};
 ghost use Rattle.lam_query.specs.Steps.{Proof, Proofs, steps_of, steps_before, number_of_steps, last_steps};
 ghost use Rattle.lam_query.specs.Views.{step_of, derivation_of, StepStandsIn};
-ghost use Rattle.lam_query.specs.Within.{IsSpanOfText};
-ghost use Rattle.lam_check.specs.Drawings.{term_text, claim_text, rule_text, before, behind, html_head, latex_claim, drawn, drawn_each, IsDerivedAt, IsDrawnAt, latex_step, arity, axiom_text, written, pack_text, flat};
+ghost use Rattle.lam_check.specs.Drawings.{claim_text, rule_text, before, behind, html_head, latex_claim, drawn, drawn_each, IsDerivedAt, IsDrawnAt, latex_step, arity, axiom_text, written, pack_text};
+ghost use Rattle.lam_check.specs.Terms.{first_role};
 ghost use Rattle.lam_check.specs.inner.Drawing.{Stands, AllStand};
+ghost use Rattle.lam_check.specs.inner.Roles.{RoleStandsIn};
 
 use crate::forms::{Form, Markup, push_written};
+use crate::terms::{Role, first_role, push_shown_term};
 use lam_query::answers::{Derivation, Step};
 use lam_query::derivation;
 use lam_rules::{Dialect, plain_text_of};
 use lam_text::{Doc, Encoding, Position};
-use lam_token::Span;
 use std::alloc::{AllocError, Global};
 
 /// Draws the derivation of the innermost term around a position, each step once; `None` where no type is shown. Columns count
@@ -64,15 +65,24 @@ fn push_proof(
     steps: &[Step],
 ) -> Result<(), AllocError>
     requires { All (StepStandsIn text.now) steps.now }
-    ensures { OnOk result ((p : Proof) → map step_of steps.now ≡ steps_of 0 p → string_bytes out.new ≡ string_bytes out.old ++ drawn form text.now 0 p) }
+    ensures { OnOk result ((p : Proof) → map step_of steps.now ≡ steps_of 0 p → string_bytes out.new ≡ string_bytes out.old ++ drawn form text.now 0 Role.Other p) }
 {
     if steps.is_empty() {
         return Ok(());
     }
-    push_tree(alloc, out, form, text, steps, steps.len() - 1, 0)
+    push_tree(
+        alloc,
+        out,
+        form,
+        text,
+        steps,
+        steps.len() - 1,
+        0,
+        Role::Other,
+    )
 }
 
-/// Draws the proof that ends in the step with this index.
+/// Draws the proof that ends in the step with this index, about a term with this role.
 #[cycle(tree)]
 fn push_tree(
     alloc: Global,
@@ -82,21 +92,35 @@ fn push_tree(
     steps: &[Step],
     number: usize,
     depth: usize,
+    role: Role,
 ) -> Result<(), AllocError>
     requires inside { number < length steps.now }
     requires deep { depth + number < 2 ^ 62 }
     requires whole_characters { All (StepStandsIn text.now) steps.now }
+    requires role { RoleStandsIn text.now role }
     ensures { OnOk result ((start : ℕ) (p : Proof) → Stands (map step_of steps.now) start p → number ≡ start + steps_before p
-        → string_bytes out.new ≡ string_bytes out.old ++ drawn form text.now depth p) }
+        → string_bytes out.new ≡ string_bytes out.old ++ drawn form text.now depth role p) }
 {
     let step = &steps[number];
     let premises = premises_of(step);
-    push_before(alloc, out, form, text, step, depth)?;
-    push_trees(alloc, out, form, text, steps, premises, number, depth + 1)?;
-    push_behind(alloc, out, form, text, step, premises.len())
+    let first = first_role(role, step);
+    push_before(alloc, out, form, text, step, depth, role)?;
+    push_trees(
+        alloc,
+        out,
+        form,
+        text,
+        steps,
+        premises,
+        number,
+        depth + 1,
+        first,
+    )?;
+    push_behind(alloc, out, form, text, step, premises.len(), role)
 }
 
-/// Draws the proofs that end in the steps with these indices, all less than `end`.
+/// Draws the proofs that end in the steps with these indices, all less than `end`; the first one is about a term with this
+/// role.
 #[cycle(tree)]
 fn push_trees(
     alloc: Global,
@@ -107,18 +131,22 @@ fn push_trees(
     numbers: &[usize],
     end: usize,
     depth: usize,
+    first: Role,
 ) -> Result<(), AllocError>
     requires inside { end ≤ length steps.now }
     requires deep { depth + end ≤ 2 ^ 62 }
     requires whole_characters { All (StepStandsIn text.now) steps.now }
+    requires role { RoleStandsIn text.now first }
     ensures { OnOk result ((start : ℕ) (ps : Proofs) → AllStand (map step_of steps.now) start ps → numbers.now ≡ last_steps start ps → start + number_of_steps ps ≤ end
-        → string_bytes out.new ≡ string_bytes out.old ++ drawn_each form text.now depth ps) }
+        → string_bytes out.new ≡ string_bytes out.old ++ drawn_each form text.now depth first ps) }
 {
+    let mut role = first;
     for i in 0..numbers.len() {
         let number = numbers[i];
         if number < end {
-            push_tree(alloc, out, form, text, steps, number, depth)?;
+            push_tree(alloc, out, form, text, steps, number, depth, role)?;
         }
+        role = Role::Other;
     }
     Ok(())
 }
@@ -140,20 +168,22 @@ fn push_before(
     text: &str,
     step: &Step,
     depth: usize,
+    role: Role,
 ) -> Result<(), AllocError>
     requires deep { 2 * depth < 2 ^ 64 }
     requires whole_characters { StepStandsIn text.now step.now }
-    ensures { OnOk result (string_bytes out.new ≡ string_bytes out.old ++ before form text.now depth (step_of step.now).conclusion) }
+    requires role { RoleStandsIn text.now role }
+    ensures { OnOk result (string_bytes out.new ≡ string_bytes out.old ++ before form text.now depth role (step_of step.now).conclusion) }
 {
     match form {
         Form::Text => {
             push_blanks(out, 2 * depth)?;
-            push_claim(alloc, out, form, text, step)?;
+            push_claim(alloc, out, form, text, step, role)?;
             out.push_str("  (")?;
             out.push_str(rule_of(step))?;
             out.push_str(")\n")
         }
-        Form::Html => push_html_head(alloc, out, text, step),
+        Form::Html => push_html_head(alloc, out, text, step, role),
         Form::Latex => Ok(()),
     }
 }
@@ -164,12 +194,14 @@ fn push_html_head(
     out: &mut String,
     text: &str,
     step: &Step,
+    role: Role,
 ) -> Result<(), AllocError>
-    requires { StepStandsIn text.now step.now }
-    ensures { OnOk result (string_bytes out.new ≡ string_bytes out.old ++ html_head text.now (step_of step.now).conclusion) }
+    requires whole_characters { StepStandsIn text.now step.now }
+    requires role { RoleStandsIn text.now role }
+    ensures { OnOk result (string_bytes out.new ≡ string_bytes out.old ++ html_head text.now role (step_of step.now).conclusion) }
 {
     out.push_str(Markup::HtmlOpen.text())?;
-    push_claim(alloc, out, Form::Html, text, step)?;
+    push_claim(alloc, out, Form::Html, text, step, role)?;
     out.push_str(Markup::HtmlRule.text())?;
     out.push_str(rule_of(step))?;
     out.push_str(Markup::HtmlLine.text())
@@ -192,14 +224,16 @@ fn push_behind(
     text: &str,
     step: &Step,
     count: usize,
+    role: Role,
 ) -> Result<(), AllocError>
-    requires { StepStandsIn text.now step.now }
-    ensures { OnOk result (string_bytes out.new ≡ string_bytes out.old ++ behind form text.now count (step_of step.now).conclusion) }
+    requires whole_characters { StepStandsIn text.now step.now }
+    requires role { RoleStandsIn text.now role }
+    ensures { OnOk result (string_bytes out.new ≡ string_bytes out.old ++ behind form text.now count role (step_of step.now).conclusion) }
 {
     match form {
         Form::Text => Ok(()),
         Form::Html => out.push_str(Markup::HtmlEnd.text()),
-        Form::Latex => push_latex_step(alloc, out, text, step, count),
+        Form::Latex => push_latex_step(alloc, out, text, step, count, role),
     }
 }
 
@@ -209,14 +243,16 @@ fn push_latex_step(
     text: &str,
     step: &Step,
     count: usize,
+    role: Role,
 ) -> Result<(), AllocError>
-    requires { StepStandsIn text.now step.now }
-    ensures { OnOk result (string_bytes out.new ≡ string_bytes out.old ++ latex_step text.now count (step_of step.now).conclusion) }
+    requires whole_characters { StepStandsIn text.now step.now }
+    requires role { RoleStandsIn text.now role }
+    ensures { OnOk result (string_bytes out.new ≡ string_bytes out.old ++ latex_step text.now count role (step_of step.now).conclusion) }
 {
     push_axiom(out, count)?;
     let packs = count.saturating_sub(2) / 4;
     push_packs(out, packs)?;
-    push_latex_claim(alloc, out, text, step, count - 4 * packs)
+    push_latex_claim(alloc, out, text, step, count - 4 * packs, role)
 }
 
 /// Writes the conclusion of a step with this many premises, with the name of its rule next to the line.
@@ -226,16 +262,18 @@ fn push_latex_claim(
     text: &str,
     step: &Step,
     count: usize,
+    role: Role,
 ) -> Result<(), AllocError>
-    requires { StepStandsIn text.now step.now }
-    ensures { OnOk result (string_bytes out.new ≡ string_bytes out.old ++ latex_claim text.now count (step_of step.now).conclusion) }
+    requires whole_characters { StepStandsIn text.now step.now }
+    requires role { RoleStandsIn text.now role }
+    ensures { OnOk result (string_bytes out.new ≡ string_bytes out.old ++ latex_claim text.now count role (step_of step.now).conclusion) }
 {
     out.push_str(Markup::LatexRule.text())?;
     out.push_str(rule_of(step))?;
     out.push_str(Markup::LatexLine.text())?;
     out.push_str(arity(count))?;
     out.push_str(Markup::LatexTerm.text())?;
-    push_claim(alloc, out, Form::Latex, text, step)?;
+    push_claim(alloc, out, Form::Latex, text, step, role)?;
     out.push_str(Markup::LatexEnd.text())
 }
 
@@ -279,23 +317,34 @@ fn push_claim(
     form: Form,
     text: &str,
     step: &Step,
+    role: Role,
 ) -> Result<(), AllocError>
-    requires { StepStandsIn text.now step.now }
-    ensures { OnOk result (string_bytes out.new ≡ string_bytes out.old ++ written form (claim_text text.now (step_of step.now).conclusion)) }
+    requires whole_characters { StepStandsIn text.now step.now }
+    requires role { RoleStandsIn text.now role }
+    ensures { OnOk result (string_bytes out.new ≡ string_bytes out.old ++ written form (claim_text text.now role (step_of step.now).conclusion)) }
 {
-    let claim = claim_of(alloc, text, step)?;
+    let claim = claim_as(alloc, text, step, role)?;
     push_written(out, form, &claim)
 }
 
-/// Returns the conclusion of a step as text.
+/// Returns the conclusion of a step as text, with its term as it is written.
 pub fn claim_of(alloc: Global, text: &str, step: &Step) -> Result<String, AllocError>
     requires { StepStandsIn text.now step.now }
-    ensures { IfOk result (λ claim. string_bytes claim ≡ claim_text text.now (step_of step.now).conclusion) }
+    ensures { IfOk result (λ claim. string_bytes claim ≡ claim_text text.now Role.Other (step_of step.now).conclusion) }
+{
+    claim_as(alloc, text, step, Role::Other)
+}
+
+/// Returns the conclusion of a step about a term with this role as text.
+fn claim_as(alloc: Global, text: &str, step: &Step, role: Role) -> Result<String, AllocError>
+    requires whole_characters { StepStandsIn text.now step.now }
+    requires role { RoleStandsIn text.now role }
+    ensures { IfOk result (λ claim. string_bytes claim ≡ claim_text text.now role (step_of step.now).conclusion) }
 {
     let mut claim = String::new(alloc);
     match step {
         Step::Typing { span, ty, .. } => {
-            push_term(&mut claim, text, *span)?;
+            push_shown_term(alloc, &mut claim, text, role, *span)?;
             claim.push_str(" : ")?;
             claim.push_str(&plain_text_of(alloc, ty)?)?;
         }
@@ -306,32 +355,6 @@ pub fn claim_of(alloc: Global, text: &str, step: &Step) -> Result<String, AllocE
         }
     }
     Ok(claim)
-}
-
-/// Appends the term at a span, on one line.
-fn push_term(out: &mut String, text: &str, span: Span) -> Result<(), AllocError>
-    requires { IsSpanOfText text.now span }
-    ensures { OnOk result (string_bytes out.new ≡ string_bytes out.old ++ term_text text.now span) }
-{
-    if span.end < span.start {
-        return Ok(());
-    }
-    push_flat(out, &text[span.start..span.end])
-}
-
-fn push_flat(out: &mut String, line: &str) -> Result<(), AllocError>
-    ensures { OnOk result (string_bytes out.new ≡ string_bytes out.old ++ encode_utf8_all (map flat (chars line.now))) }
-{
-    for c in line.chars() {
-        out.push(flat(c))?;
-    }
-    Ok(())
-}
-
-fn flat(c: char) -> char
-    ensures { result ≡ flat c }
-{
-    if c.is_control() { ' ' } else { c }
 }
 
 /// The name of the rule of a step.

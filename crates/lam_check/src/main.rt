@@ -18,6 +18,7 @@ mod read_derivations;
 mod read_values;
 mod reports;
 mod sent;
+mod terms;
 mod types;
 mod verdicts;
 mod verify;

@@ -14,12 +14,53 @@ local function column(buffer, position, encoding)
   return found and byte or #line
 end
 
--- The text of a range, on one line.
-local function text_of(buffer, range, encoding)
-  local from, to = range.start, range["end"]
+-- The text between two positions, on one line.
+local function text_between(buffer, from, to, encoding)
   local first, last = column(buffer, from, encoding), column(buffer, to, encoding)
   local lines = vim.api.nvim_buf_get_text(buffer, from.line, first, to.line, last, {})
-  local text = table.concat(lines, " "):gsub("%s+", " ")
+  return (table.concat(lines, " "):gsub("%s+", " "))
+end
+
+-- A text with a blank in place of each comment. Comments nest.
+local function without_comments(text)
+  local parts, depth, at = {}, 0, 1
+  while at <= #text do
+    local mark = text:sub(at, at + 1)
+    if mark == "/*" or mark == "*/" then
+      depth = depth + (mark == "/*" and 1 or -1)
+      at = at + 2
+    else
+      table.insert(parts, depth == 0 and text:sub(at, at) or " ")
+      at = at + 1
+    end
+  end
+  return (table.concat(parts):gsub("%s+", " "))
+end
+
+-- The `x:T` of a `letrec x:T = ..` with the first range, whose first term has the second one; nil for a `let`.
+local function binder(buffer, whole, first, encoding)
+  return without_comments(text_between(buffer, whole.start, first.start, encoding)):match("^[ (]*letrec (.-) ?=")
+end
+
+-- What the term of the first premise of a step is to a `let`: the term that it binds, or what a bound `fix` is applied to; otherwise nil.
+local function first_role(step, role)
+  if step.rule == "T-Let" then
+    return { bound = true, whole = step.range }
+  elseif step.rule == "T-Sub" then
+    return role
+  elseif step.rule == "T-Fix" and role and role.bound then
+    return { bound = false, whole = role.whole }
+  end
+end
+
+-- The text of the term at a range, on one line. What a `letrec x:T = t` is short for is shown in full, `fix (lambda x:T. t)`.
+local function text_of(buffer, range, role, encoding)
+  local text = text_between(buffer, range.start, range["end"], encoding)
+  local name = role and binder(buffer, role.whole, range, encoding)
+  if name then
+    text = "lambda " .. name .. ". " .. text
+    text = role.bound and "fix (" .. text .. ")" or text
+  end
   if vim.fn.strchars(text) > WIDTH then
     text = vim.fn.strcharpart(text, 0, WIDTH - 3) .. "..."
   end
@@ -54,14 +95,14 @@ local function draw(buffer, derivation, encoding)
     local step = derivation.steps[this.number]
     local says
     if step.range then
-      says = text_of(buffer, step.range, encoding) .. " : " .. step.type
+      says = text_of(buffer, step.range, this.role, encoding) .. " : " .. step.type
       places[#lines + 1] = step.range.start
     else
       says = step.lower .. " <: " .. step.upper
     end
     table.insert(lines, ("  "):rep(this.depth) .. step.rule .. "  " .. says)
     for at = #step.from, 1, -1 do
-      table.insert(waiting, { number = step.from[at] + 1, depth = this.depth + 1 })
+      table.insert(waiting, { number = step.from[at] + 1, depth = this.depth + 1, role = at == 1 and first_role(step, this.role) or nil })
     end
   end
   return lines, places

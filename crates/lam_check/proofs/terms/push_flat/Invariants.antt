@@ -1,7 +1,7 @@
 use Rattle.std.proofs.Common.{◌≡◌, ◌++◌, length, drop, map, string_bytes}
 use Rattle.std.specs.Str.{chars, encode_utf8_all}
-use Rattle.lam_check.specs.Drawings.{flat}
-use Rattle.lam_check.proofs.drawings.push_flat.Given as goal
+use Rattle.lam_check.specs.Terms.{flat}
+use Rattle.lam_check.proofs.terms.push_flat.Given as goal
 
 -- what is written, and the characters that are left, are all
 abbrev pub invariant-loop-c : goal.invariant-loop-c

@@ -3,9 +3,9 @@ use Rattle.std.proofs.lemmas.Iterator.{YieldsList-from_chars}
 use Rattle.std.proofs.lemmas.Iterator.Consumers.{YieldsList-turn, YieldsList-end}
 use Rattle.std.proofs.lemmas.List.{length_push}
 use Rattle.std.specs.Str.{chars}
-use Rattle.lam_check.specs.Drawings.{flat}
+use Rattle.lam_check.specs.Terms.{flat}
 use Rattle.lam_check.proofs.Writing.{chars_more, chars_all}
-use Rattle.lam_check.proofs.drawings.push_flat.Goals as goal
+use Rattle.lam_check.proofs.terms.push_flat.Goals as goal
 
 pub loop-c-preserved : goal.loop-c-preserved
 loop-c-preserved c =
