@@ -189,16 +189,16 @@ one_marked m marks s z y n v was now numbers at same agree x k is un = by (bytes
         ap Some (same (marked_here marks n v (ap (λ j. get_or (set marks n v) j true) (sym here) ∙ un)))
     by false e =
         let differ : n ≡ k → ⊥ = λ one.
-            let names : y ≡ x = numbers.own y x k (at ∙ ap Some one) is in
-            let both : true ≡ false = sym ((bytes_eq-Decides y x).1 names) ∙ e in
-            cc in
+        let names : y ≡ x = numbers.own y x k (at ∙ ap Some one) is in
+        let both : true ≡ false = sym ((bytes_eq-Decides y x).1 names) ∙ e in
+        cc in
         agree x k is (sym (get_or-set_other marks n k v true (λ one. differ (sym one))) ∙ un)
 
 -- A command binds one name, which has an entry now and had one then: it is marked, unless both are the same.
 agree_bound : (b : Bound) (old now : ChangedNames) (s z : Sight) (c : CommandTree) (binds : Option NameNo) (v : Bool) (before after : Option Typ) → HaveNumbers b
     → IsBinding b c binds → IsMarked binds v old now → (v ≡ false → before ≡ after) → AgreeOnUnchanged b old s z
     → AgreeOnUnchanged b now (record { names = with_entry (name_bound c) before s.names; types = with_entry (type_name_bound c) before s.types })
-        (record { names = with_entry (name_bound c) after z.names; types = with_entry (type_name_bound c) after z.types })
+    (record { names = with_entry (name_bound c) after z.names; types = with_entry (type_name_bound c) after z.types })
 agree_bound b old now s z c None v before after numbers binding marked same agree = record {
   names = none_marked b.names now.names.items s.names z.names (name_bound c) before after binding.0
       (subst (λ m. AgreeByMarks b.names m.names.items s.names z.names) marked agree.names);

@@ -177,19 +177,47 @@ impl<'t> Analyst<'t> {
         ensures sound { OnOk result (IsSound self.new) }
         ensures dialect { dialect_in self.new.types ≡ dialect_in self.old.types }
     {
+        let bytes = self.rows[number].end;
+        let Some(command) = &self.rows[number].command else {
+            self.end += bytes;
+            return Ok(());
+        };
+        if changed.has_any(&command.asks) {
+            return self.type_again(text, number, changed);
+        }
+        let binds = command.binds;
+        let entry = command.found.bound();
+        self.end += bytes;
+        self.bound.rebind(binds, entry);
+        changed.set(binds, false);
+        Ok(())
+    }
+
+    /// Rebuilds the row at this index from its piece. It is not inlined, so that the pass over rows that stay has a small frame.
+    #[inline(never)]
+    fn type_again(
+        &mut self,
+        text: &'t str,
+        number: usize,
+        changed: &mut ChangedNames,
+    ) -> Result<(), AllocError>
+        requires sound { IsSound self.old }
+        requires inside { number < length self.old.rows.items }
+        requires followed { (ts : List Typ) × (b : Bound) × IsFollowedTo text.now number ts b (AgreeOnUnchanged b changed.old) self.old }
+        ensures followed { OnOk result ((ts : List Typ) (b : Bound) → IsFollowedTo text.now number ts b (AgreeOnUnchanged b changed.old) self.old → IsFollowedTo text.now (number + 1) ts b (AgreeOnUnchanged b changed.new) self.new) }
+        ensures count { OnOk result (length self.new.rows.items ≡ length self.old.rows.items) }
+        ensures sound { OnOk result (IsSound self.new) }
+        ensures dialect { dialect_in self.new.types ≡ dialect_in self.old.types }
+    {
         let start = self.end;
-        self.end += self.rows[number].end;
+        let bytes = self.rows[number].end;
+        self.end += bytes;
+        self.read = self.read.saturating_add(bytes);
         let Some(command) = &self.rows[number].command else {
             return Ok(());
         };
         let binds = command.binds;
         let entry = command.found.bound();
-        if !changed.has_any(&command.asks) {
-            self.bound.rebind(binds, entry);
-            changed.set(binds, false);
-            return Ok(());
-        }
-        self.read = self.read.saturating_add(self.rows[number].end);
         let command = command_in(self.alloc, &text[start..self.end], 0)?;
         let row = self.keep(&command)?;
         changed.set(binds, entry_of(&row) != entry);
