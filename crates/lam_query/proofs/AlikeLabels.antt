@@ -31,7 +31,7 @@ use Rattle.lam_query.proofs.RowsAndTerms.{place_told, get_or-told}
 use Rattle.lam_query.proofs.SameTerms.{same_terms, least_same, least_back}
 use Rattle.lam_query.proofs.SeenAlike.{IsSeenAlike, IsSameTerm}
 use Rattle.lam_query.proofs.Small.{none_too_large}
-use Rattle.lam_query.proofs.TermsAlone.{bare, commands_alone}
+use Rattle.lam_query.proofs.TermsAlone.{bare, same_own, commands_alone}
 use Rattle.lam_query.proofs.NoneLarge.{none_of_both}
 
 -- ---- places that have the same least types
@@ -99,9 +99,6 @@ with_here p e = placed (record (term_of p) { place = record { scope = (term_of p
 
 same_bare : (p : PlacedTree) (e : Term) → bare (with_here p e) ≡ bare p
 same_bare (placed t ps) e = refl
-
-bare_own : (p : PlacedTree) → (term_of (bare p)).own ≡ (term_of p).own
-bare_own (placed t ps) = refl
 
 -- ---- the command behind its stand-ins, and in its text
 
@@ -288,7 +285,7 @@ module _ (done pre : List CommandTree) (g h : Context) (c : CommandTree) (rest :
       let q = tree_in (document_terms Alone) n in
       let inside : before + n < length (document_terms Whole) =
       omega (arith, lt, more_count, length-map More place_of, ap length (terms_append done (c ∷ rest)), length-append (document_terms done) More) in
-      projection_of Whole (before + n) s inside (sym (bare_own p) ∙ ap (λ t. (term_of t).own) (same n lt).same ∙ bare_own q ∙ is)
+      projection_of Whole (before + n) s inside (sym (same_own p) ∙ ap (λ t. (term_of t).own) (same n lt).same ∙ same_own q ∙ is)
 
   pub listed_there : (n : ℕ) (items : List Item) → n < count → IsProjection Whole (before + n) → behind ≡ None → AreListed Alone n items d → AreListed Whole (before + n) items d
   listed_there n items lt q none (fields p small are) = fields q (small_there n (omega (arith, lt)) none small) (fields_there n lt p q items are)
