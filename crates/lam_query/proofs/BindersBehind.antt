@@ -568,7 +568,7 @@ module _ (text : List ℕ) (a : Analysis) (h : IsAnalysisOf text a) (i : ℕ) (l
 
   -- the binders so far and its own, if its command binds a name
 
-  pub no_command_seen : r.command ≡ None → AreSeenSoFar text a (i + 1) (start + r.end) bs
+  no_command_seen : r.command ≡ None → AreSeenSoFar text a (i + 1) (start + r.end) bs
   no_command_seen without =
       subst (λ (q : RustRow). AreSeenSoFar text a (i + 1) (start + q.end) bs) (sym is)
       (without_command text a h i e lt start bs so_far (ap (λ (q : RustRow). option_map command_row_of q.command) (sym is) ∙ ap (option_map command_row_of) without))
@@ -577,7 +577,7 @@ module _ (text : List ℕ) (a : Analysis) (h : IsAnalysisOf text a) (i : ℕ) (l
     kept : option_map command_row_of (get_or a.rows.items i e).command ≡ Some (command_row_of k)
     kept = ap (λ (q : RustRow). option_map command_row_of q.command) (sym is) ∙ ap (option_map command_row_of) command
 
-    pub no_name_seen : ((n : ℕ) → k.binds ≡ Some (number.Name n) → ⊥) → AreSeenSoFar text a (i + 1) (start + r.end) bs
+    no_name_seen : ((n : ℕ) → k.binds ≡ Some (number.Name n) → ⊥) → AreSeenSoFar text a (i + 1) (start + r.end) bs
     no_name_seen without =
         subst (λ (q : RustRow). AreSeenSoFar text a (i + 1) (start + q.end) bs) (sym is) (without_name text a h i e lt start bs so_far k kept without)
 
@@ -589,3 +589,11 @@ module _ (text : List ℕ) (a : Analysis) (h : IsAnalysisOf text a) (i : ℕ) (l
     name_seen_there n binds b piece letters some none entry =
         subst (λ (q : RustRow). AreSeenSoFar text a (i + 1) (start + q.end) (bs ++ b ∷ [])) (sym is)
         (with_name text a h i e lt start bs so_far k kept n binds b piece (letters ∙ ap (λ (q : RustRow). slice_range text start (start + q.end)) is) some none entry)
+
+  -- the piece binds no name
+  pub without_seen : ((k : RustCommandRow) (n : ℕ) → r.command ≡ Some k → k.binds ≡ Some (number.Name n) → ⊥) → AreSeenSoFar text a (i + 1) (start + r.end) bs
+  without_seen without = by r.command refl
+    where
+      by : (o : Option RustCommandRow) → r.command ≡ o → AreSeenSoFar text a (i + 1) (start + r.end) bs
+      by None command = no_command_seen command
+      by (Some k) command = no_name_seen k command (λ n binds. without k n command binds)

@@ -14,7 +14,6 @@ ghost use Rattle.lam_query.specs.inner.Rows.{Front, nothing, AreRowsFrom};
 ghost use Rattle.lam_query.specs.inner.SeenBinders.{name_seen, entries_seen, AreBindersBehind, AreEntriesBehind};
 
 use crate::analyses::Analysis;
-use crate::bound::NameNo;
 use lam_rules::TyNo;
 use lam_scope::{Binder, Place, Scopes};
 use lam_token::first_token;
@@ -49,13 +48,9 @@ impl Analysis {
         let mut start = 0;
         for i in 0..number {
             let row = &self.rows[i];
-            if let Some(command) = &row.command {
-                if let Some(NameNo::Name(_)) = command.binds {
-                    binders.push(SeenBinder {
-                        name: first_word(&text[start..start + row.end]),
-                        entry: command.found.bound(),
-                    })?;
-                }
+            if let Some(entry) = row.name_entry() {
+                let name = first_word(&text[start..start + row.end]);
+                binders.push(SeenBinder { name, entry })?;
             }
             start += row.end;
         }

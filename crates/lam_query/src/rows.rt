@@ -4,6 +4,8 @@ ghost use Rattle.std.specs.Option.{option_map};
 ghost use Rattle.lam_rules.specs.Types.{Typ};
 ghost use Rattle.lam_rules.specs.declared.rules.Dialect.{Dialect};
 ghost use Rattle.lam_query.specs.Views.{fault_of};
+ghost use Rattle.lam_query.specs.declared.bound.NameNo.TheVariants.{Name as NameNumber};
+ghost use Rattle.lam_query.specs.declared.rows.CommandRow.{CommandRow as RustCommandRow};
 ghost use Rattle.lam_query.specs.inner.Kept.{FoundTypes as KeptTypes, found_of, found_types_of, row_of, rows_of, placed, span_after, Fits, bound_by, found_in, large_written_type, large_term, types_of_found, faults_found, bytes_of};
 ghost use Rattle.lam_query.specs.inner.Rows.{Front, nothing, AreRowsFrom, IsRowAround};
 
@@ -72,6 +74,20 @@ impl Row {
         let command = self.command.as_ref()?;
         match &command.found {
             Found::Types(found) => Some(found),
+            _ => None,
+        }
+    }
+
+    /// The context entry of the name that its command binds; `None` if it binds no name.
+    pub(crate) fn name_entry(&self) -> Option<Option<TyNo>>
+        ensures some { IfSome result (λ entry. (k : RustCommandRow) × (n : ℕ) × (self.now.command ≡ Some k) × (k.binds ≡ Some (NameNumber n)) × (entry ≡ bound_by (found_of k.found))) }
+        ensures none { IfNone result ((k : RustCommandRow) (n : ℕ) → self.now.command ≡ Some k → k.binds ≡ Some (NameNumber n) → ⊥) }
+    {
+        let Some(command) = &self.command else {
+            return None;
+        };
+        match command.binds {
+            Some(NameNo::Name(_)) => Some(command.found.bound()),
             _ => None,
         }
     }
