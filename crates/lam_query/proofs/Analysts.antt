@@ -25,11 +25,11 @@ use Rattle.lam_query.specs.Analyses.{IsAnalysisOf}
 use Rattle.lam_query.specs.SyntaxFaults.{AreSyntaxFaults}
 use Rattle.lam_query.specs.Views.{fault_of}
 use Rattle.lam_query.specs.inner.Analysts.{IsSound, IsBoundAs, IsKeptBy, IsRowAdded, IsPieceEnded, IsReadTo, IsReadThrough, IsReadOn}
-use Rattle.lam_query.specs.inner.Bound.{number_of, found_over, AllStand, HaveNumbers, KeepsNumbers, IsBinding, IsBoundAfter}
+use Rattle.lam_query.specs.inner.Bound.{meaning_of, found_over, AllStand, HaveNumbers, KeepsNumbers, IsBinding, IsBoundAfter}
 use Rattle.lam_query.specs.inner.Entered.{Lookup}
 use Rattle.lam_query.specs.inner.Kept.{CommandRow, bound_by, row_of, rows_of, placed, first_large, all_syntax, all_faults}
 use Rattle.lam_query.specs.inner.OnePiece.{IsOwnOf}
-use Rattle.lam_query.specs.inner.PieceRows.{Sight, outset, sight_with, IsEnded, AreAsked, AreRows, joined}
+use Rattle.lam_query.specs.inner.PieceRows.{Sight, outset, sight_with, IsEnded, AreFreeNumbers, AreRows, joined}
 use Rattle.lam_query.specs.inner.Reading.{AreRead, AreAllRead, IsNextPiece}
 use Rattle.lam_query.specs.inner.Rows.{IsFoundOf}
 use Rattle.lam_query.proofs.BoundNames.{unbound_as, stand_kept, bound_as_kept, bound_as_after, stand_after, bound_stands, numbers_trans}
@@ -39,7 +39,7 @@ use Rattle.lam_query.proofs.PieceRowLists.{joined_append, rows_push, rows_keep, 
 -- ---- nothing was read yet
 
 pub nothing_read : (text : List ℕ) (a : Analyst) → AreRead [] [] a.reader → a.reader.piece.items ≡ [] → a.rows.items ≡ [] → a.end ≡ 0
-    → ((x : Name) → (number_of a.bound.names x ≡ None) × (number_of a.bound.type_names x ≡ None)) → IsReadTo [] outset text text a
+    → ((x : Name) → (meaning_of a.bound.names x ≡ None) × (meaning_of a.bound.type_names x ≡ None)) → IsReadTo [] outset text text a
 nothing_read text a read piece rows end none = record {
   ahead_is_text = IsUtf8-nil;
   pieces = [];
@@ -56,7 +56,7 @@ nothing_read text a read piece rows end none = record {
 
 -- names mean the same under their numbers
 abbrev pub MeanAsBefore : (old now : Bound) → Type 0
-MeanAsBefore old now = (x : Name) → (number_of now.names x ≡ number_of old.names x) × (number_of now.type_names x ≡ number_of old.type_names x)
+MeanAsBefore old now = (x : Name) → (meaning_of now.names x ≡ meaning_of old.names x) × (meaning_of now.type_names x ≡ meaning_of old.type_names x)
 
 pub same_stand : (ts : List Typ) (old now : Bound) → MeanAsBefore old now → AllStand ts old → AllStand ts now
 same_stand ts old now same stand = record {
@@ -72,7 +72,7 @@ same_bound names types ts old now same bound = record {
 
 -- its names were numbered, it was typed, and what it binds was bound
 module _ (c : CommandTree) (row : CommandRow) (old now : Analyst) (numbered : Bound) (sound : IsSound old) (types : IsSoundChecker now.types)
-    (asked : AreAsked numbered c row.asks) (same : MeanAsBefore old.bound numbered) (first : KeepsNumbers old.bound numbered)
+    (asked : AreFreeNumbers numbered c row.free_numbers) (same : MeanAsBefore old.bound numbered) (first : KeepsNumbers old.bound numbered)
     (found : (names others : Lookup) → IsBoundAs names others (types_in old.types) numbered → IsFoundOf names others c (types_in now.types) row.found (dialect_in old.types))
     (keeps : Keeps (types_in old.types) (types_in now.types)) (dialect : dialect_in now.types ≡ dialect_in old.types)
     (binding : IsBinding now.bound c row.binds) (after : IsBoundAfter c (bound_by row.found) numbered now.bound)
@@ -84,7 +84,7 @@ module _ (c : CommandTree) (row : CommandRow) (old now : Analyst) (numbered : Bo
     kept = λ names others bound.
         subst (IsFoundOf names others c (types_in now.types) row.found) (sym dialect)
         (found names others (same_bound names others (types_in old.types) old.bound numbered same bound));
-    its_numbers = (binding, asked_keep numbered now.bound c row.asks second asked);
+    its_numbers = (binding, asked_keep numbered now.bound c row.free_numbers second asked);
     bound = λ names others bound.
         bound_as_after names others c (types_in now.types) (bound_by row.found) numbered now.bound
         (bound_as_kept names others (types_in old.types) (types_in now.types) numbered keeps
@@ -253,8 +253,8 @@ module _ (ahead : List ℕ) (s : Sight) (text rest : List ℕ) (a now : Analyst)
 
 pub all_read : (text : List ℕ) (a : Analyst) (made : Analysis) → IsUtf8 text → IsReadThrough [] outset text a → IsSound a
     → made.rows ≡ a.rows → made.types ≡ a.types → made.bound ≡ a.bound → made.dialect ≡ dialect_in a.types
-    → made.told.large ≡ first_large (placed 0 (rows_of a.rows.items)) → map fault_of made.told.syntax.items ≡ all_syntax (placed 0 (rows_of a.rows.items))
-    → (made.told.large ≡ None → map fault_of made.told.types.items ≡ all_faults (placed 0 (rows_of a.rows.items))) → IsAnalysisOf text made
+    → made.row_faults.large ≡ first_large (placed 0 (rows_of a.rows.items)) → map fault_of made.row_faults.syntax.items ≡ all_syntax (placed 0 (rows_of a.rows.items))
+    → (made.row_faults.large ≡ None → map fault_of made.row_faults.types.items ≡ all_faults (placed 0 (rows_of a.rows.items))) → IsAnalysisOf text made
 all_read text a made is_text h sound rows types bound dialect large syntax found = record {
   is_text = is_text;
   ended = h.ended;

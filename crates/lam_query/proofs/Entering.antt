@@ -17,7 +17,7 @@ use Rattle.lam_typing.proofs.Growing.{context-push, all_stand_push}
 use Rattle.lam_query.specs.declared.bound.Bound.{Bound}
 use Rattle.lam_query.specs.declared.bound.Meanings.{Meanings}
 use Rattle.lam_query.specs.declared.bound.Surroundings.{Surroundings}
-use Rattle.lam_query.specs.inner.Bound.{number_of, found_over, NumbersStandIn, IsSurroundedBy}
+use Rattle.lam_query.specs.inner.Bound.{meaning_of, found_over, NumbersStandIn, IsSurroundedBy}
 use Rattle.lam_query.specs.inner.Entered.{entered_first, entered, names_onto, entries_onto, abbreviations_onto}
 
 -- the names that are borrowed
@@ -35,14 +35,14 @@ name_at names i d = (get_or names i d).now
 -- one name more
 
 module _ (known : Meanings) (names : List (Bor (List ℕ))) (i : ℕ) (d : Bor (List ℕ)) (inside : i < length names) where
-  next_found : (ts : List Typ) (o : Option (Option TyNo)) → o ≡ number_of known (name_at names i d)
+  next_found : (ts : List Typ) (o : Option (Option TyNo)) → o ≡ meaning_of known (name_at names i d)
       → found_of ts known (drop i names) ≡ entered_first (name_at names i d) (option_map (answer ts) o) (found_of ts known (drop (i + 1) names))
   next_found ts o here =
       at_drop_more (found_of ts known) names i d inside
       ∙ ap (λ p. entered_first (name_at names i d) (option_map (answer ts) p) (found_of ts known (drop (i + 1) names))) (sym here)
 
 -- what is kept for a name stands for a type
-kept_stands : (ts : List Typ) (known : Meanings) (x : Name) (number : Option TyNo) → NumbersStandIn ts known → Some number ≡ number_of known x → StandsIfAny ts number
+kept_stands : (ts : List Typ) (known : Meanings) (x : Name) (number : Option TyNo) → NumbersStandIn ts known → Some number ≡ meaning_of known x → StandsIfAny ts number
 kept_stands ts known x number stand here = subst (λ o. IfSome o (StandsIfAny ts)) (sym here) (stand x)
 
 -- ---- names, with their entries
@@ -56,7 +56,7 @@ pub record AreEntered (known : Meanings) (names left : List (Bor (List ℕ))) (o
   pub type_names_stand : (ts : List Typ) → TypeNamesStand ts old → TypeNamesStand ts now
 
 module _ (known : Meanings) (names : List (Bor (List ℕ))) (i : ℕ) (d : Bor (List ℕ)) (inside : i < length names) where
-  pub unknown_passed : (old now : Environment) (entries : List (Option TyNo)) → None ≡ number_of known (name_at names i d)
+  pub unknown_passed : (old now : Environment) (entries : List (Option TyNo)) → None ≡ meaning_of known (name_at names i d)
       → AreEntered known names (drop i names) old now entries → AreEntered known names (drop (i + 1) names) old now entries
   unknown_passed old now entries here so_far = record {
     names_all = λ ts. ap (names_onto (names_seen now)) (sym (next_found known names i d inside ts None here)) ∙ so_far.names_all ts;
@@ -66,7 +66,7 @@ module _ (known : Meanings) (names : List (Bor (List ℕ))) (i : ℕ) (d : Bor (
     type_names_stand = so_far.type_names_stand;
   }
 
-  pub name_entered : (old now more : Environment) (entries longer : List (Option TyNo)) (number : Option TyNo) → Some number ≡ number_of known (name_at names i d)
+  pub name_entered : (old now more : Environment) (entries longer : List (Option TyNo)) (number : Option TyNo) → Some number ≡ meaning_of known (name_at names i d)
       → names_seen more ≡ Some (name_at names i d) ∷ names_seen now
       → ((ts : List Typ) → abbreviations_seen ts more ≡ abbreviations_seen ts now) → ((ts : List Typ) → TypeNamesStand ts now → TypeNamesStand ts more)
       → longer ≡ entries ++ number ∷ []
@@ -95,7 +95,7 @@ pub record AreTypesEntered (known : Meanings) (names left : List (Bor (List ℕ)
   pub names_same : names_seen now ≡ names_seen old
 
 module _ (known : Meanings) (names : List (Bor (List ℕ))) (i : ℕ) (d : Bor (List ℕ)) (inside : i < length names) where
-  pub unknown_type_passed : (old now : Environment) → None ≡ number_of known (name_at names i d)
+  pub unknown_type_passed : (old now : Environment) → None ≡ meaning_of known (name_at names i d)
       → AreTypesEntered known names (drop i names) old now → AreTypesEntered known names (drop (i + 1) names) old now
   unknown_type_passed old now here so_far = record {
     types_all = λ ts. ap (abbreviations_onto (abbreviations_seen ts now)) (sym (next_found known names i d inside ts None here)) ∙ so_far.types_all ts;
@@ -103,7 +103,7 @@ module _ (known : Meanings) (names : List (Bor (List ℕ))) (i : ℕ) (d : Bor (
     names_same = so_far.names_same;
   }
 
-  pub type_name_entered : (old now more : Environment) (number : Option TyNo) → Some number ≡ number_of known (name_at names i d)
+  pub type_name_entered : (old now more : Environment) (number : Option TyNo) → Some number ≡ meaning_of known (name_at names i d)
       → ((ts : List Typ) → abbreviations_seen ts more ≡ stands_for (name_at names i d) (answer ts number) ∷ abbreviations_seen ts now)
       → ((ts : List Typ) → TypeNamesStand ts now → StandsIfAny ts number → TypeNamesStand ts more) → names_seen more ≡ names_seen now
       → AreTypesEntered known names (drop i names) old now → AreTypesEntered known names (drop (i + 1) names) old more

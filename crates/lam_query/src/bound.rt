@@ -8,8 +8,8 @@ ghost use Rattle.lam_syntax.specs.Trees.{CommandTree};
 ghost use Rattle.lam_syntax.specs.Views.{command_of};
 ghost use Rattle.lam_typing.specs.Answers.{AllStandIn, context_under};
 ghost use Rattle.lam_query.specs.declared.bound.NameNo.TheVariants.{Name as NameNumber, TypeName as TypeNameNumber};
-ghost use Rattle.lam_query.specs.inner.Bound.{AreFreeIn, means, numbered, kept_under, number_of, AreNumbered, HaveNumbers, KeepsNumbers, IsBinding, found_over, NumbersStandIn, AllStand, IsSurroundedBy, IsSetIn, IsBoundAfter};
-ghost use Rattle.lam_query.specs.inner.PieceRows.{AreAsked};
+ghost use Rattle.lam_query.specs.inner.Bound.{AreFreeIn, means, number_of, kept_under, meaning_of, AreNumbered, HaveNumbers, KeepsNumbers, IsBinding, found_over, NumbersStandIn, AllStand, IsSurroundedBy, IsSetIn, IsBoundAfter};
+ghost use Rattle.lam_query.specs.inner.PieceRows.{AreFreeNumbers};
 ghost use Rattle.lam_query.specs.inner.Entered.{entered, names_onto, entries_onto, abbreviations_onto};
 
 use lam_rules::TyNo;
@@ -50,7 +50,7 @@ pub(crate) struct Surroundings<'a> {
 impl Bound {
     /// An empty table: nothing is bound, and no name has a number.
     pub(crate) fn new(alloc: Global) -> Bound
-        ensures bound { (x : Name) → (number_of result.names x ≡ None) × (number_of result.type_names x ≡ None) }
+        ensures bound { (x : Name) → (meaning_of result.names x ≡ None) × (meaning_of result.type_names x ≡ None) }
         ensures numbers { HaveNumbers result }
         ensures stand { (ts : List Typ) → AllStand ts result }
     {
@@ -62,7 +62,7 @@ impl Bound {
 
     /// Unbinds everything. Names keep their numbers.
     pub(crate) fn clear(&mut self)
-        ensures bound { (x : Name) → (number_of self.new.names x ≡ None) × (number_of self.new.type_names x ≡ None) }
+        ensures bound { (x : Name) → (meaning_of self.new.names x ≡ None) × (meaning_of self.new.type_names x ≡ None) }
         ensures keeps { KeepsNumbers self.old self.new }
         ensures numbers { HaveNumbers self.old → HaveNumbers self.new }
         ensures stand { (ts : List Typ) → AllStand ts self.new }
@@ -95,17 +95,17 @@ impl Bound {
         free: &FreeNames<'_>,
     ) -> Result<Vec<NameNo>, AllocError>
         requires { HaveNumbers self.old }
-        ensures asked { IfOk result (λ asks. (c : CommandTree) → AreFreeIn c free.now → AreAsked self.new c asks.items) }
-        ensures same { (n : Name) → (number_of self.new.names n ≡ number_of self.old.names n) × (number_of self.new.type_names n ≡ number_of self.old.type_names n) }
+        ensures asked { IfOk result (λ free_numbers. (c : CommandTree) → AreFreeIn c free.now → AreFreeNumbers self.new c free_numbers.items) }
+        ensures same { (n : Name) → (meaning_of self.new.names n ≡ meaning_of self.old.names n) × (meaning_of self.new.type_names n ≡ meaning_of self.old.type_names n) }
         ensures keeps { KeepsNumbers self.old self.new }
         ensures numbers { OnOk result (HaveNumbers self.new) }
     {
         let count = free.names.len().saturating_add(free.type_names.len());
-        let mut asks = Vec::with_capacity(alloc, count)?;
-        self.names.push_names(alloc, &free.names, &mut asks)?;
+        let mut free_numbers = Vec::with_capacity(alloc, count)?;
+        self.names.push_names(alloc, &free.names, &mut free_numbers)?;
         self.type_names
-            .push_type_names(alloc, &free.type_names, &mut asks)?;
-        Ok(asks)
+            .push_type_names(alloc, &free.type_names, &mut free_numbers)?;
+        Ok(free_numbers)
     }
 
     /// Returns the meaning of a name: `None` if it is unbound now, otherwise its context entry, which may itself be `None`.
@@ -113,8 +113,8 @@ impl Bound {
         ensures { result ≡ means self.now name }
     {
         match name {
-            NameNo::Name(place) => self.names.under(place),
-            NameNo::TypeName(place) => self.type_names.under(place),
+            NameNo::Name(number) => self.names.under(number),
+            NameNo::TypeName(number) => self.type_names.under(number),
         }
     }
 
@@ -123,21 +123,21 @@ impl Bound {
         &mut self,
         alloc: Global,
         command: &Command,
-        number: Option<TyNo>,
+        entry: Option<TyNo>,
     ) -> Result<Option<NameNo>, AllocError>
         requires { HaveNumbers self.old }
         ensures binding { IfOk result (IsBinding self.new (command_of command.now)) }
-        ensures bound { OnOk result (IsBoundAfter (command_of command.now) number self.old self.new) }
+        ensures bound { OnOk result (IsBoundAfter (command_of command.now) entry self.old self.new) }
         ensures keeps { OnOk result (KeepsNumbers self.old self.new) }
         ensures numbers { OnOk result (HaveNumbers self.new) }
     {
         match command {
-            Command::Definition(name, _) => self.bind_name(alloc, name, number),
-            Command::Declaration(name, _) => self.bind_name(alloc, name, number),
+            Command::Definition(name, _) => self.bind_name(alloc, name, entry),
+            Command::Declaration(name, _) => self.bind_name(alloc, name, entry),
             Command::Abbreviation(name, _) => {
-                let place = self.type_names.number_of(alloc, name.text.as_str())?;
-                self.type_names.set(place, number);
-                Ok(Some(NameNo::TypeName(place)))
+                let number = self.type_names.number_for(alloc, name.text.as_str())?;
+                self.type_names.set(number, entry);
+                Ok(Some(NameNo::TypeName(number)))
             }
             Command::Evaluation(_) => Ok(None),
         }
@@ -148,30 +148,30 @@ impl Bound {
         &mut self,
         alloc: Global,
         name: &Identifier,
-        number: Option<TyNo>,
+        entry: Option<TyNo>,
     ) -> Result<Option<NameNo>, AllocError>
         requires { HaveNumbers self.old }
-        ensures binding { IfOk result (λ b. (n : ℕ) × (b ≡ Some (NameNumber n)) × (numbered self.new.names (letters name.now.text) ≡ Some n)) }
-        ensures bound { OnOk result (IsSetIn (Some (letters name.now.text)) number self.old.names self.new.names) }
+        ensures binding { IfOk result (λ b. (n : ℕ) × (b ≡ Some (NameNumber n)) × (number_of self.new.names (letters name.now.text) ≡ Some n)) }
+        ensures bound { OnOk result (IsSetIn (Some (letters name.now.text)) entry self.old.names self.new.names) }
         ensures type_names { self.new.type_names ≡ self.old.type_names }
-        ensures keeps { OnOk result ((x : Name) (n : ℕ) → numbered self.old.names x ≡ Some n → numbered self.new.names x ≡ Some n) }
+        ensures keeps { OnOk result ((x : Name) (n : ℕ) → number_of self.old.names x ≡ Some n → number_of self.new.names x ≡ Some n) }
         ensures numbers { OnOk result (AreNumbered self.new.names) }
     {
-        let place = self.names.number_of(alloc, name.text.as_str())?;
-        self.names.set(place, number);
-        Ok(Some(NameNo::Name(place)))
+        let number = self.names.number_for(alloc, name.text.as_str())?;
+        self.names.set(number, entry);
+        Ok(Some(NameNo::Name(number)))
     }
 
     /// Binds again, by its number, what a command bound before.
-    pub(crate) fn rebind(&mut self, binding: Option<NameNo>, number: Option<TyNo>)
+    pub(crate) fn rebind(&mut self, binding: Option<NameNo>, entry: Option<TyNo>)
         requires { HaveNumbers self.old }
-        ensures bound { (c : CommandTree) → IsBinding self.old c binding → IsBoundAfter c number self.old self.new }
+        ensures bound { (c : CommandTree) → IsBinding self.old c binding → IsBoundAfter c entry self.old self.new }
         ensures keeps { KeepsNumbers self.old self.new }
         ensures numbers { HaveNumbers self.new }
     {
         match binding {
-            Some(NameNo::Name(place)) => self.names.set(place, number),
-            Some(NameNo::TypeName(place)) => self.type_names.set(place, number),
+            Some(NameNo::Name(number)) => self.names.set(number, entry),
+            Some(NameNo::TypeName(number)) => self.type_names.set(number, entry),
             None => {}
         }
     }
@@ -180,7 +180,7 @@ impl Bound {
 impl Meanings {
     /// An empty table: nothing is bound, and no name has a number.
     fn new(alloc: Global) -> Meanings
-        ensures numbered { (x : Name) → numbered result x ≡ None }
+        ensures numbered { (x : Name) → number_of result x ≡ None }
         ensures numbers { AreNumbered result }
     {
         Meanings {
@@ -190,25 +190,25 @@ impl Meanings {
     }
 
     /// Returns the number of a name, if it has one.
-    pub(crate) fn number(&self, name: &str) -> Option<usize>
-        ensures { result ≡ numbered self.now name.now }
+    pub(crate) fn number_of(&self, name: &str) -> Option<usize>
+        ensures { result ≡ number_of self.now name.now }
     {
         self.numbers.get(name).copied()
     }
 
     /// Returns the meaning of a name.
-    fn get(&self, name: &str) -> Option<Option<TyNo>>
-        ensures { result ≡ number_of self.now name.now }
+    fn meaning_of(&self, name: &str) -> Option<Option<TyNo>>
+        ensures { result ≡ meaning_of self.now name.now }
     {
-        let place = self.numbers.get(name)?;
-        self.under(*place)
+        let number = self.numbers.get(name)?;
+        self.under(*number)
     }
 
     /// Returns the meaning of the name with this number.
-    pub(crate) fn under(&self, place: usize) -> Option<Option<TyNo>>
-        ensures { result ≡ kept_under self.now place }
+    pub(crate) fn under(&self, number: usize) -> Option<Option<TyNo>>
+        ensures { result ≡ kept_under self.now number }
     {
-        match self.entries.get(place) {
+        match self.entries.get(number) {
             Some(entry) => *entry,
             None => None,
         }
@@ -226,18 +226,18 @@ impl Meanings {
         &mut self,
         alloc: Global,
         names: &[&str],
-        asks: &mut Vec<NameNo>,
+        free_numbers: &mut Vec<NameNo>,
     ) -> Result<(), AllocError>
         requires { AreNumbered self.old }
-        ensures asked { OnOk result ((x : Name) → Contains (map (λ y. y.now) names.now) x → (n : ℕ) × (numbered self.new x ≡ Some n) × Contains asks.new.items (NameNumber n)) }
-        ensures others { OnOk result ((n : NameNo) → Contains asks.old.items n → Contains asks.new.items n) }
-        ensures keeps { (x : Name) (n : ℕ) → numbered self.old x ≡ Some n → numbered self.new x ≡ Some n }
-        ensures same { (x : Name) → number_of self.new x ≡ number_of self.old x }
+        ensures asked { OnOk result ((x : Name) → Contains (map (λ y. y.now) names.now) x → (n : ℕ) × (number_of self.new x ≡ Some n) × Contains free_numbers.new.items (NameNumber n)) }
+        ensures others { OnOk result ((n : NameNo) → Contains free_numbers.old.items n → Contains free_numbers.new.items n) }
+        ensures keeps { (x : Name) (n : ℕ) → number_of self.old x ≡ Some n → number_of self.new x ≡ Some n }
+        ensures same { (x : Name) → meaning_of self.new x ≡ meaning_of self.old x }
         ensures numbers { OnOk result (AreNumbered self.new) }
     {
         for i in 0..names.len() {
-            let place = self.number_of(alloc, names[i])?;
-            asks.push(NameNo::Name(place))?;
+            let number = self.number_for(alloc, names[i])?;
+            free_numbers.push(NameNo::Name(number))?;
         }
         Ok(())
     }
@@ -247,55 +247,55 @@ impl Meanings {
         &mut self,
         alloc: Global,
         names: &[&str],
-        asks: &mut Vec<NameNo>,
+        free_numbers: &mut Vec<NameNo>,
     ) -> Result<(), AllocError>
         requires { AreNumbered self.old }
-        ensures asked { OnOk result ((x : Name) → Contains (map (λ y. y.now) names.now) x → (n : ℕ) × (numbered self.new x ≡ Some n) × Contains asks.new.items (TypeNameNumber n)) }
-        ensures others { OnOk result ((n : NameNo) → Contains asks.old.items n → Contains asks.new.items n) }
-        ensures keeps { (x : Name) (n : ℕ) → numbered self.old x ≡ Some n → numbered self.new x ≡ Some n }
-        ensures same { (x : Name) → number_of self.new x ≡ number_of self.old x }
+        ensures asked { OnOk result ((x : Name) → Contains (map (λ y. y.now) names.now) x → (n : ℕ) × (number_of self.new x ≡ Some n) × Contains free_numbers.new.items (TypeNameNumber n)) }
+        ensures others { OnOk result ((n : NameNo) → Contains free_numbers.old.items n → Contains free_numbers.new.items n) }
+        ensures keeps { (x : Name) (n : ℕ) → number_of self.old x ≡ Some n → number_of self.new x ≡ Some n }
+        ensures same { (x : Name) → meaning_of self.new x ≡ meaning_of self.old x }
         ensures numbers { OnOk result (AreNumbered self.new) }
     {
         for i in 0..names.len() {
-            let place = self.number_of(alloc, names[i])?;
-            asks.push(NameNo::TypeName(place))?;
+            let number = self.number_for(alloc, names[i])?;
+            free_numbers.push(NameNo::TypeName(number))?;
         }
         Ok(())
     }
 
     /// Returns the number of a name, and gives it one if it had none.
-    fn number_of(&mut self, alloc: Global, name: &str) -> Result<usize, AllocError>
+    fn number_for(&mut self, alloc: Global, name: &str) -> Result<usize, AllocError>
         requires { AreNumbered self.old }
-        ensures number { IfOk result (λ n. numbered self.new name.now ≡ Some n) }
-        ensures keeps { (x : Name) (n : ℕ) → numbered self.old x ≡ Some n → numbered self.new x ≡ Some n }
-        ensures same { (x : Name) → number_of self.new x ≡ number_of self.old x }
+        ensures number { IfOk result (λ n. number_of self.new name.now ≡ Some n) }
+        ensures keeps { (x : Name) (n : ℕ) → number_of self.old x ≡ Some n → number_of self.new x ≡ Some n }
+        ensures same { (x : Name) → meaning_of self.new x ≡ meaning_of self.old x }
         ensures numbers { OnOk result (AreNumbered self.new) }
     {
-        if let Some(place) = self.numbers.get(name) {
-            return Ok(*place);
+        if let Some(number) = self.numbers.get(name) {
+            return Ok(*number);
         }
-        let place = self.entries.len();
+        let number = self.entries.len();
         self.entries.push(None)?;
-        self.numbers.insert(String::from_str(alloc, name)?, place)?;
-        Ok(place)
+        self.numbers.insert(String::from_str(alloc, name)?, number)?;
+        Ok(number)
     }
 
     /// Binds the name with this number to this entry.
-    fn set(&mut self, place: usize, entry: Option<TyNo>)
+    fn set(&mut self, number: usize, entry: Option<TyNo>)
         requires { AreNumbered self.old }
-        ensures set { (x : Name) → numbered self.old x ≡ Some place → IsSetIn (Some x) entry self.old self.new }
-        ensures numbered { (x : Name) → numbered self.new x ≡ numbered self.old x }
+        ensures set { (x : Name) → number_of self.old x ≡ Some number → IsSetIn (Some x) entry self.old self.new }
+        ensures numbered { (x : Name) → number_of self.new x ≡ number_of self.old x }
         ensures numbers { AreNumbered self.new }
     {
-        if place < self.entries.len() {
-            self.entries[place] = Some(entry);
+        if number < self.entries.len() {
+            self.entries[number] = Some(entry);
         }
     }
 
     /// Unbinds everything. Names keep their numbers.
     fn clear(&mut self)
-        ensures bound { (x : Name) → number_of self.new x ≡ None }
-        ensures numbered { (x : Name) → numbered self.new x ≡ numbered self.old x }
+        ensures bound { (x : Name) → meaning_of self.new x ≡ None }
+        ensures numbered { (x : Name) → number_of self.new x ≡ number_of self.old x }
         ensures numbers { AreNumbered self.old → AreNumbered self.new }
     {
         for i in 0..self.entries.len() {
@@ -320,7 +320,7 @@ fn enter_names<'a>(
     let mut entries = Vec::new(alloc);
     for i in 0..names.len() {
         let name = names[i];
-        if let Some(entry) = known.get(name) {
+        if let Some(entry) = known.meaning_of(name) {
             environment.enter_name(name)?;
             entries.push(entry)?;
         }
@@ -340,7 +340,7 @@ fn enter_type_names<'a>(
 {
     for i in 0..names.len() {
         let name = names[i];
-        if let Some(number) = known.get(name) {
+        if let Some(number) = known.meaning_of(name) {
             environment.enter_type_name(name, number)?;
         }
     }

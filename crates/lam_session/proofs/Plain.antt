@@ -8,8 +8,8 @@ use Rattle.serde_json.specs.Written.{has_float, items_have_float}
 use Rattle.serde_json.specs.declared.value.Value.{Value}
 use Rattle.lam_rpc.specs.Kind.{Message, request, notice, reply, unreadable, invalid, HasPlainId}
 use Rattle.lam_rpc.specs.Reply.{result_reply}
-use Rattle.lam_session.specs.declared.states.Life.{Life}
-use Rattle.lam_session.specs.declared.states.Life.TheVariants.{Fresh, Running, Down, Over}
+use Rattle.lam_session.specs.declared.states.Lifecycle.{Lifecycle}
+use Rattle.lam_session.specs.declared.states.Lifecycle.TheVariants.{Fresh, Running, Down, Over}
 use Rattle.lam_text.specs.declared.units.Encoding.{Encoding}
 use Rattle.lam_text.specs.declared.units.Encoding.TheVariants.{Utf8, Utf16, Utf32}
 use Rattle.lam_text.specs.Edits.{Edit, text_after}
@@ -74,7 +74,7 @@ awaits_plain : (s : State) (id : Data) (method : RequestMethod) (params : Data) 
 awaits_plain s id Initialize params sent next h d = does_plain _ _ sent next (initialized_plain id (chosen params) h) d
 awaits_plain s id _ params sent next h d = does_plain _ _ sent next (refused_plain id NotInitialized h) d
 
-requested_plain : (life : Life) (s : State) (id : Data) (method : RequestMethod) (params : Data) (sent : List Data) (next : State) → has_float id ≡ false → Requested life s id method params sent next → NoFloats sent
+requested_plain : (life : Lifecycle) (s : State) (id : Data) (method : RequestMethod) (params : Data) (sent : List Data) (next : State) → has_float id ≡ false → Requested life s id method params sent next → NoFloats sent
 requested_plain Fresh s id method params sent next h d = awaits_plain s id method params sent next h d
 requested_plain Running s id method params sent next h d = serves_plain s id method params sent next h d
 requested_plain Down s id method params sent next h d = does_plain _ _ sent next (refused_plain id ShutDown h) d
@@ -122,7 +122,7 @@ passes_plain : (s : State) (method : NoticeMethod) (sent : List Data) (next : St
 passes_plain s Exit sent next d = does_plain _ _ sent next tt d
 passes_plain s _ sent next d = does_plain _ _ sent next tt d
 
-noticed_plain : (life : Life) (s : State) (method : NoticeMethod) (params : Data) (sent : List Data) (next : State) → Noticed life s method params sent next → NoFloats sent
+noticed_plain : (life : Lifecycle) (s : State) (method : NoticeMethod) (params : Data) (sent : List Data) (next : State) → Noticed life s method params sent next → NoFloats sent
 noticed_plain Running s method params sent next d = heeds_plain s method params sent next d
 noticed_plain (Over status) s method params sent next d = does_plain _ _ sent next tt d
 noticed_plain _ s method params sent next d = passes_plain s method sent next d
@@ -134,7 +134,7 @@ receives_plain s reply sent next h d = does_plain _ _ sent next tt d
 receives_plain s unreadable sent next h d = does_plain _ _ sent next (refused_plain null UnreadableMessage refl) d
 receives_plain s invalid sent next h d = does_plain _ _ sent next (refused_plain null InvalidMessage refl) d
 
-lives_plain : (life : Life) (s : State) (m : Message) (sent : List Data) (next : State) → HasPlainId m → ReceivesIn life s m sent next → NoFloats sent
+lives_plain : (life : Lifecycle) (s : State) (m : Message) (sent : List Data) (next : State) → HasPlainId m → ReceivesIn life s m sent next → NoFloats sent
 lives_plain (Over status) s m sent next h d = does_plain _ _ sent next tt d
 lives_plain _ s m sent next h d = receives_plain s m sent next h d
 

@@ -15,7 +15,7 @@ use crate::initialize::{chosen, initialize_answer};
 use crate::methods::{NoticeMethod, RequestMethod, notice_method, request_method};
 use crate::questions::{Question, reply_to};
 use crate::refusals::{Refusal, refused};
-use crate::states::Life;
+use crate::states::Lifecycle;
 use crate::sync::{given_version, opened_text, published};
 use crate::values::diagnostic_values;
 use lam_rpc::{ChangesFault, Incoming, ok_reply, read_changes, read_uri};
@@ -30,7 +30,7 @@ use std::marker::Model;
 #[derive(Drop)]
 pub struct Conversation {
     alloc: Global,
-    life: Life,
+    life: Lifecycle,
     documents: Documents,
 }
 
@@ -62,13 +62,13 @@ impl Conversation {
     {
         Conversation {
             alloc,
-            life: Life::Fresh,
+            life: Lifecycle::Fresh,
             documents: Documents::new(alloc, Encoding::Utf16, dialect),
         }
     }
 
     /// Returns the lifecycle state.
-    pub fn life(&self) -> Life
+    pub fn life(&self) -> Lifecycle
         ensures { result ≡ self.now.life }
     {
         self.life
@@ -129,10 +129,10 @@ impl Conversation {
         ensures { IfOk result (λ r. Requested self.life self (view id) method (view params.now) (map view r.1.items) r.0) }
     {
         match self.life {
-            Life::Fresh => self.await_initialize(id, method, params),
-            Life::Running => self.serve(id, method, params),
-            Life::Down => self.refuse(id, Refusal::ShutDown),
-            Life::Over(_) => Ok(self.ignore()),
+            Lifecycle::Fresh => self.await_initialize(id, method, params),
+            Lifecycle::Running => self.serve(id, method, params),
+            Lifecycle::Down => self.refuse(id, Refusal::ShutDown),
+            Lifecycle::Over(_) => Ok(self.ignore()),
         }
     }
 
@@ -159,7 +159,7 @@ impl Conversation {
     {
         let encoding = chosen(params);
         let reply = ok_reply(self.alloc, id, initialize_answer(self.alloc, encoding)?)?;
-        self.life = Life::Running;
+        self.life = Lifecycle::Running;
         self.documents = Documents::new(self.alloc, encoding, self.documents.dialect());
         self.send(reply)
     }
@@ -184,7 +184,7 @@ impl Conversation {
         ensures { IfOk result (λ r. ShutsDown self (view id) (map view r.1.items) r.0) }
     {
         let reply = ok_reply(self.alloc, id, Value::Null)?;
-        self.life = Life::Down;
+        self.life = Lifecycle::Down;
         self.send(reply)
     }
 
@@ -209,8 +209,8 @@ impl Conversation {
         ensures { IfOk result (λ r. Noticed self.life self method (view params) (map view r.1.items) r.0) }
     {
         match self.life {
-            Life::Running => self.heed(method, params),
-            Life::Over(_) => Ok(self.ignore()),
+            Lifecycle::Running => self.heed(method, params),
+            Lifecycle::Over(_) => Ok(self.ignore()),
             _ => Ok(self.pass(method)),
         }
     }
@@ -243,7 +243,7 @@ impl Conversation {
     fn exit(mut self) -> (Conversation, Vec<Value>)
         ensures { Ends self (exit_status self.life) (map view result.1.items) result.0 }
     {
-        self.life = Life::Over(exit_status(self.life));
+        self.life = Lifecycle::Over(exit_status(self.life));
         self.ignore()
     }
 
@@ -341,11 +341,11 @@ impl Conversation {
 }
 
 // `exit` succeeds only after `shutdown` (LSP 3.17, exit).
-fn exit_status(life: Life) -> u8
+fn exit_status(life: Lifecycle) -> u8
     ensures { result ≡ exit_status life }
 {
     match life {
-        Life::Down => 0,
+        Lifecycle::Down => 0,
         _ => 1,
     }
 }

@@ -9,7 +9,7 @@ ghost use Rattle.lam_session.specs.State.{fresh, dialect_of, ended_status};
 ghost use Rattle.lam_session.specs.Step.{Answers, GivesUp};
 
 use crate::conversation::Conversation;
-use crate::states::{Config, Life};
+use crate::states::{Config, Lifecycle};
 use lam_rpc::Incoming;
 use serde_json::Value;
 use std::alloc::{AllocError, Global};
@@ -28,7 +28,7 @@ enum Course {
     /// Every message is answered.
     Going(Conversation),
     /// An allocation failed, and nothing is answered any more. Only the lifecycle state is kept.
-    GaveUp(Life),
+    GaveUp(Lifecycle),
 }
 
 impl Model for Session {
@@ -81,7 +81,7 @@ impl Session {
         Ok(values)
     }
 
-    fn life(&self) -> Life
+    fn life(&self) -> Lifecycle
         ensures { result ≡ self.now.state.life }
     {
         match &self.course {

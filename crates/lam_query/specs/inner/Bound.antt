@@ -20,8 +20,8 @@ use Rattle.lam_query.specs.declared.bound.Surroundings.{Surroundings}
 use Rattle.lam_query.specs.inner.Entered.{Lookup, entered, names_onto, entries_onto, abbreviations_onto, name_bound, type_name_bound}
 
 -- the number of a name, if it has one
-abbrev pub numbered : Meanings → Name → Option ℕ
-numbered m x = get_by (λ k. bytes_eq x (string_bytes k)) m.numbers
+abbrev pub number_of : Meanings → Name → Option ℕ
+number_of m x = get_by (λ k. bytes_eq x (string_bytes k)) m.numbers
 
 -- what is bound under a number, or nothing if the name is unbound
 abbrev pub kept_under : Meanings → ℕ → Option (Option TyNo)
@@ -33,13 +33,13 @@ means b (binding.Name n) = kept_under b.names n
 means b (binding.TypeName n) = kept_under b.type_names n
 
 -- what is bound for a name
-abbrev pub number_of : Meanings → Name → Option (Option TyNo)
-number_of m x = option_and_then (kept_under m) (numbered m x)
+abbrev pub meaning_of : Meanings → Name → Option (Option TyNo)
+meaning_of m x = option_and_then (kept_under m) (number_of m x)
 
 -- each name has a number of its own, which is an index of the entries
 pub record AreNumbered (m : Meanings) : Type 0 where
-  pub inside : (x : Name) (n : ℕ) → numbered m x ≡ Some n → n < length m.entries.items
-  pub own : (x y : Name) (n : ℕ) → numbered m x ≡ Some n → numbered m y ≡ Some n → x ≡ y
+  pub inside : (x : Name) (n : ℕ) → number_of m x ≡ Some n → n < length m.entries.items
+  pub own : (x y : Name) (n : ℕ) → number_of m x ≡ Some n → number_of m y ≡ Some n → x ≡ y
 
 -- the same for names and for type names
 pub record HaveNumbers (b : Bound) : Type 0 where
@@ -48,22 +48,22 @@ pub record HaveNumbers (b : Bound) : Type 0 where
 
 -- names keep their numbers
 pub record KeepsNumbers (old now : Bound) : Type 0 where
-  pub names : (x : Name) (n : ℕ) → numbered old.names x ≡ Some n → numbered now.names x ≡ Some n
-  pub type_names : (x : Name) (n : ℕ) → numbered old.type_names x ≡ Some n → numbered now.type_names x ≡ Some n
+  pub names : (x : Name) (n : ℕ) → number_of old.names x ≡ Some n → number_of now.names x ≡ Some n
+  pub type_names : (x : Name) (n : ℕ) → number_of old.type_names x ≡ Some n → number_of now.type_names x ≡ Some n
 
 -- the number of the name that a command binds
 abbrev pub IsBinding : Bound → CommandTree → Option NameNo → Type 0
 IsBinding b c None = (name_bound c ≡ None) × (type_name_bound c ≡ None)
-IsBinding b c (Some (binding.Name n)) = (x : Name) × (name_bound c ≡ Some x) × (type_name_bound c ≡ None) × (numbered b.names x ≡ Some n)
-IsBinding b c (Some (binding.TypeName n)) = (x : Name) × (name_bound c ≡ None) × (type_name_bound c ≡ Some x) × (numbered b.type_names x ≡ Some n)
+IsBinding b c (Some (binding.Name n)) = (x : Name) × (name_bound c ≡ Some x) × (type_name_bound c ≡ None) × (number_of b.names x ≡ Some n)
+IsBinding b c (Some (binding.TypeName n)) = (x : Name) × (name_bound c ≡ None) × (type_name_bound c ≡ Some x) × (number_of b.type_names x ≡ Some n)
 
 -- the meaning of a name over the types of a table
 abbrev pub found_over : List Typ → Meanings → Lookup
-found_over ts m x = option_map (answer ts) (number_of m x)
+found_over ts m x = option_map (answer ts) (meaning_of m x)
 
 -- each type id that is bound stands for a type of the table
 abbrev pub NumbersStandIn : List Typ → Meanings → Type 0
-NumbersStandIn ts m = (x : Name) → IfSome (number_of m x) (StandsIfAny ts)
+NumbersStandIn ts m = (x : Name) → IfSome (meaning_of m x) (StandsIfAny ts)
 
 -- the same for names and for type names
 pub record AllStand (ts : List Typ) (b : Bound) : Type 0 where
@@ -85,7 +85,7 @@ pub record IsSurroundedBy (ts : List Typ) (b : Bound) (c : CommandTree) (s : Sur
 
 -- the entry of this name, if there is one, is set
 abbrev pub IsSetIn : Option Name → Option TyNo → Meanings → Meanings → Type 0
-IsSetIn b number old now = (x : Name) → number_of now x ≡ (if binds b x then Some number else number_of old x)
+IsSetIn b number old now = (x : Name) → meaning_of now x ≡ (if binds b x then Some number else meaning_of old x)
 
 -- the entry of what a command binds is set
 pub record IsBoundAfter (c : CommandTree) (number : Option TyNo) (old now : Bound) : Type 0 where

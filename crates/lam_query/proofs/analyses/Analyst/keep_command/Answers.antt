@@ -9,7 +9,7 @@ pub returns-clause-kept : goal.returns-clause-kept
 returns-clause-kept c =
     let free : AreFreeIn (command_of c.args.command.now) c.in_ok-free.free = record { names = c.in_ok-free.ensures.names; type_names = c.in_ok-free.ensures.type_names } in
     command_kept (command_of c.args.command.now) _ c.args.self.now _ c.numbers_of.new.self c.requires c.found_of.ensures.sound
-    (c.in_ok-asks.ensures.asked (command_of c.args.command.now) free) c.numbers_of.ensures.same c.numbers_of.ensures.keeps
+    (c.in_ok-free_numbers.ensures.asked (command_of c.args.command.now) free) c.numbers_of.ensures.same c.numbers_of.ensures.keeps
     c.in_ok-found.ensures.found c.found_of.ensures.keeps c.found_of.ensures.dialect c.in_ok-binds.ensures.binding
     (subst (λ n. IsBoundAfter (command_of c.args.command.now) n c.numbers_of.new.self c.bind.new.self) c.bound.ensures c.in_ok-binds.ensures.bound)
     c.in_ok-binds.ensures.keeps c.in_ok-binds.ensures.numbers refl refl refl
@@ -18,9 +18,9 @@ pub returns-clause-sound : goal.returns-clause-sound
 returns-clause-sound c =
     let free : AreFreeIn (command_of c.args.command.now) c.in_ok-free.free = record { names = c.in_ok-free.ensures.names; type_names = c.in_ok-free.ensures.type_names } in
     command_sound (command_of c.args.command.now)
-    (command_row_of (record { asks = c.in_ok-asks.asks; binds = c.in_ok-binds.binds; found = c.in_ok-found.found })) c.args.self.now _ c.numbers_of.new.self
+    (command_row_of (record { free_numbers = c.in_ok-free_numbers.free_numbers; binds = c.in_ok-binds.binds; found = c.in_ok-found.found })) c.args.self.now _ c.numbers_of.new.self
     c.requires c.found_of.ensures.sound
-    (c.in_ok-asks.ensures.asked (command_of c.args.command.now) free) c.numbers_of.ensures.same c.numbers_of.ensures.keeps
+    (c.in_ok-free_numbers.ensures.asked (command_of c.args.command.now) free) c.numbers_of.ensures.same c.numbers_of.ensures.keeps
     c.in_ok-found.ensures.found c.found_of.ensures.keeps c.found_of.ensures.dialect c.in_ok-binds.ensures.binding
     (subst (λ n. IsBoundAfter (command_of c.args.command.now) n c.numbers_of.new.self c.bind.new.self) c.bound.ensures c.in_ok-binds.ensures.bound)
     c.in_ok-binds.ensures.keeps c.in_ok-binds.ensures.numbers

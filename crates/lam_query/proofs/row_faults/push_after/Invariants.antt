@@ -1,6 +1,6 @@
 use Rattle.std.proofs.Common.{◌≡◌, ◌++◌, map, drop}
 use Rattle.lam_query.specs.Views.{fault_of}
-use Rattle.lam_query.proofs.told.push_after.Given as goal
+use Rattle.lam_query.proofs.row_faults.push_after.Given as goal
 use Rattle.lam_query.specs.inner.Kept.{fault_after, AllFit}
 
 abbrev pub invariant-loop-i : goal.invariant-loop-i

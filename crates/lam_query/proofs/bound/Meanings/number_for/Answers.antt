@@ -2,18 +2,18 @@ use Rattle.std.proofs.Common.{Some, string_bytes, ap, sym, ◌∙◌}
 use Rattle.std.specs.Map.{update}
 use Rattle.std.specs.Str.{bytes_eq}
 use Rattle.std.proofs.lemmas.Map.Text.{hash_map_updates_text}
-use Rattle.lam_query.specs.inner.Bound.{numbered}
+use Rattle.lam_query.specs.inner.Bound.{number_of}
 use Rattle.lam_query.proofs.NumberedNames.{IsNumberedNext, others_keep, same_kept, still_numbered}
-use Rattle.lam_query.proofs.bound.Meanings.number_of.Goals as goal
+use Rattle.lam_query.proofs.bound.Meanings.number_for.Goals as goal
 
 next : (c : goal.In_ok-insert) → IsNumberedNext c.args.self.now (record { numbers = c.insert.new.self; entries = c.push.new.self }) c.args.name.now
 next c = record {
   fresh = sym c.in_default.ensures.value;
   one_more = c.in_ok-push.ensures.items;
   updates = λ x.
-      hash_map_updates_text (string_bytes c.in_ok-from_str.field-0) c.args.self.now.numbers c.insert.new.self (Some c.len-place.result) c.in_ok-insert.ensures.updates x
-      ∙ ap (λ y. update bytes_eq (numbered c.args.self.now) y (Some c.len-place.result) x) c.in_ok-from_str.ensures.ok
-      ∙ ap (λ n. update bytes_eq (numbered c.args.self.now) c.args.name.now (Some n) x) (c.len-place.ensures ∙ c.args.self.now.entries.ok.0);
+      hash_map_updates_text (string_bytes c.in_ok-from_str.field-0) c.args.self.now.numbers c.insert.new.self (Some c.len-number.result) c.in_ok-insert.ensures.updates x
+      ∙ ap (λ y. update bytes_eq (number_of c.args.self.now) y (Some c.len-number.result) x) c.in_ok-from_str.ensures.ok
+      ∙ ap (λ n. update bytes_eq (number_of c.args.self.now) c.args.name.now (Some n) x) (c.len-number.ensures ∙ c.args.self.now.entries.ok.0);
 }
 
 pub returns-clause-keeps : goal.returns-clause-keeps

@@ -1,7 +1,7 @@
 use Rattle.std.proofs.Common.{◌≡◌, ◌≤◌, ◌-◌, List, length}
 use Rattle.lam_query.specs.inner.Ends.{IsLeftOf}
 use Rattle.lam_query.specs.inner.Kept.{Row as KeptRow}
-use Rattle.lam_query.proofs.ends.Behind.is_met.Given as goal
+use Rattle.lam_query.proofs.ends.OldPieces.is_met.Given as goal
 
 abbrev pub invariant-loop-self : goal.invariant-loop-self
 invariant-loop-self l = record {

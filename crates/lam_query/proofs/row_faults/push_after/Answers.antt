@@ -1,6 +1,6 @@
 use Rattle.std.proofs.Common.{refl}
 use Rattle.lam_query.proofs.FaultsPlaced.{fault_pushed}
-use Rattle.lam_query.proofs.told.push_after.Goals as goal
+use Rattle.lam_query.proofs.row_faults.push_after.Goals as goal
 
 pub loop-i-preserved : goal.loop-i-preserved
 loop-i-preserved c =

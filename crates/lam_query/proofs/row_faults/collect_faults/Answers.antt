@@ -6,7 +6,7 @@ use Rattle.lam_query.specs.inner.Kept.{Row, found_in, faults_found, large_writte
 use Rattle.lam_query.proofs.FaultsPlaced.{syntax_placed, types_placed, next_told}
 use Rattle.lam_query.proofs.FirstLarge.{written_placed, term_placed, next_first}
 use Rattle.lam_query.proofs.RowsPlaced.{next_counted}
-use Rattle.lam_query.proofs.told.told_by.Goals as goal
+use Rattle.lam_query.proofs.row_faults.collect_faults.Goals as goal
 
 pub loop-i-preserved : goal.loop-i-preserved
 loop-i-preserved c =

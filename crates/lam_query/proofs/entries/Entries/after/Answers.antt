@@ -1,7 +1,7 @@
 use Rattle.std.proofs.Common.{length, replicate, None, ap, ◌∙◌}
 use Rattle.lam_query.specs.inner.Kept.{rows_of}
 use Rattle.lam_query.proofs.MeaningsBehind.{meanings_behind}
-use Rattle.lam_query.proofs.entries.Entries.behind.Goals as goal
+use Rattle.lam_query.proofs.entries.Entries.after.Goals as goal
 
 pub returns-clause-meanings : goal.returns-clause-meanings
 returns-clause-meanings c = λ pieces s ts d are.

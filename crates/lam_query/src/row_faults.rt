@@ -11,7 +11,7 @@ use std::alloc::{AllocError, Global};
 
 /// The diagnostics that the rows of a text report.
 #[derive(Drop)]
-pub(crate) struct Told {
+pub(crate) struct RowFaults {
     /// The lexical and syntactic diagnostics, row by row.
     pub(crate) syntax: Vec<Fault>,
     /// The type diagnostics, valid if no type is over the size limit.
@@ -23,11 +23,11 @@ pub(crate) struct Told {
 
 /// Collects them in one pass, since after a small change of a long text a pass over all rows is much of the work. Offsets are
 /// relative to the start of the text.
-pub(crate) fn told_by(alloc: Global, rows: &[Row]) -> Result<Told, AllocError>
+pub(crate) fn collect_faults(alloc: Global, rows: &[Row]) -> Result<RowFaults, AllocError>
     requires { bytes_of (rows_of rows.now) < 2 ^ 64 }
-    ensures syntax { IfOk result (λ told. AllFit (all_syntax (placed 0 (rows_of rows.now))) → map fault_of told.syntax.items ≡ all_syntax (placed 0 (rows_of rows.now))) }
-    ensures types { IfOk result (λ told. AllFit (all_faults (placed 0 (rows_of rows.now))) → map fault_of told.types.items ≡ all_faults (placed 0 (rows_of rows.now))) }
-    ensures large { IfOk result (λ told. IfSome (first_large (placed 0 (rows_of rows.now))) Fits → told.large ≡ first_large (placed 0 (rows_of rows.now))) }
+    ensures syntax { IfOk result (λ found. AllFit (all_syntax (placed 0 (rows_of rows.now))) → map fault_of found.syntax.items ≡ all_syntax (placed 0 (rows_of rows.now))) }
+    ensures types { IfOk result (λ found. AllFit (all_faults (placed 0 (rows_of rows.now))) → map fault_of found.types.items ≡ all_faults (placed 0 (rows_of rows.now))) }
+    ensures large { IfOk result (λ found. IfSome (first_large (placed 0 (rows_of rows.now))) Fits → found.large ≡ first_large (placed 0 (rows_of rows.now))) }
 {
     let mut syntax = Vec::new(alloc);
     let mut types = Vec::new(alloc);
@@ -43,7 +43,7 @@ pub(crate) fn told_by(alloc: Global, rows: &[Row]) -> Result<Told, AllocError>
         start += row.end;
     }
     let large = place_in_text(written.or(term));
-    Ok(Told {
+    Ok(RowFaults {
         syntax,
         types,
         large,

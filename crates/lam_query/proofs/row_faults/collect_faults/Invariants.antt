@@ -2,7 +2,7 @@ use Rattle.std.proofs.Common.{◌≡◌, ◌+◌, ◌++◌, map, drop}
 use Rattle.std.specs.Option.{option_map, option_or}
 use Rattle.lam_query.specs.Views.{fault_of}
 use Rattle.lam_query.specs.inner.Kept.{rows_of, placed, bytes_of, place_after, AllFit, all_syntax, all_faults, large_written_type, large_term, first_in}
-use Rattle.lam_query.proofs.told.told_by.Given as goal
+use Rattle.lam_query.proofs.row_faults.collect_faults.Given as goal
 
 abbrev pub invariant-loop-i : goal.invariant-loop-i
 invariant-loop-i l = record {

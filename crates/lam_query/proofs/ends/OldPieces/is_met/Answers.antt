@@ -1,6 +1,6 @@
 use Rattle.std.proofs.Common.{refl, arith}
 use Rattle.lam_query.proofs.CommonEnds.{piece_inside, one_passed}
-use Rattle.lam_query.proofs.ends.Behind.is_met.Goals as goal
+use Rattle.lam_query.proofs.ends.OldPieces.is_met.Goals as goal
 
 pub loop-self-init : goal.loop-self-init
 loop-self-init c = record { left = λ rows left. left; forward = omega arith; common = refl }
