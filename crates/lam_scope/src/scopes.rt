@@ -1,5 +1,5 @@
 //! The binders of a document, the uses of each, and what is in scope at each subterm.
-ghost use Rattle.std.specs.Prelude.{◌≡◌, [], length, slice_index_or, map, position, not, IfOk};
+ghost use Rattle.std.specs.Prelude.{◌≡◌, [], length, slice_index_or, map, position, IfOk};
 ghost use Rattle.lam_syntax.specs.Letters.{letters};
 ghost use Rattle.lam_syntax.specs.Views.{command_of};
 ghost use Rattle.std.specs.Option.{option_map};
@@ -110,14 +110,14 @@ impl Scopes {
         }
     }
 
-    /// Returns whether a subterm is in the text. The derived lambda and fix of a letrec are not.
-    #[tactic(auto, using(crate::proofs::Reading::reading))]
-    pub fn is_written(&self, place: Place) -> bool
-        ensures { result ≡ not (place_row_numbered (table_of self.now) place.0).derived }
+    /// Returns whether a subterm is a derived lambda or fix of a letrec, which are not in the text.
+    #[tactic(auto, using(crate::proofs::Reading::derived_reading))]
+    pub fn is_derived(&self, place: Place) -> bool
+        ensures { result ≡ (place_row_numbered (table_of self.now) place.0).derived }
     {
         match self.rows.places.get(place.0) {
-            Some(row) => !row.derived,
-            None => false,
+            Some(row) => row.derived,
+            None => true,
         }
     }
 
