@@ -11,7 +11,7 @@ returns-in_err-push-clause-type_names_stand c = λ ts stand. c.in_ok-enter_name.
 
 pub loop-i-preserved : goal.loop-i-preserved
 loop-i-preserved c =
-    elim c.match-get.branch [
+    elim c.match-meaning_of.branch [
       | in-Some+in_ok-enter_name+in_ok-push w ↦
           rw (w.environment-is, w.entries-is)
           (name_entered c.args.known.now c.args.names.now c.loop-i.i (record { ref_ptr = (0, 0); now = [] }) c.loop-i-test.true

@@ -5,7 +5,7 @@ use Rattle.lam_query.proofs.bound.enter_type_names.Goals.{in-Some+in_ok-enter_ty
 
 pub loop-i-preserved : goal.loop-i-preserved
 loop-i-preserved c =
-    elim c.match-get.branch [
+    elim c.match-meaning_of.branch [
       | in-Some+in_ok-enter_type_name w ↦
           rw w.environment-is
           (type_name_entered c.args.known.now c.args.names.now c.loop-i.i (record { ref_ptr = (0, 0); now = [] }) c.loop-i-test.true
