@@ -395,7 +395,7 @@ WIDENED = "x0 = {a=0, b=0};\n" + "".join(f"x{i} = {{a=x{i - 1}, b=x{i - 1}}};\n"
 def written_and_read(program, name, text):
     """What is wrong with the derivations that the checker writes here and there in a text, or nothing: each is accepted."""
     lines = text.splitlines()
-    places = [(i, j) for i, it in enumerate(lines, 1) for j in range(1, len(it) + 1)][::29]
+    places = [(i, j) for i, it in enumerate(lines, 1) for j in range(1, len(it) + 1)][::7]
     with tempfile.TemporaryDirectory() as room:
         with open(f"{room}/a", "w", encoding="utf-8") as it:
             it.write(text)
@@ -412,7 +412,7 @@ def written_and_read(program, name, text):
 def texts():
     """The examples, and a text of its own."""
     yield "a type that a proof widens", WIDENED
-    for name in sorted(glob.glob(f"{ROOT}/examples/**/*.fsub", recursive=True)):
+    for name in sorted(glob.glob(f"{ROOT}/examples/*.fsub")):
         with open(name, encoding="utf-8") as it:
             yield os.path.relpath(name, ROOT), it.read()
 
