@@ -421,6 +421,8 @@ def derivations_in(questions, answers):
 
 def unverified(checker, dialect, derivations):
     """What the checker says of the derivations, each with the text that it is of, where it does not accept all; else nothing."""
+    if not derivations:
+        return None
     with tempfile.TemporaryDirectory() as room:
         with open(f"{room}/derivations", "w", encoding="utf-8") as lines:
             for number, (text, derivation) in enumerate(derivations):
