@@ -68,9 +68,14 @@ def editors():
         ("share/nvim/site/pack/fullsub/start/fullsub", "neovim"),
         ("share/vim/vimfiles/pack/fullsub/start/fullsub", "vim"),
         (EMACS, "emacs"),
-        (f"{DOCS}/kate", "kate"),
     ]
-    return {f"{target}/{os.path.relpath(it, f'{ROOT}/editors/{name}')}": it for target, name in folders for it in files_below(f"editors/{name}")}
+    return {
+        **{f"{target}/{os.path.relpath(it, f'{ROOT}/editors/{name}')}": it for target, name in folders for it in files_below(f"editors/{name}")},
+        "share/org.kde.syntax-highlighting/syntax/fullsub.xml": f"{ROOT}/editors/kate/fullsub.xml",
+        "share/katepart5/script/indentation/fullsub.js": f"{ROOT}/editors/kate/fullsub.js",
+        # The servers that Kate starts are a user's own setting.
+        f"{DOCS}/kate/settings.json": f"{ROOT}/editors/kate/settings.json",
+    }
 
 
 def files_below(folder):
@@ -89,7 +94,8 @@ def installed(program, checker):
         **{path: read(source) for path, source in editors().items()},
         f"{DOCS}/copyright": licences.licences().encode(),
     }
-    for path in [f"{ROOT}/docs/EDITORS.md", f"{ROOT}/docs/LANGUAGE.md", *files_below("examples")]:
+    pages = [f"{ROOT}/docs/{name}" for name in ("EDITORS.md", "LANGUAGE.md", "CHECKER.md", "derivation-html.png", "derivation-latex.png")]
+    for path in [*pages, *files_below("examples")]:
         files[f"{DOCS}/{os.path.relpath(path, ROOT)}"] = read(path)
     return files
 

@@ -34,7 +34,7 @@ Eglot reads an object as a property list, lsp-mode as a hash table."
                              ;; Only when it has been told the last changes.
                              :deferred :fullsub/derivation))
     ('lsp-mode (lsp-request "fullsub/derivation" (lsp--text-document-position-params)))
-    (_ (user-error "No server runs here"))))
+    (_ (user-error "lam_server is not running for this file"))))
 
 (defun fullsub-why--place (range end)
   "The place in the buffer of the END, \"start\" or \"end\", of RANGE."

@@ -182,7 +182,7 @@ function M.show()
   local source = vim.api.nvim_get_current_buf()
   local client = our_client(source)
   if not client then
-    return vim.notify("lam_server does not run here", vim.log.levels.WARN)
+    return vim.notify("lam_server is not running for this file", vim.log.levels.WARN)
   end
   local encoding = client.offset_encoding or "utf-16"
   local function answered(failure, derivation)
