@@ -36,13 +36,14 @@ Architecture: amd64
 Maintainer: Moorbasket maintainers <maintainers@users.noreply.moorbasket.example>
 Installed-Size: {size}
 Depends: libc6 (>= {libc})
-Suggests: neovim, emacs, elpa-eglot
+Suggests: neovim, emacs, elpa-eglot, vim-ale, kate
 Section: devel
 Priority: optional
 Description: language server for the lambda calculus with records and subtyping
  Shows types, derivations and type errors of texts in the language of Pierce's
  Types and Programming Languages to Neovim, Emacs and other editors that speak
- LSP. What it says is proved to follow from the book's rules.
+ LSP, and checks files without an editor. What it says is proved to follow from
+ the book's rules.
 """
 
 
