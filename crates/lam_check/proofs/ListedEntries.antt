@@ -19,7 +19,7 @@ use Rattle.lam_scope.specs.Places.{Binding, written, of_term, Scope, Place, Stat
 use Rattle.lam_scope.specs.PlacedTerms.{document_terms, term_of, tree_in}
 use Rattle.lam_scope.specs.Sights.{Sight, sight_numbered}
 use Rattle.lam_scope.specs.Tables.{TextBinder, table, binder_numbered, visible_at}
-use Rattle.lam_scope.specs.Views.{table_of, statements_of, origins_of}
+use Rattle.lam_scope.specs.Views.{table_of, origins_of}
 use Rattle.lam_scope.specs.declared.numbers.Origin.{Origin}
 use Rattle.lam_scope.specs.declared.numbers.Origin.TheVariants.{Lambda, Term as TermAt, Declaration, TypeName}
 use Rattle.lam_scope.specs.declared.resolved.Resolved.{Resolved}

@@ -1,5 +1,5 @@
 -- What is found wrong with a derivation: as one about a term, about a term of some commands, and in a text.
-use Rattle.std.proofs.Common.{◌≡◌, ◌≢◌, ℕ, zero, suc, ◌+◌, ◌-◌, ◌<◌, ◌≤◌, min, List, [], ◌∷◌, length, get_or, take, map, slice_get, Option, Some, None, Bool, true, false, IsTrue, ◌↔◌, refl, sym, ap, subst, ◌∙◌, arith}
+use Rattle.std.proofs.Common.{◌≡◌, ◌≢◌, ℕ, zero, suc, ◌+◌, ◌<◌, ◌≤◌, min, List, [], ◌∷◌, length, get_or, take, map, slice_get, Option, Some, None, refl, sym, ap, subst, ◌∙◌, arith}
 use Rattle.std.specs.Option.{unwrap_or}
 use Rattle.std.proofs.lemmas.List.{length-map, take-map}
 use Rattle.lam_query.specs.Views.{step_of}
@@ -8,7 +8,7 @@ use Rattle.lam_token.specs.declared.span.Span.{Span}
 use Rattle.lam_rules.specs.Typing.{TypingTree}
 use Rattle.lam_rules.specs.declared.rules.Dialect.{Dialect}
 use Rattle.lam_syntax.specs.Trees.{CommandTree}
-use Rattle.lam_scope.specs.PlacedTerms.{PlacedTree, document_terms, term_of, tree_in}
+use Rattle.lam_scope.specs.PlacedTerms.{document_terms, tree_in}
 use Rattle.lam_scope.specs.Tables.{place_row_numbered}
 use Rattle.lam_scope.specs.Views.{table_of, AreScopesOf}
 use Rattle.lam_scope.specs.declared.scopes.Scopes.{Scopes}
@@ -19,12 +19,12 @@ use Rattle.lam_query.specs.Sizes.{IsSizeFault, IsSmall, span_numbered}
 use Rattle.lam_query.specs.Steps.{Proof, Step, steps_of, typing_proof}
 use Rattle.lam_query.proofs.OneAnswer.{one_document}
 use Rattle.lam_query.proofs.ReadTrees.{tree_read}
-use Rattle.lam_check.specs.FirstFaults.{DifferFirst, IsFaultAt, IsFaultIn, IsFirstFault, IsFirstMisplaced, IsFirstWithRange, IsResult, IsSound, AreOfOneProof, AreOfProofs, MakeTree, last_span}
+use Rattle.lam_check.specs.FirstFaults.{DifferFirst, IsFaultAt, IsFaultIn, IsFirstFault, IsFirstMisplaced, IsFirstWithRange, IsResult, AreOfOneProof, AreOfProofs, last_span}
 use Rattle.lam_check.specs.Levels.{AreTooDeep}
-use Rattle.lam_check.specs.Verified.{IsProofAt, IsProofOf, IsVerified}
+use Rattle.lam_check.specs.Verified.{IsProofAt}
 use Rattle.lam_check.specs.declared.first_faults.FirstFault.{FirstFault}
 use Rattle.lam_check.specs.declared.first_faults.FirstFault.TheVariants as faults
-use Rattle.lam_check.specs.inner.Verifying.{IsOfSomeTerm, IsResultAt, IsResultIn}
+use Rattle.lam_check.specs.inner.Verifying.{IsOfSomeTerm, IsResultIn}
 use Rattle.lam_check.proofs.Misplaced.{one_is_placed, never_empty}
 use Rattle.lam_check.proofs.Verifying.{ends_with_span, span_there, too_large}
 

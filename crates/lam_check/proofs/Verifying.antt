@@ -1,5 +1,5 @@
 -- Derivations that are held against a text.
-use Rattle.std.proofs.Common.{◌≡◌, ◌↔◌, ℕ, ◌+◌, ◌-◌, ◌<◌, ◌≤◌, zero, suc, List, [], ◌∷◌, ◌++◌, length, get_or, map, take, reverse, Option, Some, None, option_map, Result, Ok, Err, IfOk, Bool, true, false, not, IsTrue, true≢false, refl, sym, ap, subst, ◌∙◌, arith}
+use Rattle.std.proofs.Common.{◌≡◌, ℕ, ◌+◌, ◌-◌, ◌<◌, ◌≤◌, zero, suc, List, [], ◌∷◌, ◌++◌, length, get_or, map, take, reverse, Option, Some, None, option_map, Result, Ok, Err, IfOk, Bool, true, false, not, IsTrue, true≢false, refl, sym, ap, subst, ◌∙◌, arith}
 use Rattle.std.proofs.lemmas.List.{length-map, reverse-append, reverse-reverse, take_more, take_all, map-append}
 use Rattle.std.proofs.lemmas.Simd.{map-map}
 use Rattle.std.proofs.lemmas.Option.{same_Some}
@@ -7,7 +7,6 @@ use Rattle.std.specs.Str.{bytes_eq}
 use Rattle.std.proofs.lemmas.Slice.Eq.{bytes_eq-Decides}
 use Rattle.lam_rules.specs.Texts.{Text}
 use Rattle.lam_rules.specs.TermViews.{written_of}
-use Rattle.lam_rules.specs.Types.{Typ}
 use Rattle.lam_rules.specs.Typing.{TypingTree, typing_step, IsTyping}
 use Rattle.lam_rules.specs.Terms.{Term}
 use Rattle.lam_rules.specs.TypingViews.{context_of}
@@ -28,19 +27,19 @@ use Rattle.lam_query.specs.declared.answers.Step.{Step as RustStep}
 use Rattle.lam_query.specs.Views.{step_of}
 use Rattle.lam_query.specs.Derivations.{Derivation, names_seen}
 use Rattle.lam_query.specs.ProofTrees.{typing_tree_in}
-use Rattle.lam_query.specs.Steps.{Conclusion, typing, Step, steps_of, steps_of_each, last_steps, typing_proof, typing_proofs, premise_terms, with_side}
+use Rattle.lam_query.specs.Steps.{typing, Step, steps_of, steps_of_each, last_steps, typing_proof, typing_proofs, premise_terms, with_side}
 use Rattle.lam_query.specs.WellTypedDocuments.{statements_in}
 use Rattle.lam_typing.specs.LeastTypes.{AreLeastEntries}
 use Rattle.lam_typing.specs.declared.typing.Typing.{Typing}
 use Rattle.lam_query.specs.Commands.{AreCommandsOfText}
-use Rattle.lam_query.specs.Sizes.{IsSizeFault, IsSmall}
+use Rattle.lam_query.specs.Sizes.{IsSizeFault}
 use Rattle.lam_query.proofs.OneAnswer.{one_document}
 use Rattle.lam_query.proofs.OneProof.{one_proof_of_steps}
 use Rattle.lam_query.proofs.ReadTrees.{tree_read}
 use Rattle.lam_query.proofs.RowsAndTerms.{span_told, names_told, number_told}
 use Rattle.lam_check.specs.Verified.{IsProofOf, IsProofAt, IsVerified}
 use Rattle.lam_check.specs.FirstFaults.{HasNames, MakeTree, entries_listed, span_in, last_conclusion, last_span}
-use Rattle.lam_check.specs.inner.Verifying.{AreFormsOf, IsOfSomeTerm}
+use Rattle.lam_check.specs.inner.Verifying.{AreFormsOf}
 
 -- the context of entries
 pub context_reversed : (entries : List (Option Ty)) → context_of entries ≡ reverse (map written_of entries)

@@ -14,7 +14,7 @@ use Rattle.lam_query.specs.Sizes.{IsSizeFault, IsSmall, span_numbered}
 use Rattle.lam_query.specs.Steps.{Conclusion, typing, subtyping, Proof, Proofs, Step, steps_of, steps_of_each, typing_proof}
 use Rattle.lam_check.specs.Judgements.{judgements, IsFirstFailing}
 use Rattle.lam_check.specs.Levels.{AreTooDeep}
-use Rattle.lam_check.specs.Verified.{IsVerified, IsProofOf}
+use Rattle.lam_check.specs.Verified.{IsVerified}
 use Rattle.lam_check.specs.declared.first_faults.FirstFault.{FirstFault}
 use Rattle.lam_check.specs.declared.first_faults.FirstFault.TheVariants as faults
 

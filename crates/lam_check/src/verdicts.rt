@@ -85,10 +85,16 @@ fn message_of(alloc: Global, fault: FirstFault) -> Result<String, AllocError>
             out.push_str("its steps follow from each other on more than 16,384 levels")?;
         }
         FirstFault::Premises(step) => {
-            write!(out, "the steps that step {step} follows from are not the last ones before it")?;
+            write!(
+                out,
+                "the steps that step {step} follows from are not the last ones before it"
+            )?;
         }
         FirstFault::Loose(step) => {
-            write!(out, "step {step} is the last one, and no typing that follows from all others")?;
+            write!(
+                out,
+                "step {step} is the last one, and no typing that follows from all others"
+            )?;
         }
         FirstFault::TooLarge => out.push_str("the text has a type of more than 4,096 nodes")?,
         FirstFault::NoTerm(step) => write!(out, "step {step} is about no term of the text")?,
@@ -96,10 +102,16 @@ fn message_of(alloc: Global, fault: FirstFault) -> Result<String, AllocError>
             out.push_str("the context has other names than those that the term sees")?;
         }
         FirstFault::Entry(entry) => {
-            write!(out, "entry {entry} of the context is not the least type of its name")?;
+            write!(
+                out,
+                "entry {entry} of the context is not the least type of its name"
+            )?;
         }
         FirstFault::Step(step) => {
-            write!(out, "step {step} does not follow by its rule from its premises")?;
+            write!(
+                out,
+                "step {step} does not follow by its rule from its premises"
+            )?;
         }
         FirstFault::Range(step) => write!(out, "step {step} has the range of another term")?,
     }

@@ -261,7 +261,7 @@ fn wrong_entry(
     ensures { IfOk result (λ wrong. (commands : List CommandTree) → AreFormsOf commands scopes.now resolved.now typing.now dialect
         → place.0 < length (document_terms commands)
         → let scope = (term_of (tree_in (document_terms commands) place.0)).place.scope in
-          MatchOption wrong (AreLeastEntries scope (context_of entries.now) dialect) (λ number. IsFirstOtherEntry scope (context_of entries.now) dialect number)) }
+        MatchOption wrong (AreLeastEntries scope (context_of entries.now) dialect) (λ number. IsFirstOtherEntry scope (context_of entries.now) dialect number)) }
 {
     let binders = scopes.visible_at(alloc, place)?;
     first_wrong(typing, resolved.origins(), &binders, entries, dialect)

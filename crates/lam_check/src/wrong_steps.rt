@@ -26,7 +26,15 @@ pub fn wrong_step(
     requires room { start + steps_in (typing_tree_of proof.now) < 2 ^ 64 }
     ensures { IfOk result (λ number. IsFirstFailing dialect start (judgements (context_of context.old.items) (term_of term.now) (typing_tree_of proof.now)) number) }
 {
-    let found = wrong_premise(alloc, context, term, proof.rule, &proof.typing, start, dialect)?;
+    let found = wrong_premise(
+        alloc,
+        context,
+        term,
+        proof.rule,
+        &proof.typing,
+        start,
+        dialect,
+    )?;
     if let Some(number) = found {
         return Ok(number);
     }

@@ -1,6 +1,6 @@
 use Rattle.std.proofs.Common.{◌-◌, length, take, drop, ◌++◌, ◌∷◌, [], ap, sym, subst, ◌∙◌}
 use Rattle.std.specs.Str.{bytes_eq}
-use Rattle.lam_check.proofs.Misplaced.{AreSoFar, none_yet, is_misplaced, is_placed, all_placed}
+use Rattle.lam_check.proofs.Misplaced.{AreSoFar, none_yet, is_misplaced, is_placed}
 use Rattle.lam_check.proofs.first_faults.first_misplaced.Goals as goal
 
 pub loop-i-init : goal.loop-i-init

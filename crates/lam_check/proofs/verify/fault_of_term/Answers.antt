@@ -1,4 +1,4 @@
-use Rattle.std.proofs.Common.{◌≡◌, List, map, ap, sym, subst, ◌∙◌, arith}
+use Rattle.std.proofs.Common.{map, ap, sym, subst, ◌∙◌, arith}
 use Rattle.lam_rules.specs.TermViews.{term_of as core_of, written_of}
 use Rattle.lam_rules.specs.Typing.{IsTyping}
 use Rattle.lam_rules.specs.TypingViews.{context_of, typing_tree_of}
@@ -6,14 +6,10 @@ use Rattle.lam_scope.specs.Names.{shown_name}
 use Rattle.lam_scope.specs.PlacedTerms.{document_terms, term_of, tree_in}
 use Rattle.lam_scope.specs.Tables.{binder_numbered, visible_at}
 use Rattle.lam_scope.specs.Views.{table_of}
-use Rattle.lam_syntax.specs.Trees.{CommandTree}
 use Rattle.lam_typing.specs.LeastTypes.{AreLeastEntries}
-use Rattle.lam_query.specs.Derivations.{Derivation}
-use Rattle.lam_query.specs.Steps.{Step}
 use Rattle.lam_query.specs.Views.{derivation_of, entry_of, step_of}
-use Rattle.lam_check.specs.FirstFaults.{DifferFirst, HasContext, IsFirstOtherEntry, entries_listed}
+use Rattle.lam_check.specs.FirstFaults.{DifferFirst, IsFirstOtherEntry, entries_listed}
 use Rattle.lam_check.specs.Judgements.{IsFirstFailing, judgements}
-use Rattle.lam_check.specs.inner.Verifying.{AreFormsOf}
 use Rattle.lam_check.proofs.ListedEntries.{other_not_least}
 use Rattle.lam_check.proofs.Results.{no_difference}
 use Rattle.lam_check.proofs.Verifying.{not_so, as_long, as_many, entries_are_listed, least_are, listed_names, names_are, names_listed, proof_is, steps_are, typed_there, is_proof}
@@ -33,7 +29,7 @@ wrong_entry-requires c =
     let t = table_of c.args.scopes.now in
     as_long written_of (λ e. e.type) c.args.entries.now x.context c.requires.entries
     ∙ as_long (λ e. e.name) (λ b. shown_name (binder_numbered t b).name) x.context (visible_at t c.args.place.0)
-        (ap (λ es. map (λ e. e.name) (map entry_of es)) (sym c.deref.ensures.value) ∙ c.in_ok-has_names.ensures.0 c.if-not-branch.false)
+    (ap (λ es. map (λ e. e.name) (map entry_of es)) (sym c.deref.ensures.value) ∙ c.in_ok-has_names.ensures.0 c.if-not-branch.false)
 
 pub returns-in-Some : goal.returns-in-Some
 returns-in-Some c = λ commands forms.
@@ -51,7 +47,7 @@ pub wrong_step_of-requires-clause-wrong : goal.wrong_step_of-requires-clause-wro
 wrong_step_of-requires-clause-wrong c =
     let x = derivation_of c.args.derivation.now in
     λ h. not_so c.check_type.result c.if-not-check_type.true
-        (c.check_type.ensures.1 (subst (λ g. IsTyping g (core_of c.core_at-term.result.now) (typing_tree_of c.args.proof.now) c.args.dialect) (sym (entries_are_listed c.args.entries.now x c.requires.entries)) h))
+    (c.check_type.ensures.1 (subst (λ g. IsTyping g (core_of c.core_at-term.result.now) (typing_tree_of c.args.proof.now) c.args.dialect) (sym (entries_are_listed c.args.entries.now x c.requires.entries)) h))
 
 pub returns-then-not-check_type : goal.returns-then-not-check_type
 returns-then-not-check_type c = λ commands forms.
@@ -70,7 +66,7 @@ returns-then-not-check_type c = λ commands forms.
         tree,
         c.requires.tree,
         subst (λ f. IsFirstFailing c.args.dialect 0 (judgements (entries_listed x) f tree) c.in_ok-number-2.number)
-        (typed_there commands c.args.resolved.now n e forms.are_statements c.core_at-term.ensures) c.in_ok-number-2.ensures,
+            (typed_there commands c.args.resolved.now n e forms.are_statements c.core_at-term.ensures) c.in_ok-number-2.ensures,
       ),
     )
 
@@ -95,8 +91,8 @@ returns-in-Some-first_other c = λ commands forms.
         tree,
         c.requires.tree,
         subst (λ g. IsTyping g (term_of term).place.here tree c.args.dialect) (entries_are_listed c.args.entries.now x c.requires.entries)
-        (subst (λ f. IsTyping (context_of c.args.entries.now) f tree c.args.dialect) (typed_there commands c.args.resolved.now n e forms.are_statements c.core_at-term.ensures)
-        (c.check_type.ensures.0 c.if-not-check_type.false)),
+            (subst (λ f. IsTyping (context_of c.args.entries.now) f tree c.args.dialect) (typed_there commands c.args.resolved.now n e forms.are_statements c.core_at-term.ensures)
+            (c.check_type.ensures.0 c.if-not-check_type.false)),
         differ,
       ),
     )

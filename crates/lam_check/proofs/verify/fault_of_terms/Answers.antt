@@ -1,4 +1,4 @@
-use Rattle.std.proofs.Common.{◌≢◌, ◌+◌, length, map, Some, ap, sym, subst, ◌∙◌, arith}
+use Rattle.std.proofs.Common.{◌≢◌, ◌+◌, map, Some, ap, sym, subst, ◌∙◌, arith}
 use Rattle.std.proofs.lemmas.List.{length-map}
 use Rattle.lam_rules.specs.TypingViews.{typing_tree_of}
 use Rattle.lam_query.specs.Sizes.{span_numbered}

@@ -1,4 +1,4 @@
-use Rattle.std.proofs.Common.{◌≡◌, ◌-◌, suc, length, map, ap, sym, subst, ◌∙◌, arith}
+use Rattle.std.proofs.Common.{map, ap, sym, subst, ◌∙◌, arith}
 use Rattle.std.proofs.lemmas.List.{length-map}
 use Rattle.lam_query.specs.Views.{derivation_of, step_of}
 use Rattle.lam_check.specs.FirstFaults.{AreOfProofs, IsFirstMisplaced}

@@ -1,4 +1,4 @@
-use Rattle.std.proofs.Common.{length, map, ap, sym, ◌∙◌, arith}
+use Rattle.std.proofs.Common.{length, map, ap, sym, ◌∙◌}
 use Rattle.std.proofs.lemmas.List.{length-map}
 use Rattle.lam_scope.specs.TableViews.{binder_number}
 use Rattle.lam_check.proofs.Verifying.{if_ok}

@@ -3,7 +3,7 @@ use Rattle.lam_rules.specs.TermViews.{term_of}
 use Rattle.lam_rules.specs.Typing.{IsTyping}
 use Rattle.lam_rules.specs.TypingViews.{context_of, typing_tree_of, typings_of}
 use Rattle.lam_check.specs.Judgements.{AllFollow, IsFirstFailing, about, steps_in_each, subjects}
-use Rattle.lam_check.proofs.Judging.{is_not, follows, typing_room, typing_next, typing_found, premise_says, premise_says_nothing, typing_node_size, premise_fails, side_fails, itself_fails}
+use Rattle.lam_check.proofs.Judging.{follows, typing_room, typing_next, typing_found, premise_says, premise_says_nothing, typing_node_size, premise_fails, side_fails, itself_fails}
 use Rattle.lam_check.proofs.wrong_steps.+wrong_step.Goals as goal
 
 pub wrong_in-returns-in_default-clause-found : goal.wrong_in-returns-in_default-clause-found

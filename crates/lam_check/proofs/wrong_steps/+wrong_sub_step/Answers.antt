@@ -1,7 +1,7 @@
-use Rattle.std.proofs.Common.{◌+◌, ap, sym, subst, ◌∙◌, arith}
+use Rattle.std.proofs.Common.{◌+◌, ap, subst, ◌∙◌, arith}
 use Rattle.lam_rules.specs.SubViews.{sub_tree_of, sub_trees_of}
 use Rattle.lam_check.specs.Judgements.{AllFollow, IsFirstFailing, sub_judgements_each, sub_steps_in_each}
-use Rattle.lam_check.proofs.Judging.{is_not, sub_follows, sub_room, sub_next, sub_found, sub_all, sub_node_size, sub_premise_fails, sub_itself_fails}
+use Rattle.lam_check.proofs.Judging.{is_not, sub_follows, sub_room, sub_next, sub_node_size, sub_premise_fails, sub_itself_fails}
 use Rattle.lam_check.proofs.wrong_steps.+wrong_sub_step.Goals as goal
 
 pub wrong_sub_premise-wrong_sub_step-requires : goal.wrong_sub_premise-wrong_sub_step-requires

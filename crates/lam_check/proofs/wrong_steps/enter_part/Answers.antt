@@ -1,4 +1,4 @@
-use Rattle.std.proofs.Common.{◌∷◌, ap, sym, ◌∙◌, arith}
+use Rattle.std.proofs.Common.{◌∷◌, ap, sym, ◌∙◌}
 use Rattle.lam_rules.specs.Terms.{let_in}
 use Rattle.lam_rules.specs.TermViews.{term_of}
 use Rattle.lam_rules.specs.TypingViews.{context_of, typings_of}
