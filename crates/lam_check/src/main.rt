@@ -22,6 +22,7 @@ mod terms;
 mod types;
 mod verdicts;
 mod verify;
+mod wrong_steps;
 
 use args::{ArgsFault, Asked, Shown, read_args};
 use drawings::drawing;
