@@ -10,3 +10,7 @@ pub mod Levels
 pub mod Accepting
 pub mod Verifying
 pub mod ListedEntries
+pub mod Misplaced
+pub mod Judging
+pub mod Counting
+pub mod Results

@@ -1,8 +1,7 @@
 -- The entries that a context lists, held against the least ones of the binders that a term sees.
-use Rattle.std.proofs.Common.{◌≡◌, ◌↔◌, ℕ, zero, suc, ◌+◌, ◌<◌, ◌≤◌, List, [], ◌∷◌, ◌++◌, length, get_or, map, take, reverse, Option, Some, None, Bool, true, false, IsTrue, true≢false, refl, sym, ap, subst, ◌∙◌, arith}
-use Rattle.std.specs.Option.{is_some}
+use Rattle.std.proofs.Common.{◌≡◌, ◌↔◌, ℕ, zero, suc, ◌+◌, ◌<◌, ◌≤◌, ◌⊎◌, inl, inr, List, [], ◌∷◌, ◌++◌, length, get_or, map, take, reverse, Option, Some, None, MatchOption, refl, sym, ap, subst, ◌∙◌, arith, append_assoc, append-nil}
 use Rattle.std.specs.List.{AllZip}
-use Rattle.std.proofs.lemmas.List.{reverse-append, reverse-reverse, length-map, take_more, take_all, map-append}
+use Rattle.std.proofs.lemmas.List.{reverse-append, reverse-reverse, length-reverse, length-map, take_more, take_all, take-map, map-append, get_or-map}
 use Rattle.lam_rules.specs.Types.{Typ}
 use Rattle.lam_rules.specs.Terms.{Term}
 use Rattle.lam_rules.specs.Subtyping.{IsBelow, ProvesBelow}
@@ -20,7 +19,7 @@ use Rattle.lam_scope.specs.Places.{Binding, written, of_term, Scope, Place, Stat
 use Rattle.lam_scope.specs.PlacedTerms.{document_terms, term_of, tree_in}
 use Rattle.lam_scope.specs.Sights.{Sight, sight_numbered}
 use Rattle.lam_scope.specs.Tables.{TextBinder, table, binder_numbered, visible_at}
-use Rattle.lam_scope.specs.Views.{table_of, statements_of, origins_of}
+use Rattle.lam_scope.specs.Views.{table_of, origins_of}
 use Rattle.lam_scope.specs.declared.numbers.Origin.{Origin}
 use Rattle.lam_scope.specs.declared.numbers.Origin.TheVariants.{Lambda, Term as TermAt, Declaration, TypeName}
 use Rattle.lam_scope.specs.declared.resolved.Resolved.{Resolved}
@@ -41,7 +40,8 @@ use Rattle.lam_query.specs.WellTypedDocuments.{statements_in}
 use Rattle.lam_query.proofs.RowsAndTerms.{number_told}
 use Rattle.lam_query.proofs.Small.{least_at}
 use Rattle.lam_check.proofs.Verifying.{context_reversed}
-use Rattle.lam_check.specs.inner.Verifying.{AreFormsOf, StandsFor, StandsAt}
+use Rattle.lam_check.specs.FirstFaults.{IsFirstOtherEntry}
+use Rattle.lam_check.specs.inner.Verifying.{AreFormsOf, IsFirstNot, StandsFor, StandsAt}
 
 -- ---- least types of one term
 
@@ -147,18 +147,99 @@ unmapped R Q f (x ∷ xs) (y ∷ ys) each h = (each x y h.0, unmapped R Q f xs y
 unmapped R Q f [] (y ∷ ys) each h = absurd h
 unmapped R Q f (x ∷ xs) [] each h = absurd h
 
+-- ---- the first that is not
+
+-- the outermost of two lists, both innermost first, for which the relation does not hold has this index from the outside
+abbrev FirstWrong : {A B : Type 0} → (A → B → Type 0) → List A → List B → ℕ → Type 0
+FirstWrong R [] ys n = ⊥
+FirstWrong R (x ∷ xs) [] n = ⊥
+FirstWrong R (x ∷ xs) (y ∷ ys) n = FirstWrong R xs ys n ⊎ (AllZip R xs ys × (R x y → ⊥) × (n ≡ length xs))
+
+further_in : {A B : Type 0} (R : A → B → Type 0) (ps : List A) (qs : List B) (xs : List A) (ys : List B) (n : ℕ) → length ps ≡ length qs → FirstWrong R xs ys n → FirstWrong R (ps ++ xs) (qs ++ ys) n
+further_in R [] [] xs ys n long h = h
+further_in R (p ∷ ps) (q ∷ qs) xs ys n long h = inl (further_in R ps qs xs ys n (omega arith) h)
+further_in R [] (q ∷ qs) xs ys n long h = absurd (omega arith)
+further_in R (p ∷ ps) [] xs ys n long h = absurd (omega arith)
+
+-- behind those that are before it, which are the elements of the other lists
+outward : {A B : Type 0} (R : A → B → Type 0) (us : List A) (vs : List B) (xs : List A) (ys : List B) (n : ℕ) → AllZip R us vs → AllZip R (take n xs) (take n ys) → length xs ≡ length ys → n < length xs
+    → ((x : A) (y : B) → R (get_or xs n x) (get_or ys n y) → ⊥) → FirstWrong R (reverse xs ++ us) (reverse ys ++ vs) (n + length us)
+outward R us vs [] ys n so_far before long inside not_there = absurd (omega arith)
+outward R us vs (x ∷ xs) [] n so_far before long inside not_there = absurd (omega arith)
+outward R us vs (x ∷ xs) (y ∷ ys) zero so_far before long inside not_there =
+    let left : reverse (x ∷ xs) ++ us ≡ reverse xs ++ (x ∷ us) = ap (λ l. l ++ us) (reverse-append (x ∷ []) xs) ∙ append_assoc (reverse xs) (x ∷ []) us in
+    let right : reverse (y ∷ ys) ++ vs ≡ reverse ys ++ (y ∷ vs) = ap (λ l. l ++ vs) (reverse-append (y ∷ []) ys) ∙ append_assoc (reverse ys) (y ∷ []) vs in
+    let a = length-reverse xs in
+    let b = length-reverse ys in
+    let none : 0 + length us ≡ length us = omega arith in
+    subst (λ l. FirstWrong R l (reverse (y ∷ ys) ++ vs) (0 + length us)) (sym left)
+    (subst (λ l. FirstWrong R (reverse xs ++ (x ∷ us)) l (0 + length us)) (sym right)
+    (further_in R (reverse xs) (reverse ys) (x ∷ us) (y ∷ vs) (0 + length us) (omega arith) (inr (so_far, not_there x y, none))))
+outward R us vs (x ∷ xs) (y ∷ ys) (suc n) so_far before long inside not_there =
+    let left : reverse (x ∷ xs) ++ us ≡ reverse xs ++ (x ∷ us) = ap (λ l. l ++ us) (reverse-append (x ∷ []) xs) ∙ append_assoc (reverse xs) (x ∷ []) us in
+    let right : reverse (y ∷ ys) ++ vs ≡ reverse ys ++ (y ∷ vs) = ap (λ l. l ++ vs) (reverse-append (y ∷ []) ys) ∙ append_assoc (reverse ys) (y ∷ []) vs in
+    let far : n + suc (length us) ≡ suc n + length us = omega arith in
+    subst (λ l. FirstWrong R l (reverse (y ∷ ys) ++ vs) (suc n + length us)) (sym left)
+    (subst (λ l. FirstWrong R (reverse xs ++ (x ∷ us)) l (suc n + length us)) (sym right)
+    (subst (FirstWrong R (reverse xs ++ (x ∷ us)) (reverse ys ++ (y ∷ vs))) far
+    (outward R (x ∷ us) (y ∷ vs) xs ys n (before.0, so_far) before.1 (omega arith) (omega arith) not_there)))
+
+turned : {A B : Type 0} (R : A → B → Type 0) (xs : List A) (ys : List B) (n : ℕ) → length xs ≡ length ys → IsFirstNot R xs ys n → FirstWrong R (reverse xs) (reverse ys) n
+turned R xs ys n long h =
+    let none : n + 0 ≡ n = omega arith in
+    subst (FirstWrong R (reverse xs) (reverse ys)) none
+    (subst (λ l. FirstWrong R (reverse xs) l (n + 0)) (append-nil (reverse ys))
+    (subst (λ l. FirstWrong R l (reverse ys ++ []) (n + 0)) (append-nil (reverse xs)) (outward R [] [] xs ys n tt h.before long h.inside h.not_there)))
+
+map_reversed : {A B : Type 0} (f : A → B) (xs : List A) → map f (reverse xs) ≡ reverse (map f xs)
+map_reversed f [] = refl
+map_reversed f (x ∷ xs) =
+    ap (map f) (reverse-append (x ∷ []) xs) ∙ map-append f (reverse xs) (x ∷ []) ∙ ap (λ l. l ++ f x ∷ []) (map_reversed f xs) ∙ sym (reverse-append (f x ∷ []) (map f xs))
+
+mapped_wrong : {A B C : Type 0} (R : A → C → Type 0) (Q : B → C → Type 0) (f : A → B) (xs : List A) (ys : List C) (n : ℕ) → ((x : A) (y : C) → R x y → Q (f x) y) → ((x : A) (y : C) → Q (f x) y → R x y)
+    → FirstWrong R xs ys n → FirstWrong Q (map f xs) ys n
+mapped_wrong R Q f [] ys n there back h = absurd h
+mapped_wrong R Q f (x ∷ xs) [] n there back h = absurd h
+mapped_wrong R Q f (x ∷ xs) (y ∷ ys) n there back (inl h) = inl (mapped_wrong R Q f xs ys n there back h)
+mapped_wrong R Q f (x ∷ xs) (y ∷ ys) n there back (inr h) = inr (mapped R Q f xs ys there h.0, (λ q. h.1 (back x y q)), h.2 ∙ sym (length-map xs f))
+
+origins_long : (ss : List Statement) (sight : Sight) (s : Scope) → AreOriginsOf ss sight s → length sight ≡ length s
+origins_long ss [] [] h = refl
+origins_long ss (o ∷ sight) (b ∷ s) h = ap suc (origins_long ss sight s h.1)
+origins_long ss [] (b ∷ s) h = absurd h
+origins_long ss (o ∷ sight) [] h = absurd h
+
+-- the first entry that does not stand for the least one is the first that is not least
+first_other : (ss : List Statement) (f : Origin → Option Typ) (sight : Sight) (s : Scope) (g : Context) (d : Dialect) (n : ℕ) → AreOriginsOf ss sight s → AreLeastEntries s (map f sight) d
+    → FirstWrong (λ o entry. StandsFor o (f o) entry d) sight g n → IsFirstOtherEntry s g d n
+first_other ss f [] s g d n origins least h = absurd h
+first_other ss f (o ∷ sight) s [] d n origins least h = absurd h
+first_other ss f (o ∷ sight) [] (entry ∷ g) d n origins least h = absurd origins
+first_other ss f (o ∷ sight) (b ∷ s) (entry ∷ g) d n origins least (inl h) = inl (first_other ss f sight s g d n origins.1 least.1 h)
+first_other ss f (o ∷ sight) (b ∷ s) (entry ∷ g) d n origins least (inr h) =
+    let one = stands_least ss o b s (f o) entry d origins.0 least.0 in
+    let rest = each_least ss f sight s g d origins.1 least.1 in
+    inr (rest.0 h.0, (λ is. h.1 (one.1 is)), h.2 ∙ origins_long ss sight s origins.1)
+
+pub other_not_least : {A : Type 0} (s : Scope) (g : Context) (d : Dialect) (n : ℕ) → IsFirstOtherEntry s g d n → AreLeastEntries s g d → A
+other_not_least [] g d n h least = absurd h
+other_not_least (b ∷ s) [] d n h least = absurd h
+other_not_least (b ∷ s) (entry ∷ g) d n (inl h) least = other_not_least s g d n h least.1
+other_not_least (b ∷ s) (entry ∷ g) d n (inr h) least = absurd (h.1 least.0)
+
 -- ---- what is wrong
+
+pub first_not : {A B C D : Type 0} (R : C → D → Type 0) (f : A → C) (g : B → D) (xs : List A) (ys : List B) (i : ℕ) (x : A) (y : B) → i < length xs → i < length ys → y ≡ get_or ys i y
+    → (R (f (get_or xs i x)) (g y) → ⊥) → AllZip R (map f (take i xs)) (map g (take i ys)) → IsFirstNot R (map f xs) (map g ys) i
+first_not R f g xs ys i x y inside within at not_here so_far = record {
+  inside = (let long = length-map xs f in omega arith);
+  before = subst (λ l. AllZip R l (take i (map g ys))) (sym (take-map f i xs)) (subst (λ l. AllZip R (map f (take i xs)) l) (sym (take-map g i ys)) so_far);
+  not_there = λ a b h. not_here
+      (subst (λ z. R (f (get_or xs i x)) z) (get_or-map g ys i y b within ∙ ap g (sym at)) (subst (λ z. R z (get_or (map g ys) i b)) (get_or-map f xs i x a inside) h));
+}
 
 pub no_number : {A : Type 0} (n : ℕ) → Some n ≡ None → A
 no_number n none = let clash : Some n ≡ None = none in absurd cc
-
-pub is_wrong : {A : Type 0} (o : Option ℕ) (b : Bool) → b ≡ is_some o → IsTrue b → o ≡ None → A
-is_wrong None b is so none = absurd (true≢false (sym so ∙ is))
-is_wrong (Some n) b is so none = no_number n none
-
-pub not_wrong : (o : Option ℕ) (b : Bool) → b ≡ is_some o → b ≡ false → o ≡ None
-not_wrong None b is other = refl
-not_wrong (Some n) b is other = absurd (true≢false (sym is ∙ other))
 
 -- ---- by number
 
@@ -238,12 +319,29 @@ module _ (cs : List CommandTree) (scopes : Scopes) (resolved : Resolved) (typing
             unmapped ByNumber ByOrigin origin_of bs types at_number (subst (λ os. AllZip ByOrigin os types) (sym visible) outward),
       )
 
+  -- the first entry that does not stand for that of its binder is the first that is not least
+  listed_other : (n : ℕ) (bs : List ℕ) (entries : List (Option Ty)) (k : ℕ) → n < length (document_terms cs) → bs ≡ visible_at (table_of scopes) n → length entries ≡ length bs
+      → IsFirstNot (StandsAt (origins_of resolved) typing d) bs (map written_of entries) k → IsFirstOtherEntry (term_of (tree_in (document_terms cs) n)).place.scope (context_of entries) d k
+  listed_other n bs entries k inside seen long h =
+      let sight = sight_numbered Stated n in
+      let types = map written_of entries in
+      let within : n < length (places_of [] Stated) = (let same = ap length (same_places cs) ∙ length-map (document_terms cs) (λ t. (term_of t).place) in omega (arith, same, inside)) in
+      let visible : map origin_of bs ≡ reverse sight = ap (map origin_of) (seen ∙ ap (λ t. visible_at t n) forms.are_scopes.same_table) ∙ visible_origins cs n in
+      let there : (place_numbered Stated n).scope ≡ (term_of (tree_in (document_terms cs) n)).place.scope = ap (λ (p : Place). p.scope) (number_told cs n) in
+      let size : length bs ≡ length types = sym long ∙ sym (length-map entries written_of) in
+      let inward = mapped_wrong ByNumber ByOrigin origin_of (reverse bs) (reverse types) k at_origin at_number (turned ByNumber bs types k size h) in
+      let own = subst (λ os. FirstWrong ByOrigin os (reverse types) k) (map_reversed origin_of bs ∙ ap reverse visible ∙ reverse-reverse sight) inward in
+      subst (λ s. IsFirstOtherEntry s (context_of entries) d k) there
+      (first_other Stated Found sight (place_numbered Stated n).scope (context_of entries) d k (sight_origins cs n) (sight_least n within)
+      (subst (λ g. FirstWrong ByOrigin sight g k) (sym (context_reversed entries)) own))
+
   -- what is found wrong, if anything, by the numbers of the binders
   pub wrong_is : (n : ℕ) (origins : List Origin) (bs : List ℕ) (entries : List (Option Ty)) (wrong : Option ℕ) → n < length (document_terms cs) → bs ≡ visible_at (table_of scopes) n → origins ≡ origins_of resolved
-      → (wrong ≡ None ↔ AllZip (StandsAt origins typing d) bs (map written_of entries))
-      → (wrong ≡ None ↔ AreLeastEntries (term_of (tree_in (document_terms cs) n)).place.scope (context_of entries) d)
-  wrong_is n origins bs entries wrong inside seen are h =
-      let least = listed_least n bs entries inside seen in (
-        λ none. least.0 (subst (λ os. AllZip (StandsAt os typing d) bs (map written_of entries)) are (h.0 none)),
-        λ all. h.1 (subst (λ os. AllZip (StandsAt os typing d) bs (map written_of entries)) (sym are) (least.1 all)),
-      )
+      → length entries ≡ length bs
+      → MatchOption wrong (AllZip (StandsAt origins typing d) bs (map written_of entries)) (λ k. IsFirstNot (StandsAt origins typing d) bs (map written_of entries) k)
+      → MatchOption wrong (AreLeastEntries (term_of (tree_in (document_terms cs) n)).place.scope (context_of entries) d)
+      (λ k. IsFirstOtherEntry (term_of (tree_in (document_terms cs) n)).place.scope (context_of entries) d k)
+  wrong_is n origins bs entries None inside seen are long h =
+      (listed_least n bs entries inside seen).0 (subst (λ os. AllZip (StandsAt os typing d) bs (map written_of entries)) are h)
+  wrong_is n origins bs entries (Some k) inside seen are long h =
+      listed_other n bs entries k inside seen long (subst (λ os. IsFirstNot (StandsAt os typing d) bs (map written_of entries) k) are h)

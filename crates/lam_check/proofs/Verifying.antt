@@ -1,5 +1,5 @@
 -- Derivations that are held against a text.
-use Rattle.std.proofs.Common.{◌≡◌, ◌↔◌, ℕ, ◌+◌, ◌-◌, ◌<◌, ◌≤◌, zero, suc, List, [], ◌∷◌, ◌++◌, length, get_or, map, take, reverse, Option, Some, None, Result, Ok, Err, IfOk, Bool, true, false, not, IsTrue, true≢false, refl, sym, ap, subst, ◌∙◌, arith}
+use Rattle.std.proofs.Common.{◌≡◌, ℕ, ◌+◌, ◌-◌, ◌<◌, ◌≤◌, zero, suc, List, [], ◌∷◌, ◌++◌, length, get_or, map, take, reverse, Option, Some, None, option_map, Result, Ok, Err, IfOk, Bool, true, false, not, IsTrue, true≢false, refl, sym, ap, subst, ◌∙◌, arith}
 use Rattle.std.proofs.lemmas.List.{length-map, reverse-append, reverse-reverse, take_more, take_all, map-append}
 use Rattle.std.proofs.lemmas.Simd.{map-map}
 use Rattle.std.proofs.lemmas.Option.{same_Some}
@@ -7,7 +7,6 @@ use Rattle.std.specs.Str.{bytes_eq}
 use Rattle.std.proofs.lemmas.Slice.Eq.{bytes_eq-Decides}
 use Rattle.lam_rules.specs.Texts.{Text}
 use Rattle.lam_rules.specs.TermViews.{written_of}
-use Rattle.lam_rules.specs.Types.{Typ}
 use Rattle.lam_rules.specs.Typing.{TypingTree, typing_step, IsTyping}
 use Rattle.lam_rules.specs.Terms.{Term}
 use Rattle.lam_rules.specs.TypingViews.{context_of}
@@ -28,18 +27,19 @@ use Rattle.lam_query.specs.declared.answers.Step.{Step as RustStep}
 use Rattle.lam_query.specs.Views.{step_of}
 use Rattle.lam_query.specs.Derivations.{Derivation, names_seen}
 use Rattle.lam_query.specs.ProofTrees.{typing_tree_in}
-use Rattle.lam_query.specs.Steps.{Conclusion, typing, Step, steps_of, steps_of_each, last_steps, typing_proof, typing_proofs, premise_terms, with_side}
+use Rattle.lam_query.specs.Steps.{typing, Step, steps_of, steps_of_each, last_steps, typing_proof, typing_proofs, premise_terms, with_side}
 use Rattle.lam_query.specs.WellTypedDocuments.{statements_in}
 use Rattle.lam_typing.specs.LeastTypes.{AreLeastEntries}
 use Rattle.lam_typing.specs.declared.typing.Typing.{Typing}
 use Rattle.lam_query.specs.Commands.{AreCommandsOfText}
-use Rattle.lam_query.specs.Sizes.{IsSizeFault, IsSmall}
+use Rattle.lam_query.specs.Sizes.{IsSizeFault}
 use Rattle.lam_query.proofs.OneAnswer.{one_document}
 use Rattle.lam_query.proofs.OneProof.{one_proof_of_steps}
 use Rattle.lam_query.proofs.ReadTrees.{tree_read}
 use Rattle.lam_query.proofs.RowsAndTerms.{span_told, names_told, number_told}
 use Rattle.lam_check.specs.Verified.{IsProofOf, IsProofAt, IsVerified}
-use Rattle.lam_check.specs.inner.Verifying.{AreFormsOf, MakeTree, IsOfSomeTerm, span_in}
+use Rattle.lam_check.specs.FirstFaults.{HasNames, MakeTree, entries_listed, span_in, last_conclusion, last_span}
+use Rattle.lam_check.specs.inner.Verifying.{AreFormsOf}
 
 -- the context of entries
 pub context_reversed : (entries : List (Option Ty)) → context_of entries ≡ reverse (map written_of entries)
@@ -52,19 +52,14 @@ one_tree steps made tree term h is =
     let same = one_proof_of_steps (typing_proof term tree) h.whole (sym is ∙ h.are_steps) in
     same_Some tree made (sym (tree_read term tree) ∙ ap typing_tree_in same ∙ h.is_tree)
 
--- the last step of a proof about a term has the term's span
-abbrev pub last_conclusion : List Step → Option Conclusion
-last_conclusion [] = None
-last_conclusion (s ∷ []) = Some s.conclusion
-last_conclusion (s ∷ t ∷ steps) = last_conclusion (t ∷ steps)
-
 last_pushed : (steps : List Step) (s : Step) → last_conclusion (steps ++ s ∷ []) ≡ Some s.conclusion
 last_pushed [] s = refl
 last_pushed (t ∷ []) s = refl
 last_pushed (t ∷ u ∷ steps) s = last_pushed (u ∷ steps) s
 
-pub last_span : (term : PlacedTree) (tree : TypingTree) → span_in (last_conclusion (steps_of 0 (typing_proof term tree))) ≡ Some (term_of term).span
-last_span term (typing_step rule type premises side) =
+-- the last step of a proof about a term has the term's span
+pub ends_with_span : (term : PlacedTree) (tree : TypingTree) → span_in (last_conclusion (steps_of 0 (typing_proof term tree))) ≡ Some (term_of term).span
+ends_with_span term (typing_step rule type premises side) =
     ap span_in (last_pushed (steps_of_each 0 (with_side (typing_proofs term (premise_terms rule term) premises) side))
     (record { conclusion = typing rule (term_of term).span type; premises = last_steps 0 (with_side (typing_proofs term (premise_terms rule term) premises) side) }))
 
@@ -81,7 +76,7 @@ as_many commands resolved are =
     ap (λ ss. length (places_of [] ss)) are ∙ ap length (same_places commands) ∙ length-map (document_terms commands) (λ t. (term_of t).place)
 
 -- what the checker of proofs takes
-typed_there : (commands : List CommandTree) (resolved : Resolved) (n : ℕ) (e : Term) → statements_of resolved ≡ statements_in commands → e ≡ (place_numbered (statements_of resolved) n).here
+pub typed_there : (commands : List CommandTree) (resolved : Resolved) (n : ℕ) (e : Term) → statements_of resolved ≡ statements_in commands → e ≡ (place_numbered (statements_of resolved) n).here
     → e ≡ (term_of (tree_in (document_terms commands) n)).place.here
 typed_there commands resolved n e are is = is ∙ ap (λ ss. (place_numbered ss n).here) are ∙ ap (λ (p : Place). p.here) (number_told commands n)
 
@@ -110,6 +105,19 @@ is_proof commands scopes resolved analysed n entries derivation made e d forms t
 pub names_are : (commands : List CommandTree) (scopes : Scopes) (n : ℕ) (derivation : Derivation) (d : Dialect) → AreScopesOf scopes commands → IsProofAt commands n derivation d
     → map (λ x. x.name) derivation.context ≡ map (λ b. shown_name (binder_numbered (table_of scopes) b).name) (visible_at (table_of scopes) n)
 names_are commands scopes n derivation d forms h = h.names ∙ sym (names_there commands scopes n forms)
+
+-- the same of names that are listed, and back
+pub names_listed : (commands : List CommandTree) (scopes : Scopes) (n : ℕ) (derivation : Derivation) → AreScopesOf scopes commands → HasNames (tree_in (document_terms commands) n) derivation
+    → map (λ x. x.name) derivation.context ≡ map (λ b. shown_name (binder_numbered (table_of scopes) b).name) (visible_at (table_of scopes) n)
+names_listed commands scopes n derivation forms h = h ∙ sym (names_there commands scopes n forms)
+
+pub listed_names : (commands : List CommandTree) (scopes : Scopes) (n : ℕ) (derivation : Derivation) → AreScopesOf scopes commands
+    → map (λ x. x.name) derivation.context ≡ map (λ b. shown_name (binder_numbered (table_of scopes) b).name) (visible_at (table_of scopes) n) → HasNames (tree_in (document_terms commands) n) derivation
+listed_names commands scopes n derivation forms h = h ∙ names_there commands scopes n forms
+
+-- the entries that are listed, as the checker of proofs takes them
+pub entries_are_listed : (entries : List (Option Ty)) (derivation : Derivation) → map written_of entries ≡ map (λ x. x.type) derivation.context → context_of entries ≡ entries_listed derivation
+entries_are_listed entries derivation types = context_reversed entries ∙ ap reverse types
 
 pub least_are : (commands : List CommandTree) (n : ℕ) (entries : List (Option Ty)) (derivation : Derivation) (d : Dialect) → map written_of entries ≡ map (λ x. x.type) derivation.context
     → IsProofAt commands n derivation d → AreLeastEntries (term_of (tree_in (document_terms commands) n)).place.scope (context_of entries) d
@@ -210,9 +218,18 @@ last_got (s ∷ t ∷ steps) =
     let less : suc (length (t ∷ steps) - 1) ≡ length (s ∷ t ∷ steps) - 1 = omega arith in
     last_got (t ∷ steps) ∙ ap (λ n. span_of_step (slice_get (s ∷ t ∷ steps) n)) less
 
-pub last_is : (steps : List RustStep) (found : Option RustStep) (term : PlacedTree) (tree : TypingTree) → found ≡ slice_get steps (length steps - 1)
-    → map step_of steps ≡ steps_of 0 (typing_proof term tree) → span_of_step found ≡ Some (term_of term).span
-last_is steps found term tree is are = ap span_of_step is ∙ sym (last_got steps) ∙ ap (λ ss. span_in (last_conclusion ss)) are ∙ last_span term tree
+pub last_concluded : (steps : List RustStep) (found : Option RustStep) → found ≡ slice_get steps (length steps - 1) → last_conclusion (map step_of steps) ≡ option_map (λ s. (step_of s).conclusion) found
+last_concluded steps found is = go steps ∙ ap (option_map (λ s. (step_of s).conclusion)) (sym is)
+  where
+    go : (steps : List RustStep) → last_conclusion (map step_of steps) ≡ option_map (λ s. (step_of s).conclusion) (slice_get steps (length steps - 1))
+    go [] = refl
+    go (s ∷ []) = refl
+    go (s ∷ t ∷ steps) =
+        let less : suc (length (t ∷ steps) - 1) ≡ length (s ∷ t ∷ steps) - 1 = omega arith in
+        go (t ∷ steps) ∙ ap (λ n. option_map (λ s. (step_of s).conclusion) (slice_get (s ∷ t ∷ steps) n)) less
+
+pub last_found : (steps : List RustStep) (found : Option RustStep) → found ≡ slice_get steps (length steps - 1) → last_span (map step_of steps) ≡ span_of_step found
+last_found steps found is = last_got steps ∙ ap span_of_step (sym is)
 
 -- ---- whole texts
 
@@ -225,12 +242,3 @@ too_large text commands derivation d s are fault v =
 pub if_ok : {T E : Type 0} {P Q : T → Type 0} (r : Result T E) → ((x : T) → P x → Q x) → IfOk r P → IfOk r Q
 if_ok (Ok x) f h = f x h
 if_ok (Err e) f h = tt
-
-pub verified : (text : List ℕ) (commands : List CommandTree) (derivation : Derivation) (d : Dialect) (b : Bool) → AreCommandsOfText text commands → IsSmall commands d
-    → (IsTrue b ↔ IsOfSomeTerm commands derivation d) → (IsTrue b ↔ IsVerified text derivation d)
-verified text commands derivation d b are small h = (
-  λ so. let it = h.0 so in record { commands = commands; are_commands = are; small = small; number = it.number; inside = it.inside; is_proof = it.is_proof },
-  λ v.
-      let same = one_document text v.commands commands v.are_commands are in
-      h.1 (subst (λ cs. IsOfSomeTerm cs derivation d) same (record { number = v.number; inside = v.inside; is_proof = v.is_proof })),
-)

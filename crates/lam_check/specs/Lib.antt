@@ -8,4 +8,7 @@ pub mod Json
 pub mod Readable
 pub mod Levels
 pub mod Verified
+pub mod Judgements
+pub mod FirstFaults
+pub mod Verdicts
 pub mod inner

@@ -22,6 +22,7 @@ mod terms;
 mod types;
 mod verdicts;
 mod verify;
+mod wrong_steps;
 
 use args::{ArgsFault, Asked, Shown, read_args};
 use drawings::drawing;
@@ -50,6 +51,9 @@ const USAGE: u8 = 2;
 const DEVICE: u8 = 4;
 
 const MEMORY: u8 = 5;
+
+/// The name of standard input in reports.
+const STANDARD_INPUT: &str = "<stdin>";
 
 /// The number of files between two progress messages.
 const COUNTED: usize = 100;
@@ -269,7 +273,7 @@ fn tell<R: Print>(rt: &R, text: &str) -> u8 {
 /// Returns the name of a file as it appears in reports.
 fn shown_name(name: &str) -> &str {
     if name == args::INPUT {
-        return "<stdin>";
+        return STANDARD_INPUT;
     }
     name
 }

@@ -1,17 +1,20 @@
 //! The results of verifying derivations.
-ghost use Rattle.std.specs.Prelude.{◌≡◌, All, IfOk};
+ghost use Rattle.std.specs.Prelude.{◌≡◌, ◌++◌, ◌∷◌, [], All, IfOk, OnOk, codes, flat_map, map, string_bytes};
 ghost use Rattle.serde_json.specs.View.{view};
-ghost use Rattle.lam_query.specs.Views.{StepStandsIn};
+ghost use Rattle.lam_query.specs.Views.{StepStandsIn, derivation_of, entry_of, step_of};
+ghost use Rattle.lam_check.specs.FirstFaults.{last_conclusion};
 ghost use Rattle.lam_check.specs.Readable.{IsReadable};
+ghost use Rattle.lam_check.specs.Verdicts.{IsVerdict, accepted_line, claim_in, context_text, entry_text, message, next_entry, refused_line};
 ghost use Rattle.lam_check.specs.Verified.{IsVerifiedValue};
+ghost use Rattle.lam_check.specs.declared.read_derivations.Unread.TheVariants.{Memory};
 
 use crate::drawings::claim_of;
-use crate::first_faults::{FirstFault, first_fault, is_too_deep};
+use crate::first_faults::FirstFault;
 use crate::read_derivations::{Unread, derivation_in};
 use crate::read_values::two_members;
 use crate::reports::Checked;
-use crate::verify::is_verified;
-use lam_query::answers::Derivation;
+use crate::verify::first_fault;
+use lam_query::answers::{Derivation, Step};
 use lam_rules::{Dialect, Ty, plain_text_of};
 use lam_text::{Doc, Encoding};
 use serde_json::Value;
@@ -36,28 +39,83 @@ pub fn verdict(
 ) -> Result<Checked, AllocError>
     ensures accepted { IfOk result (λ verdict. verdict.count ≡ 0 → IsVerifiedValue text.now (view value.now) dialect) }
     ensures every_readable { IfOk result (λ verdict. (sent : IsVerifiedValue text.now (view value.now) dialect) → IsReadable text.now sent.derivation → verdict.count ≡ 0) }
+    ensures report { IfOk result (λ verdict. IsVerdict name.now text.now (view value.now) dialect (string_bytes verdict.report) verdict.count) }
 {
     let doc = Doc::new(alloc, text, Encoding::Utf16)?;
     let derivation = match derivation_in(alloc, &doc, value) {
         Ok(derivation) => derivation,
-        Err(Unread::Memory) => return Err(AllocError),
-        Err(fault) => return refused(format!(in alloc; "{name}: {fault}\n")?),
+        Err(fault) => return refused(alloc, name, &unread_message(alloc, fault)?),
     };
-    if is_too_deep(alloc, &derivation.steps)? {
-        let fault = FirstFault::TooDeep;
-        return refused(format!(in alloc; "{name}: {fault}\n")?);
+    match first_fault(alloc, text, &derivation, dialect)? {
+        None => accepted(alloc, name, text, &derivation),
+        Some(fault) => refused(alloc, name, &message_of(alloc, fault)?),
     }
-    if is_verified(alloc, text, &derivation, dialect)? {
-        return accepted(alloc, name, text, &derivation);
-    }
-    let fault = first_fault(alloc, text, &derivation, dialect)?;
-    refused(format!(in alloc; "{name}: {fault}\n")?)
 }
 
-fn refused(report: String) -> Result<Checked, AllocError>
-    ensures { IfOk result (λ verdict. verdict.count ≡ 1) }
+/// The message of a value that could not be read for another reason than memory.
+fn unread_message(alloc: Global, fault: Unread) -> Result<String, AllocError>
+    ensures { IfOk result (λ _. fault ≡ Memory → ⊥) }
 {
+    match fault {
+        Unread::Memory => Err(AllocError),
+        _ => Ok(format!(in alloc; "{fault}")?),
+    }
+}
+
+fn refused(alloc: Global, name: &str, message: &str) -> Result<Checked, AllocError>
+    ensures count { IfOk result (λ verdict. verdict.count ≡ 1) }
+    ensures report { IfOk result (λ verdict. string_bytes verdict.report ≡ refused_line name.now message.now) }
+{
+    let mut report = String::from_str(alloc, name)?;
+    report.push_str(": ")?;
+    report.push_str(message)?;
+    report.push_str("\n")?;
     Ok(Checked { report, count: 1 })
+}
+
+/// The message of an error in a derivation.
+#[tactic(auto, unfolding(crate::specs::Verdicts::message))]
+fn message_of(alloc: Global, fault: FirstFault) -> Result<String, AllocError>
+    ensures { IfOk result (λ text. string_bytes text ≡ message fault) }
+{
+    let mut out = String::new(alloc);
+    match fault {
+        FirstFault::NoStep => out.push_str("it has no step")?,
+        FirstFault::TooDeep => {
+            out.push_str("its steps follow from each other on more than 16,384 levels")?;
+        }
+        FirstFault::Premises(step) => {
+            write!(
+                out,
+                "the steps that step {step} follows from are not the last ones before it"
+            )?;
+        }
+        FirstFault::Loose(step) => {
+            write!(
+                out,
+                "step {step} is the last one, and no typing that follows from all others"
+            )?;
+        }
+        FirstFault::TooLarge => out.push_str("the text has a type of more than 4,096 nodes")?,
+        FirstFault::NoTerm(step) => write!(out, "step {step} is about no term of the text")?,
+        FirstFault::Names => {
+            out.push_str("the context has other names than those that the term sees")?;
+        }
+        FirstFault::Entry(entry) => {
+            write!(
+                out,
+                "entry {entry} of the context is not the least type of its name"
+            )?;
+        }
+        FirstFault::Step(step) => {
+            write!(
+                out,
+                "step {step} does not follow by its rule from its premises"
+            )?;
+        }
+        FirstFault::Range(step) => write!(out, "step {step} has the range of another term")?,
+    }
+    Ok(out)
 }
 
 /// Reports the accepted context, if not empty, and the conclusion of the last step.
@@ -68,15 +126,30 @@ fn accepted(
     derivation: &Derivation,
 ) -> Result<Checked, AllocError>
     requires { All (StepStandsIn text.now) derivation.now.steps.items }
-    ensures { IfOk result (λ verdict. verdict.count ≡ 0) }
+    ensures count { IfOk result (λ verdict. verdict.count ≡ 0) }
+    ensures report { IfOk result (λ verdict. string_bytes verdict.report ≡ accepted_line name.now text.now (derivation_of derivation.now)) }
 {
-    let mut report = format!(in alloc; "{name}: accepted: ")?;
+    let mut report = String::from_str(alloc, name)?;
+    report.push_str(": accepted: ")?;
     push_context(alloc, &mut report, &derivation.context)?;
-    if let Some(last) = derivation.steps.last() {
-        report.push_str(&claim_of(alloc, text, last)?)?;
-    }
+    push_claim(alloc, &mut report, text, &derivation.steps)?;
     report.push_str("\n")?;
     Ok(Checked { report, count: 0 })
+}
+
+/// Writes the conclusion of the last step.
+fn push_claim(alloc: Global, out: &mut String, text: &str, steps: &[Step]) -> Result<(), AllocError>
+    requires { All (StepStandsIn text.now) steps.now }
+    ensures { OnOk result (string_bytes out.new ≡ string_bytes out.old ++ claim_in text.now (last_conclusion (map step_of steps.now))) }
+{
+    match steps.last() {
+        Some(last) => {
+            let claim = claim_of(alloc, text, last)?;
+            out.push_str(&claim)?;
+            Ok(())
+        }
+        None => Ok(()),
+    }
 }
 
 /// Writes a context before its conclusion, as in `x:Nat, y |- `.
@@ -84,24 +157,48 @@ fn push_context(
     alloc: Global,
     out: &mut String,
     context: &[(String, Option<Ty>)],
-) -> Result<(), AllocError> {
-    for i in 0..context.len() {
-        if i > 0 {
-            out.push_str(", ")?;
-        }
-        push_entry(alloc, out, &context[i])?;
-    }
-    if context.is_empty() {
+) -> Result<(), AllocError>
+    ensures { OnOk result (string_bytes out.new ≡ string_bytes out.old ++ context_text (map entry_of context.now)) }
+{
+    let Some((first, others)) = context.split_first() else {
         return Ok(());
-    }
+    };
+    push_entry(alloc, out, first)?;
+    push_others(alloc, out, others)?;
     out.push_str(" |- ")
+}
+
+fn push_others(
+    alloc: Global,
+    out: &mut String,
+    entries: &[(String, Option<Ty>)],
+) -> Result<(), AllocError>
+    ensures { OnOk result (string_bytes out.new ≡ string_bytes out.old ++ flat_map next_entry (map entry_of entries.now)) }
+{
+    for entry in entries {
+        push_next(alloc, out, entry)?;
+    }
+    Ok(())
+}
+
+fn push_next(
+    alloc: Global,
+    out: &mut String,
+    entry: &(String, Option<Ty>),
+) -> Result<(), AllocError>
+    ensures { OnOk result (string_bytes out.new ≡ string_bytes out.old ++ next_entry (entry_of entry.now)) }
+{
+    out.push_str(", ")?;
+    push_entry(alloc, out, entry)
 }
 
 fn push_entry(
     alloc: Global,
     out: &mut String,
     entry: &(String, Option<Ty>),
-) -> Result<(), AllocError> {
+) -> Result<(), AllocError>
+    ensures { OnOk result (string_bytes out.new ≡ string_bytes out.old ++ entry_text (entry_of entry.now)) }
+{
     out.push_str(&entry.0)?;
     let Some(ty) = &entry.1 else {
         return Ok(());

@@ -2,11 +2,11 @@
 //!
 //! The producer of the derivation is not trusted: the context must list the least types of the names that a term of the text sees,
 //! the steps are built into a proof tree that the proof checker accepts for that term, and the steps of the tree, with the ranges
-//! of the term's parts, must equal those given.
+//! of the term's parts, must equal those given. The first of these that fails is named.
 ghost use Rattle.std.specs.List.{AllZip};
-ghost use Rattle.std.specs.Prelude.{◌≡◌, ◌<◌, ◌↔◌, IsTrue, List, [], length, Some, None, map, reverse, IfOk};
-ghost use Rattle.lam_rules.specs.TermViews.{written_of};
-ghost use Rattle.lam_rules.specs.Typing.{TypingTree};
+ghost use Rattle.std.specs.Prelude.{◌≡◌, ◌<◌, ◌↔◌, IsTrue, List, [], length, Some, None, map, reverse, IfOk, MatchOption};
+ghost use Rattle.lam_rules.specs.TermViews.{term_of as core_of, written_of};
+ghost use Rattle.lam_rules.specs.Typing.{IsTyping};
 ghost use Rattle.lam_rules.specs.TypingViews.{context_of, typing_tree_of};
 ghost use Rattle.lam_rules.specs.TypeViews.{typ_of};
 ghost use Rattle.lam_rules.specs.Subtyping.{IsBelow};
@@ -15,58 +15,86 @@ ghost use Rattle.lam_rules.specs.declared.types.Ty.{Ty as RustTy};
 ghost use Rattle.lam_scope.specs.Names.{shown_name};
 ghost use Rattle.lam_scope.specs.Places.{places_of};
 ghost use Rattle.lam_scope.specs.PlacedTerms.{document_terms, term_of, tree_in};
-ghost use Rattle.lam_scope.specs.Tables.{binder_numbered, visible_at};
+ghost use Rattle.lam_scope.specs.Tables.{binder_numbered, place_row_numbered, visible_at};
 ghost use Rattle.lam_scope.specs.TableViews.{binder_number};
-ghost use Rattle.lam_scope.specs.Views.{table_of, statements_of, AreScopesOf};
+ghost use Rattle.lam_scope.specs.Views.{table_of, statements_of};
 ghost use Rattle.lam_syntax.specs.Trees.{CommandTree};
 ghost use Rattle.lam_typing.specs.LeastTypes.{AreLeastEntries};
-ghost use Rattle.lam_query.specs.Steps.{steps_of, typing_proof, typing, subtyping};
+ghost use Rattle.lam_query.specs.Steps.{typing, subtyping};
 ghost use Rattle.lam_query.specs.Views.{derivation_of, entry_of, step_of};
-ghost use Rattle.lam_check.specs.Verified.{IsProofAt, IsVerified};
-ghost use Rattle.lam_check.specs.inner.Verifying.{AreFormsOf, MakeTree, IsOfSomeTerm, StandsAt, span_in};
+ghost use Rattle.lam_check.specs.FirstFaults.{DifferFirst, IsFirstOtherEntry, IsResult, MakeTree, entries_listed, last_span, span_in};
+ghost use Rattle.lam_check.specs.Judgements.{IsFirstFailing, judgements};
+ghost use Rattle.lam_check.specs.Levels.{AreTooDeep};
+ghost use Rattle.lam_check.specs.inner.Verifying.{AreFormsOf, IsFirstNot, IsResultAt, IsResultIn, StandsAt};
 
 use crate::commands::commands_of;
+use crate::first_faults::{FirstFault, first_misplaced, is_too_deep};
+use crate::wrong_steps::{copy_of_entry, wrong_step};
 use lam_query::answers::{Derivation, Step};
 use lam_query::{proof_of_steps, steps_of_proof};
-use lam_rules::{Dialect, SubRule, Ty, TypeProof, TypeRule, check_type, copy_of, same, wf};
+use lam_rules::{Core, Dialect, SubRule, Ty, TypeProof, TypeRule, check_type, same, wf};
 use lam_scope::{Binder, Origin, Place, Resolved, ScopeFault, Scopes, bind, resolve};
 use lam_sub::is_sub;
 use lam_token::Span;
 use lam_typing::{Typing, TypingFault, analyse};
 use std::alloc::{AllocError, Global};
 
-/// Returns whether a derivation is about a term of the text.
-pub fn is_verified(
+/// Returns the first error in a derivation, or `None` if it is about a term of the text.
+pub fn first_fault(
     alloc: Global,
     text: &str,
     derivation: &Derivation,
     dialect: Dialect,
-) -> Result<bool, AllocError>
-    ensures { IfOk result (λ verified. IsTrue verified ↔ IsVerified text.now (derivation_of derivation.now) dialect) }
+) -> Result<Option<FirstFault>, AllocError>
+    ensures { IfOk result (λ fault. IsResult text.now (derivation_of derivation.now) dialect fault) }
 {
-    let Some(proof) = proof_of_steps(alloc, &derivation.steps)? else {
-        return Ok(false);
-    };
+    if derivation.steps.is_empty() {
+        return Ok(Some(FirstFault::NoStep));
+    }
+    if is_too_deep(alloc, &derivation.steps)? {
+        return Ok(Some(FirstFault::TooDeep));
+    }
+    if let Some(number) = first_misplaced(alloc, &derivation.steps)? {
+        return Ok(Some(FirstFault::Premises(number)));
+    }
+    match proof_of_steps(alloc, &derivation.steps)? {
+        Some(proof) => fault_in_text(alloc, text, derivation, &proof, dialect),
+        None => Ok(Some(FirstFault::Loose(derivation.steps.len() - 1))),
+    }
+}
+
+/// The first error in a derivation whose steps are those of this proof.
+fn fault_in_text(
+    alloc: Global,
+    text: &str,
+    derivation: &Derivation,
+    proof: &TypeProof,
+    dialect: Dialect,
+) -> Result<Option<FirstFault>, AllocError>
+    requires not_deep { AreTooDeep (map step_of derivation.now.steps.items) → ⊥ }
+    requires tree { MakeTree (derivation_of derivation.now).steps (typing_tree_of proof.now) }
+    ensures { IfOk result (λ fault. IsResult text.now (derivation_of derivation.now) dialect fault) }
+{
     let commands = commands_of(alloc, text)?;
     let scopes = bind(alloc, &commands)?;
     let resolved = match resolve(alloc, &commands, &scopes) {
         Ok(resolved) => resolved,
-        Err(ScopeFault::TooLarge(_)) => return Ok(false),
+        Err(ScopeFault::TooLarge(_)) => return Ok(Some(FirstFault::TooLarge)),
         Err(ScopeFault::Memory) => return Err(AllocError),
     };
     let typing = match analyse(alloc, &resolved, dialect) {
         Ok(typing) => typing,
-        Err(TypingFault::TooLarge(_)) => return Ok(false),
+        Err(TypingFault::TooLarge(_)) => return Ok(Some(FirstFault::TooLarge)),
         Err(TypingFault::Memory) => return Err(AllocError),
     };
     let entries = entries_of(alloc, &derivation.context)?;
-    is_of_some_term(
-        alloc, &scopes, &resolved, &typing, derivation, &entries, &proof, dialect,
+    fault_of_terms(
+        alloc, &scopes, &resolved, &typing, derivation, &entries, proof, dialect,
     )
 }
 
-/// Returns the types of a context.
-pub fn entries_of(
+/// The types of a context.
+fn entries_of(
     alloc: Global,
     context: &[(String, Option<Ty>)],
 ) -> Result<Vec<Option<Ty>>, AllocError>
@@ -80,18 +108,10 @@ pub fn entries_of(
     Ok(entries)
 }
 
-fn copy_of_entry(alloc: Global, entry: &Option<Ty>) -> Result<Option<Ty>, AllocError>
-    ensures { IfOk result (λ made. written_of made ≡ written_of entry.now) }
-{
-    match entry {
-        Some(ty) => Ok(Some(copy_of(alloc, ty)?)),
-        None => Ok(None),
-    }
-}
-
-/// Whether the derivation is about one of the terms. `entries` are the types of its context, and `proof` is the tree of its
-/// steps.
-fn is_of_some_term(
+/// The first error in a derivation about the first term with the range of its last step, or `None` if it is about a term with
+/// that range: the derived lambda and fix of a letrec have that of its bound term. `entries` are the types of its context, and
+/// `proof` is the tree of its steps.
+fn fault_of_terms(
     alloc: Global,
     scopes: &Scopes,
     resolved: &Resolved,
@@ -100,25 +120,32 @@ fn is_of_some_term(
     entries: &[Option<Ty>],
     proof: &TypeProof,
     dialect: Dialect,
-) -> Result<bool, AllocError>
+) -> Result<Option<FirstFault>, AllocError>
     requires entries { map written_of entries.now ≡ map (λ e. e.type) (derivation_of derivation.now).context }
     requires tree { MakeTree (derivation_of derivation.now).steps (typing_tree_of proof.now) }
-    ensures { IfOk result (λ is_one. (commands : List CommandTree) → AreFormsOf commands scopes.now resolved.now typing.now dialect
-        → (IsTrue is_one ↔ IsOfSomeTerm commands (derivation_of derivation.now) dialect)) }
+    ensures { IfOk result (λ fault. (commands : List CommandTree) → AreFormsOf commands scopes.now resolved.now typing.now dialect
+        → IsResultIn commands (derivation_of derivation.now) dialect fault) }
 {
+    let mut first = None;
     for i in 0..resolved.place_count() {
         let place = Place(i);
-        if is_of_term(
-            alloc, scopes, resolved, typing, derivation, entries, proof, place, dialect,
-        )? {
-            return Ok(true);
+        if !ends_at(scopes, place, &derivation.steps) {
+            continue;
         }
+        let found = fault_of_term(
+            alloc, scopes, resolved, typing, derivation, entries, proof, place, dialect,
+        )?;
+        let Some(fault) = found else {
+            return Ok(None);
+        };
+        first = Some(first.unwrap_or(fault));
     }
-    Ok(false)
+    let last = derivation.steps.len().saturating_sub(1);
+    Ok(Some(first.unwrap_or(FirstFault::NoTerm(last))))
 }
 
-/// Returns whether the derivation is about the term with this id.
-pub fn is_of_term(
+/// The first error in a derivation as one about the term with this id, or `None` if it is about that term.
+fn fault_of_term(
     alloc: Global,
     scopes: &Scopes,
     resolved: &Resolved,
@@ -128,34 +155,50 @@ pub fn is_of_term(
     proof: &TypeProof,
     place: Place,
     dialect: Dialect,
-) -> Result<bool, AllocError>
+) -> Result<Option<FirstFault>, AllocError>
     requires inside { place.0 < length (places_of [] (statements_of resolved.now)) }
     requires entries { map written_of entries.now ≡ map (λ e. e.type) (derivation_of derivation.now).context }
     requires tree { MakeTree (derivation_of derivation.now).steps (typing_tree_of proof.now) }
-    ensures { IfOk result (λ is_it. (commands : List CommandTree) → AreFormsOf commands scopes.now resolved.now typing.now dialect
-        → (IsTrue is_it ↔ IsProofAt commands place.0 (derivation_of derivation.now) dialect)) }
+    ensures { IfOk result (λ fault. (commands : List CommandTree) → AreFormsOf commands scopes.now resolved.now typing.now dialect
+        → IsResultAt (tree_in (document_terms commands) place.0) (derivation_of derivation.now) dialect fault) }
 {
-    if !ends_at(scopes, place, &derivation.steps) {
-        return Ok(false);
-    }
     if !has_names(alloc, scopes, place, &derivation.context)? {
-        return Ok(false);
+        return Ok(Some(FirstFault::Names));
     }
-    let wrong = wrong_entry(alloc, scopes, resolved, typing, place, entries, dialect)?;
-    if wrong.is_some() {
-        return Ok(false);
+    if let Some(number) = wrong_entry(alloc, scopes, resolved, typing, place, entries, dialect)? {
+        return Ok(Some(FirstFault::Entry(number)));
     }
-    if !check_type(entries, resolved.core_at(place), proof, dialect) {
-        return Ok(false);
+    let term = resolved.core_at(place);
+    if !check_type(entries, term, proof, dialect) {
+        let number = wrong_step_of(alloc, derivation, term, proof, dialect)?;
+        return Ok(Some(FirstFault::Step(number)));
     }
     let steps = steps_of_proof(alloc, scopes, place, proof)?;
-    Ok(are_same(&derivation.steps, &steps))
+    match first_other(&derivation.steps, &steps) {
+        Some(number) => Ok(Some(FirstFault::Range(number))),
+        None => Ok(None),
+    }
 }
 
-/// Returns whether the span of the last step is that of the term with this id, which holds for all derivations about it.
-pub fn ends_at(scopes: &Scopes, place: Place, steps: &[Step]) -> bool
-    ensures { (commands : List CommandTree) (tree : TypingTree) → AreScopesOf scopes.now commands
-        → map step_of steps.now ≡ steps_of 0 (typing_proof (tree_in (document_terms commands) place.0) tree) → IsTrue result }
+/// The index of the first step that does not follow by its rule, in a derivation whose tree is not valid for the term.
+fn wrong_step_of(
+    alloc: Global,
+    derivation: &Derivation,
+    term: &Core,
+    proof: &TypeProof,
+    dialect: Dialect,
+) -> Result<usize, AllocError>
+    requires tree { MakeTree (derivation_of derivation.now).steps (typing_tree_of proof.now) }
+    requires wrong { IsTyping (entries_listed (derivation_of derivation.now)) (core_of term.now) (typing_tree_of proof.now) dialect → ⊥ }
+    ensures { IfOk result (λ number. IsFirstFailing dialect 0 (judgements (entries_listed (derivation_of derivation.now)) (core_of term.now) (typing_tree_of proof.now)) number) }
+{
+    let mut context = entries_of(alloc, &derivation.context)?;
+    wrong_step(alloc, &mut context, term, proof, 0, dialect)
+}
+
+/// Whether the span of the last step, which is one of typing, is that of the term with this id.
+fn ends_at(scopes: &Scopes, place: Place, steps: &[Step]) -> bool
+    ensures { IsTrue result ↔ (last_span (map step_of steps.now) ≡ Some (place_row_numbered (table_of scopes.now) place.0).span) }
 {
     match steps.last() {
         Some(step) => is_at(step, scopes.span_of(place)),
@@ -165,7 +208,7 @@ pub fn ends_at(scopes: &Scopes, place: Place, steps: &[Step]) -> bool
 
 /// Whether a step is a typing step with this span.
 fn is_at(step: &Step, span: Span) -> bool
-    ensures { span_in (Some (step_of step.now).conclusion) ≡ Some span → IsTrue result }
+    ensures { IsTrue result ↔ (span_in (Some (step_of step.now).conclusion) ≡ Some span) }
 {
     match step {
         Step::Typing { span: own, .. } => *own == span,
@@ -173,8 +216,8 @@ fn is_at(step: &Step, span: Span) -> bool
     }
 }
 
-/// Returns whether the context lists the names in scope at a subterm.
-pub fn has_names(
+/// Whether the context lists the names in scope at a subterm.
+fn has_names(
     alloc: Global,
     scopes: &Scopes,
     place: Place,
@@ -203,9 +246,9 @@ fn are_named(scopes: &Scopes, binders: &[Binder], context: &[(String, Option<Ty>
     true
 }
 
-/// Returns the index of the first entry of a context, outermost first, that is not the least one of its binder, or `None` if the
-/// entries are the least ones of the binders in scope at a subterm.
-pub fn wrong_entry(
+/// The index of the first entry of a context, outermost first, that is not the least one of its binder, or `None` if the entries
+/// are the least ones of the binders in scope at a subterm.
+fn wrong_entry(
     alloc: Global,
     scopes: &Scopes,
     resolved: &Resolved,
@@ -214,9 +257,11 @@ pub fn wrong_entry(
     entries: &[Option<Ty>],
     dialect: Dialect,
 ) -> Result<Option<usize>, AllocError>
+    requires { length entries.now ≡ length (visible_at (table_of scopes.now) place.0) }
     ensures { IfOk result (λ wrong. (commands : List CommandTree) → AreFormsOf commands scopes.now resolved.now typing.now dialect
         → place.0 < length (document_terms commands)
-        → (wrong ≡ None ↔ AreLeastEntries (term_of (tree_in (document_terms commands) place.0)).place.scope (context_of entries.now) dialect)) }
+        → let scope = (term_of (tree_in (document_terms commands) place.0)).place.scope in
+        MatchOption wrong (AreLeastEntries scope (context_of entries.now) dialect) (λ number. IsFirstOtherEntry scope (context_of entries.now) dialect number)) }
 {
     let binders = scopes.visible_at(alloc, place)?;
     first_wrong(typing, resolved.origins(), &binders, entries, dialect)
@@ -229,12 +274,11 @@ fn first_wrong(
     entries: &[Option<Ty>],
     dialect: Dialect,
 ) -> Result<Option<usize>, AllocError>
-    ensures { IfOk result (λ wrong. wrong ≡ None
-        ↔ AllZip (StandsAt origins.now typing.now dialect) (map binder_number binders.now) (map written_of entries.now)) }
+    requires { length entries.now ≡ length binders.now }
+    ensures { IfOk result (λ wrong. let fits = StandsAt origins.now typing.now dialect in
+        MatchOption wrong (AllZip fits (map binder_number binders.now) (map written_of entries.now))
+        (λ number. IsFirstNot fits (map binder_number binders.now) (map written_of entries.now) number)) }
 {
-    if entries.len() != binders.len() {
-        return Ok(Some(entries.len().min(binders.len())));
-    }
     for i in 0..binders.len() {
         let entry = &entries[i];
         if !is_least(typing, origins, binders[i], entry, dialect)? {
@@ -282,25 +326,26 @@ fn are_alike(left: &Ty, right: &Ty, dialect: Dialect) -> bool
     is_sub(right, left, dialect)
 }
 
-/// Whether two lists have the same steps.
-fn are_same(left: &[Step], right: &[Step]) -> bool
-    ensures { IsTrue result ↔ (map step_of left.now ≡ map step_of right.now) }
+/// The index of the first step that differs from the one in the other list, or `None` if both lists are the same.
+fn first_other(steps: &[Step], others: &[Step]) -> Option<usize>
+    ensures { MatchOption result (map step_of steps.now ≡ map step_of others.now) (λ number. DifferFirst (map step_of steps.now) (map step_of others.now) number) }
 {
-    if left.len() != right.len() {
-        return false;
-    }
-    for i in 0..left.len() {
-        let step = &left[i];
-        let other = &right[i];
+    let both = steps.len().min(others.len());
+    for i in 0..both {
+        let step = &steps[i];
+        let other = &others[i];
         if !is_same(step, other) {
-            return false;
+            return Some(i);
         }
     }
-    true
+    if steps.len() == others.len() {
+        return None;
+    }
+    Some(both)
 }
 
-/// Returns whether two steps are equal.
-pub fn is_same(left: &Step, right: &Step) -> bool
+/// Whether two steps are equal.
+fn is_same(left: &Step, right: &Step) -> bool
     ensures { IsTrue result ↔ (step_of left.now ≡ step_of right.now) }
 {
     match left {

@@ -58,7 +58,7 @@ text_faults text a of_types of_rows found ordered h there types same joined orde
     }
 
 -- a type is too large
-pub large_faults : (text : List ℕ) (a : Analysis) (s : Span) (found ordered : List Fault) → IsAnalysisOf text a → a.told.large ≡ Some s
+pub large_faults : (text : List ℕ) (a : Analysis) (s : Span) (found ordered : List Fault) → IsAnalysisOf text a → a.row_faults.large ≡ Some s
     → found ≡ all_syntax (rows_in a) ++ fault_at (codes "L1") s ∷ [] → AreInOrder found ordered → AreFaults text ordered a.dialect
 large_faults text a s found ordered h large joined order =
     let there = in_text text a h in
@@ -68,7 +68,7 @@ large_faults text a s found ordered h large joined order =
     (IsPermutation-refl of_types) joined order
 
 -- none is
-pub small_faults : (text : List ℕ) (a : Analysis) (found ordered : List Fault) → IsAnalysisOf text a → a.told.large ≡ None
+pub small_faults : (text : List ℕ) (a : Analysis) (found ordered : List Fault) → IsAnalysisOf text a → a.row_faults.large ≡ None
     → found ≡ all_syntax (rows_in a) ++ all_faults (rows_in a) → AreInOrder found ordered → AreFaults text ordered a.dialect
 small_faults text a found ordered h none joined order =
     let there = in_text text a h in
@@ -96,13 +96,13 @@ text_items text a o items h listed =
 
 -- the type that is too large is too large in the commands of the text's tokens
 pub sizes_hold : (text : List ℕ) (a : Analysis) (tokens : List Lexeme) (commands : List CommandTree) → IsAnalysisOf text a
-    → AreTokensOf text tokens → AreCommandsOf (pieces_of tokens) commands → IsSizedBy commands a.told.large a.dialect
+    → AreTokensOf text tokens → AreCommandsOf (pieces_of tokens) commands → IsSizedBy commands a.row_faults.large a.dialect
 sizes_hold text a tokens commands h are are_commands =
     let there = in_text text a h in
     let spelled = text_spelled text a h there in
     let same_tokens = one_list text tokens spelled.tokens are spelled.are_tokens in
     let here = subst (λ ts. AreCommandsOf (pieces_of ts) there.front.commands) same_tokens spelled.are_commands in
     let same = one_commands (pieces_of tokens) there.front.commands commands here are_commands in
-    subst (λ cs. IsSizedBy cs a.told.large a.dialect) same
+    subst (λ cs. IsSizedBy cs a.row_faults.large a.dialect) same
     (subst (λ large. IsSizedBy there.front.commands large a.dialect) (sym h.large)
     (sized text (rows_in a) there.front (types_in a.types) a.dialect there.rows))

@@ -1,4 +1,4 @@
--- A projection asks for a label of the term that comes just before it, whatever its commands see.
+-- A projection free_numbers for a label of the term that comes just before it, whatever its commands see.
 use Rattle.std.proofs.Common.{◌≡◌, ℕ, zero, suc, ◌<◌, arith, true, false, List, [], ◌∷◌, ◌++◌, length, refl, ap, sym, ◌∙◌, subst, Option, Some, None}
 use Rattle.std.proofs.lemmas.List.{append-nil}
 use Rattle.std.proofs.lemmas.List.Quantifiers.{position-Some}
@@ -17,7 +17,7 @@ use Rattle.lam_query.specs.inner.Listed.{IsProjection}
 
 -- ---- terms one behind the other
 
--- if the term is a projection, it asks for a label of the one before it
+-- if the term is a projection, it free_numbers for a label of the one before it
 abbrev Asks : Option PlacedTree → PlacedTree → Type 0
 Asks before t =
     (s : Span) → (term_of t).own ≡ label_at s
@@ -60,7 +60,7 @@ last_asks before (u ∷ ts) p t own h = (h.0, last_asks (Some u) ts p t own h.1)
 no_own : (s : Span) → no_word ≡ label_at s → ⊥
 no_own s is = absurd cc
 
--- a term behind its parts, of which each asks
+-- a term behind its parts, of which each free_numbers
 own_asks : (bs : List Abbreviation) (xs : List (Option Name)) (s : Scope) (r : Span) (n : TermNode) → AllAsk None (terms_in_each (placed_parts bs xs s n))
     → AllAsk None (terms_in (placed_term bs xs s (term_tree r n)))
 own_asks bs xs s r (tree.variable (word x q)) h = (λ v is. absurd cc, tt)
@@ -153,7 +153,7 @@ projection_of cs (suc n) s lt is =
     record {
       operand = (place_in cs n).here;
       label = found.1;
-      asks = ap (λ p. p.here) place;
+      free_numbers = ap (λ p. p.here) place;
       before = n;
       is_next = refl;
       operand_there = λ i. record { scope = (sym place i).scope; here = (place_in cs n).here };

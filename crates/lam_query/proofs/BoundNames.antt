@@ -15,14 +15,14 @@ use Rattle.lam_query.specs.declared.bound.NameNo.TheVariants as binding
 use Rattle.lam_query.specs.declared.bound.Bound.{Bound}
 use Rattle.lam_query.specs.declared.bound.Meanings.{Meanings}
 use Rattle.lam_query.specs.inner.Analysts.{IsBoundAs}
-use Rattle.lam_query.specs.inner.Bound.{number_of, KeepsNumbers, IsBinding, found_over, NumbersStandIn, AllStand, IsSetIn, IsBoundAfter}
+use Rattle.lam_query.specs.inner.Bound.{meaning_of, MeanTheSame, KeepsNumbers, IsBinding, found_over, NumbersStandIn, AllStand, IsSetIn, IsBoundAfter}
 use Rattle.lam_query.specs.inner.Entered.{Lookup, name_bound, type_name_bound}
 use Rattle.lam_query.specs.inner.Kept.{Found, written_too_large, term_too_large, typed, bound_by}
 use Rattle.lam_query.specs.inner.Rows.{unbound, with_entry, StandInFound}
 
 -- ---- nothing is bound
 
-pub unbound_as : (ts : List Typ) (b : Bound) → ((x : Name) → (number_of b.names x ≡ None) × (number_of b.type_names x ≡ None)) → IsBoundAs unbound unbound ts b
+pub unbound_as : (ts : List Typ) (b : Bound) → ((x : Name) → (meaning_of b.names x ≡ None) × (meaning_of b.type_names x ≡ None)) → IsBoundAs unbound unbound ts b
 unbound_as ts b none = record { names = λ x. rw (none x).0 refl; types = λ x. rw (none x).1 refl }
 
 -- ---- a table that grows
@@ -37,18 +37,33 @@ module _ (ts us : List Typ) (keeps : Keeps ts us) where
   number_stands (Some number) stands = stands_keep ts us number keeps stands
 
 pub found_kept : (ts us : List Typ) (m : Meanings) → Keeps ts us → NumbersStandIn ts m → (x : Name) → found_over us m x ≡ found_over ts m x
-found_kept ts us m keeps stand x = answer_kept ts us keeps (number_of m x) (stand x)
+found_kept ts us m keeps stand x = answer_kept ts us keeps (meaning_of m x) (stand x)
 
 pub stand_kept : (ts us : List Typ) (b : Bound) → Keeps ts us → AllStand ts b → AllStand us b
 stand_kept ts us b keeps stand = record {
-  names = λ x. number_stands ts us keeps (number_of b.names x) (stand.names x);
-  type_names = λ x. number_stands ts us keeps (number_of b.type_names x) (stand.type_names x);
+  names = λ x. number_stands ts us keeps (meaning_of b.names x) (stand.names x);
+  type_names = λ x. number_stands ts us keeps (meaning_of b.type_names x) (stand.type_names x);
 }
 
 pub bound_as_kept : (names types : Lookup) (ts us : List Typ) (b : Bound) → Keeps ts us → AllStand ts b → IsBoundAs names types ts b → IsBoundAs names types us b
 bound_as_kept names types ts us b keeps stand bound = record {
   names = λ x. found_kept ts us b.names keeps stand.names x ∙ bound.names x;
   types = λ x. found_kept ts us b.type_names keeps stand.type_names x ∙ bound.types x;
+}
+
+-- ---- names that mean the same
+
+pub same_stand : (ts : List Typ) (old now : Bound) → MeanTheSame old now → AllStand ts old → AllStand ts now
+same_stand ts old now same stand = record {
+  names = λ x. subst (λ o. IfSome o (StandsIfAny ts)) (sym (same x).0) (stand.names x);
+  type_names = λ x. subst (λ o. IfSome o (StandsIfAny ts)) (sym (same x).1) (stand.type_names x);
+}
+
+-- what is set among them is set among those before
+pub same_after : (c : CommandTree) (number : Option TyNo) (old numbered now : Bound) → MeanTheSame old numbered → IsBoundAfter c number numbered now → IsBoundAfter c number old now
+same_after c number old numbered now same after = record {
+  names = λ x. after.names x ∙ ap (λ o. if binds (name_bound c) x then Some number else o) (same x).0;
+  type_names = λ x. after.type_names x ∙ ap (λ o. if binds (type_name_bound c) x then Some number else o) (same x).1;
 }
 
 -- ---- one command more
@@ -61,7 +76,7 @@ set_found ts false number o = refl
 -- what is found after one more name was set
 pub found_after : (ts : List Typ) (b : Option Name) (number : Option TyNo) (old now : Meanings) → IsSetIn b number old now
     → (x : Name) → found_over ts now x ≡ (if binds b x then Some (answer ts number) else found_over ts old x)
-found_after ts b number old now set x = ap (option_map (answer ts)) (set x) ∙ set_found ts (binds b x) number (number_of old x)
+found_after ts b number old now set x = ap (option_map (answer ts)) (set x) ∙ set_found ts (binds b x) number (meaning_of old x)
 
 pub bound_as_after : (names types : Lookup) (c : CommandTree) (ts : List Typ) (number : Option TyNo) (old now : Bound)
     → IsBoundAs names types ts old → IsBoundAfter c number old now
@@ -81,7 +96,7 @@ set_stands ts false number o stands before = before
 numbers_after : (ts : List Typ) (b : Option Name) (number : Option TyNo) (old now : Meanings) → StandsIfAny ts number → NumbersStandIn ts old → IsSetIn b number old now
     → NumbersStandIn ts now
 numbers_after ts b number old now stands stand set x =
-    subst (λ o. IfSome o (StandsIfAny ts)) (sym (set x)) (set_stands ts (binds b x) number (number_of old x) stands (stand x))
+    subst (λ o. IfSome o (StandsIfAny ts)) (sym (set x)) (set_stands ts (binds b x) number (meaning_of old x) stands (stand x))
 
 pub stand_after : (c : CommandTree) (ts : List Typ) (number : Option TyNo) (old now : Bound) → AllStand ts old → IsBoundAfter c number old now → StandsIfAny ts number
     → AllStand ts now

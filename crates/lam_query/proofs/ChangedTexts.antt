@@ -6,7 +6,7 @@ use Rattle.std.proofs.lemmas.List.Elements.{All-nil, All-cons, All-head, All-tai
 use Rattle.lam_typing.specs.Checking.{types_in, dialect_in, IsSoundChecker}
 use Rattle.lam_query.specs.declared.analyses.Analysis.{Analysis}
 use Rattle.lam_query.specs.declared.analyses.Analyst.{Analyst}
-use Rattle.lam_query.specs.declared.ends.Behind.{Behind}
+use Rattle.lam_query.specs.declared.ends.OldPieces.{OldPieces}
 use Rattle.lam_query.specs.declared.fronts.FrontRows.{FrontRows}
 use Rattle.lam_query.specs.declared.rows.Row.{Row as RustRow}
 use Rattle.lam_query.specs.Analyses.{IsAnalysisOf}
@@ -78,7 +78,7 @@ ended_within (p ∷ ended) last (suc n) le h =
 
 -- ---- the old pieces while the new text is read
 
-module _ (before text : List ℕ) (pieces : List (List ℕ)) (old : Behind) (are : AreOldPieces before text pieces old) where
+module _ (before text : List ℕ) (pieces : List (List ℕ)) (old : OldPieces) (are : AreOldPieces before text pieces old) where
   pub as_many_left : length old.rows.now ≡ length pieces
   as_many_left = sym (many old.rows.now) ∙ as_long (rows_of old.rows.now) pieces are.lengths
 
@@ -88,7 +88,7 @@ module _ (before text : List ℕ) (pieces : List (List ℕ)) (old : Behind) (are
   pub inside_left : old.next ≤ length old.rows.now
   inside_left = omega (arith, are.left.inside, many old.rows.now)
 
-  pub still_old : (now : Behind) → ((all : List Row) → IsLeftOf all old → IsLeftOf all now) → now.common ≡ old.common → AreOldPieces before text pieces now
+  pub still_old : (now : OldPieces) → ((all : List Row) → IsLeftOf all old → IsLeftOf all now) → now.common ≡ old.common → AreOldPieces before text pieces now
   still_old now keeps common =
       let left = keeps (rows_of old.rows.now) are.left in
       record {
@@ -133,7 +133,7 @@ module _ {old : List ℕ} {a : Analysis} (of : IsAnalysisOf old a) where
   pub many_pieces : length a.rows.items ≡ length pieces_in
   many_pieces = sym (many a.rows.items) ∙ as_many outset pieces_in (rows_of a.rows.items) of.sight (types_in a.types) a.bound a.dialect of.rows
 
-  pub old_pieces : (new : List ℕ) (b : Behind) (rows : List RustRow) (common : ℕ) → rows ≡ a.rows.items → IsLeftOf (rows_of rows) b → b.common ≡ common
+  pub old_pieces : (new : List ℕ) (b : OldPieces) (rows : List RustRow) (common : ℕ) → rows ≡ a.rows.items → IsLeftOf (rows_of rows) b → b.common ≡ common
       → IsEndOfBoth common old new → AreOldPieces old new pieces_in b
   old_pieces new b rows common items left_of is both =
       let left = subst (λ (rs : List RustRow). IsLeftOf (rows_of rs) b) items left_of in
@@ -258,7 +258,7 @@ module _ {old new : List ℕ} {a : Analysis} {front : FrontRows} {x : Analyst} (
   }
 
   -- read on up to a piece that the old text has too
-  pub begun_met : (b : Behind) (rows : List RustRow) (common : ℕ) → rows ≡ a.rows.items → IsLeftOf (rows_of rows) b → b.common ≡ common → IsEndOfBoth common old new
+  pub begun_met : (b : OldPieces) (rows : List RustRow) (common : ℕ) → rows ≡ a.rows.items → IsLeftOf (rows_of rows) b → b.common ≡ common → IsEndOfBoth common old new
       → (next : ℕ) (now : Analyst)
       → ((ahead : List ℕ) (s : Sight) (rest before : List ℕ) (pieces : List (List ℕ)) → IsReadTo ahead s new rest x → AreOldPieces before new pieces b
       → IsMet ahead s new pieces next now)

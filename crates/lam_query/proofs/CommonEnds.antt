@@ -1,7 +1,7 @@
 -- What two texts have in common in front and at their ends, many bytes more; and the pieces at the ends, one more that is passed.
 use Rattle.std.proofs.Common.{◌≡◌, ◌<◌, ◌≤◌, ◌+◌, ◌-◌, ℕ, List, [], ◌++◌, length, get_or, take, drop, slice_range, take-add, take-append-drop, Bor, sym, ap, ◌∙◌, arith}
 use Rattle.std.proofs.lemmas.List.{drop_all, drop-drop}
-use Rattle.lam_query.specs.declared.ends.Behind.{Behind}
+use Rattle.lam_query.specs.declared.ends.OldPieces.{OldPieces}
 use Rattle.lam_query.specs.declared.rows.Row.{Row as RustRow}
 use Rattle.lam_query.specs.inner.Ends.{IsLeftOf}
 use Rattle.lam_query.specs.inner.Kept.{Row, rows_of, bytes_of}
@@ -17,12 +17,12 @@ none_at_end old new = no_end old ∙ sym (no_end new)
 -- ---- the pieces that are left
 
 -- the next one has no more bytes than all
-pub piece_inside : (all : List Row) (b : Behind) (d : RustRow) → IsLeftOf all b → b.next < length b.rows.now → (get_or b.rows.now b.next d).end ≤ b.bytes
+pub piece_inside : (all : List Row) (b : OldPieces) (d : RustRow) → IsLeftOf all b → b.next < length b.rows.now → (get_or b.rows.now b.next d).end ≤ b.bytes
 piece_inside all b d left lt =
     omega (arith, left.counted ∙ ap (λ rs. bytes_of (drop b.next rs)) left.rows ∙ bytes_fewer b.rows.now b.next d lt)
 
 -- it is passed
-pub one_passed : (all : List Row) (b now : Behind) (d : RustRow) → IsLeftOf all b → b.next < length b.rows.now → now.rows ≡ b.rows → now.next ≡ b.next + 1
+pub one_passed : (all : List Row) (b now : OldPieces) (d : RustRow) → IsLeftOf all b → b.next < length b.rows.now → now.rows ≡ b.rows → now.next ≡ b.next + 1
     → now.bytes ≡ b.bytes - (get_or b.rows.now b.next d).end → IsLeftOf all now
 one_passed all b now d left lt rows next bytes =
     let counted = left.counted ∙ ap (λ rs. bytes_of (drop b.next rs)) left.rows ∙ bytes_fewer b.rows.now b.next d lt in

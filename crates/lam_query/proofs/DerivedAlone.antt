@@ -42,7 +42,7 @@ two_pushed none first all ts us is_ts is_us outer inner is_outer is_inner empty 
     let behind : map entry_of first ≡ map (entry_shown is_ts) is_outer = one ∙ (λ i. map entry_of (empty i) ++ map (entry_shown (t i)) (o i)) in
     two ∙ (λ i. behind i ++ map (entry_shown (u i)) (n i))
 
-module _ (text : List ℕ) (o : ℕ) (a : Analysis) (p : PieceAt) (command : Command) (h : IsAnalysisOf text a) (small : a.told.large ≡ None)
+module _ (text : List ℕ) (o : ℕ) (a : Analysis) (p : PieceAt) (command : Command) (h : IsAnalysisOf text a) (small : a.row_faults.large ≡ None)
     (there : IsCommandAround text o a p (command_of command)) (alone : Alone) (is_alone : IsAlone there.here.sight (command_of command) alone) where
   abbrev Own : CommandTree
   Own = command_of command
@@ -87,7 +87,7 @@ module _ (text : List ℕ) (o : ℕ) (a : Analysis) (p : PieceAt) (command : Com
       -- its type is proved
       pub proof_derived : (tree : TypingTree) → IsProofAt (statements_of types.resolved) types.typing n tree → (outer inner : List SeenBinder)
           → ((f : Front) → AreRowsFrom text nothing (placed 0 (rows_of (take p.number a.rows.items))) f (types_in a.types) a.dialect → AreBindersBehind f outer)
-          → ((f : Front) → AreRowsFrom text nothing (placed 0 (rows_of (take p.number a.rows.items))) f (types_in a.types) a.dialect → a.told.large ≡ None
+          → ((f : Front) → AreRowsFrom text nothing (placed 0 (rows_of (take p.number a.rows.items))) f (types_in a.types) a.dialect → a.row_faults.large ≡ None
           → AreEntriesBehind f outer (types_in a.types) a.dialect)
           → map name_seen inner ≡ map (λ b. (binder_numbered (table_of scopes) b).name) (drop alone.names (visible_at (table_of scopes) n))
           → entries_seen (types_of types.typing) inner ≡ map (λ b. get_or (entries_in types.typing) b None) (drop alone.names (visible_at (table_of scopes) n))

@@ -163,7 +163,7 @@ module _ (text : List ℕ) (o : ℕ) (a : Analysis) (p : PieceAt) (h : IsAnalysi
             (nothing_around (Ahead.commands ++ whole.0) o a.dialect (none_between Ahead.commands o whole.2 whole.0 whole.3));
       }
 
-  module _ (c : CommandTree) (is_own : here.around.own ≡ c ∷ []) (small : a.told.large ≡ None) where
+  module _ (c : CommandTree) (is_own : here.around.own ≡ c ∷ []) (small : a.row_faults.large ≡ None) where
     abbrev Rest : List CommandTree
     Rest = (among (c ∷ []) is_own).0
 

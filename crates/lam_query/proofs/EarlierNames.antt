@@ -18,7 +18,7 @@ use Rattle.lam_query.specs.declared.bound.NameNo.{NameNo}
 use Rattle.lam_query.specs.declared.bound.NameNo.TheVariants as number
 use Rattle.lam_query.specs.declared.entries.Entries.{Entries}
 use Rattle.lam_query.specs.inner.Analysts.{IsBoundAs}
-use Rattle.lam_query.specs.inner.Bound.{numbered, kept_under, number_of, AreNumbered, HaveNumbers, AllStand, IsBinding}
+use Rattle.lam_query.specs.inner.Bound.{number_of, kept_under, meaning_of, AreNumbered, HaveNumbers, AllStand, IsBinding}
 use Rattle.lam_query.specs.inner.Entries.{meant, HasRoomFor, IsPassedWith, IsPassedOver, IsPassedBy, IsMeantBy}
 use Rattle.lam_query.specs.inner.Entered.{Lookup, name_bound, type_name_bound}
 use Rattle.lam_query.specs.inner.Kept.{CommandRow, Row, bound_by}
@@ -30,9 +30,9 @@ use Rattle.lam_query.proofs.BoundNames.{bound_stands}
 
 -- what is kept under numbers is what names mean
 abbrev MeanBy : List Typ → Meanings → (ℕ → Option (Option TyNo)) → Lookup → Type 0
-MeanBy ts m kept look = (x : Name) (n : ℕ) → numbered m x ≡ Some n → option_map (answer ts) (kept n) ≡ look x
+MeanBy ts m kept look = (x : Name) (n : ℕ) → number_of m x ≡ Some n → option_map (answer ts) (kept n) ≡ look x
 
-module _ (ts : List Typ) (m : Meanings) (numbers : AreNumbered m) (y : Name) (n : ℕ) (is : numbered m y ≡ Some n) (entry : Option TyNo) where
+module _ (ts : List Typ) (m : Meanings) (numbers : AreNumbered m) (y : Name) (n : ℕ) (is : number_of m y ≡ Some n) (entry : Option TyNo) where
   entry_set : (look : Lookup) (old now : ℕ → Option (Option TyNo)) → MeanBy ts m old look → now n ≡ Some entry → ((k : ℕ) → (n ≡ k → ⊥) → now k ≡ old k)
       → MeanBy ts m now (with_entry (Some y) (answer ts entry) look)
   entry_set look old now before set others x k at = by (bytes_eq y x) refl
@@ -45,7 +45,7 @@ module _ (ts : List Typ) (m : Meanings) (numbers : AreNumbered m) (y : Name) (n 
 
       by : (same : Bool) → bytes_eq y x ≡ same → option_map (answer ts) (now k) ≡ (if same then Some (answer ts entry) else look x)
       by true e =
-          let both : Some k ≡ Some n = sym at ∙ ap (numbered m) (sym ((bytes_eq-Decides y x).0 e)) ∙ is in
+          let both : Some k ≡ Some n = sym at ∙ ap (number_of m) (sym ((bytes_eq-Decides y x).0 e)) ∙ is in
           let same : k ≡ n = cc in
           ap (λ j. option_map (answer ts) (now j)) same ∙ ap (option_map (answer ts)) set
       by false e = ap (option_map (answer ts)) (others k (differ e)) ∙ before x k at
@@ -168,5 +168,5 @@ meant_now s ts b e bound stand numbers names types =
       type_stand = λ x n at. subst (λ o. IfSome o (StandsIfAny ts)) (kept_of b.type_names x n at ∙ sym (of_type n)) (stand.type_names x);
     }
   where
-    kept_of : (m : Meanings) (x : Name) (n : ℕ) → numbered m x ≡ Some n → number_of m x ≡ kept_under m n
+    kept_of : (m : Meanings) (x : Name) (n : ℕ) → number_of m x ≡ Some n → meaning_of m x ≡ kept_under m n
     kept_of m x n at = ap (option_and_then (kept_under m)) at

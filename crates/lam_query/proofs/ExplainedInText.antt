@@ -84,7 +84,7 @@ kept_one names types own c ts (Some k) d one kept = (k, refl, subst (λ cs. IsKe
 
 -- ---- the piece
 
-module _ (text : List ℕ) (a : Analysis) (o : ℕ) (p : PieceAt) (h : IsAnalysisOf text a) (here : IsPieceAround text o a p) (small : a.told.large ≡ None) where
+module _ (text : List ℕ) (a : Analysis) (o : ℕ) (p : PieceAt) (h : IsAnalysisOf text a) (here : IsPieceAround text o a p) (small : a.row_faults.large ≡ None) where
   abbrev Numbers : List Typ
   Numbers = types_in a.types
 

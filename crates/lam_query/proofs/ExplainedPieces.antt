@@ -78,7 +78,7 @@ empty_list [] none = refl
 empty_list (x ∷ xs) none = absurd (omega (arith, none))
 
 module _ (a : Analysis) (p : PieceAt) (e : Entries) (row default : RustRow) (is : row ≡ get_or a.rows.items p.number default)
-    (faults : List RustFault) (are : map fault_of faults ≡ faults_found (found_in (row_of row))) (small : a.told.large ≡ None) where
+    (faults : List RustFault) (are : map fault_of faults ≡ faults_found (found_in (row_of row))) (small : a.row_faults.large ≡ None) where
   -- they were added
   abbrev pub AreAddedFrom : (old now : List ExplainedFault) → Type 0
   AreAddedFrom old now = (text : List ℕ) (commands : List CommandTree) (h : AreEntriesAround text a p e) → IsAnalysisOf text a → AreCommandsOfText text commands
@@ -120,9 +120,9 @@ module _ (a : Analysis) (p : PieceAt) (e : Entries) (row default : RustRow) (is 
           → ((commands : List CommandTree) (d : Dialect) → AreScopesOf scopes commands → AreTypesOf commands types d
           → (added : List ExplainedFault) × (now ≡ mid ++ added) × AreToldOf commands (blames_of blames) added d)
           → AreAddedFrom old now
-      all_added scopes types of_scopes of_types blames blamed number numbered old mid now first told text commands h of of_text =
+      all_added scopes types of_scopes of_types blames blamed number number_of old mid now first told text commands h of of_text =
           let added = told Commands a.dialect of_scopes of_types in
           let typed = subst (λ cs. AreTypesOf cs types a.dialect) (alone_is text h) of_types in
-          let fit = written_fit text a h.offset p of h.here small (command_of c) (own_here text h) commands of_text row default is faults are types typed blames blamed number numbered h.fits in
-          piece_added text a h.offset p of h.here small (command_of c) (own_here text h) commands of_text row default is faults are types typed blames blamed number numbered h.fits
+          let fit = written_fit text a h.offset p of h.here small (command_of c) (own_here text h) commands of_text row default is faults are types typed blames blamed number number_of h.fits in
+          piece_added text a h.offset p of h.here small (command_of c) (own_here text h) commands of_text row default is faults are types typed blames blamed number number_of h.fits
           old mid now added.0 (first fit) added.1 (subst (λ cs. AreToldOf cs (blames_of blames) added.0 a.dialect) (alone_is text h) added.2)

@@ -103,9 +103,9 @@ module _ (text : List ℕ) (a : Analysis) (h : IsAnalysisOf text a) where
   of_text : AreCommandsOfText text Commands
   of_text = record { tokens = spelled.tokens; are_tokens = spelled.are_tokens; are_commands = spelled.are_commands }
 
-  pub told_fit : length text < 2 ^ 64 → AllFit (map (λ f. fault_after 0 (fault_of f)) a.told.syntax.items)
+  pub told_fit : length text < 2 ^ 64 → AllFit (map (λ f. fault_after 0 (fault_of f)) a.row_faults.syntax.items)
   told_fit short =
-      subst AllFit (sym (all_unmoved a.told.syntax.items ∙ h.syntax))
+      subst AllFit (sym (all_unmoved a.row_faults.syntax.items ∙ h.syntax))
       (all_syntax_fit text a short h)
 
   of_syntax : AllByRecursion (IsExplained Commands a.dialect) (map unexplained (all_syntax (rows_in a)))
@@ -124,13 +124,13 @@ module _ (text : List ℕ) (a : Analysis) (h : IsAnalysisOf text a) where
   }
 
   -- a type is too large
-  pub large_explained : (s : Span) (found ordered : List ExplainedFault) → a.told.large ≡ Some s
-      → found ≡ map unexplained (map (λ f. fault_after 0 (fault_of f)) a.told.syntax.items) ++ unexplained (fault_at (codes "L1") s) ∷ []
+  pub large_explained : (s : Span) (found ordered : List ExplainedFault) → a.row_faults.large ≡ Some s
+      → found ≡ map unexplained (map (λ f. fault_after 0 (fault_of f)) a.row_faults.syntax.items) ++ unexplained (fault_at (codes "L1") s) ∷ []
       → IsPermutation found ordered → AreInOrder (map (λ e. e.fault) found) (map (λ e. e.fault) ordered) → AreExplained text ordered a.dialect
   large_explained s found ordered large joined same order =
       let last = unexplained (fault_at (codes "L1") s) ∷ [] in
       let all : found ≡ map unexplained (all_syntax (rows_in a)) ++ last =
-      joined ∙ ap (λ fs. map unexplained fs ++ last) (all_unmoved a.told.syntax.items ∙ h.syntax) in
+      joined ∙ ap (λ fs. map unexplained fs ++ last) (all_unmoved a.row_faults.syntax.items ∙ h.syntax) in
       let told : map (λ e. e.fault) found ≡ all_syntax (rows_in a) ++ fault_at (codes "L1") s ∷ [] =
       ap (map (λ e. e.fault)) all ∙ faults_joined (map unexplained (all_syntax (rows_in a))) last
       ∙ ap (λ fs. fs ++ fault_at (codes "L1") s ∷ []) (faults_untold (all_syntax (rows_in a))) in
@@ -139,13 +139,13 @@ module _ (text : List ℕ) (a : Analysis) (h : IsAnalysisOf text a) where
       (every_append (IsExplained Commands a.dialect) (map unexplained (all_syntax (rows_in a))) last of_syntax (of_no_term (2, omega arith, refl) refl, tt)))
 
   -- none is
-  pub small_explained : (mid found ordered : List ExplainedFault) → a.told.large ≡ None
-      → mid ≡ map unexplained (map (λ f. fault_after 0 (fault_of f)) a.told.syntax.items)
+  pub small_explained : (mid found ordered : List ExplainedFault) → a.row_faults.large ≡ None
+      → mid ≡ map unexplained (map (λ f. fault_after 0 (fault_of f)) a.row_faults.syntax.items)
       → ((commands : List CommandTree) → AreCommandsOfText text commands → AreAdded commands (all_faults (rows_in a)) mid found a.dialect)
       → IsPermutation found ordered → AreInOrder (map (λ e. e.fault) found) (map (λ e. e.fault) ordered) → AreExplained text ordered a.dialect
   small_explained mid found ordered none joined more same order =
       let added = more Commands of_text in
-      let first : mid ≡ map unexplained (all_syntax (rows_in a)) = joined ∙ ap (map unexplained) (all_unmoved a.told.syntax.items ∙ h.syntax) in
+      let first : mid ≡ map unexplained (all_syntax (rows_in a)) = joined ∙ ap (map unexplained) (all_unmoved a.row_faults.syntax.items ∙ h.syntax) in
       let all : found ≡ map unexplained (all_syntax (rows_in a)) ++ added.added = added.are ∙ ap (λ es. es ++ added.added) first in
       let told : map (λ e. e.fault) found ≡ all_syntax (rows_in a) ++ all_faults (rows_in a) =
       ap (map (λ e. e.fault)) all ∙ faults_joined (map unexplained (all_syntax (rows_in a))) added.added

@@ -28,7 +28,7 @@ use Rattle.lam_query.specs.declared.entries.Entries.{Entries}
 use Rattle.lam_query.specs.declared.rows.CommandRow.{CommandRow as RustCommandRow}
 use Rattle.lam_query.specs.declared.rows.Row.{Row as RustRow}
 use Rattle.lam_query.specs.inner.Analysts.{IsSound, IsBoundAs, IsKeptBy, IsReadThrough}
-use Rattle.lam_query.specs.inner.Bound.{numbered, kept_under, means, AreNumbered, HaveNumbers, KeepsNumbers, IsBinding, AllStand, IsBoundAfter}
+use Rattle.lam_query.specs.inner.Bound.{number_of, kept_under, means, AreNumbered, HaveNumbers, KeepsNumbers, IsBinding, AllStand, IsBoundAfter}
 use Rattle.lam_query.specs.inner.ChangedNames.{is_changed, IsMarked, AgreeOnUnchanged}
 use Rattle.lam_query.specs.inner.Changes.{IsFollowedTo}
 use Rattle.lam_query.specs.inner.Entries.{meant, HasRoomFor, IsMeantBy}
@@ -87,8 +87,8 @@ row_elsewhere piece s z own r ts b d agree is = record {
 
 -- both sights give the same to each name that has a number
 pub record AgreeOnNumbered (b : Bound) (s z : Sight) : Type 0 where
-  pub names : (x : Name) (n : ℕ) → numbered b.names x ≡ Some n → s.names x ≡ z.names x
-  pub types : (x : Name) (n : ℕ) → numbered b.type_names x ≡ Some n → s.types x ≡ z.types x
+  pub names : (x : Name) (n : ℕ) → number_of b.names x ≡ Some n → s.names x ≡ z.names x
+  pub types : (x : Name) (n : ℕ) → number_of b.type_names x ≡ Some n → s.types x ≡ z.types x
 
 agree_for : (b : Bound) (s z : Sight) (own : List CommandTree) (o : Option CommandRow) → AgreeOnNumbered b s z → AreItsNumbers b own o → AgreeFor own s z
 agree_for b s z [] o agree are = tt
@@ -126,14 +126,14 @@ rows_elsewhere s z (p ∷ pieces) (r ∷ rows) last ts b d agree are =
 
 module _ (ts us : List Typ) (b now : Bound) (e : Entries) (s z : Sight) (is_meant : IsMeantBy s ts b e) (keeps : Keeps ts us) (numbers : KeepsNumbers b now)
     (bound : IsBoundAs z.names z.types us now) where
-  name_agrees : (x : Name) (n : ℕ) → numbered b.names x ≡ Some n → meant e (number.Name n) ≡ means now (number.Name n) → s.names x ≡ z.names x
+  name_agrees : (x : Name) (n : ℕ) → number_of b.names x ≡ Some n → meant e (number.Name n) ≡ means now (number.Name n) → s.names x ≡ z.names x
   name_agrees x n is same =
       sym (is_meant.names x n is) ∙ sym (answer_kept ts us keeps (meant e (number.Name n)) (is_meant.stand x n is))
       ∙ ap (option_map (answer us)) same
       ∙ ap (λ o. option_map (answer us) (option_and_then (kept_under now.names) o)) (sym (numbers.names x n is))
       ∙ bound.names x
 
-  type_name_agrees : (x : Name) (n : ℕ) → numbered b.type_names x ≡ Some n → meant e (number.TypeName n) ≡ means now (number.TypeName n) → s.types x ≡ z.types x
+  type_name_agrees : (x : Name) (n : ℕ) → number_of b.type_names x ≡ Some n → meant e (number.TypeName n) ≡ means now (number.TypeName n) → s.types x ≡ z.types x
   type_name_agrees x n is same =
       sym (is_meant.types x n is) ∙ sym (answer_kept ts us keeps (meant e (number.TypeName n)) (is_meant.type_stand x n is))
       ∙ ap (option_map (answer us)) same
@@ -155,7 +155,7 @@ module _ (ts us : List Typ) (b now : Bound) (e : Entries) (s z : Sight) (is_mean
 -- ---- what is not marked as changed
 
 agree_asked : (b : Bound) (changed : ChangedNames) (s z : Sight) (own : List CommandTree) (k : CommandRow) → AgreeOnUnchanged b changed s z → AreItsNumbers b own (Some k)
-    → ((name : NameNo) → Contains k.asks name → is_changed changed name ≡ false) → AgreeFor own s z
+    → ((name : NameNo) → Contains k.free_numbers name → is_changed changed name ≡ false) → AgreeFor own s z
 agree_asked b changed s z [] k agree are same = tt
 agree_asked b changed s z (c ∷ []) k agree are same = (
   λ x free. let is = are.1.names x free in agree.names x is.0 is.1 (same (number.Name is.0) is.2),
@@ -170,21 +170,21 @@ marked_here (m ∷ marks) (suc n) v un = marked_here marks n v un
 
 -- names of one kind that are not marked agree
 abbrev AgreeByMarks : Meanings → List Bool → Lookup → Lookup → Type 0
-AgreeByMarks m marks s z = (x : Name) (n : ℕ) → numbered m x ≡ Some n → get_or marks n true ≡ false → s x ≡ z x
+AgreeByMarks m marks s z = (x : Name) (n : ℕ) → number_of m x ≡ Some n → get_or marks n true ≡ false → s x ≡ z x
 
 none_marked : (m : Meanings) (marks : List Bool) (s z : Lookup) (bound : Option Name) (was now : Option Typ) → bound ≡ None → AgreeByMarks m marks s z
     → AgreeByMarks m marks (with_entry bound was s) (with_entry bound now z)
 none_marked m marks s z bound was now none agree x n is un =
     sym (ap (λ o. with_entry o was s x) (sym none)) ∙ agree x n is un ∙ ap (λ o. with_entry o now z x) (sym none)
 
-one_marked : (m : Meanings) (marks : List Bool) (s z : Lookup) (y : Name) (n : ℕ) (v : Bool) (was now : Option Typ) → AreNumbered m → numbered m y ≡ Some n
+one_marked : (m : Meanings) (marks : List Bool) (s z : Lookup) (y : Name) (n : ℕ) (v : Bool) (was now : Option Typ) → AreNumbered m → number_of m y ≡ Some n
     → (v ≡ false → was ≡ now) → AgreeByMarks m marks s z
     → AgreeByMarks m (set marks n v) (with_entry (Some y) was s) (with_entry (Some y) now z)
 one_marked m marks s z y n v was now numbers at same agree x k is un = by (bytes_eq y x) refl
   where
     by : (b : Bool) → bytes_eq y x ≡ b → (if b then Some was else s x) ≡ (if b then Some now else z x)
     by true e =
-        let both : Some k ≡ Some n = sym is ∙ ap (numbered m) (sym ((bytes_eq-Decides y x).0 e)) ∙ at in
+        let both : Some k ≡ Some n = sym is ∙ ap (number_of m) (sym ((bytes_eq-Decides y x).0 e)) ∙ at in
         let here : k ≡ n = cc in
         ap Some (same (marked_here marks n v (ap (λ j. get_or (set marks n v) j true) (sym here) ∙ un)))
     by false e =
@@ -445,7 +445,7 @@ module _ (text : List ℕ) (n : ℕ) (ts : List Typ) (b : Bound) (changed : Chan
     command_stands (t ∷ u ∷ own) c kept are after stand = absurd are
 
     -- its free names mean what they meant
-    module _ (same : (name : NameNo) → Contains k.asks.items name → is_changed changed name ≡ false) where
+    module _ (same : (name : NameNo) → Contains k.free_numbers.items name → is_changed changed name ≡ false) where
       stays : IsPieceRow here.piece f.sight here.own (row_of q) (types_in a.types) a.bound ItsDialect
       stays = row_stays (agree_asked b changed f.old_sight f.sight here.own Kept f.related (subst (AreItsNumbers b here.own) is_row_of here.is_row.numbers) same)
 

@@ -180,10 +180,10 @@ commands_of text a h there =
     let of = whole_spelled text (rows_in a) there.front (types_in a.types) a.dialect h.is_text there.rows there.whole in
     record { tokens = of.tokens; are_tokens = of.are_tokens; are_commands = of.are_commands }
 
-pub large_shown : (text : List ℕ) (a : Analysis) (o : ℕ) → IsAnalysisOf text a → is_some a.told.large ≡ true → IsShownIn text o None a.dialect
-large_shown text a o h some = by a.told.large refl some
+pub large_shown : (text : List ℕ) (a : Analysis) (o : ℕ) → IsAnalysisOf text a → is_some a.row_faults.large ≡ true → IsShownIn text o None a.dialect
+large_shown text a o h some = by a.row_faults.large refl some
   where
-    by : (large : Option Span) → a.told.large ≡ large → is_some large ≡ true → IsShownIn text o None a.dialect
+    by : (large : Option Span) → a.row_faults.large ≡ large → is_some large ≡ true → IsShownIn text o None a.dialect
     by None is large = absurd cc
     by (Some s) is large =
         let there = in_text text a h in
@@ -254,9 +254,9 @@ module _ (text : List ℕ) (a : Analysis) (o : ℕ) (p : PieceAt) (h : IsAnalysi
             (subst (λ n. ArePieceTokens n (slice_range text around.front.end There.end) (drop There.end text) here.tokens) starts here.piece.are_own)
 
     -- no type is too large
-    module _ (not_large : is_some a.told.large ≡ false) where
+    module _ (not_large : is_some a.row_faults.large ≡ false) where
       small : first_large Rows ≡ None
-      small = sym h.large ∙ none_from a.told.large not_large
+      small = sym h.large ∙ none_from a.row_faults.large not_large
 
       small_there : IsSmallAmong around.before There
       small_there = small_among around.before There around.after (ap first_large (sym are) ∙ small)

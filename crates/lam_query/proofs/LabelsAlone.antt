@@ -104,35 +104,35 @@ module _ (text : List ℕ) (offset : ℕ) (a : Analysis) (p : PieceAt) (of : IsA
   abbrev Alone : List CommandTree
   Alone = stand_ins here.sight c ++ c ∷ []
 
-  sized : (whole : List CommandTree) → AreCommandsOfText text whole → IsSizedBy whole a.told.large a.dialect
+  sized : (whole : List CommandTree) → AreCommandsOfText text whole → IsSizedBy whole a.row_faults.large a.dialect
   sized whole are = sizes_hold text a are.tokens whole of are.are_tokens are.are_commands
 
   -- where some type of the text is too large
-  pub large_behind : (dot n : ℕ) (s : Span) → a.told.large ≡ Some s → projection_at dot Alone ≡ Some n → IsListedBehind here dot c []
+  pub large_behind : (dot n : ℕ) (s : Span) → a.row_faults.large ≡ Some s → projection_at dot Alone ≡ Some n → IsListedBehind here dot c []
   large_behind dot n s is there = record {
     number = n;
     there = sym (projection_alone dot here.sight c) ∙ there;
     listed = λ whole behind are same none. large s (subst (λ o. IsSizedBy whole o a.dialect) is (sized whole are));
   }
 
-  module _ (none_large : a.told.large ≡ None) where
+  module _ (none_large : a.row_faults.large ≡ None) where
     -- what is known in front of the piece
     known : AreAllTyped here.around.front here.around.before (types_in a.types) a.dialect
     known =
         known_through text here.around.before here.around.front (types_in a.types) a.dialect here.around.rows_before
         (none_large_ahead here.around.before (here.around.row ∷ here.around.after) (sym (ap first_large here.around.are) ∙ sym of.large ∙ none_large))
 
-    abbrev Behind : Context
-    Behind = known.context
+    abbrev OldPieces : Context
+    OldPieces = known.context
 
-    sees : SeesAs c here.sight.names here.sight.types Done Behind
+    sees : SeesAs c here.sight.names here.sight.types Done OldPieces
     sees = record { names = λ x free. sym (here.names x) ∙ known.names x; types = λ x free. sym (here.types x) ∙ known.types x }
 
     abbrev Entries : Context
     Entries = entries_onto [] (entered here.sight.names (each_once (free_in_command c)))
 
-    alike : IsSeenAlike Done (stand_ins here.sight c) Behind Entries c a.dialect
-    alike = stand_ins_seen here.sight c Done Behind (answers (types_in a.types) (all_types here.around.before)) known.blames a.dialect known.checked sees
+    alike : IsSeenAlike Done (stand_ins here.sight c) OldPieces Entries c a.dialect
+    alike = stand_ins_seen here.sight c Done OldPieces (answers (types_in a.types) (all_types here.around.before)) known.blames a.dialect known.checked sees
 
     pub small_behind : (dot n : ℕ) (items : List Item) → projection_at dot Alone ≡ Some n → AreListed Alone n items a.dialect → IsListedBehind here dot c items
     small_behind dot n items there listed =
@@ -154,7 +154,7 @@ module _ (text : List ℕ) (offset : ℕ) (a : Analysis) (p : PieceAt) (of : IsA
               ap (λ bs. first_too_large bs behind) (after_none (abbreviations_behind Done) c (term_none c n lt))
               ∙ behind_own (abbreviations_behind Done) here.around.own behind (recursion_from_All (λ o. type_name_bound o ≡ None) here.around.own none) later in
               small is_small
-              (listed_there Done pre Behind Entries c behind (answers (types_in a.types) (all_types here.around.before)) known.blames d known.checked alike n items lt
-              (projection_there Done pre Behind Entries c behind (answers (types_in a.types) (all_types here.around.before)) known.blames d known.checked alike n label.0 lt label.1)
+              (listed_there Done pre OldPieces Entries c behind (answers (types_in a.types) (all_types here.around.before)) known.blames d known.checked alike n items lt
+              (projection_there Done pre OldPieces Entries c behind (answers (types_in a.types) (all_types here.around.before)) known.blames d known.checked alike n label.0 lt label.1)
               others listed);
         }

@@ -34,9 +34,9 @@ module _ (c : ChangedNames) (e : Entries) (b : Bound) (names : AreDifferences e.
   same_unmarked (number.TypeName n) room same = (types.right n room).1 same
 
 -- a test that finds none of them marked
-pub none_marked_among : (asks : List NameNo) (c : ChangedNames) (b : Bool) → (IsTrue b ↔ ((name : NameNo) × Contains asks name × (is_changed c name ≡ true))) → b ≡ false
-    → (name : NameNo) → Contains asks name → is_changed c name ≡ false
-none_marked_among asks c b h none name at = by (is_changed c name) refl
+pub none_marked_among : (free_numbers : List NameNo) (c : ChangedNames) (b : Bool) → (IsTrue b ↔ ((name : NameNo) × Contains free_numbers name × (is_changed c name ≡ true))) → b ≡ false
+    → (name : NameNo) → Contains free_numbers name → is_changed c name ≡ false
+none_marked_among free_numbers c b h none name at = by (is_changed c name) refl
   where
     by : (m : Bool) → is_changed c name ≡ m → m ≡ false
     by true is = let found : b ≡ true = h.1 (name, at, is) in let clash : false ≡ true = sym none ∙ found in absurd cc

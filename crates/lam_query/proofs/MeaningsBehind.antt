@@ -23,7 +23,7 @@ use Rattle.lam_query.specs.declared.bound.NameNo.TheVariants as number
 use Rattle.lam_query.specs.declared.entries.Entries.{Entries}
 use Rattle.lam_query.specs.declared.rows.Row.{Row as RustRow}
 use Rattle.lam_query.specs.Analyses.{IsAnalysisOf}
-use Rattle.lam_query.specs.inner.Bound.{numbered, HaveNumbers, IsBinding}
+use Rattle.lam_query.specs.inner.Bound.{number_of, HaveNumbers, IsBinding}
 use Rattle.lam_query.specs.inner.Entered.{Lookup, name_bound, type_name_bound}
 use Rattle.lam_query.specs.inner.Entries.{meant, EntriesStand, AreMeanings, IsPassedBy, IsMeantBy}
 use Rattle.lam_query.specs.inner.Kept.{CommandRow, Row, bound_by, row_of, rows_of}
@@ -61,24 +61,24 @@ module _ (b : Bound) (e : Entries) (numbers : HaveNumbers b)
 
 -- ---- a name that has no number is bound by no row
 
-module _ (m : Meanings) (x : Name) (none : numbered m x ≡ None) where
+module _ (m : Meanings) (x : Name) (none : number_of m x ≡ None) where
   -- it is not one that has a number
-  other_name : (b : Option Name) (y : Name) (n : ℕ) → b ≡ Some y → numbered m y ≡ Some n → binds b x ≡ false
+  other_name : (b : Option Name) (y : Name) (n : ℕ) → b ≡ Some y → number_of m y ≡ Some n → binds b x ≡ false
   other_name b y n is at = ap (λ o. binds o x) is ∙ by (bytes_eq y x) refl
     where
       by : (same : Bool) → bytes_eq y x ≡ same → bytes_eq y x ≡ false
-      by true same = let clash : Some n ≡ None = sym at ∙ ap (numbered m) ((bytes_eq-Decides y x).0 same) ∙ none in absurd cc
+      by true same = let clash : Some n ≡ None = sym at ∙ ap (number_of m) ((bytes_eq-Decides y x).0 same) ∙ none in absurd cc
       by false differ = differ
 
   not_entered : (b : Option Name) (entry : Option Typ) (look : Lookup) → binds b x ≡ false → look x ≡ None → with_entry b entry look x ≡ None
   not_entered b entry look other before = ap (λ same. if same then Some entry else look x) other ∙ before
 
-name_not_bound : (b : Bound) (c : CommandTree) (binding : Option NameNo) (x : Name) → IsBinding b c binding → numbered b.names x ≡ None → binds (name_bound c) x ≡ false
+name_not_bound : (b : Bound) (c : CommandTree) (binding : Option NameNo) (x : Name) → IsBinding b c binding → number_of b.names x ≡ None → binds (name_bound c) x ≡ false
 name_not_bound b c None x is none = ap (λ o. binds o x) is.0
 name_not_bound b c (Some (number.Name n)) x (y, name, no_type, at) none = other_name b.names x none (name_bound c) y n name at
 name_not_bound b c (Some (number.TypeName n)) x (y, not_name, name, at) none = ap (λ o. binds o x) not_name
 
-type_name_not_bound : (b : Bound) (c : CommandTree) (binding : Option NameNo) (x : Name) → IsBinding b c binding → numbered b.type_names x ≡ None
+type_name_not_bound : (b : Bound) (c : CommandTree) (binding : Option NameNo) (x : Name) → IsBinding b c binding → number_of b.type_names x ≡ None
     → binds (type_name_bound c) x ≡ false
 type_name_not_bound b c None x is none = ap (λ o. binds o x) is.1
 type_name_not_bound b c (Some (number.Name n)) x (y, name, no_type, at) none = ap (λ o. binds o x) no_type
@@ -86,8 +86,8 @@ type_name_not_bound b c (Some (number.TypeName n)) x (y, not_name, name, at) non
 
 -- what has no number is unbound
 record AreNumberedOnly (s : Sight) (b : Bound) : Type 0 where
-  pub names : (x : Name) → numbered b.names x ≡ None → s.names x ≡ None
-  pub types : (x : Name) → numbered b.type_names x ≡ None → s.types x ≡ None
+  pub names : (x : Name) → number_of b.names x ≡ None → s.names x ≡ None
+  pub types : (x : Name) → number_of b.type_names x ≡ None → s.types x ≡ None
 
 one_more : (s : Sight) (own : List CommandTree) (ts : List Typ) (o : Option CommandRow) (b : Bound) → AreItsNumbers b own o → AreNumberedOnly s b → AreNumberedOnly (sight_with s own ts o) b
 one_more s [] ts None b its only = only
@@ -112,19 +112,19 @@ only_numbered s (p ∷ pieces) (r ∷ rows) last ts b d are only =
 -- ---- what they mean
 
 by_numbers : (ts : List Typ) (m : Meanings) (kept : ℕ → Option (Option TyNo)) (look : Lookup) (x : Name)
-    → ((n : ℕ) → numbered m x ≡ Some n → option_map (answer ts) (kept n) ≡ look x) → (numbered m x ≡ None → look x ≡ None)
-    → option_map (answer ts) (option_and_then kept (numbered m x)) ≡ look x
-by_numbers ts m kept look x some none = by (numbered m x) refl
+    → ((n : ℕ) → number_of m x ≡ Some n → option_map (answer ts) (kept n) ≡ look x) → (number_of m x ≡ None → look x ≡ None)
+    → option_map (answer ts) (option_and_then kept (number_of m x)) ≡ look x
+by_numbers ts m kept look x some none = by (number_of m x) refl
   where
-    by : (o : Option ℕ) → numbered m x ≡ o → option_map (answer ts) (option_and_then kept (numbered m x)) ≡ look x
+    by : (o : Option ℕ) → number_of m x ≡ o → option_map (answer ts) (option_and_then kept (number_of m x)) ≡ look x
     by None is = ap (λ o. option_map (answer ts) (option_and_then kept o)) is ∙ sym (none is)
     by (Some n) is = ap (λ o. option_map (answer ts) (option_and_then kept o)) is ∙ some n is
 
 stand_by_numbers : (ts : List Typ) (m : Meanings) (kept : ℕ → Option (Option TyNo)) (x : Name)
-    → ((n : ℕ) → numbered m x ≡ Some n → IfSome (kept n) (StandsIfAny ts)) → IfSome (option_and_then kept (numbered m x)) (StandsIfAny ts)
-stand_by_numbers ts m kept x some = by (numbered m x) refl
+    → ((n : ℕ) → number_of m x ≡ Some n → IfSome (kept n) (StandsIfAny ts)) → IfSome (option_and_then kept (number_of m x)) (StandsIfAny ts)
+stand_by_numbers ts m kept x some = by (number_of m x) refl
   where
-    by : (o : Option ℕ) → numbered m x ≡ o → IfSome (option_and_then kept (numbered m x)) (StandsIfAny ts)
+    by : (o : Option ℕ) → number_of m x ≡ o → IfSome (option_and_then kept (number_of m x)) (StandsIfAny ts)
     by None is = subst (λ o. IfSome (option_and_then kept o) (StandsIfAny ts)) (sym is) tt
     by (Some n) is = subst (λ o. IfSome (option_and_then kept o) (StandsIfAny ts)) (sym is) (some n is)
 

@@ -19,7 +19,7 @@ use Rattle.lam_query.specs.inner.Bound.{KeepsNumbers}
 use Rattle.lam_query.specs.inner.Checked.{context_after, AreChecked}
 use Rattle.lam_query.specs.inner.Entered.{Lookup, name_bound, type_name_bound}
 use Rattle.lam_query.specs.inner.Kept.{Found, written_too_large, term_too_large, typed, CommandRow, Row, bound_by, bytes_of}
-use Rattle.lam_query.specs.inner.PieceRows.{Sight, sight_with, AreAsked, AreItsNumbers, IsPieceRow, AreRows, joined}
+use Rattle.lam_query.specs.inner.PieceRows.{Sight, sight_with, AreFreeNumbers, AreItsNumbers, IsPieceRow, AreRows, joined}
 use Rattle.lam_query.specs.inner.Rows.{with_entry, IsWrittenIn, IsFoundIn, StandInFound, IsFoundOf, names_with, types_with, IsKeptOf}
 use Rattle.lam_query.proofs.BoundNames.{binding_kept}
 
@@ -98,8 +98,8 @@ joined_is_text s (p ∷ pieces) (r ∷ rows) last ts b d are =
 
 -- ---- names keep their numbers
 
-pub asked_keep : (old now : Bound) (c : CommandTree) (asks : List NameNo) → KeepsNumbers old now → AreAsked old c asks → AreAsked now c asks
-asked_keep old now c asks numbers are = record {
+pub asked_keep : (old now : Bound) (c : CommandTree) (free_numbers : List NameNo) → KeepsNumbers old now → AreFreeNumbers old c free_numbers → AreFreeNumbers now c free_numbers
+asked_keep old now c free_numbers numbers are = record {
   names = λ x free. let is = are.names x free in (is.0, numbers.names x is.0 is.1, is.2);
   types = λ x free. let is = are.types x free in (is.0, numbers.type_names x is.0 is.1, is.2);
 }
@@ -150,7 +150,7 @@ module _ (ts us : List Typ) (old now : Bound) (d : Dialect) (keeps : Keeps ts us
   its_numbers_kept [] None are = tt
   its_numbers_kept [] (Some k) are = absurd are
   its_numbers_kept (c ∷ []) None are = absurd are
-  its_numbers_kept (c ∷ []) (Some k) are = (binding_kept old now c k.binds numbers are.0, asked_keep old now c k.asks numbers are.1)
+  its_numbers_kept (c ∷ []) (Some k) are = (binding_kept old now c k.binds numbers are.0, asked_keep old now c k.free_numbers numbers are.1)
   its_numbers_kept (c ∷ e ∷ own) None are = absurd are
   its_numbers_kept (c ∷ e ∷ own) (Some k) are = absurd are
 

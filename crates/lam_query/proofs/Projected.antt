@@ -1,4 +1,4 @@
--- One label behind a dot stands for all: with another the same projection asks for that one, of the same term.
+-- One label behind a dot stands for all: with another the same projection free_numbers for that one, of the same term.
 use Rattle.std.proofs.Common.{◌≡◌, ℕ, List, [], Some, None, sym, ap, subst, ◌∙◌}
 use Rattle.std.specs.Prelude.{codes, true}
 use Rattle.std.proofs.lemmas.List.Elements.{All-weaker}
@@ -78,7 +78,7 @@ module _ (text : List ℕ) (tokens : List Lexeme) (o : ℕ) (t : Lexeme) (are : 
     pub projection : IsProjection cs n
     projection =
         let own = changed one_label in
-        record { operand = own.operand; label = own.label; asks = own.asked; before = own.number; is_next = own.is_next; operand_there = own.operand_there }
+        record { operand = own.operand; label = own.label; free_numbers = own.asked; before = own.number; is_next = own.is_next; operand_there = own.operand_there }
 
     pub projected : (l : Label) → IsProjected tokens o l
     projected l = record {
@@ -98,7 +98,7 @@ module _ (text : List ℕ) (tokens : List Lexeme) (o : ℕ) (t : Lexeme) (are : 
     asking l = record { scope = (place_in cs n).scope; here = project projection.operand l }
 
     one_operand : (l : Label) → (changed l).operand ≡ projection.operand
-    one_operand l = let both : project (changed l).operand (changed l).label ≡ project projection.operand projection.label = sym (changed l).asked ∙ projection.asks in cc
+    one_operand l = let both : project (changed l).operand (changed l).label ≡ project projection.operand projection.label = sym (changed l).asked ∙ projection.free_numbers in cc
 
     asks_label : (l : Label) (h : IsProjected tokens o l) → place_in h.commands h.number ≡ asking l
     asks_label l h =
@@ -116,7 +116,7 @@ module _ (text : List ℕ) (tokens : List Lexeme) (o : ℕ) (t : Lexeme) (are : 
         small_without cs (labelled (start_of t) l cs) n l d (changed l)
         (subst (λ ds. IsSmallUpTo ds n d) (one_reading l h) (subst (λ k. IsSmallUpTo h.commands k d) (one_number l h) small))
 
-    -- a label has a type just where this projection has one when it asks for the label
+    -- a label has a type just where this projection has one when it free_numbers for the label
     pub typable : (l : Label) (u : Typ) (d : Dialect) → HasLeast projection l u d → IsTypable tokens o l u d
     typable l u d least = record { projected = projected l; least = subst (IsLeastIn d u) (sym (asks_label l (projected l))) least }
 
@@ -138,7 +138,7 @@ module _ (text : List ℕ) (tokens : List Lexeme) (o : ℕ) (t : Lexeme) (are : 
 
     same_fields : (p : IsProjection cs n) (items : List Item) (d : Dialect) → AreFields p items d → AreFields projection items d
     same_fields p items d are_fields =
-        let both : project p.operand p.label ≡ project projection.operand projection.label = sym p.asks ∙ projection.asks in
+        let both : project p.operand p.label ≡ project projection.operand projection.label = sym p.free_numbers ∙ projection.free_numbers in
         let same : p.operand ≡ projection.operand = cc in
         let here : (l : Label) → project p.operand l ≡ project projection.operand l = λ l. ap (λ e. project e l) same in
         let scope = (place_in cs n).scope in record {

@@ -176,10 +176,10 @@ module _ (text : List ℕ) (offset : ℕ) (a : Analysis) (p : PieceAt) (c : Comm
     whole : commands ≡ Done ++ c ∷ in_text.rest
     whole = in_text.are ∙ ap (λ own. Done ++ (own ++ in_text.rest)) h.there.own
 
-    sized : IsSizedBy commands a.told.large a.dialect
+    sized : IsSizedBy commands a.row_faults.large a.dialect
     sized = sizes_hold text a are.tokens commands of are.are_tokens are.are_commands
 
-    small_whole : a.told.large ≡ None → IsSmall commands a.dialect
+    small_whole : a.row_faults.large ≡ None → IsSmall commands a.dialect
     small_whole none = subst (λ o. IsSizedBy commands o a.dialect) none sized
 
     module _ (outer : List SeenBinder) (entries : AreEntriesBehind h.there.here.around.front outer (types_in a.types) a.dialect) where
@@ -193,7 +193,7 @@ module _ (text : List ℕ) (offset : ℕ) (a : Analysis) (p : PieceAt) (c : Comm
           stand_ins_seen h.there.here.sight c Done (reverse (entries_seen (types_in a.types) outer)) entries.found entries.blames a.dialect entries.checked sees
 
       -- so it has no type that is too large
-      pub none_too_large : a.told.large ≡ None → (s : Span) → IsSizeFault (map command_of alone.commands.items) s a.dialect → ⊥
+      pub none_too_large : a.row_faults.large ≡ None → (s : Span) → IsSizeFault (map command_of alone.commands.items) s a.dialect → ⊥
       none_too_large none s fault =
           small_alone Done Before _ _ c in_text.rest a.dialect seen_alike (subst (λ cs. IsSmall cs a.dialect) whole (small_whole none)) s
           (subst (λ cs. IsSizeFault cs s a.dialect) h.is_alone.commands fault)
@@ -215,7 +215,7 @@ module _ (text : List ℕ) (offset : ℕ) (a : Analysis) (p : PieceAt) (c : Comm
           ∙ ap (λ cs. names_in_sight cs Number) (sym whole)
 
       -- some type of the text is too large
-      large_detail : (o : Option Span) → a.told.large ≡ o → is_some o ≡ true → (k : ℕ) → IsDetail commands Number k (get_or (told_texts (told_inside_out None None outer inner)) k None) a.dialect
+      large_detail : (o : Option Span) → a.row_faults.large ≡ o → is_some o ≡ true → (k : ℕ) → IsDetail commands Number k (get_or (told_texts (told_inside_out None None outer inner)) k None) a.dialect
       large_detail None is some k = absurd cc
       large_detail (Some s) is some k =
           subst (λ t. IsDetail commands Number k t a.dialect) (sym (none_told outer inner k)) (untold s (subst (λ o. IsSizedBy commands o a.dialect) is sized))
@@ -249,13 +249,13 @@ module _ (text : List ℕ) (offset : ℕ) (a : Analysis) (p : PieceAt) (c : Comm
       -- the list for what was put into a map
       module _ (none some all : BTreeMap (String Global) (Option (String Global))) (items : List Item) (begins : (x : Name) → detail_for none x ≡ None)
           (told_all : items ≡ map item_seen all.entries) (ordered : IsOrdered string_cmp all) where
-        pub large_listed : is_some a.told.large ≡ true → ((x : Name) → detail_for some x ≡ detail_after None x (detail_for none x) outer)
+        pub large_listed : is_some a.row_faults.large ≡ true → ((x : Name) → detail_for some x ≡ detail_after None x (detail_for none x) outer)
             → ((x : Name) → detail_for all x ≡ detail_after None x (detail_for some x) inner) → AreNames commands Number items a.dialect
         large_listed large first then =
-            names_listed commands a.dialect Number None None outer inner none some all items (names_are None None) (large_detail a.told.large refl large)
+            names_listed commands a.dialect Number None None outer inner none some all items (names_are None None) (large_detail a.row_faults.large refl large)
             begins first then told_all ordered
 
-        pub small_listed : (types : Types) → is_some a.told.large ≡ false → AreTypesOf (map command_of alone.commands.items) types a.dialect
+        pub small_listed : (types : Types) → is_some a.row_faults.large ≡ false → AreTypesOf (map command_of alone.commands.items) types a.dialect
             → AreEntriesBehind h.there.here.around.front outer (types_in a.types) a.dialect
             → entries_seen (types_of types.typing) inner ≡ map (λ b. get_or (entries_in types.typing) b None) (drop alone.names (visible_at (table_of scopes) n))
             → ((x : Name) → detail_for some x ≡ detail_after (Some (types_in a.types)) x (detail_for none x) outer)
@@ -264,5 +264,5 @@ module _ (text : List ℕ) (offset : ℕ) (a : Analysis) (p : PieceAt) (c : Comm
             let ts = Some (types_in a.types) in
             let us = Some (types_of types.typing) in
             names_listed commands a.dialect Number ts us outer inner none some all items (names_are ts us)
-            (small_detail types found (small_whole (none_from a.told.large small)) entries entered_inside)
+            (small_detail types found (small_whole (none_from a.row_faults.large small)) entries entered_inside)
             begins first then told_all ordered

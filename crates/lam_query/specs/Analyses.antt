@@ -26,9 +26,9 @@ pub record IsAnalysisOf (text : List ℕ) (a : Analysis) : Type 0 where
   pub made_up : IsMadeUpOf text ended last
   pub sight : Sight
   pub rows : AreRows outset (ended ++ last ∷ []) (rows_of a.rows.items) sight (types_in a.types) a.bound a.dialect
-  pub large : a.told.large ≡ first_large (placed 0 (rows_of a.rows.items))
-  pub syntax : map fault_of a.told.syntax.items ≡ all_syntax (placed 0 (rows_of a.rows.items))
-  pub found : a.told.large ≡ None → map fault_of a.told.types.items ≡ all_faults (placed 0 (rows_of a.rows.items))
+  pub large : a.row_faults.large ≡ first_large (placed 0 (rows_of a.rows.items))
+  pub syntax : map fault_of a.row_faults.syntax.items ≡ all_syntax (placed 0 (rows_of a.rows.items))
+  pub found : a.row_faults.large ≡ None → map fault_of a.row_faults.types.items ≡ all_faults (placed 0 (rows_of a.rows.items))
   pub sound : IsSoundChecker a.types
   pub dialect : dialect_in a.types ≡ a.dialect
   pub numbers : HaveNumbers a.bound

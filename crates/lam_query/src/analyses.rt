@@ -13,8 +13,8 @@ ghost use Rattle.lam_query.specs.inner.Reading.{own_of};
 
 use crate::bound::Bound;
 use crate::reading::Reader;
+use crate::row_faults::{RowFaults, collect_faults};
 use crate::rows::{CommandRow, Row};
-use crate::told::{Told, told_by};
 use crate::typed_commands::found_of;
 use lam_rules::Dialect;
 use lam_scope::free_names;
@@ -29,7 +29,7 @@ pub struct Analysis {
     /// The rows of the pieces, in text order. The last piece has no semicolon.
     pub(crate) rows: Vec<Row>,
     /// The diagnostics that the rows report.
-    pub(crate) told: Told,
+    pub(crate) row_faults: RowFaults,
     /// The numbers of names. Their entries are stale: a change binds the names again.
     pub(crate) bound: Bound,
     pub(crate) types: TypeChecker,
@@ -167,11 +167,15 @@ impl<'t> Analyst<'t> {
         ensures dialect { dialect_in self.new.types ≡ dialect_in self.old.types }
     {
         let free = free_names(self.alloc, command)?;
-        let asks = self.bound.numbers_of(self.alloc, &free)?;
-        let found = found_of(self.alloc, &mut self.types, &self.bound, command, &free)?;
+        let (free_numbers, around) = self.bound.around(self.alloc, &free)?;
+        let found = found_of(self.alloc, &mut self.types, around, command)?;
         let binds = self.bound.bind(self.alloc, command, found.bound())?;
         self.typed = self.typed.saturating_add(1);
-        Ok(CommandRow { asks, binds, found })
+        Ok(CommandRow {
+            free_numbers,
+            binds,
+            found,
+        })
     }
 
     /// Finishes the analysis, when no piece of the text is left.
@@ -182,10 +186,10 @@ impl<'t> Analyst<'t> {
         ensures of { IfOk result (λ made. IsAnalysisOf text.now made) }
         ensures dialect { IfOk result (λ made. dialect_of made ≡ dialect) }
     {
-        let told = told_by(self.alloc, &self.rows)?;
+        let row_faults = collect_faults(self.alloc, &self.rows)?;
         Ok(Analysis {
             rows: self.rows,
-            told,
+            row_faults,
             bound: self.bound,
             types: self.types,
             dialect,

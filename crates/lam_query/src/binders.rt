@@ -41,7 +41,7 @@ impl Analysis {
         requires of { IsAnalysisOf text.now self.now }
         requires inside { number ≤ length self.now.rows.items }
         ensures names { IfOk result (λ made. (f : Front) → AreRowsFrom text.now nothing (placed 0 (rows_of (take number self.now.rows.items))) f (types_in self.now.types) self.now.dialect → AreBindersBehind f made.items) }
-        ensures entries { IfOk result (λ made. (f : Front) → AreRowsFrom text.now nothing (placed 0 (rows_of (take number self.now.rows.items))) f (types_in self.now.types) self.now.dialect → self.now.told.large ≡ None → AreEntriesBehind f made.items (types_in self.now.types) self.now.dialect) }
+        ensures entries { IfOk result (λ made. (f : Front) → AreRowsFrom text.now nothing (placed 0 (rows_of (take number self.now.rows.items))) f (types_in self.now.types) self.now.dialect → self.now.row_faults.large ≡ None → AreEntriesBehind f made.items (types_in self.now.types) self.now.dialect) }
         ensures stand { IfOk result (λ made. All (λ b. StandsIfAny (types_in self.now.types) b.entry) made.items) }
     {
         let mut binders = Vec::new(alloc);

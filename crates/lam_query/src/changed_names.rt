@@ -50,8 +50,8 @@ impl ChangedNames {
         ensures { result ≡ is_changed self.now name }
     {
         let changed = match name {
-            NameNo::Name(place) => self.names.get(place),
-            NameNo::TypeName(place) => self.type_names.get(place),
+            NameNo::Name(number) => self.names.get(number as usize),
+            NameNo::TypeName(number) => self.type_names.get(number as usize),
         };
         match changed {
             Some(changed) => *changed,
@@ -64,8 +64,8 @@ impl ChangedNames {
         ensures { IsMarked name changed self.old self.new }
     {
         match name {
-            Some(NameNo::Name(place)) => mark(&mut self.names, place, changed),
-            Some(NameNo::TypeName(place)) => mark(&mut self.type_names, place, changed),
+            Some(NameNo::Name(number)) => mark(&mut self.names, number, changed),
+            Some(NameNo::TypeName(number)) => mark(&mut self.type_names, number, changed),
             None => {}
         }
     }
@@ -86,10 +86,11 @@ fn differences(
     Ok(marks)
 }
 
-fn mark(marks: &mut [bool], place: usize, changed: bool)
-    ensures { marks.new ≡ set marks.old place changed }
+fn mark(marks: &mut [bool], number: u32, changed: bool)
+    ensures { marks.new ≡ set marks.old number changed }
 {
-    if place < marks.len() {
-        marks[place] = changed;
+    let number = number as usize;
+    if number < marks.len() {
+        marks[number] = changed;
     }
 }

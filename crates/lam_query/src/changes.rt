@@ -17,7 +17,7 @@ ghost use Rattle.lam_query.specs.declared.bound.Bound.{Bound};
 
 use crate::analyses::{Analysis, Analyst};
 use crate::changed_names::ChangedNames;
-use crate::ends::{Behind, common_end};
+use crate::ends::{OldPieces, common_end};
 use crate::entries::Entries;
 use crate::fronts::{FrontRows, bind_again, common_front, rows_within};
 use crate::reading::{Reader, command_in};
@@ -42,11 +42,11 @@ impl Analysis {
         }
         let front = rows_within(&self.rows, common_front(old, new));
         let common = common_end(old, new);
-        let (mut analyst, rows) = Analyst::behind(alloc, self, front);
+        let (mut analyst, rows) = Analyst::after(alloc, self, front);
         let mut earlier = Entries::of(alloc, &analyst.bound)?;
-        let mut behind = Behind::new(&rows, front, old, common);
-        analyst.read_until(new, &mut behind)?;
-        let met = behind.next;
+        let mut old_pieces = OldPieces::new(&rows, front, old, common);
+        analyst.read_until(new, &mut old_pieces)?;
+        let met = old_pieces.next;
         let count = rows.len();
         earlier.pass(&rows[front.count..met]);
         let next = analyst.put_between(rows, front.count, met)?;
@@ -66,7 +66,7 @@ impl Analysis {
 
 impl<'t> Analyst<'t> {
     /// An analyst that has read the first pieces of a text, with exactly what they bind. Also returns the rows of all pieces.
-    fn behind(alloc: Global, analysis: Analysis, front: FrontRows) -> (Analyst<'t>, Vec<Row>)
+    fn after(alloc: Global, analysis: Analysis, front: FrontRows) -> (Analyst<'t>, Vec<Row>)
         requires numbers { HaveNumbers analysis.bound }
         requires inside { front.count ≤ length analysis.rows.items }
         ensures rows { result.1 ≡ analysis.rows }
@@ -82,7 +82,7 @@ impl<'t> Analyst<'t> {
     {
         let Analysis {
             rows,
-            told: _told,
+            row_faults: _row_faults,
             mut bound,
             types,
             dialect: _dialect,
@@ -104,7 +104,7 @@ impl<'t> Analyst<'t> {
     }
 
     /// Reads pieces until one starts that the old text also has, along with all that follows it, or else to the end of the text.
-    fn read_until(&mut self, text: &'t str, old: &mut Behind<'_>) -> Result<(), AllocError>
+    fn read_until(&mut self, text: &'t str, old: &mut OldPieces<'_>) -> Result<(), AllocError>
         requires sound { IsSound self.old }
         requires read { (ahead : List ℕ) × (s : Sight) × (rest : List ℕ) × IsReadTo ahead s text.now rest self.old }
         requires old { (before : List ℕ) × (pieces : List (List ℕ)) × AreOldPieces before text.now pieces old.old }
@@ -182,7 +182,7 @@ impl<'t> Analyst<'t> {
             self.end += bytes;
             return Ok(());
         };
-        if changed.has_any(&command.asks) {
+        if changed.has_any(&command.free_numbers) {
             return self.type_again(text, number, changed);
         }
         let binds = command.binds;

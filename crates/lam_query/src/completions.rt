@@ -97,7 +97,7 @@ impl Analysis {
         let Some(place) = scopes.projection_at(&alone.commands, dot) else {
             return Ok(None);
         };
-        if self.told.large.is_some() {
+        if self.row_faults.large.is_some() {
             return Ok(Some(Vec::new(alloc)));
         }
         let items = fields_of(alloc, &alone.commands, &scopes, place, self.dialect)?;

@@ -46,7 +46,7 @@ impl Analysis {
         ensures derived { IfOk result (λ found. IsDerivedIn text.now offset (option_map derivation_of found) (dialect_of self.now)) }
         ensures whole_characters { IfOk result (λ found. IfSome found (λ d. All (StepStandsIn text.now) d.steps.items)) }
     {
-        if self.told.large.is_some() {
+        if self.row_faults.large.is_some() {
             return Ok(None);
         }
         let Some(piece) = self.piece_around(text, offset) else {
@@ -68,7 +68,7 @@ impl Analysis {
         command: Command,
     ) -> Result<Option<Derivation>, AllocError>
         requires of { IsAnalysisOf text.now self.now }
-        requires small { self.now.told.large ≡ None }
+        requires small { self.now.row_faults.large ≡ None }
         requires there { IsCommandAround text.now offset self.now piece (command_of command) }
         ensures derived { IfOk result (λ found. IsDerivedIn text.now offset (option_map derivation_of found) (dialect_of self.now)) }
         ensures whole_characters { IfOk result (λ found. IfSome found (λ d. All (StepStandsIn text.now) d.steps.items)) }

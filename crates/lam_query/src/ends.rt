@@ -8,7 +8,7 @@ use crate::rows::Row;
 
 /// The pieces of the old text after a change, some of which the new text may also end with.
 #[derive(Drop)]
-pub(crate) struct Behind<'r> {
+pub(crate) struct OldPieces<'r> {
     /// The rows of all pieces.
     pub(crate) rows: &'r [Row],
     /// The index of the first piece that was not passed.
@@ -52,9 +52,9 @@ fn end_from(old: &[u8], new: &[u8], known: usize) -> usize
     shorter
 }
 
-impl<'r> Behind<'r> {
+impl<'r> OldPieces<'r> {
     /// The pieces after these first ones, none of which has been passed.
-    pub(crate) fn new(rows: &'r [Row], front: FrontRows, old: &str, common: usize) -> Behind<'r>
+    pub(crate) fn new(rows: &'r [Row], front: FrontRows, old: &str, common: usize) -> OldPieces<'r>
         requires inside { front.count ≤ length rows.now }
         requires end { front.end ≤ length old.now }
         requires counted { length old.now - front.end ≡ bytes_of (drop front.count (rows_of rows.now)) }
@@ -62,7 +62,7 @@ impl<'r> Behind<'r> {
         ensures next { result.next ≡ front.count }
         ensures common { result.common ≡ common }
     {
-        Behind {
+        OldPieces {
             rows,
             next: front.count,
             bytes: old.len() - front.end,

@@ -35,7 +35,7 @@ impl Entries {
     }
 
     /// The meanings after the first pieces of a text, whose rows are given.
-    pub(crate) fn behind(alloc: Global, bound: &Bound, rows: &[Row]) -> Result<Entries, AllocError>
+    pub(crate) fn after(alloc: Global, bound: &Bound, rows: &[Row]) -> Result<Entries, AllocError>
         requires { HaveNumbers bound.now }
         ensures meanings { IfOk result (λ made. (pieces : List (List ℕ)) (s : Sight) (ts : List Typ) (d : Dialect) → AreRows outset pieces (rows_of rows.now) s ts bound.now d → AreMeanings s ts bound.now made) }
         ensures passed { IfOk result (λ made. IsPassedBehind bound.now (rows_of rows.now) made) }
@@ -52,16 +52,16 @@ impl Entries {
     pub(crate) fn of_name(&self, bound: &Bound, name: &str) -> Option<Option<TyNo>>
         ensures { result ≡ name_kept bound.now self.now name.now }
     {
-        let place = bound.names.number(name)?;
-        self.meaning(NameNo::Name(place))
+        let number = bound.names.number_of(name)?;
+        self.meaning(NameNo::Name(number))
     }
 
     /// Returns the meaning of a type name, which `bound` maps to its number.
     pub(crate) fn of_type_name(&self, bound: &Bound, name: &str) -> Option<Option<TyNo>>
         ensures { result ≡ type_name_kept bound.now self.now name.now }
     {
-        let place = bound.type_names.number(name)?;
-        self.meaning(NameNo::TypeName(place))
+        let number = bound.type_names.number_of(name)?;
+        self.meaning(NameNo::TypeName(number))
     }
 
     /// Returns the meaning of the name with this number.
@@ -69,8 +69,8 @@ impl Entries {
         ensures { result ≡ meant self.now name }
     {
         let entry = match name {
-            NameNo::Name(place) => self.names.get(place),
-            NameNo::TypeName(place) => self.type_names.get(place),
+            NameNo::Name(number) => self.names.get(number as usize),
+            NameNo::TypeName(number) => self.type_names.get(number as usize),
         };
         match entry {
             Some(entry) => *entry,
@@ -79,14 +79,14 @@ impl Entries {
     }
 
     /// Records the entry of the name that a command binds, as it was after that command.
-    pub(crate) fn rebind(&mut self, binds: Option<NameNo>, number: Option<TyNo>)
-        ensures set { (name : NameNo) → binds ≡ Some name → HasRoomFor name self.old → meant self.new name ≡ Some number }
+    pub(crate) fn rebind(&mut self, binds: Option<NameNo>, entry: Option<TyNo>)
+        ensures set { (name : NameNo) → binds ≡ Some name → HasRoomFor name self.old → meant self.new name ≡ Some entry }
         ensures others { (name : NameNo) → (binds ≡ Some name → ⊥) → meant self.new name ≡ meant self.old name }
         ensures room { (name : NameNo) → HasRoomFor name self.old → HasRoomFor name self.new }
     {
         match binds {
-            Some(NameNo::Name(place)) => set_entry(&mut self.names, place, number),
-            Some(NameNo::TypeName(place)) => set_entry(&mut self.type_names, place, number),
+            Some(NameNo::Name(number)) => set_entry(&mut self.names, number, entry),
+            Some(NameNo::TypeName(number)) => set_entry(&mut self.type_names, number, entry),
             None => {}
         }
     }
@@ -123,13 +123,14 @@ fn unbound(alloc: Global, count: usize) -> Result<Vec<Option<Option<TyNo>>>, All
 }
 
 /// Sets the entry at an index if it is in bounds.
-fn set_entry(entries: &mut [Option<Option<TyNo>>], place: usize, number: Option<TyNo>)
-    ensures set { place < length entries.old → get_or entries.new place None ≡ Some number }
-    ensures others { (n : ℕ) → (n ≡ place → ⊥) → get_or entries.new n None ≡ get_or entries.old n None }
+fn set_entry(entries: &mut [Option<Option<TyNo>>], number: u32, entry: Option<TyNo>)
+    ensures set { number < length entries.old → get_or entries.new number None ≡ Some entry }
+    ensures others { (n : ℕ) → (n ≡ number → ⊥) → get_or entries.new n None ≡ get_or entries.old n None }
     ensures len { length entries.new ≡ length entries.old }
 {
-    if place < entries.len() {
-        entries[place] = Some(number);
+    let number = number as usize;
+    if number < entries.len() {
+        entries[number] = Some(entry);
     }
 }
 

@@ -46,7 +46,7 @@ impl Analysis {
         ensures shown { IfOk result (λ found. IsShownIn text.now offset (option_map shown_of found) (dialect_of self.now)) }
         ensures whole_characters { IfOk result (λ found. IfSome found (λ h. IsSpanOfText text.now h.span)) }
     {
-        if self.told.large.is_some() {
+        if self.row_faults.large.is_some() {
             return Ok(None);
         }
         let Some(piece) = self.piece_around(text, offset) else {

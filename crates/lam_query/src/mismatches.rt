@@ -61,8 +61,8 @@ impl Analysis {
         ensures whole_characters { IfOk result (λ all. All (λ e. IsSpanOfText text.now e.fault.span) all.items) }
     {
         let mut all = Vec::new(alloc);
-        push_unexplained(&mut all, 0, &self.told.syntax)?;
-        match self.told.large {
+        push_unexplained(&mut all, 0, &self.row_faults.syntax)?;
+        match self.row_faults.large {
             Some(span) => all.push(ExplainedFault {
                 fault: Fault { code: "L1", span },
                 mismatch: None,
@@ -81,10 +81,10 @@ impl Analysis {
         all: &mut Vec<ExplainedFault>,
     ) -> Result<(), AllocError>
         requires of { IsAnalysisOf text.now self.now }
-        requires small { self.now.told.large ≡ None }
+        requires small { self.now.row_faults.large ≡ None }
         ensures { OnOk result ((commands : List CommandTree) → AreCommandsOfText text.now commands → AreAdded commands (all_faults (placed 0 (rows_of self.now.rows.items))) (map explained_of all.old.items) (map explained_of all.new.items) self.now.dialect) }
     {
-        let mut entries = Entries::behind(alloc, &self.bound, &[])?;
+        let mut entries = Entries::after(alloc, &self.bound, &[])?;
         let mut start = 0;
         for number in 0..self.rows.len() {
             let row = &self.rows[number];
@@ -109,7 +109,7 @@ impl Analysis {
         all: &mut Vec<ExplainedFault>,
     ) -> Result<(), AllocError>
         requires there { (text : List ℕ) × IsAnalysisOf text self.now × AreEntriesAround text self.now piece entries.now }
-        requires small { self.now.told.large ≡ None }
+        requires small { self.now.row_faults.large ≡ None }
         ensures { OnOk result ((text : List ℕ) (commands : List CommandTree) (h : AreEntriesAround text self.now piece.entry entries.now) → IsAnalysisOf text self.now → AreCommandsOfText text commands → AreAdded commands (faults_found (found_in h.here.around.row)) (map explained_of all.old.items) (map explained_of all.new.items) self.now.dialect) }
     {
         let faults = self.rows[piece.number].faults();

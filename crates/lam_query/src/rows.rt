@@ -30,7 +30,7 @@ pub(crate) struct Row {
 #[derive(Drop)]
 pub(crate) struct CommandRow {
     /// The names and type names that are free in it.
-    pub(crate) asks: Vec<NameNo>,
+    pub(crate) free_numbers: Vec<NameNo>,
     /// The name that it binds for the commands after it.
     pub(crate) binds: Option<NameNo>,
     pub(crate) found: Found,

@@ -49,7 +49,7 @@ impl Analysis {
     {
         let outer = self.binders_before(alloc, text, piece.number)?;
         let mut details = BTreeMap::new(alloc);
-        if self.told.large.is_some() {
+        if self.row_faults.large.is_some() {
             let inner = inner_binders(alloc, scopes, None, place, alone.names)?;
             put_in_sight(alloc, None, &outer, &mut details)?;
             put_in_sight(alloc, None, &inner, &mut details)?;

@@ -48,7 +48,7 @@ impl Analysis {
         requires inside { number ≤ length self.now.rows.items }
         ensures { IfOk result (λ alone. (pieces : List (List ℕ)) (s : Sight) → AreRows outset pieces (rows_of (take number self.now.rows.items)) s (types_in self.now.types) self.now.bound self.now.dialect → IsAlone s (command_of command) alone) }
     {
-        let entries = Entries::behind(alloc, &self.bound, &self.rows[..number])?;
+        let entries = Entries::after(alloc, &self.bound, &self.rows[..number])?;
         self.alone_by(alloc, &entries, command)
     }
 

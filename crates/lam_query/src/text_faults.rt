@@ -27,10 +27,10 @@ impl Analysis {
         ensures whole_characters { IfOk result (λ found. All (λ f. IsSpanOfText text.now f.span) found.items) }
     {
         let mut found = Vec::new(alloc);
-        found.extend_from_slice(&self.told.syntax)?;
-        match self.told.large {
+        found.extend_from_slice(&self.row_faults.syntax)?;
+        match self.row_faults.large {
             Some(span) => found.push(Fault { code: "L1", span })?,
-            None => found.extend_from_slice(&self.told.types)?,
+            None => found.extend_from_slice(&self.row_faults.types)?,
         }
         put_in_order(&mut found)?;
         Ok(found)

@@ -11,8 +11,8 @@ use Rattle.lam_rpc.specs.Kind.{Message, request, notice, reply, unreadable, inva
 use Rattle.lam_rules.specs.declared.rules.Dialect.{Dialect}
 use Rattle.lam_text.specs.declared.places.Position.{Position}
 use Rattle.lam_text.specs.Edits.{Edit, text_after}
-use Rattle.lam_session.specs.declared.states.Life.{Life}
-use Rattle.lam_session.specs.declared.states.Life.TheVariants.{Fresh, Running, Down, Over}
+use Rattle.lam_session.specs.declared.states.Lifecycle.{Lifecycle}
+use Rattle.lam_session.specs.declared.states.Lifecycle.TheVariants.{Fresh, Running, Down, Over}
 use Rattle.lam_session.specs.declared.methods.RequestMethod.{RequestMethod}
 use Rattle.lam_session.specs.declared.methods.RequestMethod.TheVariants.{Initialize, Shutdown, Ask, Unknown as UnknownRequest}
 use Rattle.lam_session.specs.declared.methods.NoticeMethod.{NoticeMethod}
@@ -176,7 +176,7 @@ awaits_same uri s docs id Initialize params sent next agree d =
     does_same uri (result_reply id (initialize_answer (chosen params)) ∷ []) (record s { life = Running; encoding = chosen params; documents = [] }) [] sent next refl d
 awaits_same uri s docs id _ params sent next agree d = does_same uri (refused id NotInitialized ∷ []) s docs sent next agree d
 
-requested_same : (uri : List ℕ) (life : Life) (s : State) (docs : List OpenDocument) (id : Data) (method : RequestMethod) (params : Data) (sent : List Data) (next : State)
+requested_same : (uri : List ℕ) (life : Lifecycle) (s : State) (docs : List OpenDocument) (id : Data) (method : RequestMethod) (params : Data) (sent : List Data) (next : State)
     → document_named uri s.documents ≡ document_named uri docs → IfAsks method (is_named uri (named_uri params) ≡ true) → Requested life s id method params sent next → Goes uri (Requested life (beside s docs) id method params) sent next
 requested_same uri Fresh s docs id method params sent next agree is d = awaits_same uri s docs id method params sent next agree d
 requested_same uri Running s docs id method params sent next agree is d = serves_same uri s docs id method params sent next agree is d
@@ -248,7 +248,7 @@ passes_same : (uri : List ℕ) (s : State) (docs : List OpenDocument) (method : 
 passes_same uri s docs Exit sent next agree d = does_same uri [] (record s { life = Over (exit_status s.life) }) docs sent next agree d
 passes_same uri s docs _ sent next agree d = does_same uri [] s docs sent next agree d
 
-noticed_same : (uri : List ℕ) (life : Life) (s : State) (docs : List OpenDocument) (method : NoticeMethod) (params : Data) (sent : List Data) (next : State)
+noticed_same : (uri : List ℕ) (life : Lifecycle) (s : State) (docs : List OpenDocument) (method : NoticeMethod) (params : Data) (sent : List Data) (next : State)
     → document_named uri s.documents ≡ document_named uri docs → IfNamed method (is_named uri (named_uri params) ≡ true) → Noticed life s method params sent next → Goes uri (Noticed life (beside s docs) method params) sent next
 noticed_same uri Running s docs method params sent next agree is d = heeds_same uri s docs method params sent next agree is d
 noticed_same uri (Over status) s docs method params sent next agree is d = does_same uri [] s docs sent next agree d
@@ -289,7 +289,7 @@ receives_same uri s docs reply sent next agree is d = does_same uri [] s docs se
 receives_same uri s docs unreadable sent next agree is d = does_same uri (refused null UnreadableMessage ∷ []) s docs sent next agree d
 receives_same uri s docs invalid sent next agree is d = does_same uri (refused null InvalidMessage ∷ []) s docs sent next agree d
 
-lives_same : (uri : List ℕ) (life : Life) (s : State) (docs : List OpenDocument) (m : Message) (sent : List Data) (next : State)
+lives_same : (uri : List ℕ) (life : Lifecycle) (s : State) (docs : List OpenDocument) (m : Message) (sent : List Data) (next : State)
     → document_named uri s.documents ≡ document_named uri docs → concerns uri m ≡ true → ReceivesIn life s m sent next → Goes uri (ReceivesIn life (beside s docs) m) sent next
 lives_same uri (Over status) s docs m sent next agree is d = does_same uri [] s docs sent next agree d
 lives_same uri _ s docs m sent next agree is d = receives_same uri s docs m sent next agree is d
@@ -348,7 +348,7 @@ awaits_quiet : (uri : List ℕ) (s : State) (id : Data) (method : RequestMethod)
 awaits_quiet uri s id Initialize params sent next other d = absurd other
 awaits_quiet uri s id _ params sent next other d = does_quiet uri s (refused id NotInitialized ∷ []) s.documents sent next refl (refused_says uri id NotInitialized) d
 
-requested_quiet : (uri : List ℕ) (life : Life) (s : State) (id : Data) (method : RequestMethod) (params : Data) (sent : List Data) (next : State) → IsOther method → Requested life s id method params sent next → Quiet uri s sent next
+requested_quiet : (uri : List ℕ) (life : Lifecycle) (s : State) (id : Data) (method : RequestMethod) (params : Data) (sent : List Data) (next : State) → IsOther method → Requested life s id method params sent next → Quiet uri s sent next
 requested_quiet uri Fresh s id method params sent next other d = awaits_quiet uri s id method params sent next other d
 requested_quiet uri Running s id method params sent next other d = serves_quiet uri s id method params sent next other d
 requested_quiet uri Down s id method params sent next other d = does_quiet uri s (refused id ShutDown ∷ []) s.documents sent next refl (refused_says uri id ShutDown) d
@@ -405,7 +405,7 @@ passes_quiet : (uri : List ℕ) (s : State) (method : NoticeMethod) (sent : List
 passes_quiet uri s Exit sent next stays d = absurd (stays refl)
 passes_quiet uri s _ sent next stays d = does_quiet uri s [] s.documents sent next refl tt d
 
-noticed_quiet : (uri : List ℕ) (life : Life) (s : State) (method : NoticeMethod) (params : Data) (sent : List Data) (next : State) → (method ≡ Exit → ⊥) → is_named uri (named_uri params) ≡ false → Noticed life s method params sent next → Quiet uri s sent next
+noticed_quiet : (uri : List ℕ) (life : Lifecycle) (s : State) (method : NoticeMethod) (params : Data) (sent : List Data) (next : State) → (method ≡ Exit → ⊥) → is_named uri (named_uri params) ≡ false → Noticed life s method params sent next → Quiet uri s sent next
 noticed_quiet uri Running s method params sent next stays apart d = heeds_quiet uri s method params sent next stays apart d
 noticed_quiet uri (Over status) s method params sent next stays apart d = does_quiet uri s [] s.documents sent next refl tt d
 noticed_quiet uri _ s method params sent next stays apart d = passes_quiet uri s method sent next stays d
@@ -426,7 +426,7 @@ receives_quiet uri s reply sent next apart d = does_quiet uri s [] s.documents s
 receives_quiet uri s unreadable sent next apart d = does_quiet uri s (refused null UnreadableMessage ∷ []) s.documents sent next refl (refused_says uri null UnreadableMessage) d
 receives_quiet uri s invalid sent next apart d = does_quiet uri s (refused null InvalidMessage ∷ []) s.documents sent next refl (refused_says uri null InvalidMessage) d
 
-lives_quiet : (uri : List ℕ) (life : Life) (s : State) (m : Message) (sent : List Data) (next : State) → concerns uri m ≡ false → ReceivesIn life s m sent next → Quiet uri s sent next
+lives_quiet : (uri : List ℕ) (life : Lifecycle) (s : State) (m : Message) (sent : List Data) (next : State) → concerns uri m ≡ false → ReceivesIn life s m sent next → Quiet uri s sent next
 lives_quiet uri (Over status) s m sent next apart d = does_quiet uri s [] s.documents sent next refl tt d
 lives_quiet uri _ s m sent next apart d = receives_quiet uri s m sent next apart d
 

@@ -5,8 +5,8 @@ use Rattle.lam_rpc.specs.Fields.{named_uri, listed_changes}
 use Rattle.lam_rpc.specs.Kind.{Message, request, notice, reply, unreadable, invalid}
 use Rattle.lam_text.specs.Edits.{Edit}
 use Rattle.lam_query.proofs.SomeAnswers.{some_faults, one_faults}
-use Rattle.lam_session.specs.declared.states.Life.{Life}
-use Rattle.lam_session.specs.declared.states.Life.TheVariants.{Fresh, Running, Down, Over}
+use Rattle.lam_session.specs.declared.states.Lifecycle.{Lifecycle}
+use Rattle.lam_session.specs.declared.states.Lifecycle.TheVariants.{Fresh, Running, Down, Over}
 use Rattle.lam_session.specs.declared.methods.RequestMethod.{RequestMethod}
 use Rattle.lam_session.specs.declared.methods.RequestMethod.TheVariants.{Initialize, Shutdown, Ask, Unknown as UnknownRequest}
 use Rattle.lam_session.specs.declared.methods.NoticeMethod.{NoticeMethod}
@@ -108,7 +108,7 @@ module _ (s : State) (m : Message) where
   awaits_one id Initialize params = does_one _ _
   awaits_one id _ params = does_one _ _
 
-  requested_one : (life : Life) (id : Data) (name : List ℕ) (params : Data) → m ≡ request id name params → IsOne (Requested life s id (request_method name) params)
+  requested_one : (life : Lifecycle) (id : Data) (name : List ℕ) (params : Data) → m ≡ request id name params → IsOne (Requested life s id (request_method name) params)
   requested_one Fresh id name params asked = awaits_one id (request_method name) params
   requested_one Running id name params asked = serves_one id name (request_method name) params asked refl
   requested_one Down id name params asked = does_one _ _
@@ -161,7 +161,7 @@ module _ (s : State) (m : Message) where
   passes_one Exit = does_one _ _
   passes_one _ = ignores_one
 
-  noticed_one : (life : Life) (method : NoticeMethod) (params : Data) → IsOne (Noticed life s method params)
+  noticed_one : (life : Lifecycle) (method : NoticeMethod) (params : Data) → IsOne (Noticed life s method params)
   noticed_one Running method params = heeds_one method params
   noticed_one (Over status) method params = ignores_one
   noticed_one _ method params = passes_one method
@@ -175,7 +175,7 @@ receives_one s reply = ignores_one s reply
 receives_one s unreadable = does_one s unreadable _ _
 receives_one s invalid = does_one s invalid _ _
 
-lives_one : (life : Life) (s : State) (m : Message) → IsOne s m (ReceivesIn life s m)
+lives_one : (life : Lifecycle) (s : State) (m : Message) → IsOne s m (ReceivesIn life s m)
 lives_one (Over status) s m = ignores_one s m
 lives_one _ s m = receives_one s m
 

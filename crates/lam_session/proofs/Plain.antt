@@ -3,13 +3,11 @@ use Rattle.std.proofs.Common.{ℕ, ℤ, pos, negsuc, Option, None, Some, ◌≡�
 use Rattle.std.specs.List.{All, AllByRecursion}
 use Rattle.std.proofs.lemmas.List.Elements.{All-from_recursion}
 use Rattle.serde_json.specs.Data.{Data, Items, null, no_items}
-use Rattle.serde_json.specs.View.{view}
 use Rattle.serde_json.specs.Written.{has_float, items_have_float}
-use Rattle.serde_json.specs.declared.value.Value.{Value}
 use Rattle.lam_rpc.specs.Kind.{Message, request, notice, reply, unreadable, invalid, HasPlainId}
 use Rattle.lam_rpc.specs.Reply.{result_reply}
-use Rattle.lam_session.specs.declared.states.Life.{Life}
-use Rattle.lam_session.specs.declared.states.Life.TheVariants.{Fresh, Running, Down, Over}
+use Rattle.lam_session.specs.declared.states.Lifecycle.{Lifecycle}
+use Rattle.lam_session.specs.declared.states.Lifecycle.TheVariants.{Fresh, Running, Down, Over}
 use Rattle.lam_text.specs.declared.units.Encoding.{Encoding}
 use Rattle.lam_text.specs.declared.units.Encoding.TheVariants.{Utf8, Utf16, Utf32}
 use Rattle.lam_text.specs.Edits.{Edit, text_after}
@@ -74,7 +72,7 @@ awaits_plain : (s : State) (id : Data) (method : RequestMethod) (params : Data) 
 awaits_plain s id Initialize params sent next h d = does_plain _ _ sent next (initialized_plain id (chosen params) h) d
 awaits_plain s id _ params sent next h d = does_plain _ _ sent next (refused_plain id NotInitialized h) d
 
-requested_plain : (life : Life) (s : State) (id : Data) (method : RequestMethod) (params : Data) (sent : List Data) (next : State) → has_float id ≡ false → Requested life s id method params sent next → NoFloats sent
+requested_plain : (life : Lifecycle) (s : State) (id : Data) (method : RequestMethod) (params : Data) (sent : List Data) (next : State) → has_float id ≡ false → Requested life s id method params sent next → NoFloats sent
 requested_plain Fresh s id method params sent next h d = awaits_plain s id method params sent next h d
 requested_plain Running s id method params sent next h d = serves_plain s id method params sent next h d
 requested_plain Down s id method params sent next h d = does_plain _ _ sent next (refused_plain id ShutDown h) d
@@ -122,7 +120,7 @@ passes_plain : (s : State) (method : NoticeMethod) (sent : List Data) (next : St
 passes_plain s Exit sent next d = does_plain _ _ sent next tt d
 passes_plain s _ sent next d = does_plain _ _ sent next tt d
 
-noticed_plain : (life : Life) (s : State) (method : NoticeMethod) (params : Data) (sent : List Data) (next : State) → Noticed life s method params sent next → NoFloats sent
+noticed_plain : (life : Lifecycle) (s : State) (method : NoticeMethod) (params : Data) (sent : List Data) (next : State) → Noticed life s method params sent next → NoFloats sent
 noticed_plain Running s method params sent next d = heeds_plain s method params sent next d
 noticed_plain (Over status) s method params sent next d = does_plain _ _ sent next tt d
 noticed_plain _ s method params sent next d = passes_plain s method sent next d
@@ -134,7 +132,7 @@ receives_plain s reply sent next h d = does_plain _ _ sent next tt d
 receives_plain s unreadable sent next h d = does_plain _ _ sent next (refused_plain null UnreadableMessage refl) d
 receives_plain s invalid sent next h d = does_plain _ _ sent next (refused_plain null InvalidMessage refl) d
 
-lives_plain : (life : Life) (s : State) (m : Message) (sent : List Data) (next : State) → HasPlainId m → ReceivesIn life s m sent next → NoFloats sent
+lives_plain : (life : Lifecycle) (s : State) (m : Message) (sent : List Data) (next : State) → HasPlainId m → ReceivesIn life s m sent next → NoFloats sent
 lives_plain (Over status) s m sent next h d = does_plain _ _ sent next tt d
 lives_plain _ s m sent next h d = receives_plain s m sent next h d
 
@@ -145,8 +143,8 @@ steps_plain s m sent next h d = lives_plain s.life s m sent next h d
 pub sent_plain : (s : State) (m : Message) (sent : List Data) (next : State) → HasPlainId m → Steps s m sent next → All (λ (d : Data). has_float d ≡ false) sent
 sent_plain s m sent next h d = All-from_recursion (λ (x : Data). has_float x ≡ false) sent (steps_plain s m sent next h d)
 
--- and of each value that the list is seen of
-pub each_plain : (values : List Value) → NoFloats (map view values) → All (λ v. has_float (view v) ≡ false) values
-each_plain [] h k d l = absurd (omega arith)
-each_plain (v ∷ vs) h zero d l = h.0
-each_plain (v ∷ vs) h (suc k) d l = each_plain vs h.1 k d (omega arith)
+-- and of each item that stands for such a value
+pub each_plain : {A : Type 0} (shown : A → Data) (items : List A) → NoFloats (map shown items) → All (λ x. has_float (shown x) ≡ false) items
+each_plain shown [] h k d l = absurd (omega arith)
+each_plain shown (x ∷ xs) h zero d l = h.0
+each_plain shown (x ∷ xs) h (suc k) d l = each_plain shown xs h.1 k d (omega arith)

@@ -3,11 +3,11 @@ use Rattle.std.specs.Prelude.{◌≡◌, true, false, None}
 use Rattle.lam_rules.specs.declared.rules.Dialect.TheVariants.{One}
 use Rattle.lam_session.specs.declared.session.Course.{Course}
 use Rattle.lam_session.specs.declared.session.Course.TheVariants.{Going, GaveUp}
-use Rattle.lam_session.specs.declared.states.Life.{Life}
+use Rattle.lam_session.specs.declared.states.Lifecycle.{Lifecycle}
 use Rattle.lam_session.specs.State.{State, fresh, Snapshot, ended_status}
 
 -- The state of a session that gave up: only the lifecycle state is kept, and all else is as before the first message.
-abbrev pub left : Life → State
+abbrev pub left : Lifecycle → State
 left life = record (fresh One) { life = life }
 
 -- the observable value of a session

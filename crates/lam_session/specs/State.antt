@@ -2,8 +2,8 @@
 use Rattle.std.specs.Prelude.{ℕ, List, [], Bool, Option, Some, None}
 use Rattle.lam_rules.specs.declared.rules.Dialect.{Dialect}
 use Rattle.lam_session.specs.declared.states.Config.{Config}
-use Rattle.lam_session.specs.declared.states.Life.{Life}
-use Rattle.lam_session.specs.declared.states.Life.TheVariants.{Fresh, Running, Down, Over}
+use Rattle.lam_session.specs.declared.states.Lifecycle.{Lifecycle}
+use Rattle.lam_session.specs.declared.states.Lifecycle.TheVariants.{Fresh, Running, Down, Over}
 use Rattle.lam_text.specs.declared.units.Encoding.{Encoding}
 use Rattle.lam_text.specs.declared.units.Encoding.TheVariants.{Utf16}
 use Rattle.lam_session.specs.Documents.{OpenDocument, OpenDocuments}
@@ -14,7 +14,7 @@ dialect_of config = config.dialect
 
 -- The lifecycle state, the encoding of columns, the dialect, and the open documents in the order of opening.
 pub record State : Type 0 where
-  pub life : Life
+  pub life : Lifecycle
   pub encoding : Encoding
   pub dialect : Dialect
   pub documents : List OpenDocument
@@ -28,7 +28,7 @@ abbrev pub fresh : Dialect → State
 fresh dialect = record { life = Fresh; encoding = Utf16; dialect = dialect; documents = [] }
 
 -- the exit status of a session that has ended
-abbrev pub ended_status : Life → Option ℕ
+abbrev pub ended_status : Lifecycle → Option ℕ
 ended_status Fresh = None
 ended_status Running = None
 ended_status Down = None

@@ -4,8 +4,8 @@ use Rattle.std.specs.Prelude.{◌≡◌, ℕ, List, [], ◌∷◌, true, false, 
 use Rattle.serde_json.specs.Data.{Data, null}
 use Rattle.lam_rpc.specs.Kind.{Message, request, notice, reply, unreadable, invalid}
 use Rattle.lam_rpc.specs.Reply.{result_reply}
-use Rattle.lam_session.specs.declared.states.Life.{Life}
-use Rattle.lam_session.specs.declared.states.Life.TheVariants.{Fresh, Running, Down, Over}
+use Rattle.lam_session.specs.declared.states.Lifecycle.{Lifecycle}
+use Rattle.lam_session.specs.declared.states.Lifecycle.TheVariants.{Fresh, Running, Down, Over}
 use Rattle.lam_session.specs.declared.methods.RequestMethod.{RequestMethod}
 use Rattle.lam_session.specs.declared.methods.RequestMethod.TheVariants.{Initialize, Shutdown, Ask, Unknown as UnknownRequest}
 use Rattle.lam_session.specs.declared.methods.NoticeMethod.{NoticeMethod}
@@ -45,14 +45,14 @@ Awaits s id Initialize params = Initializes s id params
 Awaits s id _ params = Refuses s id NotInitialized
 
 -- a request in each lifecycle state
-abbrev pub Requested : Life → State → Data → RequestMethod → Data → List Data → State → Type 0
+abbrev pub Requested : Lifecycle → State → Data → RequestMethod → Data → List Data → State → Type 0
 Requested Fresh s id method params = Awaits s id method params
 Requested Running s id method params = Serves s id method params
 Requested Down s id method params = Refuses s id ShutDown
 Requested (Over status) s id method params = Ignores s
 
 -- `exit` succeeds only after `shutdown` (LSP 3.17, exit)
-abbrev pub exit_status : Life → ℕ
+abbrev pub exit_status : Lifecycle → ℕ
 exit_status Down = 0
 exit_status _ = 1
 
@@ -70,7 +70,7 @@ Passes s Exit = Ends s (exit_status s.life)
 Passes s _ = Ignores s
 
 -- a notification in each lifecycle state
-abbrev pub Noticed : Life → State → NoticeMethod → Data → List Data → State → Type 0
+abbrev pub Noticed : Lifecycle → State → NoticeMethod → Data → List Data → State → Type 0
 Noticed Running s method params = Heeds s method params
 Noticed (Over status) s method params = Ignores s
 Noticed _ s method params = Passes s method
@@ -84,7 +84,7 @@ Receives s unreadable = Refuses s null UnreadableMessage
 Receives s invalid = Refuses s null InvalidMessage
 
 -- After the session has ended, every message is ignored.
-abbrev pub ReceivesIn : Life → State → Message → List Data → State → Type 0
+abbrev pub ReceivesIn : Lifecycle → State → Message → List Data → State → Type 0
 ReceivesIn (Over status) s m = Ignores s
 ReceivesIn _ s m = Receives s m
 

@@ -6,7 +6,7 @@ use lam_rules::Dialect;
 
 /// The lifecycle state of a session (LSP 3.17, Server lifecycle).
 #[derive(Clone, Copy)]
-pub enum Life {
+pub enum Lifecycle {
     /// Before `initialize`.
     Fresh,
     Running,
@@ -16,13 +16,13 @@ pub enum Life {
     Over(u8),
 }
 
-impl Life {
+impl Lifecycle {
     /// Returns the exit status of the program, after `exit`.
     pub fn ended(self) -> Option<u8>
         ensures { result ≡ ended_status self }
     {
         match self {
-            Life::Over(status) => Some(status),
+            Lifecycle::Over(status) => Some(status),
             _ => None,
         }
     }

@@ -7,7 +7,7 @@ use Rattle.lam_query.specs.declared.bound.Meanings.{Meanings}
 use Rattle.lam_query.specs.declared.bound.NameNo.{NameNo}
 use Rattle.lam_query.specs.declared.bound.NameNo.TheVariants as number
 use Rattle.lam_query.specs.declared.changed_names.ChangedNames.{ChangedNames}
-use Rattle.lam_query.specs.inner.Bound.{numbered, kept_under}
+use Rattle.lam_query.specs.inner.Bound.{number_of, kept_under}
 use Rattle.lam_query.specs.inner.PieceRows.{Sight}
 
 -- whether a name is marked as changed; one whose number is not listed counts as changed
@@ -28,5 +28,5 @@ IsMarked (Some (number.TypeName n)) changed old now = (now.type_names.items ≡ 
 
 -- names and type names that have a number and are not marked mean the same at both places
 pub record AgreeOnUnchanged (b : Bound) (c : ChangedNames) (was now : Sight) : Type 0 where
-  pub names : (x : Name) (n : ℕ) → numbered b.names x ≡ Some n → is_changed c (number.Name n) ≡ false → was.names x ≡ now.names x
-  pub types : (x : Name) (n : ℕ) → numbered b.type_names x ≡ Some n → is_changed c (number.TypeName n) ≡ false → was.types x ≡ now.types x
+  pub names : (x : Name) (n : ℕ) → number_of b.names x ≡ Some n → is_changed c (number.Name n) ≡ false → was.names x ≡ now.names x
+  pub types : (x : Name) (n : ℕ) → number_of b.type_names x ≡ Some n → is_changed c (number.TypeName n) ≡ false → was.types x ≡ now.types x

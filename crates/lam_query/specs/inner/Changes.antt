@@ -6,7 +6,7 @@ use Rattle.lam_rules.specs.Numbers.{Keeps}
 use Rattle.lam_typing.specs.Checking.{types_in, dialect_in}
 use Rattle.lam_query.specs.declared.analyses.Analyst.{Analyst}
 use Rattle.lam_query.specs.declared.bound.Bound.{Bound}
-use Rattle.lam_query.specs.declared.ends.Behind.{Behind}
+use Rattle.lam_query.specs.declared.ends.OldPieces.{OldPieces}
 use Rattle.lam_query.specs.inner.Analysts.{IsBoundAs, IsReadTo, IsReadThrough}
 use Rattle.lam_query.specs.inner.Bound.{HaveNumbers, KeepsNumbers}
 use Rattle.lam_query.specs.inner.Ends.{IsLeftOf}
@@ -19,7 +19,7 @@ IsMet ahead s text pieces next a =
     ((next < length pieces) × IsReadTo ahead s text (joined (drop next pieces)) a) ⊎ ((next ≡ length pieces) × IsReadThrough ahead s text a)
 
 -- The rows are those of the old text's pieces, of which the rest is counted; the common suffix of both texts has `common` bytes.
-pub record AreOldPieces (old new : List ℕ) (pieces : List (List ℕ)) (b : Behind) : Type 0 where
+pub record AreOldPieces (old new : List ℕ) (pieces : List (List ℕ)) (b : OldPieces) : Type 0 where
   pub whole : old ≡ joined pieces
   pub lengths : AllZip (λ r p. r.end ≡ length p) (rows_of b.rows.now) pieces
   pub left : IsLeftOf (rows_of b.rows.now) b

@@ -10,7 +10,7 @@ use Rattle.lam_query.specs.declared.bound.Bound.{Bound}
 use Rattle.lam_query.specs.declared.bound.NameNo.{NameNo}
 use Rattle.lam_query.specs.declared.bound.NameNo.TheVariants as number
 use Rattle.lam_query.specs.declared.entries.Entries.{Entries}
-use Rattle.lam_query.specs.inner.Bound.{numbered}
+use Rattle.lam_query.specs.inner.Bound.{number_of}
 use Rattle.lam_query.specs.inner.Entered.{Lookup}
 use Rattle.lam_query.specs.inner.Kept.{CommandRow, Row, bound_by}
 use Rattle.lam_query.specs.inner.PieceRows.{Sight}
@@ -22,11 +22,11 @@ meant e (number.TypeName n) = get_or e.type_names.items n None
 
 -- what is kept for a name
 abbrev pub name_kept : Bound → Entries → Name → Option (Option TyNo)
-name_kept b e x = option_and_then (λ n. meant e (number.Name n)) (numbered b.names x)
+name_kept b e x = option_and_then (λ n. meant e (number.Name n)) (number_of b.names x)
 
 -- what is kept for a type name
 abbrev pub type_name_kept : Bound → Entries → Name → Option (Option TyNo)
-type_name_kept b e x = option_and_then (λ n. meant e (number.TypeName n)) (numbered b.type_names x)
+type_name_kept b e x = option_and_then (λ n. meant e (number.TypeName n)) (number_of b.type_names x)
 
 -- the meaning of a name over the types of a table
 abbrev pub name_meant : List Typ → Bound → Entries → Lookup
@@ -77,9 +77,9 @@ pub record IsPassedBehind (b : Bound) (rows : List Row) (e : Entries) : Type 0 w
 
 -- the meanings of names by their numbers, over the types of a table
 pub record IsMeantBy (s : Sight) (ts : List Typ) (b : Bound) (e : Entries) : Type 0 where
-  pub names : (x : Name) (n : ℕ) → numbered b.names x ≡ Some n → option_map (answer ts) (meant e (number.Name n)) ≡ s.names x
-  pub types : (x : Name) (n : ℕ) → numbered b.type_names x ≡ Some n → option_map (answer ts) (meant e (number.TypeName n)) ≡ s.types x
-  pub room : (x : Name) (n : ℕ) → numbered b.names x ≡ Some n → HasRoomFor (number.Name n) e
-  pub type_room : (x : Name) (n : ℕ) → numbered b.type_names x ≡ Some n → HasRoomFor (number.TypeName n) e
-  pub stand : (x : Name) (n : ℕ) → numbered b.names x ≡ Some n → IfSome (meant e (number.Name n)) (StandsIfAny ts)
-  pub type_stand : (x : Name) (n : ℕ) → numbered b.type_names x ≡ Some n → IfSome (meant e (number.TypeName n)) (StandsIfAny ts)
+  pub names : (x : Name) (n : ℕ) → number_of b.names x ≡ Some n → option_map (answer ts) (meant e (number.Name n)) ≡ s.names x
+  pub types : (x : Name) (n : ℕ) → number_of b.type_names x ≡ Some n → option_map (answer ts) (meant e (number.TypeName n)) ≡ s.types x
+  pub room : (x : Name) (n : ℕ) → number_of b.names x ≡ Some n → HasRoomFor (number.Name n) e
+  pub type_room : (x : Name) (n : ℕ) → number_of b.type_names x ≡ Some n → HasRoomFor (number.TypeName n) e
+  pub stand : (x : Name) (n : ℕ) → number_of b.names x ≡ Some n → IfSome (meant e (number.Name n)) (StandsIfAny ts)
+  pub type_stand : (x : Name) (n : ℕ) → number_of b.type_names x ≡ Some n → IfSome (meant e (number.TypeName n)) (StandsIfAny ts)

@@ -32,7 +32,7 @@ pub data Found : Type 0 where
 
 -- what is kept of a command: the numbers of its free names and of the name that it binds, and the types found
 pub record CommandRow : Type 0 where
-  pub asks : List NameNo
+  pub free_numbers : List NameNo
   pub binds : Option NameNo
   pub found : Found
 
@@ -56,7 +56,7 @@ found_of (rust.Types t) = typed (found_types_of t)
 
 -- what is kept of a command
 abbrev pub command_row_of : RustCommandRow → CommandRow
-command_row_of k = record { asks = k.asks.items; binds = k.binds; found = found_of k.found }
+command_row_of k = record { free_numbers = k.free_numbers.items; binds = k.binds; found = found_of k.found }
 
 -- what is kept of a piece
 abbrev pub row_of : RustRow → Row
@@ -181,7 +181,7 @@ found_after n (typed t) = typed (found_types_after n t)
 
 -- what is kept of a command, moved forward
 abbrev pub command_row_after : ℕ → CommandRow → CommandRow
-command_row_after n k = record { asks = k.asks; binds = k.binds; found = found_after n k.found }
+command_row_after n k = record { free_numbers = k.free_numbers; binds = k.binds; found = found_after n k.found }
 
 -- what is kept of a piece, moved forward
 abbrev pub row_after : ℕ → Row → Row

@@ -13,7 +13,7 @@ use Rattle.lam_query.specs.declared.bound.Bound.{Bound}
 use Rattle.lam_query.specs.declared.bound.NameNo.{NameNo}
 use Rattle.lam_query.specs.declared.bound.NameNo.TheVariants.{Name as NameNumber, TypeName as TypeNameNumber}
 use Rattle.lam_query.specs.SyntaxFaults.{AreSyntaxFaults}
-use Rattle.lam_query.specs.inner.Bound.{numbered, IsBinding}
+use Rattle.lam_query.specs.inner.Bound.{number_of, IsBinding}
 use Rattle.lam_query.specs.inner.Entered.{Lookup}
 use Rattle.lam_query.specs.inner.Kept.{CommandRow, Row}
 use Rattle.lam_query.specs.inner.OnePiece.{HaveNoSemicolon, IsOwnOf}
@@ -50,14 +50,14 @@ pub data AreTokensIn (piece : List ℕ) (tokens : List Lexeme) : Type 0 where
   alone : AreTokensOf piece tokens → AreTokensIn piece tokens
 
 -- each free name and type name of a command has a number, which is in the list
-pub record AreAsked (b : Bound) (c : CommandTree) (asks : List NameNo) : Type 0 where
-  pub names : (x : Name) → Contains (free_in_command c) x → (n : ℕ) × (numbered b.names x ≡ Some n) × Contains asks (NameNumber n)
-  pub types : (x : Name) → Contains (free_type_names_in_command c) x → (n : ℕ) × (numbered b.type_names x ≡ Some n) × Contains asks (TypeNameNumber n)
+pub record AreFreeNumbers (b : Bound) (c : CommandTree) (free_numbers : List NameNo) : Type 0 where
+  pub names : (x : Name) → Contains (free_in_command c) x → (n : ℕ) × (number_of b.names x ≡ Some n) × Contains free_numbers (NameNumber n)
+  pub types : (x : Name) → Contains (free_type_names_in_command c) x → (n : ℕ) × (number_of b.type_names x ≡ Some n) × Contains free_numbers (TypeNameNumber n)
 
 -- the numbers in a row are those of the names that are free in its command and that it binds
 abbrev pub AreItsNumbers : Bound → List CommandTree → Option CommandRow → Type 0
 AreItsNumbers b [] None = Unit {0}
-AreItsNumbers b (c ∷ []) (Some k) = IsBinding b c k.binds × AreAsked b c k.asks
+AreItsNumbers b (c ∷ []) (Some k) = IsBinding b c k.binds × AreFreeNumbers b c k.free_numbers
 AreItsNumbers b own r = ⊥
 
 -- The row of a piece before which names have these meanings, with its commands: one, or none.

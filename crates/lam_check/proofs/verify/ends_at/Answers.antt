@@ -1,16 +1,19 @@
 use Rattle.std.proofs.Common.{◌≡◌, Some, None, ap, sym, ◌∙◌}
 use Rattle.lam_token.specs.declared.span.Span.{Span}
-use Rattle.lam_scope.specs.PlacedTerms.{document_terms, term_of, tree_in}
-use Rattle.lam_check.proofs.Verifying.{last_is, span_there}
+use Rattle.lam_scope.specs.Tables.{place_row_numbered}
+use Rattle.lam_scope.specs.Views.{table_of}
+use Rattle.lam_check.proofs.Verifying.{never, last_found}
 use Rattle.lam_check.proofs.verify.ends_at.Goals as goal
 
 pub returns-in-Some : goal.returns-in-Some
-returns-in-Some c = λ commands tree scopes are.
-    c.is_at.ensures (last_is c.args.steps.now (Some c.in-Some.step.now) (tree_in (document_terms commands) c.args.place.0) tree c.in-Some.ensures.value are
-    ∙ ap (λ (s : Span). Some s) (sym (c.span_of.ensures ∙ span_there commands c.args.scopes.now c.args.place.0 scopes)))
+returns-in-Some c =
+    let last = last_found c.args.steps.now (Some c.in-Some.step.now) c.in-Some.ensures.value in
+    let same = ap (λ (s : Span). Some s) c.span_of.ensures in
+    (λ b. last ∙ c.is_at.ensures.0 b ∙ same, λ is. c.is_at.ensures.1 (sym last ∙ is ∙ sym same))
 
 pub returns-in-None : goal.returns-in-None
-returns-in-None c = λ commands tree scopes are.
-    let term = tree_in (document_terms commands) c.args.place.0 in
-    let clash : None ≡ Some (term_of term).span = last_is c.args.steps.now None term tree c.in-None.ensures.value are in
-    absurd cc
+returns-in-None c =
+    let last = last_found c.args.steps.now None c.in-None.ensures.value in (
+      λ b. never b,
+      λ is. (let clash : None ≡ Some (place_row_numbered (table_of c.args.scopes.now) c.args.place.0).span = sym last ∙ is in absurd cc),
+    )

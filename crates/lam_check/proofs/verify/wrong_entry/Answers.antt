@@ -1,12 +1,17 @@
-use Rattle.std.proofs.Common.{map, ap, ◌∙◌}
+use Rattle.std.proofs.Common.{length, map, ap, sym, ◌∙◌}
+use Rattle.std.proofs.lemmas.List.{length-map}
 use Rattle.lam_scope.specs.TableViews.{binder_number}
 use Rattle.lam_check.proofs.Verifying.{if_ok}
 use Rattle.lam_check.proofs.ListedEntries.{wrong_is}
 use Rattle.lam_check.proofs.verify.wrong_entry.Goals as goal
 
+pub first_wrong-requires : goal.first_wrong-requires
+first_wrong-requires c = c.requires ∙ ap length (sym c.in_ok-binders.ensures) ∙ length-map c.in_ok-binders.binders.items binder_number ∙ ap length (sym c.deref.ensures.value)
+
 pub returns : goal.returns
 returns c = if_ok c.first_wrong.result
     (λ wrong h commands forms inside.
+    let seen = ap (map binder_number) c.deref.ensures.value ∙ c.in_ok-binders.ensures in
     wrong_is commands c.args.scopes.now c.args.resolved.now c.args.typing.now c.args.dialect forms c.args.place.0 c.origins.result.now _ c.args.entries.now wrong inside
-    (ap (map binder_number) c.deref.ensures.value ∙ c.in_ok-binders.ensures) c.origins.ensures h)
+    seen c.origins.ensures (c.requires ∙ ap length (sym seen)) h)
     c.first_wrong.ensures

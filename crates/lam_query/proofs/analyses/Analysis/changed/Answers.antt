@@ -11,9 +11,9 @@ use Rattle.lam_query.proofs.analyses.Analysis.changed.Goals.{After-deref-2}
 
 -- ---- behind the pieces in front of the change
 
-begun : (c : After-deref-2) → IsBegun c.args.old.now c.args.new.now c.args.self c.rows_within-front.result c.behind-analyst.result.0
+begun : (c : After-deref-2) → IsBegun c.args.old.now c.args.new.now c.args.self c.rows_within-front.result c.after-analyst.result.0
 begun c =
-    let behind = c.behind-analyst.ensures in
+    let behind = c.after-analyst.ensures in
     record {
       of = c.requires;
       bytes = c.common_front.result;
@@ -31,26 +31,26 @@ begun c =
 
 -- the rows are those of the old text
 items : (c : After-deref-2) → c.deref-2.result.now ≡ c.args.self.rows.items
-items c = c.deref-2.ensures.value ∙ ap (λ (v : Vec RustRow Global). v.items) c.behind-analyst.ensures.rows
+items c = c.deref-2.ensures.value ∙ ap (λ (v : Vec RustRow Global). v.items) c.after-analyst.ensures.rows
 
 pub rows_within-front-requires : goal.rows_within-front-requires
 rows_within-front-requires c =
     let all = ap (λ (rs : List RustRow). bytes_of (rows_of rs)) c.deref.ensures.value ∙ bytes_in c.requires in
     omega (arith, all)
 
-pub behind-analyst-requires-clause-inside : goal.behind-analyst-requires-clause-inside
-behind-analyst-requires-clause-inside c =
+pub after-analyst-requires-clause-inside : goal.after-analyst-requires-clause-inside
+after-analyst-requires-clause-inside c =
     let within = subst (λ (rs : List RustRow). AreRowsWithin c.common_front.result c.rows_within-front.result (rows_of rs)) c.deref.ensures.value c.rows_within-front.ensures in
     front_inside c.common_front.result c.rows_within-front.result c.args.self.rows.items within
 
-pub new-behind-requires-clause-inside : goal.new-behind-requires-clause-inside
-new-behind-requires-clause-inside c =
-    let at = (goal.at.new-behind-requires-clause-inside c).After-deref-2 in
+pub new-old_pieces-requires-clause-inside : goal.new-old_pieces-requires-clause-inside
+new-old_pieces-requires-clause-inside c =
+    let at = (goal.at.new-old_pieces-requires-clause-inside c).After-deref-2 in
     omega (arith, count_inside (begun at), ap length (items at))
 
-pub new-behind-requires-clause-counted : goal.new-behind-requires-clause-counted
-new-behind-requires-clause-counted c =
-    let at = (goal.at.new-behind-requires-clause-counted c).After-deref-2 in
+pub new-old_pieces-requires-clause-counted : goal.new-old_pieces-requires-clause-counted
+new-old_pieces-requires-clause-counted c =
+    let at = (goal.at.new-old_pieces-requires-clause-counted c).After-deref-2 in
     left_bytes (begun at) ∙ ap (λ (rs : List RustRow). bytes_of (drop c.rows_within-front.result.count (rows_of rs))) (sym (items at))
 
 pub read_until-requires-clause-sound : goal.read_until-requires-clause-sound
@@ -63,8 +63,8 @@ read_until-requires-clause-read c =
 
 pub read_until-requires-clause-old : goal.read_until-requires-clause-old
 read_until-requires-clause-old c =
-    let left = c.new-behind.ensures in
-    let are = old_pieces c.requires c.args.new.now c.new-behind.result _ _ (items (goal.at.read_until-requires-clause-old c).After-deref-2)
+    let left = c.new-old_pieces.ensures in
+    let are = old_pieces c.requires c.args.new.now c.new-old_pieces.result _ _ (items (goal.at.read_until-requires-clause-old c).After-deref-2)
     left.left left.common c.common_end-common.ensures in
     (c.args.old.now, pieces_in c.requires, are)
 
@@ -74,17 +74,17 @@ pub slice_bounds-pass-end : goal.slice_bounds-pass-end
 slice_bounds-pass-end c =
     let at = (goal.at.slice_bounds-pass-end c).After-deref-2 in
     let h = begun at in
-    let left = c.new-behind.ensures in
-    let met = begun_met h c.new-behind.result _ _ (items at) left.left left.common c.common_end-common.ensures _ _ c.in_ok-read_until.ensures.met in
+    let left = c.new-old_pieces.ensures in
+    let met = begun_met h c.new-old_pieces.result _ _ (items at) left.left left.common c.common_end-common.ensures _ _ c.in_ok-read_until.ensures.met in
     omega (arith, met_inside h _ _ met, many_pieces h.of, ap length (items at))
 
 pub put_between-requires-clause-inside : goal.put_between-requires-clause-inside
 put_between-requires-clause-inside c =
     let at = (goal.at.put_between-requires-clause-inside c).After-deref-2 in
     let h = begun at in
-    let left = c.new-behind.ensures in
-    let met = begun_met h c.new-behind.result _ _ (items at) left.left left.common c.common_end-common.ensures _ _ c.in_ok-read_until.ensures.met in
-    let many = ap (λ (v : Vec RustRow Global). length v.items) c.behind-analyst.ensures.rows in
+    let left = c.new-old_pieces.ensures in
+    let met = begun_met h c.new-old_pieces.result _ _ (items at) left.left left.common c.common_end-common.ensures _ _ c.in_ok-read_until.ensures.met in
+    let many = ap (λ (v : Vec RustRow Global). length v.items) c.after-analyst.ensures.rows in
     omega (arith, met_inside h _ _ met, many_pieces h.of, many)
 
 pub finish-requires-clause-sound : goal.finish-requires-clause-sound
@@ -96,16 +96,16 @@ finish-requires-clause-read c =
     let a = c.args.self in
     let at = (goal.at.finish-requires-clause-read c).After-deref-2 in
     let h = begun at in
-    let left = c.new-behind.ensures in
+    let left = c.new-old_pieces.ensures in
     let now = c.read_until.new.self in
     let to = c.read_until.new.old.next in
     let read = c.in_ok-read_until.ensures in
-    let met = begun_met h c.new-behind.result _ _ (items at) left.left left.common c.common_end-common.ensures _ _ c.in_ok-read_until.ensures.met in
-    let rows = c.behind-analyst.ensures.rows in
-    let long = c.len-count.ensures ∙ c.behind-analyst.result.1.ok.0 ∙ ap (λ (v : Vec RustRow Global). length v.items) rows in
+    let met = begun_met h c.new-old_pieces.result _ _ (items at) left.left left.common c.common_end-common.ensures _ _ c.in_ok-read_until.ensures.met in
+    let rows = c.after-analyst.ensures.rows in
+    let long = c.len-count.ensures ∙ c.after-analyst.result.1.ok.0 ∙ ap (λ (v : Vec RustRow Global). length v.items) rows in
     let y = c.put_between.new.self in
     let done = c.in_ok-next.ensures in
-    let on : HasReadOn c.behind-analyst.result.0 now = record { keeps = read.keeps; numbers = read.numbers; dialect = read.dialect } in
+    let on : HasReadOn c.after-analyst.result.0 now = record { keeps = read.keeps; numbers = read.numbers; dialect = read.dialect } in
     let put : IsPutBetween a c.rows_within-front.result.count to now y = record {
       rows = done.rows ∙ ap (λ (v : Vec RustRow Global). take c.rows_within-front.result.count v.items ++ (now.rows.items ++ drop to v.items)) rows;
       types = done.types;
@@ -125,14 +125,14 @@ follow-requires-clause-followed c =
     let at = (goal.at.follow-requires-clause-followed c).After-deref-2 in
     let h = begun at in
     let front = c.rows_within-front.result in
-    let x = c.behind-analyst.result.0 in
-    let left = c.new-behind.ensures in
+    let x = c.after-analyst.result.0 in
+    let left = c.new-old_pieces.ensures in
     let now = c.read_until.new.self in
     let to = c.read_until.new.old.next in
     let read = c.in_ok-read_until.ensures in
-    let met = begun_met h c.new-behind.result _ _ (items at) left.left left.common c.common_end-common.ensures _ _ c.in_ok-read_until.ensures.met in
-    let rows = c.behind-analyst.ensures.rows in
-    let long = c.len-count.ensures ∙ c.behind-analyst.result.1.ok.0 ∙ ap (λ (v : Vec RustRow Global). length v.items) rows in
+    let met = begun_met h c.new-old_pieces.result _ _ (items at) left.left left.common c.common_end-common.ensures _ _ c.in_ok-read_until.ensures.met in
+    let rows = c.after-analyst.ensures.rows in
+    let long = c.len-count.ensures ∙ c.after-analyst.result.1.ok.0 ∙ ap (λ (v : Vec RustRow Global). length v.items) rows in
     let y = c.put_between.new.self in
     let done = c.in_ok-next.ensures in
     let on : HasReadOn x now = record { keeps = read.keeps; numbers = read.numbers; dialect = read.dialect } in

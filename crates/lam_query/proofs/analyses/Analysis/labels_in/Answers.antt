@@ -24,7 +24,7 @@ pub returns-then-is_some-clause-some : goal.returns-then-is_some-clause-some
 returns-then-is_some-clause-some c text offset h of =
     let alone = c.in_ok-alone.ensures h.pieces h.sight h.before in
     let there = rw c.deref-2.ensures.value at (sym c.projection_at.ensures ∙ ap (option_map place_number) c.in-Some.is) in
-    let large = some_large c.args.self.now.told.large (sym c.is_some.ensures ∙ c.if-is_some.true) in
+    let large = some_large c.args.self.now.row_faults.large (sym c.is_some.ensures ∙ c.if-is_some.true) in
     rw c.new.ensures.items
     (large_behind text offset c.args.self.now c.args.piece of h (command_of c.args.command) c.args.dot c.in-Some.place.0 large.0 large.1
     (ap (projection_at c.args.dot) (sym alone.commands) ∙ there))
@@ -40,6 +40,6 @@ returns-clause-some c text offset h of =
     let items = map item_of c.in_ok-items.items.items in
     let there = rw c.deref-2.ensures.value at (sym c.projection_at.ensures ∙ ap (option_map place_number) c.in-Some.is) in
     let listed = rw c.deref-3.ensures.value at c.in_ok-items.ensures in
-    small_behind text offset c.args.self.now c.args.piece of h (command_of c.args.command) (none_from c.args.self.now.told.large (sym c.is_some.ensures ∙ c.if-is_some.false))
+    small_behind text offset c.args.self.now c.args.piece of h (command_of c.args.command) (none_from c.args.self.now.row_faults.large (sym c.is_some.ensures ∙ c.if-is_some.false))
     c.args.dot c.in-Some.place.0 items
     (ap (projection_at c.args.dot) (sym alone.commands) ∙ there) (subst (λ cs. AreListed cs c.in-Some.place.0 items c.args.self.now.dialect) alone.commands listed)

@@ -35,7 +35,7 @@ returns-in_default c offset own h commands are =
     let a = c.args.self.now in
     let p = c.args.piece in
     let alone = c.args.alone.now in
-    let none = none_from a.told.large (sym c.is_some.ensures ∙ c.if-is_some.false) in
+    let none = none_from a.row_faults.large (sym c.is_some.ensures ∙ c.if-is_some.false) in
     let fault = rw (c.in_default.is, c.deref-2.ensures.value) at c.in_ok-types.ensures.none in
     absurd
     (none_too_large text offset a p own alone h c.requires.of commands are c.in_ok-outer.outer.items
@@ -53,7 +53,7 @@ returns c =
     let outer = c.in_ok-outer.outer.items in
     let inner = c.in_ok-inner-2.inner.items in
     let small = sym c.is_some.ensures ∙ c.if-is_some.false in
-    let none = none_from a.told.large small in
+    let none = none_from a.row_faults.large small in
     let found = rw (c.in-Some.is, c.deref-2.ensures.value) at c.in_ok-types.ensures.some in
     let first = rw (c.deref-3.ensures.value, c.table.ensures) at c.in_ok-put_in_sight-3.ensures in
     let then = rw (c.deref-4.ensures.value, c.table-2.ensures) at c.in_ok-put_in_sight-4.ensures in

@@ -3,8 +3,8 @@ use Rattle.lam_query.proofs.Analysts.{all_read}
 use Rattle.lam_query.proofs.SpansInText.{read_bytes_fit, read_large_fits, read_syntax_fits, read_types_fit}
 use Rattle.lam_query.proofs.analyses.Analyst.finish.Goals as goal
 
-pub told_by-requires : goal.told_by-requires
-told_by-requires c =
+pub collect_faults-requires : goal.collect_faults-requires
+collect_faults-requires c =
     let text = c.args.text.now in
     let short : length text < 2 ^ 64 = omega arith in
     rw c.deref.ensures.value (read_bytes_fit text c.args.self c.utf8.text short c.requires.read)
@@ -14,7 +14,7 @@ returns-clause-of c =
     let text = c.args.text.now in
     let a = c.args.self in
     let short : length text < 2 ^ 64 = omega arith in
-    let told = rw c.deref.ensures.value at c.in_ok-told.ensures in
+    let told = rw c.deref.ensures.value at c.in_ok-row_faults.ensures in
     let large = told.large (read_large_fits text a c.utf8.text short c.requires.read) in
     all_read text a _ c.utf8.text c.requires.read c.requires.sound refl refl refl (sym c.requires.dialect)
     large

@@ -1,0 +1,92 @@
+-- What is reported on a derivation that was sent.
+use Rattle.std.specs.Prelude.{◌≡◌, ℕ, List, [], ◌∷◌, ◌++◌, Option, Some, None, codes, decimal, flat_map}
+use Rattle.serde_json.specs.Data.{Data}
+use Rattle.lam_rules.specs.Texts.{Text, plain_text}
+use Rattle.lam_rules.specs.Types.{Typ}
+use Rattle.lam_rules.specs.declared.rules.Dialect.{Dialect}
+use Rattle.lam_text.specs.declared.units.Encoding.TheVariants.{Utf16}
+use Rattle.lam_query.specs.Derivations.{ContextEntry, Derivation}
+use Rattle.lam_query.specs.Steps.{Conclusion}
+use Rattle.lam_session.specs.Derivations.{derivation_value}
+use Rattle.lam_check.specs.Drawings.{claim_text, line}
+use Rattle.lam_check.specs.FirstFaults.{IsFirstFault, IsSound, last_conclusion}
+use Rattle.lam_check.specs.Readable.{IsReadable}
+use Rattle.lam_check.specs.Verified.{IsVerifiedValue}
+use Rattle.lam_check.specs.declared.first_faults.FirstFault.{FirstFault}
+use Rattle.lam_check.specs.declared.first_faults.FirstFault.TheVariants as faults
+use Rattle.lam_check.specs.declared.terms.Role.TheVariants as roles
+
+-- ---- accepted derivations
+
+-- an entry of a context, as in `x:Nat`; the name alone if it has no type
+abbrev pub type_behind : Option Typ → Text
+type_behind None = []
+type_behind (Some t) = codes ":" ++ plain_text t
+
+abbrev pub entry_text : ContextEntry → Text
+entry_text e = e.name ++ type_behind e.type
+
+-- a further entry
+abbrev pub next_entry : ContextEntry → Text
+next_entry e = codes ", " ++ entry_text e
+
+-- a context before its conclusion, as in `x:Nat, y |- `; nothing if it is empty
+abbrev pub context_text : List ContextEntry → Text
+context_text [] = []
+context_text (e ∷ es) = entry_text e ++ flat_map next_entry es ++ codes " |- "
+
+-- the last conclusion, with its term as it is written
+abbrev pub claim_in : List ℕ → Option Conclusion → Text
+claim_in text None = []
+claim_in text (Some c) = claim_text text roles.Other c
+
+-- `NAME: accepted: CONTEXT |- CLAIM`
+abbrev pub accepted_line : (name : Text) → (text : List ℕ) → Derivation → Text
+accepted_line name text x = line (name ++ codes ": accepted: " ++ context_text x.context ++ claim_in text (last_conclusion x.steps))
+
+-- ---- refused ones
+
+-- the message of a fault
+unfoldable pub message : FirstFault → Text
+message faults.NoStep = codes "it has no step"
+message faults.TooDeep = codes "its steps follow from each other on more than 16,384 levels"
+message (faults.Premises n) = codes "the steps that step " ++ decimal n ++ codes " follows from are not the last ones before it"
+message (faults.Loose n) = codes "step " ++ decimal n ++ codes " is the last one, and no typing that follows from all others"
+message faults.TooLarge = codes "the text has a type of more than 4,096 nodes"
+message (faults.NoTerm n) = codes "step " ++ decimal n ++ codes " is about no term of the text"
+message faults.Names = codes "the context has other names than those that the term sees"
+message (faults.Entry n) = codes "entry " ++ decimal n ++ codes " of the context is not the least type of its name"
+message (faults.Step n) = codes "step " ++ decimal n ++ codes " does not follow by its rule from its premises"
+message (faults.Range n) = codes "step " ++ decimal n ++ codes " has the range of another term"
+
+-- `NAME: MESSAGE`
+abbrev pub refused_line : (name message : Text) → Text
+refused_line name message = line (name ++ codes ": " ++ message)
+
+-- ---- reports
+
+-- The value is that of a derivation that is verified, and the line says so, with its context and the conclusion of its last step.
+pub record IsAccepted (name : Text) (text : List ℕ) (value : Data) (d : Dialect) (report : Text) : Type 0 where
+  pub sent : IsVerifiedValue text value d
+  pub shown : report ≡ accepted_line name text sent.derivation
+
+-- The value is that of a derivation that is not verified or has too many levels, and the line has the message of what is wrong with it first.
+pub record IsRefused (name : Text) (text : List ℕ) (value : Data) (d : Dialect) (report : Text) : Type 0 where
+  pub derivation : Derivation
+  pub is_value : value ≡ derivation_value Utf16 text (Some derivation)
+  pub not_sound : IsSound text derivation d → ⊥
+  pub fault : FirstFault
+  pub first : IsFirstFault text derivation d fault
+  pub shown : report ≡ refused_line name (message fault)
+
+-- The value is that of no readable derivation, and the line has some other message.
+pub record IsUnreadable (name : Text) (text : List ℕ) (value : Data) (report : Text) : Type 0 where
+  pub unread : (derivation : Derivation) → IsReadable text derivation → value ≡ derivation_value Utf16 text (Some derivation) → ⊥
+  pub message : Text
+  pub shown : report ≡ refused_line name message
+
+-- The report on a value that was sent as a derivation of a text under this name. It is counted unless it is accepted.
+pub data IsVerdict (name : Text) (text : List ℕ) (value : Data) (d : Dialect) (report : Text) : (count : ℕ) → Type 0 where
+  accepts : IsAccepted name text value d report → IsVerdict name text value d report 0
+  refuses : IsRefused name text value d report → IsVerdict name text value d report 1
+  reads_none : IsUnreadable name text value report → IsVerdict name text value d report 1
