@@ -92,6 +92,7 @@ def installed(program, checker):
         "share/man/man1/lam_server.1": manual.manual(program).encode(),
         "share/man/man1/lam_check.1": manual.checker_manual().encode(),
         "share/bash-completion/completions/lam_server": manual.completion(program).encode(),
+        "share/bash-completion/completions/lam_check": manual.completion(checker).encode(),
         **{path: read(source) for path, source in editors().items()},
         f"{DOCS}/copyright": licences.licences().encode(),
     }
