@@ -17,7 +17,7 @@ use Rattle.lam_token.specs.declared.span.Span.{Span}
 use Rattle.lam_scope.specs.Names.{shown_name}
 use Rattle.lam_scope.specs.Places.{Place, places_of, place_numbered}
 use Rattle.lam_scope.specs.PlacedTerms.{PlacedTree, document_terms, term_of, tree_in}
-use Rattle.lam_scope.specs.Tables.{place_row_numbered, binder_numbered, visible_at}
+use Rattle.lam_scope.specs.Tables.{place_row_numbered, binder_numbered, table, visible_at}
 use Rattle.lam_scope.specs.Views.{table_of, statements_of, AreScopesOf}
 use Rattle.lam_scope.specs.declared.resolved.Resolved.{Resolved}
 use Rattle.lam_scope.specs.declared.scopes.Scopes.{Scopes}
