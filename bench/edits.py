@@ -1,10 +1,10 @@
 #!/usr/bin/env python3
-"""edits.py [PROGRAM ..] [--count N] [--seed N]: makes random edits in random documents, and compares what the built program answers about
+"""edits.py [PROGRAM ..] [--checker PROGRAM] [--count N] [--seed N]: makes random edits in random documents, and compares what the built program answers about
 the document that was edited with what it answers about the same text opened anew.
 
 After each edit the text is opened as a second document of the session, which is closed again, and after some edits in a process of its own.
 Compared are the published diagnostics and, at two places, the type, the derivation, the definition, the references, a rename and the
-completions, byte for byte. Sessions are in both dialects and the three encodings; bench/texts_at_random.py makes the documents. The same
+completions, byte for byte. Derivations with columns in UTF-16 are verified against their text by `lam_check --verify`. Sessions are in both dialects and the three encodings; bench/texts_at_random.py makes the documents. The same
 seed makes the same edits.
 
 At the first difference the text before, the edit and both answers are printed. A session counts once. The last line is
@@ -13,15 +13,18 @@ At the first difference the text before, the edit and both answers are printed. 
 
 import argparse
 import collections
+import json
 import os
 import re
 import subprocess
 import sys
+import tempfile
 import time
 from dataclasses import dataclass
 from random import Random
 
 HERE = os.path.dirname(os.path.realpath(__file__))
+CHECKER = os.path.join(HERE, "..", "crates", "lam_check", "out", "lam_check")
 sys.path.insert(0, os.path.join(HERE, "..", "rows"))
 
 from client import SECONDS, bodies_of, compact, framed, position, span
@@ -364,9 +367,10 @@ class Session:
             line, column = place_of(text, self.random.choice(spots), self.encoding)
             yield line, column + self.random.choice((*9 * (0,), 1, 300))
 
-    def played(self, program, counts):
+    def played(self, program, checker, counts):
         """Plays the session; what is wrong, or nothing. Counts what was edited and answered."""
         bodies, end = self.talk.answers(program)
+        derivations = []
         at, title = 2, f"session {self.number}, dialect {self.dialect}, {self.encoding}"
         for version, (edit, questions) in enumerate(self.edits, 1):
             length = len(questions) + 1
@@ -378,7 +382,11 @@ class Session:
             if told:
                 return f"{title}, edit {version}:\n{told}\n  it ended with {end or 'status 0'}"
             count(counts, edit, questions, ours)
-        return f"{title}: {len(bodies)} answers, {end}" if end or len(bodies) != at + 1 else None
+            derivations += [(edit.after, it) for it in derivations_in(questions, ours)]
+        if end or len(bodies) != at + 1:
+            return f"{title}: {len(bodies)} answers, {end}"
+        told = unverified(checker, self.dialect, derivations) if self.encoding == "utf-16" else None
+        return f"{title}: {told}" if told else None
 
     def apart(self, program, edit, questions, version):
         """What is answered about the text in a process of its own."""
@@ -404,6 +412,32 @@ def difference(edit, questions, ours, others, where):
     return "\n".join(f"  {name}: {it}" for name, it in shown.items())
 
 
+def derivations_in(questions, answers):
+    """The derivations among the answers to these questions."""
+    for (method, _), answer in zip(questions, answers[1:]):
+        if method == "fullsub/derivation" and json.loads(answer)["result"]:
+            yield json.loads(answer)["result"]
+
+
+def unverified(checker, dialect, derivations):
+    """What the checker says of the derivations, each with the text that it is of, where it does not accept all; else nothing."""
+    if not derivations:
+        return None
+    with tempfile.TemporaryDirectory() as room:
+        with open(f"{room}/derivations", "w", encoding="utf-8") as lines:
+            for number, (text, derivation) in enumerate(derivations):
+                with open(f"{room}/{number}", "wb") as it:
+                    it.write(text.encode())
+                print(compact({"derivation": derivation, "file": f"{number}"}), file=lines)
+        words = [os.path.abspath(checker), "--dialect", dialect, "--verify", "derivations"]
+        done = subprocess.run(words, cwd=room, capture_output=True, timeout=SECONDS, check=False)
+    verdicts = done.stdout.decode().splitlines()
+    if done.returncode == 0 and len(verdicts) == len(derivations):
+        return None
+    refused = next((at for at, it in enumerate(verdicts) if ": accepted: " not in it), 0)
+    return f"{verdicts[refused : refused + 1]}, {done.stderr.decode()!r}\n  {compact(derivations[refused : refused + 1])}"
+
+
 def count(counts, edit, questions, answers):
     """Counts the edit's shape, the codes of its text's diagnostics, and the answers that tell something."""
     counts["edits"][edit.shape] += 1
@@ -424,7 +458,7 @@ def count_right(program, given):
     counts = {it: collections.Counter() for it in ("edits", "texts", "answers")}
     for number in range(-(-given.count // LENGTH)):
         session = Session(given.seed, number, min(LENGTH, given.count - number * LENGTH))
-        told = session.played(program, counts)
+        told = session.played(program, given.checker, counts)
         if told:
             print(told)
             break
@@ -439,6 +473,7 @@ def count_right(program, given):
 def main():
     words = argparse.ArgumentParser(description=__doc__)
     words.add_argument("programs", metavar="PROGRAM", nargs="*", help="a program to play against (else those that the gate built)")
+    words.add_argument("--checker", default=CHECKER, help="what verifies derivations (else what the gate built)")
     words.add_argument("--count", type=int, default=2000, help="how many edits are made (else 2000)")
     words.add_argument("--seed", type=int, default=7, help="what the random numbers are made of (else 7)")
     given = words.parse_args()

@@ -29,12 +29,12 @@ def copy(source, target):
     if was_there:
         with open(target, "rb") as file:
             if file.read() == content:
-                print(f"  there already   {target}")
+                print(f"  unchanged   {target}")
                 return
     os.makedirs(os.path.dirname(target), exist_ok=True)
     with open(target, "wb") as file:
         file.write(content)
-    print(f"  {'brought up to date' if was_there else 'copied'}   {target}")
+    print(f"  {'updated' if was_there else 'copied'}   {target}")
 
 
 def emacs_folder():
@@ -78,31 +78,34 @@ def add_server(source, target):
         is_new = "fullsub" not in servers
         servers.setdefault("fullsub", ours["servers"]["fullsub"])
     except (ValueError, AttributeError) as error:
-        print(f"  left alone, since it could not be read ({error}): {target}\n  put in by hand what stands in {source}")
+        print(f"  not changed, because it could not be read ({error}): {target}\n  add to it by hand what is in {source}")
         return
     if is_new:
         with open(target, "w", encoding="utf-8") as file:
             json.dump(settings, file, indent=4, ensure_ascii=False)
             file.write("\n")
-    print(f"  {'added fullsub to' if is_new else 'there already, in'}   {target}")
+    print(f"  {'added fullsub to' if is_new else 'unchanged: fullsub is in'}   {target}")
 
 
+# Neovim by its program's name too.
+ALIASES = {"nvim": "neovim"}
 EDITORS = {"neovim": ("nvim", install_neovim), "vim": ("vim", install_vim), "emacs": ("emacs", install_emacs), "kate": ("kate", install_kate)}
 
 
 def main():
-    wrong = [name for name in sys.argv[1:] if name not in EDITORS]
+    asked = [ALIASES.get(name, name) for name in sys.argv[1:]]
+    wrong = [name for name in asked if name not in EDITORS]
     if wrong:
-        sys.exit(f"no editor of these: {' '.join(wrong)}. There are {', '.join(EDITORS)}; for VS Code see docs/EDITORS.md")
+        sys.exit(f"unknown editor: {', '.join(wrong)}. Known are {', '.join(EDITORS)}; for VS Code see docs/EDITORS.md")
     for name, (program, install) in EDITORS.items():
-        if name in sys.argv[1:] or not sys.argv[1:] and shutil.which(program):
+        if name in asked or not asked and shutil.which(program):
             print(f"{name}:")
             install()
-        elif not sys.argv[1:]:
-            print(f"{name}: `{program}` is not on the PATH, so nothing was copied (`install.py {name}` copies all the same)")
+        elif not asked:
+            print(f"{name}: `{program}` is not on the PATH, so nothing was copied (`make editors EDITORS={name}` copies anyway)")
     if not shutil.which("lam_server"):
-        print("`lam_server` is not on the PATH: the editors will not find it (`make install` puts it into ~/.local/bin)")
-    print("docs/EDITORS.md says what is left to do in each, and which keys there are.")
+        print("`lam_server` is not on the PATH, so the editors will not find it (`make install` puts it into ~/.local/bin)")
+    print("docs/EDITORS.md has the keys, and the settings that Vim and lsp-mode still need.")
 
 
 main()

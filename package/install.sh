@@ -22,4 +22,5 @@ case $prefix in
 esac
 echo "Vim: put this into the vimrc: set packpath+=$prefix/share/vim/vimfiles"
 echo "Emacs: put this into the init file: (load \"$prefix/share/emacs/site-lisp/moorbasket/fullsub-autoloads\")"
+echo "Kate: put what is in $prefix/share/doc/moorbasket/kate/settings.json into ~/.config/kate/lspclient/settings.json"
 echo "Then open a file of $prefix/share/doc/moorbasket/examples. How to go on: man lam_server"

@@ -2,7 +2,7 @@
 """manual.py PROGRAM: prints the manual page, made from what `PROGRAM --help` prints and from lam_server.1.in beside this script.
 
 What the program says of itself, its options and its exit status stands in its help alone, so page and program agree. A line of the help
-that is not understood is an error. package.py takes from here the completion for bash too.
+that is not understood is an error. package.py takes from here the completion for bash too, of both programs.
 """
 
 import os
@@ -11,8 +11,8 @@ import subprocess
 import sys
 
 HERE = os.path.dirname(os.path.realpath(__file__))
-HELP = re.compile(r"(?P<about>.+?)\n\nUsage: (?P<name>\w+) .*?\n\nOptions:\n(?P<options>.+?)\n\nExit status: (?P<statuses>.+)\.\n", re.S)
-OPTION = re.compile(r" +(?:(-\w), )?(--\w+)(?: <(\w+)>)? {2,}(\S.*)")
+HELP = re.compile(r"(?P<about>.+?)\n\nUsage: (?P<name>\w+) (?P<usage>.*?)\n\n(?:Arguments:\n.+?\n\n)?Options:\n(?P<options>.+?)\n\nExit status: (?P<statuses>.+)\.\n", re.S)
+OPTION = re.compile(r" +(?:(-\w), )?(--\w+)(?: <([\w:]+)>)? {2,}(\S.*)")
 STATUS = re.compile(r"(\d+) (.+?)(?:, (?=\d)|$)")
 VALUES = re.compile(r"\[possible values: (.+?)\]")
 
@@ -74,17 +74,21 @@ def manual(program):
 
 
 def completion(program):
-    """What bash needs to complete the options, and a value where it is one of a few."""
+    """What bash needs to complete the options, and a value where it is one of a few; names of files, where the program takes them."""
     parts = read_help(program)
+    takes_files = "FILE" in parts["usage"]
     cases = []
     for _, name, value, text in parts["options"]:
         values = VALUES.search(text)
         if value:
             cases.append(f"    {name}) words='{values[1].replace(',', '') if values else ''}' ;;\n")
-    names = " ".join(it[1] for it in parts["options"])
+    names = f"words='{' '.join(it[1] for it in parts['options'])}' ;;"
+    # Without a word of ours bash completes as it does by default, by the names of files.
+    cases.append(f"    *) case $2 in -*) {names} esac ;;\n" if takes_files else f"    *) {names}\n")
     return (
-        f"_{parts['name']}() {{\n  local words\n  case $3 in\n{''.join(cases)}    *) words='{names}' ;;\n  esac\n"
-        f'  COMPREPLY=($(compgen -W "$words" -- "$2"))\n}}\ncomplete -F _{parts["name"]} {parts["name"]}\n'
+        f"_{parts['name']}() {{\n  local words\n  case $3 in\n{''.join(cases)}"
+        f'  esac\n  COMPREPLY=($(compgen -W "$words" -- "$2"))\n}}\n'
+        f"complete {'-o default ' if takes_files else ''}-F _{parts['name']} {parts['name']}\n"
     )
 
 

@@ -36,13 +36,14 @@ Architecture: amd64
 Maintainer: Moorbasket maintainers <maintainers@users.noreply.moorbasket.example>
 Installed-Size: {size}
 Depends: libc6 (>= {libc})
-Suggests: neovim, emacs, elpa-eglot
+Suggests: neovim, emacs, elpa-eglot, vim-ale, kate
 Section: devel
 Priority: optional
 Description: language server for the lambda calculus with records and subtyping
  Shows types, derivations and type errors of texts in the language of Pierce's
  Types and Programming Languages to Neovim, Emacs and other editors that speak
- LSP. What it says is proved to follow from the book's rules.
+ LSP, and checks files without an editor. What it says is proved to follow from
+ the book's rules.
 """
 
 
@@ -68,9 +69,14 @@ def editors():
         ("share/nvim/site/pack/fullsub/start/fullsub", "neovim"),
         ("share/vim/vimfiles/pack/fullsub/start/fullsub", "vim"),
         (EMACS, "emacs"),
-        (f"{DOCS}/kate", "kate"),
     ]
-    return {f"{target}/{os.path.relpath(it, f'{ROOT}/editors/{name}')}": it for target, name in folders for it in files_below(f"editors/{name}")}
+    return {
+        **{f"{target}/{os.path.relpath(it, f'{ROOT}/editors/{name}')}": it for target, name in folders for it in files_below(f"editors/{name}")},
+        "share/org.kde.syntax-highlighting/syntax/fullsub.xml": f"{ROOT}/editors/kate/fullsub.xml",
+        "share/katepart5/script/indentation/fullsub.js": f"{ROOT}/editors/kate/fullsub.js",
+        # The servers that Kate starts are a user's own setting.
+        f"{DOCS}/kate/settings.json": f"{ROOT}/editors/kate/settings.json",
+    }
 
 
 def files_below(folder):
@@ -86,10 +92,12 @@ def installed(program, checker):
         "share/man/man1/lam_server.1": manual.manual(program).encode(),
         "share/man/man1/lam_check.1": manual.checker_manual().encode(),
         "share/bash-completion/completions/lam_server": manual.completion(program).encode(),
+        "share/bash-completion/completions/lam_check": manual.completion(checker).encode(),
         **{path: read(source) for path, source in editors().items()},
         f"{DOCS}/copyright": licences.licences().encode(),
     }
-    for path in [f"{ROOT}/docs/EDITORS.md", f"{ROOT}/docs/LANGUAGE.md", *files_below("examples")]:
+    pages = [f"{ROOT}/docs/{name}" for name in ("EDITORS.md", "LANGUAGE.md", "CHECKER.md", "derivation-html.png", "derivation-latex.png")]
+    for path in [*pages, *files_below("examples")]:
         files[f"{DOCS}/{os.path.relpath(path, ROOT)}"] = read(path)
     return files
 

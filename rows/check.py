@@ -2,11 +2,12 @@
 """check.py [--program PATH]: runs the built checker on files, and looks at what it writes and how it ends.
 
 A case has its options, the text of each file, what it must write and its status; what it must write on standard error is given where it
-writes there, and that this is a terminal where it is one. A file's text is `bytes` where it is no text. Each case prints a line only where it is wrong. The last line is
-'N passed, M failed'.
+writes there, and that this is a terminal where it is one. A file's text is `bytes` where it is no text. Each case prints a line only where it is wrong. Then the derivations
+that the checker writes for the examples are read back by it, and have to be accepted. The last line is 'N passed, M failed'.
 """
 
 import argparse
+import glob
 import json
 import os
 import pty
@@ -15,7 +16,8 @@ import sys
 import tempfile
 from dataclasses import dataclass
 
-BUILT = os.path.join(os.path.dirname(os.path.realpath(__file__)), "..", "crates", "lam_check", "out", "lam_check")
+ROOT = os.path.join(os.path.dirname(os.path.realpath(__file__)), "..")
+BUILT = f"{ROOT}/crates/lam_check/out/lam_check"
 
 POINT = "point = {x=0, name=true};\nnext = lambda p:{x:Nat}. succ p.x;\n"
 NEXT = POINT + "next {name=true};\n"
@@ -344,6 +346,11 @@ CASES = [
     Case("JSON is cut", ["--verify", "d"], {"a": CALL, "d": sent()[:14]}, "d: it is no JSON: EOF while parsing at line 1 column 14\n", 1),
     Case("derivations not in UTF-8", ["--verify", "d"], {"d": b"\xff"}, "", 4, refused("d", "it is not UTF-8 from byte 0 on")),
     Case("a text that is gone", ["--verify", "d"], {"d": sent()}, "", 4, refused("a", "No such file or directory (os error 2)")),
+    Case("blank lines between derivations", ["--verify", "d"], {"a": CALL, "d": sent() + "\n \r\n" + sent() + "\n"}, ACCEPTED + ACCEPTED, 0),
+    Case("control characters in the name of a file of derivations", ["--verify", "d\x1b[2J"], {"a": CALL, "d\x1b[2J": sent()}, ACCEPTED.replace("d:", "d\ufffd[2J:", 1), 0),
+    Case("control characters in the name of a text", ["--verify", "d"], {"d": line({"derivation": STEPS, "file": "a\x1b[2J"})}, "", 4, refused("a\ufffd[2J", "No such file or directory (os error 2)")),
+    Case("a derivation of standard input", ["--verify", "d"], {"d": line({"derivation": STEPS, "file": "<stdin>"})}, "d: it names no file that it is of: name it with --of\n", 1),
+    Case("a text on standard input", ["--verify", "--of", "-", "d"], {"d": sent()}, "", 2, "error: --of takes the name of a file\n", given=CALL.encode()),
     Case("verifying and types", ["--verify", "--types", "a"], {"a": "0"}, "", 2, None),
     Case("a text of nothing", ["--of", "a", "a"], {"a": "0"}, "", 2, None),
     Case("no such option", ["--nope"], {}, "", 2, None),
@@ -384,6 +391,35 @@ def wrong(program, case):
     return None
 
 
+# A type that doubles, and a `fix` of a function whose result is as large as a type may be: the proof widens the parameter to the result.
+WIDENED = "x0 = {a=0, b=0};\n" + "".join(f"x{i} = {{a=x{i - 1}, b=x{i - 1}}};\n" for i in range(1, 10)) + "fix (lambda x:Top. {a=x9, b=0})"
+
+
+def written_and_read(program, name, text):
+    """What is wrong with the derivations that the checker writes here and there in a text, or nothing: each is accepted."""
+    lines = text.splitlines()
+    places = [(i, j) for i, it in enumerate(lines, 1) for j in range(1, len(it) + 1)][::7]
+    with tempfile.TemporaryDirectory() as room:
+        with open(f"{room}/a", "w", encoding="utf-8") as it:
+            it.write(text)
+        told = b"".join(subprocess.run([program, "--json", "--why", f"{i}:{j}", "a"], cwd=room, capture_output=True, check=False).stdout for i, j in places)
+        run = subprocess.run([program, "--verify", "-"], cwd=room, input=told, capture_output=True, check=False)
+    if not told:
+        return f"{name}: no derivation is written"
+    refusals = [it for it in run.stdout.decode().splitlines() if not it.startswith("<stdin>: accepted: ")]
+    if run.returncode or refusals or run.stdout.count(b"\n") != told.count(b"\n"):
+        return f"{name}: status {run.returncode}, {refusals or run.stderr.decode()}"
+    return None
+
+
+def texts():
+    """The examples, and a text of its own."""
+    yield "a type that a proof widens", WIDENED
+    for name in sorted(glob.glob(f"{ROOT}/examples/*.fsub")):
+        with open(name, encoding="utf-8") as it:
+            yield os.path.relpath(name, ROOT), it.read()
+
+
 def main():
     words = argparse.ArgumentParser(description=__doc__.partition(":")[0])
     words.add_argument("--program", default=BUILT, help="the built checker; where none is named, that of `make`")
@@ -394,7 +430,11 @@ def main():
         if what:
             failed += 1
             print(f"{case.name}: {what}")
-    print(f"{len(CASES) - failed} passed, {failed} failed")
+    own = [written_and_read(program, *it) for it in texts()]
+    for what in filter(None, own):
+        failed += 1
+        print(f"derivations that were written are read: {what}")
+    print(f"{len(CASES) + len(own) - failed} passed, {failed} failed")
     return 1 if failed else 0
 
 

@@ -34,7 +34,7 @@ Eglot reads an object as a property list, lsp-mode as a hash table."
                              ;; Only when it has been told the last changes.
                              :deferred :fullsub/derivation))
     ('lsp-mode (lsp-request "fullsub/derivation" (lsp--text-document-position-params)))
-    (_ (user-error "No server runs here"))))
+    (_ (user-error "lam_server is not running for this file"))))
 
 (defun fullsub-why--place (range end)
   "The place in the buffer of the END, \"start\" or \"end\", of RANGE."
@@ -160,15 +160,18 @@ each step has a property with the place of its term."
   (let ((answer (fullsub-why--ask)))
     (if (not answer)
         (message "No type is shown here")
-      (let ((text (concat (fullsub-why--context (fullsub-why--get answer "context"))
-                          (fullsub-why--tree (fullsub-why--get answer "steps")))))
+      (let ((context (fullsub-why--context (fullsub-why--get answer "context")))
+            (tree (fullsub-why--tree (fullsub-why--get answer "steps"))))
         (with-current-buffer (get-buffer-create "*fullsub-why*")
           (fullsub-why-mode)
           (let ((inhibit-read-only t))
             (erase-buffer)
-            (insert text))
-          (goto-char (point-min))
-          (pop-to-buffer (current-buffer)))))))
+            (insert context tree))
+          (pop-to-buffer (current-buffer))
+          (goto-char (1+ (length context)))
+          (when (> (count-lines (point-min) (point-max)) (window-body-height))
+            ;; Where there is no room for both, the window shows the tree without the context.
+            (recenter 0)))))))
 
 (provide 'fullsub-why)
 ;;; fullsub-why.el ends here

@@ -4,13 +4,14 @@ use Rattle.std.specs.Str.{byte}
 use Rattle.std.proofs.lemmas.List.{append_cancel_left}
 use Rattle.std.proofs.lemmas.List.Elements.{All-head, All-tail}
 use Rattle.std.proofs.lemmas.Str.Pattern.{IsSplitOnceResult, split_after}
-use Rattle.lam_rules.specs.Types.{Label, Typ, bool, nat, unit, top, arrow, record_of, Fields, no_fields, field, nodes, nodes_in, joined}
+use Rattle.lam_rules.specs.Types.{Label, Typ, bool, nat, unit, top, arrow, record_of, Fields, no_fields, field, joined}
 use Rattle.std.specs.declared.alloc.Global.{Global}
 use Rattle.lam_rules.specs.TypeViews.{typ_of, fields_of}
 use Rattle.lam_rules.specs.declared.types.Ty.{Ty}
 use Rattle.lam_rules.specs.Texts.{Text, left_of_arrow, separator_before, plain_text, plain_fields}
 use Rattle.lam_rules.specs.ReadableLabels.{IsReadable, HasReadableLabels, HaveReadableLabels}
 use Rattle.lam_rules.proofs.TypeShapes.{joined-none, joined-push}
+use Rattle.lam_check.specs.Readable.{depth, depth_in}
 use Rattle.lam_check.specs.inner.PlainTypes.{NoArrow, IsTypeRead, levels_on_left}
 
 -- texts by their first bytes
@@ -41,18 +42,18 @@ label_found text found split label rest none is = by found (split_after 58 text 
 
 -- ---- a type and what follows it
 
-some_nodes : (t : Typ) → 0 < nodes t
-some_nodes bool = omega arith
-some_nodes nat = omega arith
-some_nodes unit = omega arith
-some_nodes top = omega arith
-some_nodes (arrow s t) = omega arith
-some_nodes (record_of fs) = omega arith
+has_depth : (t : Typ) → 0 < depth t
+has_depth bool = omega arith
+has_depth nat = omega arith
+has_depth unit = omega arith
+has_depth top = omega arith
+has_depth (arrow s t) = omega arith
+has_depth (record_of fs) = omega arith
 
-pub no_level : {A : Type 0} (t : Typ) (levels : ℕ) → levels ≡ 0 → nodes t ≤ levels → A
-no_level t levels none small = let some = some_nodes t in absurd (omega arith)
+pub no_level : {A : Type 0} (t : Typ) (levels : ℕ) → levels ≡ 0 → depth t ≤ levels → A
+no_level t levels none small = let some = has_depth t in absurd (omega arith)
 
-left_levels : (t : Typ) → levels_on_left t ≤ nodes t + 1
+left_levels : (t : Typ) → levels_on_left t ≤ depth t + 1
 left_levels bool = omega arith
 left_levels nat = omega arith
 left_levels unit = omega arith
@@ -65,7 +66,7 @@ abbrev pub ReadsFront : Text → (levels : ℕ) → Option (Ty × Bor Text) → 
 ReadsFront text levels found = (t : Typ) (rest : Text) → HasReadableLabels t → levels_on_left t ≤ levels → text ≡ left_of_arrow t (plain_text t) ++ rest → IsTypeRead found t rest
 
 abbrev pub ReadsType : Text → (levels : ℕ) → Option (Ty × Bor Text) → Type 0
-ReadsType text levels found = (t : Typ) (rest : Text) → HasReadableLabels t → nodes t ≤ levels → NoArrow rest → text ≡ plain_text t ++ rest → IsTypeRead found t rest
+ReadsType text levels found = (t : Typ) (rest : Text) → HasReadableLabels t → depth t ≤ levels → NoArrow rest → text ≡ plain_text t ++ rest → IsTypeRead found t rest
 
 -- the front of a type is read: what stands on the left of its arrow, or all of it
 abbrev pub IsFrontRead : Option (Ty × Bor Text) → Typ → Text → Type 0
@@ -73,7 +74,7 @@ IsFrontRead found (arrow s u) rest = IsTypeRead found s (codes "->" ++ (plain_te
 IsFrontRead found t rest = IsTypeRead found t rest
 
 pub front_read : (text : Text) (levels : ℕ) (found : Option (Ty × Bor Text)) → ReadsFront text levels found
-    → (t : Typ) (rest : Text) → HasReadableLabels t → nodes t ≤ levels → text ≡ plain_text t ++ rest → IsFrontRead found t rest
+    → (t : Typ) (rest : Text) → HasReadableLabels t → depth t ≤ levels → text ≡ plain_text t ++ rest → IsFrontRead found t rest
 front_read text levels found reads bool rest readable small is = reads bool rest readable small is
 front_read text levels found reads nat rest readable small is = reads nat rest readable small is
 front_read text levels found reads unit rest readable small is = reads unit rest readable small is
@@ -81,7 +82,7 @@ front_read text levels found reads top rest readable small is = reads top rest r
 front_read text levels found reads (record_of fs) rest readable small is = reads (record_of fs) rest readable small is
 front_read text levels found reads (arrow s u) rest readable small is =
     let few = left_levels s in
-    let some = some_nodes u in
+    let some = has_depth u in
     reads s (codes "->" ++ (plain_text u ++ rest)) readable.0 (omega arith) (is ∙ simp append_assoc)
 
 pub no_front : {A : Type 0} (found : Option (Ty × Bor Text)) (t : Typ) (rest : Text) → found ≡ None → IsFrontRead found t rest → A
@@ -115,17 +116,17 @@ pub record IsArrowRead (left : Ty) (found : Option (Ty × Bor Text)) (t : Typ) (
 
 pub arrow_read : (first : Option (Ty × Bor Text)) (f : Ty × Bor Text) (further : Text) (levels : ℕ) (second : Option (Ty × Bor Text)) (t : Typ) (rest : Text)
     → first ≡ Some f → f.1.now ≡ codes "->" ++ further → ReadsType further (levels - 1) second
-    → HasReadableLabels t → nodes t ≤ levels → NoArrow rest → IsFrontRead first t rest → IsArrowRead f.0 second t rest
+    → HasReadableLabels t → depth t ≤ levels → NoArrow rest → IsFrontRead first t rest → IsArrowRead f.0 second t rest
 arrow_read first f further levels second t rest is arrow_there reads readable small none read = by t readable small (subst (λ g. IsFrontRead g t rest) is read)
   where
-    by : (t : Typ) → HasReadableLabels t → nodes t ≤ levels → IsFrontRead (Some f) t rest → IsArrowRead f.0 second t rest
+    by : (t : Typ) → HasReadableLabels t → depth t ≤ levels → IsFrontRead (Some f) t rest → IsArrowRead f.0 second t rest
     by bool r s h = absurd (none further (sym h.1 ∙ arrow_there))
     by nat r s h = absurd (none further (sym h.1 ∙ arrow_there))
     by unit r s h = absurd (none further (sym h.1 ∙ arrow_there))
     by top r s h = absurd (none further (sym h.1 ∙ arrow_there))
     by (record_of fs) r s h = absurd (none further (sym h.1 ∙ arrow_there))
     by (arrow v u) r s h =
-        let some = some_nodes v in
+        let some = has_depth v in
         record {
           outcome = u;
           is_arrow = ap (λ w. arrow w u) (sym h.0);
@@ -155,7 +156,7 @@ pub record AreFieldsLeft (done : Fields) (now : Text) (levels : ℕ) (fs : Field
   pub left : Fields
   pub whole : joined done left ≡ fs
   pub readable : HaveReadableLabels left
-  pub small : nodes_in left ≤ levels
+  pub small : depth_in left ≤ levels
   pub stands : now ≡ plain_fields left ++ (codes "}" ++ rest)
 
 -- what stands behind a field
@@ -169,7 +170,7 @@ pub record IsFieldLeft (done : Fields) (now : Text) (levels : ℕ) (fs : Fields)
   pub more : Fields
   pub whole : joined done (field label type more) ≡ fs
   pub readable : HaveReadableLabels (field label type more)
-  pub small : nodes_in (field label type more) ≤ levels
+  pub small : depth_in (field label type more) ≤ levels
   pub stands : now ≡ label ++ (codes ":" ++ (plain_text type ++ behind_field more rest))
 
 fields_text : (l : Label) (t : Typ) (fs : Fields) (x : Text) → plain_fields (field l t fs) ++ x ≡ l ++ (codes ":" ++ (plain_text t ++ (separator_before fs ++ (plain_fields fs ++ x))))
@@ -178,7 +179,7 @@ fields_text l t fs x = simp append_assoc
 pub field_left : (done : Fields) (now : Text) (levels : ℕ) (fs : Fields) (rest : Text) → AreFieldsLeft done now levels fs rest → ((x : Text) → now ≢ codes "}" ++ x) → IsFieldLeft done now levels fs rest
 field_left done now levels fs rest h none = by h.left h.whole h.readable h.small h.stands
   where
-    by : (left : Fields) → joined done left ≡ fs → HaveReadableLabels left → nodes_in left ≤ levels → now ≡ plain_fields left ++ (codes "}" ++ rest) → IsFieldLeft done now levels fs rest
+    by : (left : Fields) → joined done left ≡ fs → HaveReadableLabels left → depth_in left ≤ levels → now ≡ plain_fields left ++ (codes "}" ++ rest) → IsFieldLeft done now levels fs rest
     by no_fields whole readable small stands = absurd (none rest stands)
     by (field l t more) whole readable small stands = record {
       label = l;
@@ -190,7 +191,7 @@ field_left done now levels fs rest h none = by h.left h.whole h.readable h.small
       stands = stands ∙ fields_text l t more (codes "}" ++ rest);
     }
 
-pub all_left : (now : Text) (levels : ℕ) (fs : Fields) (rest : Text) → HaveReadableLabels fs → nodes_in fs ≤ levels → now ≡ plain_fields fs ++ (codes "}" ++ rest) → AreFieldsLeft no_fields now levels fs rest
+pub all_left : (now : Text) (levels : ℕ) (fs : Fields) (rest : Text) → HaveReadableLabels fs → depth_in fs ≤ levels → now ≡ plain_fields fs ++ (codes "}" ++ rest) → AreFieldsLeft no_fields now levels fs rest
 all_left now levels fs rest readable small stands = record { left = fs; whole = refl; readable = readable; small = small; stands = stands }
 
 pub none_left : (done : Fields) (now left : Text) (levels : ℕ) (fs : Fields) (rest : Text) → AreFieldsLeft done now levels fs rest → now ≡ codes "}" ++ left → (done ≡ fs) × (left ≡ rest)
@@ -219,7 +220,7 @@ pub record IsFieldRead (done : Fields) (levels : ℕ) (label : Text) (found : Op
   pub more : Fields
   pub whole : joined done (field label type more) ≡ fs
   pub readable : HaveReadableLabels more
-  pub small : nodes_in more ≤ levels
+  pub small : depth_in more ≤ levels
   pub read : IsTypeRead found type (behind_field more rest)
 
 no_arrow_after : (fs : Fields) (x : Text) → NoArrow (behind_field fs x)
@@ -266,7 +267,7 @@ fields_left items label levels found f fs rest next h is comma none =
 no_arrow_at_end : NoArrow []
 no_arrow_at_end rest e = cc
 
-pub type_there : (text : Text) (levels : ℕ) (found : Option (Ty × Bor Text)) → ReadsType text levels found → (t : Typ) → HasReadableLabels t → nodes t ≤ levels → text ≡ plain_text t → IsTypeRead found t []
+pub type_there : (text : Text) (levels : ℕ) (found : Option (Ty × Bor Text)) → ReadsType text levels found → (t : Typ) → HasReadableLabels t → depth t ≤ levels → text ≡ plain_text t → IsTypeRead found t []
 type_there text levels found reads t readable small is = reads t [] readable small no_arrow_at_end (is ∙ sym (append-nil (plain_text t)))
 
 pub not_read : (found : Option (Ty × Bor Text)) (t : Typ) → found ≡ None → IsTypeRead found t [] → ⊥

@@ -19,20 +19,20 @@ use Rattle.lam_query.specs.Sizes.{IsSizeFault, IsSmall, span_numbered}
 use Rattle.lam_query.specs.Steps.{Proof, Step, steps_of, typing_proof}
 use Rattle.lam_query.proofs.OneAnswer.{one_document}
 use Rattle.lam_query.proofs.ReadTrees.{tree_read}
-use Rattle.lam_check.specs.FirstFaults.{DifferFirst, IsFaultAt, IsFaultIn, IsFirstFault, IsFirstMisplaced, IsFirstWithRange, IsResult, AreOfOneProof, AreOfProofs, last_span}
+use Rattle.lam_check.specs.FirstFaults.{DifferFirst, IsFaultAt, IsFaultIn, IsFirstFault, IsFirstMisplaced, IsFirstWithRange, IsResult, AreOfOneProof, AreOfProofs, HasRange, last_span}
 use Rattle.lam_check.specs.Levels.{AreTooDeep}
 use Rattle.lam_check.specs.Verified.{IsProofAt}
 use Rattle.lam_check.specs.declared.first_faults.FirstFault.{FirstFault}
 use Rattle.lam_check.specs.declared.first_faults.FirstFault.TheVariants as faults
 use Rattle.lam_check.specs.inner.Verifying.{IsOfSomeTerm, IsResultIn}
 use Rattle.lam_check.proofs.Misplaced.{one_is_placed, never_empty}
-use Rattle.lam_check.proofs.Verifying.{ends_with_span, span_there, too_large}
+use Rattle.lam_check.proofs.Verifying.{ends_with_span, row_written, span_there, too_large, written_there}
 
 -- ---- the terms of commands, one by one
 
 -- what is found among the terms before this index
 abbrev pub IsFirstSoFar : List CommandTree → Derivation → Dialect → (before : ℕ) → Option FirstFault → Type 0
-IsFirstSoFar commands x d i None = (n : ℕ) → n < i → last_span x.steps ≢ Some (span_numbered commands n)
+IsFirstSoFar commands x d i None = (n : ℕ) → n < i → HasRange commands x.steps n → ⊥
 IsFirstSoFar commands x d i (Some fault) = (number : ℕ) × (number < i) × IsFirstWithRange commands x.steps number × IsFaultAt (tree_in (document_terms commands) number) x d fault
 
 pub record IsSoFar (commands : List CommandTree) (x : Derivation) (d : Dialect) (before : ℕ) (first : Option FirstFault) : Type 0 where
@@ -43,8 +43,8 @@ pub none_so_far : (commands : List CommandTree) (x : Derivation) (d : Dialect) �
 none_so_far commands x d = record { of_none = λ n lt. absurd (omega arith); found = λ n lt. absurd (omega arith) }
 
 -- the range of a term with a proof
-range_is : (commands : List CommandTree) (x : Derivation) (d : Dialect) (n : ℕ) → IsProofAt commands n x d → last_span x.steps ≡ Some (span_numbered commands n)
-range_is commands x d n h = ap last_span h.steps ∙ ends_with_span (tree_in (document_terms commands) n) h.tree
+range_is : (commands : List CommandTree) (x : Derivation) (d : Dialect) (n : ℕ) → IsProofAt commands n x d → HasRange commands x.steps n
+range_is commands x d n h = (h.written, ap last_span h.steps ∙ ends_with_span (tree_in (document_terms commands) n) h.tree)
 
 up_to : (P : ℕ → Type 0) (i : ℕ) → ((n : ℕ) → n < i → P n) → P i → (n : ℕ) → n < i + 1 → P n
 up_to P zero before here zero lt = here
@@ -53,11 +53,11 @@ up_to P (suc i) before here zero lt = before zero (omega arith)
 up_to P (suc i) before here (suc n) lt = up_to (λ m. P (suc m)) i (λ m under. before (suc m) (omega arith)) here n (omega arith)
 
 -- a term with another range
-pub so_far_other : (commands : List CommandTree) (x : Derivation) (d : Dialect) (i : ℕ) (first : Option FirstFault) → (last_span x.steps ≢ Some (span_numbered commands i))
+pub so_far_other : (commands : List CommandTree) (x : Derivation) (d : Dialect) (i : ℕ) (first : Option FirstFault) → (HasRange commands x.steps i → ⊥)
     → IsSoFar commands x d i first → IsSoFar commands x d (i + 1) first
 so_far_other commands x d i None other h = record {
   of_none = up_to (λ n. IsProofAt commands n x d → ⊥) i h.of_none (λ is. other (range_is commands x d i is));
-  found = up_to (λ n. last_span x.steps ≢ Some (span_numbered commands n)) i h.found other;
+  found = up_to (λ n. HasRange commands x.steps n → ⊥) i h.found other;
 }
 so_far_other commands x d i (Some fault) other h = record {
   of_none = up_to (λ n. IsProofAt commands n x d → ⊥) i h.of_none (λ is. other (range_is commands x d i is));
@@ -66,7 +66,7 @@ so_far_other commands x d i (Some fault) other h = record {
 
 -- a term with the range, and a fault
 pub so_far_fault : (commands : List CommandTree) (x : Derivation) (d : Dialect) (i : ℕ) (first : Option FirstFault) (fault : FirstFault) → i < length (document_terms commands)
-    → last_span x.steps ≡ Some (span_numbered commands i) → (IsProofAt commands i x d → ⊥) → IsFaultAt (tree_in (document_terms commands) i) x d fault
+    → HasRange commands x.steps i → (IsProofAt commands i x d → ⊥) → IsFaultAt (tree_in (document_terms commands) i) x d fault
     → IsSoFar commands x d i first → IsSoFar commands x d (i + 1) (Some (unwrap_or first fault))
 so_far_fault commands x d i None fault inside here not_it wrong h = record {
   of_none = up_to (λ n. IsProofAt commands n x d → ⊥) i h.of_none not_it;
@@ -103,13 +103,14 @@ all_terms commands x d i last (Some fault) past is h = (
 )
 
 -- the range of a term, from its row
-pub here_is : (commands : List CommandTree) (scopes : Scopes) (x : Derivation) (i : ℕ) → AreScopesOf scopes commands → last_span x.steps ≡ Some (place_row_numbered (table_of scopes) i).span
-    → last_span x.steps ≡ Some (span_numbered commands i)
-here_is commands scopes x i are is = is ∙ ap (λ (s : Span). Some s) (span_there commands scopes i are)
+abbrev pub IsRowEnd : Scopes → List Step → ℕ → Type 0
+IsRowEnd scopes steps i = let row = place_row_numbered (table_of scopes) i in (row.derived ≡ false) × (last_span steps ≡ Some row.span)
 
-pub row_is : (commands : List CommandTree) (scopes : Scopes) (x : Derivation) (i : ℕ) → AreScopesOf scopes commands → last_span x.steps ≡ Some (span_numbered commands i)
-    → last_span x.steps ≡ Some (place_row_numbered (table_of scopes) i).span
-row_is commands scopes x i are is = is ∙ ap (λ (s : Span). Some s) (sym (span_there commands scopes i are))
+pub here_is : (commands : List CommandTree) (scopes : Scopes) (x : Derivation) (i : ℕ) → AreScopesOf scopes commands → IsRowEnd scopes x.steps i → HasRange commands x.steps i
+here_is commands scopes x i are is = (written_there commands scopes i are is.0, is.1 ∙ ap (λ (s : Span). Some s) (span_there commands scopes i are))
+
+pub row_is : (commands : List CommandTree) (scopes : Scopes) (x : Derivation) (i : ℕ) → AreScopesOf scopes commands → HasRange commands x.steps i → IsRowEnd scopes x.steps i
+row_is commands scopes x i are is = (row_written commands scopes i are is.0, is.1 ∙ ap (λ (s : Span). Some s) (sym (span_there commands scopes i are)))
 
 -- ---- in a text
 

@@ -22,6 +22,7 @@ use Rattle.lam_scope.specs.Views.{table_of, statements_of, AreScopesOf}
 use Rattle.lam_scope.specs.declared.resolved.Resolved.{Resolved}
 use Rattle.lam_scope.specs.declared.scopes.Scopes.{Scopes}
 use Rattle.lam_scope.proofs.PlacedPlaces.{same_places}
+use Rattle.lam_scope.proofs.PlacedRows.{row_told}
 use Rattle.std.specs.List.{slice_get}
 use Rattle.lam_query.specs.declared.answers.Step.{Step as RustStep}
 use Rattle.lam_query.specs.Views.{step_of}
@@ -66,6 +67,22 @@ ends_with_span term (typing_step rule type premises side) =
 pub span_there : (commands : List CommandTree) (scopes : Scopes) (n : ℕ) → AreScopesOf scopes commands → (place_row_numbered (table_of scopes) n).span ≡ (term_of (tree_in (document_terms commands) n)).span
 span_there commands scopes n h = ap (λ t. (place_row_numbered t n).span) h.same_table ∙ span_told commands n
 
+-- a term is in the text if its row says so
+written_row : (b : Bool) (derived : Bool) → derived ≡ not b → derived ≡ false → b ≡ true
+written_row true derived is none = refl
+written_row false derived is none = let clash : false ≡ true = sym none ∙ is in absurd cc
+
+pub written_there : (commands : List CommandTree) (scopes : Scopes) (n : ℕ) → AreScopesOf scopes commands → (place_row_numbered (table_of scopes) n).derived ≡ false
+    → (term_of (tree_in (document_terms commands) n)).is_written ≡ true
+written_there commands scopes n h none =
+    written_row (term_of (tree_in (document_terms commands) n)).is_written (place_row_numbered (table commands) n).derived (row_told commands n).derived
+    (ap (λ t. (place_row_numbered t n).derived) (sym h.same_table) ∙ none)
+
+-- and its row says so if it is
+pub row_written : (commands : List CommandTree) (scopes : Scopes) (n : ℕ) → AreScopesOf scopes commands → (term_of (tree_in (document_terms commands) n)).is_written ≡ true
+    → (place_row_numbered (table_of scopes) n).derived ≡ false
+row_written commands scopes n h written = ap (λ t. (place_row_numbered t n).derived) h.same_table ∙ (row_told commands n).derived ∙ ap not written
+
 names_there : (commands : List CommandTree) (scopes : Scopes) (n : ℕ) → AreScopesOf scopes commands
     → map (λ b. shown_name (binder_numbered (table_of scopes) b).name) (visible_at (table_of scopes) n) ≡ names_seen (tree_in (document_terms commands) n)
 names_there commands scopes n h = ap (λ t. map (λ b. shown_name (binder_numbered t b).name) (visible_at t n)) h.same_table ∙ names_told commands n
@@ -90,9 +107,11 @@ pub is_proof : (commands : List CommandTree) (scopes : Scopes) (resolved : Resol
     → AreFormsOf commands scopes resolved analysed d → map written_of entries ≡ map (λ x. x.type) derivation.context → e ≡ (place_numbered (statements_of resolved) n).here
     → map (λ x. x.name) derivation.context ≡ map (λ b. shown_name (binder_numbered (table_of scopes) b).name) (visible_at (table_of scopes) n)
     → AreLeastEntries (term_of (tree_in (document_terms commands) n)).place.scope (context_of entries) d
+    → (place_row_numbered (table_of scopes) n).derived ≡ false
     → IsTyping (context_of entries) e made d → derivation.steps ≡ steps_of 0 (typing_proof (tree_in (document_terms commands) n) made)
     → IsProofAt commands n derivation d
-is_proof commands scopes resolved analysed n entries derivation made e d forms types here names least proof steps = record {
+is_proof commands scopes resolved analysed n entries derivation made e d forms types here names least in_text proof steps = record {
+  written = written_there commands scopes n forms.are_scopes in_text;
   entries = context_of entries;
   least = least;
   names = names ∙ names_there commands scopes n forms.are_scopes;

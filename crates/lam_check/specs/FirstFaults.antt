@@ -1,5 +1,5 @@
 -- What is wrong first with a derivation that is not verified. Steps and entries are counted from 0, entries from the outermost.
-use Rattle.std.specs.Prelude.{◌≡◌, ◌≢◌, ◌⊎◌, ℕ, suc, ◌<◌, List, [], ◌∷◌, length, take, map, reverse, slice_get, Option, Some, None}
+use Rattle.std.specs.Prelude.{◌≡◌, ◌≢◌, ◌⊎◌, ℕ, suc, ◌<◌, List, [], ◌∷◌, length, take, map, reverse, slice_get, Option, Some, None, true}
 use Rattle.lam_token.specs.declared.span.Span.{Span}
 use Rattle.lam_rules.specs.Typing.{Context, TypingTree, IsTyping}
 use Rattle.lam_rules.specs.declared.rules.Dialect.{Dialect}
@@ -92,16 +92,20 @@ IsFaultAt term x d _ = ⊥
 
 -- ---- as a derivation about a term of a text
 
--- the subterm with this index is the first one with the range of the last step
+-- The subterm with this index is in the text (a letrec's derived terms are not), and has the range of the last step.
+abbrev pub HasRange : List CommandTree → List Step → ℕ → Type 0
+HasRange commands steps n = ((term_of (tree_in (document_terms commands) n)).is_written ≡ true) × (last_span steps ≡ Some (span_numbered commands n))
+
+-- the subterm with this index is the first such one
 pub record IsFirstWithRange (commands : List CommandTree) (steps : List Step) (number : ℕ) : Type 0 where
   pub inside : number < length (document_terms commands)
-  pub here : last_span steps ≡ Some (span_numbered commands number)
-  pub first : (n : ℕ) → n < number → last_span steps ≢ Some (span_numbered commands n)
+  pub here : HasRange commands steps number
+  pub first : (n : ℕ) → n < number → HasRange commands steps n → ⊥
 
 -- what is wrong with it as a derivation about the first term with the range of its last step; or there is none
 abbrev pub IsFaultIn : List CommandTree → Derivation → Dialect → FirstFault → Type 0
 IsFaultIn commands x d (faults.NoTerm number) =
-    (suc number ≡ length x.steps) × ((n : ℕ) → n < length (document_terms commands) → last_span x.steps ≢ Some (span_numbered commands n))
+    (suc number ≡ length x.steps) × ((n : ℕ) → n < length (document_terms commands) → HasRange commands x.steps n → ⊥)
 IsFaultIn commands x d fault = (number : ℕ) × IsFirstWithRange commands x.steps number × IsFaultAt (tree_in (document_terms commands) number) x d fault
 
 -- ---- in a text

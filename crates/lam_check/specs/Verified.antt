@@ -1,5 +1,5 @@
 -- Verification of a derivation against its text.
-use Rattle.std.specs.Prelude.{◌≡◌, ◌<◌, ℕ, List, length, map, reverse, Some}
+use Rattle.std.specs.Prelude.{◌≡◌, ◌<◌, ℕ, List, length, map, reverse, Some, true}
 use Rattle.serde_json.specs.Data.{Data}
 use Rattle.lam_rules.specs.Typing.{Context, TypingTree, IsTyping}
 use Rattle.lam_rules.specs.declared.rules.Dialect.{Dialect}
@@ -14,9 +14,10 @@ use Rattle.lam_typing.specs.LeastTypes.{AreLeastEntries}
 use Rattle.lam_session.specs.Derivations.{derivation_value}
 use Rattle.lam_check.specs.Levels.{AreTooDeep}
 
--- The derivation is about this term: its context lists the names in scope there with their least entries, and its steps, with their ranges, are those of a proof that
+-- The derivation is about this term of the text (a letrec's derived terms are not in it): its context lists the names in scope there with their least entries, and its steps, with their ranges, are those of a proof that
 -- the term has the concluded type in this context.
 pub record IsProofOf (term : PlacedTree) (derivation : Derivation) (d : Dialect) : Type 0 where
+  pub written : (term_of term).is_written ≡ true
   pub entries : Context
   pub least : AreLeastEntries (term_of term).place.scope entries d
   pub names : map (λ e. e.name) derivation.context ≡ names_seen term

@@ -80,10 +80,14 @@ pub fn read_args<'a>(
         Ok(shown) => shown,
         Err(text) => return Err(usage(alloc, text)),
     };
+    let source = matches.get_str("of");
+    if source == Some(INPUT) {
+        return Err(usage(alloc, "error: --of takes the name of a file\n"));
+    }
     let asked = Asked {
         dialect: chosen(matches.get_str("dialect")),
         shown,
-        source: matches.get_str("of"),
+        source,
     };
     let names = matches.get_strs("FILE").unwrap_or(INPUT_ALONE.as_slice());
     match Vec::from_slice(alloc, names) {

@@ -52,6 +52,9 @@ const DEVICE: u8 = 4;
 
 const MEMORY: u8 = 5;
 
+/// The name of standard input in reports.
+const STANDARD_INPUT: &str = "<stdin>";
+
 /// The number of files between two progress messages.
 const COUNTED: usize = 100;
 
@@ -270,7 +273,7 @@ fn tell<R: Print>(rt: &R, text: &str) -> u8 {
 /// Returns the name of a file as it appears in reports.
 fn shown_name(name: &str) -> &str {
     if name == args::INPUT {
-        return "<stdin>";
+        return STANDARD_INPUT;
     }
     name
 }

@@ -3,22 +3,23 @@ ghost use Rattle.std.specs.Prelude.{◌≡◌, ◌≢◌, ◌<◌, ◌≤◌, �
 ghost use Rattle.std.specs.Str.{byte};
 ghost use Rattle.lam_rules.specs.ReadableLabels.{HasReadableLabels, HaveReadableLabels};
 ghost use Rattle.lam_rules.specs.TypeViews.{typ_of};
-ghost use Rattle.lam_rules.specs.Types.{Typ, Fields, bool, nat, unit, top, record_of, nodes, nodes_in};
+ghost use Rattle.lam_rules.specs.Types.{Typ, Fields, bool, nat, unit, top, record_of};
 ghost use Rattle.lam_rules.specs.Texts.{Text, left_of_arrow, plain_text, plain_fields};
+ghost use Rattle.lam_check.specs.Readable.{depth, depth_in};
 ghost use Rattle.lam_check.specs.inner.PlainTypes.{NoArrow, IsTypeRead, levels_on_left};
 
 use lam_rules::{Ty, make_arrow, make_record, plain_text_of};
 use std::alloc::{AllocError, Global};
 
-/// The maximum nesting depth of a type that is parsed. No type of a document is deeper, since none has more nodes.
+/// The maximum depth of a type that is parsed. No type of a document is deeper, since none has more nodes.
 const LEVELS: usize = 4_096;
 
-/// Returns the type with this text, keeping the order of the fields in each record. It finds every type of at most 4,096 nodes
-/// whose labels can be read in only one way.
+/// Returns the type with this text, keeping the order of the fields in each record. It finds every type whose depth is
+/// at most 4,096 and whose labels can be read in only one way.
 pub fn type_of_text(alloc: Global, text: &str) -> Result<Option<Ty>, AllocError>
     ensures some { IfOk result (λ found. IfSome found (λ ty. plain_text (typ_of ty) ≡ text.now)) }
-    ensures none { IfOk result (λ found. IfNone found ((t : Typ) → HasReadableLabels t → nodes t ≤ 4096 → text.now ≡ plain_text t → ⊥)) }
-    ensures only { IfOk result (λ found. IfSome found (λ ty. (t : Typ) → HasReadableLabels t → nodes t ≤ 4096 → text.now ≡ plain_text t → typ_of ty ≡ t)) }
+    ensures none { IfOk result (λ found. IfNone found ((t : Typ) → HasReadableLabels t → depth t ≤ 4096 → text.now ≡ plain_text t → ⊥)) }
+    ensures only { IfOk result (λ found. IfSome found (λ ty. (t : Typ) → HasReadableLabels t → depth t ≤ 4096 → text.now ≡ plain_text t → typ_of ty ≡ t)) }
 {
     let Some((ty, _)) = type_at(alloc, text, LEVELS)? else {
         return Ok(None);
@@ -38,7 +39,7 @@ fn type_at<'t>(
     levels: usize,
 ) -> Result<Option<(Ty, &'t str)>, AllocError>
     ensures shorter { IfOk result (λ found. IfSome found (λ f. length f.1.now ≤ length text.now)) }
-    ensures read { IfOk result (λ found. (t : Typ) (rest : Text) → HasReadableLabels t → nodes t ≤ levels → NoArrow rest
+    ensures read { IfOk result (λ found. (t : Typ) (rest : Text) → HasReadableLabels t → depth t ≤ levels → NoArrow rest
         → text.now ≡ plain_text t ++ rest → IsTypeRead found t rest) }
 {
     if levels == 0 {
@@ -107,7 +108,7 @@ fn type_in_parentheses<'t>(
     levels: usize,
 ) -> Result<Option<(Ty, &'t str)>, AllocError>
     ensures shorter { IfOk result (λ found. IfSome found (λ f. length f.1.now ≤ length text.now)) }
-    ensures read { IfOk result (λ found. (t : Typ) (rest : Text) → HasReadableLabels t → nodes t ≤ levels
+    ensures read { IfOk result (λ found. (t : Typ) (rest : Text) → HasReadableLabels t → depth t ≤ levels
         → text.now ≡ plain_text t ++ (codes ")" ++ rest) → IsTypeRead found t rest) }
 {
     let Some((ty, rest)) = type_at(alloc, text, levels)? else {
@@ -127,7 +128,7 @@ fn record_at<'t>(
     levels: usize,
 ) -> Result<Option<(Ty, &'t str)>, AllocError>
     ensures shorter { IfOk result (λ found. IfSome found (λ f. length f.1.now ≤ length text.now)) }
-    ensures read { IfOk result (λ found. (fs : Fields) (rest : Text) → HaveReadableLabels fs → nodes_in fs ≤ levels
+    ensures read { IfOk result (λ found. (fs : Fields) (rest : Text) → HaveReadableLabels fs → depth_in fs ≤ levels
         → text.now ≡ plain_fields fs ++ (codes "}" ++ rest) → IsTypeRead found (record_of fs) rest) }
 {
     let mut fields = Vec::new(alloc);

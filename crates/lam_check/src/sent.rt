@@ -1,14 +1,30 @@
 //! Files of derivations to verify: each is read along with the text that it is about.
 use crate::args::Asked;
 use crate::files::{ReadFault, text_of};
+use crate::lines::shown_line;
 use crate::verdicts::{sent_of, verdict};
-use crate::{DEVICE, FAULTLESS, FAULTY, shown_name, tell, tell_checked, want_of_memory};
+use crate::{
+    DEVICE, FAULTLESS, FAULTY, STANDARD_INPUT, shown_name, tell, tell_checked, tell_of, want_of_memory,
+};
 use serde_json::{Category, Error, Value};
 use std::rt::Files;
 
 /// Verifies the derivations in a file, which are the whole file or one on each line. Prints the results, and returns the exit
 /// status for them.
 pub fn tell_verdicts<R: AllocGlobal + Files + Input + Print + Eprint>(
+    rt: &R,
+    asked: Asked<'_>,
+    name: &str,
+    text: &str,
+) -> u8 {
+    match shown_line(rt.alloc(), shown_name(name)) {
+        Ok(shown) => tell_all(rt, asked, &shown, text),
+        Err(_) => want_of_memory(rt),
+    }
+}
+
+/// The same, given the name of the file as it is printed.
+fn tell_all<R: AllocGlobal + Files + Input + Print + Eprint>(
     rt: &R,
     asked: Asked<'_>,
     name: &str,
@@ -30,7 +46,7 @@ pub fn tell_verdicts<R: AllocGlobal + Files + Input + Print + Eprint>(
     }
 }
 
-/// Verifies a derivation on each line. Prints the results, and returns the exit status for them.
+/// Verifies a derivation on each line that is not blank. Prints the results, and returns the exit status for them.
 fn tell_lines<R: AllocGlobal + Files + Input + Print + Eprint>(
     rt: &R,
     asked: Asked<'_>,
@@ -39,6 +55,9 @@ fn tell_lines<R: AllocGlobal + Files + Input + Print + Eprint>(
 ) -> u8 {
     let mut status = FAULTLESS;
     for line in lines.lines() {
+        if line.trim().is_empty() {
+            continue;
+        }
         let own = match Value::from_str(rt.alloc(), line) {
             Ok(value) => tell_verdict(rt, asked, name, &value),
             Err(fault) => tell_no_json(rt, name, &fault),
@@ -56,7 +75,7 @@ fn tell_verdict<R: AllocGlobal + Files + Input + Print + Eprint>(
     value: &Value,
 ) -> u8 {
     let (derivation, file) = sent_of(value);
-    let Some(source) = asked.source.or(file) else {
+    let Some(source) = asked.source.or(readable(file)) else {
         return tell_line(
             rt,
             name,
@@ -66,19 +85,20 @@ fn tell_verdict<R: AllocGlobal + Files + Input + Print + Eprint>(
     let text = match text_of(rt, rt.alloc(), source) {
         Ok(text) => text,
         Err(ReadFault::Memory) => return want_of_memory(rt),
-        Err(fault) => {
-            let _ = eprintln!(rt; "lam_check: {source}: {fault}");
-            return DEVICE;
-        }
+        Err(fault) => return tell_of(rt, source, &fault, DEVICE),
     };
-    let told = verdict(
-        rt.alloc(),
-        shown_name(name),
-        &text,
-        derivation,
-        asked.dialect,
-    );
-    tell_checked(rt, told)
+    tell_checked(
+        rt,
+        verdict(rt.alloc(), name, &text, derivation, asked.dialect),
+    )
+}
+
+/// Returns the name of a file that can be read again, so not that of standard input.
+fn readable(file: Option<&str>) -> Option<&str> {
+    if file == Some(STANDARD_INPUT) {
+        return None;
+    }
+    file
 }
 
 /// Reports that a text is not JSON, and returns the exit status.
@@ -94,7 +114,7 @@ fn tell_no_json<R: AllocGlobal + Print + Eprint>(rt: &R, name: &str, fault: &Err
 
 /// Prints a problem with a file, and returns the exit status.
 fn tell_line<R: AllocGlobal + Print + Eprint>(rt: &R, name: &str, what: &str) -> u8 {
-    match format!(in rt.alloc(); "{}: {what}\n", shown_name(name)) {
+    match format!(in rt.alloc(); "{name}: {what}\n") {
         Ok(line) => FAULTY.max(tell(rt, &line)),
         Err(_) => want_of_memory(rt),
     }

@@ -4,7 +4,7 @@
 //! the steps are built into a proof tree that the proof checker accepts for that term, and the steps of the tree, with the ranges
 //! of the term's parts, must equal those given. The first of these that fails is named.
 ghost use Rattle.std.specs.List.{AllZip};
-ghost use Rattle.std.specs.Prelude.{◌≡◌, ◌<◌, ◌↔◌, IsTrue, List, [], length, Some, None, map, reverse, IfOk, MatchOption};
+ghost use Rattle.std.specs.Prelude.{◌≡◌, ◌<◌, ◌↔◌, IsTrue, List, [], length, Some, None, map, reverse, IfOk, MatchOption, false};
 ghost use Rattle.lam_rules.specs.TermViews.{term_of as core_of, written_of};
 ghost use Rattle.lam_rules.specs.Typing.{IsTyping};
 ghost use Rattle.lam_rules.specs.TypingViews.{context_of, typing_tree_of};
@@ -108,9 +108,8 @@ fn entries_of(
     Ok(entries)
 }
 
-/// The first error in a derivation about the first term with the range of its last step, or `None` if it is about a term with
-/// that range: the derived lambda and fix of a letrec have that of its bound term. `entries` are the types of its context, and
-/// `proof` is the tree of its steps.
+/// The first error in a derivation as one about the first term of the text with the range of its last step, or `None` if it is
+/// about a term with that range. `entries` are the types of its context, and `proof` is the tree of its steps.
 fn fault_of_terms(
     alloc: Global,
     scopes: &Scopes,
@@ -156,6 +155,7 @@ fn fault_of_term(
     place: Place,
     dialect: Dialect,
 ) -> Result<Option<FirstFault>, AllocError>
+    requires written { (place_row_numbered (table_of scopes.now) place.0).derived ≡ false }
     requires inside { place.0 < length (places_of [] (statements_of resolved.now)) }
     requires entries { map written_of entries.now ≡ map (λ e. e.type) (derivation_of derivation.now).context }
     requires tree { MakeTree (derivation_of derivation.now).steps (typing_tree_of proof.now) }
@@ -196,10 +196,14 @@ fn wrong_step_of(
     wrong_step(alloc, &mut context, term, proof, 0, dialect)
 }
 
-/// Whether the span of the last step, which is one of typing, is that of the term with this id.
+/// Whether the term with this id is in the text, and the last step is one of typing and has its span.
 fn ends_at(scopes: &Scopes, place: Place, steps: &[Step]) -> bool
-    ensures { IsTrue result ↔ (last_span (map step_of steps.now) ≡ Some (place_row_numbered (table_of scopes.now) place.0).span) }
+    ensures { let row = place_row_numbered (table_of scopes.now) place.0 in
+        IsTrue result ↔ ((row.derived ≡ false) × (last_span (map step_of steps.now) ≡ Some row.span)) }
 {
+    if scopes.is_derived(place) {
+        return false;
+    }
     match steps.last() {
         Some(step) => is_at(step, scopes.span_of(place)),
         None => false,

@@ -1,6 +1,5 @@
 -- A text that is read piece by piece: nothing yet, one command more, one piece more, and all of them.
 use Rattle.std.proofs.Common.{◌≡◌, ◌<◌, ◌+◌, ℕ, Bool, true, false, arith, List, [], ◌∷◌, ◌++◌, append-nil, append_assoc, length, map, take, drop, refl, sym, ap, subst, ◌∙◌, Some, None}
-use Rattle.std.specs.Prelude.{IfSome}
 use Rattle.std.specs.Option.{option_map}
 use Rattle.std.specs.Str.{IsUtf8, IsCharBoundary}
 use Rattle.std.proofs.lemmas.List.{length-append, map-append, take_at, drop_at}
@@ -11,8 +10,6 @@ use Rattle.lam_rules.specs.Types.{Typ}
 use Rattle.lam_rules.specs.Numbers.{Keeps}
 use Rattle.lam_syntax.specs.Trees.{CommandTree}
 use Rattle.lam_scope.specs.Names.{Name}
-use Rattle.lam_scope.specs.Numbered.{StandsIfAny}
-use Rattle.lam_typing.specs.Answers.{answer}
 use Rattle.lam_typing.specs.Checking.{types_in, dialect_in, IsSoundChecker}
 use Rattle.lam_query.specs.declared.analyses.Analysis.{Analysis}
 use Rattle.lam_query.specs.declared.analyses.Analyst.{Analyst}
@@ -25,14 +22,14 @@ use Rattle.lam_query.specs.Analyses.{IsAnalysisOf}
 use Rattle.lam_query.specs.SyntaxFaults.{AreSyntaxFaults}
 use Rattle.lam_query.specs.Views.{fault_of}
 use Rattle.lam_query.specs.inner.Analysts.{IsSound, IsBoundAs, IsKeptBy, IsRowAdded, IsPieceEnded, IsReadTo, IsReadThrough, IsReadOn}
-use Rattle.lam_query.specs.inner.Bound.{meaning_of, found_over, AllStand, HaveNumbers, KeepsNumbers, IsBinding, IsBoundAfter}
+use Rattle.lam_query.specs.inner.Bound.{meaning_of, MeanTheSame, found_over, HaveNumbers, KeepsNumbers, IsBinding, IsBoundAfter}
 use Rattle.lam_query.specs.inner.Entered.{Lookup}
 use Rattle.lam_query.specs.inner.Kept.{CommandRow, bound_by, row_of, rows_of, placed, first_large, all_syntax, all_faults}
 use Rattle.lam_query.specs.inner.OnePiece.{IsOwnOf}
 use Rattle.lam_query.specs.inner.PieceRows.{Sight, outset, sight_with, IsEnded, AreFreeNumbers, AreRows, joined}
 use Rattle.lam_query.specs.inner.Reading.{AreRead, AreAllRead, IsNextPiece}
 use Rattle.lam_query.specs.inner.Rows.{IsFoundOf}
-use Rattle.lam_query.proofs.BoundNames.{unbound_as, stand_kept, bound_as_kept, bound_as_after, stand_after, bound_stands, numbers_trans}
+use Rattle.lam_query.proofs.BoundNames.{unbound_as, stand_kept, bound_as_kept, bound_as_after, same_after, stand_after, bound_stands, numbers_trans}
 use Rattle.lam_query.proofs.NextPieces.{some_bytes}
 use Rattle.lam_query.proofs.PieceRowLists.{joined_append, rows_push, rows_keep, joined_is_text, asked_keep}
 
@@ -54,26 +51,10 @@ nothing_read text a read piece rows end none = record {
 
 -- ---- a command more
 
--- names mean the same under their numbers
-abbrev pub MeanAsBefore : (old now : Bound) → Type 0
-MeanAsBefore old now = (x : Name) → (meaning_of now.names x ≡ meaning_of old.names x) × (meaning_of now.type_names x ≡ meaning_of old.type_names x)
-
-pub same_stand : (ts : List Typ) (old now : Bound) → MeanAsBefore old now → AllStand ts old → AllStand ts now
-same_stand ts old now same stand = record {
-  names = λ x. subst (λ o. IfSome o (StandsIfAny ts)) (sym (same x).0) (stand.names x);
-  type_names = λ x. subst (λ o. IfSome o (StandsIfAny ts)) (sym (same x).1) (stand.type_names x);
-}
-
-pub same_bound : (names types : Lookup) (ts : List Typ) (old now : Bound) → MeanAsBefore old now → IsBoundAs names types ts old → IsBoundAs names types ts now
-same_bound names types ts old now same bound = record {
-  names = λ x. ap (option_map (answer ts)) (same x).0 ∙ bound.names x;
-  types = λ x. ap (option_map (answer ts)) (same x).1 ∙ bound.types x;
-}
-
 -- its names were numbered, it was typed, and what it binds was bound
 module _ (c : CommandTree) (row : CommandRow) (old now : Analyst) (numbered : Bound) (sound : IsSound old) (types : IsSoundChecker now.types)
-    (asked : AreFreeNumbers numbered c row.free_numbers) (same : MeanAsBefore old.bound numbered) (first : KeepsNumbers old.bound numbered)
-    (found : (names others : Lookup) → IsBoundAs names others (types_in old.types) numbered → IsFoundOf names others c (types_in now.types) row.found (dialect_in old.types))
+    (asked : AreFreeNumbers numbered c row.free_numbers) (same : MeanTheSame old.bound numbered) (first : KeepsNumbers old.bound numbered)
+    (found : (names others : Lookup) → IsBoundAs names others (types_in old.types) old.bound → IsFoundOf names others c (types_in now.types) row.found (dialect_in old.types))
     (keeps : Keeps (types_in old.types) (types_in now.types)) (dialect : dialect_in now.types ≡ dialect_in old.types)
     (binding : IsBinding now.bound c row.binds) (after : IsBoundAfter c (bound_by row.found) numbered now.bound)
     (second : KeepsNumbers numbered now.bound) (numbers : HaveNumbers now.bound) where
@@ -81,14 +62,12 @@ module _ (c : CommandTree) (row : CommandRow) (old now : Analyst) (numbered : Bo
   command_kept rows reader end = record {
     keeps = keeps;
     numbers = numbers_trans old.bound numbered now.bound first second;
-    kept = λ names others bound.
-        subst (IsFoundOf names others c (types_in now.types) row.found) (sym dialect)
-        (found names others (same_bound names others (types_in old.types) old.bound numbered same bound));
+    kept = λ names others bound. subst (IsFoundOf names others c (types_in now.types) row.found) (sym dialect) (found names others bound);
     its_numbers = (binding, asked_keep numbered now.bound c row.free_numbers second asked);
     bound = λ names others bound.
-        bound_as_after names others c (types_in now.types) (bound_by row.found) numbered now.bound
-        (bound_as_kept names others (types_in old.types) (types_in now.types) numbered keeps
-        (same_stand (types_in old.types) old.bound numbered same sound.stand) (same_bound names others (types_in old.types) old.bound numbered same bound)) after;
+        bound_as_after names others c (types_in now.types) (bound_by row.found) old.bound now.bound
+        (bound_as_kept names others (types_in old.types) (types_in now.types) old.bound keeps sound.stand bound)
+        (same_after c (bound_by row.found) old.bound numbered now.bound same after);
     rows = rows;
     reader = reader;
     end = end;
@@ -98,10 +77,10 @@ module _ (c : CommandTree) (row : CommandRow) (old now : Analyst) (numbered : Bo
   command_sound = record {
     types = types;
     stand =
-        let own = found (found_over (types_in old.types) numbered.names) (found_over (types_in old.types) numbered.type_names)
+        let own = found (found_over (types_in old.types) old.bound.names) (found_over (types_in old.types) old.bound.type_names)
         (record { names = λ x. refl; types = λ x. refl }) in
-        stand_after c (types_in now.types) (bound_by row.found) numbered now.bound
-        (stand_kept (types_in old.types) (types_in now.types) numbered keeps (same_stand (types_in old.types) old.bound numbered same sound.stand)) after
+        stand_after c (types_in now.types) (bound_by row.found) old.bound now.bound
+        (stand_kept (types_in old.types) (types_in now.types) old.bound keeps sound.stand) (same_after c (bound_by row.found) old.bound numbered now.bound same after)
         (bound_stands (types_in now.types) row.found own.stand);
     numbers = numbers;
   }

@@ -15,7 +15,7 @@ use Rattle.lam_query.specs.declared.bound.NameNo.TheVariants as binding
 use Rattle.lam_query.specs.declared.bound.Bound.{Bound}
 use Rattle.lam_query.specs.declared.bound.Meanings.{Meanings}
 use Rattle.lam_query.specs.inner.Analysts.{IsBoundAs}
-use Rattle.lam_query.specs.inner.Bound.{meaning_of, KeepsNumbers, IsBinding, found_over, NumbersStandIn, AllStand, IsSetIn, IsBoundAfter}
+use Rattle.lam_query.specs.inner.Bound.{meaning_of, MeanTheSame, KeepsNumbers, IsBinding, found_over, NumbersStandIn, AllStand, IsSetIn, IsBoundAfter}
 use Rattle.lam_query.specs.inner.Entered.{Lookup, name_bound, type_name_bound}
 use Rattle.lam_query.specs.inner.Kept.{Found, written_too_large, term_too_large, typed, bound_by}
 use Rattle.lam_query.specs.inner.Rows.{unbound, with_entry, StandInFound}
@@ -49,6 +49,21 @@ pub bound_as_kept : (names types : Lookup) (ts us : List Typ) (b : Bound) → Ke
 bound_as_kept names types ts us b keeps stand bound = record {
   names = λ x. found_kept ts us b.names keeps stand.names x ∙ bound.names x;
   types = λ x. found_kept ts us b.type_names keeps stand.type_names x ∙ bound.types x;
+}
+
+-- ---- names that mean the same
+
+pub same_stand : (ts : List Typ) (old now : Bound) → MeanTheSame old now → AllStand ts old → AllStand ts now
+same_stand ts old now same stand = record {
+  names = λ x. subst (λ o. IfSome o (StandsIfAny ts)) (sym (same x).0) (stand.names x);
+  type_names = λ x. subst (λ o. IfSome o (StandsIfAny ts)) (sym (same x).1) (stand.type_names x);
+}
+
+-- what is set among them is set among those before
+pub same_after : (c : CommandTree) (number : Option TyNo) (old numbered now : Bound) → MeanTheSame old numbered → IsBoundAfter c number numbered now → IsBoundAfter c number old now
+same_after c number old numbered now same after = record {
+  names = λ x. after.names x ∙ ap (λ o. if binds (name_bound c) x then Some number else o) (same x).0;
+  type_names = λ x. after.type_names x ∙ ap (λ o. if binds (type_name_bound c) x then Some number else o) (same x).1;
 }
 
 -- ---- one command more

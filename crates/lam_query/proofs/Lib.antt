@@ -96,7 +96,6 @@ pub mod Analysts
 pub mod HoverByPiece
 pub mod EachOnce
 pub mod NumberedNames
-pub mod NumbersAsked
 pub mod BoundNames
 pub mod RowBytes
 pub mod CommonEnds

@@ -21,7 +21,8 @@ use Rattle.lam_query.specs.declared.stand_ins.Alone.{Alone}
 use Rattle.lam_query.specs.inner.Entered.{Lookup, entered_first, entered}
 use Rattle.lam_query.specs.inner.PieceRows.{Sight}
 use Rattle.lam_query.specs.inner.StandIns.{nowhere, written_node, written_type, written_fields, written_entry, declared, abbreviated, stand_ins, AreStandIns, IsAlone}
-use Rattle.lam_query.proofs.Entering.{names_in, name_at}
+use Rattle.lam_query.specs.inner.Bound.{names_in}
+use Rattle.lam_query.proofs.Entering.{name_at}
 
 -- ---- one by one
 

@@ -13,8 +13,8 @@ ghost use Rattle.lam_query.specs.inner.Reading.{own_of};
 
 use crate::bound::Bound;
 use crate::reading::Reader;
-use crate::rows::{CommandRow, Row};
 use crate::row_faults::{RowFaults, collect_faults};
+use crate::rows::{CommandRow, Row};
 use crate::typed_commands::found_of;
 use lam_rules::Dialect;
 use lam_scope::free_names;
@@ -167,11 +167,15 @@ impl<'t> Analyst<'t> {
         ensures dialect { dialect_in self.new.types ≡ dialect_in self.old.types }
     {
         let free = free_names(self.alloc, command)?;
-        let free_numbers = self.bound.numbers_of(self.alloc, &free)?;
-        let found = found_of(self.alloc, &mut self.types, &self.bound, command, &free)?;
+        let (free_numbers, around) = self.bound.around(self.alloc, &free)?;
+        let found = found_of(self.alloc, &mut self.types, around, command)?;
         let binds = self.bound.bind(self.alloc, command, found.bound())?;
         self.typed = self.typed.saturating_add(1);
-        Ok(CommandRow { free_numbers, binds, found })
+        Ok(CommandRow {
+            free_numbers,
+            binds,
+            found,
+        })
     }
 
     /// Finishes the analysis, when no piece of the text is left.

@@ -1,16 +1,13 @@
 //! What the preceding commands bind, and what a command sees of it.
-ghost use Rattle.std.specs.Prelude.{◌≡◌, ℕ, List, [], map, Contains, Some, None, IfOk, OnOk};
+ghost use Rattle.std.specs.Prelude.{◌≡◌, ℕ, List, [], Some, None, IfOk, OnOk};
 ghost use Rattle.lam_rules.specs.Types.{Typ};
-ghost use Rattle.lam_scope.specs.Environments.{names_seen, abbreviations_seen, TypeNamesStand};
 ghost use Rattle.lam_scope.specs.Names.{Name};
 ghost use Rattle.lam_syntax.specs.Letters.{letters};
 ghost use Rattle.lam_syntax.specs.Trees.{CommandTree};
 ghost use Rattle.lam_syntax.specs.Views.{command_of};
-ghost use Rattle.lam_typing.specs.Answers.{AllStandIn, context_under};
 ghost use Rattle.lam_query.specs.declared.bound.NameNo.TheVariants.{Name as NameNumber, TypeName as TypeNameNumber};
-ghost use Rattle.lam_query.specs.inner.Bound.{AreFreeIn, means, number_of, kept_under, meaning_of, AreNumbered, HaveNumbers, KeepsNumbers, IsBinding, found_over, NumbersStandIn, AllStand, IsSurroundedBy, IsSetIn, IsBoundAfter};
+ghost use Rattle.lam_query.specs.inner.Bound.{AreFreeIn, means, number_of, kept_under, meaning_of, MeanTheSame, AreNumbered, HaveNumbers, KeepsNumbers, IsBinding, AllStand, IsSurroundedBy, AreListed, AreEntered, AreTypesEntered, IsSetIn, IsBoundAfter};
 ghost use Rattle.lam_query.specs.inner.PieceRows.{AreFreeNumbers};
-ghost use Rattle.lam_query.specs.inner.Entered.{entered, names_onto, entries_onto, abbreviations_onto};
 
 use lam_rules::TyNo;
 use lam_scope::{Environment, FreeNames};
@@ -28,7 +25,7 @@ pub(crate) struct Bound {
 /// The meanings of names. A name that was bound or looked up once keeps its number.
 #[derive(Drop)]
 pub(crate) struct Meanings {
-    numbers: HashMap<String, usize>,
+    numbers: HashMap<String, u32>,
     /// Indexed by name number: `None` for a name that is unbound now, otherwise its context entry, which may itself be `None`.
     entries: Vec<Option<Option<TyNo>>>,
 }
@@ -36,8 +33,8 @@ pub(crate) struct Meanings {
 /// The number of a name or of a type name.
 #[derive(Clone, Copy)]
 pub(crate) enum NameNo {
-    Name(usize),
-    TypeName(usize),
+    Name(u32),
+    TypeName(u32),
 }
 
 /// The free names and type names of a command that are bound, and the entries of the names, outermost first.
@@ -71,41 +68,31 @@ impl Bound {
         self.type_names.clear();
     }
 
-    /// Returns what a command sees of its free names and type names.
+    /// Returns the numbers of the free names and type names of a command, and what it sees of them. A name that had no number gets
+    /// one.
     pub(crate) fn around<'a>(
-        &self,
-        alloc: Global,
-        free: &FreeNames<'a>,
-    ) -> Result<Surroundings<'a>, AllocError>
-        ensures { IfOk result (λ s. (ts : List Typ) (c : CommandTree) → AreFreeIn c free.now → AllStand ts self.now → IsSurroundedBy ts self.now c s) }
-    {
-        let mut environment = Environment::new(alloc);
-        let entries = enter_names(alloc, &self.names, &mut environment, &free.names)?;
-        enter_type_names(&self.type_names, &mut environment, &free.type_names)?;
-        Ok(Surroundings {
-            environment,
-            entries,
-        })
-    }
-
-    /// Returns the numbers of the free names and type names of a command, and gives a number to those that had none.
-    pub(crate) fn numbers_of(
         &mut self,
         alloc: Global,
-        free: &FreeNames<'_>,
-    ) -> Result<Vec<NameNo>, AllocError>
+        free: &FreeNames<'a>,
+    ) -> Result<(Vec<NameNo>, Surroundings<'a>), AllocError>
         requires { HaveNumbers self.old }
-        ensures asked { IfOk result (λ free_numbers. (c : CommandTree) → AreFreeIn c free.now → AreFreeNumbers self.new c free_numbers.items) }
-        ensures same { (n : Name) → (meaning_of self.new.names n ≡ meaning_of self.old.names n) × (meaning_of self.new.type_names n ≡ meaning_of self.old.type_names n) }
-        ensures keeps { KeepsNumbers self.old self.new }
+        ensures asked { IfOk result (λ made. (c : CommandTree) → AreFreeIn c free.now → AreFreeNumbers self.new c made.0.items) }
+        ensures seen { IfOk result (λ made. (ts : List Typ) (c : CommandTree) → AreFreeIn c free.now → AllStand ts self.old → IsSurroundedBy ts self.old c made.1) }
+        ensures same { OnOk result (MeanTheSame self.old self.new) }
+        ensures keeps { OnOk result (KeepsNumbers self.old self.new) }
         ensures numbers { OnOk result (HaveNumbers self.new) }
     {
         let count = free.names.len().saturating_add(free.type_names.len());
-        let mut free_numbers = Vec::with_capacity(alloc, count)?;
-        self.names.push_names(alloc, &free.names, &mut free_numbers)?;
+        let mut numbers = Vec::with_capacity(alloc, count)?;
+        let mut around = Surroundings {
+            environment: Environment::new(alloc),
+            entries: Vec::new(alloc),
+        };
+        self.names
+            .enter_names(alloc, &free.names, &mut numbers, &mut around)?;
         self.type_names
-            .push_type_names(alloc, &free.type_names, &mut free_numbers)?;
-        Ok(free_numbers)
+            .enter_type_names(alloc, &free.type_names, &mut numbers, &mut around)?;
+        Ok((numbers, around))
     }
 
     /// Returns the meaning of a name: `None` if it is unbound now, otherwise its context entry, which may itself be `None`.
@@ -113,8 +100,8 @@ impl Bound {
         ensures { result ≡ means self.now name }
     {
         match name {
-            NameNo::Name(number) => self.names.under(number),
-            NameNo::TypeName(number) => self.type_names.under(number),
+            NameNo::Name(number) => self.names.under(number as usize),
+            NameNo::TypeName(number) => self.type_names.under(number as usize),
         }
     }
 
@@ -190,18 +177,10 @@ impl Meanings {
     }
 
     /// Returns the number of a name, if it has one.
-    pub(crate) fn number_of(&self, name: &str) -> Option<usize>
+    pub(crate) fn number_of(&self, name: &str) -> Option<u32>
         ensures { result ≡ number_of self.now name.now }
     {
         self.numbers.get(name).copied()
-    }
-
-    /// Returns the meaning of a name.
-    fn meaning_of(&self, name: &str) -> Option<Option<TyNo>>
-        ensures { result ≡ meaning_of self.now name.now }
-    {
-        let number = self.numbers.get(name)?;
-        self.under(*number)
     }
 
     /// Returns the meaning of the name with this number.
@@ -221,50 +200,56 @@ impl Meanings {
         &self.entries
     }
 
-    /// Appends the numbers of names, and gives a number to those that had none.
-    fn push_names(
+    /// Enters those of the names that are bound, with their entries, and appends the numbers of all. Those that had no number get
+    /// one.
+    fn enter_names<'a>(
         &mut self,
         alloc: Global,
-        names: &[&str],
-        free_numbers: &mut Vec<NameNo>,
+        names: &[&'a str],
+        numbers: &mut Vec<NameNo>,
+        around: &mut Surroundings<'a>,
     ) -> Result<(), AllocError>
         requires { AreNumbered self.old }
-        ensures asked { OnOk result ((x : Name) → Contains (map (λ y. y.now) names.now) x → (n : ℕ) × (number_of self.new x ≡ Some n) × Contains free_numbers.new.items (NameNumber n)) }
-        ensures others { OnOk result ((n : NameNo) → Contains free_numbers.old.items n → Contains free_numbers.new.items n) }
-        ensures keeps { (x : Name) (n : ℕ) → number_of self.old x ≡ Some n → number_of self.new x ≡ Some n }
-        ensures same { (x : Name) → meaning_of self.new x ≡ meaning_of self.old x }
-        ensures numbers { OnOk result (AreNumbered self.new) }
+        ensures listed { OnOk result (AreListed (λ n. NameNumber n) names.now [] self.old self.new numbers.old.items numbers.new.items) }
+        ensures entered { OnOk result (AreEntered self.old names.now [] around.old around.new) }
     {
         for i in 0..names.len() {
-            let number = self.number_for(alloc, names[i])?;
-            free_numbers.push(NameNo::Name(number))?;
+            let name = names[i];
+            let number = self.number_for(alloc, name)?;
+            numbers.push(NameNo::Name(number))?;
+            if let Some(entry) = self.under(number as usize) {
+                around.environment.enter_name(name)?;
+                around.entries.push(entry)?;
+            }
         }
         Ok(())
     }
 
-    /// Appends the numbers of type names, and gives a number to those that had none.
-    fn push_type_names(
+    /// Enters those of the type names that are bound, and appends the numbers of all. Those that had no number get one.
+    fn enter_type_names<'a>(
         &mut self,
         alloc: Global,
-        names: &[&str],
-        free_numbers: &mut Vec<NameNo>,
+        names: &[&'a str],
+        numbers: &mut Vec<NameNo>,
+        around: &mut Surroundings<'a>,
     ) -> Result<(), AllocError>
         requires { AreNumbered self.old }
-        ensures asked { OnOk result ((x : Name) → Contains (map (λ y. y.now) names.now) x → (n : ℕ) × (number_of self.new x ≡ Some n) × Contains free_numbers.new.items (TypeNameNumber n)) }
-        ensures others { OnOk result ((n : NameNo) → Contains free_numbers.old.items n → Contains free_numbers.new.items n) }
-        ensures keeps { (x : Name) (n : ℕ) → number_of self.old x ≡ Some n → number_of self.new x ≡ Some n }
-        ensures same { (x : Name) → meaning_of self.new x ≡ meaning_of self.old x }
-        ensures numbers { OnOk result (AreNumbered self.new) }
+        ensures listed { OnOk result (AreListed (λ n. TypeNameNumber n) names.now [] self.old self.new numbers.old.items numbers.new.items) }
+        ensures entered { OnOk result (AreTypesEntered self.old names.now [] around.old around.new) }
     {
         for i in 0..names.len() {
-            let number = self.number_for(alloc, names[i])?;
-            free_numbers.push(NameNo::TypeName(number))?;
+            let name = names[i];
+            let number = self.number_for(alloc, name)?;
+            numbers.push(NameNo::TypeName(number))?;
+            if let Some(entry) = self.under(number as usize) {
+                around.environment.enter_type_name(name, entry)?;
+            }
         }
         Ok(())
     }
 
     /// Returns the number of a name, and gives it one if it had none.
-    fn number_for(&mut self, alloc: Global, name: &str) -> Result<usize, AllocError>
+    fn number_for(&mut self, alloc: Global, name: &str) -> Result<u32, AllocError>
         requires { AreNumbered self.old }
         ensures number { IfOk result (λ n. number_of self.new name.now ≡ Some n) }
         ensures keeps { (x : Name) (n : ℕ) → number_of self.old x ≡ Some n → number_of self.new x ≡ Some n }
@@ -274,19 +259,24 @@ impl Meanings {
         if let Some(number) = self.numbers.get(name) {
             return Ok(*number);
         }
-        let number = self.entries.len();
+        let count = self.entries.len();
+        if count > u32::MAX as usize {
+            return Err(AllocError);
+        }
+        let number = count as u32;
         self.entries.push(None)?;
         self.numbers.insert(String::from_str(alloc, name)?, number)?;
         Ok(number)
     }
 
     /// Binds the name with this number to this entry.
-    fn set(&mut self, number: usize, entry: Option<TyNo>)
+    fn set(&mut self, number: u32, entry: Option<TyNo>)
         requires { AreNumbered self.old }
         ensures set { (x : Name) → number_of self.old x ≡ Some number → IsSetIn (Some x) entry self.old self.new }
         ensures numbered { (x : Name) → number_of self.new x ≡ number_of self.old x }
         ensures numbers { AreNumbered self.new }
     {
+        let number = number as usize;
         if number < self.entries.len() {
             self.entries[number] = Some(entry);
         }
@@ -302,47 +292,4 @@ impl Meanings {
             self.entries[i] = None;
         }
     }
-}
-
-/// Enters into the environment those of the names that are bound, and returns their entries.
-fn enter_names<'a>(
-    alloc: Global,
-    known: &Meanings,
-    environment: &mut Environment<'a>,
-    names: &[&'a str],
-) -> Result<Vec<Option<TyNo>>, AllocError>
-    ensures names { IfOk result (λ entries. (ts : List Typ) → names_seen environment.new ≡ names_onto (names_seen environment.old) (entered (found_over ts known.now) (map (λ x. x.now) names.now))) }
-    ensures entries { IfOk result (λ entries. (ts : List Typ) → context_under ts entries.items ≡ entries_onto [] (entered (found_over ts known.now) (map (λ x. x.now) names.now))) }
-    ensures stand { IfOk result (λ entries. (ts : List Typ) → NumbersStandIn ts known.now → AllStandIn ts entries.items) }
-    ensures type_names { (ts : List Typ) → abbreviations_seen ts environment.new ≡ abbreviations_seen ts environment.old }
-    ensures type_names_stand { (ts : List Typ) → TypeNamesStand ts environment.old → TypeNamesStand ts environment.new }
-{
-    let mut entries = Vec::new(alloc);
-    for i in 0..names.len() {
-        let name = names[i];
-        if let Some(entry) = known.meaning_of(name) {
-            environment.enter_name(name)?;
-            entries.push(entry)?;
-        }
-    }
-    Ok(entries)
-}
-
-/// Enters into the environment those of the type names that are bound.
-fn enter_type_names<'a>(
-    known: &Meanings,
-    environment: &mut Environment<'a>,
-    names: &[&'a str],
-) -> Result<(), AllocError>
-    ensures type_names { OnOk result ((ts : List Typ) → abbreviations_seen ts environment.new ≡ abbreviations_onto (abbreviations_seen ts environment.old) (entered (found_over ts known.now) (map (λ x. x.now) names.now))) }
-    ensures stand { OnOk result ((ts : List Typ) → NumbersStandIn ts known.now → TypeNamesStand ts environment.old → TypeNamesStand ts environment.new) }
-    ensures names { names_seen environment.new ≡ names_seen environment.old }
-{
-    for i in 0..names.len() {
-        let name = names[i];
-        if let Some(number) = known.meaning_of(name) {
-            environment.enter_type_name(name, number)?;
-        }
-    }
-    Ok(())
 }

@@ -50,8 +50,8 @@ impl ChangedNames {
         ensures { result ≡ is_changed self.now name }
     {
         let changed = match name {
-            NameNo::Name(number) => self.names.get(number),
-            NameNo::TypeName(number) => self.type_names.get(number),
+            NameNo::Name(number) => self.names.get(number as usize),
+            NameNo::TypeName(number) => self.type_names.get(number as usize),
         };
         match changed {
             Some(changed) => *changed,
@@ -86,9 +86,10 @@ fn differences(
     Ok(marks)
 }
 
-fn mark(marks: &mut [bool], number: usize, changed: bool)
+fn mark(marks: &mut [bool], number: u32, changed: bool)
     ensures { marks.new ≡ set marks.old number changed }
 {
+    let number = number as usize;
     if number < marks.len() {
         marks[number] = changed;
     }

@@ -69,8 +69,8 @@ impl Entries {
         ensures { result ≡ meant self.now name }
     {
         let entry = match name {
-            NameNo::Name(number) => self.names.get(number),
-            NameNo::TypeName(number) => self.type_names.get(number),
+            NameNo::Name(number) => self.names.get(number as usize),
+            NameNo::TypeName(number) => self.type_names.get(number as usize),
         };
         match entry {
             Some(entry) => *entry,
@@ -123,11 +123,12 @@ fn unbound(alloc: Global, count: usize) -> Result<Vec<Option<Option<TyNo>>>, All
 }
 
 /// Sets the entry at an index if it is in bounds.
-fn set_entry(entries: &mut [Option<Option<TyNo>>], number: usize, entry: Option<TyNo>)
+fn set_entry(entries: &mut [Option<Option<TyNo>>], number: u32, entry: Option<TyNo>)
     ensures set { number < length entries.old → get_or entries.new number None ≡ Some entry }
     ensures others { (n : ℕ) → (n ≡ number → ⊥) → get_or entries.new n None ≡ get_or entries.old n None }
     ensures len { length entries.new ≡ length entries.old }
 {
+    let number = number as usize;
     if number < entries.len() {
         entries[number] = Some(entry);
     }

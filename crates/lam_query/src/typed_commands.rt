@@ -11,19 +11,18 @@ ghost use Rattle.lam_query.specs.SyntaxFaults.{fault_at};
 ghost use Rattle.lam_query.specs.TextFaults.{written_fault};
 ghost use Rattle.lam_query.specs.Views.{fault_of};
 ghost use Rattle.lam_query.specs.inner.Analysts.{IsBoundAs};
-ghost use Rattle.lam_query.specs.inner.Bound.{AllStand, AreFreeIn};
+ghost use Rattle.lam_query.specs.declared.bound.Bound.{Bound as RustBound};
+ghost use Rattle.lam_query.specs.inner.Bound.{IsSurroundedBy};
 ghost use Rattle.lam_query.specs.inner.Entered.{Lookup};
 ghost use Rattle.lam_query.specs.inner.Kept.{found_of};
 ghost use Rattle.lam_query.specs.inner.Rows.{own_fault, IsFoundOf};
 ghost use Rattle.lam_query.specs.inner.TypedCommands.{types_around, IsStatedBy, bound_number};
 
 use crate::answers::Fault;
-use crate::bound::{Bound, Surroundings};
+use crate::bound::Surroundings;
 use crate::rows::{Found, FoundTypes};
 use lam_rules::TyNo;
-use lam_scope::{
-    FreeNames, Interned, InternedStatement, Place, ScopeFault, TypeFault, bind, intern_command,
-};
+use lam_scope::{Interned, InternedStatement, Place, ScopeFault, TypeFault, bind, intern_command};
 use lam_syntax::Command;
 use lam_token::Span;
 use lam_typing::{Blame, TypeChecker};
@@ -40,23 +39,21 @@ struct Stated<'a> {
     entries: Vec<Option<TyNo>>,
 }
 
-/// Returns the types of a command with these free names, given what is bound before it.
+/// Returns the types of a command, given what it sees of the names and type names bound before it.
 pub(crate) fn found_of(
     alloc: Global,
     types: &mut TypeChecker,
-    bound: &Bound,
+    around: Surroundings<'_>,
     command: &Command,
-    free: &FreeNames<'_>,
 ) -> Result<Found, AllocError>
-    requires free { AreFreeIn (command_of command.now) free.now }
     requires sound { IsSoundChecker types.old }
-    requires stand { AllStand (types_in types.old) bound.now }
+    requires seen { (b : RustBound) × IsSurroundedBy (types_in types.old) b (command_of command.now) around }
     ensures sound { IsSoundChecker types.new }
     ensures keeps { Keeps (types_in types.old) (types_in types.new) }
     ensures dialect { dialect_in types.new ≡ dialect_in types.old }
-    ensures found { IfOk result (λ f. (names others : Lookup) → IsBoundAs names others (types_in types.old) bound.now → IsFoundOf names others (command_of command.now) (types_in types.new) (found_of f) (dialect_in types.old)) }
+    ensures found { IfOk result (λ f. (b : RustBound) (names others : Lookup) → IsSurroundedBy (types_in types.old) b (command_of command.now) around.entry → IsBoundAs names others (types_in types.old) b → IsFoundOf names others (command_of command.now) (types_in types.new) (found_of f) (dialect_in types.old)) }
 {
-    let stated = match state_command(alloc, types, bound, command, free) {
+    let stated = match state_command(alloc, types, around, command) {
         Ok(stated) => stated,
         Err(ScopeFault::TooLarge(span)) => return Ok(Found::LargeWrittenType(span)),
         Err(ScopeFault::Memory) => return Err(AllocError),
@@ -66,34 +63,36 @@ pub(crate) fn found_of(
         let span = span_of_term(alloc, command, checked.types.len())?;
         return Ok(Found::LargeTerm(span));
     }
+    let faults = faults_of(alloc, command, &stated.faults, &checked.blames)?;
+    let mut types = checked.types;
+    // Each command has such a list, as long as its row is kept.
+    types.shrink_to_fit();
     Ok(Found::Types(FoundTypes {
-        faults: faults_of(alloc, command, &stated.faults, &checked.blames)?,
-        types: checked.types,
+        types,
+        faults,
         bound: bound_number(&stated.statement, checked.entry),
     }))
 }
 
-/// Returns the nameless form of a command, given what is bound before it, and adds its written types to the table.
+/// Returns the nameless form of a command, and adds its written types to the table.
 fn state_command<'a>(
     alloc: Global,
     types: &mut TypeChecker,
-    bound: &Bound,
+    around: Surroundings<'a>,
     command: &'a Command,
-    free: &FreeNames<'a>,
 ) -> Result<Stated<'a>, ScopeFault>
-    requires free { AreFreeIn (command_of command.now) free.now }
     requires sound { IsSoundChecker types.old }
-    requires stand { AllStand (types_in types.old) bound.now }
+    requires seen { (b : RustBound) × IsSurroundedBy (types_in types.old) b (command_of command.now) around }
     ensures sound { IsSoundChecker types.new }
     ensures keeps { Keeps (types_in types.old) (types_in types.new) }
     ensures dialect { dialect_in types.new ≡ dialect_in types.old }
-    ensures limit { IsLimit (first_over_limit (types_around (types_in types.old) bound.now (command_of command.now)) (written_in_command (command_of command.now))) result }
-    ensures stated { IfOk result (IsStatedBy (types_in types.old) bound.now (command_of command.now) (types_in types.new)) }
+    ensures limit { (b : RustBound) → IsSurroundedBy (types_in types.old) b (command_of command.now) around.entry → IsLimit (first_over_limit (types_around (types_in types.old) b (command_of command.now)) (written_in_command (command_of command.now))) result }
+    ensures stated { IfOk result (λ s. (b : RustBound) → IsSurroundedBy (types_in types.old) b (command_of command.now) around.entry → IsStatedBy (types_in types.old) b (command_of command.now) (types_in types.new) s) }
 {
     let Surroundings {
         mut environment,
         entries,
-    } = bound.around(alloc, free)?;
+    } = around;
     let Interned { statement, faults } = intern_command(
         alloc,
         types.table_mut(),

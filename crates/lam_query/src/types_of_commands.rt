@@ -75,7 +75,8 @@ fn show_command(
     ensures next { IfOk result (λ shown. (done : List CommandTree) → IsKnown done types.old bound.old → IsNext done (command_of command.now) shown types.new bound.new) }
 {
     let free = free_names(alloc, command)?;
-    let Found::Types(found) = found_of(alloc, types, bound, command, &free)? else {
+    let (_, around) = bound.around(alloc, &free)?;
+    let Found::Types(found) = found_of(alloc, types, around, command)? else {
         return Ok(None);
     };
     bound.bind(alloc, command, found.bound)?;

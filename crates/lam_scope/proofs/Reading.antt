@@ -43,6 +43,9 @@ place-at ts ps n p lt is = rw add-one (sliced-at terms_start text_place ts ps n 
 pub place-span : (ts : List Place) (ps : List PlaceRow) (n : ℕ) (p : PlaceRow) → n < length ps → p ≡ get_or ps n p → (place_at_number (text_places ts ps) n).span ≡ p.span
 place-span ts ps n p lt is = ap (λ q. q.span) (place-at ts ps n p lt is)
 
+pub place-derived : (ts : List Place) (ps : List PlaceRow) (n : ℕ) (p : PlaceRow) → n < length ps → p ≡ get_or ps n p → (place_at_number (text_places ts ps) n).derived ≡ p.derived
+place-derived ts ps n p lt is = ap (λ q. q.derived) (place-at ts ps n p lt is)
+
 pub place-inner : (ts : List Place) (ps : List PlaceRow) (n : ℕ) (p : PlaceRow) → n < length ps → p ≡ get_or ps n p → (place_at_number (text_places ts ps) n).inner ≡ option_map binder_number p.inner
 place-inner ts ps n p lt is = ap (λ q. q.inner) (place-at ts ps n p lt is)
 
@@ -86,5 +89,7 @@ chain_more rows found more b next now len i all lt is pushed outer so_far =
     ∙ so_far
 
 pub ruleset reading = (binders-drop, uses-drop, drop_all, binder-at, binder-past, place-span, place-inner, place-past)
+
+pub ruleset derived_reading = (place-derived, place-past)
 
 pub ruleset terms_reading = (place-at, place-past, terms-start, terms-end, terms-order, terms-within)

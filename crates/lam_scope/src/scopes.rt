@@ -110,6 +110,17 @@ impl Scopes {
         }
     }
 
+    /// Returns whether a subterm is a derived lambda or fix of a letrec, which are not in the text.
+    #[tactic(auto, using(crate::proofs::Reading::derived_reading))]
+    pub fn is_derived(&self, place: Place) -> bool
+        ensures { result ≡ (place_row_numbered (table_of self.now) place.0).derived }
+    {
+        match self.rows.places.get(place.0) {
+            Some(row) => row.derived,
+            None => true,
+        }
+    }
+
     /// Returns the immediate subterms of a subterm, from left to right.
     pub fn terms_of(&self, place: Place) -> &[Place]
         ensures { map place_number result.now ≡ (place_row_numbered (table_of self.now) place.0).terms }

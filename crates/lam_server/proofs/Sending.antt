@@ -4,14 +4,14 @@ use Rattle.std.specs.List.{All}
 use Rattle.std.specs.Io.KnownBytes.{Appends}
 use Rattle.std.proofs.KnownBytes.{Appends-nil, Appends-trans}
 use Rattle.serde_json.specs.Data.{Data}
-use Rattle.serde_json.specs.View.{view}
-use Rattle.serde_json.specs.declared.value.Value.{Value}
 use Rattle.serde_json.specs.Written.{compact_text, has_float}
 use Rattle.lam_frame.specs.Device.{AppendsFront, IsFlushed, SinkView}
 use Rattle.lam_frame.specs.Frame.{frame_text, header_line}
 use Rattle.lam_frame.specs.Next.{failures_after}
 use Rattle.lam_frame.specs.declared.fault.FrameFault.{FrameFault}
 use Rattle.lam_frame.specs.declared.fault.FrameFault.TheVariants.{Device}
+use Rattle.lam_session.specs.Outgoing.{data_of}
+use Rattle.lam_session.specs.declared.outgoing.Outgoing.{Outgoing}
 use Rattle.lam_server.specs.Device.{IsFlushedAfter, Sends, FailsToSend, StopsSending}
 use Rattle.lam_server.specs.Output.{frames_of}
 
@@ -20,14 +20,15 @@ pub frames-append : (ds es : List Data) → frames_of (ds ++ es) ≡ frames_of d
 frames-append [] es = refl
 frames-append (d ∷ ds) es = ap (λ (l : List ℕ). frame_text (compact_text d) ++ l) (frames-append ds es) ∙ sym (append_assoc (frame_text (compact_text d)) (frames_of ds) (frames_of es))
 
--- the values from one on are that one and those behind it
-pub values_from : (values : List Value) (i : ℕ) (value : Value) → i < length values → value ≡ get_or values i value → map view (drop i values) ≡ view value ∷ map view (drop (i + 1) values)
-values_from values i value below at = ap (map view) (drop-cons values i value below ∙ ap (λ (v : Value). v ∷ drop (suc i) values) (sym at)) ∙ rw add-one refl
+-- the values of the messages from one on are that one's and those behind it
+pub values_from : (sent : List Outgoing) (i : ℕ) (outgoing : Outgoing) → i < length sent → outgoing ≡ get_or sent i outgoing
+    → map data_of (drop i sent) ≡ data_of outgoing ∷ map data_of (drop (i + 1) sent)
+values_from sent i outgoing below at = ap (map data_of) (drop-cons sent i outgoing below ∙ ap (λ (o : Outgoing). o ∷ drop (suc i) sent) (sym at)) ∙ rw add-one refl
 
--- the text of a value that holds no float
-text_at : (values : List Value) (i : ℕ) (value : Value) (text : List ℕ) → i < length values → value ≡ get_or values i value → All (λ v. has_float (view v) ≡ false) values
-    → (has_float (view value) ≡ false → text ≡ compact_text (view value)) → text ≡ compact_text (view value)
-text_at values i value text below at plain is = is (subst (λ (v : Value). has_float (view v) ≡ false) (sym at) (plain i value below))
+-- the text of a message whose value holds no float
+text_at : (sent : List Outgoing) (i : ℕ) (outgoing : Outgoing) (text : List ℕ) → i < length sent → outgoing ≡ get_or sent i outgoing → All (λ o. has_float (data_of o) ≡ false) sent
+    → (has_float (data_of outgoing) ≡ false → text ≡ compact_text (data_of outgoing)) → text ≡ compact_text (data_of outgoing)
+text_at sent i outgoing text below at plain is = is (subst (λ (o : Outgoing). has_float (data_of o) ≡ false) (sym at) (plain i outgoing below))
 
 -- the one fault of sending a frame counts
 pub counts_failure : (V : Type 0) (fault : FrameFault) (n m : ℕ) → fault ≡ Device → n ≡ failures_after {V = V} (Err fault) m → n ≡ m + 1
@@ -111,26 +112,26 @@ module _ {W : Type 0} (to : SinkView W) where
     counted = f ∙ ap (λ (n : ℕ). n + 1) s.sends.unfailed;
   }
 
-  -- ---- at the value at which the loop is
+  -- ---- at the message at which the loop is
 
-  pub sent_at : (values : List Value) (i : ℕ) (value : Value) (text : List ℕ) (old middle new : W) → i < length values → value ≡ get_or values i value
-      → All (λ v. has_float (view v) ≡ false) values → (has_float (view value) ≡ false → text ≡ compact_text (view value))
-      → SentBefore (map view values) (map view (drop i values)) old middle
+  pub sent_at : (sent : List Outgoing) (i : ℕ) (outgoing : Outgoing) (text : List ℕ) (old middle new : W) → i < length sent → outgoing ≡ get_or sent i outgoing
+      → All (λ o. has_float (data_of o) ≡ false) sent → (has_float (data_of outgoing) ≡ false → text ≡ compact_text (data_of outgoing))
+      → SentBefore (map data_of sent) (map data_of (drop i sent)) old middle
       → Appends (to.taken middle) (to.taken new) (frame_text text) → (IsSome (to.flushed middle) → IsSome (to.flushed new)) → IsFlushed (to.taken new) (to.flushed new) → to.failed new ≡ to.failed middle
-      → SentBefore (map view values) (map view (drop (i + 1) values)) old new
-  sent_at values i value text old middle new below at plain is s p t q r =
-      let same = text_at values i value text below at plain is in
-      one_more_sent (map view values) (map view (drop (i + 1) values)) (view value) old middle new
-      (subst (λ (l : List Data). SentBefore (map view values) l old middle) (values_from values i value below at) s)
+      → SentBefore (map data_of sent) (map data_of (drop (i + 1) sent)) old new
+  sent_at sent i outgoing text old middle new below at plain is s p t q r =
+      let same = text_at sent i outgoing text below at plain is in
+      one_more_sent (map data_of sent) (map data_of (drop (i + 1) sent)) (data_of outgoing) old middle new
+      (subst (λ (l : List Data). SentBefore (map data_of sent) l old middle) (values_from sent i outgoing below at) s)
       (subst (λ (l : List ℕ). Sends to middle (frame_text l) new) same (Sends-frame middle new text p t q r))
 
-  pub failed_at : (values : List Value) (i : ℕ) (value : Value) (text : List ℕ) (old middle new : W) → i < length values → value ≡ get_or values i value
-      → All (λ v. has_float (view v) ≡ false) values → (has_float (view value) ≡ false → text ≡ compact_text (view value))
-      → SentBefore (map view values) (map view (drop i values)) old middle
+  pub failed_at : (sent : List Outgoing) (i : ℕ) (outgoing : Outgoing) (text : List ℕ) (old middle new : W) → i < length sent → outgoing ≡ get_or sent i outgoing
+      → All (λ o. has_float (data_of o) ≡ false) sent → (has_float (data_of outgoing) ≡ false → text ≡ compact_text (data_of outgoing))
+      → SentBefore (map data_of sent) (map data_of (drop i sent)) old middle
       → AppendsFront (to.taken middle) (to.taken new) (frame_text text) → to.failed new ≡ to.failed middle + 1
-      → FailsToSend to old (frames_of (map view values)) new
-  failed_at values i value text old middle new below at plain is s p f =
-      let same = text_at values i value text below at plain is in
-      fails_to_send (map view values) (map view (drop (i + 1) values)) (view value) old middle new
-      (subst (λ (l : List Data). SentBefore (map view values) l old middle) (values_from values i value below at) s)
+      → FailsToSend to old (frames_of (map data_of sent)) new
+  failed_at sent i outgoing text old middle new below at plain is s p f =
+      let same = text_at sent i outgoing text below at plain is in
+      fails_to_send (map data_of sent) (map data_of (drop (i + 1) sent)) (data_of outgoing) old middle new
+      (subst (λ (l : List Data). SentBefore (map data_of sent) l old middle) (values_from sent i outgoing below at) s)
       (subst (λ (l : List ℕ). AppendsFront (to.taken middle) (to.taken new) (frame_text l)) same p) f

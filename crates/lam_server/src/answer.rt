@@ -3,15 +3,14 @@
 ghost use Rattle.std.specs.Prelude.{◌≡◌, ◌-◌, ◌^◌, ◌<◌, false, map};
 ghost use Rattle.lam_frame.specs.Device.{sink_of};
 ghost use Rattle.std.specs.List.{All};
-ghost use Rattle.serde_json.specs.View.{view};
 ghost use Rattle.serde_json.specs.Written.{has_float};
+ghost use Rattle.lam_session.specs.Outgoing.{data_of};
 ghost use Rattle.lam_server.specs.inner.Answer.{AnswersBody, WritesValues};
 
 use crate::faults::RunFault;
 use lam_frame::{Sink, write_frame};
 use lam_rpc::classify;
-use lam_session::Session;
-use serde_json::Value;
+use lam_session::{Outgoing, Session};
 use std::alloc::Global;
 
 /// Handles the message in one body and writes its answer.
@@ -27,20 +26,20 @@ pub fn answer<W: Sink>(
     let Ok(incoming) = classify(alloc, body) else {
         return Err(RunFault::Memory);
     };
-    let Ok(values) = session.step(incoming) else {
+    let Ok(sent) = session.receive(incoming) else {
         return Err(RunFault::Memory);
     };
-    write_values(alloc, writer, &values)
+    write_outgoing(alloc, writer, &sent)
 }
 
-/// Writes a frame with the text of each value, in order, and flushes after each.
-fn write_values<W: Sink>(alloc: Global, writer: &mut W, values: &[Value]) -> Result<(), RunFault>
+/// Writes a frame with the JSON of each outgoing message, in order, and flushes after each.
+fn write_outgoing<W: Sink>(alloc: Global, writer: &mut W, sent: &[Outgoing]) -> Result<(), RunFault>
     requires failures { W.failed writer.old < 2 ^ 64 - 1 }
-    requires plain { All (λ v. has_float (view v) ≡ false) values.now }
-    ensures { WritesValues (sink_of W.taken W.flushed W.failed) (map view values.now) writer.old result writer.new }
+    requires plain { All (λ o. has_float (data_of o) ≡ false) sent.now }
+    ensures { WritesValues (sink_of W.taken W.flushed W.failed) (map data_of sent.now) writer.old result writer.new }
 {
-    for value in values {
-        let Ok(text) = value.to_string(alloc) else {
+    for outgoing in sent {
+        let Ok(text) = outgoing.to_json(alloc) else {
             return Err(RunFault::Memory);
         };
         let Ok(()) = write_frame(writer, text.as_bytes()) else {

@@ -11,11 +11,13 @@ pub mod QuestionLaws
 pub mod MethodLemmas
 pub mod Plain
 pub mod PlainIds
+pub mod Silence
 pub mod EntryLemmas
 pub mod ChangeSteps
 pub mod AloneRuns
 pub mod OneAnswer
 pub mod TwoRuns
 pub mod ValueLists
+pub mod PublishedTexts
 pub mod Messages
 pub mod FaultMessages

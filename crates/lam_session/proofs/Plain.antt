@@ -3,9 +3,7 @@ use Rattle.std.proofs.Common.{ℕ, ℤ, pos, negsuc, Option, None, Some, ◌≡�
 use Rattle.std.specs.List.{All, AllByRecursion}
 use Rattle.std.proofs.lemmas.List.Elements.{All-from_recursion}
 use Rattle.serde_json.specs.Data.{Data, Items, null, no_items}
-use Rattle.serde_json.specs.View.{view}
 use Rattle.serde_json.specs.Written.{has_float, items_have_float}
-use Rattle.serde_json.specs.declared.value.Value.{Value}
 use Rattle.lam_rpc.specs.Kind.{Message, request, notice, reply, unreadable, invalid, HasPlainId}
 use Rattle.lam_rpc.specs.Reply.{result_reply}
 use Rattle.lam_session.specs.declared.states.Lifecycle.{Lifecycle}
@@ -145,8 +143,8 @@ steps_plain s m sent next h d = lives_plain s.life s m sent next h d
 pub sent_plain : (s : State) (m : Message) (sent : List Data) (next : State) → HasPlainId m → Steps s m sent next → All (λ (d : Data). has_float d ≡ false) sent
 sent_plain s m sent next h d = All-from_recursion (λ (x : Data). has_float x ≡ false) sent (steps_plain s m sent next h d)
 
--- and of each value that the list is seen of
-pub each_plain : (values : List Value) → NoFloats (map view values) → All (λ v. has_float (view v) ≡ false) values
-each_plain [] h k d l = absurd (omega arith)
-each_plain (v ∷ vs) h zero d l = h.0
-each_plain (v ∷ vs) h (suc k) d l = each_plain vs h.1 k d (omega arith)
+-- and of each item that stands for such a value
+pub each_plain : {A : Type 0} (shown : A → Data) (items : List A) → NoFloats (map shown items) → All (λ x. has_float (shown x) ≡ false) items
+each_plain shown [] h k d l = absurd (omega arith)
+each_plain shown (x ∷ xs) h zero d l = h.0
+each_plain shown (x ∷ xs) h (suc k) d l = each_plain shown xs h.1 k d (omega arith)

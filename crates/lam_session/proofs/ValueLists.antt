@@ -5,35 +5,44 @@ use Rattle.serde_json.specs.Data.{Data}
 use Rattle.serde_json.specs.View.{view}
 use Rattle.serde_json.specs.declared.value.Value.{Value}
 
-viewed : (values : List Value) (v : Value) (rest : List Data) → map view (values ++ v ∷ []) ++ rest ≡ map view values ++ view v ∷ rest
-viewed [] v rest = refl
-viewed (w ∷ values) v rest = ap (λ l. view w ∷ l) (viewed values v rest)
+viewed : {V : Type 0} (told : V → Data) (values : List V) (v : V) (rest : List Data) → map told (values ++ v ∷ []) ++ rest ≡ map told values ++ told v ∷ rest
+viewed told [] v rest = refl
+viewed told (w ∷ values) v rest = ap (λ l. told w ∷ l) (viewed told values v rest)
+
+pub told_more : {V A B : Type 0} (told : V → Data) (seen : A → B) (shown : B → Data) (values more : List V) (v : V) (xs : List A) (i : ℕ) (x : A)
+    → i < length xs → told v ≡ shown (seen (get_or xs i x)) → more ≡ values ++ v ∷ []
+    → map told values ++ map shown (map seen (drop i xs)) ≡ map shown (map seen xs) → map told more ++ map shown (map seen (drop (i + 1) xs)) ≡ map shown (map seen xs)
+told_more told seen shown values more v xs i x inside shows pushed so_far =
+    ap (λ l. map told l ++ map shown (map seen (drop (i + 1) xs))) pushed
+    ∙ viewed told values v (map shown (map seen (drop (i + 1) xs)))
+    ∙ ap (λ d. map told values ++ d ∷ map shown (map seen (drop (i + 1) xs))) shows
+    ∙ ap (λ n. map told values ++ shown (seen (get_or xs i x)) ∷ map shown (map seen (drop n xs))) (add-one i)
+    ∙ ap (λ l. map told values ++ map shown (map seen l)) (sym (drop-cons xs i x inside))
+    ∙ so_far
 
 pub value_more : {A B : Type 0} (seen : A → B) (shown : B → Data) (values more : List Value) (v : Value) (xs : List A) (i : ℕ) (x : A)
     → i < length xs → view v ≡ shown (seen (get_or xs i x)) → more ≡ values ++ v ∷ []
     → map view values ++ map shown (map seen (drop i xs)) ≡ map shown (map seen xs) → map view more ++ map shown (map seen (drop (i + 1) xs)) ≡ map shown (map seen xs)
-value_more seen shown values more v xs i x inside shows pushed so_far =
-    ap (λ l. map view l ++ map shown (map seen (drop (i + 1) xs))) pushed
-    ∙ viewed values v (map shown (map seen (drop (i + 1) xs)))
-    ∙ ap (λ d. map view values ++ d ∷ map shown (map seen (drop (i + 1) xs))) shows
-    ∙ ap (λ n. map view values ++ shown (seen (get_or xs i x)) ∷ map shown (map seen (drop n xs))) (add-one i)
-    ∙ ap (λ l. map view values ++ map shown (map seen l)) (sym (drop-cons xs i x inside))
-    ∙ so_far
+value_more seen shown values more v xs i x inside shows pushed so_far = told_more view seen shown values more v xs i x inside shows pushed so_far
 
 pub number_more : {A : Type 0} (shown : A → Data) (values more : List Value) (v : Value) (xs : List A) (i : ℕ) (x : A)
     → i < length xs → view v ≡ shown (get_or xs i x) → more ≡ values ++ v ∷ []
     → map view values ++ map shown (drop i xs) ≡ map shown xs → map view more ++ map shown (drop (i + 1) xs) ≡ map shown xs
 number_more shown values more v xs i x inside shows pushed so_far =
     ap (λ l. map view l ++ map shown (drop (i + 1) xs)) pushed
-    ∙ viewed values v (map shown (drop (i + 1) xs))
+    ∙ viewed view values v (map shown (drop (i + 1) xs))
     ∙ ap (λ d. map view values ++ d ∷ map shown (drop (i + 1) xs)) shows
     ∙ ap (λ n. map view values ++ shown (get_or xs i x) ∷ map shown (drop n xs)) (add-one i)
     ∙ ap (λ l. map view values ++ map shown l) (sym (drop-cons xs i x inside))
     ∙ so_far
 
 -- where none is to come, the values so far are all
+pub all_told : {V A : Type 0} (told : V → Data) (shown : List A → List Data) (values : List V) (xs : List A) (i : ℕ) → shown [] ≡ [] → length xs ≤ i
+    → map told values ++ shown (drop i xs) ≡ shown xs → map told values ≡ shown xs
+all_told told shown values xs i none past so_far =
+    sym (ap (λ l. map told values ++ l) (ap shown (drop_of_length-le xs past) ∙ none) ∙ append-nil (map told values))
+    ∙ so_far
+
 pub all_shown : {A : Type 0} (shown : List A → List Data) (values : List Value) (xs : List A) (i : ℕ) → shown [] ≡ [] → length xs ≤ i
     → map view values ++ shown (drop i xs) ≡ shown xs → map view values ≡ shown xs
-all_shown shown values xs i none past so_far =
-    sym (ap (λ l. map view values ++ l) (ap shown (drop_of_length-le xs past) ∙ none) ∙ append-nil (map view values))
-    ∙ so_far
+all_shown shown values xs i none past so_far = all_told view shown values xs i none past so_far

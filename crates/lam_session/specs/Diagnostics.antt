@@ -3,9 +3,10 @@ use Rattle.std.specs.Prelude.{ℕ, List, [], ◌∷◌, codes, map, if◌then◌
 use Rattle.std.specs.Str.{bytes_eq}
 use Rattle.serde_json.specs.Data.{Data, number, unsigned, string, object, Items, member, no_members}
 use Rattle.serde_json.specs.View.{items_of}
+use Rattle.lam_text.specs.declared.places.Range.{Range}
 use Rattle.lam_text.specs.declared.units.Encoding.{Encoding}
 use Rattle.lam_query.specs.Faults.{Fault}
-use Rattle.lam_session.specs.Ranges.{range_value}
+use Rattle.lam_session.specs.Ranges.{range_of, written_range}
 
 -- the codes with their messages
 abbrev pub messages : List (List ℕ × List ℕ)
@@ -38,14 +39,18 @@ message_beside code (m ∷ ms) = if bytes_eq code m.0 then m.1 else message_besi
 abbrev pub message_of : List ℕ → List ℕ
 message_of code = message_beside code messages
 
--- one diagnostic, always of severity 1 (Error)
-abbrev pub diagnostic : Encoding → List ℕ → Fault → Data
-diagnostic encoding text fault =
-    object (member (codes "code") (string fault.code)
-    (member (codes "message") (string (message_of fault.code))
-    (member (codes "range") (range_value encoding text fault.span)
+-- a diagnostic with this code and this range, always of severity 1 (Error)
+abbrev pub diagnostic_at : List ℕ → Range → Data
+diagnostic_at code range =
+    object (member (codes "code") (string code)
+    (member (codes "message") (string (message_of code))
+    (member (codes "range") (written_range range)
     (member (codes "severity") (number (unsigned 1))
     (member (codes "source") (string (codes "fullsub")) no_members)))))
+
+-- a diagnostic of a text
+abbrev pub diagnostic : Encoding → List ℕ → Fault → Data
+diagnostic encoding text fault = diagnostic_at fault.code (range_of encoding text fault.span)
 
 -- the diagnostics of a text, in order
 abbrev pub diagnostics : Encoding → List ℕ → List Fault → Items

@@ -10,6 +10,7 @@ pub mod Courses
 pub mod Does
 pub mod Initialize
 pub mod Sync
+pub mod Outgoing
 pub mod Asked
 pub mod Hovers
 pub mod Derivations

@@ -4,6 +4,7 @@ ghost use Rattle.serde_json.specs.View.{view};
 ghost use Rattle.lam_rpc.specs.Kind.{message_of};
 ghost use Rattle.lam_session.specs.Does.{Does, Ignores, Refuses};
 ghost use Rattle.lam_session.specs.Documents.{open_text};
+ghost use Rattle.lam_session.specs.Outgoing.{data_of};
 ghost use Rattle.lam_session.specs.Questions.{Asks};
 ghost use Rattle.lam_session.specs.State.{fresh, ended_status};
 ghost use Rattle.lam_session.specs.Step.{Steps, Requested, Awaits, Noticed, Heeds, Passes, Serves, Ends, Initializes, ShutsDown, exit_status};
@@ -13,11 +14,12 @@ ghost use Rattle.lam_session.specs.inner.Told.{IsTold};
 use crate::documents::Documents;
 use crate::initialize::{chosen, initialize_answer};
 use crate::methods::{NoticeMethod, RequestMethod, notice_method, request_method};
+use crate::outgoing::Outgoing;
 use crate::questions::{Question, reply_to};
 use crate::refusals::{Refusal, refused};
 use crate::states::Lifecycle;
 use crate::sync::{given_version, opened_text, published};
-use crate::values::diagnostic_values;
+use crate::values::diagnostics;
 use lam_rpc::{ChangesFault, Incoming, ok_reply, read_changes, read_uri};
 use lam_rules::Dialect;
 use lam_text::{Change, Encoding};
@@ -26,7 +28,7 @@ use std::alloc::{AllocError, Global};
 use std::marker::Model;
 
 /// The lifecycle state and the open documents. Each message takes the conversation by value, and returns the next one with the
-/// values to send, or neither if allocation fails.
+/// messages to send, or neither if allocation fails.
 #[derive(Drop)]
 pub struct Conversation {
     alloc: Global,
@@ -75,8 +77,8 @@ impl Conversation {
     }
 
     /// Handles a message.
-    pub fn receive(self, incoming: Incoming) -> Result<(Conversation, Vec<Value>), AllocError>
-        ensures steps { IfOk result (λ r. Steps self (message_of incoming) (map view r.1.items) r.0) }
+    pub fn receive(self, incoming: Incoming) -> Result<(Conversation, Vec<Outgoing>), AllocError>
+        ensures steps { IfOk result (λ r. Steps self (message_of incoming) (map data_of r.1.items) r.0) }
         ensures lives { OnErr result (ended_status self.life ≡ None) }
     {
         if self.life.ended().is_some() {
@@ -98,23 +100,27 @@ impl Conversation {
     }
 
     /// Sends nothing.
-    fn ignore(self) -> (Conversation, Vec<Value>)
-        ensures { Ignores self (map view result.1.items) result.0 }
+    fn ignore(self) -> (Conversation, Vec<Outgoing>)
+        ensures { Ignores self (map data_of result.1.items) result.0 }
     {
-        let values = Vec::new(self.alloc);
-        (self, values)
+        let sent = Vec::new(self.alloc);
+        (self, sent)
     }
 
     /// Sends one value.
-    fn send(self, value: Value) -> Result<(Conversation, Vec<Value>), AllocError>
-        ensures { IfOk result (λ r. Does (view value ∷ []) self (map view r.1.items) r.0) }
+    fn send(self, value: Value) -> Result<(Conversation, Vec<Outgoing>), AllocError>
+        ensures { IfOk result (λ r. Does (view value ∷ []) self (map data_of r.1.items) r.0) }
     {
-        let values = vec![in self.alloc; value]?;
-        Ok((self, values))
+        let sent = vec![in self.alloc; Outgoing::Value(value)]?;
+        Ok((self, sent))
     }
 
-    fn refuse(self, id: Value, refusal: Refusal) -> Result<(Conversation, Vec<Value>), AllocError>
-        ensures { IfOk result (λ r. Refuses self (view id) refusal (map view r.1.items) r.0) }
+    fn refuse(
+        self,
+        id: Value,
+        refusal: Refusal,
+    ) -> Result<(Conversation, Vec<Outgoing>), AllocError>
+        ensures { IfOk result (λ r. Refuses self (view id) refusal (map data_of r.1.items) r.0) }
     {
         let reply = refused(self.alloc, id, refusal)?;
         self.send(reply)
@@ -125,8 +131,8 @@ impl Conversation {
         id: Value,
         method: RequestMethod,
         params: &Value,
-    ) -> Result<(Conversation, Vec<Value>), AllocError>
-        ensures { IfOk result (λ r. Requested self.life self (view id) method (view params.now) (map view r.1.items) r.0) }
+    ) -> Result<(Conversation, Vec<Outgoing>), AllocError>
+        ensures { IfOk result (λ r. Requested self.life self (view id) method (view params.now) (map data_of r.1.items) r.0) }
     {
         match self.life {
             Lifecycle::Fresh => self.await_initialize(id, method, params),
@@ -141,8 +147,8 @@ impl Conversation {
         id: Value,
         method: RequestMethod,
         params: &Value,
-    ) -> Result<(Conversation, Vec<Value>), AllocError>
-        ensures { IfOk result (λ r. Awaits self (view id) method (view params.now) (map view r.1.items) r.0) }
+    ) -> Result<(Conversation, Vec<Outgoing>), AllocError>
+        ensures { IfOk result (λ r. Awaits self (view id) method (view params.now) (map data_of r.1.items) r.0) }
     {
         match method {
             RequestMethod::Initialize => self.initialize(id, params),
@@ -154,8 +160,8 @@ impl Conversation {
         mut self,
         id: Value,
         params: &Value,
-    ) -> Result<(Conversation, Vec<Value>), AllocError>
-        ensures { IfOk result (λ r. Initializes self (view id) (view params.now) (map view r.1.items) r.0) }
+    ) -> Result<(Conversation, Vec<Outgoing>), AllocError>
+        ensures { IfOk result (λ r. Initializes self (view id) (view params.now) (map data_of r.1.items) r.0) }
     {
         let encoding = chosen(params);
         let reply = ok_reply(self.alloc, id, initialize_answer(self.alloc, encoding)?)?;
@@ -169,8 +175,8 @@ impl Conversation {
         id: Value,
         method: RequestMethod,
         params: &Value,
-    ) -> Result<(Conversation, Vec<Value>), AllocError>
-        ensures { IfOk result (λ r. Serves self (view id) method (view params.now) (map view r.1.items) r.0) }
+    ) -> Result<(Conversation, Vec<Outgoing>), AllocError>
+        ensures { IfOk result (λ r. Serves self (view id) method (view params.now) (map data_of r.1.items) r.0) }
     {
         match method {
             RequestMethod::Initialize => self.refuse(id, Refusal::AlreadyInitialized),
@@ -180,8 +186,8 @@ impl Conversation {
         }
     }
 
-    fn shut_down(mut self, id: Value) -> Result<(Conversation, Vec<Value>), AllocError>
-        ensures { IfOk result (λ r. ShutsDown self (view id) (map view r.1.items) r.0) }
+    fn shut_down(mut self, id: Value) -> Result<(Conversation, Vec<Outgoing>), AllocError>
+        ensures { IfOk result (λ r. ShutsDown self (view id) (map data_of r.1.items) r.0) }
     {
         let reply = ok_reply(self.alloc, id, Value::Null)?;
         self.life = Lifecycle::Down;
@@ -194,8 +200,8 @@ impl Conversation {
         question: Question,
         id: Value,
         params: &Value,
-    ) -> Result<(Conversation, Vec<Value>), AllocError>
-        ensures { IfOk result (λ r. Asks question self (view id) (view params.now) (map view r.1.items) r.0) }
+    ) -> Result<(Conversation, Vec<Outgoing>), AllocError>
+        ensures { IfOk result (λ r. Asks question self (view id) (view params.now) (map data_of r.1.items) r.0) }
     {
         let reply = reply_to(self.alloc, question, id, params, &self.documents)?;
         self.send(reply)
@@ -205,8 +211,8 @@ impl Conversation {
         self,
         method: NoticeMethod,
         params: Value,
-    ) -> Result<(Conversation, Vec<Value>), AllocError>
-        ensures { IfOk result (λ r. Noticed self.life self method (view params) (map view r.1.items) r.0) }
+    ) -> Result<(Conversation, Vec<Outgoing>), AllocError>
+        ensures { IfOk result (λ r. Noticed self.life self method (view params) (map data_of r.1.items) r.0) }
     {
         match self.life {
             Lifecycle::Running => self.heed(method, params),
@@ -219,8 +225,8 @@ impl Conversation {
         self,
         method: NoticeMethod,
         params: Value,
-    ) -> Result<(Conversation, Vec<Value>), AllocError>
-        ensures { IfOk result (λ r. Heeds self method (view params) (map view r.1.items) r.0) }
+    ) -> Result<(Conversation, Vec<Outgoing>), AllocError>
+        ensures { IfOk result (λ r. Heeds self method (view params) (map data_of r.1.items) r.0) }
     {
         match method {
             NoticeMethod::Exit => Ok(self.exit()),
@@ -231,8 +237,8 @@ impl Conversation {
         }
     }
 
-    fn pass(self, method: NoticeMethod) -> (Conversation, Vec<Value>)
-        ensures { Passes self method (map view result.1.items) result.0 }
+    fn pass(self, method: NoticeMethod) -> (Conversation, Vec<Outgoing>)
+        ensures { Passes self method (map data_of result.1.items) result.0 }
     {
         match method {
             NoticeMethod::Exit => self.exit(),
@@ -240,15 +246,15 @@ impl Conversation {
         }
     }
 
-    fn exit(mut self) -> (Conversation, Vec<Value>)
-        ensures { Ends self (exit_status self.life) (map view result.1.items) result.0 }
+    fn exit(mut self) -> (Conversation, Vec<Outgoing>)
+        ensures { Ends self (exit_status self.life) (map data_of result.1.items) result.0 }
     {
         self.life = Lifecycle::Over(exit_status(self.life));
         self.ignore()
     }
 
-    fn open_document(mut self, params: &Value) -> Result<(Conversation, Vec<Value>), AllocError>
-        ensures { IfOk result (λ r. Opens self (view params.now) (map view r.1.items) r.0) }
+    fn open_document(mut self, params: &Value) -> Result<(Conversation, Vec<Outgoing>), AllocError>
+        ensures { IfOk result (λ r. Opens self (view params.now) (map data_of r.1.items) r.0) }
     {
         let Ok(uri) = read_uri(params) else {
             return Ok(self.ignore());
@@ -258,12 +264,12 @@ impl Conversation {
         };
         let version = given_version(params);
         self.documents = self.documents.open(uri, text, version)?;
-        let values = self.tell(uri, version)?;
-        Ok((self, values))
+        let sent = self.tell(uri, version)?;
+        Ok((self, sent))
     }
 
-    fn change_document(self, params: Value) -> Result<(Conversation, Vec<Value>), AllocError>
-        ensures { IfOk result (λ r. Changes self (view params) (map view r.1.items) r.0) }
+    fn change_document(self, params: Value) -> Result<(Conversation, Vec<Outgoing>), AllocError>
+        ensures { IfOk result (λ r. Changes self (view params) (map data_of r.1.items) r.0) }
     {
         let told = self.told_change(&params)?;
         // If kept, blocks of the message would occupy the memory that the old analysis frees for the new one.
@@ -302,17 +308,17 @@ impl Conversation {
         uri: &str,
         changes: &[Change],
         version: Option<i64>,
-    ) -> Result<(Conversation, Vec<Value>), AllocError>
+    ) -> Result<(Conversation, Vec<Outgoing>), AllocError>
         requires { IsSome (open_text uri.now self.documents) }
-        ensures { IfOk result (λ r. ChangesText self uri.now (open_text uri.now self.documents) changes.now version (map view r.1.items) r.0) }
+        ensures { IfOk result (λ r. ChangesText self uri.now (open_text uri.now self.documents) changes.now version (map data_of r.1.items) r.0) }
     {
         self.documents = self.documents.change(uri, changes, version)?;
-        let values = self.tell(uri, version)?;
-        Ok((self, values))
+        let sent = self.tell(uri, version)?;
+        Ok((self, sent))
     }
 
-    fn close_document(mut self, params: &Value) -> Result<(Conversation, Vec<Value>), AllocError>
-        ensures { IfOk result (λ r. Closes self (view params.now) (map view r.1.items) r.0) }
+    fn close_document(mut self, params: &Value) -> Result<(Conversation, Vec<Outgoing>), AllocError>
+        ensures { IfOk result (λ r. Closes self (view params.now) (map data_of r.1.items) r.0) }
     {
         let Ok(uri) = read_uri(params) else {
             return Ok(self.ignore());
@@ -320,22 +326,22 @@ impl Conversation {
         if self.documents.document(uri).is_none() {
             return Ok(self.ignore());
         }
-        let values = published(self.alloc, uri, None, Vec::new(self.alloc))?;
+        let sent = published(self.alloc, uri, None, Vec::new(self.alloc))?;
         self.documents = self.documents.close(uri);
-        Ok((self, values))
+        Ok((self, sent))
     }
 
     /// The notification with all diagnostics of an open document.
-    fn tell(&self, uri: &str, version: Option<i64>) -> Result<Vec<Value>, AllocError>
+    fn tell(&self, uri: &str, version: Option<i64>) -> Result<Vec<Outgoing>, AllocError>
         requires { IsSome (open_text uri.now self.now.documents) }
-        ensures { IfOk result (λ values. (text : List ℕ) → open_text uri.now self.now.documents ≡ Some text
-            → Tells self.now.encoding self.now.dialect (record { uri = uri.now; text = text; version = version }) (map view values.items)) }
+        ensures { IfOk result (λ sent. (text : List ℕ) → open_text uri.now self.now.documents ≡ Some text
+            → Tells self.now.encoding self.now.dialect (record { uri = uri.now; text = text; version = version }) (map data_of sent.items)) }
     {
         let Some(document) = self.documents.document(uri) else {
             unreachable!()
         };
         let faults = document.faults(self.alloc)?;
-        let diagnostics = diagnostic_values(self.alloc, document.doc(), &faults)?;
+        let diagnostics = diagnostics(self.alloc, document.doc(), &faults)?;
         published(self.alloc, uri, version, diagnostics)
     }
 }

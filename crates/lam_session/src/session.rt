@@ -4,11 +4,13 @@ ghost use Rattle.std.specs.List.{All};
 ghost use Rattle.serde_json.specs.View.{view};
 ghost use Rattle.serde_json.specs.Written.{has_float};
 ghost use Rattle.lam_rpc.specs.Kind.{message_of, HasPlainId};
+ghost use Rattle.lam_session.specs.Outgoing.{data_of};
 ghost use Rattle.lam_session.specs.OneAnswer.{HasOneAnswer};
 ghost use Rattle.lam_session.specs.State.{fresh, dialect_of, ended_status};
 ghost use Rattle.lam_session.specs.Step.{Answers, GivesUp};
 
 use crate::conversation::Conversation;
+use crate::outgoing::{Outgoing, into_values};
 use crate::states::{Config, Lifecycle};
 use lam_rpc::Incoming;
 use serde_json::Value;
@@ -19,6 +21,7 @@ use std::mem;
 /// A session with one client.
 #[derive(Drop)]
 pub struct Session {
+    alloc: Global,
     course: Course,
 }
 
@@ -49,6 +52,7 @@ impl Session {
         ensures { result ≡ record { state = fresh (dialect_of config); gave_up = false } }
     {
         Session {
+            alloc,
             course: Course::Going(Conversation::new(alloc, config.dialect())),
         }
     }
@@ -72,13 +76,29 @@ impl Session {
         ensures plain { HasPlainId (message_of incoming) → IfOk result (λ values. All (λ v. has_float (view v) ≡ false) values.items) }
         ensures one_answer { HasOneAnswer self.old.state (message_of incoming) }
     {
+        let life = self.life();
+        let sent = self.receive(incoming)?;
+        let Ok(values) = into_values(self.alloc, sent) else {
+            self.course = Course::GaveUp(life);
+            return Err(AllocError);
+        };
+        Ok(values)
+    }
+
+    /// The same as `step`, but returns the messages to send. Diagnostics take a hundredth of the memory of their values.
+    pub fn receive(&mut self, incoming: Incoming) -> Result<Vec<Outgoing>, AllocError>
+        ensures answers { IfOk result (λ sent. Answers self.old (message_of incoming) (map data_of sent.items) self.new) }
+        ensures gives_up { OnErr result (GivesUp self.old self.new) }
+        ensures plain { HasPlainId (message_of incoming) → IfOk result (λ sent. All (λ o. has_float (data_of o) ≡ false) sent.items) }
+        ensures one_answer { HasOneAnswer self.old.state (message_of incoming) }
+    {
         let gave_up = Course::GaveUp(self.life());
         let Course::Going(conversation) = mem::replace(&mut self.course, gave_up) else {
             return Err(AllocError);
         };
-        let (conversation, values) = conversation.receive(incoming)?;
+        let (conversation, sent) = conversation.receive(incoming)?;
         self.course = Course::Going(conversation);
-        Ok(values)
+        Ok(sent)
     }
 
     fn life(&self) -> Lifecycle

@@ -1,11 +1,12 @@
 //! Reading of document notifications, and the diagnostics published in response.
 ghost use Rattle.std.specs.Prelude.{◌≡◌, ◌∷◌, [], map, codes, IfOk, option_map};
 ghost use Rattle.serde_json.specs.Data.{string, array, object, member};
-ghost use Rattle.serde_json.specs.View.{view, items_view};
+ghost use Rattle.serde_json.specs.View.{view, items_of, items_view};
+ghost use Rattle.lam_session.specs.Outgoing.{data_of, diagnostic_data};
 ghost use Rattle.lam_session.specs.Sync.{opened_text, given_version, version_member, published};
 
-use crate::values::Object;
-use lam_rpc::notice;
+use crate::outgoing::{Outgoing, Published};
+use crate::values::{Diagnostic, Object};
 use serde_json::Value;
 use std::alloc::{AllocError, Global};
 
@@ -23,21 +24,26 @@ pub fn given_version(params: &Value) -> Option<i64>
     params.get("textDocument")?.get("version")?.as_i64()
 }
 
-/// Returns the notification that publishes the diagnostics of a document (LSP 3.17, `PublishDiagnosticsParams`).
+/// Returns the notification that publishes the diagnostics of a document.
 pub fn published(
     alloc: Global,
     uri: &str,
     version: Option<i64>,
-    diagnostics: Vec<Value>,
-) -> Result<Vec<Value>, AllocError>
-    ensures { IfOk result (λ values. map view values.items ≡ published uri.now version (items_view diagnostics.items) ∷ []) }
+    diagnostics: Vec<Diagnostic>,
+) -> Result<Vec<Outgoing>, AllocError>
+    ensures { IfOk result (λ sent. map data_of sent.items ≡ published uri.now version (items_of (map diagnostic_data diagnostics.items)) ∷ []) }
 {
-    let params = published_params(alloc, uri, version, diagnostics)?;
-    let value = notice(alloc, "textDocument/publishDiagnostics", params)?;
-    Ok(vec![in alloc; value]?)
+    let uri = String::from_str(alloc, uri)?;
+    let published = Published {
+        uri,
+        version,
+        diagnostics,
+    };
+    Ok(vec![in alloc; Outgoing::Diagnostics(published)]?)
 }
 
-fn published_params(
+/// Returns the params of that notification (LSP 3.17, `PublishDiagnosticsParams`).
+pub fn published_params(
     alloc: Global,
     uri: &str,
     version: Option<i64>,

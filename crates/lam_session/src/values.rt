@@ -5,6 +5,7 @@ mod objects;
 mod ranges;
 
 pub use derivations::derivation_value;
-pub use diagnostics::{diagnostic_values, message_of};
+pub use diagnostics::{Diagnostic, diagnostic_values, message_of};
+pub(crate) use diagnostics::{diagnostic_value, diagnostics, values_of};
 pub use objects::Object;
 pub(crate) use ranges::{location_value, range_value};

@@ -1,5 +1,6 @@
 -- What commands have bound: names and type names as numbers, each with a type id of a type table. For private functions only.
-use Rattle.std.specs.Prelude.{◌≡◌, ◌<◌, ℕ, List, [], length, map, get_or, Option, Some, None, string_bytes, IfSome, if◌then◌else◌}
+use Rattle.std.specs.Prelude.{◌≡◌, ◌<◌, ◌⊎◌, ℕ, List, [], length, map, get_or, Contains, Option, Some, None, string_bytes, IfSome, if◌then◌else◌}
+use Rattle.std.specs.Borrow.{Bor}
 use Rattle.std.specs.Option.{option_map, option_and_then}
 use Rattle.std.specs.Str.{bytes_eq}
 use Rattle.std.specs.HashMap.{get_by}
@@ -35,6 +36,10 @@ means b (binding.TypeName n) = kept_under b.type_names n
 -- what is bound for a name
 abbrev pub meaning_of : Meanings → Name → Option (Option TyNo)
 meaning_of m x = option_and_then (kept_under m) (number_of m x)
+
+-- names mean the same under their numbers
+abbrev pub MeanTheSame : (old now : Bound) → Type 0
+MeanTheSame old now = (x : Name) → (meaning_of now.names x ≡ meaning_of old.names x) × (meaning_of now.type_names x ≡ meaning_of old.type_names x)
 
 -- each name has a number of its own, which is an index of the entries
 pub record AreNumbered (m : Meanings) : Type 0 where
@@ -82,6 +87,47 @@ pub record IsSurroundedBy (ts : List Typ) (b : Bound) (c : CommandTree) (s : Sur
   pub type_names : abbreviations_seen ts s.environment ≡ abbreviations_onto [] (entered (found_over ts b.type_names) (each_once (free_type_names_in_command c)))
   pub type_names_stand : TypeNamesStand ts s.environment
   pub entries_stand : AllStandIn ts s.entries.items
+
+-- ---- names that are entered one by one
+
+-- the names that are borrowed
+abbrev pub names_in : List (Bor (List ℕ)) → List Name
+names_in = map (λ x. x.now)
+
+-- those of them that are bound, over the types of a table
+abbrev pub found_among : List Typ → Meanings → List (Bor (List ℕ)) → List (Name × Option Typ)
+found_among ts known names = entered (found_over ts known) (names_in names)
+
+-- a name has a number, and that is listed
+abbrev pub IsListed : (ℕ → NameNo) → Meanings → List NameNo → Name → Type 0
+IsListed of m numbers x = (n : ℕ) × (number_of m x ≡ Some n) × Contains numbers (of n)
+
+-- all names but those that are left have numbers, which are listed behind others
+pub record AreListed (of : ℕ → NameNo) (names left : List (Bor (List ℕ))) (old now : Meanings) (before numbers : List NameNo) : Type 0 where
+  pub asked : (x : Name) → Contains (names_in names) x → Contains (names_in left) x ⊎ IsListed of now numbers x
+  pub others : (n : NameNo) → Contains before n → Contains numbers n
+  pub keeps : (x : Name) (n : ℕ) → number_of old x ≡ Some n → number_of now x ≡ Some n
+  pub same : (x : Name) → meaning_of now x ≡ meaning_of old x
+  pub numbered : AreNumbered now
+
+-- what is left of the names comes to all of them, behind those that were entered with their entries
+pub record AreEntered (known : Meanings) (names left : List (Bor (List ℕ))) (old now : Surroundings) : Type 0 where
+  pub names_all : (ts : List Typ) → names_onto (names_seen now.environment) (found_among ts known left) ≡ names_onto (names_seen old.environment) (found_among ts known names)
+  pub entries_all : (ts : List Typ)
+      → entries_onto (context_under ts now.entries.items) (found_among ts known left) ≡ entries_onto (context_under ts old.entries.items) (found_among ts known names)
+  pub stand : (ts : List Typ) → NumbersStandIn ts known → AllStandIn ts old.entries.items → AllStandIn ts now.entries.items
+  pub type_names : (ts : List Typ) → abbreviations_seen ts now.environment ≡ abbreviations_seen ts old.environment
+  pub type_names_stand : (ts : List Typ) → TypeNamesStand ts old.environment → TypeNamesStand ts now.environment
+
+-- the same for type names, with what they stand for
+pub record AreTypesEntered (known : Meanings) (names left : List (Bor (List ℕ))) (old now : Surroundings) : Type 0 where
+  pub types_all : (ts : List Typ)
+      → abbreviations_onto (abbreviations_seen ts now.environment) (found_among ts known left) ≡ abbreviations_onto (abbreviations_seen ts old.environment) (found_among ts known names)
+  pub stand : (ts : List Typ) → NumbersStandIn ts known → TypeNamesStand ts old.environment → TypeNamesStand ts now.environment
+  pub names_same : names_seen now.environment ≡ names_seen old.environment
+  pub entries_same : now.entries ≡ old.entries
+
+-- ---- what a command binds
 
 -- the entry of this name, if there is one, is set
 abbrev pub IsSetIn : Option Name → Option TyNo → Meanings → Meanings → Type 0

@@ -5,10 +5,12 @@ ghost use Rattle.serde_json.specs.Written.{items_have_float};
 ghost use Rattle.lam_query.specs.Views.{fault_of};
 ghost use Rattle.lam_query.specs.Within.{IsSpanOfText};
 ghost use Rattle.lam_session.specs.Diagnostics.{message_beside, message_of, diagnostic, diagnostics};
+ghost use Rattle.lam_session.specs.Outgoing.{diagnostic_data};
 
-use crate::values::{Object, range_value};
+use crate::values::Object;
+use crate::values::ranges::{range_of, written_range};
 use lam_query::answers::Fault;
-use lam_text::Doc;
+use lam_text::{Doc, Range};
 use serde_json::Value;
 use std::alloc::{AllocError, Global};
 
@@ -33,6 +35,13 @@ static MESSAGES: [(&str, &str); 17] = [
     ("E9", "label used twice in a record"),
 ];
 
+/// A diagnostic: its code, and its range in the client's units.
+#[derive(Clone, Copy)]
+pub struct Diagnostic {
+    pub code: &'static str,
+    pub range: Range,
+}
+
 /// Returns a value for each diagnostic, in order.
 pub fn diagnostic_values(
     alloc: Global,
@@ -43,21 +52,55 @@ pub fn diagnostic_values(
     ensures values { IfOk result (λ values. items_view values.items ≡ diagnostics doc.now.encoding doc.now.text (map fault_of faults.now)) }
     ensures no_float { IfOk result (λ values. items_have_float (items_view values.items) ≡ false) }
 {
-    let mut values = Vec::new(alloc);
+    let found = diagnostics(alloc, doc, faults)?;
+    values_of(alloc, &found)
+}
+
+/// Returns the diagnostics of a text, in order.
+pub fn diagnostics(
+    alloc: Global,
+    doc: &Doc,
+    faults: &[Fault],
+) -> Result<Vec<Diagnostic>, AllocError>
+    requires { All (λ f. IsSpanOfText doc.now.text f.span) faults.now }
+    ensures { IfOk result (λ found. map diagnostic_data found.items ≡ map (diagnostic doc.now.encoding doc.now.text) (map fault_of faults.now)) }
+{
+    let mut found = Vec::new(alloc);
     for fault in faults {
-        values.push(diagnostic(alloc, doc, fault)?)?;
+        found.push(diagnostic_of(doc, fault))?;
+    }
+    Ok(found)
+}
+
+fn diagnostic_of(doc: &Doc, fault: &Fault) -> Diagnostic
+    requires { IsSpanOfText doc.now.text fault.now.span }
+    ensures { diagnostic_data result ≡ diagnostic doc.now.encoding doc.now.text (fault_of fault.now) }
+{
+    Diagnostic {
+        code: fault.code,
+        range: range_of(doc, fault.span),
+    }
+}
+
+/// Returns a value for each of these diagnostics, in order.
+pub fn values_of(alloc: Global, diagnostics: &[Diagnostic]) -> Result<Vec<Value>, AllocError>
+    ensures { IfOk result (λ values. map view values.items ≡ map diagnostic_data diagnostics.now) }
+{
+    let mut values = Vec::new(alloc);
+    for diagnostic in diagnostics {
+        values.push(diagnostic_value(alloc, *diagnostic)?)?;
     }
     Ok(values)
 }
 
-fn diagnostic(alloc: Global, doc: &Doc, fault: &Fault) -> Result<Value, AllocError>
-    requires { IsSpanOfText doc.now.text fault.now.span }
-    ensures { IfOk result (λ value. view value ≡ diagnostic doc.now.encoding doc.now.text (fault_of fault.now)) }
+/// Returns a diagnostic as a value (LSP 3.17, `Diagnostic`).
+pub fn diagnostic_value(alloc: Global, diagnostic: Diagnostic) -> Result<Value, AllocError>
+    ensures { IfOk result (λ value. view value ≡ diagnostic_data diagnostic) }
 {
     Object::new(alloc)
-        .text("code", fault.code)
-        .text("message", message_of(fault.code))
-        .value("range", range_value(alloc, doc, fault.span))
+        .text("code", diagnostic.code)
+        .text("message", message_of(diagnostic.code))
+        .value("range", written_range(alloc, diagnostic.range))
         .value("severity", Ok(Value::from(1u64)))
         .text("source", "fullsub")
         .finish()

@@ -2,23 +2,41 @@
 ghost use Rattle.std.specs.Prelude.{◌≡◌, IfOk};
 ghost use Rattle.serde_json.specs.View.{view};
 ghost use Rattle.lam_query.specs.Within.{IsSpanOfText};
-ghost use Rattle.lam_session.specs.Ranges.{position_value, range_value, location_value};
+ghost use Rattle.lam_session.specs.Ranges.{position_value, range_of, written_range, range_value, location_value};
 
 use crate::values::Object;
-use lam_text::{Doc, Position};
+use lam_text::{Doc, Position, Range};
 use lam_token::Span;
 use serde_json::Value;
 use std::alloc::{AllocError, Global};
 
 /// Returns the range of a span of the text.
+pub fn range_of(doc: &Doc, span: Span) -> Range
+    requires { IsSpanOfText doc.now.text span }
+    ensures { result ≡ range_of doc.now.encoding doc.now.text span }
+{
+    Range {
+        start: doc.position_of(span.start),
+        end: doc.position_of(span.end),
+    }
+}
+
+/// Returns a range as a value.
+pub fn written_range(alloc: Global, range: Range) -> Result<Value, AllocError>
+    ensures { IfOk result (λ value. view value ≡ written_range range) }
+{
+    Object::new(alloc)
+        .value("end", position_value(alloc, range.end))
+        .value("start", position_value(alloc, range.start))
+        .finish()
+}
+
+/// Returns the range of a span of the text as a value.
 pub fn range_value(alloc: Global, doc: &Doc, span: Span) -> Result<Value, AllocError>
     requires { IsSpanOfText doc.now.text span }
     ensures { IfOk result (λ value. view value ≡ range_value doc.now.encoding doc.now.text span) }
 {
-    Object::new(alloc)
-        .value("end", position_value(alloc, doc.position_of(span.end)))
-        .value("start", position_value(alloc, doc.position_of(span.start)))
-        .finish()
+    written_range(alloc, range_of(doc, span))
 }
 
 /// Returns the location of a span in the document with this URI.

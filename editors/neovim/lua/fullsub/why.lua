@@ -85,9 +85,11 @@ local function context_lines(context)
   return lines
 end
 
--- The lines of the tree, each premise below its conclusion and one step further in, and the place of the term of each line.
+-- The lines of the tree, each premise below its conclusion and one step further in, the place of the term of each line, and the
+-- number of the tree's first line.
 local function draw(buffer, derivation, encoding)
   local lines, places = context_lines(derivation.context), {}
+  local root = #lines + 1
   -- The last step is the root. A list of what is still to be drawn, since a derivation may be deeper than calls can be.
   local waiting = { { number = #derivation.steps, depth = 0 } }
   while #waiting > 0 do
@@ -105,7 +107,7 @@ local function draw(buffer, derivation, encoding)
       table.insert(waiting, { number = step.from[at] + 1, depth = this.depth + 1, role = at == 1 and first_role(step, this.role) or nil })
     end
   end
-  return lines, places
+  return lines, places, root
 end
 
 -- For 'foldexpr': a fold begins at each step, one deeper for each step in, and takes its premises along.
@@ -148,7 +150,7 @@ local function open_window()
   return buffer
 end
 
-local function open(source, lines, places, encoding)
+local function open(source, encoding, lines, places, root)
   local buffer = open_window()
   vim.bo[buffer].modifiable = true
   vim.api.nvim_buf_set_lines(buffer, 0, -1, false, lines)
@@ -164,7 +166,9 @@ local function open(source, lines, places, encoding)
   vim.keymap.set("n", "<Tab>", "za", { buffer = buffer })
   vim.keymap.set("n", "q", "<Cmd>close<CR>", { buffer = buffer })
   vim.keymap.set("n", "<CR>", function() go(source, places, encoding) end, { buffer = buffer })
-  vim.api.nvim_win_set_cursor(0, { 1, 0 })
+  -- Where there is no room for both, the window shows the tree without the context.
+  local top = #lines > vim.api.nvim_win_get_height(0) and root or 1
+  vim.fn.winrestview({ topline = top, lnum = root, col = 0 })
 end
 
 -- The client of our server; what older Neovims give here has those of other servers too.
@@ -182,7 +186,7 @@ function M.show()
   local source = vim.api.nvim_get_current_buf()
   local client = our_client(source)
   if not client then
-    return vim.notify("lam_server does not run here", vim.log.levels.WARN)
+    return vim.notify("lam_server is not running for this file", vim.log.levels.WARN)
   end
   local encoding = client.offset_encoding or "utf-16"
   local function answered(failure, derivation)
@@ -191,8 +195,7 @@ function M.show()
     elseif not derivation or derivation == vim.NIL then
       vim.notify("No type is shown here")
     else
-      local lines, places = draw(source, derivation, encoding)
-      open(source, lines, places, encoding)
+      open(source, encoding, draw(source, derivation, encoding))
     end
   end
   local request = { "fullsub/derivation", vim.lsp.util.make_position_params(0, encoding), answered, source }

@@ -3,9 +3,10 @@ use denote.Text.{Utf8}
 use denote.Shadow.{shadow}
 use Rattle.lam_rules.specs.ReadableLabels.{HaveReadableLabels}
 use Rattle.lam_rules.specs.Texts.{Text, plain_fields}
-use Rattle.lam_rules.specs.Types.{Fields, nodes_in}
+use Rattle.lam_rules.specs.Types.{Fields}
 use Rattle.lam_rules.specs.TypeViews.{fields_of}
 use Rattle.lam_check.proofs.PlainTypes.{AreFieldsLeft}
+use Rattle.lam_check.specs.Readable.{depth_in}
 use Rattle.lam_check.proofs.plain_types.+types.Given as goal
 
 -- A type asks for less than what it stands in, at each level.
@@ -26,7 +27,7 @@ abbrev pub invariant-record_at-loop-left : goal.invariant-record_at-loop-left
 invariant-record_at-loop-left l =
     shadow (Utf8 l.rest)
     × (length l.rest ≤ length l.text)
-    × ((fs : Fields) (rest : Text) → HaveReadableLabels fs → nodes_in fs ≤ l.levels → l.text ≡ plain_fields fs ++ (codes "}" ++ rest)
+    × ((fs : Fields) (rest : Text) → HaveReadableLabels fs → depth_in fs ≤ l.levels → l.text ≡ plain_fields fs ++ (codes "}" ++ rest)
     → AreFieldsLeft (fields_of l.fields.items) l.rest l.levels fs rest)
 
 abbrev pub decreases-record_at-loop-left : goal.decreases-record_at-loop-left

@@ -108,4 +108,4 @@ returns c = λ commands forms.
     let given = ap (map step_of) c.deref-2.ensures.value in
     let made = ap (map step_of) c.deref-3.ensures.value ∙ c.in_ok-steps.ensures.of_term commands forms.are_scopes in
     is_proof commands c.args.scopes.now c.args.resolved.now c.args.typing.now n c.args.entries.now x tree (core_of c.core_at-term.result.now) c.args.dialect forms c.requires.entries c.core_at-term.ensures
-    (ap (λ es. map (λ e. e.name) (map entry_of es)) (sym c.deref.ensures.value) ∙ c.in_ok-has_names.ensures.0 c.if-not-branch.false) least (c.check_type.ensures.0 c.if-not-check_type.false) (sym given ∙ c.in-None.ensures ∙ made)
+    (ap (λ es. map (λ e. e.name) (map entry_of es)) (sym c.deref.ensures.value) ∙ c.in_ok-has_names.ensures.0 c.if-not-branch.false) least c.requires.written (c.check_type.ensures.0 c.if-not-check_type.false) (sym given ∙ c.in-None.ensures ∙ made)

@@ -3,7 +3,7 @@ use Rattle.std.proofs.lemmas.List.{length-map}
 use Rattle.lam_rules.specs.TypingViews.{typing_tree_of}
 use Rattle.lam_query.specs.Sizes.{span_numbered}
 use Rattle.lam_query.specs.Views.{derivation_of, step_of}
-use Rattle.lam_check.specs.FirstFaults.{last_span}
+use Rattle.lam_check.specs.FirstFaults.{HasRange, last_span}
 use Rattle.lam_check.specs.inner.Verifying.{IsResultIn}
 use Rattle.lam_check.proofs.Counting.{last_counted}
 use Rattle.lam_check.proofs.Results.{IsSoFar, so_far_other, so_far_fault, all_terms, here_is, row_is}
@@ -15,8 +15,8 @@ loop-i-preserved-then-not-ends_at c = λ commands forms.
     let x = derivation_of c.args.derivation.now in
     let i = c.loop-i.i in
     let given = ap (λ ss. last_span (map step_of ss)) c.deref.ensures.value in
-    let other : last_span x.steps ≢ Some (span_numbered commands i) =
-    λ is. not_so c.ends_at.result c.if-not-ends_at.true (c.ends_at.ensures.1 (given ∙ row_is commands c.args.scopes.now x i forms.are_scopes is)) in
+    let other : HasRange commands x.steps i → ⊥ =
+    λ is. let row = row_is commands c.args.scopes.now x i forms.are_scopes is in not_so c.ends_at.result c.if-not-ends_at.true (c.ends_at.ensures.1 (row.0, given ∙ row.1)) in
     so_far_other commands x c.args.dialect i c.loop-i.first other (c.loop-i.invariant commands forms)
 
 pub returns-in_default : goal.returns-in_default
@@ -35,7 +35,7 @@ loop-i-preserved c = λ commands forms.
     let fault = rw c.in-Some.is at found in
     subst (λ r. IsSoFar commands x c.args.dialect (i + 1) (Some r)) (sym c.unwrap_or.ensures)
     (so_far_fault commands x c.args.dialect i c.loop-i.first c.in-Some.fault (omega (arith, size, c.loop-i-test.true, c.place_count-i-end.ensures))
-    (here_is commands c.args.scopes.now x i forms.are_scopes (sym given ∙ c.ends_at.ensures.0 c.if-not-ends_at.false)) fault.0 fault.1 (c.loop-i.invariant commands forms))
+    (here_is commands c.args.scopes.now x i forms.are_scopes (let row = c.ends_at.ensures.0 c.if-not-ends_at.false in (row.0, sym given ∙ row.1))) fault.0 fault.1 (c.loop-i.invariant commands forms))
 
 pub returns : goal.returns
 returns c = λ commands forms.

@@ -1,4 +1,4 @@
-use Rattle.std.proofs.Common.{◌++◌, map, refl, ◌∙◌}
+use Rattle.std.proofs.Common.{◌++◌, map, ◌∙◌}
 use Rattle.lam_syntax.specs.Views.{command_of}
 use Rattle.lam_typing.specs.Walk.{blames_of}
 use Rattle.lam_query.specs.TextFaults.{written_fault}
@@ -7,19 +7,19 @@ use Rattle.lam_query.proofs.FoundOfCommand.{large_written_type, large_term, all_
 use Rattle.lam_query.proofs.typed_commands.found_of.Goals as goal
 
 pub returns-in-Err-TooLarge-clause-found : goal.returns-in-Err-TooLarge-clause-found
-returns-in-Err-TooLarge-clause-found c names others bound =
-    let limit = rw c.in-Err-TooLarge.field-0-is at c.in-Err-TooLarge.ensures.limit in
+returns-in-Err-TooLarge-clause-found c b names others seen bound =
+    let limit = rw c.in-Err-TooLarge.field-0-is at (c.in-Err-TooLarge.ensures.limit b seen) in
     rw c.in-Err-TooLarge.field-0-is (large_written_type names others _ _ _ bound _ c.in-Err-TooLarge.span _ limit)
 
 pub returns-then-not-checked-clause-found : goal.returns-then-not-checked-clause-found
-returns-then-not-checked-clause-found c names others bound =
-    large_term names others _ _ _ bound _ _ c.in-Ok.stated c.in_ok-checked.checked _ _ c.in-Ok.ensures.stated c.in-Ok.ensures.limit
+returns-then-not-checked-clause-found c b names others seen bound =
+    large_term names others _ _ _ bound _ _ c.in-Ok.stated c.in_ok-checked.checked _ _ (c.in-Ok.ensures.stated b seen) (c.in-Ok.ensures.limit b seen)
     c.in_ok-checked.ensures.checked c.state_command.ensures.dialect c.len.result c.in_ok-span.span
     (c.len.ensures ∙ c.in_ok-checked.checked.types.ok.0) c.in_ok-span.ensures c.if-not-checked.true
 
 pub returns-clause-found : goal.returns-clause-found
-returns-clause-found c names others bound =
-    all_types names others _ _ _ bound _ _ c.in-Ok.stated c.in_ok-checked.checked _ _ c.in-Ok.ensures.stated c.in-Ok.ensures.limit
-    c.in_ok-checked.ensures.checked c.state_command.ensures.dialect _ c.check.ensures.keeps refl c.bound_number.ensures
-    (c.in_ok-faults_of.ensures ∙ (λ i. map written_fault (c.deref.ensures.value i) ++ map (own_fault (command_of c.args.command.now)) (blames_of (c.deref-2.ensures.value i))))
+returns-clause-found c b names others seen bound =
+    all_types names others _ _ _ bound _ _ c.in-Ok.stated c.in_ok-checked.checked _ _ (c.in-Ok.ensures.stated b seen) (c.in-Ok.ensures.limit b seen)
+    c.in_ok-checked.ensures.checked c.state_command.ensures.dialect _ c.check.ensures.keeps c.shrink_to_fit.ensures.items c.bound_number.ensures
+    (c.in_ok-faults.ensures ∙ (λ i. map written_fault (c.deref.ensures.value i) ++ map (own_fault (command_of c.args.command.now)) (blames_of (c.deref-2.ensures.value i))))
     c.if-not-checked.false

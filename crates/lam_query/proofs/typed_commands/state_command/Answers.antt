@@ -8,8 +8,8 @@ use Rattle.lam_query.proofs.typed_commands.state_command.Goals as goal
 
 pub intern_command-requires : goal.intern_command-requires
 intern_command-requires c =
-    seen_names_stand (types_in c.args.types.now) c.table_mut.result.now c.table_mut.ensures.table c.args.bound.now (command_of c.args.command.now)
-    c.in_ok-environment.field-0 (c.in_ok-environment.ensures (types_in c.args.types.now) (command_of c.args.command.now) c.requires.free c.requires.stand)
+    seen_names_stand (types_in c.args.types.now) c.table_mut.result.now c.table_mut.ensures.table c.requires.seen.0 (command_of c.args.command.now)
+    c.args.around c.requires.seen.1
 
 pub returns-in_err-statement-clause-sound : goal.returns-in_err-statement-clause-sound
 returns-in_err-statement-clause-sound c =
@@ -17,12 +17,12 @@ returns-in_err-statement-clause-sound c =
     (subst (λ old. Keeps old c.intern_command.new.table) c.table_mut.ensures.table c.in_err-statement.ensures.keeps)
 
 pub returns-in_err-statement-clause-limit : goal.returns-in_err-statement-clause-limit
-returns-in_err-statement-clause-limit c =
-    let p = err_from_is_err_and c.from_residual-in_err-statement.result c.from_residual-in_err-statement.ensures.1 in
+returns-in_err-statement-clause-limit c b seen =
+    let p = err_from_is_err_and c.from_residual.result c.from_residual.ensures.1 in
     let same = p.1 ∙ ap (λ y. Err y) p.2 in
-    seen_limit_err (types_in c.args.types.now) c.table_mut.result.now c.table_mut.ensures.table c.args.bound.now (command_of c.args.command.now)
-    c.in_ok-environment.field-0 (c.in_ok-environment.ensures (types_in c.args.types.now) (command_of c.args.command.now) c.requires.free c.requires.stand)
-    c.in_err-statement.field-0.0 c.from_residual-in_err-statement.result same c.in_err-statement.ensures.limit
+    seen_limit_err (types_in c.args.types.now) c.table_mut.result.now c.table_mut.ensures.table b (command_of c.args.command.now)
+    c.args.around seen
+    c.in_err-statement.field-0.0 c.from_residual.result same c.in_err-statement.ensures.limit
 
 pub returns-clause-sound : goal.returns-clause-sound
 returns-clause-sound c =
@@ -30,14 +30,14 @@ returns-clause-sound c =
     (subst (λ old. Keeps old c.intern_command.new.table) c.table_mut.ensures.table c.in_ok-statement.ensures.keeps)
 
 pub returns-clause-limit : goal.returns-clause-limit
-returns-clause-limit c =
-    seen_limit (types_in c.args.types.now) c.table_mut.result.now c.table_mut.ensures.table c.args.bound.now (command_of c.args.command.now)
-    c.in_ok-environment.field-0 (c.in_ok-environment.ensures (types_in c.args.types.now) (command_of c.args.command.now) c.requires.free c.requires.stand)
+returns-clause-limit c b seen =
+    seen_limit (types_in c.args.types.now) c.table_mut.result.now c.table_mut.ensures.table b (command_of c.args.command.now)
+    c.args.around seen
     ∙ c.in_ok-statement.ensures.limit
 
 pub returns-clause-stated : goal.returns-clause-stated
-returns-clause-stated c =
-    is_stated (types_in c.args.types.now) c.table_mut.result.now c.table_mut.ensures.table c.args.bound.now (command_of c.args.command.now)
-    c.in_ok-environment.field-0 (c.in_ok-environment.ensures (types_in c.args.types.now) (command_of c.args.command.now) c.requires.free c.requires.stand)
+returns-clause-stated c b seen =
+    is_stated (types_in c.args.types.now) c.table_mut.result.now c.table_mut.ensures.table b (command_of c.args.command.now)
+    c.args.around seen
     c.intern_command.new.table _ c.in_ok-statement.ensures.keeps refl
     c.in_ok-statement.ensures.statement c.in_ok-statement.ensures.stand c.in_ok-statement.ensures.faults

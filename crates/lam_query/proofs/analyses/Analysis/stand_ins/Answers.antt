@@ -4,7 +4,7 @@ use Rattle.lam_scope.specs.Names.{Name}
 use Rattle.lam_query.specs.inner.Entered.{entered}
 use Rattle.lam_query.specs.inner.Entries.{name_meant, type_name_meant, EntriesStand}
 use Rattle.lam_query.specs.inner.StandIns.{declared}
-use Rattle.lam_query.proofs.Entering.{names_in}
+use Rattle.lam_query.specs.inner.Bound.{names_in}
 use Rattle.lam_query.proofs.StandInsMade.{commands_are, names_are}
 use Rattle.lam_query.proofs.analyses.Analysis.stand_ins.Goals as goal
 

@@ -11,9 +11,9 @@ next c = record {
   fresh = sym c.in_default.ensures.value;
   one_more = c.in_ok-push.ensures.items;
   updates = λ x.
-      hash_map_updates_text (string_bytes c.in_ok-from_str.field-0) c.args.self.now.numbers c.insert.new.self (Some c.len-number.result) c.in_ok-insert.ensures.updates x
-      ∙ ap (λ y. update bytes_eq (number_of c.args.self.now) y (Some c.len-number.result) x) c.in_ok-from_str.ensures.ok
-      ∙ ap (λ n. update bytes_eq (number_of c.args.self.now) c.args.name.now (Some n) x) (c.len-number.ensures ∙ c.args.self.now.entries.ok.0);
+      hash_map_updates_text (string_bytes c.in_ok-from_str.field-0) c.args.self.now.numbers c.insert.new.self (Some c.len-count.result) c.in_ok-insert.ensures.updates x
+      ∙ ap (λ y. update bytes_eq (number_of c.args.self.now) y (Some c.len-count.result) x) c.in_ok-from_str.ensures.ok
+      ∙ ap (λ n. update bytes_eq (number_of c.args.self.now) c.args.name.now (Some n) x) (c.len-count.ensures ∙ c.args.self.now.entries.ok.0);
 }
 
 pub returns-clause-keeps : goal.returns-clause-keeps

@@ -16,4 +16,4 @@ returns c =
     rw (← c.self.view_is)
     (changed _ c.args.uri.now _ c.args.changes.now c.args.version _ _ (rw (← c.self.view_is) at c.requires)
     (λ text stands. ap (λ held. record { life = c.self.inside.life; encoding = held.encoding; dialect = held.dialect; documents = held.documents }) (c.in_ok-self-inside.ensures text stands))
-    c.in_ok-values.ensures)
+    c.in_ok-sent.ensures)

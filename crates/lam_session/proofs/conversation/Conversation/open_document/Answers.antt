@@ -15,4 +15,4 @@ returns c =
     rw (← c.self.view_is)
     (opens_found _ (view c.args.params.now) c.in-Ok.uri.now c.in-Some.text.now _ _ _ c.in-Ok.ensures c.in-Some.ensures c.given_version-version.ensures
     (ap (λ held. record { life = c.self.inside.life; encoding = held.encoding; dialect = held.dialect; documents = held.documents }) c.in_ok-self-inside.ensures)
-    c.in_ok-values.ensures)
+    c.in_ok-sent.ensures)

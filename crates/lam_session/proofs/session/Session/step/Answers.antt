@@ -1,15 +1,8 @@
-use Rattle.lam_session.proofs.OneAnswer.{has_one_answer}
-use Rattle.lam_session.proofs.Plain.{steps_plain, each_plain}
+use Rattle.std.proofs.Common.{sym, subst}
+use Rattle.serde_json.specs.View.{view}
+use Rattle.lam_session.proofs.Plain.{NoFloats, steps_plain, each_plain}
+use Rattle.lam_session.proofs.Silence.{sender_lives}
 use Rattle.lam_session.proofs.session.Session.step.Goals as goal
 
-pub returns-in_default-clause-one_answer : goal.returns-in_default-clause-one_answer
-returns-in_default-clause-one_answer c = has_one_answer _ _
-
-pub returns-in_err-conversation-clause-one_answer : goal.returns-in_err-conversation-clause-one_answer
-returns-in_err-conversation-clause-one_answer c = has_one_answer _ _
-
-pub returns-clause-one_answer : goal.returns-clause-one_answer
-returns-clause-one_answer c = has_one_answer _ _
-
 pub returns-clause-plain : goal.returns-clause-plain
-returns-clause-plain c = λ plain. each_plain c.in_ok-conversation.values.items (steps_plain _ _ _ _ plain c.in_ok-conversation.ensures.steps)
+returns-clause-plain c = λ plain. each_plain view c.in-Ok.values.items (subst NoFloats (sym c.in-Ok.ensures.values) (steps_plain _ _ _ _ plain c.in_ok-sent.ensures.answers.steps))

@@ -1,7 +1,0 @@
-use Rattle.std.proofs.Common.{drop}
-use Rattle.lam_query.specs.declared.bound.NameNo.TheVariants.{TypeName}
-use Rattle.lam_query.proofs.NumbersAsked.{AreListedBut}
-use Rattle.lam_query.proofs.bound.Meanings.push_type_names.Given as goal
-
-abbrev pub invariant-loop-i : goal.invariant-loop-i
-invariant-loop-i l = AreListedBut (λ n. TypeName n) l.names (drop l.i l.names) l.initial.self l.self l.initial.free_numbers.items l.free_numbers.items

@@ -1,6 +1,0 @@
-use Rattle.std.proofs.Common.{drop}
-use Rattle.lam_query.proofs.Entering.{AreEntered}
-use Rattle.lam_query.proofs.bound.enter_names.Given as goal
-
-abbrev pub invariant-loop-i : goal.invariant-loop-i
-invariant-loop-i l = AreEntered l.known l.names (drop l.i l.names) l.initial.environment l.environment l.entries.items

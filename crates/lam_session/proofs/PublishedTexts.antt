@@ -1,0 +1,63 @@
+-- The text of the notification with the diagnostics of a document, piece by piece.
+use Rattle.std.proofs.Common.{◌≡◌, ℕ, ℤ, ◌+◌, ◌<◌, ◌≤◌, List, [], ◌∷◌, ◌++◌, length, drop, map, get_or, drop-cons, add-one, true, false, Option, Some, codes, refl, sym, ap, ◌∙◌, append_assoc}
+use Rattle.std.proofs.Math.ListN.{drop_of_length-le}
+use Rattle.serde_json.specs.Data.{Data, Items, number, string}
+use Rattle.serde_json.specs.Find.{of_integer}
+use Rattle.serde_json.specs.View.{items_of}
+use Rattle.serde_json.specs.Written.{compact_text, items_text, members_text}
+use Rattle.serde_json.proofs.OnLiterals.{serde_json_on_literals}
+use Rattle.lam_session.specs.Sync.{published, version_member}
+
+-- ---- a list of values
+
+-- the texts of values, this separator before the first and commas before the others, and the closing bracket
+abbrev pub text_behind : List ℕ → List Data → List ℕ
+text_behind separator [] = 93 ∷ []
+text_behind separator (d ∷ ds) = separator ++ (compact_text d ++ items_text true (items_of ds))
+
+behind_comma : (ds : List Data) → text_behind (44 ∷ []) ds ≡ items_text true (items_of ds)
+behind_comma [] = refl
+behind_comma (d ∷ ds) = refl
+
+pub behind_nothing : (ds : List Data) → text_behind [] ds ≡ items_text false (items_of ds)
+behind_nothing [] = refl
+behind_nothing (d ∷ ds) = refl
+
+-- one value more
+pub text_more : {A : Type 0} (shown : A → Data) (text separator one : List ℕ) (xs : List A) (i : ℕ) (x : A) → i < length xs → one ≡ compact_text (shown (get_or xs i x))
+    → ((text ++ separator) ++ one) ++ text_behind (44 ∷ []) (map shown (drop (i + 1) xs)) ≡ text ++ text_behind separator (map shown (drop i xs))
+text_more shown text separator one xs i x inside is =
+    ap (λ l. ((text ++ separator) ++ one) ++ l) (behind_comma (map shown (drop (i + 1) xs)))
+    ∙ append_assoc (text ++ separator) one (items_text true (items_of (map shown (drop (i + 1) xs))))
+    ∙ append_assoc text separator (one ++ items_text true (items_of (map shown (drop (i + 1) xs))))
+    ∙ ap (λ l. text ++ (separator ++ (l ++ items_text true (items_of (map shown (drop (i + 1) xs)))))) is
+    ∙ ap (λ n. text ++ text_behind separator (map shown (get_or xs i x ∷ drop n xs))) (add-one i)
+    ∙ ap (λ l. text ++ text_behind separator (map shown l)) (sym (drop-cons xs i x inside))
+
+-- ---- the notification
+
+-- the text before its list of diagnostics
+abbrev pub front : List ℕ
+front = codes "{\"jsonrpc\":\"2.0\",\"method\":\"textDocument/publishDiagnostics\",\"params\":{\"diagnostics\":["
+
+grouped : (front faults key uri version end : List ℕ) → ((((front ++ faults) ++ key) ++ uri) ++ version) ++ end ≡ front ++ ((faults ++ (key ++ (uri ++ version))) ++ end)
+grouped front faults key uri version end = simp append_assoc refl
+
+-- the text of a list, then the rest of the params and of the notification
+pub published_text : (uri : List ℕ) (version : Option ℤ) (faults : Items) (text : List ℕ)
+    → text ++ 125 ∷ [] ≡ (((front ++ items_text false faults) ++ codes ",\"uri\":") ++ compact_text (string uri)) ++ members_text true (version_member version)
+    → text ++ 125 ∷ 125 ∷ [] ≡ compact_text (published uri version faults)
+unfolding serde_json_on_literals
+published_text uri version faults text is =
+    sym (append_assoc text (125 ∷ []) (125 ∷ []))
+    ∙ ap (λ l. l ++ 125 ∷ []) is
+    ∙ grouped front (items_text false faults) (codes ",\"uri\":") (compact_text (string uri)) (members_text true (version_member version)) (125 ∷ [])
+
+-- the member for the version, written in two pieces
+pub version_text : (old middle new : List ℕ) (version : ℤ) (d : Data) → middle ≡ old ++ codes ",\"version\":" → d ≡ number (of_integer version)
+    → new ≡ middle ++ compact_text d → new ++ 125 ∷ [] ≡ old ++ members_text true (version_member (Some version))
+unfolding serde_json_on_literals
+version_text old middle new version d key value is =
+    ap (λ l. l ++ 125 ∷ []) (is ∙ ap (λ l. l ++ compact_text d) key ∙ ap (λ v. (old ++ codes ",\"version\":") ++ compact_text v) value)
+    ∙ append_assoc (old ++ codes ",\"version\":") (compact_text (number (of_integer version))) (125 ∷ [])
+    ∙ append_assoc old (codes ",\"version\":") (compact_text (number (of_integer version)) ++ 125 ∷ [])
