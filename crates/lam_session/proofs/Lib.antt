@@ -11,7 +11,6 @@ pub mod QuestionLaws
 pub mod MethodLemmas
 pub mod Plain
 pub mod PlainIds
-pub mod Silence
 pub mod EntryLemmas
 pub mod ChangeSteps
 pub mod AloneRuns

@@ -1,6 +1,5 @@
 -- The text of the notification with the diagnostics of a document, piece by piece.
-use Rattle.std.proofs.Common.{◌≡◌, ℕ, ℤ, ◌+◌, ◌<◌, ◌≤◌, List, [], ◌∷◌, ◌++◌, length, drop, map, get_or, drop-cons, add-one, true, false, Option, Some, codes, refl, sym, ap, ◌∙◌, append_assoc}
-use Rattle.std.proofs.Math.ListN.{drop_of_length-le}
+use Rattle.std.proofs.Common.{◌≡◌, ℕ, ℤ, ◌+◌, ◌<◌, List, [], ◌∷◌, ◌++◌, length, drop, map, get_or, drop-cons, add-one, true, false, Option, Some, codes, refl, sym, ap, ◌∙◌, append_assoc}
 use Rattle.serde_json.specs.Data.{Data, Items, number, string}
 use Rattle.serde_json.specs.Find.{of_integer}
 use Rattle.serde_json.specs.View.{items_of}
@@ -18,10 +17,6 @@ text_behind separator (d ∷ ds) = separator ++ (compact_text d ++ items_text tr
 behind_comma : (ds : List Data) → text_behind (44 ∷ []) ds ≡ items_text true (items_of ds)
 behind_comma [] = refl
 behind_comma (d ∷ ds) = refl
-
-pub behind_nothing : (ds : List Data) → text_behind [] ds ≡ items_text false (items_of ds)
-behind_nothing [] = refl
-behind_nothing (d ∷ ds) = refl
 
 -- one value more
 pub text_more : {A : Type 0} (shown : A → Data) (text separator one : List ℕ) (xs : List A) (i : ℕ) (x : A) → i < length xs → one ≡ compact_text (shown (get_or xs i x))

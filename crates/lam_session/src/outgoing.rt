@@ -20,8 +20,7 @@ pub enum Outgoing {
     Diagnostics(Published),
 }
 
-/// The diagnostics of a document. A `Value` takes thirty times the memory of its text, so that of a diagnostic exists only while
-/// it is written.
+/// The diagnostics of a document. As a `Value` each would take some 4 KB, so it becomes one only while it is written.
 #[derive(Drop)]
 pub struct Published {
     pub(crate) uri: String,
@@ -51,7 +50,7 @@ impl Outgoing {
     }
 }
 
-/// Returns the value of each message, in order.
+/// Returns the value of each message, in order. Does not fail if there is none.
 pub fn into_values(alloc: Global, sent: Vec<Outgoing>) -> Result<Vec<Value>, AllocError>
     ensures values { IfOk result (λ values. map view values.items ≡ map data_of sent.items) }
     ensures some { OnErr result (map data_of sent.items ≢ []) }
@@ -108,7 +107,7 @@ fn write_diagnostics(
     text.push_str("]")
 }
 
-/// Appends the member for the version, if there is one.
+/// Appends the member for the version, if there is one. The object is not closed: its brace is the 125.
 fn write_version(alloc: Global, text: &mut String, version: Option<i64>) -> Result<(), AllocError>
     ensures { OnOk result (string_bytes text.new ++ 125 ∷ [] ≡ string_bytes text.old ++ members_text true (version_member version)) }
 {

@@ -1,7 +1,6 @@
 use Rattle.std.proofs.Common.{sym, subst}
 use Rattle.serde_json.specs.View.{view}
 use Rattle.lam_session.proofs.Plain.{NoFloats, steps_plain, each_plain}
-use Rattle.lam_session.proofs.Silence.{sender_lives}
 use Rattle.lam_session.proofs.session.Session.step.Goals as goal
 
 pub returns-clause-plain : goal.returns-clause-plain
