@@ -235,6 +235,7 @@ NAMES = [{"name": "point", "type": WIDE}, {"name": "next", "type": "{x:Nat}->Nat
 ACCEPTED = f"d: accepted: point:{WIDE}, next:{{x:Nat}}->Nat |- next point : Nat\n"
 BELOW = "step {} does not follow by its rule from its premises"
 ENTRY = "d: entry {} of the context is not the least type of its name\n"
+OTHER_NAMES = "d: the context has other names than those that the term sees\n"
 # A name of a term, a declared one, and a use of the first.
 USED = "r = {a=0, b=true}; s : {b:Bool, a:Nat}; r"
 
@@ -243,6 +244,16 @@ def used(first, second):
     """A line with a derivation of the use of the name in the file `a`, in the context of these types."""
     names = [{"name": "r", "type": first}, {"name": "s", "type": second}]
     return line({"derivation": {"context": names, "steps": [{"from": [], "range": place(0, 40, 41), "rule": "T-Var", "type": first}]}, "file": "a"})
+
+
+def step(rule, start, end, ty, *premises):
+    """A step about a term in the first line."""
+    return {"from": list(premises), "range": place(0, start, end), "rule": rule, "type": ty}
+
+
+def derived(text, *steps):
+    """The text in the file `a`, and a line with these steps about it, in no context."""
+    return {"a": text, "d": line({"derivation": {"context": [], "steps": list(steps)}, "file": "a"})}
 
 
 def sent(change=None, names=None, steps=None):
@@ -346,6 +357,8 @@ CASES = [
     Case("JSON is cut", ["--verify", "d"], {"a": CALL, "d": sent()[:14]}, "d: it is no JSON: EOF while parsing at line 1 column 14\n", 1),
     Case("derivations not in UTF-8", ["--verify", "d"], {"d": b"\xff"}, "", 4, refused("d", "it is not UTF-8 from byte 0 on")),
     Case("a text that is gone", ["--verify", "d"], {"d": sent()}, "", 4, refused("a", "No such file or directory (os error 2)")),
+    Case("the function that a letrec stands for", ["--verify", "d"], derived("letrec f:Nat->Nat = lambda n:Nat. n in f 0", step("T-Var", 34, 35, "Nat"), step("T-Abs", 20, 35, "Nat->Nat", 0), step("T-Abs", 20, 35, "(Nat->Nat)->Nat->Nat", 1)), OTHER_NAMES, 1),
+    Case("the fix that a letrec stands for", ["--verify", "d"], derived("letrec x:Nat = x in 0", step("T-Var", 15, 16, "Nat"), step("T-Abs", 15, 16, "Nat->Nat", 0), step("T-Fix", 15, 16, "Nat", 1)), OTHER_NAMES, 1),
     Case("blank lines between derivations", ["--verify", "d"], {"a": CALL, "d": sent() + "\n \r\n" + sent() + "\n"}, ACCEPTED + ACCEPTED, 0),
     Case("control characters in the name of a file of derivations", ["--verify", "d\x1b[2J"], {"a": CALL, "d\x1b[2J": sent()}, ACCEPTED.replace("d:", "d\ufffd[2J:", 1), 0),
     Case("control characters in the name of a text", ["--verify", "d"], {"d": line({"derivation": STEPS, "file": "a\x1b[2J"})}, "", 4, refused("a\ufffd[2J", "No such file or directory (os error 2)")),

@@ -1,5 +1,5 @@
 -- What is found wrong with a derivation: as one about a term, about a term of some commands, and in a text.
-use Rattle.std.proofs.Common.{◌≡◌, ◌≢◌, ℕ, zero, suc, ◌+◌, ◌<◌, ◌≤◌, min, List, [], ◌∷◌, length, get_or, take, map, slice_get, Option, Some, None, false, refl, sym, ap, subst, ◌∙◌, arith}
+use Rattle.std.proofs.Common.{◌≡◌, ℕ, zero, suc, ◌+◌, ◌<◌, ◌≤◌, min, List, [], ◌∷◌, length, get_or, take, map, slice_get, Option, Some, None, false, refl, sym, ap, subst, ◌∙◌, arith}
 use Rattle.std.specs.Option.{unwrap_or}
 use Rattle.std.proofs.lemmas.List.{length-map, take-map}
 use Rattle.lam_query.specs.Views.{step_of}
@@ -15,7 +15,7 @@ use Rattle.lam_scope.specs.declared.scopes.Scopes.{Scopes}
 use Rattle.lam_query.specs.Commands.{AreCommandsOfText}
 use Rattle.lam_query.specs.Derivations.{Derivation}
 use Rattle.lam_query.specs.ProofTrees.{typing_tree_in}
-use Rattle.lam_query.specs.Sizes.{IsSizeFault, IsSmall, span_numbered}
+use Rattle.lam_query.specs.Sizes.{IsSizeFault, IsSmall}
 use Rattle.lam_query.specs.Steps.{Proof, Step, steps_of, typing_proof}
 use Rattle.lam_query.proofs.OneAnswer.{one_document}
 use Rattle.lam_query.proofs.ReadTrees.{tree_read}

@@ -1,7 +1,6 @@
-use Rattle.std.proofs.Common.{◌≢◌, ◌+◌, map, Some, ap, sym, subst, ◌∙◌, arith}
+use Rattle.std.proofs.Common.{◌+◌, map, Some, ap, sym, subst, ◌∙◌, arith}
 use Rattle.std.proofs.lemmas.List.{length-map}
 use Rattle.lam_rules.specs.TypingViews.{typing_tree_of}
-use Rattle.lam_query.specs.Sizes.{span_numbered}
 use Rattle.lam_query.specs.Views.{derivation_of, step_of}
 use Rattle.lam_check.specs.FirstFaults.{HasRange, last_span}
 use Rattle.lam_check.specs.inner.Verifying.{IsResultIn}
