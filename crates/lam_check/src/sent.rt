@@ -4,7 +4,8 @@ use crate::files::{ReadFault, text_of};
 use crate::lines::shown_line;
 use crate::verdicts::{sent_of, verdict};
 use crate::{
-    DEVICE, FAULTLESS, FAULTY, STANDARD_INPUT, shown_name, tell, tell_checked, tell_of, want_of_memory,
+    DEVICE, FAULTLESS, FAULTY, STANDARD_INPUT, shown_name, tell, tell_checked, tell_of,
+    want_of_memory,
 };
 use serde_json::{Category, Error, Value};
 use std::rt::Files;
