@@ -27,7 +27,9 @@ hostile:
 install: all
 	install -D crates/lam_server/out/lam_server $(PREFIX)/bin/lam_server
 	install -D crates/lam_check/out/lam_check $(PREFIX)/bin/lam_check
+	python3 package/manual.py $(PREFIX)/bin/lam_server $(PREFIX)/share/man/man1
 	python3 rows/play.py --show --program $(PREFIX)/bin/lam_server rows/example.rows
+	@case ":$$PATH:" in *":$(PREFIX)/bin:"*) ;; *) echo "$(PREFIX)/bin is not on your PATH: add it";; esac
 
 editors:
 	@python3 editors/install.py $(EDITORS)

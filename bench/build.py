@@ -8,7 +8,6 @@ not changed is not built again.
 """
 
 import concurrent.futures
-import glob
 import os
 import subprocess
 import sys
@@ -16,8 +15,11 @@ import time
 
 PROGRAMS = ("lam_server", "lam_check")
 ROOT = os.path.join(os.path.dirname(os.path.realpath(__file__)), "..")
-# Seconds of one processor for a line, while nothing was measured yet.
-SECONDS_A_LINE = 0.06
+# Minutes of processor time that each crate took from nothing, on a machine of 2.5 GHz.
+MINUTES = {
+    "lam_token": 2, "lam_text": 1, "lam_frame": 2, "lam_rpc": 2, "lam_rules": 5, "lam_sub": 1, "lam_lattice": 2, "lam_syntax": 4,
+    "lam_scope": 16, "lam_typing": 9, "lam_query": 17, "lam_session": 8, "lam_server": 5, "lam_check": 8,
+}
 
 
 def crates():
@@ -46,16 +48,6 @@ def needed(below):
     return found
 
 
-def lines(name):
-    """How long the crate's sources, definitions and proofs are, by which its time is guessed."""
-    count = 0
-    for part in ("src", "specs", "proofs"):
-        for file in glob.glob(f"{ROOT}/crates/{name}/{part}/**/*.*t*", recursive=True):
-            with open(file, encoding="utf-8") as it:
-                count += sum(1 for _ in it)
-    return count
-
-
 def chains(below, work):
     """For each crate how long it is, with the longest chain of crates from it up to a program."""
     length = {}
@@ -73,10 +65,10 @@ def prove(name, jobs):
     return done.returncode == 0
 
 
-def seconds_a_line(taken, work):
-    """What a line took, of the crates that were not built before."""
-    measured = [it for it in taken if taken[it] > 5]
-    return sum(taken[it] for it in measured) / sum(work[it] for it in measured) if measured else SECONDS_A_LINE
+def seconds_left(below, done, cores):
+    """A guess: as long as the processors need for all crates that are left, or two of them for the longest chain of these."""
+    work = {it: 0 if it in done else MINUTES[it] for it in needed(below)}
+    return 60 * max(sum(work.values()) / cores, max(chains(below, work).values()) / min(2, cores))
 
 
 def clock(seconds):
@@ -86,24 +78,24 @@ def clock(seconds):
 def main():
     below, start = crates(), time.monotonic()
     left, cores = needed(below), len(os.sched_getaffinity(0))
-    work, taken, running = {it: lines(it) for it in left}, {}, {}
-    left.sort(key=chains(below, work).get, reverse=True)
-    print(f"{len(left)} crates to prove on {cores} processors, about {clock(sum(work.values()) * SECONDS_A_LINE / 2)} from nothing", flush=True)
+    done, running, count = set(), {}, len(left)
+    left.sort(key=chains(below, MINUTES).get, reverse=True)
+    print(f"{count} crates to prove on {cores} processors, about {clock(seconds_left(below, done, cores))} from nothing", flush=True)
     with concurrent.futures.ThreadPoolExecutor(cores) as pool:
         while left or running:
-            ready = [it for it in left if all(lower in taken for lower in below[it])]
+            ready = [it for it in left if done.issuperset(below[it])]
             jobs = max(1, min(4, cores // max(1, len(ready) + len(running))))
             for name in ready[: cores - len(running)]:
                 left.remove(name)
-                running[pool.submit(prove, name, jobs)] = name, time.monotonic()
+                running[pool.submit(prove, name, jobs)] = name
             for it in concurrent.futures.wait(running, return_when=concurrent.futures.FIRST_COMPLETED).done:
-                name, began = running.pop(it)
+                name = running.pop(it)
                 if not it.result():
                     sys.exit(f"{name} is not proved")
-                taken[name] = time.monotonic() - began
-                rest = sum(work[it] for it in work if it not in taken) * seconds_a_line(taken, work) / 2
-                ahead = f", about {clock(rest)} left" if rest else ""
-                print(f"{name} is proved: {len(taken)} of {len(work)} crates, {clock(time.monotonic() - start)}{ahead}", flush=True)
+                done.add(name)
+                rest = seconds_left(below, done, cores)
+                ahead = f", at most about {clock(rest)} left" if rest else ""
+                print(f"{name} is proved: {len(done)} of {count} crates, {clock(time.monotonic() - start)}{ahead}", flush=True)
 
 
 if __name__ == "__main__":

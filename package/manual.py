@@ -1,5 +1,6 @@
 #!/usr/bin/env python3
-"""manual.py PROGRAM: prints the manual page, made from what `PROGRAM --help` prints and from lam_server.1.in beside this script.
+"""manual.py PROGRAM FOLDER: writes the manual pages of both programs to the folder. That of the language server, which is PROGRAM, is made from what
+`PROGRAM --help` prints and from lam_server.1.in beside this script.
 
 What the program says of itself, its options and its exit status stands in its help alone, so page and program agree. A line of the help
 that is not understood is an error. package.py takes from here the completion for bash too, of both programs.
@@ -92,5 +93,13 @@ def completion(program):
     )
 
 
+def main(program, folder):
+    """Writes the manual pages."""
+    os.makedirs(folder, exist_ok=True)
+    for name, page in (("lam_server", manual(program)), ("lam_check", checker_manual())):
+        with open(f"{folder}/{name}.1", "w", encoding="utf-8") as it:
+            it.write(page)
+
+
 if __name__ == "__main__":
-    print(manual(sys.argv[1]), end="")
+    main(*sys.argv[1:])

@@ -23,6 +23,9 @@ def built(named):
     programs = named or [it for it in (BUILT, BUILT + ".by-rattle") if os.path.isfile(it)]
     if not programs:
         sys.exit("there is no program to play against: run make, or name one by --program")
+    for it in programs:
+        if not os.path.isfile(it):
+            sys.exit(f"there is no program {it}")
     return programs
 
 
