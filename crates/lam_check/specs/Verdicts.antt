@@ -1,6 +1,7 @@
 -- What is reported on a derivation that was sent.
-use Rattle.std.specs.Prelude.{◌≡◌, ℕ, List, [], ◌∷◌, ◌++◌, Option, Some, None, codes, decimal, flat_map}
-use Rattle.serde_json.specs.Data.{Data}
+use Rattle.std.specs.Prelude.{◌≡◌, ◌⊎◌, ℕ, List, [], ◌∷◌, ◌++◌, Option, Some, None, codes, decimal, flat_map}
+use Rattle.serde_json.specs.Data.{Data, object, member, no_members}
+use Rattle.serde_json.specs.Find.{as_str}
 use Rattle.lam_rules.specs.Texts.{Text, plain_text}
 use Rattle.lam_rules.specs.Types.{Typ}
 use Rattle.lam_rules.specs.declared.rules.Dialect.{Dialect}
@@ -15,6 +16,18 @@ use Rattle.lam_check.specs.Verified.{IsVerifiedValue}
 use Rattle.lam_check.specs.declared.first_faults.FirstFault.{FirstFault}
 use Rattle.lam_check.specs.declared.first_faults.FirstFault.TheVariants as faults
 use Rattle.lam_check.specs.declared.terms.Role.TheVariants as roles
+
+-- ---- values that were sent
+
+-- a derivation with the name of the file that it is about: an object with exactly these members
+abbrev pub with_file : (derivation file : Data) → Data
+with_file derivation file = object (member (codes "derivation") derivation (member (codes "file") file no_members))
+
+-- The derivation in a value and the name of its file: those of the two members if there are exactly these, otherwise the whole value and no name.
+abbrev pub IsSent : (value derivation : Data) → (file : Option Text) → Type 0
+IsSent value derivation file =
+    ((named : Data) × (value ≡ with_file derivation named) × (file ≡ as_str named))
+    ⊎ (((d named : Data) → value ≡ with_file d named → ⊥) × (derivation ≡ value) × (file ≡ None))
 
 -- ---- accepted derivations
 

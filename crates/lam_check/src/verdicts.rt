@@ -1,10 +1,10 @@
 //! The results of verifying derivations.
-ghost use Rattle.std.specs.Prelude.{◌≡◌, ◌++◌, ◌∷◌, [], All, IfOk, OnOk, codes, flat_map, map, string_bytes};
+ghost use Rattle.std.specs.Prelude.{◌≡◌, ◌++◌, ◌∷◌, [], All, IfOk, OnOk, codes, flat_map, map, option_map, string_bytes};
 ghost use Rattle.serde_json.specs.View.{view};
 ghost use Rattle.lam_query.specs.Views.{StepStandsIn, derivation_of, entry_of, step_of};
 ghost use Rattle.lam_check.specs.FirstFaults.{last_conclusion};
 ghost use Rattle.lam_check.specs.Readable.{IsReadable};
-ghost use Rattle.lam_check.specs.Verdicts.{IsVerdict, accepted_line, claim_in, context_text, entry_text, message, next_entry, refused_line};
+ghost use Rattle.lam_check.specs.Verdicts.{IsSent, IsVerdict, accepted_line, claim_in, context_text, entry_text, message, next_entry, refused_line};
 ghost use Rattle.lam_check.specs.Verified.{IsVerifiedValue};
 ghost use Rattle.lam_check.specs.declared.read_derivations.Unread.TheVariants.{Memory};
 
@@ -21,7 +21,9 @@ use serde_json::Value;
 use std::alloc::{AllocError, Global};
 
 /// Splits a value into the derivation and the name of the file that it is about, if given.
-pub fn sent_of(value: &Value) -> (&Value, Option<&str>) {
+pub fn sent_of(value: &Value) -> (&Value, Option<&str>)
+    ensures { IsSent (view value.now) (view result.0.now) (option_map (λ s. s.now) result.1) }
+{
     match two_members(value, "derivation", "file") {
         Some((derivation, file)) => (derivation, file.as_str()),
         None => (value, None),
@@ -29,7 +31,8 @@ pub fn sent_of(value: &Value) -> (&Value, Option<&str>) {
 }
 
 /// Verifies that a value is a derivation of a term of the text. The report says so, or names the first error. A value can be
-/// accepted although its derivation is not readable, as one with a type of more than 4,096 nodes; so there are two clauses.
+/// accepted although its derivation is not readable, as one with a type that is a little deeper than 4,096; so there are two
+/// clauses.
 pub fn verdict(
     alloc: Global,
     name: &str,
