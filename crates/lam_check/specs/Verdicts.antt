@@ -64,7 +64,7 @@ unfoldable pub message : FirstFault → Text
 message faults.NoStep = codes "it has no step"
 message faults.TooDeep = codes "its steps follow from each other on more than 16,384 levels"
 message (faults.Premises n) = codes "the steps that step " ++ decimal n ++ codes " follows from are not the last ones before it"
-message (faults.Loose n) = codes "step " ++ decimal n ++ codes " is the last one, and no typing that follows from all others"
+message (faults.Loose n) = codes "the steps do not make one proof of typing that ends in step " ++ decimal n
 message faults.TooLarge = codes "the text has a type of more than 4,096 nodes"
 message (faults.NoTerm n) = codes "step " ++ decimal n ++ codes " is about no term of the text"
 message faults.Names = codes "the context has other names than those that the term sees"

@@ -96,7 +96,7 @@ fn message_of(alloc: Global, fault: FirstFault) -> Result<String, AllocError>
         FirstFault::Loose(step) => {
             write!(
                 out,
-                "step {step} is the last one, and no typing that follows from all others"
+                "the steps do not make one proof of typing that ends in step {step}"
             )?;
         }
         FirstFault::TooLarge => out.push_str("the text has a type of more than 4,096 nodes")?,
