@@ -99,6 +99,7 @@ abbrev mutual
   sub_judgements_each no_subs = []
   sub_judgements_each (sub_first p ps) = sub_judgements p ++ sub_judgements_each ps
 
+-- those of a proof of subtyping, if there is one
 abbrev pub side_judgements : Option SubTree → List Judgement
 side_judgements None = []
 side_judgements (Some q) = sub_judgements q

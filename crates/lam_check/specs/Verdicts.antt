@@ -31,11 +31,12 @@ IsSent value derivation file =
 
 -- ---- accepted derivations
 
--- an entry of a context, as in `x:Nat`; the name alone if it has no type
+-- the type of an entry behind its name, if it has one
 abbrev pub type_behind : Option Typ → Text
 type_behind None = []
 type_behind (Some t) = codes ":" ++ plain_text t
 
+-- an entry of a context, as in `x:Nat`; the name alone if it has no type
 abbrev pub entry_text : ContextEntry → Text
 entry_text e = e.name ++ type_behind e.type
 
