@@ -8,18 +8,9 @@ use Rattle.lam_rules.specs.TypingViews.{typings_made}
 use Rattle.lam_query.specs.ProofTrees.{Tree, of_typing, of_subtyping, Premises, typing_premises, sub_premises, tree_from, tree_in, trees_in, if_typing}
 use Rattle.lam_query.specs.Steps.{Conclusion, typing, subtyping, Step, Proof, concludes, Proofs, no_proofs, proof_first, steps_before, number_of_steps}
 use Rattle.lam_query.proofs.Flat.{length_of_steps}
+use Rattle.lam_query.proofs.RebuiltTrees.{then_found, map_found}
 use Rattle.lam_check.specs.FirstFaults.{MakeTree}
 use Rattle.lam_check.specs.Judgements.{steps_in, steps_in_each, side_steps_in, sub_steps_in, sub_steps_in_each}
-
--- options that were found one after another
-
-then_found : {A B : Type 0} (f : A → Option B) (o : Option A) (y : B) → option_and_then f o ≡ Some y → (x : A) × (o ≡ Some x) × (f x ≡ Some y)
-then_found f (Some x) y e = (x, refl, e)
-then_found f None y e = let clash : None ≡ Some y = e in absurd cc
-
-map_found : {A B : Type 0} (f : A → B) (o : Option A) (y : B) → option_map f o ≡ Some y → (x : A) × (o ≡ Some x) × (f x ≡ y)
-map_found f (Some x) y e = let same : Some (f x) ≡ Some y = e in (x, refl, cc)
-map_found f None y e = let clash : None ≡ Some y = e in absurd cc
 
 -- the number of nodes
 

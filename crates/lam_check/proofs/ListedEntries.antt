@@ -25,6 +25,7 @@ use Rattle.lam_scope.specs.declared.numbers.Origin.TheVariants.{Lambda, Term as 
 use Rattle.lam_scope.specs.declared.resolved.Resolved.{Resolved}
 use Rattle.lam_scope.specs.declared.scopes.Scopes.{Scopes}
 use Rattle.lam_scope.proofs.PlacedPlaces.{same_places}
+use Rattle.lam_scope.proofs.Reading.{map-reverse}
 use Rattle.lam_scope.proofs.ScopeBindings.{sight_origins}
 use Rattle.lam_scope.proofs.SeenOrigins.{visible_origins}
 use Rattle.lam_scope.proofs.WellFormedForms.{document-wf}
@@ -191,11 +192,6 @@ turned R xs ys n long h =
     (subst (λ l. FirstWrong R (reverse xs) l (n + 0)) (append-nil (reverse ys))
     (subst (λ l. FirstWrong R l (reverse ys ++ []) (n + 0)) (append-nil (reverse xs)) (outward R [] [] xs ys n tt h.before long h.inside h.not_there)))
 
-map_reversed : {A B : Type 0} (f : A → B) (xs : List A) → map f (reverse xs) ≡ reverse (map f xs)
-map_reversed f [] = refl
-map_reversed f (x ∷ xs) =
-    ap (map f) (reverse-append (x ∷ []) xs) ∙ map-append f (reverse xs) (x ∷ []) ∙ ap (λ l. l ++ f x ∷ []) (map_reversed f xs) ∙ sym (reverse-append (f x ∷ []) (map f xs))
-
 mapped_wrong : {A B C : Type 0} (R : A → C → Type 0) (Q : B → C → Type 0) (f : A → B) (xs : List A) (ys : List C) (n : ℕ) → ((x : A) (y : C) → R x y → Q (f x) y) → ((x : A) (y : C) → Q (f x) y → R x y)
     → FirstWrong R xs ys n → FirstWrong Q (map f xs) ys n
 mapped_wrong R Q f [] ys n there back h = absurd h
@@ -330,7 +326,7 @@ module _ (cs : List CommandTree) (scopes : Scopes) (resolved : Resolved) (typing
       let there : (place_numbered Stated n).scope ≡ (term_of (tree_in (document_terms cs) n)).place.scope = ap (λ (p : Place). p.scope) (number_told cs n) in
       let size : length bs ≡ length types = sym long ∙ sym (length-map entries written_of) in
       let inward = mapped_wrong ByNumber ByOrigin origin_of (reverse bs) (reverse types) k at_origin at_number (turned ByNumber bs types k size h) in
-      let own = subst (λ os. FirstWrong ByOrigin os (reverse types) k) (map_reversed origin_of bs ∙ ap reverse visible ∙ reverse-reverse sight) inward in
+      let own = subst (λ os. FirstWrong ByOrigin os (reverse types) k) (map-reverse origin_of bs ∙ ap reverse visible ∙ reverse-reverse sight) inward in
       subst (λ s. IsFirstOtherEntry s (context_of entries) d k) there
       (first_other Stated Found sight (place_numbered Stated n).scope (context_of entries) d k (sight_origins cs n) (sight_least n within)
       (subst (λ g. FirstWrong ByOrigin sight g k) (sym (context_reversed entries)) own))

@@ -8,20 +8,10 @@ use Rattle.lam_query.specs.Steps.{Step, Proof, concludes, Proofs, no_proofs, pro
 use Rattle.lam_query.specs.Views.{step_of}
 use Rattle.lam_query.specs.declared.answers.Step.{Step as RustStep}
 use Rattle.lam_query.proofs.Flat.{length_of_steps, length_of_steps_of_each}
+use Rattle.lam_query.proofs.RebuiltTrees.{joined, steps_joined, number_joined}
 use Rattle.lam_check.specs.FirstFaults.{AreOfProofs, IsFirstMisplaced}
 
 -- ---- proofs one after another
-
-abbrev joined : Proofs → Proofs → Proofs
-joined no_proofs qs = qs
-joined (proof_first p ps) qs = proof_first p (joined ps qs)
-
-steps_joined : (n : ℕ) (ps qs : Proofs) → steps_of_each n (joined ps qs) ≡ steps_of_each n ps ++ steps_of_each (n + number_of_steps ps) qs
-steps_joined n no_proofs qs = let z : n + 0 ≡ n = omega arith in rw z refl
-steps_joined n (proof_first p ps) qs =
-    let m : n + steps_before p + 1 + number_of_steps ps ≡ n + (steps_before p + 1 + number_of_steps ps) = omega arith in
-    let rest = rw m at (steps_joined (n + steps_before p + 1) ps qs) in
-    rw rest (sym (append_assoc (steps_of n p) (steps_of_each (n + steps_before p + 1) ps) (steps_of_each (n + (steps_before p + 1 + number_of_steps ps)) qs)))
 
 lasts_joined : (n : ℕ) (ps qs : Proofs) → last_steps n (joined ps qs) ≡ last_steps n ps ++ last_steps (n + number_of_steps ps) qs
 lasts_joined n no_proofs qs = let z : n + 0 ≡ n = omega arith in rw z refl
@@ -29,10 +19,6 @@ lasts_joined n (proof_first p ps) qs =
     let m : n + steps_before p + 1 + number_of_steps ps ≡ n + (steps_before p + 1 + number_of_steps ps) = omega arith in
     let rest = rw m at (lasts_joined (n + steps_before p + 1) ps qs) in
     ap (λ l. (n + steps_before p) ∷ l) rest
-
-number_joined : (ps qs : Proofs) → number_of_steps (joined ps qs) ≡ number_of_steps ps + number_of_steps qs
-number_joined no_proofs qs = omega arith
-number_joined (proof_first p ps) qs = let rest = number_joined ps qs in omega arith
 
 -- proofs whose last steps are two lists, one after the other
 record Apart (n : ℕ) (front top : List ℕ) (all : Proofs) : Type 0 where
