@@ -1,6 +1,5 @@
 -- A proof has as many steps as its tree has nodes.
-use Rattle.std.proofs.Common.{◌≡◌, ℕ, suc, ◌+◌, ◌-◌, List, [], ◌∷◌, length, Option, Some, None, option_map, refl, ap, ◌∙◌, arith}
-use Rattle.std.specs.Option.{option_and_then}
+use Rattle.std.proofs.Common.{◌≡◌, ℕ, suc, ◌+◌, ◌-◌, List, [], ◌∷◌, length, Some, None, option_map, ap, ◌∙◌, arith}
 use Rattle.lam_rules.specs.Subtyping.{SubTree}
 use Rattle.lam_rules.specs.SubViews.{sub_trees_made}
 use Rattle.lam_rules.specs.Typing.{TypingTree, typing_step}
