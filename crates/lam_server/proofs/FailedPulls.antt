@@ -1,5 +1,5 @@
 -- A pull that fails finds all answered: in no other way does the count of the source's failures rise in a run.
-use Rattle.std.proofs.Common.{◌≡◌, ◌<◌, ℕ, List, [], Option, Result, Ok, Err, refl, ap, ◌∙◌, arith}
+use Rattle.std.proofs.Common.{◌≡◌, ◌<◌, ℕ, [], Result, Ok, Err, refl, ap, arith}
 use Rattle.lam_frame.specs.Device.{SourceView, SinkView}
 use Rattle.lam_frame.proofs.Pulls.{PulledWhile-failed}
 use Rattle.lam_session.specs.State.{State}

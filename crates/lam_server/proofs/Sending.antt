@@ -1,5 +1,5 @@
 -- Bytes that are sent in several calls are sent as one.
-use Rattle.std.proofs.Common.{◌≡◌, ◌<◌, ℕ, ◌+◌, List, [], ◌∷◌, ◌++◌, length, drop, map, false, Option, IsSome, Err, refl, sym, ap, ◌∙◌, subst, append_assoc, append-nil, get_or, suc, drop-cons, add-one}
+use Rattle.std.proofs.Common.{◌≡◌, ◌<◌, ℕ, ◌+◌, List, [], ◌∷◌, ◌++◌, length, drop, map, false, IsSome, Err, refl, sym, ap, ◌∙◌, subst, append_assoc, append-nil, get_or, suc, drop-cons, add-one}
 use Rattle.std.specs.List.{All}
 use Rattle.std.specs.Io.KnownBytes.{Appends}
 use Rattle.std.proofs.KnownBytes.{Appends-nil, Appends-trans}

@@ -1,6 +1,6 @@
 -- Laws of outputs: every input has exactly one, except for which derivation is given, and it grows with the input. And a law of runs: when a pull fails, all that was due
 -- is answered.
-use Rattle.std.specs.Prelude.{◌≡◌, ◌<◌, List, [], ℕ, ◌++◌, Option, Result, Err}
+use Rattle.std.specs.Prelude.{◌≡◌, ◌<◌, List, [], ℕ, ◌++◌, Result, Err}
 use Rattle.std.specs.List.{concat}
 use Rattle.serde_json.specs.Data.{Data}
 use Rattle.lam_frame.specs.Device.{FailedPull, SourceView, SinkView}

@@ -1,5 +1,5 @@
 -- The effect of answering one body on the session and the sink. For private functions alone.
-use Rattle.std.specs.Prelude.{◌≡◌, ℕ, List, Option, Result, Ok, Err}
+use Rattle.std.specs.Prelude.{◌≡◌, ℕ, List, Result, Ok, Err}
 use Rattle.serde_json.specs.Data.{Data}
 use Rattle.lam_rpc.specs.Kind.{Message, IsKindOf}
 use Rattle.lam_session.specs.State.{Snapshot}

@@ -1,5 +1,5 @@
 -- The exit status of the program, by the result of its run and by its arguments.
-use Rattle.std.specs.Prelude.{◌≡◌, ℕ, List, Option, Result, Ok, Err}
+use Rattle.std.specs.Prelude.{◌≡◌, ℕ, List, Result, Ok, Err}
 use Rattle.lam_session.specs.State.{State, dialect_of, fresh}
 use Rattle.lam_session.specs.declared.states.Config.{Config}
 use Rattle.lam_server.specs.Program.{status_of}

@@ -1,5 +1,5 @@
 -- The effect of a turn: on the bytes held and pulled, on the session, and on the sink.
-use Rattle.std.specs.Prelude.{◌≡◌, ◌≢◌, ℕ, ◌+◌, ◌^◌, ◌<◌, ◌≤◌, List, [], ◌++◌, length, Option, Some, Result, Ok, Err}
+use Rattle.std.specs.Prelude.{◌≡◌, ◌≢◌, ℕ, ◌+◌, ◌^◌, ◌<◌, ◌≤◌, List, [], ◌++◌, length, Some, Result, Ok, Err}
 use Rattle.std.specs.List.{concat}
 use Rattle.lam_frame.specs.Device.{FailedPull, SourceView, SinkView}
 use Rattle.lam_frame.specs.Frame.{HasFault, IsOpen}
