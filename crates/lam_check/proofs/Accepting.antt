@@ -10,9 +10,10 @@ use Rattle.lam_query.specs.Derivations.{Derivation}
 use Rattle.lam_session.specs.Derivations.{derivation_value}
 use Rattle.lam_check.specs.FirstFaults.{IsFirstFault, IsSound}
 use Rattle.lam_check.specs.Readable.{IsReadable}
-use Rattle.lam_check.specs.Verdicts.{accepted_line, refused_line, message, IsVerdict, accepts, refuses, reads_none}
+use Rattle.lam_check.specs.Verdicts.{accepted_line, refused_line, message, unread_text, IsVerdict, accepts, refuses, reads_none}
 use Rattle.lam_check.specs.Verified.{IsVerifiedValue}
 use Rattle.lam_check.specs.declared.first_faults.FirstFault.{FirstFault}
+use Rattle.lam_check.specs.declared.read_derivations.Unread.{Unread}
 use Rattle.lam_check.specs.declared.reports.Checked.{Checked}
 
 -- what was read is what was sent
@@ -80,12 +81,12 @@ module _ (r : Result Checked AllocError) (name : Text) (text : List ℕ) (value 
           (refuses (record { derivation = read; is_value = is; not_sound = not_sound; fault = fault; first = first; shown = subst (λ t. string_bytes v.report ≡ refused_line name t) says shown }))
       go (Err e) one shown = tt
 
-  pub unread_report : ((sent : Derivation) → IsReadable text sent → value ≡ derivation_value Utf16 text (Some sent) → ⊥) → (written : Text)
+  pub unread_report : ((sent : Derivation) → IsReadable text sent → value ≡ derivation_value Utf16 text (Some sent) → ⊥) → (fault : Unread) (written : Text) → written ≡ unread_text fault
       → IfOk r (λ v. v.count ≡ 1) → IfOk r (λ v. string_bytes v.report ≡ refused_line name written) → IfOk r (λ v. IsVerdict name text value d (string_bytes v.report) v.count)
-  unread_report none written = go r
+  unread_report none fault written says = go r
     where
       go : (q : Result Checked AllocError) → IfOk q (λ v. v.count ≡ 1) → IfOk q (λ v. string_bytes v.report ≡ refused_line name written) → IfOk q (λ v. IsVerdict name text value d (string_bytes v.report) v.count)
-      go (Ok v) one shown = subst (IsVerdict name text value d (string_bytes v.report)) (sym one) (reads_none (record { unread = none; message = written; shown = shown }))
+      go (Ok v) one shown = subst (IsVerdict name text value d (string_bytes v.report)) (sym one) (reads_none (record { unread = none; fault = fault; shown = subst (λ t. string_bytes v.report ≡ refused_line name t) says shown }))
       go (Err e) one shown = tt
 
 -- a derivation that is not verified is none that was sent

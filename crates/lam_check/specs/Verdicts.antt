@@ -15,6 +15,8 @@ use Rattle.lam_check.specs.Readable.{IsReadable}
 use Rattle.lam_check.specs.Verified.{IsVerifiedValue}
 use Rattle.lam_check.specs.declared.first_faults.FirstFault.{FirstFault}
 use Rattle.lam_check.specs.declared.first_faults.FirstFault.TheVariants as faults
+use Rattle.lam_check.specs.declared.read_derivations.Unread.{Unread}
+use Rattle.lam_check.specs.declared.read_derivations.Unread.TheVariants as unread
 use Rattle.lam_check.specs.declared.terms.Role.TheVariants as roles
 
 -- ---- values that were sent
@@ -73,6 +75,18 @@ message (faults.Entry n) = codes "entry " ++ decimal n ++ codes " of the context
 message (faults.Step n) = codes "step " ++ decimal n ++ codes " does not follow by its rule from its premises"
 message (faults.Range n) = codes "step " ++ decimal n ++ codes " has the range of another term"
 
+-- why a value is not read as a derivation
+unfoldable pub unread_text : Unread → Text
+unread_text unread.Derivation = codes "it is no derivation: an object of `context` and `steps`, both lists"
+unread_text (unread.Entry n) = codes "entry " ++ decimal n ++ codes " of the context is no object of `name` and `type`"
+unread_text (unread.EntryType n) = codes "entry " ++ decimal n ++ codes " of the context has no type of the language"
+unread_text (unread.Step n) = codes "step " ++ decimal n ++ codes " has no object of `from`, `range`, `rule` and `type`, or of `from`, `lower`, `rule` and `upper`"
+unread_text (unread.Rule n) = codes "step " ++ decimal n ++ codes " names a rule that there is not"
+unread_text (unread.Type n) = codes "step " ++ decimal n ++ codes " has a type that is none of the language"
+unread_text (unread.Range n) = codes "step " ++ decimal n ++ codes " has a range that is not in the text"
+unread_text (unread.From n) = codes "step " ++ decimal n ++ codes " follows `from` no list of numbers of steps"
+unread_text unread.Memory = codes "out of memory"
+
 -- `NAME: MESSAGE`
 abbrev pub refused_line : (name message : Text) → Text
 refused_line name message = line (name ++ codes ": " ++ message)
@@ -93,11 +107,11 @@ pub record IsRefused (name : Text) (text : List ℕ) (value : Data) (d : Dialect
   pub first : IsFirstFault text derivation d fault
   pub shown : report ≡ refused_line name (message fault)
 
--- The value is that of no readable derivation, and the line has some other message.
+-- The value is that of no readable derivation, and the line says why it is not read: it is none of an accepted one.
 pub record IsUnreadable (name : Text) (text : List ℕ) (value : Data) (report : Text) : Type 0 where
   pub unread : (derivation : Derivation) → IsReadable text derivation → value ≡ derivation_value Utf16 text (Some derivation) → ⊥
-  pub message : Text
-  pub shown : report ≡ refused_line name message
+  pub fault : Unread
+  pub shown : report ≡ refused_line name (unread_text fault)
 
 -- The report on a value that was sent as a derivation of a text under this name. It is counted unless it is accepted.
 pub data IsVerdict (name : Text) (text : List ℕ) (value : Data) (d : Dialect) (report : Text) : (count : ℕ) → Type 0 where

@@ -27,28 +27,27 @@ use lam_text::{Doc, Position};
 use lam_token::Span;
 use serde_json::Value;
 use std::alloc::{AllocError, Global};
-use thiserror::Error;
 
-/// Why a value cannot be read as a derivation of a text.
-#[derive(Clone, Copy, Debug, PartialEq, Eq, Error)]
+/// Why a value cannot be read as a derivation of a text. Entries and steps are counted from 0.
+#[derive(Clone, Copy, Debug, PartialEq, Eq)]
 pub enum Unread {
-    #[error("it is no derivation: an object of `context` and `steps`, both lists")]
+    /// It is no object of a context and steps, both lists.
     Derivation,
-    #[error("entry {0} of the context is no object of `name` and `type`")]
+    /// This entry of the context is no object of a name and a type.
     Entry(usize),
-    #[error("entry {0} of the context has no type of the language")]
+    /// The text of this entry's type is none of a type.
     EntryType(usize),
-    #[error("step {0} has no object of `from`, `range`, `rule` and `type`, or of `from`, `lower`, `rule` and `upper`")]
+    /// This step has not the members that a step has.
     Step(usize),
-    #[error("step {0} names a rule that there is not")]
+    /// There is no rule with the name in this step.
     Rule(usize),
-    #[error("step {0} has a type that is none of the language")]
+    /// The text of a type in this step is none of a type.
     Type(usize),
-    #[error("step {0} has a range that is not in the text")]
+    /// The range of this step is not one of the text.
     Range(usize),
-    #[error("step {0} follows `from` no list of numbers of steps")]
+    /// The premises of this step are no list of numbers.
     From(usize),
-    #[error("out of memory")]
+    /// An allocation failed.
     Memory,
 }
 

@@ -4,7 +4,7 @@ ghost use Rattle.serde_json.specs.View.{view};
 ghost use Rattle.lam_query.specs.Views.{StepStandsIn, derivation_of, entry_of, step_of};
 ghost use Rattle.lam_check.specs.FirstFaults.{last_conclusion};
 ghost use Rattle.lam_check.specs.Readable.{IsReadable};
-ghost use Rattle.lam_check.specs.Verdicts.{IsSent, IsVerdict, accepted_line, claim_in, context_text, entry_text, message, next_entry, refused_line};
+ghost use Rattle.lam_check.specs.Verdicts.{IsSent, IsVerdict, accepted_line, claim_in, context_text, entry_text, message, next_entry, refused_line, unread_text};
 ghost use Rattle.lam_check.specs.Verified.{IsVerifiedValue};
 ghost use Rattle.lam_check.specs.declared.read_derivations.Unread.TheVariants.{Memory};
 
@@ -56,13 +56,46 @@ pub fn verdict(
 }
 
 /// The message of a value that could not be read for another reason than memory.
+#[tactic(auto, unfolding(crate::specs::Verdicts::unread_text))]
 fn unread_message(alloc: Global, fault: Unread) -> Result<String, AllocError>
-    ensures { IfOk result (λ _. fault ≡ Memory → ⊥) }
+    ensures not_memory { IfOk result (λ _. fault ≡ Memory → ⊥) }
+    ensures text { IfOk result (λ text. string_bytes text ≡ unread_text fault) }
 {
+    let mut out = String::new(alloc);
     match fault {
-        Unread::Memory => Err(AllocError),
-        _ => Ok(format!(in alloc; "{fault}")?),
+        Unread::Derivation => {
+            out.push_str("it is no derivation: an object of `context` and `steps`, both lists")?;
+        }
+        Unread::Entry(entry) => {
+            write!(
+                out,
+                "entry {entry} of the context is no object of `name` and `type`"
+            )?;
+        }
+        Unread::EntryType(entry) => {
+            write!(
+                out,
+                "entry {entry} of the context has no type of the language"
+            )?;
+        }
+        Unread::Step(step) => {
+            write!(
+                out,
+                "step {step} has no object of `from`, `range`, `rule` and `type`, or of `from`, `lower`, `rule` and `upper`"
+            )?;
+        }
+        Unread::Rule(step) => write!(out, "step {step} names a rule that there is not")?,
+        Unread::Type(step) => write!(out, "step {step} has a type that is none of the language")?,
+        Unread::Range(step) => write!(out, "step {step} has a range that is not in the text")?,
+        Unread::From(step) => {
+            write!(
+                out,
+                "step {step} follows `from` no list of numbers of steps"
+            )?;
+        }
+        Unread::Memory => return Err(AllocError),
     }
+    Ok(out)
 }
 
 fn refused(alloc: Global, name: &str, message: &str) -> Result<Checked, AllocError>

@@ -6,11 +6,11 @@ use Rattle.lam_check.proofs.verdicts.verdict.Goals as goal
 
 pub returns-in-Err : goal.returns-in-Err
 returns-in-Err c =
-    let none = unreadable _ _ c.args.text.now (view c.args.value.now) c.in_ok-doc.ensures.encoding c.in_ok-doc.ensures.text (c.in-Err.ensures.unread c.in_ok-unread_message-in-Err.ensures) in
+    let none = unreadable _ _ c.args.text.now (view c.args.value.now) c.in_ok-doc.ensures.encoding c.in_ok-doc.ensures.text (c.in-Err.ensures.unread c.in_ok-unread_message-in-Err.ensures.not_memory) in
     record {
       accepted = counted_value c.refused.result c.args.name.now c.args.text.now (view c.args.value.now) c.args.dialect c.refused.ensures.count;
       every_readable = no_readable c.refused.result c.args.name.now c.args.text.now (view c.args.value.now) c.args.dialect (λ sent readable. none sent.derivation readable sent.is_value);
-      report = unread_report c.refused.result c.args.name.now c.args.text.now (view c.args.value.now) c.args.dialect none _ c.refused.ensures.count c.refused.ensures.report;
+      report = unread_report c.refused.result c.args.name.now c.args.text.now (view c.args.value.now) c.args.dialect none c.in-Err.fault _ (c.deref.ensures ∙ c.in_ok-unread_message-in-Err.ensures.text) c.refused.ensures.count c.refused.ensures.report;
     }
 
 pub returns-in-None-clause-accepted : goal.returns-in-None-clause-accepted
