@@ -32,8 +32,8 @@ pub mod NestedRows
 pub mod PlacedRows
 pub mod PlacedPlaces
 pub mod Faultless
-pub mod StretchRuns
-pub mod StretchedRows
+pub mod IntervalRuns
+pub mod RowIntervals
 pub mod MentionRows
 pub mod BoundMentions
 pub mod Contained

@@ -24,8 +24,8 @@ pub mod Meanings
 pub mod Alike
 pub mod PlacedTerms
 pub mod PlacedRows
-pub mod Stretches
-pub mod RowStretches
+pub mod Intervals
+pub mod RowIntervals
 pub mod StatementViews
 pub mod Views
 pub mod Numbered

@@ -5,8 +5,8 @@
 //! `intern_command` handle one command by itself.
 //!
 //! Binding: `walk` fills the tables of `rows`, keeping the binders in scope on a stack (`seen`, built on `names` and
-//! `name_stack`); `room` counts the rows first. `use_chains` and `token_lists` collect the uses of each binder, `stretches` and
-//! `row_stretches` make look-ups by byte offset fast; `scopes` queries the tables, `own_words` finds a variable or a projection
+//! `name_stack`); `room` counts the rows first. `use_chains` and `token_lists` collect the uses of each binder, `intervals` and
+//! `row_intervals` make look-ups by byte offset fast; `scopes` queries the tables, `own_words` finds a variable or a projection
 //! by its token, and `renaming` decides whether a binder and its uses can have another name.
 //!
 //! Resolving: `resolver` goes command by command, `nameless` builds the form of a term and `expansion` that of a written type,
@@ -33,6 +33,7 @@ mod found_names;
 mod interned;
 mod interning;
 mod interning_types;
+mod intervals;
 mod laws;
 mod making;
 mod name_stack;
@@ -45,7 +46,7 @@ mod renaming;
 mod resolved;
 mod resolver;
 mod room;
-mod row_stretches;
+mod row_intervals;
 mod rows;
 mod scope_fault;
 mod scopes;
@@ -53,7 +54,6 @@ mod search;
 mod seen;
 mod stacks;
 mod statement;
-mod stretches;
 mod token_lists;
 mod type_fault;
 mod type_names;

@@ -6,13 +6,13 @@ ghost use Rattle.std.specs.Option.{option_map};
 ghost use Rattle.lam_scope.specs.Tables.{binder_numbered, place_row_numbered, binder_at, binder_token_at, binder_used_at, visible_at, seen_in, binder_in, place_at};
 ghost use Rattle.lam_scope.specs.Names.{shown_name};
 ghost use Rattle.lam_scope.specs.TableViews.{binder_number, place_number, text_binder, text_use, rows_of};
-ghost use Rattle.lam_scope.specs.Stretches.{AreRuns, AreRuns-prop};
-ghost use Rattle.lam_scope.specs.RowStretches.{place_stretch, binder_stretch, use_stretch, answer_at, used_at};
+ghost use Rattle.lam_scope.specs.Intervals.{AreRuns, AreRuns-prop};
+ghost use Rattle.lam_scope.specs.RowIntervals.{place_interval, binder_interval, use_interval, answer_at, used_at};
 
+use crate::intervals::{Interval, first_with, runs_of};
 use crate::numbers::{Binder, Place};
 use crate::own_words::{Target, find_number};
 use crate::rows::{BinderRow, Rows, UseRow};
-use crate::stretches::{Stretch, first_with, runs_of};
 use crate::token_lists::TokenLists;
 use lam_syntax::{Command, Text};
 use lam_token::Span;
@@ -25,12 +25,12 @@ pub struct Scopes {
     /// The tokens of the uses of each binder, by binder index. Those of a letrec are all listed at the let's binder.
     pub(crate) tokens: TokenLists,
     /// The blocks used to search by byte offset: among subterms, among tokens of binders, and among tokens of uses.
-    place_runs: Vec<Stretch>,
-    binder_runs: Vec<Stretch>,
-    use_runs: Vec<Stretch>,
-    ghost places_run: { AreRuns place_runs.items (map place_stretch rows.places.items) } by { AreRuns-prop place_runs.items (map place_stretch rows.places.items) },
-    ghost binders_run: { AreRuns binder_runs.items (map binder_stretch rows.binders.items) } by { AreRuns-prop binder_runs.items (map binder_stretch rows.binders.items) },
-    ghost uses_run: { AreRuns use_runs.items (map use_stretch rows.uses.items) } by { AreRuns-prop use_runs.items (map use_stretch rows.uses.items) },
+    place_runs: Vec<Interval>,
+    binder_runs: Vec<Interval>,
+    use_runs: Vec<Interval>,
+    ghost places_run: { AreRuns place_runs.items (map place_interval rows.places.items) } by { AreRuns-prop place_runs.items (map place_interval rows.places.items) },
+    ghost binders_run: { AreRuns binder_runs.items (map binder_interval rows.binders.items) } by { AreRuns-prop binder_runs.items (map binder_interval rows.binders.items) },
+    ghost uses_run: { AreRuns use_runs.items (map use_interval rows.uses.items) } by { AreRuns-prop use_runs.items (map use_interval rows.uses.items) },
 }
 
 impl Scopes {
@@ -233,8 +233,8 @@ fn innermost_at(rows: &Rows, place: Place) -> Option<Binder>
 }
 
 /// Returns the binder whose own token starts at that byte offset.
-fn binder_token_at(binders: &[BinderRow], runs: &[Stretch], offset: usize) -> Option<Binder>
-    requires { AreRuns runs.now (map binder_stretch binders.now) }
+fn binder_token_at(binders: &[BinderRow], runs: &[Interval], offset: usize) -> Option<Binder>
+    requires { AreRuns runs.now (map binder_interval binders.now) }
     ensures { option_map binder_number result ≡ binder_token_at offset (map text_binder binders.now) }
 {
     match first_with(runs, binders, offset) {
@@ -244,7 +244,7 @@ fn binder_token_at(binders: &[BinderRow], runs: &[Stretch], offset: usize) -> Op
 }
 
 /// Returns the binder reported for the token of the binder with that index.
-#[tactic(auto, using(crate::proofs::StretchedRows::row_reading))]
+#[tactic(auto, using(crate::proofs::RowIntervals::row_reading))]
 fn answer_at(binders: &[BinderRow], index: usize) -> Option<Binder>
     ensures { option_map binder_number result ≡ answer_at (map text_binder binders.now) index }
 {
@@ -255,8 +255,8 @@ fn answer_at(binders: &[BinderRow], index: usize) -> Option<Binder>
 }
 
 /// Returns the binder of the first use whose token starts at that byte offset.
-fn binder_used_at(uses: &[UseRow], runs: &[Stretch], offset: usize) -> Option<Binder>
-    requires { AreRuns runs.now (map use_stretch uses.now) }
+fn binder_used_at(uses: &[UseRow], runs: &[Interval], offset: usize) -> Option<Binder>
+    requires { AreRuns runs.now (map use_interval uses.now) }
     ensures { option_map binder_number result ≡ binder_used_at offset (map text_use uses.now) }
 {
     match first_with(runs, uses, offset) {
@@ -266,7 +266,7 @@ fn binder_used_at(uses: &[UseRow], runs: &[Stretch], offset: usize) -> Option<Bi
 }
 
 /// Returns the binder of the use with that index.
-#[tactic(auto, using(crate::proofs::StretchedRows::row_reading))]
+#[tactic(auto, using(crate::proofs::RowIntervals::row_reading))]
 fn used_at(uses: &[UseRow], index: usize) -> Option<Binder>
     ensures { option_map binder_number result ≡ used_at (map text_use uses.now) index }
 {

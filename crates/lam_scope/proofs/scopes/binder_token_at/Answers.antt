@@ -1,7 +1,7 @@
 use Rattle.std.proofs.Common.{sym, ap, ◌∙◌, map}
-use Rattle.lam_scope.specs.RowStretches.{answer_at}
+use Rattle.lam_scope.specs.RowIntervals.{answer_at}
 use Rattle.lam_scope.specs.TableViews.{text_binder}
-use Rattle.lam_scope.proofs.StretchedRows.{and_then, first_token}
+use Rattle.lam_scope.proofs.RowIntervals.{and_then, first_token}
 use Rattle.lam_scope.proofs.scopes.binder_token_at.Goals as goal
 
 pub returns-in-None : goal.returns-in-None

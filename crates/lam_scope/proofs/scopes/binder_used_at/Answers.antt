@@ -1,7 +1,7 @@
 use Rattle.std.proofs.Common.{sym, ap, ◌∙◌, map}
-use Rattle.lam_scope.specs.RowStretches.{used_at}
+use Rattle.lam_scope.specs.RowIntervals.{used_at}
 use Rattle.lam_scope.specs.TableViews.{text_use}
-use Rattle.lam_scope.proofs.StretchedRows.{and_then, first_use}
+use Rattle.lam_scope.proofs.RowIntervals.{and_then, first_use}
 use Rattle.lam_scope.proofs.scopes.binder_used_at.Goals as goal
 
 pub returns-in-None : goal.returns-in-None

@@ -1,7 +1,7 @@
 use Rattle.std.proofs.Common.{◌≡◌, sym, ap, ◌∙◌, position, rules}
 use Rattle.lam_scope.specs.Tables.{is_over}
 use Rattle.lam_scope.specs.TableViews.{text_places}
-use Rattle.lam_scope.proofs.StretchedRows.{first_place}
+use Rattle.lam_scope.proofs.RowIntervals.{first_place}
 use Rattle.lam_scope.proofs.scopes.Scopes.place_at.Goals as goal
 
 pub returns-in-None : goal.returns-in-None

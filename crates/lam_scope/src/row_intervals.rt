@@ -1,19 +1,19 @@
 //! The byte intervals of the rows of the tables.
-ghost use Rattle.lam_scope.specs.RowStretches.{place_stretch, binder_stretch, use_stretch};
+ghost use Rattle.lam_scope.specs.RowIntervals.{place_interval, binder_interval, use_interval};
 
+use crate::intervals::{HasInterval, Interval, no_bytes, one_byte};
 use crate::rows::{BinderRow, PlaceRow, UseRow};
-use crate::stretches::{Stretch, Stretched, no_bytes, one_byte};
 
 /// The span of a subterm; empty if it is derived.
-impl Stretched for PlaceRow {
-    ghost stretch_of = { place_stretch };
+impl HasInterval for PlaceRow {
+    ghost interval_of = { place_interval };
 
-    fn stretch(&self) -> Stretch {
+    fn interval(&self) -> Interval {
         if self.derived {
             return no_bytes();
         }
         if self.span.start < self.span.end {
-            return Stretch {
+            return Interval {
                 lowest: self.span.start,
                 highest: self.span.end - 1,
             };
@@ -23,10 +23,10 @@ impl Stretched for PlaceRow {
 }
 
 /// The first byte of the token; empty for an underscore.
-impl Stretched for BinderRow {
-    ghost stretch_of = { binder_stretch };
+impl HasInterval for BinderRow {
+    ghost interval_of = { binder_interval };
 
-    fn stretch(&self) -> Stretch {
+    fn interval(&self) -> Interval {
         match &self.name {
             None => no_bytes(),
             Some(_) => one_byte(self.token.start),
@@ -35,10 +35,10 @@ impl Stretched for BinderRow {
 }
 
 /// The first byte of the token.
-impl Stretched for UseRow {
-    ghost stretch_of = { use_stretch };
+impl HasInterval for UseRow {
+    ghost interval_of = { use_interval };
 
-    fn stretch(&self) -> Stretch {
+    fn interval(&self) -> Interval {
         one_byte(self.token.start)
     }
 }

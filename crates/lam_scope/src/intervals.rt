@@ -1,35 +1,38 @@
 //! Byte intervals of a text, and a search for the first of many that contains a byte, without a walk over all of them.
 ghost use Rattle.std.specs.Prelude.{◌≡◌, ◌+◌, ◌<◌, ◌≤◌, ◌^◌, length, map, position, IfOk, take, drop};
 ghost use Rattle.std.specs.List.{position_from};
-ghost use Rattle.lam_scope.specs.Stretches.{has, IsPart, AreParts, AreRuns, no_bytes, one_byte};
+ghost use Rattle.lam_scope.specs.Intervals.{has, IsPart, AreParts, AreRuns, no_bytes, one_byte};
 
 use std::alloc::{AllocError, Global};
 
 /// A closed interval of byte offsets, from the lowest to the highest. Empty if the lowest is above the highest.
 #[derive(Drop)]
-pub(crate) struct Stretch {
+pub(crate) struct Interval {
     pub(crate) lowest: usize,
     pub(crate) highest: usize,
 }
 
 /// Something with a byte interval in a text.
-pub(crate) trait Stretched {
-    ghost use Rattle.lam_scope.specs.declared.stretches.Stretch.{Stretch as Bytes};
+pub(crate) trait HasInterval {
+    ghost use Rattle.lam_scope.specs.declared.intervals.Interval.{Interval as Bytes};
 
-    ghost stretch_of: { Self → Bytes };
+    ghost interval_of: { Self → Bytes };
 
     /// Returns its byte interval.
-    fn stretch(&self) -> Stretch
-        ensures { result ≡ stretch_of self.now };
+    fn interval(&self) -> Interval
+        ensures { result ≡ interval_of self.now };
 }
 
 /// The number of rows in a block.
 const RUN: usize = 64;
 
 /// Returns for each block of rows an interval that contains theirs, so that a search can skip blocks without the byte.
-pub(crate) fn runs_of<T: Stretched>(alloc: Global, rows: &[T]) -> Result<Vec<Stretch>, AllocError>
+pub(crate) fn runs_of<T: HasInterval>(
+    alloc: Global,
+    rows: &[T],
+) -> Result<Vec<Interval>, AllocError>
     requires { length rows.now < 2 ^ 64 }
-    ensures { IfOk result (λ runs. AreRuns runs.items (map T.stretch_of rows.now)) }
+    ensures { IfOk result (λ runs. AreRuns runs.items (map T.interval_of rows.now)) }
 {
     let mut runs = Vec::new(alloc);
     let mut before = 0;
@@ -43,10 +46,14 @@ pub(crate) fn runs_of<T: Stretched>(alloc: Global, rows: &[T]) -> Result<Vec<Str
 }
 
 /// Returns the index of the first row that contains the byte.
-pub(crate) fn first_with<T: Stretched>(runs: &[Stretch], rows: &[T], offset: usize) -> Option<usize>
-    requires runs { AreRuns runs.now (map T.stretch_of rows.now) }
+pub(crate) fn first_with<T: HasInterval>(
+    runs: &[Interval],
+    rows: &[T],
+    offset: usize,
+) -> Option<usize>
+    requires runs { AreRuns runs.now (map T.interval_of rows.now) }
     requires count { length rows.now < 2 ^ 64 }
-    ensures { result ≡ position (has offset) (map T.stretch_of rows.now) }
+    ensures { result ≡ position (has offset) (map T.interval_of rows.now) }
 {
     let mut before = 0;
     for i in 0..runs.len() {
@@ -68,7 +75,7 @@ fn run_behind<T>(rows: &[T], before: usize) -> &[T]
     first_run(&rows[before..])
 }
 
-#[tactic(auto, using(crate::proofs::StretchRuns::whole_runs))]
+#[tactic(auto, using(crate::proofs::IntervalRuns::whole_runs))]
 fn first_run<T>(rows: &[T]) -> &[T]
     ensures { result.now ≡ take 64 rows.now }
 {
@@ -79,39 +86,39 @@ fn first_run<T>(rows: &[T]) -> &[T]
 }
 
 /// Returns an interval that contains those of a block.
-fn around<T: Stretched>(run: &[T]) -> Stretch
-    ensures { AreParts (map T.stretch_of run.now) result }
+fn around<T: HasInterval>(run: &[T]) -> Interval
+    ensures { AreParts (map T.interval_of run.now) result }
 {
     let mut whole = no_bytes();
     for i in 0..run.len() {
         let row = &run[i];
-        let stretch = row.stretch();
-        whole = joined(whole, stretch);
+        let interval = row.interval();
+        whole = joined(whole, interval);
     }
     whole
 }
 
 /// Returns an interval that contains both.
-fn joined(one: Stretch, other: Stretch) -> Stretch
+fn joined(one: Interval, other: Interval) -> Interval
     ensures one { IsPart one result }
     ensures other { IsPart other result }
 {
-    Stretch {
+    Interval {
         lowest: one.lowest.min(other.lowest),
         highest: one.highest.max(other.highest),
     }
 }
 
 /// Returns the index of the first row of a block that contains the byte, given the number of rows before the block.
-fn first_in_run<T: Stretched>(
-    whole: &Stretch,
+fn first_in_run<T: HasInterval>(
+    whole: &Interval,
     run: &[T],
     before: usize,
     offset: usize,
 ) -> Option<usize>
-    requires parts { AreParts (map T.stretch_of run.now) whole.now }
+    requires parts { AreParts (map T.interval_of run.now) whole.now }
     requires count { before + length run.now < 2 ^ 64 }
-    ensures { result ≡ position_from (has offset) before (map T.stretch_of run.now) }
+    ensures { result ≡ position_from (has offset) before (map T.interval_of run.now) }
 {
     if has(whole, offset) {
         return first_of(run, before, offset);
@@ -119,14 +126,14 @@ fn first_in_run<T: Stretched>(
     None
 }
 
-fn first_of<T: Stretched>(run: &[T], before: usize, offset: usize) -> Option<usize>
+fn first_of<T: HasInterval>(run: &[T], before: usize, offset: usize) -> Option<usize>
     requires { before + length run.now < 2 ^ 64 }
-    ensures { result ≡ position_from (has offset) before (map T.stretch_of run.now) }
+    ensures { result ≡ position_from (has offset) before (map T.interval_of run.now) }
 {
     for i in 0..run.len() {
         let row = &run[i];
-        let stretch = row.stretch();
-        if has(&stretch, offset) {
+        let interval = row.interval();
+        if has(&interval, offset) {
             return Some(before + i);
         }
     }
@@ -134,33 +141,33 @@ fn first_of<T: Stretched>(run: &[T], before: usize, offset: usize) -> Option<usi
 }
 
 /// Whether an interval contains the byte.
-fn has(stretch: &Stretch, offset: usize) -> bool
-    ensures { result ≡ has offset stretch.now }
+fn has(interval: &Interval, offset: usize) -> bool
+    ensures { result ≡ has offset interval.now }
 {
-    if offset < stretch.lowest {
+    if offset < interval.lowest {
         return false;
     }
-    if stretch.highest < offset {
+    if interval.highest < offset {
         return false;
     }
     true
 }
 
 /// The empty interval. It adds nothing to an interval around it.
-pub(crate) fn no_bytes() -> Stretch
+pub(crate) fn no_bytes() -> Interval
     ensures { result ≡ no_bytes }
 {
-    Stretch {
+    Interval {
         lowest: usize::MAX,
         highest: 0,
     }
 }
 
 /// The interval of that byte alone.
-pub(crate) fn one_byte(offset: usize) -> Stretch
+pub(crate) fn one_byte(offset: usize) -> Interval
     ensures { result ≡ one_byte offset }
 {
-    Stretch {
+    Interval {
         lowest: offset,
         highest: offset,
     }

@@ -1,4 +1,4 @@
--- What is found among the stretches of rows is what the rows say.
+-- What is found among the intervals of rows is what the rows say.
 use Rattle.std.proofs.Common.{◌≡◌, ℕ, ◌+◌, ◌-◌, ◌<◌, ◌≤◌, arith, Bool, true, false, cond, ltb, List, [], ◌∷◌, length, get_or, zero, suc, refl, ap, sym, ◌∙◌, map, Option, Some, None, position, ◌==◌}
 use Rattle.std.specs.Prelude.{if◌then◌else◌}
 use Rattle.std.specs.List.{position_from, slice_range}
@@ -6,20 +6,20 @@ use Rattle.std.specs.Option.{option_map}
 use Rattle.std.proofs.lemmas.Bool.Decides.{nat_tests}
 use Rattle.std.proofs.lemmas.Iterator.Adapters.{position_from-zero}
 use Rattle.lam_token.specs.declared.span.Span.{Span}
-use Rattle.lam_scope.specs.declared.stretches.Stretch.{Stretch}
+use Rattle.lam_scope.specs.declared.intervals.Interval.{Interval}
 use Rattle.lam_scope.specs.declared.rows.BinderRow.{BinderRow}
 use Rattle.lam_scope.specs.declared.numbers.Place.{Place}
 use Rattle.lam_scope.specs.declared.rows.PlaceRow.{PlaceRow}
 use Rattle.lam_scope.specs.declared.rows.UseRow.{UseRow}
 use Rattle.lam_scope.specs.TableViews.{text_binder, text_use, text_place, text_places, terms_start, binder_of}
 use Rattle.lam_scope.specs.Slices.{first_start}
-use Rattle.lam_scope.specs.Stretches.{has, no_bytes, one_byte}
-use Rattle.lam_scope.specs.RowStretches.{place_stretch, binder_stretch, use_stretch, answer_at, used_at}
+use Rattle.lam_scope.specs.Intervals.{has, no_bytes, one_byte}
+use Rattle.lam_scope.specs.RowIntervals.{place_interval, binder_interval, use_interval, answer_at, used_at}
 use Rattle.lam_scope.specs.Tables.{TextBinder, TextUse, has_name, is_over, is_token_at, binder_token_at, binder_used_at}
 
--- which stretch has which byte
+-- which interval has which byte
 
-has_by : (a b : Bool) (o : ℕ) (s : Stretch) → ltb o s.lowest ≡ a → ltb s.highest o ≡ b → has o s ≡ (if a then false else (if b then false else true))
+has_by : (a b : Bool) (o : ℕ) (s : Interval) → ltb o s.lowest ≡ a → ltb s.highest o ≡ b → has o s ≡ (if a then false else (if b then false else true))
 has_by a b o s e f = λ i. if e i then false else (if f i then false else true)
 
 none_has : (o : ℕ) → has o no_bytes ≡ false
@@ -63,7 +63,7 @@ empty_span a b o e = by (ltb o a) refl
     by true f = ap (λ c. if c then false else ltb o b) f
     by false f = ap (λ c. if c then false else ltb o b) f ∙ past a b o e f
 
-place_has : (o : ℕ) (ts : List Place) (p : PlaceRow) → has o (place_stretch p) ≡ is_over o (text_place p ts)
+place_has : (o : ℕ) (ts : List Place) (p : PlaceRow) → has o (place_interval p) ≡ is_over o (text_place p ts)
 place_has o ts p = by p.derived (ltb p.span.start p.span.end) refl
   where
     by : (d c : Bool) → ltb p.span.start p.span.end ≡ c
@@ -90,7 +90,7 @@ byte_has o n = by (ltb o n) (ltb n o) refl refl
     by false true e f = has_by false true o (one_byte n) e f ∙ sym (apart_above o n f)
     by false false e f = has_by false false o (one_byte n) e f ∙ sym (same o n e f)
 
-token_has : (o : ℕ) (b : BinderRow) → has o (binder_stretch b) ≡ is_token_at o (text_binder b)
+token_has : (o : ℕ) (b : BinderRow) → has o (binder_interval b) ≡ is_token_at o (text_binder b)
 token_has o b = by (has_name (text_binder b).name)
   where
     by : (c : Bool) → has o (if c then one_byte b.token.start else no_bytes) ≡ (if c then b.token.start == o else false)
@@ -123,20 +123,20 @@ from_none (Some n) = ap (λ k. Some k) (omega arith)
 position_first : {X : Type 0} (p : X → Bool) (xs : List X) → position p xs ≡ first_at p xs
 position_first p xs = position_from-zero p xs ∙ first_from p 0 xs ∙ from_none (first_at p xs)
 
-first_mapped : {X Y : Type 0} (o : ℕ) (f : X → Stretch) (g : X → Y) (q : Y → Bool) → ((x : X) → has o (f x) ≡ q (g x)) → (xs : List X) → first_at (has o) (map f xs) ≡ first_at q (map g xs)
+first_mapped : {X Y : Type 0} (o : ℕ) (f : X → Interval) (g : X → Y) (q : Y → Bool) → ((x : X) → has o (f x) ≡ q (g x)) → (xs : List X) → first_at (has o) (map f xs) ≡ first_at q (map g xs)
 first_mapped o f g q same [] = refl
 first_mapped o f g q same (x ∷ xs) = λ i. if same x i then Some 0 else option_map suc (first_mapped o f g q same xs i)
 
 -- places
 
-first_sliced : (o : ℕ) (ts : List Place) (ps : List PlaceRow) → first_at (has o) (map place_stretch ps) ≡ first_at (is_over o) (text_places ts ps)
+first_sliced : (o : ℕ) (ts : List Place) (ps : List PlaceRow) → first_at (has o) (map place_interval ps) ≡ first_at (is_over o) (text_places ts ps)
 first_sliced o ts [] = refl
 first_sliced o ts (p ∷ ps) = λ i.
     if place_has o (slice_range ts p.terms_start (first_start terms_start ps (length ts))) p i then Some 0 else option_map suc (first_sliced o ts ps i)
 
-pub first_place : (o : ℕ) (ts : List Place) (ps : List PlaceRow) → position (has o) (map place_stretch ps) ≡ position (is_over o) (text_places ts ps)
+pub first_place : (o : ℕ) (ts : List Place) (ps : List PlaceRow) → position (has o) (map place_interval ps) ≡ position (is_over o) (text_places ts ps)
 first_place o ts ps =
-    position_first (has o) (map place_stretch ps)
+    position_first (has o) (map place_interval ps)
     ∙ first_sliced o ts ps
     ∙ sym (position_first (is_over o) (text_places ts ps))
 
@@ -159,9 +159,9 @@ binder_by_number o (b ∷ bs) = by (is_token_at o b) (binder_by_number o bs)
     by true e = refl
     by false e = e ∙ answer_behind b bs (first_at (is_token_at o) bs)
 
-pub first_token : (o : ℕ) (bs : List BinderRow) → and_then (position (has o) (map binder_stretch bs)) (answer_at (map text_binder bs)) ≡ binder_token_at o (map text_binder bs)
+pub first_token : (o : ℕ) (bs : List BinderRow) → and_then (position (has o) (map binder_interval bs)) (answer_at (map text_binder bs)) ≡ binder_token_at o (map text_binder bs)
 first_token o bs =
-    ap (λ n. and_then n (answer_at (map text_binder bs))) (position_first (has o) (map binder_stretch bs) ∙ first_mapped o binder_stretch text_binder (is_token_at o) (token_has o) bs)
+    ap (λ n. and_then n (answer_at (map text_binder bs))) (position_first (has o) (map binder_interval bs) ∙ first_mapped o binder_interval text_binder (is_token_at o) (token_has o) bs)
     ∙ sym (binder_by_number o (map text_binder bs))
 
 abbrev starts_at : ℕ → TextUse → Bool
@@ -180,9 +180,9 @@ use_by_number o (u ∷ us) = by (starts_at o u) (use_by_number o us)
     by true e = refl
     by false e = e ∙ used_behind u us (first_at (starts_at o) us)
 
-pub first_use : (o : ℕ) (us : List UseRow) → and_then (position (has o) (map use_stretch us)) (used_at (map text_use us)) ≡ binder_used_at o (map text_use us)
+pub first_use : (o : ℕ) (us : List UseRow) → and_then (position (has o) (map use_interval us)) (used_at (map text_use us)) ≡ binder_used_at o (map text_use us)
 first_use o us =
-    ap (λ n. and_then n (used_at (map text_use us))) (position_first (has o) (map use_stretch us) ∙ first_mapped o use_stretch text_use (starts_at o) (λ u. byte_has o u.token.start) us)
+    ap (λ n. and_then n (used_at (map text_use us))) (position_first (has o) (map use_interval us) ∙ first_mapped o use_interval text_use (starts_at o) (λ u. byte_has o u.token.start) us)
     ∙ sym (use_by_number o (map text_use us))
 
 -- what is read of a row

@@ -1,9 +1,0 @@
-use Rattle.std.proofs.Common.{◌≡◌, ◌+◌, drop, map}
-use Rattle.std.specs.List.{position_from}
-use Rattle.lam_scope.specs.Stretches.{has}
-use Rattle.lam_scope.proofs.stretches.first_of.Given as goal
-
-abbrev pub invariant-loop-i : goal.invariant-loop-i
-invariant-loop-i g l =
-    position_from (has l.offset) l.before (map g.T.Stretched.stretch_of l.run)
-    ≡ position_from (has l.offset) (l.before + l.i) (drop l.i (map g.T.Stretched.stretch_of l.run))
