@@ -27,7 +27,7 @@ use Rattle.lam_scope.specs.Names.{Name}
 use Rattle.lam_scope.specs.Expansions.{Abbreviation, expansion}
 use Rattle.lam_scope.specs.Nameless.{nameless_node, nameless_fields, written_in_node, written_in_fields, faults_in, first_over_limit}
 use Rattle.lam_scope.specs.Numbered.{if_then_else, lambda, apply, ascribe, let_in, fix, term_over, written_over, NumbersStand, StandsIfAny}
-use Rattle.lam_scope.specs.NumberedNames.{NumberedName, abbreviations_over, NamesStand}
+use Rattle.lam_scope.specs.NumberedNames.{NumberedName, abbreviations_over, TypeIdsStand}
 use Rattle.lam_scope.specs.InternedViews.{numbered_of, interned_term, interned_terms, StandIn, StandInTerms}
 use Rattle.lam_scope.specs.Views.{IsLimit}
 use Rattle.lam_scope.specs.inner.Interned.{AreTypesInterned, IsWrittenInterned, IsInterned, AreInterned}
@@ -65,7 +65,7 @@ faults_then (Ok a) bs cs us vs before between after same one two =
 faults_then (Err x) bs cs us vs before between after same one two = tt
 
 pub types_then : {T V : Type 0} (names : List NumberedName) (us vs : List TypeTree) (old mid new : List Typ) (before between after : List TypeFault) (a : T) (answer : Result V ScopeFault)
-    → NamesStand old names → AreTypesInterned names us old mid before between (Ok a) → AreTypesInterned names vs mid new between after answer
+    → TypeIdsStand old names → AreTypesInterned names us old mid before between (Ok a) → AreTypesInterned names vs mid new between after answer
     → AreTypesInterned names (us ++ vs) old new before after answer
 types_then names us vs old mid new before between after a answer stand one two =
     let bs = abbreviations_over old names in
@@ -105,13 +105,13 @@ refused_first names xs n us vs old new before after x answer is all one =
     refused names xs n old new before after x answer is (subst (λ ws. AreTypesInterned {T = InternedTerm} names ws old new before after (Err x)) (sym all) whole)
 
 pub refused_second : {T V : Type 0} (names : List NumberedName) (xs : List (Option Name)) (n : TermNode) (us vs ws : List TypeTree) (old mid new : List Typ) (before between after : List TypeFault)
-    (a : T) (x : ScopeFault) (answer : Result InternedTerm ScopeFault) → NamesStand old names → answer ≡ Err x → written_in_node n ≡ us ++ vs ++ ws
+    (a : T) (x : ScopeFault) (answer : Result InternedTerm ScopeFault) → TypeIdsStand old names → answer ≡ Err x → written_in_node n ≡ us ++ vs ++ ws
     → AreTypesInterned names us old mid before between (Ok a) → AreTypesInterned {T = V} names vs mid new between after (Err x) → IsInterned names xs n old new before after answer
 refused_second {T} {V} names xs n us vs ws old mid new before between after a x answer stand is all one two =
     refused_first names xs n (us ++ vs) ws old new before after x answer is all (types_then names us vs old mid new before between after a (Err x) stand one two)
 
 pub refused_third : {T V W : Type 0} (names : List NumberedName) (xs : List (Option Name)) (n : TermNode) (us vs ws : List TypeTree) (old mid low new : List Typ) (before between behind after : List TypeFault)
-    (a : T) (b : V) (x : ScopeFault) (answer : Result InternedTerm ScopeFault) → NamesStand old names → answer ≡ Err x → written_in_node n ≡ us ++ vs ++ ws
+    (a : T) (b : V) (x : ScopeFault) (answer : Result InternedTerm ScopeFault) → TypeIdsStand old names → answer ≡ Err x → written_in_node n ≡ us ++ vs ++ ws
     → AreTypesInterned names us old mid before between (Ok a) → AreTypesInterned names vs mid low between behind (Ok b) → AreTypesInterned {T = W} names ws low new behind after (Err x)
     → IsInterned names xs n old new before after answer
 refused_third {T} {V} {W} names xs n us vs ws old mid low new before between behind after a b x answer stand is all one two three =
@@ -122,7 +122,7 @@ refused_third {T} {V} {W} names xs n us vs ws old mid low new before between beh
 -- the form of a term and the number of a written type, over a table before and one behind
 
 form_between : (names : List NumberedName) (xs ys : List (Option Name)) (n : TermNode) (old mid low new : List Typ) (before after : List TypeFault) (e : InternedTerm)
-    → NamesStand old names → Keeps old mid → ys ≡ xs → IsInterned names ys n mid low before after (Ok e) → Keeps low new
+    → TypeIdsStand old names → Keeps old mid → ys ≡ xs → IsInterned names ys n mid low before after (Ok e) → Keeps low new
     → (interned_term new e ≡ nameless_node (abbreviations_over old names) xs n) × StandIn new e
 form_between names xs ys n old mid low new before after e stand earlier same one later =
     let kept_one = kept low new e later one.stands in
@@ -130,7 +130,7 @@ form_between names xs ys n old mid low new before after e stand earlier same one
     (kept_one.0 ∙ one.form ∙ (λ i. nameless_node (seen i) (same i) n), kept_one.1)
 
 number_between : (names : List NumberedName) (u : TypeTree) (old mid low new : List Typ) (before after : List TypeFault) (w : Option TyNo)
-    → NamesStand old names → Keeps old mid → IsWrittenInterned names u mid low before after (Ok w) → Keeps low new
+    → TypeIdsStand old names → Keeps old mid → IsWrittenInterned names u mid low before after (Ok w) → Keeps low new
     → (written_over new w ≡ expansion (abbreviations_over old names) u) × StandsIfAny new w
 number_between names u old mid low new before after w stand earlier one later =
     let kept_one = kept_written low new w later one.stands in
@@ -140,7 +140,7 @@ number_between names u old mid low new before after w stand earlier one later =
 -- the form of each kind of term of those of its parts
 
 pub lambda_interned : (names : List NumberedName) (xs : List (Option Name)) (b : Option Name) (s r : Span) (u : TypeTree) (n : TermNode) (old mid new : List Typ) (before between after : List TypeFault)
-    (w : Option TyNo) (e made : InternedTerm) → NamesStand old names → IsWrittenInterned names u old mid before between (Ok w) → IsInterned names (b ∷ xs) n mid new between after (Ok e)
+    (w : Option TyNo) (e made : InternedTerm) → TypeIdsStand old names → IsWrittenInterned names u old mid before between (Ok w) → IsInterned names (b ∷ xs) n mid new between after (Ok e)
     → numbered_of made ≡ lambda w (numbered_of e) → IsInterned names xs (tree.lambda (bound b s) u (term_tree r n)) old new before after (Ok made)
 lambda_interned names xs b s r u n old mid new before between after w e made stand one two is =
     let first = number_between names u old old mid new before between w stand (keeps_same old) one two.types.keeps in
@@ -152,7 +152,7 @@ lambda_interned names xs b s r u n old mid new before between after w e made sta
     }
 
 pub if_interned : (names : List NumberedName) (xs ys zs : List (Option Name)) (s r q : Span) (c t u : TermNode) (old mid low new : List Typ) (before between behind after : List TypeFault)
-    (e f g made : InternedTerm) → NamesStand old names → IsInterned names xs c old mid before between (Ok e) → ys ≡ xs → IsInterned names ys t mid low between behind (Ok f)
+    (e f g made : InternedTerm) → TypeIdsStand old names → IsInterned names xs c old mid before between (Ok e) → ys ≡ xs → IsInterned names ys t mid low between behind (Ok f)
     → zs ≡ ys → IsInterned names zs u low new behind after (Ok g)
     → numbered_of made ≡ if_then_else (numbered_of e) (numbered_of f) (numbered_of g) → IsInterned names xs (tree.if_term (term_tree s c) (term_tree r t) (term_tree q u)) old new before after (Ok made)
 if_interned names xs ys zs s r q c t u old mid low new before between behind after e f g made stand one same two alike three is =
@@ -169,7 +169,7 @@ if_interned names xs ys zs s r q c t u old mid low new before between behind aft
     }
 
 pub let_interned : (names : List NumberedName) (xs ys : List (Option Name)) (b : Option Name) (p s r : Span) (t u : TermNode) (old mid new : List Typ) (before between after : List TypeFault)
-    (e f made : InternedTerm) → NamesStand old names → IsInterned names xs t old mid before between (Ok e) → ys ≡ xs → IsInterned names (b ∷ ys) u mid new between after (Ok f)
+    (e f made : InternedTerm) → TypeIdsStand old names → IsInterned names xs t old mid before between (Ok e) → ys ≡ xs → IsInterned names (b ∷ ys) u mid new between after (Ok f)
     → numbered_of made ≡ let_in (numbered_of e) (numbered_of f) → IsInterned names xs (tree.let_term (bound b p) (term_tree s t) (term_tree r u)) old new before after (Ok made)
 let_interned names xs ys b p s r t u old mid new before between after e f made stand one same two is =
     let first = form_between names xs xs t old old mid new before between e stand (keeps_same old) refl one two.types.keeps in
@@ -183,7 +183,7 @@ let_interned names xs ys b p s r t u old mid new before between after e f made s
 
 pub letrec_interned : (names : List NumberedName) (xs ys : List (Option Name)) (b : Option Name) (p s r : Span) (w : TypeTree) (t u : TermNode) (old mid low new : List Typ)
     (before between behind after : List TypeFault) (o : Option TyNo) (e f made : InternedTerm)
-    → NamesStand old names → IsWrittenInterned names w old mid before between (Ok o) → IsInterned names (b ∷ xs) t mid low between behind (Ok e) → ys ≡ xs
+    → TypeIdsStand old names → IsWrittenInterned names w old mid before between (Ok o) → IsInterned names (b ∷ xs) t mid low between behind (Ok e) → ys ≡ xs
     → IsInterned names (b ∷ ys) u low new behind after (Ok f)
     → numbered_of made ≡ let_in (fix (lambda o (numbered_of e))) (numbered_of f) → IsInterned names xs (tree.letrec_term (bound b p) w (term_tree s t) (term_tree r u)) old new before after (Ok made)
 letrec_interned names xs ys b p s r w t u old mid low new before between behind after o e f made stand one two same three is =
@@ -200,7 +200,7 @@ letrec_interned names xs ys b p s r w t u old mid low new before between behind 
     }
 
 pub apply_interned : (names : List NumberedName) (xs ys : List (Option Name)) (s r : Span) (t u : TermNode) (old mid new : List Typ) (before between after : List TypeFault)
-    (e f made : InternedTerm) → NamesStand old names → IsInterned names xs t old mid before between (Ok e) → ys ≡ xs → IsInterned names ys u mid new between after (Ok f)
+    (e f made : InternedTerm) → TypeIdsStand old names → IsInterned names xs t old mid before between (Ok e) → ys ≡ xs → IsInterned names ys u mid new between after (Ok f)
     → numbered_of made ≡ apply (numbered_of e) (numbered_of f) → IsInterned names xs (tree.apply (term_tree s t) (term_tree r u)) old new before after (Ok made)
 apply_interned names xs ys s r t u old mid new before between after e f made stand one same two is =
     let first = form_between names xs xs t old old mid new before between e stand (keeps_same old) refl one two.types.keeps in
@@ -213,7 +213,7 @@ apply_interned names xs ys s r t u old mid new before between after e f made sta
     }
 
 pub ascribe_interned : (names : List NumberedName) (xs : List (Option Name)) (s : Span) (t : TermNode) (u : TypeTree) (old mid new : List Typ) (before between after : List TypeFault)
-    (e : InternedTerm) (w : Option TyNo) (made : InternedTerm) → NamesStand old names → IsInterned names xs t old mid before between (Ok e) → IsWrittenInterned names u mid new between after (Ok w)
+    (e : InternedTerm) (w : Option TyNo) (made : InternedTerm) → TypeIdsStand old names → IsInterned names xs t old mid before between (Ok e) → IsWrittenInterned names u mid new between after (Ok w)
     → numbered_of made ≡ ascribe (numbered_of e) w → IsInterned names xs (tree.ascribe (term_tree s t) u) old new before after (Ok made)
 ascribe_interned names xs s t u old mid new before between after e w made stand one two is =
     let first = form_between names xs xs t old old mid new before between e stand (keeps_same old) refl one two.types.keeps in
@@ -247,7 +247,7 @@ stand_terms-push ts [] f all one = (one, tt)
 stand_terms-push ts (g ∷ es) f all one = (all.0, stand_terms-push ts es f all.1 one)
 
 pub terms_more : (names : List NumberedName) (xs ys : List (Option Name)) (fs : List TmField) (i : ℕ) (f : TmField) (old mid new : List Typ) (between after : List TypeFault)
-    (es more : List InternedField) (e : InternedTerm) (g : InternedField) (all : TermFields) → i < length fs → f ≡ get_or fs i f → NamesStand old names → Keeps old mid → ys ≡ xs
+    (es more : List InternedField) (e : InternedTerm) (g : InternedField) (all : TermFields) → i < length fs → f ≡ get_or fs i f → TypeIdsStand old names → Keeps old mid → ys ≡ xs
     → StandInTerms mid es → joined_terms (interned_terms mid es) (nameless_fields (abbreviations_over old names) xs (fields_of (drop i fs))) ≡ all
     → IsInterned names ys (term_node_of f.term.node) mid new between after (Ok e) → more ≡ es ++ g ∷ [] → g.term ≡ e → g.label.now ≡ letters f.label.text
     → StandInTerms new more × (joined_terms (interned_terms new more) (nameless_fields (abbreviations_over old names) xs (fields_of (drop (i + 1) fs))) ≡ all)
@@ -266,7 +266,7 @@ terms_more names xs ys fs i f old mid new between after es more e g all lt is st
 
 -- the faults of the written types of one more term
 pub term_faults_more : (names : List NumberedName) (us vs : List TypeTree) (old mid : List Typ) (between after all : List TypeFault)
-    → NamesStand old names → Keeps old mid → after ≡ between ++ faults_in (abbreviations_over mid names) us
+    → TypeIdsStand old names → Keeps old mid → after ≡ between ++ faults_in (abbreviations_over mid names) us
     → between ++ faults_in (abbreviations_over old names) (us ++ vs) ≡ all → after ++ faults_in (abbreviations_over old names) vs ≡ all
 term_faults_more names us vs old mid between after all stand earlier one so_far =
     let bs = abbreviations_over old names in
@@ -277,7 +277,7 @@ term_faults_more names us vs old mid between after all stand earlier one so_far 
     ∙ so_far
 
 pub term_limit_more : (names : List NumberedName) (us vs : List TypeTree) (old mid : List Typ) (all : Option Span)
-    → NamesStand old names → Keeps old mid → first_over_limit (abbreviations_over mid names) us ≡ None
+    → TypeIdsStand old names → Keeps old mid → first_over_limit (abbreviations_over mid names) us ≡ None
     → all ≡ first_over_limit (abbreviations_over old names) (us ++ vs) → all ≡ first_over_limit (abbreviations_over old names) vs
 term_limit_more names us vs old mid all stand earlier one so_far =
     let bs = abbreviations_over old names in
@@ -290,7 +290,7 @@ written_next fs i f lt is = ap written_in_fields (fields_of-drop fs i f lt is)
 
 -- a term of a record of which a written type is refused
 pub terms_refused : {T : Type 0} (names : List NumberedName) (xs : List (Option Name)) (fs : FieldTrees) (us vs : List TypeTree) (old mid new : List Typ) (before between after : List TypeFault) (x : ScopeFault)
-    (answer : Result (Vec InternedField Global) ScopeFault) → NamesStand old names → Keeps old mid → answer ≡ Err x
+    (answer : Result (Vec InternedField Global) ScopeFault) → TypeIdsStand old names → Keeps old mid → answer ≡ Err x
     → first_over_limit (abbreviations_over old names) (written_in_fields fs) ≡ first_over_limit (abbreviations_over old names) (us ++ vs)
     → AreTypesInterned {T = T} names us mid new between after (Err x) → AreInterned names xs fs old new before after answer
 terms_refused {T} names xs fs us vs old mid new before between after x answer stand earlier is so_far one =

@@ -20,7 +20,7 @@ use Rattle.lam_syntax.proofs.Shapes.{type_node_of-Bool, type_node_of-Nat, type_n
 use Rattle.lam_scope.specs.declared.type_fault.TypeFault.{TypeFault}
 use Rattle.lam_scope.specs.Expansions.{Abbreviation, both, has_label, expansion, expansion_of_node, expansion_of_fields, node_faults, type_faults, field_faults, label_fault}
 use Rattle.lam_scope.specs.Numbered.{written_over, StandsIfAny}
-use Rattle.lam_scope.specs.NumberedNames.{NumberedName, abbreviations_over, NamesStand}
+use Rattle.lam_scope.specs.NumberedNames.{NumberedName, abbreviations_over, TypeIdsStand}
 use Rattle.lam_scope.specs.inner.Interned.{given_over, GivenStand, with_given, IsTypeInterned}
 use Rattle.lam_scope.proofs.InternedTerms.{kept_written}
 use Rattle.lam_scope.proofs.TypeNames.{meaning_over, is_bound_over, named_stands, kept_names}
@@ -30,7 +30,7 @@ use Rattle.lam_scope.proofs.WrittenTypes.{type_fields_of-drop, type_fields_of-ta
 -- an arrow
 
 pub arrow_interned : (names : List NumberedName) (s t : Span) (a b : TypeNode) (old mid low new : List Typ) (before between after : List TypeFault) (p q : Option TyNo) (answer : Result (Option TyNo) AllocError)
-    → NamesStand old names → IsTypeInterned names a old mid before between (Ok p) → IsTypeInterned names b mid low between after (Ok q) → Keeps low new
+    → TypeIdsStand old names → IsTypeInterned names a old mid before between (Ok p) → IsTypeInterned names b mid low between after (Ok q) → Keeps low new
     → IfOk answer (λ w. written_over new w ≡ both rules.arrow (written_over low p) (written_over low q)) → IfOk answer (λ w. StandsIfAny new w)
     → IsTypeInterned names (arrow (type_tree s a) (type_tree t b)) old new before after answer
 arrow_interned names s t a b old mid low new before between after p q (Ok w) stand one two keeps number stands =
@@ -46,7 +46,7 @@ arrow_interned names s t a b old mid low new before between after p q (Err x) st
     record { keeps = keeps_trans old low new (keeps_trans old mid low one.keeps two.keeps) keeps; number = tt; stands = tt; faults = tt }
 
 pub names_stand_on : (names : List NumberedName) (a : TypeNode) (old mid : List Typ) (before after : List TypeFault) (p : Option TyNo)
-    → IsTypeInterned names a old mid before after (Ok p) → NamesStand old names → NamesStand mid names
+    → IsTypeInterned names a old mid before after (Ok p) → TypeIdsStand old names → TypeIdsStand mid names
 names_stand_on names a old mid before after p one stand = (kept_names old mid names one.keeps stand).1
 
 -- labelled numbers
@@ -91,7 +91,7 @@ kept_given_over old now (Some items) k h = let all = kept_given old now items k 
 
 -- one more field has its number
 pub numbered_more : (names : List NumberedName) (fs : List TyField) (i : ℕ) (f : TyField) (old mid new : List Typ) (items more : Option (List (Bor (List ℕ) × TyNo))) (w : Option TyNo)
-    (label : Bor (List ℕ)) (all : Option Fields) → i < length fs → f ≡ get_or fs i f → NamesStand old names → Keeps old mid → Keeps mid new
+    (label : Bor (List ℕ)) (all : Option Fields) → i < length fs → f ≡ get_or fs i f → TypeIdsStand old names → Keeps old mid → Keeps mid new
     → written_over new w ≡ expansion (abbreviations_over mid names) (type_tree_of f.ty) → StandsIfAny new w → GivenStand mid items → label.now ≡ letters f.label.text
     → more ≡ both (with_given label) items (if has_label (letters f.label.text) (type_fields_of (drop (i + 1) fs)) then None else w)
     → both joined (given_over mid items) (expansion_of_fields (abbreviations_over old names) (type_fields_of (drop i fs))) ≡ all

@@ -9,7 +9,7 @@ use Rattle.lam_scope.specs.declared.type_names.TypeName.{TypeName}
 use Rattle.lam_scope.specs.Names.{Name}
 use Rattle.lam_scope.specs.Expansions.{stands_for, meaning, is_bound}
 use Rattle.lam_scope.specs.Numbered.{written_over, StandsIfAny}
-use Rattle.lam_scope.specs.NumberedNames.{NumberedName, numbered_name_of, numbered_names_of, number_named, abbreviations_over, NamesStand}
+use Rattle.lam_scope.specs.NumberedNames.{NumberedName, numbered_name_of, numbered_names_of, number_named, abbreviations_over, TypeIdsStand}
 use Rattle.lam_scope.specs.inner.Interned.{number_of_named, is_named}
 use Rattle.lam_scope.proofs.InternedTerms.{kept_written}
 use Rattle.lam_scope.proofs.StackViews.{stacked-push, stacked-drop, stacked-drop_all}
@@ -61,11 +61,11 @@ pub is_bound_over : (ts : List Typ) (x : Name) (names : List NumberedName) → i
 is_bound_over ts x [] = refl
 is_bound_over ts x (t ∷ names) = ap (λ b. if bytes_eq t.name x then true else b) (is_bound_over ts x names) ∙ sym (either_named (bytes_eq t.name x) t.number (number_named x names))
 
-pub named_stands : (ts : List Typ) (x : Name) (names : List NumberedName) → NamesStand ts names → StandsIfAny ts (number_of_named (number_named x names))
+pub named_stands : (ts : List Typ) (x : Name) (names : List NumberedName) → TypeIdsStand ts names → StandsIfAny ts (number_of_named (number_named x names))
 named_stands ts x [] h = tt
 named_stands ts x (t ∷ names) h = either_stands ts (bytes_eq t.name x) t.number (number_named x names) h.0 (named_stands ts x names h.1)
 
-pub kept_names : (old now : List Typ) (names : List NumberedName) → Keeps old now → NamesStand old names → (abbreviations_over now names ≡ abbreviations_over old names) × NamesStand now names
+pub kept_names : (old now : List Typ) (names : List NumberedName) → Keeps old now → TypeIdsStand old names → (abbreviations_over now names ≡ abbreviations_over old names) × TypeIdsStand now names
 kept_names old now [] k h = (refl, tt)
 kept_names old now (t ∷ names) k h =
     let one = kept_written old now t.number k h.0 in

@@ -4,7 +4,7 @@ use Rattle.lam_rules.specs.Types.{Typ}
 use Rattle.lam_scope.specs.declared.environment.Environment.{Environment}
 use Rattle.lam_scope.specs.Names.{Name}
 use Rattle.lam_scope.specs.Expansions.{Abbreviation}
-use Rattle.lam_scope.specs.NumberedNames.{abbreviations_over, NamesStand}
+use Rattle.lam_scope.specs.NumberedNames.{abbreviations_over, TypeIdsStand}
 
 -- the binders of names, innermost first
 abbrev pub names_seen : Environment → List (Option Name)
@@ -16,4 +16,4 @@ abbreviations_seen ts e = abbreviations_over ts e.types
 
 -- the type ids of its type names are those of types of the table
 abbrev pub TypeNamesStand : List Typ → Environment → Type 0
-TypeNamesStand ts e = NamesStand ts e.types
+TypeNamesStand ts e = TypeIdsStand ts e.types

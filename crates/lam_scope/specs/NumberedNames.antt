@@ -36,6 +36,6 @@ abbrev pub abbreviations_over : List Typ → List NumberedName → List Abbrevia
 abbreviations_over ts names = map (abbreviation_over ts) names
 
 -- each of them that stands for a type has the id of one of the table
-abbrev pub NamesStand : List Typ → List NumberedName → Type 0
-NamesStand ts [] = Unit {0}
-NamesStand ts (t ∷ more) = StandsIfAny ts t.number × NamesStand ts more
+abbrev pub TypeIdsStand : List Typ → List NumberedName → Type 0
+TypeIdsStand ts [] = Unit {0}
+TypeIdsStand ts (t ∷ more) = StandsIfAny ts t.number × TypeIdsStand ts more

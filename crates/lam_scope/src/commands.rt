@@ -4,7 +4,7 @@ ghost use Rattle.lam_rules.specs.Types.{Typ};
 ghost use Rattle.lam_rules.specs.Numbers.{Keeps};
 ghost use Rattle.lam_syntax.specs.Views.{command_of};
 ghost use Rattle.lam_scope.specs.Nameless.{statement, written_in_command, faults_in, first_over_limit};
-ghost use Rattle.lam_scope.specs.NumberedNames.{NamesStand};
+ghost use Rattle.lam_scope.specs.NumberedNames.{TypeIdsStand};
 ghost use Rattle.lam_scope.specs.Environments.{names_seen, abbreviations_seen, TypeNamesStand};
 ghost use Rattle.lam_scope.specs.InternedViews.{interned_statement, StandInStatement};
 ghost use Rattle.lam_scope.specs.Views.{IsLimit};
@@ -70,7 +70,7 @@ fn state<'a>(
     names: &mut FewNames<'a>,
     command: &'a Command,
 ) -> Result<InternedStatement<'a>, ScopeFault>
-    requires { NamesStand table.old seen.now }
+    requires { TypeIdsStand table.old seen.now }
     ensures stated { IsStated seen.now names.old (command_of command.now) table.old table.new interning.old.faults.items interning.new.faults.items result }
     ensures names { OnOk result (names.new ≡ names.old) }
 {

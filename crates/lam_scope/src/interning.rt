@@ -10,7 +10,7 @@ ghost use Rattle.lam_scope.specs.Names.{count};
 ghost use Rattle.lam_scope.specs.Expansions.{is_over_limit};
 ghost use Rattle.lam_scope.specs.Nameless.{use_counted};
 ghost use Rattle.lam_scope.specs.Numbered.{written_over, StandsIfAny};
-ghost use Rattle.lam_scope.specs.NumberedNames.{NamesStand};
+ghost use Rattle.lam_scope.specs.NumberedNames.{TypeIdsStand};
 ghost use Rattle.lam_scope.specs.InternedViews.{interned_term, StandIn};
 ghost use Rattle.lam_scope.specs.inner.Interned.{IsWrittenInterned, IsInterned, AreInterned};
 
@@ -42,7 +42,7 @@ pub(crate) fn intern_term<'a>(
     names: &mut FewNames<'a>,
     term: &'a Tm,
 ) -> Result<InternedTerm<'a>, ScopeFault>
-    requires { NamesStand table.old seen.now }
+    requires { TypeIdsStand table.old seen.now }
     ensures interned { IsInterned seen.now names.old (term_node_of term.now.node) table.old table.new interning.old.faults.items interning.new.faults.items result }
     ensures names { OnOk result (names.new ≡ names.old) }
 {
@@ -74,7 +74,7 @@ pub(crate) fn intern_written(
     seen: &TypeNames<'_>,
     ty: &WrittenTy,
 ) -> Result<Option<TyNo>, ScopeFault>
-    requires { NamesStand table.old seen.now }
+    requires { TypeIdsStand table.old seen.now }
     ensures { IsWrittenInterned seen.now (type_of ty.now) table.old table.new interning.old.faults.items interning.new.faults.items result }
 {
     let number = intern_type(interning, table, seen, ty)?;
@@ -105,7 +105,7 @@ fn intern_under<'a>(
     binder: &'a Binder,
     body: &'a Tm,
 ) -> Result<InternedTerm<'a>, ScopeFault>
-    requires { NamesStand table.old seen.now }
+    requires { TypeIdsStand table.old seen.now }
     ensures interned { IsInterned seen.now (option_map (λ s. letters s) binder.now.name ∷ names.old) (term_node_of body.now.node) table.old table.new interning.old.faults.items interning.new.faults.items result }
     ensures names { OnOk result (names.new ≡ names.old) }
 {
@@ -123,7 +123,7 @@ fn lambda_of<'a>(
     names: &mut FewNames<'a>,
     term: &'a Lambda,
 ) -> Result<InternedTerm<'a>, ScopeFault>
-    requires { NamesStand table.old seen.now }
+    requires { TypeIdsStand table.old seen.now }
     ensures interned { IsInterned seen.now names.old (lambda (bound_of term.now.binder) (type_of term.now.ty) (tree_of term.now.body)) table.old table.new interning.old.faults.items interning.new.faults.items result }
     ensures names { OnOk result (names.new ≡ names.old) }
 {
@@ -140,7 +140,7 @@ fn if_of<'a>(
     names: &mut FewNames<'a>,
     term: &'a Conditional,
 ) -> Result<InternedTerm<'a>, ScopeFault>
-    requires { NamesStand table.old seen.now }
+    requires { TypeIdsStand table.old seen.now }
     ensures interned { IsInterned seen.now names.old (if_term (tree_of term.now.condition) (tree_of term.now.then_term) (tree_of term.now.else_term)) table.old table.new interning.old.faults.items interning.new.faults.items result }
     ensures names { OnOk result (names.new ≡ names.old) }
 {
@@ -158,7 +158,7 @@ fn let_of<'a>(
     names: &mut FewNames<'a>,
     term: &'a Let,
 ) -> Result<InternedTerm<'a>, ScopeFault>
-    requires { NamesStand table.old seen.now }
+    requires { TypeIdsStand table.old seen.now }
     ensures interned { IsInterned seen.now names.old (let_term (bound_of term.now.binder) (tree_of term.now.bound) (tree_of term.now.body)) table.old table.new interning.old.faults.items interning.new.faults.items result }
     ensures names { OnOk result (names.new ≡ names.old) }
 {
@@ -175,7 +175,7 @@ fn letrec_of<'a>(
     names: &mut FewNames<'a>,
     term: &'a Letrec,
 ) -> Result<InternedTerm<'a>, ScopeFault>
-    requires { NamesStand table.old seen.now }
+    requires { TypeIdsStand table.old seen.now }
     ensures interned { IsInterned seen.now names.old (letrec_term (bound_of term.now.binder) (type_of term.now.ty) (tree_of term.now.bound) (tree_of term.now.body)) table.old table.new interning.old.faults.items interning.new.faults.items result }
     ensures names { OnOk result (names.new ≡ names.old) }
 {
@@ -194,7 +194,7 @@ fn prefixed_of<'a>(
     prefix: Prefix,
     operand: &'a Tm,
 ) -> Result<InternedTerm<'a>, ScopeFault>
-    requires { NamesStand table.old seen.now }
+    requires { TypeIdsStand table.old seen.now }
     ensures interned { IsInterned seen.now names.old (prefixed_term prefix (tree_of operand.now)) table.old table.new interning.old.faults.items interning.new.faults.items result }
     ensures names { OnOk result (names.new ≡ names.old) }
 {
@@ -210,7 +210,7 @@ fn apply_of<'a>(
     names: &mut FewNames<'a>,
     term: &'a Application,
 ) -> Result<InternedTerm<'a>, ScopeFault>
-    requires { NamesStand table.old seen.now }
+    requires { TypeIdsStand table.old seen.now }
     ensures interned { IsInterned seen.now names.old (apply (tree_of term.now.function) (tree_of term.now.argument)) table.old table.new interning.old.faults.items interning.new.faults.items result }
     ensures names { OnOk result (names.new ≡ names.old) }
 {
@@ -227,7 +227,7 @@ fn project_of<'a>(
     names: &mut FewNames<'a>,
     term: &'a Projection,
 ) -> Result<InternedTerm<'a>, ScopeFault>
-    requires { NamesStand table.old seen.now }
+    requires { TypeIdsStand table.old seen.now }
     ensures interned { IsInterned seen.now names.old (project (tree_of term.now.record) (word_of term.now.label)) table.old table.new interning.old.faults.items interning.new.faults.items result }
     ensures names { OnOk result (names.new ≡ names.old) }
 {
@@ -244,7 +244,7 @@ fn ascribe_of<'a>(
     names: &mut FewNames<'a>,
     term: &'a Ascription,
 ) -> Result<InternedTerm<'a>, ScopeFault>
-    requires { NamesStand table.old seen.now }
+    requires { TypeIdsStand table.old seen.now }
     ensures interned { IsInterned seen.now names.old (ascribe (tree_of term.now.operand) (type_of term.now.ty)) table.old table.new interning.old.faults.items interning.new.faults.items result }
     ensures names { OnOk result (names.new ≡ names.old) }
 {
@@ -261,7 +261,7 @@ fn record_of<'a>(
     names: &mut FewNames<'a>,
     fields: &'a [TmField],
 ) -> Result<InternedTerm<'a>, ScopeFault>
-    requires { NamesStand table.old seen.now }
+    requires { TypeIdsStand table.old seen.now }
     ensures interned { IsInterned seen.now names.old (record_term (fields_of fields.now)) table.old table.new interning.old.faults.items interning.new.faults.items result }
     ensures names { OnOk result (names.new ≡ names.old) }
 {
@@ -277,7 +277,7 @@ fn intern_fields<'a>(
     names: &mut FewNames<'a>,
     fields: &'a [TmField],
 ) -> Result<Vec<InternedField<'a>>, ScopeFault>
-    requires { NamesStand table.old seen.now }
+    requires { TypeIdsStand table.old seen.now }
     ensures interned { AreInterned seen.now names.old (fields_of fields.now) table.old table.new interning.old.faults.items interning.new.faults.items result }
     ensures names { OnOk result (names.new ≡ names.old) }
 {

@@ -9,7 +9,7 @@ ghost use Rattle.lam_syntax.specs.Views.{type_node_of, type_of, type_fields_of};
 ghost use Rattle.lam_scope.specs.declared.type_fault.TypeFault.TheVariants.{UnboundTypeName};
 ghost use Rattle.lam_scope.specs.Expansions.{both, has_label};
 ghost use Rattle.lam_scope.specs.Numbered.{written_over, StandsIfAny};
-ghost use Rattle.lam_scope.specs.NumberedNames.{number_named, NamesStand};
+ghost use Rattle.lam_scope.specs.NumberedNames.{number_named, TypeIdsStand};
 ghost use Rattle.lam_scope.specs.inner.Interned.{number_of_named, is_named, items_in, with_given, IsTypeInterned, AreFieldsInterned};
 
 use crate::expansion::{collect_label_fault, has_label};
@@ -36,7 +36,7 @@ pub(crate) fn intern_type(
     seen: &TypeNames<'_>,
     ty: &WrittenTy,
 ) -> Result<Option<TyNo>, AllocError>
-    requires { NamesStand table.old seen.now }
+    requires { TypeIdsStand table.old seen.now }
     ensures { IsTypeInterned seen.now (type_node_of ty.now.node) table.old table.new interning.old.faults.items interning.new.faults.items result }
 {
     match &ty.node {
@@ -86,7 +86,7 @@ fn intern_arrow(
     seen: &TypeNames<'_>,
     arrow: &ArrowTy,
 ) -> Result<Option<TyNo>, AllocError>
-    requires { NamesStand table.old seen.now }
+    requires { TypeIdsStand table.old seen.now }
     ensures { IsTypeInterned seen.now (arrow_node (type_of arrow.now.parameter) (type_of arrow.now.outcome)) table.old table.new interning.old.faults.items interning.new.faults.items result }
 {
     let parameter = intern_type(interning, table, seen, &arrow.parameter)?;
@@ -123,7 +123,7 @@ fn intern_record(
     seen: &TypeNames<'_>,
     fields: &[TyField],
 ) -> Result<Option<TyNo>, AllocError>
-    requires { NamesStand table.old seen.now }
+    requires { TypeIdsStand table.old seen.now }
     ensures { IsTypeInterned seen.now (record_type (type_fields_of fields.now)) table.old table.new interning.old.faults.items interning.new.faults.items result }
 {
     match intern_fields(interning, table, seen, fields)? {
@@ -144,7 +144,7 @@ fn intern_fields<'f>(
     seen: &TypeNames<'_>,
     fields: &'f [TyField],
 ) -> Result<Option<Vec<(&'f str, TyNo)>>, AllocError>
-    requires { NamesStand table.old seen.now }
+    requires { TypeIdsStand table.old seen.now }
     ensures { AreFieldsInterned seen.now (type_fields_of fields.now) table.old table.new interning.old.faults.items interning.new.faults.items result }
 {
     let mut items = Some(Vec::with_capacity(interning.alloc, fields.len())?);
