@@ -8,7 +8,7 @@ use Rattle.std.specs.Option.{option_to_list}
 use Rattle.lam_token.specs.declared.span.Span.{Span}
 use Rattle.lam_token.specs.Lexeme.{Lexeme, span_of}
 use Rattle.lam_syntax.specs.Trees.{from_to}
-use Rattle.lam_syntax.specs.Answers.{token_limit, IsTaken, GoesWrongAt, EndsEarly}
+use Rattle.lam_syntax.specs.Answers.{token_limit, IsLexed, GoesWrongAt, EndsEarly}
 use Rattle.lam_syntax.specs.inner.Reads.{with_piece}
 use Rattle.lam_query.specs.declared.answers.Fault.{Fault as RustFault}
 use Rattle.lam_query.specs.Faults.{Fault}
@@ -27,10 +27,10 @@ pub long_fault : (ts : List Lexeme) (first last : Lexeme) (s r : Span) → token
 long_fault ts first last s r over at_first at_last is_s is_r =
     rw (is_s, is_r) (too_long over (token_at ts 0 first (omega arith) at_first) (token_at ts (length ts - 1) last (omega arith) at_last))
 
-pub wrong_fault : (ts : List Lexeme) (k : ℕ) (t : Lexeme) (s : Span) → IsTaken ts → GoesWrongAt ts k → t ≡ get_or ts k t → s ≡ span_of t → PieceFault ts (Some (fault_at (codes "P1") s))
+pub wrong_fault : (ts : List Lexeme) (k : ℕ) (t : Lexeme) (s : Span) → IsLexed ts → GoesWrongAt ts k → t ≡ get_or ts k t → s ≡ span_of t → PieceFault ts (Some (fault_at (codes "P1") s))
 wrong_fault ts k t s taken wrong at is_s = rw is_s (goes_wrong taken wrong (token_at ts k t wrong.inside at))
 
-pub early_fault : (ts : List Lexeme) (last : Lexeme) (s : Span) → 0 < length ts → IsTaken ts → EndsEarly ts → last ≡ get_or ts (length ts - 1) last → s ≡ span_of last
+pub early_fault : (ts : List Lexeme) (last : Lexeme) (s : Span) → 0 < length ts → IsLexed ts → EndsEarly ts → last ≡ get_or ts (length ts - 1) last → s ≡ span_of last
     → PieceFault ts (Some (fault_at (codes "P2") s))
 early_fault ts last s some taken early at is_s = rw is_s (ends_early taken early (token_at ts (length ts - 1) last (omega arith) at))
 

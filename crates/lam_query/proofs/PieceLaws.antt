@@ -7,7 +7,7 @@ use Rattle.std.specs.Option.{option_to_list}
 use Rattle.lam_token.specs.Lexeme.{Lexeme, span_of}
 use Rattle.lam_syntax.specs.Trees.{CommandTree, from_to}
 use Rattle.lam_syntax.specs.Grammar.{Spells}
-use Rattle.lam_syntax.specs.Answers.{token_limit, has_bad, IsTaken, GoesWrongAt, EndsEarly, runs_of, pieces_of}
+use Rattle.lam_syntax.specs.Answers.{token_limit, has_bad, IsLexed, GoesWrongAt, EndsEarly, runs_of, pieces_of}
 use Rattle.lam_syntax.proofs.AnswerLaws.{some_answer, spelled_begins, not_wrong, one_wrong_place}
 use Rattle.lam_syntax.proofs.Runs.{none_empty}
 use Rattle.lam_query.specs.Faults.{Fault}
@@ -27,17 +27,17 @@ long_piece ts many =
     let last = some_at ts (length ts - 1) (omega arith) in
     (Some (fault_at (codes "L2") (from_to (span_of first.0) (span_of last.0))), too_long many first.1 last.1)
 
-wrong_piece : (ts : List Lexeme) (k : ℕ) → IsTaken ts → GoesWrongAt ts k → (one : Option Fault) × PieceFault ts one
+wrong_piece : (ts : List Lexeme) (k : ℕ) → IsLexed ts → GoesWrongAt ts k → (one : Option Fault) × PieceFault ts one
 wrong_piece ts k taken wrong =
     let t = some_at ts k wrong.inside in
     (Some (fault_at (codes "P1") (span_of t.0)), goes_wrong taken wrong t.1)
 
-early_piece : (ts : List Lexeme) → 0 < length ts → IsTaken ts → EndsEarly ts → (one : Option Fault) × PieceFault ts one
+early_piece : (ts : List Lexeme) → 0 < length ts → IsLexed ts → EndsEarly ts → (one : Option Fault) × PieceFault ts one
 early_piece ts some taken early =
     let last = some_at ts (length ts - 1) (omega arith) in
     (Some (fault_at (codes "P2") (span_of last.0)), ends_early taken early last.1)
 
-taken_piece : (ts : List Lexeme) → 0 < length ts → IsTaken ts → ((c : CommandTree) × Spells ts c) ⊎ (((k : ℕ) × GoesWrongAt ts k) ⊎ EndsEarly ts) → (one : Option Fault) × PieceFault ts one
+taken_piece : (ts : List Lexeme) → 0 < length ts → IsLexed ts → ((c : CommandTree) × Spells ts c) ⊎ (((k : ℕ) × GoesWrongAt ts k) ⊎ EndsEarly ts) → (one : Option Fault) × PieceFault ts one
 taken_piece ts some taken (inl spelled) = (None, a_command taken spelled.1)
 taken_piece ts some taken (inr (inl wrong)) = wrong_piece ts wrong.0 taken wrong.1
 taken_piece ts some taken (inr (inr early)) = early_piece ts some taken early
@@ -128,17 +128,17 @@ one_list_of_pieces tokens fs gs are are' = one_piece_faults (pieces_of tokens) f
 
 -- ---- the commands of pieces
 
-taken_or_not : (ts : List Lexeme) (b : Bool) → has_bad ts ≡ b → (token_limit < length ts) ⊎ (length ts ≤ token_limit) → IsTaken ts ⊎ (IsTaken ts → ⊥)
+taken_or_not : (ts : List Lexeme) (b : Bool) → has_bad ts ≡ b → (token_limit < length ts) ⊎ (length ts ≤ token_limit) → IsLexed ts ⊎ (IsLexed ts → ⊥)
 taken_or_not ts true bad few = inr (λ taken. both_bad (has_bad ts) bad taken.none_bad)
 taken_or_not ts false good (inl many) = inr (λ taken. both_sizes (length ts) many taken.few)
 taken_or_not ts false good (inr few) = inl (record { few = few; none_bad = good })
 
-spelled_or_not : (ts : List Lexeme) → IsTaken ts → ((c : CommandTree) × Spells ts c) ⊎ (((k : ℕ) × GoesWrongAt ts k) ⊎ EndsEarly ts) → ((c : CommandTree) × IsCommandOf ts c) ⊎ ((c : CommandTree) → IsCommandOf ts c → ⊥)
+spelled_or_not : (ts : List Lexeme) → IsLexed ts → ((c : CommandTree) × Spells ts c) ⊎ (((k : ℕ) × GoesWrongAt ts k) ⊎ EndsEarly ts) → ((c : CommandTree) × IsCommandOf ts c) ⊎ ((c : CommandTree) → IsCommandOf ts c → ⊥)
 spelled_or_not ts taken (inl spelled) = inl (spelled.0, record { taken = taken; spelled = spelled.1 })
 spelled_or_not ts taken (inr (inl wrong)) = inr (λ c is. not_wrong ts wrong.0 (spelled_begins ts c is.spelled) wrong.1)
 spelled_or_not ts taken (inr (inr early)) = inr (λ c is. early.none c is.spelled)
 
-command_or_not : (ts : List Lexeme) → IsTaken ts ⊎ (IsTaken ts → ⊥) → ((c : CommandTree) × IsCommandOf ts c) ⊎ ((c : CommandTree) → IsCommandOf ts c → ⊥)
+command_or_not : (ts : List Lexeme) → IsLexed ts ⊎ (IsLexed ts → ⊥) → ((c : CommandTree) × IsCommandOf ts c) ⊎ ((c : CommandTree) → IsCommandOf ts c → ⊥)
 command_or_not ts (inl taken) = spelled_or_not ts taken (some_answer ts)
 command_or_not ts (inr untaken) = inr (λ c is. untaken is.taken)
 

@@ -9,7 +9,7 @@ use Rattle.lam_token.specs.declared.kind.Kind.TheVariants as kind
 use Rattle.lam_token.specs.Edits.{span_placed, respelled}
 use Rattle.lam_token.specs.Lexeme.{Lexeme, lexeme, kind_of}
 use Rattle.lam_token.specs.MovedTokens.{placed_by}
-use Rattle.lam_syntax.specs.Answers.{token_limit, is_bad, has_bad, IsTaken, GoesWrongAt, EndsEarly, pieces_of}
+use Rattle.lam_syntax.specs.Answers.{token_limit, is_bad, has_bad, IsLexed, GoesWrongAt, EndsEarly, pieces_of}
 use Rattle.lam_syntax.specs.Grammar.{Spells, Begins}
 use Rattle.lam_syntax.specs.Trees.{CommandTree}
 use Rattle.lam_syntax.proofs.RespelledPieces.{pieces_respelled, taken_respelled}
@@ -52,10 +52,10 @@ module _ (place : ℕ → ℕ) where
   spelled_here : (ts : List Lexeme) (c : CommandTree) → Spells (tokens_there place ts) c → (d : CommandTree) × Spells ts d
   spelled_here ts c is = same_kinds_spell (tokens_there place ts) ts c (kinds_kept ts) is
 
-  taken_there : (ts : List Lexeme) → IsTaken ts → IsTaken (tokens_there place ts)
+  taken_there : (ts : List Lexeme) → IsLexed ts → IsLexed (tokens_there place ts)
   taken_there ts taken = (taken_respelled place (λ kind text span. text) ts).1 taken
 
-  taken_here : (ts : List Lexeme) → IsTaken (tokens_there place ts) → IsTaken ts
+  taken_here : (ts : List Lexeme) → IsLexed (tokens_there place ts) → IsLexed ts
   taken_here ts taken = (taken_respelled place (λ kind text span. text) ts).0 taken
 
   own_there : (ts : List Lexeme) (own : List CommandTree) → IsOwnOf ts own → IsOwnOf (tokens_there place ts) (map (command_there place) own)

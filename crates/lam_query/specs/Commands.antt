@@ -4,11 +4,11 @@ use Rattle.lam_token.specs.Lexeme.{Lexeme}
 use Rattle.lam_token.specs.Cut.{AreTokensOf}
 use Rattle.lam_syntax.specs.Trees.{CommandTree}
 use Rattle.lam_syntax.specs.Grammar.{Spells}
-use Rattle.lam_syntax.specs.Answers.{IsTaken, pieces_of}
+use Rattle.lam_syntax.specs.Answers.{IsLexed, pieces_of}
 
 -- a piece is a command: it has few enough tokens, none is bad, and they derive that tree
 pub record IsCommandOf (piece : List Lexeme) (c : CommandTree) : Type 0 where
-  pub taken : IsTaken piece
+  pub taken : IsLexed piece
   pub spelled : Spells piece c
 
 -- the commands of pieces, in order; a piece that is no command is skipped

@@ -8,7 +8,7 @@ use Rattle.lam_token.specs.Lexeme.{Lexeme, lexeme, span_of}
 use Rattle.lam_rules.specs.Texts.{Text}
 use Rattle.lam_syntax.specs.Trees.{CommandTree, from_to}
 use Rattle.lam_syntax.specs.Grammar.{Spells}
-use Rattle.lam_syntax.specs.Answers.{token_limit, has_bad, IsTaken, GoesWrongAt, EndsEarly, pieces_of}
+use Rattle.lam_syntax.specs.Answers.{token_limit, has_bad, IsLexed, GoesWrongAt, EndsEarly, pieces_of}
 use Rattle.lam_query.specs.Faults.{Fault}
 
 -- the diagnostic with this code at this span
@@ -27,12 +27,12 @@ pub data PieceFault : List Lexeme → Option Fault → Type 0 where
       → token_limit < length ts → slice_get ts 0 ≡ Some first → slice_get ts (length ts - 1) ≡ Some last
       → PieceFault ts (Some (fault_at (codes "L2") (from_to (span_of first) (span_of last))))
   spoiled : {ts : List Lexeme} → length ts ≤ token_limit → has_bad ts ≡ true → PieceFault ts None
-  a_command : {ts : List Lexeme} {c : CommandTree} → IsTaken ts → Spells ts c → PieceFault ts None
+  a_command : {ts : List Lexeme} {c : CommandTree} → IsLexed ts → Spells ts c → PieceFault ts None
   goes_wrong : {ts : List Lexeme} {k : ℕ} {t : Lexeme}
-      → IsTaken ts → GoesWrongAt ts k → slice_get ts k ≡ Some t
+      → IsLexed ts → GoesWrongAt ts k → slice_get ts k ≡ Some t
       → PieceFault ts (Some (fault_at (codes "P1") (span_of t)))
   ends_early : {ts : List Lexeme} {last : Lexeme}
-      → IsTaken ts → EndsEarly ts → slice_get ts (length ts - 1) ≡ Some last
+      → IsLexed ts → EndsEarly ts → slice_get ts (length ts - 1) ≡ Some last
       → PieceFault ts (Some (fault_at (codes "P2") (span_of last)))
 
 -- the diagnostics of pieces, in order

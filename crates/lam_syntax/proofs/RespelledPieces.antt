@@ -3,7 +3,7 @@ use Rattle.std.proofs.Common.{◌≡◌, ◌↔◌, ℕ, ◌≤◌, Bool, true, 
 use Rattle.std.proofs.lemmas.List.{length-map}
 use Rattle.lam_token.specs.Lexeme.{Lexeme, lexeme, kind_of}
 use Rattle.lam_token.specs.Edits.{respelled}
-use Rattle.lam_syntax.specs.Answers.{token_limit, is_bad, has_bad, IsTaken, ends_piece, onto_first, runs_of, has_tokens, pieces_of}
+use Rattle.lam_syntax.specs.Answers.{token_limit, is_bad, has_bad, IsLexed, ends_piece, onto_first, runs_of, has_tokens, pieces_of}
 use Rattle.lam_syntax.specs.Respelled.{Letters}
 
 module _ (change : Lexeme → Lexeme) (same_kind : (t : Lexeme) → kind_of (change t) ≡ kind_of t) where
@@ -42,7 +42,7 @@ module _ (change : Lexeme → Lexeme) (same_kind : (t : Lexeme) → kind_of (cha
   bad_changed (t ∷ ts) = ap (λ kind. is_bad kind || has_bad (map change ts)) (same_kind t) ∙ ap (λ bad. is_bad (kind_of t) || bad) (bad_changed ts)
 
   -- the grammar decides on the changed tokens where it decides on those that they were
-  taken_changed : (ts : List Lexeme) → IsTaken (map change ts) ↔ IsTaken ts
+  taken_changed : (ts : List Lexeme) → IsLexed (map change ts) ↔ IsLexed ts
   taken_changed ts = (
     λ taken. record { few = subst (λ n. n ≤ token_limit) (length-map ts change) taken.few; none_bad = sym (bad_changed ts) ∙ taken.none_bad },
     λ taken. record { few = subst (λ n. n ≤ token_limit) (sym (length-map ts change)) taken.few; none_bad = bad_changed ts ∙ taken.none_bad },
@@ -57,5 +57,5 @@ pub pieces_respelled : (place : ℕ → ℕ) (letters : Letters) (ts : List Lexe
 pieces_respelled place letters ts = pieces_changed (respelled place letters) (kind_respelled place letters) ts
 
 -- as many of them are too many or bad
-pub taken_respelled : (place : ℕ → ℕ) (letters : Letters) (ts : List Lexeme) → IsTaken (map (respelled place letters) ts) ↔ IsTaken ts
+pub taken_respelled : (place : ℕ → ℕ) (letters : Letters) (ts : List Lexeme) → IsLexed (map (respelled place letters) ts) ↔ IsLexed ts
 taken_respelled place letters ts = taken_changed (respelled place letters) (kind_respelled place letters) ts

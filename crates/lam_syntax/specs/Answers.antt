@@ -24,7 +24,7 @@ abbrev pub has_bad : List Lexeme → Bool
 has_bad ts = list_any (λ t. is_bad (kind_of t)) ts
 
 -- there are not too many tokens and none is bad, so the grammar decides
-pub record IsTaken (ts : List Lexeme) : Type 0 where
+pub record IsLexed (ts : List Lexeme) : Type 0 where
   pub few : length ts ≤ token_limit
   pub none_bad : has_bad ts ≡ false
 
@@ -43,9 +43,9 @@ pub record EndsEarly (ts : List Lexeme) : Type 0 where
 abbrev pub IsFaultOf : List Lexeme → ParseFault → Type 0
 IsFaultOf ts faults.TooManyTokens = token_limit < length ts
 IsFaultOf ts faults.BadToken = (length ts ≤ token_limit) × (has_bad ts ≡ true)
-IsFaultOf ts (faults.WrongToken k) = IsTaken ts × GoesWrongAt ts k
-IsFaultOf ts faults.WrongEnd = IsTaken ts × EndsEarly ts
-IsFaultOf ts faults.Memory = IsTaken ts
+IsFaultOf ts (faults.WrongToken k) = IsLexed ts × GoesWrongAt ts k
+IsFaultOf ts faults.WrongEnd = IsLexed ts × EndsEarly ts
+IsFaultOf ts faults.Memory = IsLexed ts
 
 -- Tokens are divided at each semicolon, and the pieces are the nonempty parts.
 

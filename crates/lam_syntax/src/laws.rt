@@ -7,7 +7,7 @@ ghost use Rattle.lam_token.specs.Cut.{AreTokensOf};
 ghost use Rattle.lam_token.specs.Edits.{respelled};
 ghost use Rattle.lam_syntax.specs.Trees.{CommandTree};
 ghost use Rattle.lam_syntax.specs.Grammar.{Spells, Begins};
-ghost use Rattle.lam_syntax.specs.Answers.{GoesWrongAt, EndsEarly, IsTaken, pieces_of};
+ghost use Rattle.lam_syntax.specs.Answers.{GoesWrongAt, EndsEarly, IsLexed, pieces_of};
 ghost use Rattle.lam_syntax.specs.Continued.{IsContinued};
 ghost use Rattle.lam_syntax.specs.Respelled.{Letters, respelled_command};
 
@@ -24,7 +24,7 @@ pub fn one_answer()
 pub fn letters_and_places_are_free()
     ensures commands { (place : ℕ → ℕ) (letters : Letters) (ts : List Lexeme) (c : CommandTree) → Spells ts c → Spells (map (respelled place letters) ts) (respelled_command place letters c) }
     ensures pieces { (place : ℕ → ℕ) (letters : Letters) (ts : List Lexeme) → pieces_of (map (respelled place letters) ts) ≡ map (map (respelled place letters)) (pieces_of ts) }
-    ensures taken { (place : ℕ → ℕ) (letters : Letters) (ts : List Lexeme) → IsTaken (map (respelled place letters) ts) ↔ IsTaken ts }
+    ensures taken { (place : ℕ → ℕ) (letters : Letters) (ts : List Lexeme) → IsLexed (map (respelled place letters) ts) ↔ IsLexed ts }
 {}
 
 /// If consecutive tokens of a text begin a command, the text up to the next token, or to its end, can be continued so

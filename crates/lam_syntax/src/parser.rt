@@ -6,7 +6,7 @@ ghost use Rattle.lam_syntax.specs.Views.{command_of, Accepts};
 ghost use Rattle.lam_syntax.specs.Grammar.{Spells};
 ghost use Rattle.lam_syntax.specs.inner.Run.{need_command, need_term, need_type, after_type_name, of_evaluation, of_definition, of_declaration, fault, run};
 ghost use Rattle.lam_syntax.specs.inner.Reads.{ReadsAll, EndsAll};
-ghost use Rattle.lam_syntax.specs.Answers.{is_bad, has_bad, IsTaken, IsFaultOf};
+ghost use Rattle.lam_syntax.specs.Answers.{is_bad, has_bad, IsLexed, IsFaultOf};
 
 use crate::fault::ParseFault;
 use crate::parse_terms::parse_term;
@@ -22,11 +22,11 @@ const MAX_TOKENS: usize = 2_000;
 
 /// Parses the tokens as a command. The grammar derives no other tree, with other spans or grouping, from them.
 pub fn parse(alloc: Global, tokens: &[Token<'_>]) -> Result<Command, ParseFault>
-    ensures taken { IfOk result (λ c. IsTaken tokens.now) }
+    ensures taken { IfOk result (λ c. IsLexed tokens.now) }
     ensures spelled { IfOk result (λ c. Spells tokens.now (command_of c)) }
     ensures only { IfOk result (λ c. (d : CommandTree) → Spells tokens.now d → d ≡ command_of c) }
     ensures fault { IfErr result (IsFaultOf tokens.now) }
-    ensures accepts { (c : CommandTree) → IsTaken tokens.now → Spells tokens.now c → Accepts c result }
+    ensures accepts { (c : CommandTree) → IsLexed tokens.now → Spells tokens.now c → Accepts c result }
 {
     if tokens.len() > MAX_TOKENS {
         return Err(ParseFault::TooManyTokens);
@@ -43,7 +43,7 @@ pub fn parse(alloc: Global, tokens: &[Token<'_>]) -> Result<Command, ParseFault>
 
 /// The error for a parser that stopped with these tokens left.
 fn fault_at(tokens: &[Token<'_>], left: &[Token<'_>]) -> ParseFault
-    requires taken { IsTaken tokens.now }
+    requires taken { IsLexed tokens.now }
     requires stopped { run tokens.now need_command ≡ fault left.now }
     ensures { IsFaultOf tokens.now result }
 {
