@@ -6,7 +6,7 @@ pub mod Diagnostics
 pub mod Documents
 pub mod Entries
 pub mod State
-pub mod Courses
+pub mod Conditions
 pub mod Does
 pub mod Initialize
 pub mod Sync

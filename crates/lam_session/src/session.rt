@@ -22,12 +22,12 @@ use std::mem;
 #[derive(Drop)]
 pub struct Session {
     alloc: Global,
-    course: Course,
+    condition: Condition,
 }
 
 /// Whether a session is still able to answer.
 #[derive(Drop)]
-enum Course {
+enum Condition {
     /// Every message is answered.
     Going(Conversation),
     /// An allocation failed, and nothing is answered any more. Only the lifecycle state is kept.
@@ -39,11 +39,11 @@ impl Model for Session {
 
     ghost Value = { Snapshot };
 
-    ghost use Rattle.lam_session.specs.Courses.{snapshot_of, IsWhole};
+    ghost use Rattle.lam_session.specs.Conditions.{snapshot_of, IsWhole};
 
-    ghost view = { λ s. snapshot_of s.course };
+    ghost view = { λ s. snapshot_of s.condition };
 
-    ghost invariant = { λ s. IsWhole s.course };
+    ghost invariant = { λ s. IsWhole s.condition };
 }
 
 impl Session {
@@ -53,7 +53,7 @@ impl Session {
     {
         Session {
             alloc,
-            course: Course::Going(Conversation::new(alloc, config.dialect())),
+            condition: Condition::Going(Conversation::new(alloc, config.dialect())),
         }
     }
 
@@ -79,7 +79,7 @@ impl Session {
         let life = self.life();
         let sent = self.receive(incoming)?;
         let Ok(values) = into_values(self.alloc, sent) else {
-            self.course = Course::GaveUp(life);
+            self.condition = Condition::GaveUp(life);
             return Err(AllocError);
         };
         Ok(values)
@@ -93,21 +93,21 @@ impl Session {
         ensures plain { HasPlainId (message_of incoming) → IfOk result (λ sent. All (λ o. has_float (data_of o) ≡ false) sent.items) }
         ensures one_answer { HasOneAnswer self.old.state (message_of incoming) }
     {
-        let gave_up = Course::GaveUp(self.life());
-        let Course::Going(conversation) = mem::replace(&mut self.course, gave_up) else {
+        let gave_up = Condition::GaveUp(self.life());
+        let Condition::Going(conversation) = mem::replace(&mut self.condition, gave_up) else {
             return Err(AllocError);
         };
         let (conversation, sent) = conversation.receive(incoming)?;
-        self.course = Course::Going(conversation);
+        self.condition = Condition::Going(conversation);
         Ok(sent)
     }
 
     fn life(&self) -> Lifecycle
         ensures { result ≡ self.now.state.life }
     {
-        match &self.course {
-            Course::Going(conversation) => conversation.life(),
-            Course::GaveUp(life) => *life,
+        match &self.condition {
+            Condition::Going(conversation) => conversation.life(),
+            Condition::GaveUp(life) => *life,
         }
     }
 }
