@@ -38,6 +38,8 @@ pub struct Analysis {
     pub(crate) typed: usize,
     /// The length in bytes of all pieces read by the last analysis from scratch and since then.
     pub(crate) read: usize,
+    /// The size of the tables after the last analysis from scratch.
+    pub(crate) made: usize,
 }
 
 /// An analysis under construction, which reads its text piece by piece.
@@ -54,6 +56,7 @@ pub(crate) struct Analyst<'t> {
     pub(crate) end: usize,
     pub(crate) typed: usize,
     pub(crate) read: usize,
+    pub(crate) made: usize,
 }
 
 impl Analysis {
@@ -64,7 +67,14 @@ impl Analysis {
     {
         let mut analyst = Analyst::new(alloc, dialect)?;
         analyst.read(text)?;
-        analyst.finish(text, dialect)
+        let mut analysis = analyst.finish(text, dialect)?;
+        analysis.made = analysis.size();
+        Ok(analysis)
+    }
+
+    /// The number of entries in the tables, which never shrink: names, types, and results for pairs of types.
+    pub(crate) fn size(&self) -> usize {
+        self.types.size().saturating_add(self.bound.len())
     }
 
     /// The number of commands typed by the last analysis from scratch and by the changes since then. For tests only: no clause
@@ -92,6 +102,7 @@ impl<'t> Analyst<'t> {
             end: 0,
             typed: 0,
             read: 0,
+            made: 0,
         })
     }
 
@@ -195,6 +206,7 @@ impl<'t> Analyst<'t> {
             dialect,
             typed: self.typed,
             read: self.read,
+            made: self.made,
         })
     }
 }

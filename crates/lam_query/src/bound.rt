@@ -57,6 +57,14 @@ impl Bound {
         }
     }
 
+    /// The number of names and type names that have a number.
+    pub(crate) fn len(&self) -> usize {
+        self.names
+            .entries
+            .len()
+            .saturating_add(self.type_names.entries.len())
+    }
+
     /// Unbinds everything. Names keep their numbers.
     pub(crate) fn clear(&mut self)
         ensures bound { (x : Name) → (meaning_of self.new.names x ≡ None) × (meaning_of self.new.type_names x ≡ None) }

@@ -28,15 +28,15 @@ use std::mem;
 
 impl Analysis {
     /// Turns the analysis of the old text into that of the new one. Rows before and after the change are reused, except those of
-    /// commands with a free name whose meaning changed. If too much has been read since the last analysis from scratch, nothing
-    /// is reused. On an error the old analysis is gone, since it is taken by value.
+    /// commands with a free name whose meaning changed. If the tables have grown too much since the last analysis from scratch,
+    /// nothing is reused. On an error the old analysis is gone, since it is taken by value.
     pub fn changed(self, alloc: Global, old: &str, new: &str) -> Result<Analysis, AllocError>
         requires { IsAnalysisOf old.now self }
         ensures of { IfOk result (λ made. IsAnalysisOf new.now made) }
         ensures dialect { IfOk result (λ made. dialect_of made ≡ dialect_of self) }
     {
         let dialect = self.dialect;
-        if self.is_worn(old) {
+        if self.is_overgrown(old) {
             drop(self);
             return Analysis::new(alloc, new, dialect);
         }
@@ -57,10 +57,13 @@ impl Analysis {
         analyst.finish(new, dialect)
     }
 
-    /// Whether so much has been read that names and types no longer in use may take up most of the memory: all that grows does so
-    /// when a piece is read, and by about the length of the piece.
-    fn is_worn(&self, text: &str) -> bool {
-        self.read > text.len().saturating_mul(2).saturating_add(65_536)
+    /// Whether names, types and results that the text no longer needs may take up most of the memory: since the last analysis
+    /// from scratch the tables have more than doubled, and have more than 8,192 entries; or, since the letters of names and labels
+    /// take up memory too, more than twice the bytes of the text and 65,536 more have been read.
+    fn is_overgrown(&self, text: &str) -> bool {
+        let entries = self.made.saturating_mul(2).max(8_192);
+        let bytes = text.len().saturating_mul(2).saturating_add(65_536);
+        self.size() > entries || self.read > bytes
     }
 }
 
@@ -88,6 +91,7 @@ impl<'t> Analyst<'t> {
             dialect: _dialect,
             typed,
             read,
+            made,
         } = analysis;
         bind_again(&mut bound, &rows[..front.count]);
         let analyst = Analyst {
@@ -99,6 +103,7 @@ impl<'t> Analyst<'t> {
             end: front.end,
             typed,
             read,
+            made,
         };
         (analyst, rows)
     }

@@ -66,6 +66,13 @@ impl TyTable {
         }
     }
 
+    /// Returns the number of types. Their ids are the numbers below it.
+    pub fn len(&self) -> usize
+        ensures { result ≡ length self.now }
+    {
+        self.entries.len()
+    }
+
     /// Returns the outermost form of a type. Its ids are less than that of the type, so recursion into its parts ends.
     pub fn shape(&self, number: TyNo) -> &Shape
         requires { Stands self.now number }

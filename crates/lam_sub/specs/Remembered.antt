@@ -1,6 +1,6 @@
 -- Memoized results for pairs of type ids.
-use Rattle.std.specs.Prelude.{◌↔◌, ◌&&◌, Bool, List, Option, IfSome, IfNone, IsTrue, eqb}
-use Rattle.std.specs.HashMap.{HashMap, get}
+use Rattle.std.specs.Prelude.{◌↔◌, ◌+◌, ◌&&◌, ℕ, Bool, List, Option, IfSome, IfNone, IsTrue, eqb}
+use Rattle.std.specs.HashMap.{HashMap, get, hash_map_len}
 use Rattle.std.specs.declared.hash.FoldHasher.{FoldHasher}
 use Rattle.std.specs.declared.hash.BuildHasherDefault.{BuildHasherDefault}
 use Rattle.lam_rules.specs.Types.{Typ}
@@ -52,6 +52,10 @@ join_kept verdicts = get equal_pairs verdicts.joins
 -- the meet of a pair, if memoized: its id, or None if there is no meet
 abbrev pub meet_kept : Verdicts → TyNo × TyNo → Option (Option TyNo)
 meet_kept verdicts = get equal_pairs verdicts.meets
+
+-- how many results are memoized
+abbrev pub results_kept : Verdicts → ℕ
+results_kept verdicts = hash_map_len verdicts.below + (hash_map_len verdicts.joins + hash_map_len verdicts.meets)
 
 -- each result in the map is correct for its pair
 abbrev pub AllKept : {X : Type 0} → (TyNo × TyNo → X → Type 0) → HashMap (TyNo × TyNo) X (BuildHasherDefault FoldHasher) → Type 0

@@ -1,9 +1,9 @@
 //! The memo of subtyping between types in a table, by their ids.
 
-ghost use Rattle.std.specs.Prelude.{◌≡◌, List, Some, IfSome, OnOk};
+ghost use Rattle.std.specs.Prelude.{◌≡◌, ◌-◌, ◌^◌, min, List, Some, IfSome, OnOk};
 ghost use Rattle.lam_rules.specs.Types.{Typ};
 ghost use Rattle.lam_rules.specs.Numbers.{Keeps};
-ghost use Rattle.lam_sub.specs.Remembered.{IsVerdict, AreRight, verdict_kept};
+ghost use Rattle.lam_sub.specs.Remembered.{IsVerdict, AreRight, results_kept, verdict_kept};
 ghost use Rattle.lam_sub.specs.declared.verdicts.Verdicts.{Verdicts};
 
 use lam_rules::{Dialect, TyNo};
@@ -37,6 +37,14 @@ impl Verdicts {
             joins: HashMap::new(alloc),
             meets: HashMap::new(alloc),
         }
+    }
+
+    /// Returns the number of memoized results, or the largest `usize` if there are more.
+    pub fn len(&self) -> usize
+        ensures { result ≡ min (results_kept self.now) (2 ^ 64 - 1) }
+    {
+        let bounds = self.joins.len().saturating_add(self.meets.len());
+        self.below.len().saturating_add(bounds)
     }
 
     /// Returns whether the first type is a subtype of the second, if that is memoized.

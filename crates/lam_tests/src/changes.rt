@@ -101,6 +101,32 @@ fn typed_after(alloc: Global, changes: usize) -> Result<String, AllocError> {
 /// than twice as many bytes plus 65,536 have been read.
 const ANEW: [(usize, &str); 3] = [(0, "1000"), (8, "9000"), (9, "1000")];
 
+/// How many commands are typed if a short text becomes one of this many commands, each with a name of its own, and then
+/// has one command more.
+fn typed_beside(alloc: Global, names: usize) -> Result<String, AllocError> {
+    let short = "0;";
+    let mut long = String::new(alloc);
+    for i in 0..names {
+        write!(long, "n{i};")?;
+    }
+    let mut longer = String::from_str(alloc, &long)?;
+    longer.push_str("0;")?;
+    let analysis = Analysis::new(alloc, short, Dialect::One)?;
+    let analysis = analysis.changed(alloc, short, &long)?;
+    let before = analysis.commands_typed();
+    let analysis = analysis.changed(alloc, &long, &longer)?;
+    format!(in alloc; "{before} {}", analysis.commands_typed())
+}
+
+/// The table of names has an entry for each of them, and the table of types at most ten. So the tables exceed 8,192 entries
+/// only in the second row, where the last change starts from scratch.
+const OUTGROWN: [(usize, &str); 2] = [(8000, "8001 8002"), (9000, "9001 9001")];
+
+#[test]
+fn all_is_made_anew_once_the_tables_have_grown(rt: HostRuntime) -> Result<(), AllocError> {
+    check_rows(&rt, rt.alloc(), typed_beside, &OUTGROWN)
+}
+
 #[test]
 fn all_is_made_anew_once_much_was_read(rt: HostRuntime) -> Result<(), AllocError> {
     check_rows(&rt, rt.alloc(), typed_after, &ANEW)

@@ -1,5 +1,5 @@
 -- What a `TypeChecker` holds, and what it promises of one command.
-use Rattle.std.specs.Prelude.{List, [], ◌∷◌, IsTrue, IsFalse}
+use Rattle.std.specs.Prelude.{◌+◌, ℕ, List, [], ◌∷◌, length, IsTrue, IsFalse}
 use Rattle.std.specs.Borrow.{Lends, MutBor, Fml}
 use Rattle.lam_rules.specs.Types.{Typ, bool, nat, unit}
 use Rattle.lam_rules.specs.Typing.{Context}
@@ -7,7 +7,7 @@ use Rattle.lam_rules.specs.Numbers.{IsNumberOf}
 use Rattle.lam_rules.specs.declared.rules.Dialect.{Dialect}
 use Rattle.lam_rules.specs.contracts.table.TyTable as tables
 use Rattle.lam_scope.specs.Places.{Scope, Statement, places_of}
-use Rattle.lam_sub.specs.Remembered.{AreRight}
+use Rattle.lam_sub.specs.Remembered.{AreRight, results_kept}
 use Rattle.lam_typing.specs.Answers.{answer, answers, StandsWhereFound, AllStandIn}
 use Rattle.lam_typing.specs.Binds.{BindsEntry}
 use Rattle.lam_typing.specs.Progress.{IsLowest, Shown, next_is_too_large, ShownFront}
@@ -23,6 +23,10 @@ types_in c = c.table
 -- the dialect that it uses
 abbrev pub dialect_in : TypeChecker → Dialect
 dialect_in c = c.verdicts.dialect
+
+-- how many types and memoized results it has
+abbrev pub size_in : TypeChecker → ℕ
+size_in c = length c.table + results_kept c.verdicts
 
 -- its memo of subtyping and its type ids of constants are right
 pub record IsSoundChecker (c : TypeChecker) : Type 0 where

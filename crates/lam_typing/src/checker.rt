@@ -1,13 +1,13 @@
 //! Types of commands, one command at a time: each under the context entries of its own free names, in one type table that
 //! persists and grows from command to command.
 
-ghost use Rattle.std.specs.Prelude.{◌≡◌, List, IfOk};
+ghost use Rattle.std.specs.Prelude.{◌≡◌, ◌-◌, ◌^◌, min, List, IfOk};
 ghost use Rattle.std.specs.Borrow.{sem};
 ghost use Rattle.lam_rules.specs.Types.{Typ};
 ghost use Rattle.lam_rules.specs.Numbers.{Keeps};
 ghost use Rattle.lam_scope.specs.InternedViews.{interned_statement, StandInStatement};
 ghost use Rattle.lam_typing.specs.Answers.{AllStandIn, context_under};
-ghost use Rattle.lam_typing.specs.Checking.{types_in, dialect_in, IsSoundChecker, with_types, LendsTypes, IsChecked};
+ghost use Rattle.lam_typing.specs.Checking.{types_in, dialect_in, size_in, IsSoundChecker, with_types, LendsTypes, IsChecked};
 ghost use Rattle.lam_typing.specs.inner.Ends.{IsEndOfCheck};
 
 use crate::analysing::start;
@@ -61,6 +61,13 @@ impl TypeChecker {
             verdicts,
             leaves,
         })
+    }
+
+    /// Returns the number of types in its table and of results in its memo, or the largest `usize` if there are more.
+    pub fn size(&self) -> usize
+        ensures { result ≡ min (size_in self.now) (2 ^ 64 - 1) }
+    {
+        self.table.len().saturating_add(self.verdicts.len())
     }
 
     /// Returns the table that type ids refer to.
