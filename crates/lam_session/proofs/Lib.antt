@@ -17,6 +17,6 @@ pub mod AloneRuns
 pub mod OneAnswer
 pub mod TwoRuns
 pub mod ValueLists
-pub mod PublishedTexts
+pub mod SentTexts
 pub mod Messages
 pub mod FaultMessages

@@ -26,6 +26,10 @@ written_range range =
 abbrev pub range_value : Encoding → List ℕ → Span → Data
 range_value encoding text span = written_range (range_of encoding text span)
 
--- the location of a span in the document with this URI
+-- the location of a range in the document with this URI
+abbrev pub location_at : (uri : List ℕ) → Range → Data
+location_at uri range = object (member (codes "range") (written_range range) (member (codes "uri") (string uri) no_members))
+
+-- the location of a span of the text
 abbrev pub location_value : Encoding → List ℕ → (uri : List ℕ) → Span → Data
-location_value encoding text uri span = object (member (codes "range") (range_value encoding text span) (member (codes "uri") (string uri) no_members))
+location_value encoding text uri span = location_at uri (range_of encoding text span)

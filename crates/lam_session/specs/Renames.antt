@@ -1,12 +1,13 @@
 -- Replies to rename requests (LSP 3.17, "Rename Request").
 use Rattle.std.specs.Prelude.{◌≡◌, ℕ, List, [], map, codes, Option, None, Some, option_map, option_and_then, unwrap_or, Result, Ok, Err}
-use Rattle.serde_json.specs.Data.{Data, string, array, object, member, no_members}
+use Rattle.serde_json.specs.Data.{Data, Items, string, array, object, member, no_members}
 use Rattle.serde_json.specs.Find.{get}
 use Rattle.serde_json.specs.View.{items_of}
 use Rattle.lam_rpc.specs.Fields.{text_at, given_range}
 use Rattle.lam_rpc.specs.Reply.{result_reply}
 use Rattle.lam_token.specs.declared.span.Span.{Span}
 use Rattle.lam_text.specs.declared.units.Encoding.{Encoding}
+use Rattle.lam_text.specs.declared.places.Range.{Range}
 use Rattle.lam_text.specs.Edits.{Edit}
 use Rattle.lam_query.specs.declared.renames.RenameFault.{RenameFault}
 use Rattle.lam_query.specs.declared.renames.RenameFault.TheVariants as fault
@@ -14,16 +15,20 @@ use Rattle.lam_query.specs.Renames.{IsRenameIn}
 use Rattle.lam_session.specs.declared.refusals.Refusal.{Refusal}
 use Rattle.lam_session.specs.declared.refusals.Refusal.TheVariants as refusal
 use Rattle.lam_session.specs.Asked.{given_name}
-use Rattle.lam_session.specs.Ranges.{range_of, range_value}
+use Rattle.lam_session.specs.Ranges.{range_of, written_range}
 use Rattle.lam_session.specs.Refusals.{refused}
 
 -- the new name; empty if the params have none, which is refused before
 abbrev pub new_name : Data → List ℕ
 new_name params = unwrap_or (given_name params) []
 
--- the edit that replaces a span of the text by the new name (LSP 3.17, "TextEdit")
+-- the edit that replaces a range by the new name (LSP 3.17, "TextEdit")
+abbrev pub edit_at : (new : List ℕ) → Range → Data
+edit_at new range = object (member (codes "newText") (string new) (member (codes "range") (written_range range) no_members))
+
+-- the edit of a span of the text
 abbrev pub edit_value : Encoding → List ℕ → (new : List ℕ) → Span → Data
-edit_value encoding text new span = object (member (codes "newText") (string new) (member (codes "range") (range_value encoding text span) no_members))
+edit_value encoding text new span = edit_at new (range_of encoding text span)
 
 -- the change that a client makes for a span's edit: the new name replaces the range
 abbrev pub change_of : Encoding → List ℕ → (new : List ℕ) → Span → Edit
@@ -35,10 +40,13 @@ change_in edit =
     option_and_then (λ new. option_map (λ range. record { range = Some range; text = new }) (option_and_then given_range (get (codes "range") edit)))
     (text_at (codes "newText") edit)
 
--- the edits in the document with this URI, one for each span, in order (LSP 3.17, "WorkspaceEdit")
+-- these edits in the document with this URI (LSP 3.17, "WorkspaceEdit")
+abbrev pub edits_in : (uri : List ℕ) → Items → Data
+edits_in uri edits = object (member (codes "changes") (object (member uri (array edits) no_members)) no_members)
+
+-- the edits in the document with this URI, one for each span, in order
 abbrev pub rename_value : Encoding → List ℕ → (uri new : List ℕ) → List Span → Data
-rename_value encoding text uri new spans =
-    object (member (codes "changes") (object (member uri (array (items_of (map (edit_value encoding text new) spans))) no_members)) no_members)
+rename_value encoding text uri new spans = edits_in uri (items_of (map (edit_value encoding text new) spans))
 
 -- the refusal for a rename that fails; `None` for a failed allocation
 abbrev pub refusal_of : RenameFault → Option Refusal

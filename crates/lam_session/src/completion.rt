@@ -6,11 +6,12 @@ ghost use Rattle.lam_text.specs.Positions.{offset_of};
 ghost use Rattle.lam_query.specs.Views.{item_of};
 ghost use Rattle.lam_session.specs.Objects.{Has};
 ghost use Rattle.lam_session.specs.Completions.{item_kind, item_members, item_value, IsCompletionReply};
+ghost use Rattle.lam_session.specs.Outgoing.{data_of};
 
 use crate::document::Document;
+use crate::outgoing::{Outgoing, replied};
 use crate::values::Object;
 use lam_query::answers::Item;
-use lam_rpc::ok_reply;
 use lam_text::Position;
 use serde_json::Value;
 use std::alloc::{AllocError, Global};
@@ -21,14 +22,14 @@ pub fn completion_reply(
     id: Value,
     document: &Document,
     position: Position,
-) -> Result<Value, AllocError>
+) -> Result<Outgoing, AllocError>
     requires { document.now.analysed ≡ true }
     ensures { IfOk result (λ reply. IsCompletionReply document.now.dialect document.now.text
-        (offset_of document.now.encoding document.now.text position) (view id) (view reply)) }
+        (offset_of document.now.encoding document.now.text position) (view id) (data_of reply)) }
 {
     let items = document.complete(alloc, position)?;
     let value = items_value(alloc, &items)?;
-    ok_reply(alloc, id, value)
+    replied(alloc, id, value)
 }
 
 fn items_value(alloc: Global, items: &[Item]) -> Result<Value, AllocError>

@@ -14,13 +14,13 @@ ghost use Rattle.lam_session.specs.inner.Told.{IsTold};
 use crate::documents::Documents;
 use crate::initialize::{chosen, initialize_answer};
 use crate::methods::{NoticeMethod, RequestMethod, notice_method, request_method};
-use crate::outgoing::Outgoing;
+use crate::outgoing::{Outgoing, replied};
 use crate::questions::{Question, reply_to};
 use crate::refusals::{Refusal, refused};
 use crate::states::Lifecycle;
 use crate::sync::{given_version, opened_text, published};
 use crate::values::diagnostics;
-use lam_rpc::{ChangesFault, Incoming, ok_reply, read_changes, read_uri};
+use lam_rpc::{ChangesFault, Incoming, read_changes, read_uri};
 use lam_rules::Dialect;
 use lam_text::{Change, Encoding};
 use serde_json::Value;
@@ -107,11 +107,11 @@ impl Conversation {
         (self, sent)
     }
 
-    /// Sends one value.
-    fn send(self, value: Value) -> Result<(Conversation, Vec<Outgoing>), AllocError>
-        ensures { IfOk result (λ r. Does (view value ∷ []) self (map data_of r.1.items) r.0) }
+    /// Sends one message.
+    fn send(self, message: Outgoing) -> Result<(Conversation, Vec<Outgoing>), AllocError>
+        ensures { IfOk result (λ r. Does (data_of message ∷ []) self (map data_of r.1.items) r.0) }
     {
-        let sent = vec![in self.alloc; Outgoing::Value(value)]?;
+        let sent = vec![in self.alloc; message]?;
         Ok((self, sent))
     }
 
@@ -164,7 +164,7 @@ impl Conversation {
         ensures { IfOk result (λ r. Initializes self (view id) (view params.now) (map data_of r.1.items) r.0) }
     {
         let encoding = chosen(params);
-        let reply = ok_reply(self.alloc, id, initialize_answer(self.alloc, encoding)?)?;
+        let reply = replied(self.alloc, id, initialize_answer(self.alloc, encoding)?)?;
         self.life = Lifecycle::Running;
         self.documents = Documents::new(self.alloc, encoding, self.documents.dialect());
         self.send(reply)
@@ -189,7 +189,7 @@ impl Conversation {
     fn shut_down(mut self, id: Value) -> Result<(Conversation, Vec<Outgoing>), AllocError>
         ensures { IfOk result (λ r. ShutsDown self (view id) (map data_of r.1.items) r.0) }
     {
-        let reply = ok_reply(self.alloc, id, Value::Null)?;
+        let reply = replied(self.alloc, id, Value::Null)?;
         self.life = Lifecycle::Down;
         self.send(reply)
     }

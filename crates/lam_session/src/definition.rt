@@ -4,10 +4,11 @@ ghost use Rattle.serde_json.specs.View.{view};
 ghost use Rattle.lam_text.specs.Positions.{offset_of};
 ghost use Rattle.lam_query.specs.Within.{IsSpanOfText};
 ghost use Rattle.lam_session.specs.Definitions.{definition_value, IsDefinitionReply};
+ghost use Rattle.lam_session.specs.Outgoing.{data_of};
 
 use crate::document::Document;
-use crate::values::location_value;
-use lam_rpc::ok_reply;
+use crate::outgoing::{Outgoing, replied};
+use crate::values::{location_at, range_of};
 use lam_text::{Doc, Position};
 use lam_token::Span;
 use serde_json::Value;
@@ -20,14 +21,14 @@ pub fn definition_reply(
     uri: &str,
     document: &Document,
     position: Position,
-) -> Result<Value, AllocError>
+) -> Result<Outgoing, AllocError>
     requires { document.now.analysed ≡ true }
     ensures { IfOk result (λ reply. IsDefinitionReply document.now.encoding uri.now document.now.text
-        (offset_of document.now.encoding document.now.text position) (view id) (view reply)) }
+        (offset_of document.now.encoding document.now.text position) (view id) (data_of reply)) }
 {
     let found = document.definition(alloc, position)?;
     let value = definition_value(alloc, document.doc(), uri, found)?;
-    ok_reply(alloc, id, value)
+    replied(alloc, id, value)
 }
 
 /// The location of the binder; null if there is none.
@@ -41,7 +42,7 @@ fn definition_value(
     ensures { IfOk result (λ value. view value ≡ definition_value doc.now.encoding doc.now.text uri.now found) }
 {
     match found {
-        Some(span) => location_value(alloc, doc, uri, span),
+        Some(span) => location_at(alloc, uri, range_of(doc, span)),
         None => Ok(Value::Null),
     }
 }

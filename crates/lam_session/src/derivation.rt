@@ -3,10 +3,11 @@ ghost use Rattle.std.specs.Prelude.{◌≡◌, true, IfOk};
 ghost use Rattle.serde_json.specs.View.{view};
 ghost use Rattle.lam_text.specs.Positions.{offset_of};
 ghost use Rattle.lam_session.specs.Derivations.{IsDerivationReply};
+ghost use Rattle.lam_session.specs.Outgoing.{data_of};
 
 use crate::document::Document;
+use crate::outgoing::{Outgoing, replied};
 use crate::values::derivation_value;
-use lam_rpc::ok_reply;
 use lam_text::Position;
 use serde_json::Value;
 use std::alloc::{AllocError, Global};
@@ -17,12 +18,12 @@ pub fn derivation_reply(
     id: Value,
     document: &Document,
     position: Position,
-) -> Result<Value, AllocError>
+) -> Result<Outgoing, AllocError>
     requires { document.now.analysed ≡ true }
     ensures { IfOk result (λ reply. IsDerivationReply document.now.encoding document.now.dialect document.now.text
-        (offset_of document.now.encoding document.now.text position) (view id) (view reply)) }
+        (offset_of document.now.encoding document.now.text position) (view id) (data_of reply)) }
 {
     let derived = document.derivation(alloc, position)?;
     let value = derivation_value(alloc, document.doc(), derived)?;
-    ok_reply(alloc, id, value)
+    replied(alloc, id, value)
 }

@@ -5,11 +5,12 @@ ghost use Rattle.lam_text.specs.Positions.{offset_of};
 ghost use Rattle.lam_query.specs.Views.{shown_of};
 ghost use Rattle.lam_query.specs.Within.{IsSpanOfText};
 ghost use Rattle.lam_session.specs.Hovers.{plain_contents, hover_value, IsHoverReply};
+ghost use Rattle.lam_session.specs.Outgoing.{data_of};
 
 use crate::document::Document;
+use crate::outgoing::{Outgoing, replied};
 use crate::values::{Object, range_value};
 use lam_query::answers::Hover;
-use lam_rpc::ok_reply;
 use lam_text::{Doc, Position};
 use serde_json::Value;
 use std::alloc::{AllocError, Global};
@@ -20,14 +21,14 @@ pub fn hover_reply(
     id: Value,
     document: &Document,
     position: Position,
-) -> Result<Value, AllocError>
+) -> Result<Outgoing, AllocError>
     requires { document.now.analysed ≡ true }
     ensures { IfOk result (λ reply. IsHoverReply document.now.encoding document.now.dialect document.now.text
-        (offset_of document.now.encoding document.now.text position) (view id) (view reply)) }
+        (offset_of document.now.encoding document.now.text position) (view id) (data_of reply)) }
 {
     let shown = document.hover(alloc, position)?;
     let value = hover_value(alloc, document.doc(), shown)?;
-    ok_reply(alloc, id, value)
+    replied(alloc, id, value)
 }
 
 /// A type and its range; null if there is none.

@@ -1,31 +1,66 @@
 //! Messages to the client, before they are written.
-ghost use Rattle.std.specs.Prelude.{◌≡◌, ◌≢◌, ◌∷◌, ◌++◌, [], map, false, true, string_bytes, IfOk, OnOk, OnErr};
-ghost use Rattle.serde_json.specs.View.{view, items_of};
-ghost use Rattle.serde_json.specs.Written.{has_float, compact_text, items_text, members_text};
-ghost use Rattle.lam_session.specs.Outgoing.{diagnostic_data, published_data, data_of};
+ghost use Rattle.std.specs.Prelude.{◌≡◌, ◌≢◌, ◌∷◌, ◌++◌, [], map, true, false, string_bytes, IfOk, OnOk, OnErr};
+ghost use Rattle.serde_json.specs.Data.{Data};
+ghost use Rattle.serde_json.specs.View.{view};
+ghost use Rattle.serde_json.specs.Written.{has_float, compact_text, members_text};
+ghost use Rattle.lam_rpc.specs.Reply.{result_reply};
+ghost use Rattle.lam_session.specs.Outgoing.{published_data, uses_data, edits_data, data_of};
 ghost use Rattle.lam_session.specs.Sync.{version_member};
 
+use crate::lists::{values_of, write_items, write_value};
+use crate::rename::edits_in;
+use crate::shapes::{DiagnosticShape, EditShape, LocationShape};
 use crate::sync::published_params;
-use crate::values::{Diagnostic, diagnostic_value, values_of};
-use lam_rpc::notice;
+use crate::values::Diagnostic;
+use lam_rpc::{notice, ok_reply};
+use lam_text::Range;
 use serde_json::Value;
 use std::alloc::{AllocError, Global};
 
-/// A message to the client.
+/// A message to the client. As values, the elements of a list would take some 4 KB each, so each becomes one only while it is
+/// written.
 #[derive(Drop)]
 pub enum Outgoing {
     /// A reply.
     Value(Value),
     /// The diagnostics of a document.
     Diagnostics(Published),
+    /// The uses of a name.
+    References(Uses),
+    /// The edits that rename it.
+    Rename(Edits),
 }
 
-/// The diagnostics of a document. As a `Value` each would take some 4 KB, so it becomes one only while it is written.
+/// The diagnostics of a document.
 #[derive(Drop)]
 pub struct Published {
     pub(crate) uri: String,
     pub(crate) version: Option<i64>,
     pub(crate) diagnostics: Vec<Diagnostic>,
+}
+
+/// The reply to the request with this id: the uses of a name in the document with this URI.
+#[derive(Drop)]
+pub struct Uses {
+    pub(crate) id: Value,
+    pub(crate) uri: String,
+    pub(crate) ranges: Vec<Range>,
+}
+
+/// The reply to the request with this id: in the document with this URI the new name replaces each of these ranges.
+#[derive(Drop)]
+pub struct Edits {
+    pub(crate) id: Value,
+    pub(crate) uri: String,
+    pub(crate) new: String,
+    pub(crate) ranges: Vec<Range>,
+}
+
+/// Returns the successful reply to the request with this id.
+pub fn replied(alloc: Global, id: Value, answer: Value) -> Result<Outgoing, AllocError>
+    ensures { IfOk result (λ reply. data_of reply ≡ result_reply (view id) (view answer)) }
+{
+    Ok(Outgoing::Value(ok_reply(alloc, id, answer)?))
 }
 
 impl Outgoing {
@@ -36,6 +71,8 @@ impl Outgoing {
         match self {
             Outgoing::Value(value) => Ok(value),
             Outgoing::Diagnostics(published) => published.to_value(alloc),
+            Outgoing::References(uses) => uses.into_value(alloc),
+            Outgoing::Rename(edits) => edits.into_value(alloc),
         }
     }
 
@@ -46,6 +83,8 @@ impl Outgoing {
         match self {
             Outgoing::Value(value) => value.to_string(alloc),
             Outgoing::Diagnostics(published) => published.to_json(alloc),
+            Outgoing::References(uses) => uses.to_json(alloc),
+            Outgoing::Rename(edits) => edits.to_json(alloc),
         }
     }
 }
@@ -70,7 +109,7 @@ impl Published {
     fn to_value(&self, alloc: Global) -> Result<Value, AllocError>
         ensures { IfOk result (λ value. view value ≡ published_data self.now) }
     {
-        let diagnostics = values_of(alloc, &self.diagnostics)?;
+        let diagnostics = values_of(alloc, &DiagnosticShape, &self.diagnostics)?;
         let params = published_params(alloc, &self.uri, self.version, diagnostics)?;
         notice(alloc, "textDocument/publishDiagnostics", params)
     }
@@ -79,7 +118,7 @@ impl Published {
         ensures { IfOk result (λ text. string_bytes text ≡ compact_text (published_data self.now)) }
     {
         let mut text = String::from_str(alloc, BEFORE_DIAGNOSTICS)?;
-        write_diagnostics(alloc, &mut text, &self.diagnostics)?;
+        write_items(alloc, &mut text, &DiagnosticShape, &self.diagnostics)?;
         text.push_str(",\"uri\":")?;
         let uri = Value::try_from_str(alloc, &self.uri)?;
         write_value(alloc, &mut text, &uri)?;
@@ -89,22 +128,66 @@ impl Published {
     }
 }
 
-/// Appends the diagnostics, with a comma between two, and the closing bracket.
-fn write_diagnostics(
-    alloc: Global,
-    text: &mut String,
-    diagnostics: &[Diagnostic],
-) -> Result<(), AllocError>
-    ensures { OnOk result (string_bytes text.new ≡ string_bytes text.old ++ items_text false (items_of (map diagnostic_data diagnostics.now))) }
-{
-    let mut separator = "";
-    for diagnostic in diagnostics {
-        text.push_str(separator)?;
-        let value = diagnostic_value(alloc, *diagnostic)?;
-        write_value(alloc, text, &value)?;
-        separator = ",";
+impl Uses {
+    fn into_value(self, alloc: Global) -> Result<Value, AllocError>
+        ensures { IfOk result (λ value. view value ≡ uses_data self) }
+    {
+        let Uses { id, uri, ranges } = self;
+        let locations = values_of(alloc, &LocationShape { uri: &uri }, &ranges)?;
+        ok_reply(alloc, id, Value::from(locations))
     }
-    text.push_str("]")
+
+    fn to_json(&self, alloc: Global) -> Result<String, AllocError>
+        ensures { IfOk result (λ text. has_float (uses_data self.now) ≡ false → string_bytes text ≡ compact_text (uses_data self.now)) }
+    {
+        let mut text = before_result(alloc, &self.id)?;
+        text.push_str("[")?;
+        let shape = LocationShape { uri: &self.uri };
+        write_items(alloc, &mut text, &shape, &self.ranges)?;
+        text.push_str("}")?;
+        Ok(text)
+    }
+}
+
+impl Edits {
+    fn into_value(self, alloc: Global) -> Result<Value, AllocError>
+        ensures { IfOk result (λ value. view value ≡ edits_data self) }
+    {
+        let Edits {
+            id,
+            uri,
+            new,
+            ranges,
+        } = self;
+        let edits = values_of(alloc, &EditShape { new: &new }, &ranges)?;
+        ok_reply(alloc, id, edits_in(alloc, &uri, edits)?)
+    }
+
+    fn to_json(&self, alloc: Global) -> Result<String, AllocError>
+        ensures { IfOk result (λ text. has_float (edits_data self.now) ≡ false → string_bytes text ≡ compact_text (edits_data self.now)) }
+    {
+        let mut text = before_result(alloc, &self.id)?;
+        text.push_str("{\"changes\":{")?;
+        let uri = Value::try_from_str(alloc, &self.uri)?;
+        write_value(alloc, &mut text, &uri)?;
+        text.push_str(":[")?;
+        let shape = EditShape { new: &self.new };
+        write_items(alloc, &mut text, &shape, &self.ranges)?;
+        text.push_str("}}}")?;
+        Ok(text)
+    }
+}
+
+/// Returns the successful reply to the request with this id, up to its result.
+fn before_result(alloc: Global, id: &Value) -> Result<String, AllocError>
+    ensures { IfOk result (λ text. (answer : Data) → has_float (result_reply (view id.now) answer) ≡ false
+        → string_bytes text ++ (compact_text answer ++ 125 ∷ []) ≡ compact_text (result_reply (view id.now) answer)) }
+{
+    let mut text = String::from_str(alloc, "{\"id\":")?;
+    let written = id.to_string(alloc)?;
+    text.push_str(&written)?;
+    text.push_str(",\"jsonrpc\":\"2.0\",\"result\":")?;
+    Ok(text)
 }
 
 /// Appends the member for the version, if there is one. The object is not closed: its brace is the 125.
@@ -116,13 +199,4 @@ fn write_version(alloc: Global, text: &mut String, version: Option<i64>) -> Resu
     };
     text.push_str(",\"version\":")?;
     write_value(alloc, text, &Value::from(version))
-}
-
-/// Appends a value as compact JSON.
-fn write_value(alloc: Global, text: &mut String, value: &Value) -> Result<(), AllocError>
-    requires { has_float (view value.now) ≡ false }
-    ensures { OnOk result (string_bytes text.new ≡ string_bytes text.old ++ compact_text (view value.now)) }
-{
-    let written = value.to_string(alloc)?;
-    text.push_str(&written)
 }

@@ -2,6 +2,7 @@
 ghost use Rattle.std.specs.Prelude.{◌≡◌, IfOk};
 ghost use Rattle.serde_json.specs.View.{view};
 ghost use Rattle.lam_session.specs.Asked.{has_rest};
+ghost use Rattle.lam_session.specs.Outgoing.{data_of};
 ghost use Rattle.lam_session.specs.Questions.{Replies};
 
 use crate::completion::completion_reply;
@@ -9,6 +10,7 @@ use crate::definition::definition_reply;
 use crate::derivation::derivation_reply;
 use crate::documents::Documents;
 use crate::hover::hover_reply;
+use crate::outgoing::Outgoing;
 use crate::references::references_reply;
 use crate::refusals::{Refusal, refused};
 use crate::rename::{given_name, rename_reply};
@@ -40,8 +42,8 @@ pub fn reply_to(
     id: Value,
     params: &Value,
     documents: &Documents,
-) -> Result<Value, AllocError>
-    ensures { IfOk result (λ reply. Replies question documents.now (view id) (view params.now) (view reply)) }
+) -> Result<Outgoing, AllocError>
+    ensures { IfOk result (λ reply. Replies question documents.now (view id) (view params.now) (data_of reply)) }
 {
     let Ok(position) = read_position(params) else {
         return refused(alloc, id, Refusal::InvalidParams);

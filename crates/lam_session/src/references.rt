@@ -1,15 +1,15 @@
 //! Replies to `textDocument/references` (LSP 3.17).
-ghost use Rattle.std.specs.Prelude.{◌≡◌, true, map, option_map, All, IfOk, IfSome};
-ghost use Rattle.serde_json.specs.Data.{array};
-ghost use Rattle.serde_json.specs.View.{view, items_of};
+ghost use Rattle.std.specs.Prelude.{◌≡◌, true, option_map, All, IfOk, IfSome};
+ghost use Rattle.serde_json.specs.View.{view};
+ghost use Rattle.lam_rpc.specs.Reply.{result_reply};
 ghost use Rattle.lam_text.specs.Positions.{offset_of};
 ghost use Rattle.lam_query.specs.Within.{IsSpanOfText};
-ghost use Rattle.lam_session.specs.Ranges.{location_value};
+ghost use Rattle.lam_session.specs.Outgoing.{data_of};
 ghost use Rattle.lam_session.specs.References.{told_declared, is_declared, references_value, IsReferencesReply};
 
 use crate::document::Document;
-use crate::values::location_value;
-use lam_rpc::ok_reply;
+use crate::outgoing::{Outgoing, Uses, replied};
+use crate::values::ranges_of;
 use lam_text::{Doc, Position};
 use lam_token::Span;
 use serde_json::Value;
@@ -24,14 +24,13 @@ pub fn references_reply(
     uri: &str,
     document: &Document,
     position: Position,
-) -> Result<Value, AllocError>
+) -> Result<Outgoing, AllocError>
     requires { document.now.analysed ≡ true }
     ensures { IfOk result (λ reply. IsReferencesReply document.now.encoding uri.now document.now.text
-        (offset_of document.now.encoding document.now.text position) (is_declared (view params.now)) (view id) (view reply)) }
+        (offset_of document.now.encoding document.now.text position) (is_declared (view params.now)) (view id) (data_of reply)) }
 {
     let found = document.references(alloc, position, is_declared(params))?;
-    let value = references_value(alloc, document.doc(), uri, &found)?;
-    ok_reply(alloc, id, value)
+    found_reply(alloc, id, document.doc(), uri, &found)
 }
 
 /// Whether the declaration is requested (`context.includeDeclaration`): false unless the params say so.
@@ -47,29 +46,22 @@ fn told_declared(params: &Value) -> Option<bool>
     params.get("context")?.get("includeDeclaration")?.as_bool()
 }
 
-/// The locations of the references; null if the name is unbound.
-fn references_value(
+/// The reply with the locations of the references; with null if the name is unbound.
+fn found_reply(
     alloc: Global,
+    id: Value,
     doc: &Doc,
     uri: &str,
     found: &Option<Vec<Span>>,
-) -> Result<Value, AllocError>
+) -> Result<Outgoing, AllocError>
     requires { IfSome found.now (λ spans. All (IsSpanOfText doc.now.text) spans.items) }
-    ensures { IfOk result (λ value. view value ≡ references_value doc.now.encoding doc.now.text uri.now (option_map (λ spans. spans.items) found.now)) }
+    ensures { IfOk result (λ reply. data_of reply
+        ≡ result_reply (view id) (references_value doc.now.encoding doc.now.text uri.now (option_map (λ spans. spans.items) found.now))) }
 {
-    match found {
-        Some(spans) => locations_value(alloc, doc, uri, spans),
-        None => Ok(Value::Null),
-    }
-}
-
-fn locations_value(alloc: Global, doc: &Doc, uri: &str, spans: &[Span]) -> Result<Value, AllocError>
-    requires { All (IsSpanOfText doc.now.text) spans.now }
-    ensures { IfOk result (λ value. view value ≡ array (items_of (map (location_value doc.now.encoding doc.now.text uri.now) spans.now))) }
-{
-    let mut values = Vec::new(alloc);
-    for span in spans {
-        values.push(location_value(alloc, doc, uri, *span)?)?;
-    }
-    Ok(Value::Array(values))
+    let Some(spans) = found else {
+        return replied(alloc, id, Value::Null);
+    };
+    let ranges = ranges_of(alloc, doc, spans)?;
+    let uri = String::from_str(alloc, uri)?;
+    Ok(Outgoing::References(Uses { id, uri, ranges }))
 }

@@ -1,8 +1,11 @@
 //! Error responses.
 ghost use Rattle.std.specs.Prelude.{◌≡◌, IfOk};
 ghost use Rattle.serde_json.specs.View.{view};
+ghost use Rattle.lam_session.specs.Outgoing.{data_of};
 ghost use Rattle.lam_session.specs.Refusals.{code_of, refusal_text, refused};
 
+use crate::outgoing::Outgoing;
+use lam_rpc::error_reply;
 use serde_json::Value;
 use std::alloc::{AllocError, Global};
 
@@ -65,8 +68,9 @@ fn text_of(refusal: Refusal) -> &'static str
 }
 
 /// Returns the error response to the request with this id.
-pub fn refused(alloc: Global, id: Value, refusal: Refusal) -> Result<Value, AllocError>
-    ensures { IfOk result (λ value. view value ≡ refused (view id) refusal) }
+pub fn refused(alloc: Global, id: Value, refusal: Refusal) -> Result<Outgoing, AllocError>
+    ensures { IfOk result (λ reply. data_of reply ≡ refused (view id) refusal) }
 {
-    lam_rpc::error_reply(alloc, id, code_of(refusal), text_of(refusal))
+    let reply = error_reply(alloc, id, code_of(refusal), text_of(refusal))?;
+    Ok(Outgoing::Value(reply))
 }

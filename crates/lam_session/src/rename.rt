@@ -1,19 +1,20 @@
 //! Replies to `textDocument/rename` (LSP 3.17).
-ghost use Rattle.std.specs.Prelude.{◌≡◌, true, map, option_map, All, IfOk};
+ghost use Rattle.std.specs.Prelude.{◌≡◌, true, option_map, All, IfOk};
 ghost use Rattle.std.specs.Result.{result_ok};
-ghost use Rattle.serde_json.specs.Data.{array};
-ghost use Rattle.serde_json.specs.View.{view, items_of};
+ghost use Rattle.serde_json.specs.View.{view, items_view};
+ghost use Rattle.lam_rpc.specs.Reply.{result_reply};
 ghost use Rattle.lam_text.specs.Positions.{offset_of};
 ghost use Rattle.lam_query.specs.Within.{IsSpanOfText};
 ghost use Rattle.lam_session.specs.Asked.{given_name};
-ghost use Rattle.lam_session.specs.Renames.{new_name, edit_value, rename_value, refusal_of, IsRenameReply};
+ghost use Rattle.lam_session.specs.Outgoing.{data_of};
+ghost use Rattle.lam_session.specs.Renames.{new_name, edit_at, edits_in, rename_value, refusal_of, IsRenameReply};
 
 use crate::document::Document;
+use crate::outgoing::{Edits, Outgoing};
 use crate::refusals::{Refusal, refused};
-use crate::values::{Object, range_value};
+use crate::values::{Object, ranges_of, written_range};
 use lam_query::RenameFault;
-use lam_rpc::ok_reply;
-use lam_text::{Doc, Position};
+use lam_text::{Doc, Position, Range};
 use lam_token::Span;
 use serde_json::Value;
 use std::alloc::{AllocError, Global};
@@ -27,17 +28,14 @@ pub fn rename_reply(
     uri: &str,
     document: &Document,
     position: Position,
-) -> Result<Value, AllocError>
+) -> Result<Outgoing, AllocError>
     requires { document.now.analysed ≡ true }
     ensures { IfOk result (λ reply. IsRenameReply document.now.encoding uri.now document.now.text
-        (offset_of document.now.encoding document.now.text position) (new_name (view params.now)) (view id) (view reply)) }
+        (offset_of document.now.encoding document.now.text position) (new_name (view params.now)) (view id) (data_of reply)) }
 {
     let new = new_name(params);
     match document.rename(alloc, position, new) {
-        Ok(spans) => {
-            let value = rename_value(alloc, document.doc(), uri, new, &spans)?;
-            ok_reply(alloc, id, value)
-        }
+        Ok(spans) => edits_reply(alloc, id, document.doc(), uri, new, &spans),
         Err(fault) => refused(alloc, id, refusal_of(fault)?),
     }
 }
@@ -56,40 +54,47 @@ fn new_name(params: &Value) -> &str
     given_name(params).unwrap_or("")
 }
 
-/// The edits in the document with this URI, one for each span (LSP 3.17, `WorkspaceEdit`).
-fn rename_value(
+/// The reply with the edits in the document with this URI, one for each span.
+fn edits_reply(
     alloc: Global,
+    id: Value,
     doc: &Doc,
     uri: &str,
     new: &str,
     spans: &[Span],
-) -> Result<Value, AllocError>
+) -> Result<Outgoing, AllocError>
     requires { All (IsSpanOfText doc.now.text) spans.now }
-    ensures { IfOk result (λ value. view value ≡ rename_value doc.now.encoding doc.now.text uri.now new.now spans.now) }
+    ensures { IfOk result (λ reply. data_of reply
+        ≡ result_reply (view id) (rename_value doc.now.encoding doc.now.text uri.now new.now spans.now)) }
 {
-    let edits = Object::new(alloc).value(uri, edits_value(alloc, doc, new, spans));
-    Object::new(alloc).value("changes", edits.finish()).finish()
+    let ranges = ranges_of(alloc, doc, spans)?;
+    let uri = String::from_str(alloc, uri)?;
+    let new = String::from_str(alloc, new)?;
+    Ok(Outgoing::Rename(Edits {
+        id,
+        uri,
+        new,
+        ranges,
+    }))
 }
 
-fn edits_value(alloc: Global, doc: &Doc, new: &str, spans: &[Span]) -> Result<Value, AllocError>
-    requires { All (IsSpanOfText doc.now.text) spans.now }
-    ensures { IfOk result (λ value. view value ≡ array (items_of (map (edit_value doc.now.encoding doc.now.text new.now) spans.now))) }
+/// Returns these edits in the document with this URI (LSP 3.17, `WorkspaceEdit`).
+pub fn edits_in(alloc: Global, uri: &str, edits: Vec<Value>) -> Result<Value, AllocError>
+    ensures { IfOk result (λ value. view value ≡ edits_in uri.now (items_view edits.items)) }
 {
-    let mut values = Vec::new(alloc);
-    for span in spans {
-        values.push(edit_value(alloc, doc, new, *span)?)?;
-    }
-    Ok(Value::Array(values))
+    let changes = Object::new(alloc).value(uri, Ok(Value::from(edits)));
+    Object::new(alloc)
+        .value("changes", changes.finish())
+        .finish()
 }
 
-/// The edit that replaces a span by the new name (LSP 3.17, `TextEdit`).
-fn edit_value(alloc: Global, doc: &Doc, new: &str, span: Span) -> Result<Value, AllocError>
-    requires { IsSpanOfText doc.now.text span }
-    ensures { IfOk result (λ value. view value ≡ edit_value doc.now.encoding doc.now.text new.now span) }
+/// Returns the edit that replaces a range by the new name (LSP 3.17, `TextEdit`).
+pub fn edit_at(alloc: Global, new: &str, range: Range) -> Result<Value, AllocError>
+    ensures { IfOk result (λ value. view value ≡ edit_at new.now range) }
 {
     Object::new(alloc)
         .text("newText", new)
-        .value("range", range_value(alloc, doc, span))
+        .value("range", written_range(alloc, range))
         .finish()
 }
 

@@ -85,8 +85,8 @@ impl Session {
         Ok(values)
     }
 
-    /// The same as `step`, but returns the messages to send before they are values: as values, the diagnostics of a document take
-    /// some 4 KB each.
+    /// The same as `step`, but returns the messages to send before they are values: as values, diagnostics, references and edits
+    /// take some 4 KB each.
     pub fn receive(&mut self, incoming: Incoming) -> Result<Vec<Outgoing>, AllocError>
         ensures answers { IfOk result (λ sent. Answers self.old (message_of incoming) (map data_of sent.items) self.new) }
         ensures gives_up { OnErr result (GivesUp self.old self.new) }

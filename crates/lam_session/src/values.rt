@@ -6,6 +6,6 @@ mod ranges;
 
 pub use derivations::derivation_value;
 pub use diagnostics::{Diagnostic, diagnostic_values, message_of};
-pub(crate) use diagnostics::{diagnostic_value, diagnostics, values_of};
+pub(crate) use diagnostics::{diagnostic_value, diagnostics};
 pub use objects::Object;
-pub(crate) use ranges::{location_value, range_value};
+pub(crate) use ranges::{location_at, range_of, range_value, ranges_of, written_range};

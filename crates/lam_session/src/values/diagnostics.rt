@@ -7,6 +7,8 @@ ghost use Rattle.lam_query.specs.Within.{IsSpanOfText};
 ghost use Rattle.lam_session.specs.Diagnostics.{message_beside, message_of, diagnostic, diagnostics};
 ghost use Rattle.lam_session.specs.Outgoing.{diagnostic_data};
 
+use crate::lists::values_of;
+use crate::shapes::DiagnosticShape;
 use crate::values::Object;
 use crate::values::ranges::{range_of, written_range};
 use lam_query::answers::Fault;
@@ -53,7 +55,7 @@ pub fn diagnostic_values(
     ensures no_float { IfOk result (λ values. items_have_float (items_view values.items) ≡ false) }
 {
     let found = diagnostics(alloc, doc, faults)?;
-    values_of(alloc, &found)
+    values_of(alloc, &DiagnosticShape, &found)
 }
 
 /// Returns the diagnostics of a text, in order.
@@ -80,17 +82,6 @@ fn diagnostic_of(doc: &Doc, fault: &Fault) -> Diagnostic
         code: fault.code,
         range: range_of(doc, fault.span),
     }
-}
-
-/// Returns a value for each of these diagnostics, in order.
-pub fn values_of(alloc: Global, diagnostics: &[Diagnostic]) -> Result<Vec<Value>, AllocError>
-    ensures { IfOk result (λ values. map view values.items ≡ map diagnostic_data diagnostics.now) }
-{
-    let mut values = Vec::new(alloc);
-    for diagnostic in diagnostics {
-        values.push(diagnostic_value(alloc, *diagnostic)?)?;
-    }
-    Ok(values)
 }
 
 /// Returns a diagnostic as a value (LSP 3.17, `Diagnostic`).

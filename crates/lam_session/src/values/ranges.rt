@@ -1,8 +1,8 @@
 //! Positions in a text as JSON values (LSP 3.17, `Position`, `Range` and `Location`).
-ghost use Rattle.std.specs.Prelude.{◌≡◌, IfOk};
+ghost use Rattle.std.specs.Prelude.{◌≡◌, map, All, IfOk};
 ghost use Rattle.serde_json.specs.View.{view};
 ghost use Rattle.lam_query.specs.Within.{IsSpanOfText};
-ghost use Rattle.lam_session.specs.Ranges.{position_value, range_of, written_range, range_value, location_value};
+ghost use Rattle.lam_session.specs.Ranges.{position_value, range_of, written_range, range_value, location_at};
 
 use crate::values::Object;
 use lam_text::{Doc, Position, Range};
@@ -19,6 +19,18 @@ pub fn range_of(doc: &Doc, span: Span) -> Range
         start: doc.position_of(span.start),
         end: doc.position_of(span.end),
     }
+}
+
+/// Returns the range of each span of the text, in order.
+pub fn ranges_of(alloc: Global, doc: &Doc, spans: &[Span]) -> Result<Vec<Range>, AllocError>
+    requires { All (IsSpanOfText doc.now.text) spans.now }
+    ensures { IfOk result (λ ranges. ranges.items ≡ map (range_of doc.now.encoding doc.now.text) spans.now) }
+{
+    let mut ranges = Vec::new(alloc);
+    for span in spans {
+        ranges.push(range_of(doc, *span))?;
+    }
+    Ok(ranges)
 }
 
 /// Returns a range as a value.
@@ -39,13 +51,12 @@ pub fn range_value(alloc: Global, doc: &Doc, span: Span) -> Result<Value, AllocE
     written_range(alloc, range_of(doc, span))
 }
 
-/// Returns the location of a span in the document with this URI.
-pub fn location_value(alloc: Global, doc: &Doc, uri: &str, span: Span) -> Result<Value, AllocError>
-    requires { IsSpanOfText doc.now.text span }
-    ensures { IfOk result (λ value. view value ≡ location_value doc.now.encoding doc.now.text uri.now span) }
+/// Returns the location of a range in the document with this URI.
+pub fn location_at(alloc: Global, uri: &str, range: Range) -> Result<Value, AllocError>
+    ensures { IfOk result (λ value. view value ≡ location_at uri.now range) }
 {
     Object::new(alloc)
-        .value("range", range_value(alloc, doc, span))
+        .value("range", written_range(alloc, range))
         .text("uri", uri)
         .finish()
 }

@@ -3,7 +3,7 @@ use Rattle.std.proofs.lemmas.Result.{on_ok_weaker}
 use Rattle.serde_json.specs.Data.{number}
 use Rattle.serde_json.specs.Find.{of_integer}
 use Rattle.serde_json.specs.View.{view}
-use Rattle.lam_session.proofs.PublishedTexts.{version_text}
+use Rattle.lam_session.proofs.SentTexts.{version_text}
 use Rattle.lam_session.proofs.outgoing.write_version.Goals as goal
 
 pub returns : goal.returns

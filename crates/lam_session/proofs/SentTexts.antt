@@ -1,10 +1,12 @@
--- The text of the notification with the diagnostics of a document, piece by piece.
-use Rattle.std.proofs.Common.{◌≡◌, ℕ, ℤ, ◌+◌, ◌<◌, List, [], ◌∷◌, ◌++◌, length, drop, map, get_or, drop-cons, add-one, true, false, Option, Some, codes, refl, sym, ap, ◌∙◌, append_assoc}
-use Rattle.serde_json.specs.Data.{Data, Items, number, string}
+-- The texts of the messages with a list, piece by piece.
+use Rattle.std.proofs.Common.{◌≡◌, ℕ, ℤ, ◌+◌, ◌<◌, List, [], ◌∷◌, ◌++◌, length, drop, map, get_or, drop-cons, add-one, Bool, true, false, ◌||◌, Option, Some, codes, refl, sym, ap, ◌∙◌, append_assoc}
+use Rattle.serde_json.specs.Data.{Data, Items, number, string, array}
 use Rattle.serde_json.specs.Find.{of_integer}
 use Rattle.serde_json.specs.View.{items_of}
-use Rattle.serde_json.specs.Written.{compact_text, items_text, members_text}
+use Rattle.serde_json.specs.Written.{has_float, items_have_float, compact_text, items_text, members_text}
 use Rattle.serde_json.proofs.OnLiterals.{serde_json_on_literals}
+use Rattle.lam_rpc.specs.Reply.{result_reply}
+use Rattle.lam_session.specs.Renames.{edits_in}
 use Rattle.lam_session.specs.Sync.{published, version_member}
 
 -- ---- a list of values
@@ -56,3 +58,43 @@ version_text old middle new version d key value is =
     ap (λ l. l ++ 125 ∷ []) (is ∙ ap (λ l. l ++ compact_text d) key ∙ ap (λ v. (old ++ codes ",\"version\":") ++ compact_text v) value)
     ∙ append_assoc (old ++ codes ",\"version\":") (compact_text (number (of_integer version))) (125 ∷ [])
     ∙ append_assoc old (codes ",\"version\":") (compact_text (number (of_integer version)) ++ 125 ∷ [])
+
+-- ---- a reply
+
+-- without floats in the reply there is none in its id
+id_floatless : (a b : Bool) → a || b ≡ false → a ≡ false
+id_floatless true b is = is
+id_floatless false b is = refl
+
+four : (front id middle rest : List ℕ) → ((front ++ id) ++ middle) ++ rest ≡ front ++ (id ++ (middle ++ rest))
+four front id middle rest = simp append_assoc refl
+
+-- the text before the result, then the result and the closing brace
+pub reply_text : (id answer : Data) (written text : List ℕ) → (has_float id ≡ false → written ≡ compact_text id)
+    → text ≡ (codes "{\"id\":" ++ written) ++ codes ",\"jsonrpc\":\"2.0\",\"result\":" → has_float (result_reply id answer) ≡ false
+    → text ++ (compact_text answer ++ 125 ∷ []) ≡ compact_text (result_reply id answer)
+unfolding serde_json_on_literals
+reply_text id answer written text id_is is plain =
+    ap (λ l. l ++ (compact_text answer ++ 125 ∷ [])) is
+    ∙ four (codes "{\"id\":") written (codes ",\"jsonrpc\":\"2.0\",\"result\":") (compact_text answer ++ 125 ∷ [])
+    ∙ ap (λ l. codes "{\"id\":" ++ (l ++ (codes ",\"jsonrpc\":\"2.0\",\"result\":" ++ (compact_text answer ++ 125 ∷ [])))) (id_is (id_floatless (has_float id) _ plain))
+
+listed : (front start items end : List ℕ) → ((front ++ start) ++ items) ++ end ≡ front ++ ((start ++ items) ++ end)
+listed front start items end = simp append_assoc refl
+
+-- a reply whose result is a list
+pub list_text : (front text : List ℕ) (items : Items) → text ≡ (front ++ codes "[") ++ items_text false items
+    → text ++ codes "}" ≡ front ++ (compact_text (array items) ++ 125 ∷ [])
+list_text front text items is = ap (λ l. l ++ codes "}") is ∙ listed front (codes "[") (items_text false items) (codes "}")
+
+braced : (front start uri middle items one two three : List ℕ)
+    → ((((front ++ start) ++ uri) ++ middle) ++ items) ++ (one ++ (two ++ three)) ≡ front ++ ((start ++ ((uri ++ (middle ++ (items ++ one))) ++ two)) ++ three)
+braced front start uri middle items one two three = simp append_assoc refl
+
+-- a reply whose result is a list of edits
+pub edits_text : (front text uri : List ℕ) (edits : Items) → text ≡ (((front ++ codes "{\"changes\":{") ++ compact_text (string uri)) ++ codes ":[") ++ items_text false edits
+    → text ++ codes "}}}" ≡ front ++ (compact_text (edits_in uri edits) ++ 125 ∷ [])
+unfolding serde_json_on_literals
+edits_text front text uri edits is =
+    ap (λ l. l ++ codes "}}}") is
+    ∙ braced front (codes "{\"changes\":{") (compact_text (string uri)) (codes ":[") (items_text false edits) (125 ∷ []) (125 ∷ []) (125 ∷ [])

@@ -1,4 +1,0 @@
-use Rattle.lam_session.proofs.values.ranges.location_value.Goals as goal
-
-pub returns : goal.returns
-returns c = c.finish.ensures _ (c.text.ensures _ (c.value.ensures _ _ c.new.ensures c.range_value.ensures))
