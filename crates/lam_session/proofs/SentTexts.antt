@@ -3,7 +3,7 @@ use Rattle.std.proofs.Common.{◌≡◌, ℕ, ℤ, ◌+◌, ◌<◌, List, [], �
 use Rattle.serde_json.specs.Data.{Data, Items, number, string, array}
 use Rattle.serde_json.specs.Find.{of_integer}
 use Rattle.serde_json.specs.View.{items_of}
-use Rattle.serde_json.specs.Written.{has_float, items_have_float, compact_text, items_text, members_text}
+use Rattle.serde_json.specs.Written.{has_float, compact_text, items_text, members_text}
 use Rattle.serde_json.proofs.OnLiterals.{serde_json_on_literals}
 use Rattle.lam_rpc.specs.Reply.{result_reply}
 use Rattle.lam_session.specs.Renames.{edits_in}

@@ -1,8 +1,8 @@
-use Rattle.std.proofs.Common.{◌≡◌, map, ap, ◌∙◌, string_bytes}
+use Rattle.std.proofs.Common.{map, ap, ◌∙◌}
 use Rattle.serde_json.specs.Data.{array}
 use Rattle.serde_json.specs.View.{view, items_of}
 use Rattle.lam_rpc.specs.Reply.{result_reply}
-use Rattle.lam_session.specs.Ranges.{range_of, location_at, location_value}
+use Rattle.lam_session.specs.Ranges.{range_of, location_at}
 use Rattle.lam_session.proofs.ValueLists.{shown_through}
 use Rattle.lam_session.proofs.references.found_reply.Goals as goal
 
