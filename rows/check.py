@@ -234,7 +234,7 @@ PROOF = [
 NAMES = [{"name": "point", "type": WIDE}, {"name": "next", "type": "{x:Nat}->Nat"}]
 ACCEPTED = f"d: accepted: point:{WIDE}, next:{{x:Nat}}->Nat |- next point : Nat\n"
 BELOW = "step {} does not follow by its rule from its premises"
-ENTRY = "d: entry {} of the context is not the least type of its name\n"
+ENTRY = "d: entry {} of the context is not a type that the text gives its name\n"
 OTHER_NAMES = "d: the context has other names than those that the term sees\n"
 # A name of a term, a declared one, and a use of the first.
 USED = "r = {a=0, b=true}; s : {b:Bool, a:Nat}; r"
@@ -251,9 +251,10 @@ def step(rule, start, end, ty, *premises):
     return {"from": list(premises), "range": place(0, start, end), "rule": rule, "type": ty}
 
 
-def derived(text, *steps):
-    """The text in the file `a`, and a line with these steps about it, in no context."""
-    return {"a": text, "d": line({"derivation": {"context": [], "steps": list(steps)}, "file": "a"})}
+def derived(text, *steps, **context):
+    """The text in the file `a`, and a line with these steps about it, in a context of these names and types."""
+    names = [{"name": name, "type": ty} for name, ty in context.items()]
+    return {"a": text, "d": line({"derivation": {"context": names, "steps": list(steps)}, "file": "a"})}
 
 
 def sent(change=None, names=None, steps=None):
@@ -346,7 +347,24 @@ CASES = [
     Case("another order of fields in the type of a term", ["--verify", "d"], {"a": USED, "d": used("{b:Bool, a:Nat}", "{b:Bool, a:Nat}")}, "d: accepted: r:{b:Bool, a:Nat}, s:{b:Bool, a:Nat} |- r : {b:Bool, a:Nat}\n", 0),
     Case("another order of fields in a written type", ["--verify", "d"], {"a": USED, "d": used("{a:Nat, b:Bool}", "{a:Nat, b:Bool}")}, ENTRY.format(1), 1),
     Case("a context with another type of a name", ["--verify", "d"], {"a": USED, "d": used("Bool", "{b:Bool, a:Nat}")}, ENTRY.format(0), 1),
-    Case("a context with a supertype of the least type of a name", ["--verify", "d"], {"a": USED, "d": used("{a:Nat}", "{b:Bool, a:Nat}")}, ENTRY.format(0), 1),
+    Case("a wider type of a name that a command defines", ["--verify", "d"], {"a": USED, "d": used("{a:Nat}", "{b:Bool, a:Nat}")}, "d: accepted: r:{a:Nat}, s:{b:Bool, a:Nat} |- r : {a:Nat}\n", 0),
+    Case("the widest type of a name", ["--verify", "d"], {"a": USED, "d": used("Top", "{b:Bool, a:Nat}")}, "d: accepted: r:Top, s:{b:Bool, a:Nat} |- r : Top\n", 0),
+    Case("a narrower type than the least one of a name", ["--verify", "d"], {"a": USED, "d": used("{a:Nat, b:Bool, c:Nat}", "{b:Bool, a:Nat}")}, ENTRY.format(0), 1),
+    Case("a wider type than the written one", ["--verify", "d"], {"a": USED, "d": used("{a:Nat, b:Bool}", "{a:Nat}")}, ENTRY.format(1), 1),
+    Case("the outermost of two wrong entries", ["--verify", "d"], {"a": USED, "d": used("Bool", "{a:Nat}")}, ENTRY.format(0), 1),
+    Case("a label twice in a wider type of a name", ["--verify", "d"], {"a": USED, "d": used("{a:Nat, a:Nat}", "{b:Bool, a:Nat}")}, ENTRY.format(0), 1),
+    Case("a type that a name does not have", ["--verify", "d"], derived("x = 0; x", step("T-Var", 7, 8, "Bool"), x="Bool"), ENTRY.format(0), 1),
+    Case("no type of a name that has one", ["--verify", "d"], derived("x = 0; 0", step("T-Num", 7, 8, "Nat"), x=None), ENTRY.format(0), 1),
+    Case("a wider type of a name in the second dialect", ["--dialect", "2", "--verify", "d"], derived("x = true; succ x", step("T-Var", 15, 16, "Nat"), step("T-Succ", 10, 16, "Nat", 0), x="Nat"), "d: accepted: x:Nat |- succ x : Nat\n", 0),
+    Case("a type of a name that is wider in the second dialect only", ["--verify", "d"], derived("x = true; succ x", step("T-Var", 15, 16, "Nat"), step("T-Succ", 10, 16, "Nat", 0), x="Nat"), ENTRY.format(0), 1),
+    Case("a wider type of the name of a let", ["--verify", "d"], derived("let x = {a=0, b=true} in x.a", step("T-Var", 25, 26, "{a:Nat}"), step("T-Proj", 25, 28, "Nat", 0), x="{a:Nat}"), "d: accepted: x:{a:Nat} |- x.a : Nat\n", 0),
+    Case("the written type of a parameter", ["--verify", "d"], derived("lambda x:{a:Nat, b:Bool}. x", step("T-Var", 26, 27, "{a:Nat, b:Bool}"), x="{a:Nat, b:Bool}"), "d: accepted: x:{a:Nat, b:Bool} |- x : {a:Nat, b:Bool}\n", 0),
+    Case("a wider type of a parameter", ["--verify", "d"], derived("lambda x:{a:Nat, b:Bool}. x", step("T-Var", 26, 27, "{a:Nat}"), x="{a:Nat}"), ENTRY.format(0), 1),
+    Case("entries are chosen one by one", ["--verify", "d"], derived("x = {a=0, b=true}; y = x; y", step("T-Var", 26, 27, "{a:Nat, b:Bool}"), x="{a:Nat}", y="{a:Nat, b:Bool}"), "d: accepted: x:{a:Nat}, y:{a:Nat, b:Bool} |- y : {a:Nat, b:Bool}\n", 0),
+    Case("a step by the least type of a name with a wider one", ["--verify", "d"], derived("x = {a=0, b=true}; x.b", step("T-Var", 19, 20, "{a:Nat, b:Bool}"), step("T-Proj", 19, 22, "Bool", 0), x="{a:Nat}"), "d: " + BELOW.format(0) + "\n", 1),
+    Case("a name without a type", ["--verify", "d"], derived("x = succ true; 0", step("T-Num", 15, 16, "Nat"), x=None), "d: accepted: x |- 0 : Nat\n", 0),
+    Case("a type of a name without one", ["--verify", "d"], derived("x = succ true; 0", step("T-Num", 15, 16, "Nat"), x="Nat"), ENTRY.format(0), 1),
+    Case("a type of a name whose written type is none", ["--verify", "d"], derived("x : Foo; 0", step("T-Num", 9, 10, "Nat"), x="Top"), ENTRY.format(0), 1),
     Case("a context with another type of a name that is not used", ["--verify", "d"], {"a": USED, "d": used("{a:Nat, b:Bool}", "Nat")}, ENTRY.format(1), 1),
     Case("a context with no type of a name", ["--verify", "d"], {"a": USED, "d": used("{a:Nat, b:Bool}", None)}, ENTRY.format(1), 1),
     Case("a label twice in a context", ["--verify", "d"], {"a": USED, "d": used("{a:Nat, b:Bool, b:Bool}", "{b:Bool, a:Nat}")}, ENTRY.format(0), 1),

@@ -1,4 +1,4 @@
--- The entries that a context lists, held against the least ones of the binders that a term sees.
+-- The entries that a context lists, held against the least ones of the binders that a term sees: they fit if each is above the least one.
 use Rattle.std.proofs.Common.{◌≡◌, ◌↔◌, ℕ, zero, suc, ◌+◌, ◌<◌, ◌≤◌, ◌⊎◌, inl, inr, List, [], ◌∷◌, ◌++◌, length, get_or, map, take, reverse, Option, Some, None, MatchOption, refl, sym, ap, subst, ◌∙◌, arith, append_assoc, append-nil}
 use Rattle.std.specs.List.{AllZip}
 use Rattle.std.proofs.lemmas.List.{reverse-append, reverse-reverse, length-reverse, length-map, take_more, take_all, take-map, map-append, get_or-map}
@@ -12,7 +12,6 @@ use Rattle.lam_rules.specs.declared.rules.Dialect.{Dialect}
 use Rattle.lam_rules.specs.declared.rules.TypeRule.{TypeRule}
 use Rattle.lam_rules.specs.declared.types.Ty.{Ty}
 use Rattle.lam_rules.proofs.ByShape.{below_wf}
-use Rattle.lam_rules.proofs.Composing.{below_trans}
 use Rattle.lam_syntax.specs.Trees.{CommandTree}
 use Rattle.lam_scope.specs.Bindings.{IsOriginOf, AreOriginsOf}
 use Rattle.lam_scope.specs.Places.{Binding, written, of_term, Scope, Place, Statement, places_of, place_numbered}
@@ -30,8 +29,9 @@ use Rattle.lam_scope.proofs.ScopeBindings.{sight_origins}
 use Rattle.lam_scope.proofs.SeenOrigins.{visible_origins}
 use Rattle.lam_scope.proofs.WellFormedForms.{document-wf}
 use Rattle.lam_typing.specs.Analysis.{AreLeast}
+use Rattle.lam_typing.specs.Contexts.{Fits, IsContext}
 use Rattle.lam_typing.specs.Entries.{entry_from}
-use Rattle.lam_typing.specs.LeastTypes.{IsLeastAt, IsLeastEntry, AreLeastEntries}
+use Rattle.lam_typing.specs.LeastTypes.{IsLeastEntry, AreLeastEntries}
 use Rattle.lam_typing.specs.Typings.{found_of, entries_in}
 use Rattle.lam_typing.specs.inner.Notes.{notes_of}
 use Rattle.lam_typing.specs.declared.typing.Typing.{Typing}
@@ -41,10 +41,10 @@ use Rattle.lam_query.specs.WellTypedDocuments.{statements_in}
 use Rattle.lam_query.proofs.RowsAndTerms.{number_told}
 use Rattle.lam_query.proofs.Small.{least_at}
 use Rattle.lam_check.proofs.Verifying.{context_reversed}
-use Rattle.lam_check.specs.FirstFaults.{IsFirstOtherEntry}
-use Rattle.lam_check.specs.inner.Verifying.{AreFormsOf, IsFirstNot, StandsFor, StandsAt}
+use Rattle.lam_check.specs.FirstFaults.{IsFirstUnfitEntry}
+use Rattle.lam_check.specs.inner.Verifying.{AreFormsOf, FitsAt, FitsFound, IsFirstNot}
 
--- ---- least types of one term
+-- ---- the types of one term
 
 -- by subsumption a term has each type above one of its types
 widened : (g : Context) (e : Term) (s t : Typ) (d : Dialect) → HasType g e s d → IsBelow s t d → HasType g e t d
@@ -53,39 +53,37 @@ widened g e s t d (typing_step r u ps q, (typing, is)) below = (
   ((typing.0, (below_wf s t d below).1, (typing, subst (λ z. ProvesBelow below.0 z t d) (sym is) below.1)), refl),
 )
 
-least_alike : (s : Scope) (e : Term) (t u : Typ) (d : Dialect) → IsLeastAt s e (Some t) d → IsBelow t u d × IsBelow u t d → IsLeastAt s e (Some u) d
-least_alike s e t u d least alike =
-    ((least.0.0, least.0.1, widened least.0.0 e t u d least.0.2 alike.0), λ v is. below_trans u t v d alike.1 (least.1 v is))
-
--- an entry stands for the least one exactly if it is least
-stands_least : (ss : List Statement) (o : Origin) (b : Binding) (outside : Scope) (found entry : Option Typ) (d : Dialect)
-    → IsOriginOf ss o b outside → IsLeastEntry outside b found d → (StandsFor o found entry d ↔ IsLeastEntry outside b entry d)
-stands_least ss (Lambda p) (written w) outside found entry d origin least = (λ is. is ∙ least, λ is. is ∙ sym least)
-stands_least ss (Declaration i) (written w) outside found entry d origin least = (λ is. is ∙ least, λ is. is ∙ sym least)
-stands_least ss (TermAt p) (of_term e) outside (Some t) (Some u) d origin least =
-    (λ alike. least_alike outside e t u d least alike, λ other. (least.1 u other.0, other.1 t least.0))
-stands_least ss (TermAt p) (of_term e) outside (Some t) None d origin least = (λ no_way. absurd no_way, λ other. other t least.0)
-stands_least ss (TermAt p) (of_term e) outside None (Some u) d origin least =
-    (λ is. (let clash : Some u ≡ None = is in absurd cc), λ other. absurd (least u other.0))
-stands_least ss (TermAt p) (of_term e) outside None None d origin least = (λ is. least, λ other. refl)
-stands_least ss (Lambda p) (of_term e) outside found entry d origin least = absurd origin
-stands_least ss (Declaration i) (of_term e) outside found entry d origin least = absurd origin
-stands_least ss (TermAt p) (written w) outside found entry d origin least = absurd origin
-stands_least ss TypeName (written w) outside found entry d origin least = absurd origin
-stands_least ss TypeName (of_term e) outside found entry d origin least = absurd origin
+-- an entry fits by the least one found exactly if it fits
+fits_found : (ss : List Statement) (o : Origin) (b : Binding) (outside : Scope) (found entry : Option Typ) (d : Dialect)
+    → IsOriginOf ss o b outside → IsLeastEntry outside b found d → (FitsFound o found entry d ↔ Fits b (λ h. IsContext outside h d) entry d)
+fits_found ss (Lambda p) (written w) outside found entry d origin least = (λ is. is ∙ least, λ is. is ∙ sym least)
+fits_found ss (Declaration i) (written w) outside found entry d origin least = (λ is. is ∙ least, λ is. is ∙ sym least)
+fits_found ss (TermAt p) (of_term e) outside (Some t) (Some u) d origin least = (
+  λ below. (least.0.0, least.0.1, widened least.0.0 e t u d least.0.2 below),
+  λ fits. least.1 u fits,
+)
+fits_found ss (TermAt p) (of_term e) outside (Some t) None d origin least = (λ no_way. absurd no_way, λ none. none least.0.0 t least.0.1 least.0.2)
+fits_found ss (TermAt p) (of_term e) outside None (Some u) d origin least =
+    (λ is. (let clash : Some u ≡ None = is in absurd cc), λ fits. absurd (least u fits))
+fits_found ss (TermAt p) (of_term e) outside None None d origin least = (λ is g t is_context has. least t (g, is_context, has), λ none. refl)
+fits_found ss (Lambda p) (of_term e) outside found entry d origin least = absurd origin
+fits_found ss (Declaration i) (of_term e) outside found entry d origin least = absurd origin
+fits_found ss (TermAt p) (written w) outside found entry d origin least = absurd origin
+fits_found ss TypeName (written w) outside found entry d origin least = absurd origin
+fits_found ss TypeName (of_term e) outside found entry d origin least = absurd origin
 
 -- the same for each binder of a scope
-each_least : (ss : List Statement) (f : Origin → Option Typ) (sight : Sight) (s : Scope) (g : Context) (d : Dialect) → AreOriginsOf ss sight s → AreLeastEntries s (map f sight) d
-    → (AllZip (λ o entry. StandsFor o (f o) entry d) sight g ↔ AreLeastEntries s g d)
-each_least ss f [] [] [] d origins least = (λ h. tt, λ h. tt)
-each_least ss f [] [] (entry ∷ g) d origins least = (λ h. absurd h, λ h. absurd h)
-each_least ss f (o ∷ sight) (b ∷ s) [] d origins least = (λ h. absurd h, λ h. absurd h)
-each_least ss f (o ∷ sight) (b ∷ s) (entry ∷ g) d origins least =
-    let one = stands_least ss o b s (f o) entry d origins.0 least.0 in
-    let rest = each_least ss f sight s g d origins.1 least.1 in
+each_fits : (ss : List Statement) (f : Origin → Option Typ) (sight : Sight) (s : Scope) (g : Context) (d : Dialect) → AreOriginsOf ss sight s → AreLeastEntries s (map f sight) d
+    → (AllZip (λ o entry. FitsFound o (f o) entry d) sight g ↔ IsContext s g d)
+each_fits ss f [] [] [] d origins least = (λ h. tt, λ h. tt)
+each_fits ss f [] [] (entry ∷ g) d origins least = (λ h. absurd h, λ h. absurd h)
+each_fits ss f (o ∷ sight) (b ∷ s) [] d origins least = (λ h. absurd h, λ h. absurd h)
+each_fits ss f (o ∷ sight) (b ∷ s) (entry ∷ g) d origins least =
+    let one = fits_found ss o b s (f o) entry d origins.0 least.0 in
+    let rest = each_fits ss f sight s g d origins.1 least.1 in
     (λ h. (one.0 h.0, rest.0 h.1), λ h. (one.1 h.0, rest.1 h.1))
-each_least ss f [] (b ∷ s) g d origins least = absurd origins
-each_least ss f (o ∷ sight) [] g d origins least = absurd origins
+each_fits ss f [] (b ∷ s) g d origins least = absurd origins
+each_fits ss f (o ∷ sight) [] g d origins least = absurd origins
 
 -- ---- two lists, element by element
 
@@ -205,23 +203,23 @@ origins_long ss (o ∷ sight) (b ∷ s) h = ap suc (origins_long ss sight s h.1)
 origins_long ss [] (b ∷ s) h = absurd h
 origins_long ss (o ∷ sight) [] h = absurd h
 
--- the first entry that does not stand for the least one is the first that is not least
-first_other : (ss : List Statement) (f : Origin → Option Typ) (sight : Sight) (s : Scope) (g : Context) (d : Dialect) (n : ℕ) → AreOriginsOf ss sight s → AreLeastEntries s (map f sight) d
-    → FirstWrong (λ o entry. StandsFor o (f o) entry d) sight g n → IsFirstOtherEntry s g d n
-first_other ss f [] s g d n origins least h = absurd h
-first_other ss f (o ∷ sight) s [] d n origins least h = absurd h
-first_other ss f (o ∷ sight) [] (entry ∷ g) d n origins least h = absurd origins
-first_other ss f (o ∷ sight) (b ∷ s) (entry ∷ g) d n origins least (inl h) = inl (first_other ss f sight s g d n origins.1 least.1 h)
-first_other ss f (o ∷ sight) (b ∷ s) (entry ∷ g) d n origins least (inr h) =
-    let one = stands_least ss o b s (f o) entry d origins.0 least.0 in
-    let rest = each_least ss f sight s g d origins.1 least.1 in
+-- the first entry that does not fit by the one found is the first that does not fit
+first_unfit : (ss : List Statement) (f : Origin → Option Typ) (sight : Sight) (s : Scope) (g : Context) (d : Dialect) (n : ℕ) → AreOriginsOf ss sight s → AreLeastEntries s (map f sight) d
+    → FirstWrong (λ o entry. FitsFound o (f o) entry d) sight g n → IsFirstUnfitEntry s g d n
+first_unfit ss f [] s g d n origins least h = absurd h
+first_unfit ss f (o ∷ sight) s [] d n origins least h = absurd h
+first_unfit ss f (o ∷ sight) [] (entry ∷ g) d n origins least h = absurd origins
+first_unfit ss f (o ∷ sight) (b ∷ s) (entry ∷ g) d n origins least (inl h) = inl (first_unfit ss f sight s g d n origins.1 least.1 h)
+first_unfit ss f (o ∷ sight) (b ∷ s) (entry ∷ g) d n origins least (inr h) =
+    let one = fits_found ss o b s (f o) entry d origins.0 least.0 in
+    let rest = each_fits ss f sight s g d origins.1 least.1 in
     inr (rest.0 h.0, (λ is. h.1 (one.1 is)), h.2 ∙ origins_long ss sight s origins.1)
 
-pub other_not_least : {A : Type 0} (s : Scope) (g : Context) (d : Dialect) (n : ℕ) → IsFirstOtherEntry s g d n → AreLeastEntries s g d → A
-other_not_least [] g d n h least = absurd h
-other_not_least (b ∷ s) [] d n h least = absurd h
-other_not_least (b ∷ s) (entry ∷ g) d n (inl h) least = other_not_least s g d n h least.1
-other_not_least (b ∷ s) (entry ∷ g) d n (inr h) least = absurd (h.1 least.0)
+pub unfit_no_context : {A : Type 0} (s : Scope) (g : Context) (d : Dialect) (n : ℕ) → IsFirstUnfitEntry s g d n → IsContext s g d → A
+unfit_no_context [] g d n h context = absurd h
+unfit_no_context (b ∷ s) [] d n h context = absurd h
+unfit_no_context (b ∷ s) (entry ∷ g) d n (inl h) context = unfit_no_context s g d n h context.1
+unfit_no_context (b ∷ s) (entry ∷ g) d n (inr h) context = absurd (h.1 context.0)
 
 -- ---- what is wrong
 
@@ -281,44 +279,44 @@ module _ (cs : List CommandTree) (scopes : Scopes) (resolved : Resolved) (typing
       (λ m lt. least_at (places_of [] Stated) (found_of typing) m _ d (omega (arith, long, lt)) found_least) (document-wf cs) refl inside).entries (omega (arith, long, inside))
 
   abbrev ByNumber : ℕ → Option Typ → Type 0
-  ByNumber = StandsAt (origins_of resolved) typing d
+  ByNumber = FitsAt (origins_of resolved) typing d
 
   abbrev ByOrigin : Origin → Option Typ → Type 0
-  ByOrigin o entry = StandsFor o (Found o) entry d
+  ByOrigin o entry = FitsFound o (Found o) entry d
 
   at_origin : (b : ℕ) (entry : Option Typ) → ByNumber b entry → ByOrigin (origin_of b) entry
-  at_origin b entry h = subst (λ o. StandsFor o (Found (origin_of b)) entry d) (origin_is b) (subst (λ x. StandsFor (get_or (origins_of resolved) b TypeName) x entry d) (entry_is b) h)
+  at_origin b entry h = subst (λ o. FitsFound o (Found (origin_of b)) entry d) (origin_is b) (subst (λ x. FitsFound (get_or (origins_of resolved) b TypeName) x entry d) (entry_is b) h)
 
   at_number : (b : ℕ) (entry : Option Typ) → ByOrigin (origin_of b) entry → ByNumber b entry
-  at_number b entry h = subst (λ x. StandsFor (get_or (origins_of resolved) b TypeName) x entry d) (sym (entry_is b)) (subst (λ o. StandsFor o (Found (origin_of b)) entry d) (sym (origin_is b)) h)
+  at_number b entry h = subst (λ x. FitsFound (get_or (origins_of resolved) b TypeName) x entry d) (sym (entry_is b)) (subst (λ o. FitsFound o (Found (origin_of b)) entry d) (sym (origin_is b)) h)
 
-  -- entries that stand for those of the binders in scope at a term are its least entries
-  pub listed_least : (n : ℕ) (bs : List ℕ) (entries : List (Option Ty)) → n < length (document_terms cs) → bs ≡ visible_at (table_of scopes) n
-      → (AllZip (StandsAt (origins_of resolved) typing d) bs (map written_of entries) ↔ AreLeastEntries (term_of (tree_in (document_terms cs) n)).place.scope (context_of entries) d)
-  listed_least n bs entries inside seen =
+  -- entries that fit by those found of the binders in scope at a term are a context of it
+  pub listed_context : (n : ℕ) (bs : List ℕ) (entries : List (Option Ty)) → n < length (document_terms cs) → bs ≡ visible_at (table_of scopes) n
+      → (AllZip (FitsAt (origins_of resolved) typing d) bs (map written_of entries) ↔ IsContext (term_of (tree_in (document_terms cs) n)).place.scope (context_of entries) d)
+  listed_context n bs entries inside seen =
       let sight = sight_numbered Stated n in
       let types = map written_of entries in
       let within : n < length (places_of [] Stated) = (let same = ap length (same_places cs) ∙ length-map (document_terms cs) (λ t. (term_of t).place) in omega (arith, same, inside)) in
       let visible : map origin_of bs ≡ reverse sight = ap (map origin_of) (seen ∙ ap (λ t. visible_at t n) forms.are_scopes.same_table) ∙ visible_origins cs n in
-      let both = each_least Stated Found sight (place_numbered Stated n).scope (context_of entries) d (sight_origins cs n) (sight_least n within) in
+      let both = each_fits Stated Found sight (place_numbered Stated n).scope (context_of entries) d (sight_origins cs n) (sight_least n within) in
       let there : (place_numbered Stated n).scope ≡ (term_of (tree_in (document_terms cs) n)).place.scope = ap (λ (p : Place). p.scope) (number_told cs n) in
       let listed : context_of entries ≡ reverse types = context_reversed entries in (
         λ h.
             let outward = subst (λ os. AllZip ByOrigin os types) visible (mapped ByNumber ByOrigin origin_of bs types at_origin h) in
             let inward = reversed ByOrigin (reverse sight) types outward in
             let own = subst (λ g. AllZip ByOrigin sight g) (sym listed) (subst (λ os. AllZip ByOrigin os (reverse types)) (reverse-reverse sight) inward) in
-            subst (λ s. AreLeastEntries s (context_of entries) d) there (both.0 own),
-        λ least.
-            let own = both.1 (subst (λ s. AreLeastEntries s (context_of entries) d) (sym there) least) in
+            subst (λ s. IsContext s (context_of entries) d) there (both.0 own),
+        λ is.
+            let own = both.1 (subst (λ s. IsContext s (context_of entries) d) (sym there) is) in
             let inward = subst (λ g. AllZip ByOrigin sight g) listed own in
             let outward = subst (λ es. AllZip ByOrigin (reverse sight) es) (reverse-reverse types) (reversed ByOrigin sight (reverse types) inward) in
             unmapped ByNumber ByOrigin origin_of bs types at_number (subst (λ os. AllZip ByOrigin os types) (sym visible) outward),
       )
 
-  -- the first entry that does not stand for that of its binder is the first that is not least
-  listed_other : (n : ℕ) (bs : List ℕ) (entries : List (Option Ty)) (k : ℕ) → n < length (document_terms cs) → bs ≡ visible_at (table_of scopes) n → length entries ≡ length bs
-      → IsFirstNot (StandsAt (origins_of resolved) typing d) bs (map written_of entries) k → IsFirstOtherEntry (term_of (tree_in (document_terms cs) n)).place.scope (context_of entries) d k
-  listed_other n bs entries k inside seen long h =
+  -- the first entry that does not fit by the one found is the first that does not fit
+  listed_unfit : (n : ℕ) (bs : List ℕ) (entries : List (Option Ty)) (k : ℕ) → n < length (document_terms cs) → bs ≡ visible_at (table_of scopes) n → length entries ≡ length bs
+      → IsFirstNot (FitsAt (origins_of resolved) typing d) bs (map written_of entries) k → IsFirstUnfitEntry (term_of (tree_in (document_terms cs) n)).place.scope (context_of entries) d k
+  listed_unfit n bs entries k inside seen long h =
       let sight = sight_numbered Stated n in
       let types = map written_of entries in
       let within : n < length (places_of [] Stated) = (let same = ap length (same_places cs) ∙ length-map (document_terms cs) (λ t. (term_of t).place) in omega (arith, same, inside)) in
@@ -327,17 +325,17 @@ module _ (cs : List CommandTree) (scopes : Scopes) (resolved : Resolved) (typing
       let size : length bs ≡ length types = sym long ∙ sym (length-map entries written_of) in
       let inward = mapped_wrong ByNumber ByOrigin origin_of (reverse bs) (reverse types) k at_origin at_number (turned ByNumber bs types k size h) in
       let own = subst (λ os. FirstWrong ByOrigin os (reverse types) k) (map-reverse origin_of bs ∙ ap reverse visible ∙ reverse-reverse sight) inward in
-      subst (λ s. IsFirstOtherEntry s (context_of entries) d k) there
-      (first_other Stated Found sight (place_numbered Stated n).scope (context_of entries) d k (sight_origins cs n) (sight_least n within)
+      subst (λ s. IsFirstUnfitEntry s (context_of entries) d k) there
+      (first_unfit Stated Found sight (place_numbered Stated n).scope (context_of entries) d k (sight_origins cs n) (sight_least n within)
       (subst (λ g. FirstWrong ByOrigin sight g k) (sym (context_reversed entries)) own))
 
   -- what is found wrong, if anything, by the numbers of the binders
-  pub wrong_is : (n : ℕ) (origins : List Origin) (bs : List ℕ) (entries : List (Option Ty)) (wrong : Option ℕ) → n < length (document_terms cs) → bs ≡ visible_at (table_of scopes) n → origins ≡ origins_of resolved
+  pub unfit_is : (n : ℕ) (origins : List Origin) (bs : List ℕ) (entries : List (Option Ty)) (unfit : Option ℕ) → n < length (document_terms cs) → bs ≡ visible_at (table_of scopes) n → origins ≡ origins_of resolved
       → length entries ≡ length bs
-      → MatchOption wrong (AllZip (StandsAt origins typing d) bs (map written_of entries)) (λ k. IsFirstNot (StandsAt origins typing d) bs (map written_of entries) k)
-      → MatchOption wrong (AreLeastEntries (term_of (tree_in (document_terms cs) n)).place.scope (context_of entries) d)
-      (λ k. IsFirstOtherEntry (term_of (tree_in (document_terms cs) n)).place.scope (context_of entries) d k)
-  wrong_is n origins bs entries None inside seen are long h =
-      (listed_least n bs entries inside seen).0 (subst (λ os. AllZip (StandsAt os typing d) bs (map written_of entries)) are h)
-  wrong_is n origins bs entries (Some k) inside seen are long h =
-      listed_other n bs entries k inside seen long (subst (λ os. IsFirstNot (StandsAt os typing d) bs (map written_of entries) k) are h)
+      → MatchOption unfit (AllZip (FitsAt origins typing d) bs (map written_of entries)) (λ k. IsFirstNot (FitsAt origins typing d) bs (map written_of entries) k)
+      → MatchOption unfit (IsContext (term_of (tree_in (document_terms cs) n)).place.scope (context_of entries) d)
+      (λ k. IsFirstUnfitEntry (term_of (tree_in (document_terms cs) n)).place.scope (context_of entries) d k)
+  unfit_is n origins bs entries None inside seen are long h =
+      (listed_context n bs entries inside seen).0 (subst (λ os. AllZip (FitsAt os typing d) bs (map written_of entries)) are h)
+  unfit_is n origins bs entries (Some k) inside seen are long h =
+      listed_unfit n bs entries k inside seen long (subst (λ os. IsFirstNot (FitsAt os typing d) bs (map written_of entries) k) are h)

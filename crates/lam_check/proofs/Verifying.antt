@@ -30,7 +30,7 @@ use Rattle.lam_query.specs.Derivations.{Derivation, names_seen}
 use Rattle.lam_query.specs.ProofTrees.{typing_tree_in}
 use Rattle.lam_query.specs.Steps.{typing, Step, steps_of, steps_of_each, last_steps, typing_proof, typing_proofs, premise_terms, with_side}
 use Rattle.lam_query.specs.WellTypedDocuments.{statements_in}
-use Rattle.lam_typing.specs.LeastTypes.{AreLeastEntries}
+use Rattle.lam_typing.specs.Contexts.{IsContext}
 use Rattle.lam_typing.specs.declared.typing.Typing.{Typing}
 use Rattle.lam_query.specs.Commands.{AreCommandsOfText}
 use Rattle.lam_query.specs.Sizes.{IsSizeFault}
@@ -106,14 +106,14 @@ entries_are term entries derivation d types h = context_reversed entries ∙ ap 
 pub is_proof : (commands : List CommandTree) (scopes : Scopes) (resolved : Resolved) (analysed : Typing) (n : ℕ) (entries : List (Option Ty)) (derivation : Derivation) (made : TypingTree) (e : Term) (d : Dialect)
     → AreFormsOf commands scopes resolved analysed d → map written_of entries ≡ map (λ x. x.type) derivation.context → e ≡ (place_numbered (statements_of resolved) n).here
     → map (λ x. x.name) derivation.context ≡ map (λ b. shown_name (binder_numbered (table_of scopes) b).name) (visible_at (table_of scopes) n)
-    → AreLeastEntries (term_of (tree_in (document_terms commands) n)).place.scope (context_of entries) d
+    → IsContext (term_of (tree_in (document_terms commands) n)).place.scope (context_of entries) d
     → (place_row_numbered (table_of scopes) n).derived ≡ false
     → IsTyping (context_of entries) e made d → derivation.steps ≡ steps_of 0 (typing_proof (tree_in (document_terms commands) n) made)
     → IsProofAt commands n derivation d
-is_proof commands scopes resolved analysed n entries derivation made e d forms types here names least in_text proof steps = record {
+is_proof commands scopes resolved analysed n entries derivation made e d forms types here names context in_text proof steps = record {
   written = written_there commands scopes n forms.are_scopes in_text;
   entries = context_of entries;
-  least = least;
+  context = context;
   names = names ∙ names_there commands scopes n forms.are_scopes;
   types = sym types ∙ sym (reverse-reverse (map written_of entries)) ∙ ap reverse (sym (context_reversed entries));
   tree = made;
@@ -138,11 +138,11 @@ listed_names commands scopes n derivation forms h = h ∙ names_there commands s
 pub entries_are_listed : (entries : List (Option Ty)) (derivation : Derivation) → map written_of entries ≡ map (λ x. x.type) derivation.context → context_of entries ≡ entries_listed derivation
 entries_are_listed entries derivation types = context_reversed entries ∙ ap reverse types
 
-pub least_are : (commands : List CommandTree) (n : ℕ) (entries : List (Option Ty)) (derivation : Derivation) (d : Dialect) → map written_of entries ≡ map (λ x. x.type) derivation.context
-    → IsProofAt commands n derivation d → AreLeastEntries (term_of (tree_in (document_terms commands) n)).place.scope (context_of entries) d
-least_are commands n entries derivation d types h =
+pub context_is : (commands : List CommandTree) (n : ℕ) (entries : List (Option Ty)) (derivation : Derivation) (d : Dialect) → map written_of entries ≡ map (λ x. x.type) derivation.context
+    → IsProofAt commands n derivation d → IsContext (term_of (tree_in (document_terms commands) n)).place.scope (context_of entries) d
+context_is commands n entries derivation d types h =
     let term = tree_in (document_terms commands) n in
-    subst (λ g. AreLeastEntries (term_of term).place.scope g d) (sym (entries_are term entries derivation d types h)) h.least
+    subst (λ g. IsContext (term_of term).place.scope g d) (sym (entries_are term entries derivation d types h)) h.context
 
 pub steps_are : (commands : List CommandTree) (n : ℕ) (derivation : Derivation) (made : TypingTree) (d : Dialect) → MakeTree derivation.steps made → IsProofAt commands n derivation d
     → derivation.steps ≡ steps_of 0 (typing_proof (tree_in (document_terms commands) n) made)

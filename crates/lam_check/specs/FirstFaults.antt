@@ -6,7 +6,7 @@ use Rattle.lam_rules.specs.declared.rules.Dialect.{Dialect}
 use Rattle.lam_syntax.specs.Trees.{CommandTree}
 use Rattle.lam_scope.specs.Places.{Scope}
 use Rattle.lam_scope.specs.PlacedTerms.{PlacedTree, document_terms, term_of, tree_in}
-use Rattle.lam_typing.specs.LeastTypes.{IsLeastEntry, AreLeastEntries}
+use Rattle.lam_typing.specs.Contexts.{Fits, IsContext}
 use Rattle.lam_query.specs.Commands.{AreCommandsOfText}
 use Rattle.lam_query.specs.Derivations.{Derivation, names_seen}
 use Rattle.lam_query.specs.ProofTrees.{typing_tree_in}
@@ -63,26 +63,26 @@ entries_listed x = reverse (map (λ e. e.type) x.context)
 abbrev pub HasNames : PlacedTree → Derivation → Type 0
 HasNames term x = map (λ e. e.name) x.context ≡ names_seen term
 
--- The outermost entry that is not the least one of its binder has this index: it is further out, or else it is this one.
-abbrev pub IsFirstOtherEntry : Scope → Context → Dialect → ℕ → Type 0
-IsFirstOtherEntry (b ∷ outside) (entry ∷ g) d number =
-    IsFirstOtherEntry outside g d number ⊎ (AreLeastEntries outside g d × (IsLeastEntry outside b entry d → ⊥) × (number ≡ length outside))
-IsFirstOtherEntry _ _ d number = ⊥
+-- The outermost entry that does not fit its binder has this index: it is further out, or else it is this one.
+abbrev pub IsFirstUnfitEntry : Scope → Context → Dialect → ℕ → Type 0
+IsFirstUnfitEntry (b ∷ outside) (entry ∷ g) d number =
+    IsFirstUnfitEntry outside g d number ⊎ (IsContext outside g d × (Fits b (λ h. IsContext outside h d) entry d → ⊥) × (number ≡ length outside))
+IsFirstUnfitEntry _ _ d number = ⊥
 
 -- the lists differ at this index, and not before
 pub record DifferFirst (xs ys : List Step) (number : ℕ) : Type 0 where
   pub same : take number xs ≡ take number ys
   pub differ : slice_get xs number ≢ slice_get ys number
 
--- The context has the names in scope at the term with their least entries.
+-- The context has the names in scope at the term, each with an entry that fits.
 pub record HasContext (term : PlacedTree) (x : Derivation) (d : Dialect) : Type 0 where
   pub names : HasNames term x
-  pub least : AreLeastEntries (term_of term).place.scope (entries_listed x) d
+  pub context : IsContext (term_of term).place.scope (entries_listed x) d
 
 -- in this order: the names in the context, its entries, the steps by their rules, and their ranges
 abbrev pub IsFaultAt : PlacedTree → Derivation → Dialect → FirstFault → Type 0
 IsFaultAt term x d faults.Names = HasNames term x → ⊥
-IsFaultAt term x d (faults.Entry number) = HasNames term x × IsFirstOtherEntry (term_of term).place.scope (entries_listed x) d number
+IsFaultAt term x d (faults.Entry number) = HasNames term x × IsFirstUnfitEntry (term_of term).place.scope (entries_listed x) d number
 IsFaultAt term x d (faults.Step number) =
     HasContext term x d × (tree : TypingTree) × MakeTree x.steps tree × IsFirstFailing d 0 (judgements (entries_listed x) (term_of term).place.here tree) number
 IsFaultAt term x d (faults.Range number) =

@@ -71,7 +71,7 @@ message (faults.Loose n) = codes "the steps do not make one proof of typing that
 message faults.TooLarge = codes "the text has a type of more than 4,096 nodes"
 message (faults.NoTerm n) = codes "step " ++ decimal n ++ codes " is about no term of the text"
 message faults.Names = codes "the context has other names than those that the term sees"
-message (faults.Entry n) = codes "entry " ++ decimal n ++ codes " of the context is not the least type of its name"
+message (faults.Entry n) = codes "entry " ++ decimal n ++ codes " of the context is not a type that the text gives its name"
 message (faults.Step n) = codes "step " ++ decimal n ++ codes " does not follow by its rule from its premises"
 message (faults.Range n) = codes "step " ++ decimal n ++ codes " has the range of another term"
 

@@ -10,16 +10,16 @@ use Rattle.lam_query.specs.Commands.{AreCommandsOfText}
 use Rattle.lam_query.specs.Derivations.{Derivation, names_seen}
 use Rattle.lam_query.specs.Sizes.{IsSmall}
 use Rattle.lam_query.specs.Steps.{steps_of, typing_proof}
-use Rattle.lam_typing.specs.LeastTypes.{AreLeastEntries}
+use Rattle.lam_typing.specs.Contexts.{IsContext}
 use Rattle.lam_session.specs.Derivations.{derivation_value}
 use Rattle.lam_check.specs.Levels.{AreTooDeep}
 
--- The derivation is about this term of the text (a letrec's derived terms are not in it): its context lists the names in scope there with their least entries, and its steps, with their ranges, are those of a proof that
--- the term has the concluded type in this context.
+-- The derivation is about this term of the text (a letrec's derived terms are not in it): its context lists the names in scope there, each with an entry that the rules allow, and its steps, with their ranges, are those of
+-- a proof that the term has the concluded type in this context.
 pub record IsProofOf (term : PlacedTree) (derivation : Derivation) (d : Dialect) : Type 0 where
   pub written : (term_of term).is_written ≡ true
   pub entries : Context
-  pub least : AreLeastEntries (term_of term).place.scope entries d
+  pub context : IsContext (term_of term).place.scope entries d
   pub names : map (λ e. e.name) derivation.context ≡ names_seen term
   pub types : map (λ e. e.type) derivation.context ≡ reverse entries
   pub tree : TypingTree

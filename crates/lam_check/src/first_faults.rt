@@ -25,7 +25,7 @@ pub enum FirstFault {
     NoTerm(usize),
     /// The names in the context are not those that the term sees.
     Names,
-    /// This entry of the context is not the least one of its binder.
+    /// This entry of the context does not fit its binder.
     Entry(usize),
     /// This step does not follow by its rule from its premises.
     Step(usize),

@@ -140,7 +140,7 @@ fn message_of(alloc: Global, fault: FirstFault) -> Result<String, AllocError>
         FirstFault::Entry(entry) => {
             write!(
                 out,
-                "entry {entry} of the context is not the least type of its name"
+                "entry {entry} of the context is not a type that the text gives its name"
             )?;
         }
         FirstFault::Step(step) => {

@@ -1,8 +1,8 @@
 //! Verification of a derivation against its text.
 //!
-//! The producer of the derivation is not trusted: the context must list the least types of the names that a term of the text sees,
-//! the steps are built into a proof tree that the proof checker accepts for that term, and the steps of the tree, with the ranges
-//! of the term's parts, must equal those given. The first of these that fails is named.
+//! The producer of the derivation is not trusted: the context must list the names that a term of the text sees, each with a type
+//! that it may have there, the steps are built into a proof tree that the proof checker accepts for that term, and the steps of
+//! the tree, with the ranges of the term's parts, must equal those given. The first of these that fails is named.
 ghost use Rattle.std.specs.List.{AllZip};
 ghost use Rattle.std.specs.Prelude.{◌≡◌, ◌<◌, ◌↔◌, IsTrue, List, [], length, Some, None, map, reverse, IfOk, MatchOption, false};
 ghost use Rattle.lam_rules.specs.TermViews.{term_of as core_of, written_of};
@@ -19,13 +19,13 @@ ghost use Rattle.lam_scope.specs.Tables.{binder_numbered, place_row_numbered, vi
 ghost use Rattle.lam_scope.specs.TableViews.{binder_number};
 ghost use Rattle.lam_scope.specs.Views.{table_of, statements_of};
 ghost use Rattle.lam_syntax.specs.Trees.{CommandTree};
-ghost use Rattle.lam_typing.specs.LeastTypes.{AreLeastEntries};
+ghost use Rattle.lam_typing.specs.Contexts.{IsContext};
 ghost use Rattle.lam_query.specs.Steps.{typing, subtyping};
 ghost use Rattle.lam_query.specs.Views.{derivation_of, entry_of, step_of};
-ghost use Rattle.lam_check.specs.FirstFaults.{DifferFirst, IsFirstOtherEntry, IsResult, MakeTree, entries_listed, last_span, span_in};
+ghost use Rattle.lam_check.specs.FirstFaults.{DifferFirst, IsFirstUnfitEntry, IsResult, MakeTree, entries_listed, last_span, span_in};
 ghost use Rattle.lam_check.specs.Judgements.{IsFirstFailing, judgements};
 ghost use Rattle.lam_check.specs.Levels.{AreTooDeep};
-ghost use Rattle.lam_check.specs.inner.Verifying.{AreFormsOf, IsFirstNot, IsResultAt, IsResultIn, StandsAt};
+ghost use Rattle.lam_check.specs.inner.Verifying.{AreFormsOf, FitsAt, IsFirstNot, IsResultAt, IsResultIn};
 
 use crate::commands::commands_of;
 use crate::first_faults::{FirstFault, first_misplaced, is_too_deep};
@@ -165,7 +165,7 @@ fn fault_of_term(
     if !has_names(alloc, scopes, place, &derivation.context)? {
         return Ok(Some(FirstFault::Names));
     }
-    if let Some(number) = wrong_entry(alloc, scopes, resolved, typing, place, entries, dialect)? {
+    if let Some(number) = unfit_entry(alloc, scopes, resolved, typing, place, entries, dialect)? {
         return Ok(Some(FirstFault::Entry(number)));
     }
     let term = resolved.core_at(place);
@@ -250,9 +250,9 @@ fn are_named(scopes: &Scopes, binders: &[Binder], context: &[(String, Option<Ty>
     true
 }
 
-/// The index of the first entry of a context, outermost first, that is not the least one of its binder, or `None` if the entries
-/// are the least ones of the binders in scope at a subterm.
-fn wrong_entry(
+/// The index of the first entry of a context, outermost first, that does not fit its binder, or `None` if the entries are a
+/// context of a subterm.
+fn unfit_entry(
     alloc: Global,
     scopes: &Scopes,
     resolved: &Resolved,
@@ -262,16 +262,16 @@ fn wrong_entry(
     dialect: Dialect,
 ) -> Result<Option<usize>, AllocError>
     requires { length entries.now ≡ length (visible_at (table_of scopes.now) place.0) }
-    ensures { IfOk result (λ wrong. (commands : List CommandTree) → AreFormsOf commands scopes.now resolved.now typing.now dialect
+    ensures { IfOk result (λ unfit. (commands : List CommandTree) → AreFormsOf commands scopes.now resolved.now typing.now dialect
         → place.0 < length (document_terms commands)
         → let scope = (term_of (tree_in (document_terms commands) place.0)).place.scope in
-        MatchOption wrong (AreLeastEntries scope (context_of entries.now) dialect) (λ number. IsFirstOtherEntry scope (context_of entries.now) dialect number)) }
+        MatchOption unfit (IsContext scope (context_of entries.now) dialect) (λ number. IsFirstUnfitEntry scope (context_of entries.now) dialect number)) }
 {
     let binders = scopes.visible_at(alloc, place)?;
-    first_wrong(typing, resolved.origins(), &binders, entries, dialect)
+    first_unfit(typing, resolved.origins(), &binders, entries, dialect)
 }
 
-fn first_wrong(
+fn first_unfit(
     typing: &Typing,
     origins: &[Origin],
     binders: &[Binder],
@@ -279,28 +279,28 @@ fn first_wrong(
     dialect: Dialect,
 ) -> Result<Option<usize>, AllocError>
     requires { length entries.now ≡ length binders.now }
-    ensures { IfOk result (λ wrong. let fits = StandsAt origins.now typing.now dialect in
-        MatchOption wrong (AllZip fits (map binder_number binders.now) (map written_of entries.now))
+    ensures { IfOk result (λ unfit. let fits = FitsAt origins.now typing.now dialect in
+        MatchOption unfit (AllZip fits (map binder_number binders.now) (map written_of entries.now))
         (λ number. IsFirstNot fits (map binder_number binders.now) (map written_of entries.now) number)) }
 {
     for i in 0..binders.len() {
         let entry = &entries[i];
-        if !is_least(typing, origins, binders[i], entry, dialect)? {
+        if !fits_binder(typing, origins, binders[i], entry, dialect)? {
             return Ok(Some(i));
         }
     }
     Ok(None)
 }
 
-/// Whether an entry is the least one of a binder. Least types of a term differ in the order of fields.
-fn is_least(
+/// Whether an entry fits a binder: that of a term may be any type that is above the least one.
+fn fits_binder(
     typing: &Typing,
     origins: &[Origin],
     binder: Binder,
     entry: &Option<Ty>,
     dialect: Dialect,
 ) -> Result<bool, AllocError>
-    ensures { IfOk result (λ is. IsTrue is ↔ StandsAt origins.now typing.now dialect binder.0 (written_of entry.now)) }
+    ensures { IfOk result (λ does. IsTrue does ↔ FitsAt origins.now typing.now dialect binder.0 (written_of entry.now)) }
 {
     let Some(number) = typing.type_of_binder(binder) else {
         return Ok(entry.is_none());
@@ -311,23 +311,20 @@ fn is_least(
     typing.table().types_differ();
     let least = typing.table().tree(number)?;
     match origins.get(binder.0) {
-        Some(Origin::Term(_)) => Ok(are_alike(&least, ty, dialect)),
+        Some(Origin::Term(_)) => Ok(is_above(&least, ty, dialect)),
         _ => Ok(same(&least, ty)),
     }
 }
 
-/// Whether two types are subtypes of each other.
-fn are_alike(left: &Ty, right: &Ty, dialect: Dialect) -> bool
-    requires { IsWellFormed (typ_of left.now) }
-    ensures { IsTrue result ↔ IsBelow (typ_of left.now) (typ_of right.now) dialect × IsBelow (typ_of right.now) (typ_of left.now) dialect }
+/// Whether a type is well formed and a supertype of the other.
+fn is_above(lower: &Ty, ty: &Ty, dialect: Dialect) -> bool
+    requires { IsWellFormed (typ_of lower.now) }
+    ensures { IsTrue result ↔ IsBelow (typ_of lower.now) (typ_of ty.now) dialect }
 {
-    if !wf(right) {
+    if !wf(ty) {
         return false;
     }
-    if !is_sub(left, right, dialect) {
-        return false;
-    }
-    is_sub(right, left, dialect)
+    is_sub(lower, ty, dialect)
 }
 
 /// The index of the first step that differs from the one in the other list, or `None` if both lists are the same.

@@ -29,16 +29,16 @@ pub record AreFormsOf (commands : List CommandTree) (scopes : Scopes) (resolved 
   pub analysis : IsAnalysis (places_of [] (statements_of resolved)) analysed d
   pub entries : AreEntries (statements_of resolved) (origins_of resolved) analysed
 
--- An entry may stand for the least one found of a binder with this origin: for that of a term if each is a subtype of the other, for any other if it is equal.
-abbrev pub StandsFor : Origin → (found entry : Option Typ) → Dialect → Type 0
-StandsFor (TermAt p) (Some t) (Some u) d = IsBelow t u d × IsBelow u t d
-StandsFor (TermAt p) None entry d = entry ≡ None
-StandsFor (TermAt p) (Some t) None d = ⊥
-StandsFor _ found entry d = entry ≡ found
+-- An entry fits a binder with this origin, by the least entry found of it: that of a term if the least type is a subtype of it, any other if it is equal.
+abbrev pub FitsFound : Origin → (found entry : Option Typ) → Dialect → Type 0
+FitsFound (TermAt p) (Some t) (Some u) d = IsBelow t u d
+FitsFound (TermAt p) None entry d = entry ≡ None
+FitsFound (TermAt p) (Some t) None d = ⊥
+FitsFound _ found entry d = entry ≡ found
 
--- the entry may stand for the one found of the binder with this number
-abbrev pub StandsAt : List Origin → Typing → Dialect → (binder : ℕ) → (entry : Option Typ) → Type 0
-StandsAt origins analysed d binder entry = StandsFor (get_or origins binder TypeName) (get_or (entries_in analysed) binder None) entry d
+-- the entry fits the binder with this number, by the one found of it
+abbrev pub FitsAt : List Origin → Typing → Dialect → (binder : ℕ) → (entry : Option Typ) → Type 0
+FitsAt origins analysed d binder entry = FitsFound (get_or origins binder TypeName) (get_or (entries_in analysed) binder None) entry d
 
 -- The derivation is about one of the terms of these commands.
 pub record IsOfSomeTerm (commands : List CommandTree) (derivation : Derivation) (d : Dialect) : Type 0 where
