@@ -3,6 +3,7 @@ pub mod Lines
 pub mod Reports
 pub mod Terms
 pub mod Drawings
+pub mod Absences
 pub mod Types
 pub mod Json
 pub mod Readable

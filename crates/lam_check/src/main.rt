@@ -4,6 +4,7 @@
 //! messages, sessions or clients.
 #![tactic(auto)]
 
+mod absences;
 mod args;
 mod commands;
 mod drawings;
@@ -24,11 +25,13 @@ mod verdicts;
 mod verify;
 mod wrong_steps;
 
+use absences::absence_at;
 use args::{ArgsFault, Asked, Shown, read_args};
 use drawings::drawing;
 use files::{ReadFault, text_of};
 use json::{faults_json, why_json};
 use lam_rules::Dialect;
+use lam_text::Position;
 use lines::shown_line;
 use paint::Paint;
 use reports::{Checked, report};
@@ -192,15 +195,12 @@ fn check<R: AllocGlobal + Files + Input + Print + Eprint>(
         }
         Shown::DerivationJson(place) => {
             let found = why_json(rt.alloc(), shown_name(name), &text, place, asked.dialect);
-            tell_found(rt, name, found)
+            tell_found(rt, name, &text, place, found)
         }
         Shown::Verdicts => tell_verdicts(rt, asked, name, &text),
         Shown::Derivation(place, form) => {
-            tell_found(
-                rt,
-                name,
-                drawing(rt.alloc(), &text, place, asked.dialect, form),
-            )
+            let found = drawing(rt.alloc(), &text, place, asked.dialect, form);
+            tell_found(rt, name, &text, place, found)
         }
     }
 }
@@ -240,15 +240,22 @@ fn tell_types<R: AllocGlobal + Print + Eprint>(rt: &R, dialect: Dialect, text: &
     }
 }
 
-/// Prints the derivation that was found, if there is one, and returns the exit status for it.
+/// Prints the derivation that was found at a position, or what is missing there, and returns the exit status for it.
 fn tell_found<R: AllocGlobal + Print + Eprint>(
     rt: &R,
     name: &str,
+    text: &str,
+    place: Position,
     found: Result<Option<String>, AllocError>,
 ) -> u8 {
-    match found {
-        Ok(Some(told)) => tell(rt, &told),
-        Ok(None) => tell_of(rt, name, &"no term with a type is there", FAULTY),
+    let Ok(found) = found else {
+        return want_of_memory(rt);
+    };
+    if let Some(told) = found {
+        return tell(rt, &told);
+    }
+    match absence_at(rt.alloc(), text, place) {
+        Ok(absence) => tell_of(rt, name, &absence.message(), FAULTY),
         Err(_) => want_of_memory(rt),
     }
 }
