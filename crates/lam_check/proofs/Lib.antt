@@ -13,4 +13,5 @@ pub mod ListedEntries
 pub mod Misplaced
 pub mod Judging
 pub mod Counting
+pub mod OneFault
 pub mod Results

@@ -19,13 +19,14 @@ use Rattle.lam_query.specs.Sizes.{IsSizeFault, IsSmall}
 use Rattle.lam_query.specs.Steps.{Proof, Step, steps_of, typing_proof}
 use Rattle.lam_query.proofs.OneAnswer.{one_document}
 use Rattle.lam_query.proofs.ReadTrees.{tree_read}
-use Rattle.lam_check.specs.FirstFaults.{DifferFirst, IsFaultAt, IsFaultIn, IsFirstFault, IsFirstMisplaced, IsFirstWithRange, IsResult, AreOfOneProof, AreOfProofs, HasRange, last_span}
+use Rattle.lam_check.specs.FirstFaults.{DifferFirst, IsFaultAt, IsFaultIn, IsFirstFault, IsFirstMisplaced, IsFirstWithRange, IsResult, IsSound, AreOfOneProof, AreOfProofs, HasRange, last_span}
 use Rattle.lam_check.specs.Levels.{AreTooDeep}
 use Rattle.lam_check.specs.Verified.{IsProofAt}
 use Rattle.lam_check.specs.declared.first_faults.FirstFault.{FirstFault}
 use Rattle.lam_check.specs.declared.first_faults.FirstFault.TheVariants as faults
 use Rattle.lam_check.specs.inner.Verifying.{IsOfSomeTerm, IsResultIn}
 use Rattle.lam_check.proofs.Misplaced.{one_is_placed, never_empty}
+use Rattle.lam_check.proofs.OneFault.{one_fault}
 use Rattle.lam_check.proofs.Verifying.{ends_with_span, row_written, span_there, too_large, written_there}
 
 -- ---- the terms of commands, one by one
@@ -114,6 +115,10 @@ row_is commands scopes x i are is = (row_written commands scopes i are is.0, is.
 
 -- ---- in a text
 
+-- nothing else is wrong first
+wrong_alone : (text : List ℕ) (x : Derivation) (d : Dialect) (fault : FirstFault) → (IsSound text x d → ⊥) → IsFirstFault text x d fault → IsResult text x d (Some fault)
+wrong_alone text x d fault not_sound first = (not_sound, first, (λ other also. one_fault text x d other fault also first))
+
 in_text : (text : List ℕ) (x : Derivation) (commands : List CommandTree) (d : Dialect) (fault : FirstFault) → AreOfOneProof x.steps → AreCommandsOfText text commands → IsSmall commands d
     → IsFaultIn commands x d fault → IsFirstFault text x d fault
 in_text text x commands d faults.Names one are small h = record { of_one_proof = one; commands = commands; are_commands = are; small = small; is_fault = h }
@@ -131,46 +136,45 @@ pub result_in_text : (text : List ℕ) (x : Derivation) (commands : List Command
     → IsResultIn commands x d found → IsResult text x d found
 result_in_text text x commands d None one are small h =
     (record { commands = commands; are_commands = are; small = small; number = h.number; inside = h.inside; is_proof = h.is_proof }, one.not_deep)
-result_in_text text x commands d (Some fault) one are small h = (
-  (λ sound.
-      let v = sound.0 in
-      let same = one_document text v.commands commands v.are_commands are in
-      h.0 (subst (λ cs. IsOfSomeTerm cs x d) same (record { number = v.number; inside = v.inside; is_proof = v.is_proof }))),
-  in_text text x commands d fault one are small h.1,
-)
+result_in_text text x commands d (Some fault) one are small h = wrong_alone text x d fault
+    (λ sound.
+    let v = sound.0 in
+    let same = one_document text v.commands commands v.are_commands are in
+    h.0 (subst (λ cs. IsOfSomeTerm cs x d) same (record { number = v.number; inside = v.inside; is_proof = v.is_proof })))
+    (in_text text x commands d fault one are small h.1)
 
 pub result_too_large : (text : List ℕ) (x : Derivation) (commands : List CommandTree) (d : Dialect) (s : Span) → AreOfOneProof x.steps → AreCommandsOfText text commands → IsSizeFault commands s d
     → IsResult text x d (Some faults.TooLarge)
-result_too_large text x commands d s one are fault = (
-  (λ sound. too_large text commands x d s are fault sound.0),
-  (one, record { commands = commands; are_commands = are; span = s; is_fault = fault }),
-)
+result_too_large text x commands d s one are fault =
+    wrong_alone text x d faults.TooLarge (λ sound. too_large text commands x d s are fault sound.0) (one, record { commands = commands; are_commands = are; span = s; is_fault = fault })
 
 -- ---- the steps by themselves
 
+pub no_steps : (steps : List RustStep) → length steps ≡ 0 → map step_of steps ≡ []
+no_steps [] is = refl
+no_steps (s ∷ steps) is = absurd (omega arith)
+
 pub result_no_step : (text : List ℕ) (x : Derivation) (d : Dialect) → x.steps ≡ [] → IsResult text x d (Some faults.NoStep)
-result_no_step text x d none = (
-  (λ sound. never_empty x.steps (typing_proof (tree_in (document_terms sound.0.commands) sound.0.number) sound.0.is_proof.tree) sound.0.is_proof.steps (ap length none)),
-  none,
-)
+result_no_step text x d none =
+    wrong_alone text x d faults.NoStep
+    (λ sound. never_empty x.steps (typing_proof (tree_in (document_terms sound.0.commands) sound.0.number) sound.0.is_proof.tree) sound.0.is_proof.steps (ap length none)) none
 
 pub result_too_deep : (text : List ℕ) (x : Derivation) (d : Dialect) → AreTooDeep x.steps → IsResult text x d (Some faults.TooDeep)
-result_too_deep text x d deep = ((λ sound. sound.1 deep), deep)
+result_too_deep text x d deep = wrong_alone text x d faults.TooDeep (λ sound. sound.1 deep) deep
 
 pub result_premises : (text : List ℕ) (x : Derivation) (d : Dialect) (number : ℕ) → (AreTooDeep x.steps → ⊥) → IsFirstMisplaced x.steps number → IsResult text x d (Some (faults.Premises number))
-result_premises text x d number not_deep h = (
-  (λ sound. one_is_placed x.steps (typing_proof (tree_in (document_terms sound.0.commands) sound.0.number) sound.0.is_proof.tree) number sound.0.is_proof.steps h),
-  (not_deep, h),
-)
+result_premises text x d number not_deep h =
+    wrong_alone text x d (faults.Premises number)
+    (λ sound. one_is_placed x.steps (typing_proof (tree_in (document_terms sound.0.commands) sound.0.number) sound.0.is_proof.tree) number sound.0.is_proof.steps h) (not_deep, h)
 
 pub result_loose : (text : List ℕ) (x : Derivation) (d : Dialect) (last : ℕ) → (AreTooDeep x.steps → ⊥) → AreOfProofs x.steps → suc last ≡ length x.steps
     → ((p : Proof) (tree : TypingTree) → x.steps ≡ steps_of 0 p → typing_tree_in p ≡ Some tree → ⊥) → IsResult text x d (Some (faults.Loose last))
-result_loose text x d last not_deep placed is none = (
-  (λ sound.
-      let term = tree_in (document_terms sound.0.commands) sound.0.number in
-      none (typing_proof term sound.0.is_proof.tree) sound.0.is_proof.tree sound.0.is_proof.steps (tree_read term sound.0.is_proof.tree)),
-  (not_deep, placed, is, (λ tree m. none m.whole tree m.are_steps m.is_tree)),
-)
+result_loose text x d last not_deep placed is none =
+    wrong_alone text x d (faults.Loose last)
+    (λ sound.
+    let term = tree_in (document_terms sound.0.commands) sound.0.number in
+    none (typing_proof term sound.0.is_proof.tree) sound.0.is_proof.tree sound.0.is_proof.steps (tree_read term sound.0.is_proof.tree))
+    (not_deep, placed, is, (λ tree m. none m.whole tree m.are_steps m.is_tree))
 
 -- ---- lists that differ
 

@@ -146,7 +146,7 @@ IsFirstFault text x d fault = IsFaultInText text x d fault
 abbrev pub IsSound : List ℕ → Derivation → Dialect → Type 0
 IsSound text x d = IsVerified text x d × (AreTooDeep x.steps → ⊥)
 
--- what is wrong first, if it is not
+-- what is wrong first, and alone, if it is not
 abbrev pub IsResult : List ℕ → Derivation → Dialect → Option FirstFault → Type 0
 IsResult text x d None = IsSound text x d
-IsResult text x d (Some fault) = (IsSound text x d → ⊥) × IsFirstFault text x d fault
+IsResult text x d (Some fault) = (IsSound text x d → ⊥) × IsFirstFault text x d fault × ((other : FirstFault) → IsFirstFault text x d other → other ≡ fault)

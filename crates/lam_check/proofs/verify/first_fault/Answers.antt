@@ -3,9 +3,13 @@ use Rattle.std.proofs.lemmas.List.{length-map}
 use Rattle.lam_query.specs.Views.{derivation_of, step_of}
 use Rattle.lam_check.specs.FirstFaults.{AreOfProofs, IsFirstMisplaced}
 use Rattle.lam_check.specs.Levels.{AreTooDeep}
-use Rattle.lam_check.proofs.Results.{result_premises, result_loose}
+use Rattle.lam_check.proofs.Results.{no_steps, result_no_step, result_premises, result_loose}
 use Rattle.lam_check.proofs.Verifying.{not_so}
 use Rattle.lam_check.proofs.verify.first_fault.Goals as goal
+
+pub returns-then-is_empty : goal.returns-then-is_empty
+returns-then-is_empty c = result_no_step c.args.text.now (derivation_of c.args.derivation.now) c.args.dialect
+    (no_steps c.args.derivation.now.steps.items (grind (arith, c.args.derivation.now.steps.ok.0, c.is_empty.ensures, c.if-is_empty.true)))
 
 pub returns-in-Some : goal.returns-in-Some
 returns-in-Some c =
