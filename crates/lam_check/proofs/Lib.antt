@@ -14,4 +14,5 @@ pub mod Misplaced
 pub mod Judging
 pub mod Counting
 pub mod OneFault
+pub mod OwnDerivations
 pub mod Results

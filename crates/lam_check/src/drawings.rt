@@ -5,6 +5,7 @@ ghost use Rattle.lam_query.specs.Steps.{Proof, Proofs, steps_of, steps_before, n
 ghost use Rattle.lam_query.specs.Views.{step_of, derivation_of, StepStandsIn};
 ghost use Rattle.lam_check.specs.Drawings.{claim_text, rule_text, before, behind, html_head, latex_claim, drawn, drawn_each, IsDerivedAt, IsDrawnAt, latex_step, arity, axiom_text, written, pack_text};
 ghost use Rattle.lam_check.specs.Terms.{first_role};
+ghost use Rattle.lam_check.specs.Verified.{IsVerified};
 ghost use Rattle.lam_check.specs.inner.Drawing.{Stands, AllStand};
 ghost use Rattle.lam_check.specs.inner.Roles.{RoleStandsIn};
 
@@ -47,6 +48,7 @@ pub fn derivation_at(
 ) -> Result<Option<Derivation>, AllocError>
     ensures derived { IfOk result (λ found. IsDerivedAt text.now place (option_map derivation_of found) dialect) }
     ensures whole_characters { IfOk result (λ found. IfSome found (λ d. All (StepStandsIn text.now) d.steps.items)) }
+    ensures verified { IfOk result (λ found. IfSome found (λ x. IsVerified text.now (derivation_of x) dialect)) }
 {
     let doc = Doc::new(alloc, text, Encoding::Utf32)?;
     let offset = doc.offset_of(place);
