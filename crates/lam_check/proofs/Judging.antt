@@ -364,7 +364,3 @@ module _ (d : Dialect) (start : ℕ) (g : Context) (e : Term) (p : TypeProof) wh
       subst (λ l. IsFirstFailing d start l n) (sym typing_node)
       (failing_behind d start n (Premises ++ side_judgements Side) (typed g e (typing_tree_of p) ∷ []) n (all_append d Premises (side_judgements Side) follow side) (omega arith)
       (failing_here d n (typed g e (typing_tree_of p)) fails))
-
--- what a test says
-pub is_not : {A : Type 0} (b : Bool) → b ≡ false → IsTrue b → A
-is_not b is so = let clash : false ≡ true = sym is ∙ so in absurd cc

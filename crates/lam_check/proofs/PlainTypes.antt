@@ -10,17 +10,12 @@ use Rattle.lam_rules.specs.TypeViews.{typ_of, fields_of}
 use Rattle.lam_rules.specs.declared.types.Ty.{Ty}
 use Rattle.lam_rules.specs.Texts.{Text, left_of_arrow, separator_before, plain_text, plain_fields}
 use Rattle.lam_rules.specs.ReadableLabels.{IsReadable, HasReadableLabels, HaveReadableLabels}
+use Rattle.lam_rules.proofs.ReadTexts.{apart, same_rest, not_an_end, fields_text}
 use Rattle.lam_rules.proofs.TypeShapes.{joined-none, joined-push}
 use Rattle.lam_check.specs.Readable.{depth, depth_in}
 use Rattle.lam_check.specs.inner.PlainTypes.{NoArrow, IsTypeRead, levels_on_left}
 
 -- texts by their first bytes
-
-apart : {A : Type 0} {a b : ℕ} {x y : Text} → a ∷ x ≡ b ∷ y → a ≢ b → A
-apart e other = absurd (other (cc))
-
-same_rest : {a b : ℕ} {x y : Text} → a ∷ x ≡ b ∷ y → x ≡ y
-same_rest e = cc
 
 pub cut : (front text x y : Text) → text ≡ front ++ x → text ≡ front ++ y → x ≡ y
 cut front text x y e f = append_cancel_left front x y (sym e ∙ f)
@@ -144,13 +139,6 @@ whole_arrow left found f made t rest is made_is h =
 
 -- ---- fields
 
-not_an_end : (k : Label) (x y : Text) → IsReadable k → codes "}" ++ x ≡ k ++ (codes ":" ++ y) → ⊥
-not_an_end [] x y readable e = apart e (omega arith)
-not_an_end (b ∷ k) x y readable e = readable.no_brace_first k (begins e)
-  where
-    begins : {a b : ℕ} {k x y : Text} → a ∷ x ≡ b ∷ y → b ∷ k ≡ a ∷ k
-    begins e = cc
-
 -- the fields that are left of all of them
 pub record AreFieldsLeft (done : Fields) (now : Text) (levels : ℕ) (fs : Fields) (rest : Text) : Type 0 where
   pub left : Fields
@@ -172,9 +160,6 @@ pub record IsFieldLeft (done : Fields) (now : Text) (levels : ℕ) (fs : Fields)
   pub readable : HaveReadableLabels (field label type more)
   pub small : depth_in (field label type more) ≤ levels
   pub stands : now ≡ label ++ (codes ":" ++ (plain_text type ++ behind_field more rest))
-
-fields_text : (l : Label) (t : Typ) (fs : Fields) (x : Text) → plain_fields (field l t fs) ++ x ≡ l ++ (codes ":" ++ (plain_text t ++ (separator_before fs ++ (plain_fields fs ++ x))))
-fields_text l t fs x = simp append_assoc
 
 pub field_left : (done : Fields) (now : Text) (levels : ℕ) (fs : Fields) (rest : Text) → AreFieldsLeft done now levels fs rest → ((x : Text) → now ≢ codes "}" ++ x) → IsFieldLeft done now levels fs rest
 field_left done now levels fs rest h none = by h.left h.whole h.readable h.small h.stands

@@ -18,7 +18,7 @@ use Rattle.lam_scope.specs.WellFormed.{IsWellFormedScope}
 use Rattle.lam_scope.proofs.EveryElement.{every_append, every_parts}
 use Rattle.lam_scope.proofs.FreeNamesDecide.{EachStandsForTheSame, same_expansion, alike_forms}
 use Rattle.lam_scope.proofs.PlacedRows.{as_many_rows}
-use Rattle.lam_scope.proofs.WellFormedForms.{AreWellFormedMeanings, expansion-wf, nameless-wf}
+use Rattle.lam_scope.proofs.WellFormedForms.{AreWellFormedMeanings, expansion-wf, nameless-wf, after-wf}
 use Rattle.lam_typing.specs.LeastTypes.{IsLeastAt, AreLeastEntries}
 use Rattle.lam_typing.specs.Progress.{IsLowest}
 use Rattle.lam_typing.proofs.AlikePlaces.{least_alike}
@@ -35,12 +35,6 @@ use Rattle.lam_query.proofs.TermsAlone.{bare, numbered_alone, command_alone, com
 
 -- ---- the types that a scope behind commands was given
 
-after_wf : (bs : List Abbreviation) → AreWellFormedMeanings bs → (c : CommandTree) → AreWellFormedMeanings (abbreviations_after bs c)
-after_wf bs wf (definition w t) = wf
-after_wf bs wf (declaration w u) = wf
-after_wf bs wf (tree.abbreviation (word x s) u) = (expansion-wf bs wf u, wf)
-after_wf bs wf (evaluation t) = wf
-
 scope_after_wf : (bs : List Abbreviation) → AreWellFormedMeanings bs → (xs : List (Option Name)) (s : Scope) (c : CommandTree)
     → IsWellFormedScope s → IsWellFormedScope (scope_after bs xs s c)
 scope_after_wf bs wf xs s (definition w t) ws = (nameless-wf bs wf xs t, ws)
@@ -50,13 +44,13 @@ scope_after_wf bs wf xs s (evaluation t) ws = ws
 
 abbreviations_wf : (bs : List Abbreviation) (cs : List CommandTree) → AreWellFormedMeanings bs → AreWellFormedMeanings (fold abbreviations_after bs cs)
 abbreviations_wf bs [] wf = wf
-abbreviations_wf bs (c ∷ cs) wf = abbreviations_wf (abbreviations_after bs c) cs (after_wf bs wf c)
+abbreviations_wf bs (c ∷ cs) wf = abbreviations_wf (abbreviations_after bs c) cs (after-wf bs wf c)
 
 pub scope_wf : (bs : List Abbreviation) (xs : List (Option Name)) (s : Scope) (cs : List CommandTree)
     → AreWellFormedMeanings bs → IsWellFormedScope s → IsWellFormedScope (scope_from bs xs s cs)
 scope_wf bs xs s [] wf ws = ws
 scope_wf bs xs s (c ∷ cs) wf ws =
-    scope_wf (abbreviations_after bs c) (names_after xs c) (scope_after bs xs s c) cs (after_wf bs wf c) (scope_after_wf bs wf xs s c ws)
+    scope_wf (abbreviations_after bs c) (names_after xs c) (scope_after bs xs s c) cs (after-wf bs wf c) (scope_after_wf bs wf xs s c ws)
 
 -- ---- names under binders of the command's own
 

@@ -13,30 +13,10 @@ use Rattle.lam_token.specs.Cut.{IsFirst, longest, unclosed, stray, AreTokensFrom
 use Rattle.lam_token.specs.Lexeme.{Lexeme, kind_of, start_of, end_of}
 use Rattle.lam_token.specs.Shape.{is_blank, is_digit, is_continuing, mark_of, beginning_of, begun, alone, shape_of, rest_of_comment, closed_at_end}
 use Rattle.lam_token.specs.Words.{words, kind_among, is_capital, kind_of_name, word_kind}
+use Rattle.lam_token.proofs.Divided.{is_other, word_is_other}
 use Rattle.lam_token.proofs.OtherEnds.{in_front, cut_back}
 
 -- ---- no word of letters is one
-
-abbrev is_other : Kind → Bool
-is_other Semicolon = false
-is_other _ = true
-
-kinds_among : (ws : List (List ℕ × Kind)) (text : List ℕ) (k : Kind) → list_all (λ w. is_other w.1) ws ≡ true → is_other k ≡ true
-    → is_other (unwrap_or (kind_among ws text) k) ≡ true
-kinds_among [] text k all other = other
-kinds_among (w ∷ ws) text k all other =
-    let parts = and_parts (is_other w.1) (list_all (λ v. is_other v.1) ws) all in
-    cond_both (bytes_eq text w.0) (Some w.1) (kind_among ws text) (λ found. is_other (unwrap_or found k) ≡ true)
-    (λ yes. parts.0)
-    (λ no. kinds_among ws text k parts.1 other)
-
-name_is_other : (capital : Bool) → is_other (if capital then TypeName else Name) ≡ true
-name_is_other true = refl
-name_is_other false = refl
-
-word_is_other : (c : ℕ) (word : List ℕ) → is_other (word_kind c word) ≡ true
-unfolding words word_kind
-word_is_other c word = kinds_among words word (kind_of_name c) refl (name_is_other (is_capital c))
 
 no_word : (c : ℕ) (word : List ℕ) → Token (word_kind c word) ≡ Token Semicolon → ⊥
 no_word c word is =

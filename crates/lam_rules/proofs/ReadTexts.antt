@@ -36,10 +36,10 @@ mutual
 
 -- texts by their first bytes
 
-apart : {A : Type 0} {a b : ℕ} {x y : Text} → a ∷ x ≡ b ∷ y → a ≢ b → A
+pub apart : {A : Type 0} {a b : ℕ} {x y : Text} → a ∷ x ≡ b ∷ y → a ≢ b → A
 apart e other = absurd (other (cc))
 
-same_rest : {a b : ℕ} {x y : Text} → a ∷ x ≡ b ∷ y → x ≡ y
+pub same_rest : {a b : ℕ} {x y : Text} → a ∷ x ≡ b ∷ y → x ≡ y
 same_rest e = cc
 
 -- a label with its colon
@@ -55,7 +55,7 @@ same_label (a ∷ l) (b ∷ k) x y one other e =
     cons_same : {a b : ℕ} {l k x y : Text} → a ∷ x ≡ b ∷ y → l ≡ k → a ∷ l ≡ b ∷ k
     cons_same e f = cc
 
-not_an_end : (k : Label) (x y : Text) → IsReadable k → codes "}" ++ x ≡ k ++ (codes ":" ++ y) → ⊥
+pub not_an_end : (k : Label) (x y : Text) → IsReadable k → codes "}" ++ x ≡ k ++ (codes ":" ++ y) → ⊥
 not_an_end [] x y readable e = apart e (omega arith)
 not_an_end (b ∷ k) x y readable e = readable.no_brace_first k (begins e)
   where
@@ -158,7 +158,7 @@ left_record fs tell (record_of gs) x y hs ht e =
     record_text fs z = simp append_assoc
 left_record fs tell _ x y hs ht e = apart e (omega arith)
 
-fields_text : (l : Label) (t : Typ) (fs : Fields) (x : Text) → plain_fields (field l t fs) ++ x ≡ l ++ (codes ":" ++ (plain_text t ++ (separator_before fs ++ (plain_fields fs ++ x))))
+pub fields_text : (l : Label) (t : Typ) (fs : Fields) (x : Text) → plain_fields (field l t fs) ++ x ≡ l ++ (codes ":" ++ (plain_text t ++ (separator_before fs ++ (plain_fields fs ++ x))))
 fields_text l t fs x = simp append_assoc
 
 no_arrow_after : (fs : Fields) (x : Text) → NoArrow (separator_before fs ++ (plain_fields fs ++ (codes "}" ++ x)))

@@ -135,7 +135,7 @@ statement-wf bs w xs (declaration x u) = expansion-wf bs w u
 statement-wf bs w xs (tree.abbreviation x u) = expansion-wf bs w u
 statement-wf bs w xs (evaluation t) = nameless-wf bs w xs t
 
-after-wf : (bs : List Abbreviation) → AreWellFormedMeanings bs → (c : CommandTree) → AreWellFormedMeanings (abbreviations_after bs c)
+pub after-wf : (bs : List Abbreviation) → AreWellFormedMeanings bs → (c : CommandTree) → AreWellFormedMeanings (abbreviations_after bs c)
 after-wf bs w (definition x t) = w
 after-wf bs w (declaration x u) = w
 after-wf bs w (tree.abbreviation (word x s) u) = (expansion-wf bs w u, w)

@@ -28,7 +28,7 @@ use Rattle.lam_token.proofs.OtherEnds.{LastStays, bytes_of, bytes_of-first, byte
 
 -- ---- nothing goes on with a semicolon
 
-abbrev is_other : Kind → Bool
+abbrev pub is_other : Kind → Bool
 is_other Semicolon = false
 is_other _ = true
 
@@ -46,7 +46,7 @@ name_is_other true = refl
 name_is_other false = refl
 
 -- no word of letters is a semicolon
-word_is_other : (c : ℕ) (word : List ℕ) → is_other (word_kind c word) ≡ true
+pub word_is_other : (c : ℕ) (word : List ℕ) → is_other (word_kind c word) ≡ true
 unfolding words word_kind
 word_is_other c word = kind_among-other words word (kind_of_name c) refl (name_is_other (is_capital c))
 

@@ -1,7 +1,8 @@
 use Rattle.std.proofs.Common.{◌+◌, ap, subst, ◌∙◌, arith}
 use Rattle.lam_rules.specs.SubViews.{sub_tree_of, sub_trees_of}
 use Rattle.lam_check.specs.Judgements.{AllFollow, IsFirstFailing, sub_judgements_each, sub_steps_in_each}
-use Rattle.lam_check.proofs.Judging.{is_not, sub_follows, sub_room, sub_next, sub_node_size, sub_premise_fails, sub_itself_fails}
+use Rattle.lam_check.proofs.Judging.{sub_follows, sub_room, sub_next, sub_node_size, sub_premise_fails, sub_itself_fails}
+use Rattle.lam_check.proofs.Verifying.{not_so}
 use Rattle.lam_check.proofs.wrong_steps.+wrong_sub_step.Goals as goal
 
 pub wrong_sub_premise-wrong_sub_step-requires : goal.wrong_sub_premise-wrong_sub_step-requires
@@ -54,5 +55,5 @@ pub wrong_sub_step-returns-in-None : goal.wrong_sub_step-returns-in-None
 wrong_sub_step-returns-in-None t c =
     sub_itself_fails c.args.dialect c.args.start c.args.proof.now _
     (subst (λ ps. AllFollow c.args.dialect (sub_judgements_each (sub_trees_of ps))) c.deref.ensures.value c.in-None.ensures)
-    (λ h. is_not c.check_sub.result c.if-check_sub.false (c.check_sub.ensures.1 h))
+    (λ h. not_so c.check_sub.result c.if-check_sub.false (c.check_sub.ensures.1 h))
     (ap (λ n. c.args.start + n) (c.sub_steps_in_each.ensures ∙ ap (λ ps. sub_steps_in_each (sub_trees_of ps)) c.deref-in-None.ensures.value))
