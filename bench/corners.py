@@ -1,5 +1,5 @@
 #!/usr/bin/env python3
-"""corners.py SERVER: times each request on texts that are made to be dear, each at a size and at twice that size.
+"""corners.py SERVER: times each request on texts that are made to be expensive, each at a size and at twice that size.
 
 Prints a table of milliseconds. What takes more than three times as long at twice the size grows faster than the text, and is marked;
 so is what takes over two seconds.
@@ -9,14 +9,16 @@ import sys
 
 from session import Client
 
-# What is asked of each text, beside that it is opened: a request of LSP, and what it needs beside a position.
+# What is asked of each text, beside that it is opened, and what the request needs beside a position.
 QUESTIONS = {
-    "hover": {},
-    "definition": {},
-    "references": {"context": {"includeDeclaration": True}},
-    "rename": {"newName": "fresh"},
-    "completion": {},
+    "textDocument/hover": {},
+    "textDocument/definition": {},
+    "textDocument/references": {"context": {"includeDeclaration": True}},
+    "textDocument/rename": {"newName": "fresh"},
+    "textDocument/completion": {},
 }
+# This is asked last, behind the peak of memory, since its answer may be far longer than the text.
+DERIVATION = "fullsub/derivation"
 TIMES = 3
 # Milliseconds under which a ratio says nothing, and over which a request is too slow.
 NOTHING = 20
@@ -24,19 +26,19 @@ TOO_SLOW = 2000
 
 
 def fields(count, each, backwards=False):
-    """So many fields, in the one order or the other."""
+    """That many fields, in the one order or the other."""
     numbers = range(count - 1, -1, -1) if backwards else range(count)
     return ", ".join(each.format(number) for number in numbers)
 
 
 def opposite(count):
-    """A function that takes a record of so many fields, and records with the fields the other way round."""
-    call = f"f {{{fields(count, 'l{}=0', backwards=True)}}};\n"
-    return f"f = lambda r:{{{fields(count, 'l{}:Nat')}}}. r;\n" + 20 * call
+    """A function that takes a record of that many fields, and records with the fields in reverse order."""
+    call = f"f {{{fields(count, 'l{}=0', backwards=True)}}}"
+    return f"f = lambda r:{{{fields(count, 'l{}:Nat')}}}. r;\n" + 19 * f"{call};\n" + call
 
 
 def labels(count):
-    """A projection from a record of so many fields."""
+    """A projection from a record of that many fields."""
     return f"r = {{{fields(count, 'l{}=0')}}};\nr.l0"
 
 
@@ -51,17 +53,17 @@ def uses(count):
 
 
 def faults(count):
-    """A fault a command."""
+    """A diagnostic in each command."""
     return count * "x;\n" + "x = 0;\nx"
 
 
 def shadowings(count):
-    """A name that hides the one before, again and again."""
+    """A name that shadows the previous one, again and again."""
     return "x = 0;\n" + count * "x = x;\n" + "x"
 
 
 def abbreviation(count):
-    """Uses of an abbreviation of nearly as many nodes as there may be."""
+    """Uses of an abbreviation of nearly the maximum number of nodes."""
     head = "T0 = {a:Nat, b:Nat};\n" + "".join(f"T{n} = {{a:T{n - 1}, b:T{n - 1}}};\n" for n in range(1, 11))
     return head + count * "lambda r:T10. r;\n" + "x = 0;\nx"
 
@@ -86,6 +88,14 @@ def records(count):
     return "".join(f"x{n} = {{l{n}=0}};\n" for n in range(count)) + "x0"
 
 
+def below(count):
+    """A record type below another, with records in records."""
+    lines = ["A0 = {a:Nat, b:Nat};", "B0 = {a:Nat};"]
+    for n in range(1, count):
+        lines += [f"A{n} = {{r:A{n - 1}}};", f"B{n} = {{r:B{n - 1}}};"]
+    return "\n".join([*lines, f"s : A{count - 1};", f"s as B{count - 1}"])
+
+
 def comments(count):
     """Comments in comments."""
     return count * "/*" + count * "*/" + "x = 0;\nx"
@@ -97,30 +107,36 @@ def semicolons(count):
 
 
 def numerals(count):
-    """Commands of the most tokens that there may be, none of which has a type."""
+    """Commands of the maximum number of tokens, none of which has a type."""
     return count * ("0 " + 1998 * "0 " + ";\n") + "x = 0;\nx"
 
 
 # Each with a size, at which the text is of moderate length.
 CORNERS = [
     (opposite, 120), (labels, 240), (lets, 190), (uses, 20_000), (faults, 20_000), (shadowings, 20_000), (abbreviation, 200),
-    (arrows, 450), (doubled, 20), (chain, 10_000), (records, 10_000), (comments, 100_000), (semicolons, 200_000), (numerals, 50),
+    (arrows, 450), (doubled, 20), (chain, 10_000), (records, 10_000), (comments, 100_000), (semicolons, 200_000), (numerals, 50), (below, 500),
 ]  # fmt: skip
 
 
 def measured(program, text):
-    """Milliseconds of each request, the quickest of some, by its name; the last character of the text is where it is asked."""
+    """Milliseconds of each request, the quickest of some, by its name; it is asked at the last character of the text."""
     client = Client(program)
     taken = {"open": client.open(text)[0]}
     line = text.count("\n")
-    column = len(text) - text.rfind("\n") - 1
+    column = len(text) - text.rfind("\n") - 2
     taken["a key"] = min(client.keys(line, 2 * TIMES))
+    where = {"textDocument": {"uri": "file:///made.fsub"}, "position": {"line": line, "character": column}}
     for method, more in QUESTIONS.items():
-        where = {"textDocument": {"uri": "file:///made.fsub"}, "position": {"line": line, "character": column}, **more}
-        taken[method] = min(client.timed(client.request(f"textDocument/{method}", where))[0] for _ in range(TIMES))
+        taken[named(method)] = min(client.timed(client.request(method, {**where, **more}))[0] for _ in range(TIMES))
     taken["memory"] = client.peak() / len(text)
+    taken[named(DERIVATION)] = min(client.timed(client.request(DERIVATION, where))[0] for _ in range(TIMES))
     client.close()
     return taken
+
+
+def named(method):
+    """What a request is called in the table."""
+    return method.rpartition("/")[2]
 
 
 def told(name, once, twice):
@@ -133,7 +149,7 @@ def told(name, once, twice):
 
 def main():
     program = sys.argv[1]
-    names = ["open", "a key", *QUESTIONS, "memory"]
+    names = ["open", "a key", *map(named, QUESTIONS), "memory", named(DERIVATION)]
     print("| " + " | ".join(["text", "size", "bytes", *names]) + " |")
     print("|" + (len(names) + 3) * "---|")
     for make, size in CORNERS:
