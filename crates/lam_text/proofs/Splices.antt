@@ -1,20 +1,22 @@
 -- The index of a text around one of its bytes, and around a splice.
-use Rattle.std.proofs.Common.{◌≡◌, ℕ, zero, suc, add-zero, ◌||◌, ◌+◌, ◌-◌, ◌<◌, ◌≤◌, Bool, true, false, ◌&&◌, ltb, List, [], ◌∷◌, ◌++◌, length, get_or, take, drop, map, refl, ap, sym, ◌∙◌, arith}
-use Rattle.std.proofs.lemmas.List.{length-append, append_assoc, take_at, drop_at, length-take-le, take-append-drop, take-take, drop-drop, drop-take, get_or-drop, get_or-take, length-drop, take_all, take_rest, drop_more}
+use Rattle.std.proofs.Common.{◌≡◌, ℕ, zero, suc, add-zero, ◌||◌, ◌+◌, ◌-◌, ◌<◌, ◌≤◌, Bool, true, false, ◌&&◌, ltb, List, [], ◌∷◌, ◌++◌, length, get_or, take, drop, map, refl, ap, sym, ◌∙◌, inl, inr, arith}
+use Rattle.std.proofs.lemmas.List.{length-append, append_assoc, take_at, drop_at, length-take-le, take-append-drop, take-take, drop-drop, drop-take, get_or-drop, get_or-take, length-drop, take_all, take_rest, drop_more, take-append-le}
 use Rattle.std.proofs.lemmas.List.Folds.{list_all-append}
-use Rattle.std.proofs.lemmas.Bool.{and_parts, and_from, ltb-true, lt-ltb, le-leb, false_from_ne_true}
+use Rattle.std.proofs.lemmas.Bool.{and_parts, and_from, ltb-true, lt-ltb, le-leb, leb-true, cases_Bool, false_from_ne_true}
 use Rattle.std.proofs.lemmas.List.Elements.{All-drop}
-use Rattle.std.proofs.lemmas.List.Sums.{prefix_len_is}
+use Rattle.std.proofs.lemmas.List.Sums.{prefix_len_is, prefix_len-le-length}
 use Rattle.std.specs.List.Sorted.{IsNonDecreasingBy, IsPartitionPoint}
 use Rattle.std.specs.Bool.{MatchBool}
 use Rattle.std.specs.Str.{IsAscii, IsNotAscii}
 use Rattle.std.specs.List.{prefix_len, All}
 use Rattle.lam_text.specs.declared.index.Mark.{Mark}
+use Rattle.lam_text.specs.declared.splice.Seam.{Seam}
+use Rattle.lam_text.specs.declared.splice.Splice.{Splice}
 use Rattle.lam_text.specs.Lines.{Line, Ended, LineEnd, CrLf, Lf, Cr, Lines, Cut, line_bytes, end_bytes, IsCutOf, begins_with_lf, lines_of}
 use Rattle.lam_text.specs.inner.Index.{all_ascii, marks_in, marks_on, index_of}
 use Rattle.lam_text.proofs.Cuts.{IsCutOf-lines_of}
 use Rattle.lam_text.specs.inner.Search.{IsIndex, fresh, marks_from, starts_by, open_at}
-use Rattle.lam_text.specs.inner.Splice.{first_ascii_on, first_start, moved, IsSplice}
+use Rattle.lam_text.specs.inner.Splice.{first_ascii_on, first_start, moved, IsSplice, IsSeam, IsIndexBefore}
 use Rattle.lam_text.proofs.Marks.{ended_by, later_on}
 use Rattle.lam_text.proofs.Scan.{and-true, reopened, marks_from-lines_of, marks_from-append, index_of-marks_from}
 use Rattle.lam_text.proofs.Mending.{starts_rise, prefix_len-ended_in, prefix_len-marks_from, open_after-start, open_after-ascii, starts_to, later_starts_from}
@@ -253,21 +255,45 @@ module _ (marks : List Mark) (text : List ℕ) (at number : ℕ) (index : marks 
   pub later-read : take (length marks - (number + 1)) (drop (number + 1) marks) ≡ later_on at (lines_of (drop at text))
   later-read = take_rest marks (number + 1) ∙ rw index (drop_next-index_of text at number h (rw index at is))
 
+-- ---- the seam of a splice
+
+prefix_len-more : (low high : ℕ) (marks : List Mark) → low ≤ high → prefix_len (starts_by low) marks ≤ prefix_len (starts_by high) marks
+prefix_len-more low high [] h = omega arith
+prefix_len-more low high (mark ∷ marks) h = elim (cases_Bool (starts_by low mark)) [
+  | inl by_low ↦ rw (by_low, le-leb mark.start high (omega (arith, leb-true mark.start low by_low))) (omega (arith, prefix_len-more low high marks h))
+  | inr not_low ↦ rw not_low (omega arith)
+]
+
+pub seam-bounds : (old : List ℕ) (splice : Splice) (seam : Seam) → splice.start ≤ splice.end → IsSeam old splice seam → (seam.first ≤ seam.last) × (seam.last + 1 ≤ length (index_of old))
+seam-bounds old splice seam h is =
+    (omega (arith, prefix_len-more (splice.start - 1) splice.end (index_of old) (omega arith), is.first, is.last), omega (arith, prefix_len-le-length (starts_by splice.end) (index_of old), is.last))
+
+-- the numbers of a seam are lines of the index
+pub index_before-bounds : (marks : List Mark) (new : List ℕ) (splice : Splice) (seam : Seam) → IsIndexBefore marks new splice seam → (seam.first ≤ seam.last) × (seam.last + 1 ≤ length marks)
+index_before-bounds marks new splice seam before = rw before.index (seam-bounds before.old splice seam before.is_splice.ordered before.is_seam)
+
 -- the steps by which an index is mended, put together
-pub mended-steps : (old new : List ℕ) (start end inserted from first last : ℕ) (old_marks none kept found ended whole : List Mark) (opened open_line closed : Mark) →
-    IsSplice old new start end inserted → old_marks ≡ index_of old → from ≡ start - 1 →
-    first + 1 ≡ prefix_len (starts_by from) old_marks → last + 1 ≡ prefix_len (starts_by end) old_marks →
-    none ≡ [] → kept ≡ none ++ take first old_marks → opened ≡ open_at old from →
-    found ++ marks_from open_line (start + inserted) (drop (start + inserted) new) ≡ kept ++ marks_from opened from (drop from new) →
-    closed ≡ record { start = open_line.start; ascii = open_line.ascii && first_ascii_on (lines_of (drop end old)) } →
-    ended ≡ found ++ closed ∷ [] →
-    whole ≡ ended ++ map (moved end (start + inserted)) (take (length old_marks - (last + 1)) (drop (last + 1) old_marks)) →
+pub mended-steps : (marks moved_marks none found ended whole : List Mark) (new : List ℕ) (splice : Splice) (seam : Seam) (open_line closed_line : Mark) →
+    IsIndexBefore marks new splice seam → none ≡ [] →
+    found ++ marks_from open_line (splice.start + splice.inserted) (drop (splice.start + splice.inserted) new) ≡ none ++ marks_from seam.open seam.from (drop seam.from new) →
+    closed_line ≡ record { start = open_line.start; ascii = open_line.ascii && seam.ascii } →
+    ended ≡ found ++ closed_line ∷ [] →
+    moved_marks ≡ take (seam.last + 1) marks ++ map (moved splice.end (splice.start + splice.inserted)) (drop (seam.last + 1) marks) →
+    whole ≡ take seam.first moved_marks ++ (ended ++ drop (seam.last + 1) moved_marks) →
     whole ≡ index_of new
-mended-steps old new start end inserted from first last old_marks none kept found ended whole opened open_line closed splice index from_is line_first line_last none_is kept_is opened_is search_is closed_is ended_is whole_is =
-    let before : from ≤ length old = omega arith in
-    let front : take first old_marks ≡ ended_by old from = rw index (take-index_of old from first before (rw index at line_first)) in
-    let kept_all : kept ≡ ended_by old from = rw (none_is, front) at kept_is in
-    let search_all = rw (kept_all, opened_is, from_is) at search_is in
-    let all = mended-index_of old new start end inserted last found open_line splice (rw index at line_last) search_all in
-    let behind : take (length old_marks - (last + 1)) (drop (last + 1) old_marks) ≡ drop (last + 1) (index_of old) = take_rest old_marks (last + 1) ∙ ap (drop (last + 1)) index in
-    whole_is ∙ (rw (ended_is, closed_is, behind) (append_assoc found _ _) ∙ all)
+mended-steps marks moved_marks none found ended whole new splice seam open_line closed_line before none_is search_is closed_is ended_is moved_is whole_is =
+    let old = before.old in
+    let is_seam = before.is_seam in
+    let bounds = index_before-bounds marks new splice seam before in
+    let kept = take (seam.last + 1) marks in
+    let tail = map (moved splice.end (splice.start + splice.inserted)) (drop (seam.last + 1) marks) in
+    let kept_len : length kept ≡ seam.last + 1 = length-take-le (seam.last + 1) marks bounds.1 in
+    let within : splice.start - 1 ≤ length old = omega (arith, before.is_splice.ordered, before.is_splice.within_old) in
+    let first_ones : take seam.first marks ≡ ended_by old (splice.start - 1) = rw before.index (take-index_of old (splice.start - 1) seam.first within is_seam.first) in
+    let front : take seam.first moved_marks ≡ ended_by old (splice.start - 1) =
+    rw moved_is (take-append-le seam.first kept tail (omega (arith, bounds.0, kept_len)) ∙ (take-take seam.first (seam.last + 1) marks (omega (arith, bounds.0)) ∙ first_ones)) in
+    let behind : drop (seam.last + 1) moved_marks ≡ tail = rw moved_is (drop_at kept tail (seam.last + 1) kept_len) in
+    let front_ones = ended_by old (splice.start - 1) in
+    let search_all = append_assoc front_ones found _ ∙ ap (λ later. front_ones ++ later) (rw (none_is, is_seam.from, is_seam.open_line) at search_is) in
+    let all = mended-index_of old new splice.start splice.end splice.inserted seam.last (front_ones ++ found) open_line before.is_splice is_seam.last search_all in
+    whole_is ∙ (rw (front, behind, ended_is, closed_is, is_seam.ascii, before.index, append_assoc found _ _) (sym (append_assoc front_ones found _)) ∙ all)

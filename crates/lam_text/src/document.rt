@@ -8,7 +8,7 @@ ghost use Rattle.lam_text.specs.Edits.{edited, text_after};
 use crate::changes::Change;
 use crate::index::{Mark, content, front_len, index_of, line_at, units};
 use crate::places::Position;
-use crate::splice::{Splice, mended};
+use crate::splice::{Splice, mend, seam_of};
 use crate::units::Encoding;
 use std::alloc::{AllocError, Global};
 use std::marker::Model;
@@ -108,19 +108,43 @@ impl Doc {
         ensures encoding { IfOk result (λ doc. doc.encoding ≡ self.now.encoding) }
     {
         let Some((first, rest)) = changes.split_first() else {
-            return Doc::new(self.alloc, self.text.as_str(), self.encoding);
+            return self.copied(changes);
         };
-        let mut next = self.changed(first)?;
+        let mut next = match first.range {
+            None => Doc::new(self.alloc, first.text.as_str(), self.encoding)?,
+            Some(_) => self.copied(changes)?.changed(first)?,
+        };
         for change in rest {
             next = next.changed(change)?;
         }
         Ok(next)
     }
 
-    /// The document after one change.
-    fn changed(&self, change: &Change) -> Result<Doc, AllocError>
-        ensures text { IfOk result (λ doc. doc.text ≡ edited self.now.encoding self.now.text change.now) }
-        ensures encoding { IfOk result (λ doc. doc.encoding ≡ self.now.encoding) }
+    /// A copy with room for the texts of these changes, so that none of them moves the text to another block of memory.
+    fn copied(&self, changes: &[Change]) -> Result<Doc, AllocError>
+        ensures { IfOk result (λ doc. doc ≡ self.now) }
+    {
+        let mut room = self.text.len();
+        for change in changes {
+            room = room.saturating_add(change.text.len());
+        }
+        let mut text = String::with_capacity(self.alloc, room)?;
+        text.push_str(self.text.as_str())?;
+        // Room for one more line, which typing may add.
+        let mut marks = Vec::with_capacity(self.alloc, self.marks.len().saturating_add(1))?;
+        marks.extend_from_slice(&self.marks)?;
+        Ok(Doc {
+            alloc: self.alloc,
+            text,
+            encoding: self.encoding,
+            marks,
+        })
+    }
+
+    /// This document after one change. A change of a range is made in place.
+    fn changed(self, change: &Change) -> Result<Doc, AllocError>
+        ensures text { IfOk result (λ doc. doc.text ≡ edited self.encoding self.text change.now) }
+        ensures encoding { IfOk result (λ doc. doc.encoding ≡ self.encoding) }
     {
         let Some(range) = change.range else {
             return Doc::new(self.alloc, change.text.as_str(), self.encoding);
@@ -130,57 +154,33 @@ impl Doc {
         self.replaced(start.min(end), start.max(end), change.text.as_str())
     }
 
-    /// The document with `new` in place of the bytes from `start` to `end`.
-    fn replaced(&self, start: usize, end: usize, new: &str) -> Result<Doc, AllocError>
+    /// This document with `new` in place of the bytes from `start` to `end`.
+    fn replaced(self, start: usize, end: usize, new: &str) -> Result<Doc, AllocError>
         requires ordered { start ≤ end }
-        requires starts { IsCharBoundary self.now.text start }
-        requires ends { IsCharBoundary self.now.text end }
-        ensures text { IfOk result (λ doc. doc.text ≡ take start self.now.text ++ new.now ++ drop end self.now.text) }
-        ensures encoding { IfOk result (λ doc. doc.encoding ≡ self.now.encoding) }
+        requires starts { IsCharBoundary self.text start }
+        requires ends { IsCharBoundary self.text end }
+        ensures text { IfOk result (λ doc. doc.text ≡ take start self.text ++ new.now ++ drop end self.text) }
+        ensures encoding { IfOk result (λ doc. doc.encoding ≡ self.encoding) }
     {
-        let text = spliced(self.alloc, self.text.as_str(), start, end, new)?;
+        let Doc {
+            alloc,
+            mut text,
+            encoding,
+            mut marks,
+        } = self;
         let splice = Splice {
             start,
             end,
             inserted: new.len(),
         };
-        let marks = mended(
-            self.alloc,
-            &self.marks,
-            self.text.as_bytes(),
-            text.as_bytes(),
-            splice,
-        )?;
+        let seam = seam_of(&marks, text.as_bytes(), splice);
+        text.replace_range(start..end, new)?;
+        mend(alloc, &mut marks, text.as_bytes(), splice, seam)?;
         Ok(Doc {
-            alloc: self.alloc,
+            alloc,
             text,
-            encoding: self.encoding,
+            encoding,
             marks,
         })
     }
-}
-
-/// A copy of `old` with `new` in place of the bytes from `start` to `end`.
-fn spliced(
-    alloc: Global,
-    old: &str,
-    start: usize,
-    end: usize,
-    new: &str,
-) -> Result<String, AllocError>
-    requires starts { IsCharBoundary old.now start }
-    requires ends { IsCharBoundary old.now end }
-    ensures { IfOk result (λ text. string_bytes text ≡ take start old.now ++ new.now ++ drop end old.now) }
-{
-    let before = &old[..start];
-    let after = &old[end..];
-    let room = before
-        .len()
-        .saturating_add(new.len())
-        .saturating_add(after.len());
-    let mut text = String::with_capacity(alloc, room)?;
-    text.push_str(before)?;
-    text.push_str(new)?;
-    text.push_str(after)?;
-    Ok(text)
 }
