@@ -16,7 +16,7 @@ use Rattle.lam_text.specs.Lines.{Line, Ended, LineEnd, CrLf, Lf, Cr, Lines, Cut,
 use Rattle.lam_text.specs.inner.Index.{all_ascii, marks_in, marks_on, index_of}
 use Rattle.lam_text.proofs.Cuts.{IsCutOf-lines_of}
 use Rattle.lam_text.specs.inner.Search.{IsIndex, fresh, marks_from, starts_by, open_at}
-use Rattle.lam_text.specs.inner.Splice.{first_ascii_on, first_start, moved, IsSplice, IsSeam, IsIndexBefore}
+use Rattle.lam_text.specs.inner.Splice.{first_ascii_on, first_start, moved, IsSplice, IsIndexBefore}
 use Rattle.lam_text.proofs.Marks.{ended_by, later_on}
 use Rattle.lam_text.proofs.Scan.{and-true, reopened, marks_from-lines_of, marks_from-append, index_of-marks_from}
 use Rattle.lam_text.proofs.Mending.{starts_rise, prefix_len-ended_in, prefix_len-marks_from, open_after-start, open_after-ascii, starts_to, later_starts_from}
@@ -260,17 +260,20 @@ module _ (marks : List Mark) (text : List ℕ) (at number : ℕ) (index : marks 
 prefix_len-more : (low high : ℕ) (marks : List Mark) → low ≤ high → prefix_len (starts_by low) marks ≤ prefix_len (starts_by high) marks
 prefix_len-more low high [] h = omega arith
 prefix_len-more low high (mark ∷ marks) h = elim (cases_Bool (starts_by low mark)) [
-  | inl by_low ↦ rw (by_low, le-leb mark.start high (omega (arith, leb-true mark.start low by_low))) (omega (arith, prefix_len-more low high marks h))
+  | inl by_low ↦
+      let by_high = le-leb mark.start high (omega (arith, leb-true mark.start low by_low)) in
+      rw (by_low, by_high) (omega (arith, prefix_len-more low high marks h))
   | inr not_low ↦ rw not_low (omega arith)
 ]
 
-pub seam-bounds : (old : List ℕ) (splice : Splice) (seam : Seam) → splice.start ≤ splice.end → IsSeam old splice seam → (seam.first ≤ seam.last) × (seam.last + 1 ≤ length (index_of old))
-seam-bounds old splice seam h is =
-    (omega (arith, prefix_len-more (splice.start - 1) splice.end (index_of old) (omega arith), is.first, is.last), omega (arith, prefix_len-le-length (starts_by splice.end) (index_of old), is.last))
-
 -- the numbers of a seam are lines of the index
-pub index_before-bounds : (marks : List Mark) (new : List ℕ) (splice : Splice) (seam : Seam) → IsIndexBefore marks new splice seam → (seam.first ≤ seam.last) × (seam.last + 1 ≤ length marks)
-index_before-bounds marks new splice seam before = rw before.index (seam-bounds before.old splice seam before.is_splice.ordered before.is_seam)
+pub index_before-bounds : (marks : List Mark) (new : List ℕ) (splice : Splice) (seam : Seam) → IsIndexBefore marks new splice seam →
+    (seam.first ≤ seam.last) × (seam.last + 1 ≤ length marks)
+index_before-bounds marks new splice seam before =
+    let is_seam = before.is_seam in
+    let more = prefix_len-more (splice.start - 1) splice.end (index_of before.old) (omega (arith, before.is_splice.ordered)) in
+    let within = prefix_len-le-length (starts_by splice.end) (index_of before.old) in
+    rw before.index (omega (arith, more, is_seam.first, is_seam.last), omega (arith, within, is_seam.last))
 
 -- the steps by which an index is mended, put together
 pub mended-steps : (marks moved_marks none found ended whole : List Mark) (new : List ℕ) (splice : Splice) (seam : Seam) (open_line closed_line : Mark) →
@@ -290,10 +293,12 @@ mended-steps marks moved_marks none found ended whole new splice seam open_line 
     let kept_len : length kept ≡ seam.last + 1 = length-take-le (seam.last + 1) marks bounds.1 in
     let within : splice.start - 1 ≤ length old = omega (arith, before.is_splice.ordered, before.is_splice.within_old) in
     let first_ones : take seam.first marks ≡ ended_by old (splice.start - 1) = rw before.index (take-index_of old (splice.start - 1) seam.first within is_seam.first) in
-    let front : take seam.first moved_marks ≡ ended_by old (splice.start - 1) =
-    rw moved_is (take-append-le seam.first kept tail (omega (arith, bounds.0, kept_len)) ∙ (take-take seam.first (seam.last + 1) marks (omega (arith, bounds.0)) ∙ first_ones)) in
+    let kept_ones = take-append-le seam.first kept tail (omega (arith, bounds.0, kept_len)) ∙ take-take seam.first (seam.last + 1) marks (omega (arith, bounds.0)) in
+    let front : take seam.first moved_marks ≡ ended_by old (splice.start - 1) = rw moved_is (kept_ones ∙ first_ones) in
     let behind : drop (seam.last + 1) moved_marks ≡ tail = rw moved_is (drop_at kept tail (seam.last + 1) kept_len) in
     let front_ones = ended_by old (splice.start - 1) in
-    let search_all = append_assoc front_ones found _ ∙ ap (λ later. front_ones ++ later) (rw (none_is, is_seam.from, is_seam.open_line) at search_is) in
+    let searched = rw (none_is, is_seam.from, is_seam.open_line) at search_is in
+    let search_all = append_assoc front_ones found _ ∙ ap (λ later. front_ones ++ later) searched in
     let all = mended-index_of old new splice.start splice.end splice.inserted seam.last (front_ones ++ found) open_line before.is_splice is_seam.last search_all in
-    whole_is ∙ (rw (front, behind, ended_is, closed_is, is_seam.ascii, before.index, append_assoc found _ _) (sym (append_assoc front_ones found _)) ∙ all)
+    let parts = append_assoc front_ones found _ in
+    whole_is ∙ (rw (front, behind, ended_is, closed_is, is_seam.ascii, before.index, append_assoc found _ _) (sym parts) ∙ all)

@@ -12,7 +12,10 @@ move_marks-requires-clause-within c = (index_before-bounds _ _ _ _ c.requires).1
 pub move_marks-requires-clause-fits : goal.move_marks-requires-clause-fits
 move_marks-requires-clause-fits c =
     let fits : length c.args.new.now < 2 ^ 64 = omega arith in
-    rw c.requires.index (moved-bounds c.requires.old c.args.new.now c.args.splice.start c.args.splice.end c.args.splice.inserted c.args.seam.last (2 ^ 64) c.requires.is_splice c.requires.is_seam.last fits)
+    let splice = c.args.splice in
+    let before = c.requires in
+    rw before.index
+    (moved-bounds before.old c.args.new.now splice.start splice.end splice.inserted c.args.seam.last (2 ^ 64) before.is_splice before.is_seam.last fits)
 
 pub put-requires-clause-ordered : goal.put-requires-clause-ordered
 put-requires-clause-ordered c = omega (arith, (index_before-bounds _ _ _ _ c.requires).0)
