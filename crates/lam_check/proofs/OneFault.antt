@@ -82,7 +82,8 @@ found_among d (j ∷ before) own after h = found_among d before own after h.1
 none_failing : {A : Type 0} (d : Dialect) (all : List Judgement) (n : ℕ) → AllFollow d all → IsFirstFailing d 0 all n → A
 none_failing d all n follow h = absurd (h.fails (found_among d h.before h.own h.after (subst (AllFollow d) h.are follow)))
 
-one_made : (steps : List Step) (tree also : TypingTree) → MakeTree steps tree → MakeTree steps also → tree ≡ also
+-- one tree at most is made of steps
+pub one_made : (steps : List Step) (tree also : TypingTree) → MakeTree steps tree → MakeTree steps also → tree ≡ also
 one_made steps tree also h k =
     same_Some tree also (sym h.is_tree ∙ ap typing_tree_in (one_proof_of_steps h.whole k.whole (sym h.are_steps ∙ k.are_steps)) ∙ k.is_tree)
 

@@ -9,8 +9,8 @@ use Rattle.std.specs.declared.alloc.Global.{Global}
 use Rattle.lam_rules.specs.TypeViews.{typ_of, fields_of}
 use Rattle.lam_rules.specs.declared.types.Ty.{Ty}
 use Rattle.lam_rules.specs.Texts.{Text, left_of_arrow, separator_before, plain_text, plain_fields}
-use Rattle.lam_rules.specs.ReadableLabels.{IsReadable, HasReadableLabels, HaveReadableLabels}
-use Rattle.lam_rules.proofs.ReadTexts.{apart, same_rest, not_an_end, fields_text}
+use Rattle.lam_rules.specs.ReadableLabels.{HasReadableLabels, HaveReadableLabels}
+use Rattle.lam_rules.proofs.ReadTexts.{apart, not_an_end, fields_text}
 use Rattle.lam_rules.proofs.TypeShapes.{joined-none, joined-push}
 use Rattle.lam_check.specs.Readable.{depth, depth_in}
 use Rattle.lam_check.specs.inner.PlainTypes.{NoArrow, IsTypeRead, levels_on_left}

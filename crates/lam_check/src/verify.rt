@@ -6,7 +6,7 @@
 ghost use Rattle.std.specs.List.{AllZip};
 ghost use Rattle.std.specs.Prelude.{◌≡◌, ◌<◌, ◌↔◌, IsTrue, List, [], length, Some, None, map, reverse, IfOk, MatchOption, false};
 ghost use Rattle.lam_rules.specs.TermViews.{term_of as core_of, written_of};
-ghost use Rattle.lam_rules.specs.Typing.{IsTyping};
+ghost use Rattle.lam_rules.specs.Typing.{IsTyping, TypingTree};
 ghost use Rattle.lam_rules.specs.TypingViews.{context_of, typing_tree_of};
 ghost use Rattle.lam_rules.specs.TypeViews.{typ_of};
 ghost use Rattle.lam_rules.specs.Subtyping.{IsBelow};
@@ -17,10 +17,10 @@ ghost use Rattle.lam_scope.specs.Places.{places_of};
 ghost use Rattle.lam_scope.specs.PlacedTerms.{document_terms, term_of, tree_in};
 ghost use Rattle.lam_scope.specs.Tables.{binder_numbered, place_row_numbered, visible_at};
 ghost use Rattle.lam_scope.specs.TableViews.{binder_number};
-ghost use Rattle.lam_scope.specs.Views.{table_of, statements_of};
+ghost use Rattle.lam_scope.specs.Views.{AreScopesOf, table_of, statements_of};
 ghost use Rattle.lam_syntax.specs.Trees.{CommandTree};
 ghost use Rattle.lam_typing.specs.Contexts.{IsContext};
-ghost use Rattle.lam_query.specs.Steps.{typing, subtyping};
+ghost use Rattle.lam_query.specs.Steps.{typing, subtyping, steps_of, typing_proof};
 ghost use Rattle.lam_query.specs.Views.{derivation_of, entry_of, step_of};
 ghost use Rattle.lam_check.specs.FirstFaults.{DifferFirst, IsFirstUnfitEntry, IsResult, MakeTree, entries_listed, last_span, span_in};
 ghost use Rattle.lam_check.specs.Judgements.{IsFirstFailing, judgements};
@@ -173,11 +173,28 @@ fn fault_of_term(
         let number = wrong_step_of(alloc, derivation, term, proof, dialect)?;
         return Ok(Some(FirstFault::Step(number)));
     }
-    let steps = steps_of_proof(alloc, scopes, place, proof)?;
+    let steps = steps_about(alloc, scopes, place, derivation)?;
     match first_other(&derivation.steps, &steps) {
         Some(number) => Ok(Some(FirstFault::Range(number))),
         None => Ok(None),
     }
+}
+
+/// The steps that a derivation with this tree would have if it were about this term. They are given the types of a tree of their own.
+fn steps_about(
+    alloc: Global,
+    scopes: &Scopes,
+    place: Place,
+    derivation: &Derivation,
+) -> Result<Vec<Step>, AllocError>
+    requires { (tree : TypingTree) × MakeTree (derivation_of derivation.now).steps tree }
+    ensures { IfOk result (λ steps. (commands : List CommandTree) (tree : TypingTree) → AreScopesOf scopes.now commands → MakeTree (derivation_of derivation.now).steps tree
+        → map step_of steps.items ≡ steps_of 0 (typing_proof (tree_in (document_terms commands) place.0) tree)) }
+{
+    let Some(proof) = proof_of_steps(alloc, &derivation.steps)? else {
+        unreachable!();
+    };
+    steps_of_proof(alloc, scopes, place, proof)
 }
 
 /// The index of the first step that does not follow by its rule, in a derivation whose tree is not valid for the term.

@@ -1,18 +1,18 @@
 -- A semicolon among the tokens of a text has one byte.
 use Rattle.std.proofs.Common.{◌≡◌, ◌==◌, ℕ, ◌+◌, Bool, true, false, cond, Option, Some, None, List, [], ◌∷◌, ◌++◌, length, refl, sym, ap, subst, ◌∙◌, arith}
-use Rattle.std.specs.Prelude.{encode_utf8_all, if◌then◌else◌}
+use Rattle.std.specs.Prelude.{encode_utf8_all}
 use Rattle.std.specs.List.{list_all}
 use Rattle.std.specs.Option.{unwrap_or}
-use Rattle.std.specs.Str.{chars, bytes_eq}
-use Rattle.std.proofs.lemmas.Bool.{and_parts, cond_both, eqb-true}
+use Rattle.std.specs.Str.{chars}
+use Rattle.std.proofs.lemmas.Bool.{eqb-true}
 use Rattle.lam_token.specs.declared.kind.Kind.{Kind}
-use Rattle.lam_token.specs.declared.kind.Kind.TheVariants.{Name, TypeName, Semicolon}
+use Rattle.lam_token.specs.declared.kind.Kind.TheVariants.{Semicolon}
 use Rattle.lam_token.specs.declared.segment.Segment.{Segment}
 use Rattle.lam_token.specs.declared.segment.Segment.TheVariants.{Token}
 use Rattle.lam_token.specs.Cut.{IsFirst, longest, unclosed, stray, AreTokensFrom, IsCut}
 use Rattle.lam_token.specs.Lexeme.{Lexeme, kind_of, start_of, end_of}
 use Rattle.lam_token.specs.Shape.{is_blank, is_digit, is_continuing, mark_of, beginning_of, begun, alone, shape_of, rest_of_comment, closed_at_end}
-use Rattle.lam_token.specs.Words.{words, kind_among, is_capital, kind_of_name, word_kind}
+use Rattle.lam_token.specs.Words.{word_kind}
 use Rattle.lam_token.proofs.Divided.{is_other, word_is_other}
 use Rattle.lam_token.proofs.OtherEnds.{in_front, cut_back}
 

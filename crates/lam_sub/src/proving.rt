@@ -152,7 +152,7 @@ fn steps_between(
 {
     let picked = picked_fields(alloc, lower, upper)?;
     let cut = prove_picked(alloc, lower, upper, &picked)?;
-    let widened = record_step(alloc, SubRule::RcdDepth, premises, &picked, upper)?;
+    let widened = record_step(alloc, SubRule::RcdDepth, premises, picked, upper)?;
     chain(alloc, cut, widened)
 }
 
@@ -170,10 +170,14 @@ fn prove_picked(
     requires front { fields_of front.now ≡ picked (fields_of lower.now) (fields_of upper.now) }
     ensures { IfOk result (λ proof. (d : Dialect) → LeadsTo proof (record_of (fields_of lower.now)) (record_of (fields_of front.now)) d) }
 {
+    if same_fields(lower, front) {
+        return Ok(None);
+    }
     let mut arranged = copy_of_fields(alloc, front)?;
     append_others(alloc, &mut arranged, lower, upper)?;
-    let permuted = record_step(alloc, SubRule::RcdPerm, Vec::new(alloc), lower, &arranged)?;
-    let cut = record_step(alloc, SubRule::RcdWidth, Vec::new(alloc), &arranged, front)?;
+    let fields = copy_of_fields(alloc, lower)?;
+    let permuted = record_step(alloc, SubRule::RcdPerm, Vec::new(alloc), fields, &arranged)?;
+    let cut = record_step(alloc, SubRule::RcdWidth, Vec::new(alloc), arranged, front)?;
     chain(alloc, permuted, cut)
 }
 
@@ -254,18 +258,18 @@ fn record_step(
     alloc: Global,
     rule: SubRule,
     premises: Vec<SubProof>,
-    lower: &[(String, Ty)],
+    lower: Vec<(String, Ty)>,
     upper: &[(String, Ty)],
 ) -> Result<Option<SubProof>, AllocError>
-    requires lower { AreWellFormed (fields_of lower.now) }
+    requires lower { AreWellFormed (fields_of lower.items) }
     requires upper { AreWellFormed (fields_of upper.now) }
-    requires by_rule { BySubRule rule (claims_of premises.items) (record_of (fields_of lower.now)) (record_of (fields_of upper.now)) }
-    ensures { IfOk result (λ made. (d : Dialect) → IsRuleOf rule d → AreSubProofs (sub_trees_of premises.items) d → LeadsTo made (record_of (fields_of lower.now)) (record_of (fields_of upper.now)) d) }
+    requires by_rule { BySubRule rule (claims_of premises.items) (record_of (fields_of lower.items)) (record_of (fields_of upper.now)) }
+    ensures { IfOk result (λ made. (d : Dialect) → IsRuleOf rule d → AreSubProofs (sub_trees_of premises.items) d → LeadsTo made (record_of (fields_of lower.items)) (record_of (fields_of upper.now)) d) }
 {
-    if same_fields(lower, upper) {
+    if same_fields(&lower, upper) {
         return Ok(None);
     }
-    let lower = make_record(copy_of_fields(alloc, lower)?);
+    let lower = make_record(lower);
     let upper = make_record(copy_of_fields(alloc, upper)?);
     Ok(Some(SubProof {
         rule,

@@ -82,7 +82,7 @@ returns-in-Some-first_other c = λ commands forms.
     let found = c.in_ok-number.ensures commands forms (omega (arith, size, c.requires.inside)) in
     let context = rw c.in_default.is at found in
     let given = ap (map step_of) c.deref-2.ensures.value in
-    let made = ap (map step_of) c.deref-3.ensures.value ∙ c.in_ok-steps.ensures.of_term commands forms.are_scopes in
+    let made = ap (map step_of) c.deref-3.ensures.value ∙ c.in_ok-steps.ensures commands tree forms.are_scopes c.requires.tree in
     let number = c.in-Some-first_other.number in
     let differ = subst (λ steps. DifferFirst x.steps steps number) made (subst (λ steps. DifferFirst steps (map step_of c.deref-3.result.now) number) given c.in-Some-first_other.ensures) in (
       λ h. no_difference x.steps _ number differ (steps_are commands n x tree c.args.dialect c.requires.tree h),
@@ -106,6 +106,6 @@ returns c = λ commands forms.
     let found = c.in_ok-number.ensures commands forms (omega (arith, size, c.requires.inside)) in
     let context = rw c.in_default.is at found in
     let given = ap (map step_of) c.deref-2.ensures.value in
-    let made = ap (map step_of) c.deref-3.ensures.value ∙ c.in_ok-steps.ensures.of_term commands forms.are_scopes in
+    let made = ap (map step_of) c.deref-3.ensures.value ∙ c.in_ok-steps.ensures commands tree forms.are_scopes c.requires.tree in
     is_proof commands c.args.scopes.now c.args.resolved.now c.args.typing.now n c.args.entries.now x tree (core_of c.core_at-term.result.now) c.args.dialect forms c.requires.entries c.core_at-term.ensures
     (ap (λ es. map (λ e. e.name) (map entry_of es)) (sym c.deref.ensures.value) ∙ c.in_ok-has_names.ensures.0 c.if-not-branch.false) context c.requires.written (c.check_type.ensures.0 c.if-not-check_type.false) (sym given ∙ c.in-None.ensures ∙ made)

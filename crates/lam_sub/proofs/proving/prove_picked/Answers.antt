@@ -8,6 +8,9 @@ use Rattle.lam_sub.proofs.Arranging.{arranged, picked_wf, arranged_wf}
 use Rattle.lam_sub.proofs.Steps.{arranged_is, permutation_by, width_by, no_premises}
 use Rattle.lam_sub.proofs.proving.prove_picked.Goals as goal
 
+pub record_step-requires-clause-lower : goal.record_step-requires-clause-lower
+record_step-requires-clause-lower c = subst (λ hs. AreWellFormed hs) (sym c.in_ok-fields.ensures) c.requires.lower
+
 pub record_step-requires-clause-upper : goal.record_step-requires-clause-upper
 record_step-requires-clause-upper c =
     subst (λ hs. AreWellFormed hs)
@@ -16,14 +19,15 @@ record_step-requires-clause-upper c =
 
 pub record_step-requires-clause-by_rule : goal.record_step-requires-clause-by_rule
 record_step-requires-clause-by_rule c =
-    permutation_by (fields_of c.args.lower.now) (fields_of c.args.upper.now) _ _ c.new.ensures.items
+    rw c.in_ok-fields.ensures
+    (permutation_by (fields_of c.args.lower.now) (fields_of c.args.upper.now) _ _ c.new.ensures.items
     (arranged_is _ _ _ _ _ (fields_of c.args.lower.now) (fields_of c.args.upper.now) c.requires.front refl c.in_ok-arranged.ensures c.in_ok-append_others.ensures c.deref.ensures.value)
-    c.requires.lower c.requires.upper c.requires.labels
+    c.requires.lower c.requires.upper c.requires.labels)
 
 pub record_step-requires-2-clause-lower : goal.record_step-requires-2-clause-lower
 record_step-requires-2-clause-lower c =
     subst (λ hs. AreWellFormed hs)
-    (sym (arranged_is _ _ _ _ _ (fields_of c.args.lower.now) (fields_of c.args.upper.now) c.requires.front refl c.in_ok-arranged.ensures c.in_ok-append_others.ensures c.deref-2.ensures.value))
+    (sym (arranged_is _ _ _ _ _ (fields_of c.args.lower.now) (fields_of c.args.upper.now) c.requires.front refl c.in_ok-arranged.ensures c.in_ok-append_others.ensures refl))
     (arranged_wf (fields_of c.args.lower.now) (fields_of c.args.upper.now) c.requires.lower c.requires.upper c.requires.labels)
 
 pub record_step-requires-2-clause-upper : goal.record_step-requires-2-clause-upper
@@ -34,7 +38,7 @@ record_step-requires-2-clause-upper c =
 pub record_step-requires-2-clause-by_rule : goal.record_step-requires-2-clause-by_rule
 record_step-requires-2-clause-by_rule c =
     width_by (fields_of c.args.lower.now) (fields_of c.args.upper.now) _ _ _ c.new-2.ensures.items
-    (arranged_is _ _ _ _ _ (fields_of c.args.lower.now) (fields_of c.args.upper.now) c.requires.front refl c.in_ok-arranged.ensures c.in_ok-append_others.ensures c.deref-2.ensures.value)
+    (arranged_is _ _ _ _ _ (fields_of c.args.lower.now) (fields_of c.args.upper.now) c.requires.front refl c.in_ok-arranged.ensures c.in_ok-append_others.ensures refl)
     c.requires.front
 
 pub returns : goal.returns
@@ -44,9 +48,10 @@ returns c =
     let front = fields_of c.args.front.now in
     IfOk-weaker c.chain.result _ (λ made. (d : Dialect) → LeadsTo made (record_of fs) (record_of front) d)
     (λ made leads d. leads (record_of fs) (record_of (arranged fs gs)) (record_of front) d
-    (subst (λ hs. LeadsTo c.in_ok-permuted.permuted (record_of fs) (record_of hs) d)
-    (arranged_is _ _ _ _ _ (fields_of c.args.lower.now) (fields_of c.args.upper.now) c.requires.front refl c.in_ok-arranged.ensures c.in_ok-append_others.ensures c.deref.ensures.value)
-    (c.in_ok-permuted.ensures d tt (no_premises _ d c.new.ensures.items)))
+    (subst (λ hs. LeadsTo c.in_ok-permuted.permuted (record_of hs) (record_of (arranged fs gs)) d) c.in_ok-fields.ensures
+    (subst (λ hs. LeadsTo c.in_ok-permuted.permuted (record_of (fields_of c.in_ok-fields.fields.items)) (record_of hs) d)
+    (arranged_is _ _ _ _ _ fs gs c.requires.front refl c.in_ok-arranged.ensures c.in_ok-append_others.ensures c.deref.ensures.value)
+    (c.in_ok-permuted.ensures d tt (no_premises _ d c.new.ensures.items))))
     (subst (λ hs. LeadsTo c.in_ok-cut.cut (record_of hs) (record_of front) d)
-    (arranged_is _ _ _ _ _ (fields_of c.args.lower.now) (fields_of c.args.upper.now) c.requires.front refl c.in_ok-arranged.ensures c.in_ok-append_others.ensures c.deref-2.ensures.value)
+    (arranged_is _ _ _ _ _ fs gs c.requires.front refl c.in_ok-arranged.ensures c.in_ok-append_others.ensures refl)
     (c.in_ok-cut.ensures d tt (no_premises _ d c.new-2.ensures.items)))) c.chain.ensures

@@ -17,15 +17,13 @@ prove_picked-requires-clause-front c = picked_is _ _ (fields_of c.args.lower.now
 
 pub record_step-requires-clause-lower : goal.record_step-requires-clause-lower
 record_step-requires-clause-lower c =
-    subst (λ hs. AreWellFormed hs)
-    (sym (picked_is _ _ (fields_of c.args.lower.now) (fields_of c.args.upper.now) c.in_ok-picked.ensures c.deref-2.ensures.value))
+    subst (λ hs. AreWellFormed hs) (sym c.in_ok-picked.ensures)
     (picked_wf (fields_of c.args.lower.now) (fields_of c.args.upper.now) c.requires.lower c.requires.upper c.requires.labels)
 
 pub record_step-requires-clause-by_rule : goal.record_step-requires-clause-by_rule
 record_step-requires-clause-by_rule c =
     subst (λ hs. GoesFieldByField hs (fields_of c.args.upper.now) (claims_of c.args.premises.items))
-    (sym (picked_is _ _ (fields_of c.args.lower.now) (fields_of c.args.upper.now) c.in_ok-picked.ensures c.deref-2.ensures.value))
-    c.requires.premises
+    (sym c.in_ok-picked.ensures) c.requires.premises
 
 pub returns : goal.returns
 returns c =
@@ -37,7 +35,7 @@ returns c =
     let cut = subst (λ hs. LeadsTo c.in_ok-cut.cut (record_of fs) (record_of hs) d)
     (picked_is _ _ fs gs c.in_ok-picked.ensures c.deref.ensures.value) (c.in_ok-cut.ensures d) in
     let widened = subst (λ hs. LeadsTo c.in_ok-widened.widened (record_of hs) (record_of gs) d)
-    (picked_is _ _ fs gs c.in_ok-picked.ensures c.deref-2.ensures.value)
+    c.in_ok-picked.ensures
     (c.in_ok-widened.ensures d tt all) in
     chains (record_of fs) (record_of (picked fs gs)) (record_of gs) d cut widened) in
     IfOk-weaker c.chain.result _ (λ made. (d : Dialect) → AreSubProofs (sub_trees_of c.args.premises.items) d → LeadsTo made (record_of fs) (record_of gs) d)
