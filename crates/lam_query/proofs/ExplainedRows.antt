@@ -2,7 +2,7 @@
 use Rattle.std.proofs.Common.{◌≡◌, ◌⊎◌, inl, inr, ℕ, zero, suc, ◌+◌, ◌<◌, ◌≤◌, ◌^◌, List, [], ◌∷◌, ◌++◌, append_assoc, append-nil, drop, take, length, get_or, slice_range, refl, ap, sym, subst, ◌∙◌, arith}
 use Rattle.std.specs.List.{AllByRecursion}
 use Rattle.std.proofs.lemmas.Bool.{cases_lt}
-use Rattle.std.proofs.lemmas.List.{length-append, length-map, map-append, take_more, get_or-map}
+use Rattle.std.proofs.lemmas.List.{length-map, map-append, take_more, get_or-map}
 use Rattle.std.proofs.lemmas.List.Elements.{All-from_recursion, recursion_from_All}
 use Rattle.std.proofs.Math.ListN.{drop_of_length-le}
 use Rattle.lam_scope.proofs.EveryElement.{every_append}
@@ -28,7 +28,7 @@ use Rattle.lam_query.specs.inner.Rows.{IsRowAround}
 use Rattle.lam_query.proofs.ExplainedByPiece.{faults_joined}
 use Rattle.lam_query.proofs.MeaningsBehind.{meanings_behind}
 use Rattle.lam_query.proofs.PieceAround.{piece_is, row_same}
-use Rattle.lam_query.proofs.PieceOfText.{no_tokens}
+use Rattle.lam_query.proofs.NextPieces.{some_bytes}
 use Rattle.lam_query.proofs.RowAround.{row_around}
 use Rattle.lam_query.proofs.RowsInText.{in_text}
 use Rattle.lam_query.proofs.RowsPlaced.{next_row, next_counted}
@@ -54,20 +54,13 @@ passed_more b rows i r e now is lt behind one = record {
 
 -- ---- the pieces that a semicolon ends are not empty
 
-ended_some : (piece : List ℕ) → IsEnded piece → 0 < length piece
-ended_some [] ended =
-    let none = no_tokens 0 [] (ended.tokens ++ ended.semicolon ∷ []) refl ended.are in
-    let long = length-append ended.tokens (ended.semicolon ∷ []) in
-    absurd (omega (arith, ap length none, long))
-ended_some (x ∷ piece) ended = omega arith
-
 some_there : (s : Sight) (ended : List (List ℕ)) (last : List ℕ) (rows : List Row) (behind : Sight) (ts : List Typ) (b : Bound) (d : Dialect) (i : ℕ) (e : Row)
     → AreRows s (ended ++ last ∷ []) rows behind ts b d → AllByRecursion IsEnded ended → i + 1 < length rows → 0 < (get_or rows i e).end
 some_there s [] last [] behind ts b d i e are all lt = absurd are
 some_there s [] last (r ∷ []) behind ts b d i e are all lt = absurd (omega (arith, lt))
 some_there s [] last (r ∷ q ∷ rows) behind ts b d i e are all lt = absurd are.2
 some_there s (p ∷ ended) last [] behind ts b d i e are all lt = absurd are
-some_there s (p ∷ ended) last (r ∷ rows) behind ts b d zero e are all lt = let some = ended_some p all.0 in omega (arith, are.1.counted, some)
+some_there s (p ∷ ended) last (r ∷ rows) behind ts b d zero e are all lt = let some = some_bytes p all.0 in omega (arith, are.1.counted, some)
 some_there s (p ∷ ended) last (r ∷ rows) behind ts b d (suc i) e are all lt =
     some_there (sight_with s are.0 ts r.command) ended last rows behind ts b d i e are.2 all.1 (omega (arith, lt))
 

@@ -15,7 +15,7 @@ dialect_of a = a.dialect
 
 -- the number of commands typed by the last analysis from scratch and since then, as the analysis counts them
 abbrev pub commands_typed : Analysis → ℕ
-commands_typed a = a.typed
+commands_typed a = a.commands_typed
 
 -- An analysis of a text has a row for each piece, with the types found in its command; the span of the type over the size limit, if any; and the lexical, syntactic and
 -- (if no type is over the limit) type diagnostics.

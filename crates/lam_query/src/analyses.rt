@@ -35,11 +35,11 @@ pub struct Analysis {
     pub(crate) types: TypeChecker,
     pub(crate) dialect: Dialect,
     /// The number of commands typed by the last analysis from scratch and since then.
-    pub(crate) typed: usize,
+    pub(crate) commands_typed: usize,
     /// The length in bytes of all pieces read by the last analysis from scratch and since then.
-    pub(crate) read: usize,
+    pub(crate) bytes_read: usize,
     /// The size of the tables after the last analysis from scratch.
-    pub(crate) made: usize,
+    pub(crate) initial_size: usize,
 }
 
 /// An analysis under construction, which reads its text piece by piece.
@@ -54,9 +54,9 @@ pub(crate) struct Analyst<'t> {
     pub(crate) rows: Vec<Row>,
     /// The byte offset at which those pieces end.
     pub(crate) end: usize,
-    pub(crate) typed: usize,
-    pub(crate) read: usize,
-    pub(crate) made: usize,
+    pub(crate) commands_typed: usize,
+    pub(crate) bytes_read: usize,
+    pub(crate) initial_size: usize,
 }
 
 impl Analysis {
@@ -68,7 +68,7 @@ impl Analysis {
         let mut analyst = Analyst::new(alloc, dialect)?;
         analyst.read(text)?;
         let mut analysis = analyst.finish(text, dialect)?;
-        analysis.made = analysis.size();
+        analysis.initial_size = analysis.size();
         Ok(analysis)
     }
 
@@ -82,7 +82,7 @@ impl Analysis {
     pub fn commands_typed(&self) -> usize
         ensures { result ≡ commands_typed self.now }
     {
-        self.typed
+        self.commands_typed
     }
 }
 
@@ -100,9 +100,9 @@ impl<'t> Analyst<'t> {
             bound: Bound::new(alloc),
             rows: Vec::new(alloc),
             end: 0,
-            typed: 0,
-            read: 0,
-            made: 0,
+            commands_typed: 0,
+            bytes_read: 0,
+            initial_size: 0,
         })
     }
 
@@ -150,7 +150,7 @@ impl<'t> Analyst<'t> {
             command,
         })?;
         self.end += bytes;
-        self.read = self.read.saturating_add(bytes);
+        self.bytes_read = self.bytes_read.saturating_add(bytes);
         Ok(())
     }
 
@@ -181,7 +181,7 @@ impl<'t> Analyst<'t> {
         let (free_numbers, around) = self.bound.around(self.alloc, &free)?;
         let found = found_of(self.alloc, &mut self.types, around, command)?;
         let binds = self.bound.bind(self.alloc, command, found.bound())?;
-        self.typed = self.typed.saturating_add(1);
+        self.commands_typed = self.commands_typed.saturating_add(1);
         Ok(CommandRow {
             free_numbers,
             binds,
@@ -204,9 +204,9 @@ impl<'t> Analyst<'t> {
             bound: self.bound,
             types: self.types,
             dialect,
-            typed: self.typed,
-            read: self.read,
-            made: self.made,
+            commands_typed: self.commands_typed,
+            bytes_read: self.bytes_read,
+            initial_size: self.initial_size,
         })
     }
 }

@@ -61,9 +61,9 @@ impl Analysis {
     /// from scratch the tables have more than doubled, and have more than 8,192 entries; or, since the letters of names and labels
     /// take up memory too, more than twice the bytes of the text and 65,536 more have been read.
     fn is_overgrown(&self, text: &str) -> bool {
-        let entries = self.made.saturating_mul(2).max(8_192);
+        let entries = self.initial_size.saturating_mul(2).max(8_192);
         let bytes = text.len().saturating_mul(2).saturating_add(65_536);
-        self.size() > entries || self.read > bytes
+        self.size() > entries || self.bytes_read > bytes
     }
 }
 
@@ -76,7 +76,7 @@ impl<'t> Analyst<'t> {
         ensures types { result.0.types ≡ analysis.types }
         ensures none { result.0.rows.items ≡ [] }
         ensures end { result.0.end ≡ front.end }
-        ensures typed { result.0.typed ≡ analysis.typed }
+        ensures commands_typed { result.0.commands_typed ≡ analysis.commands_typed }
         ensures between { IsBetweenPieces result.0 }
         ensures bound { AreBoundBy (rows_of (take front.count analysis.rows.items)) analysis.bound result.0.bound }
         ensures stand { StandBy (rows_of (take front.count analysis.rows.items)) analysis.bound result.0.bound }
@@ -89,9 +89,9 @@ impl<'t> Analyst<'t> {
             mut bound,
             types,
             dialect: _dialect,
-            typed,
-            read,
-            made,
+            commands_typed,
+            bytes_read,
+            initial_size,
         } = analysis;
         bind_again(&mut bound, &rows[..front.count]);
         let analyst = Analyst {
@@ -101,9 +101,9 @@ impl<'t> Analyst<'t> {
             bound,
             rows: Vec::new(alloc),
             end: front.end,
-            typed,
-            read,
-            made,
+            commands_typed,
+            bytes_read,
+            initial_size,
         };
         (analyst, rows)
     }
@@ -138,7 +138,7 @@ impl<'t> Analyst<'t> {
         ensures types { self.new.types ≡ self.old.types }
         ensures bound { self.new.bound ≡ self.old.bound }
         ensures end { self.new.end ≡ self.old.end }
-        ensures typed { self.new.typed ≡ self.old.typed }
+        ensures commands_typed { self.new.commands_typed ≡ self.old.commands_typed }
     {
         let mut rows = rows;
         let read = mem::replace(&mut self.rows, Vec::new(self.alloc));
@@ -217,7 +217,7 @@ impl<'t> Analyst<'t> {
         let start = self.end;
         let bytes = self.rows[number].end;
         self.end += bytes;
-        self.read = self.read.saturating_add(bytes);
+        self.bytes_read = self.bytes_read.saturating_add(bytes);
         let Some(command) = &self.rows[number].command else {
             return Ok(());
         };
