@@ -48,8 +48,8 @@ function indent(line, width, typed) {
     var before = back(line, 0, /\S/);
     if (!before || before.sign == ";")
         return 0;
-    // Kate closes a bracket by itself: behind a line break in between comes what is to stand there, and not the closing one.
-    var closes = /^\s*[)}]/.test(document.line(line)) && !(typed == "\n" && /[({]/.test(before.sign));
+    // Kate closes a bracket by itself: behind a line break where something is missing, that comes first, and not the closing one.
+    var closes = /^\s*[)}]/.test(document.line(line)) && !(typed == "\n" && /[({,=:.>]/.test(before.sign));
     var closed = 0;
     for (var at = back(line, 0, /[;(){}]/); at && at.sign != ";"; at = back(at.line, at.column, /[;(){}]/)) {
         if (/[)}]/.test(at.sign))
