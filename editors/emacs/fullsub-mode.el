@@ -120,10 +120,17 @@ stand below its words."
    ((bound-and-true-p lsp-mode) 'lsp-mode)))
 
 (defun fullsub--start ()
-  "Starts the client that `fullsub-client' names, where it is installed."
-  (pcase fullsub-client
-    ('eglot (when (fboundp 'eglot-ensure) (eglot-ensure)))
-    ('lsp-mode (when (fboundp 'lsp) (funcall 'lsp)))))
+  "Starts the client that `fullsub-client' names.
+Says what is missing where it or the server is not installed."
+  (let ((start (pcase fullsub-client ('eglot 'eglot-ensure) ('lsp-mode 'lsp)))
+        (program (car fullsub-command)))
+    (cond
+     ((not start))
+     ((not (fboundp start))
+      (lwarn 'fullsub :warning "%s is not installed, so there are only colours and indenting" fullsub-client))
+     ((not (executable-find program t))
+      (lwarn 'fullsub :warning "%s is not on the PATH of Emacs, so there are only colours and indenting" program))
+     (t (funcall start)))))
 
 (defun fullsub-rename ()
   "Gives the name at point a new one, and all its uses too."
