@@ -158,6 +158,8 @@ Says what is missing where it or the server is not installed."
     (define-key map (kbd "C-c C-n") #'flymake-goto-next-error)
     (define-key map (kbd "C-c C-p") #'flymake-goto-prev-error)
     (define-key map (kbd "C-c C-l") #'flymake-show-buffer-diagnostics)
+    ;; Most terminals cannot send Emacs's own key for this.
+    (define-key map (kbd "C-c ;") #'comment-line)
     map)
   "Keys of `fullsub-mode'.")
 
