@@ -12,7 +12,13 @@ local config = {
   filetypes = { "fullsub" },
   on_attach = function(client)
     -- Faults are shown while a line is typed: the server keeps up with every key.
-    vim.diagnostic.config({ update_in_insert = true }, vim.lsp.diagnostic.get_namespace(client.id))
+    local options = { update_in_insert = true }
+    local shown = vim.diagnostic.config()
+    -- Neovim 0.11 and later show no messages behind the lines unless they are asked to.
+    if vim.lsp.config and not shown.virtual_text and not shown.virtual_lines then
+      options.virtual_text = vim.g.fullsub_virtual_text ~= false
+    end
+    vim.diagnostic.config(options, vim.lsp.diagnostic.get_namespace(client.id))
   end,
 }
 
