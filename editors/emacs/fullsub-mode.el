@@ -32,7 +32,9 @@
     ;; A name may hold a quote, so x' is one word.
     (modify-syntax-entry ?' "w" table)
     (modify-syntax-entry ?_ "_" table)
-    (modify-syntax-entry ?\" "." table)
+    ;; What Emacs takes for parts of symbols is between names here: x=succ y, Nat->Bool.
+    (dolist (sign '(?\" ?- ?+ ?= ?< ?> ?& ?|))
+      (modify-syntax-entry sign "." table))
     table)
   "Comments and words of `fullsub-mode'.")
 
