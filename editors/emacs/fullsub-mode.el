@@ -121,6 +121,13 @@ stand below its words."
    ((and (fboundp 'eglot-managed-p) (eglot-managed-p)) 'eglot)
    ((bound-and-true-p lsp-mode) 'lsp-mode)))
 
+(defun fullsub--forget-type ()
+  "Makes lsp-mode ask anew for the type at point.
+It would show the one that it has within all of the term that it is about,
+but each term within that term has its own."
+  (when (boundp 'lsp--hover-saved-bounds)
+    (set 'lsp--hover-saved-bounds nil)))
+
 (defun fullsub--start ()
   "Starts the client that `fullsub-client' names.
 Says what is missing where it or the server is not installed."
@@ -178,6 +185,7 @@ Says what is missing where it or the server is not installed."
   (setq-local indent-line-function #'fullsub-indent-line)
   (setq-local indent-tabs-mode nil)
   (setq-local electric-indent-chars (append '(?\) ?}) electric-indent-chars))
+  (add-hook 'post-command-hook #'fullsub--forget-type nil t)
   ;; Case matters: Nat is a type and nat a name.
   (setq-local font-lock-defaults '(fullsub-mode-font-lock-keywords nil nil)))
 
