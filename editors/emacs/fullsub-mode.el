@@ -159,14 +159,33 @@ Says what is missing where it or the server is not installed."
 (declare-function flymake-goto-prev-error "flymake")
 (declare-function flymake-show-buffer-diagnostics "flymake")
 
+(defun fullsub--of-checker (flymake flycheck)
+  "Calls the command FLYMAKE, or FLYCHECK where lsp-mode shows faults by that."
+  (call-interactively (if (bound-and-true-p flycheck-mode) flycheck flymake)))
+
+(defun fullsub-next-diagnostic ()
+  "Goes to the next diagnostic."
+  (interactive)
+  (fullsub--of-checker #'flymake-goto-next-error 'flycheck-next-error))
+
+(defun fullsub-previous-diagnostic ()
+  "Goes to the diagnostic before point."
+  (interactive)
+  (fullsub--of-checker #'flymake-goto-prev-error 'flycheck-previous-error))
+
+(defun fullsub-list-diagnostics ()
+  "Lists all diagnostics of this buffer."
+  (interactive)
+  (fullsub--of-checker #'flymake-show-buffer-diagnostics 'flycheck-list-errors))
+
 (defvar fullsub-mode-map
   (let ((map (make-sparse-keymap)))
     (define-key map (kbd "C-c C-w") #'fullsub-why)
     (define-key map (kbd "C-c C-r") #'fullsub-rename)
     (define-key map (kbd "C-c C-t") #'fullsub-type)
-    (define-key map (kbd "C-c C-n") #'flymake-goto-next-error)
-    (define-key map (kbd "C-c C-p") #'flymake-goto-prev-error)
-    (define-key map (kbd "C-c C-l") #'flymake-show-buffer-diagnostics)
+    (define-key map (kbd "C-c C-n") #'fullsub-next-diagnostic)
+    (define-key map (kbd "C-c C-p") #'fullsub-previous-diagnostic)
+    (define-key map (kbd "C-c C-l") #'fullsub-list-diagnostics)
     ;; Most terminals cannot send Emacs's own key for this.
     (define-key map (kbd "C-c ;") #'comment-line)
     map)
