@@ -26,6 +26,15 @@ local config = {
 local number
 
 local function start(event)
+  local program = config.cmd[1]
+  if vim.fn.executable(program) == 0 then
+    -- Some versions say nothing, and others more than this.
+    return vim.notify(program .. " is not on the PATH of Neovim, so there are only colours, indenting and comments", vim.log.levels.WARN)
+  end
+  if vim.lsp.config then
+    -- Neovim 0.11 and later start it by themselves.
+    return
+  end
   config.root_dir = vim.fn.fnamemodify(vim.api.nvim_buf_get_name(event.buf), ":p:h")
   if vim.lsp.start then
     vim.lsp.start(config, { bufnr = event.buf })
@@ -38,10 +47,8 @@ local function start(event)
 end
 
 if vim.lsp.config then
-  -- Neovim 0.11 and later start a server by themselves.
   vim.lsp.config("lam_server", config)
   vim.lsp.enable("lam_server")
-else
-  local group = vim.api.nvim_create_augroup("fullsub", {})
-  vim.api.nvim_create_autocmd("FileType", { group = group, pattern = "fullsub", callback = start })
 end
+local group = vim.api.nvim_create_augroup("fullsub", {})
+vim.api.nvim_create_autocmd("FileType", { group = group, pattern = "fullsub", callback = start })
