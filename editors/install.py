@@ -45,6 +45,7 @@ def emacs_folder():
 
 def install_vim():
     copy(f"{HERE}/vim", f"{HOME}/.vim/pack/fullsub/start/fullsub")
+    print("  still to do: ~/.vimrc needs the lines `source $VIMRUNTIME/defaults.vim` and `packadd! ale`")
 
 
 def install_neovim():
@@ -56,6 +57,7 @@ def install_neovim():
 
 def install_emacs():
     copy(f"{HERE}/emacs", f"{emacs_folder()}/elpa/fullsub-1.0")
+    print("  for lsp-mode in place of eglot, the init file needs `(setq fullsub-client 'lsp-mode)`")
 
 
 def install_kate():
@@ -105,7 +107,7 @@ def main():
             print(f"{name}: `{program}` is not on the PATH, so nothing was copied (`make editors EDITORS={name}` copies anyway)")
     if not shutil.which("lam_server"):
         print("`lam_server` is not on the PATH, so the editors will not find it (`make install` puts it into ~/.local/bin)")
-    print("docs/EDITORS.md has the keys, and the settings that Vim and lsp-mode still need.")
+    print("docs/EDITORS.md has the keys.")
 
 
 main()

@@ -20,7 +20,10 @@ case $prefix in
 "$HOME/.local" | /usr/local | /usr) echo "Neovim 0.7 or later finds its part by itself." ;;
 *) echo "Neovim: put this into init.vim: set packpath+=$prefix/share/nvim/site" ;;
 esac
-echo "Vim: put this into the vimrc: set packpath+=$prefix/share/vim/vimfiles"
+echo 'Vim with ALE: put these lines into the vimrc:'
+echo '  source $VIMRUNTIME/defaults.vim'
+echo '  packadd! ale'
+echo "  set packpath+=$prefix/share/vim/vimfiles"
 echo "Emacs: put this into the init file: (load \"$prefix/share/emacs/site-lisp/moorbasket/fullsub-autoloads\")"
 echo "Kate: put what is in $prefix/share/doc/moorbasket/kate/settings.json into ~/.config/kate/lspclient/settings.json"
 echo "Then open a file of $prefix/share/doc/moorbasket/examples. How to go on: man lam_server"

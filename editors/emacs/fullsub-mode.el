@@ -32,7 +32,9 @@
     ;; A name may hold a quote, so x' is one word.
     (modify-syntax-entry ?' "w" table)
     (modify-syntax-entry ?_ "_" table)
-    (modify-syntax-entry ?\" "." table)
+    ;; What Emacs takes for parts of symbols is between names here: x=succ y, Nat->Bool.
+    (dolist (sign '(?\" ?- ?+ ?= ?< ?> ?& ?|))
+      (modify-syntax-entry sign "." table))
     table)
   "Comments and words of `fullsub-mode'.")
 
@@ -119,11 +121,25 @@ stand below its words."
    ((and (fboundp 'eglot-managed-p) (eglot-managed-p)) 'eglot)
    ((bound-and-true-p lsp-mode) 'lsp-mode)))
 
+(defun fullsub--forget-type ()
+  "Makes lsp-mode ask anew for the type at point.
+It would show the one that it has within all of the term that it is about,
+but each term within that term has its own."
+  (when (boundp 'lsp--hover-saved-bounds)
+    (set 'lsp--hover-saved-bounds nil)))
+
 (defun fullsub--start ()
-  "Starts the client that `fullsub-client' names, where it is installed."
-  (pcase fullsub-client
-    ('eglot (when (fboundp 'eglot-ensure) (eglot-ensure)))
-    ('lsp-mode (when (fboundp 'lsp) (funcall 'lsp)))))
+  "Starts the client that `fullsub-client' names.
+Says what is missing where it or the server is not installed."
+  (let ((start (pcase fullsub-client ('eglot 'eglot-ensure) ('lsp-mode 'lsp)))
+        (program (car fullsub-command)))
+    (cond
+     ((not start))
+     ((not (fboundp start))
+      (lwarn 'fullsub :warning "%s is not installed, so there are only colours and indenting" fullsub-client))
+     ((not (executable-find program t))
+      (lwarn 'fullsub :warning "%s is not on the PATH of Emacs, so there are only colours and indenting" program))
+     (t (funcall start)))))
 
 (defun fullsub-rename ()
   "Gives the name at point a new one, and all its uses too."
@@ -143,14 +159,35 @@ stand below its words."
 (declare-function flymake-goto-prev-error "flymake")
 (declare-function flymake-show-buffer-diagnostics "flymake")
 
+(defun fullsub--of-checker (flymake flycheck)
+  "Calls the command FLYMAKE, or FLYCHECK where lsp-mode shows faults by that."
+  (call-interactively (if (bound-and-true-p flycheck-mode) flycheck flymake)))
+
+(defun fullsub-next-diagnostic ()
+  "Goes to the next diagnostic."
+  (interactive)
+  (fullsub--of-checker #'flymake-goto-next-error 'flycheck-next-error))
+
+(defun fullsub-previous-diagnostic ()
+  "Goes to the diagnostic before point."
+  (interactive)
+  (fullsub--of-checker #'flymake-goto-prev-error 'flycheck-previous-error))
+
+(defun fullsub-list-diagnostics ()
+  "Lists all diagnostics of this buffer."
+  (interactive)
+  (fullsub--of-checker #'flymake-show-buffer-diagnostics 'flycheck-list-errors))
+
 (defvar fullsub-mode-map
   (let ((map (make-sparse-keymap)))
     (define-key map (kbd "C-c C-w") #'fullsub-why)
     (define-key map (kbd "C-c C-r") #'fullsub-rename)
     (define-key map (kbd "C-c C-t") #'fullsub-type)
-    (define-key map (kbd "C-c C-n") #'flymake-goto-next-error)
-    (define-key map (kbd "C-c C-p") #'flymake-goto-prev-error)
-    (define-key map (kbd "C-c C-l") #'flymake-show-buffer-diagnostics)
+    (define-key map (kbd "C-c C-n") #'fullsub-next-diagnostic)
+    (define-key map (kbd "C-c C-p") #'fullsub-previous-diagnostic)
+    (define-key map (kbd "C-c C-l") #'fullsub-list-diagnostics)
+    ;; Most terminals cannot send Emacs's own key for this.
+    (define-key map (kbd "C-c ;") #'comment-line)
     map)
   "Keys of `fullsub-mode'.")
 
@@ -167,6 +204,7 @@ stand below its words."
   (setq-local indent-line-function #'fullsub-indent-line)
   (setq-local indent-tabs-mode nil)
   (setq-local electric-indent-chars (append '(?\) ?}) electric-indent-chars))
+  (add-hook 'post-command-hook #'fullsub--forget-type nil t)
   ;; Case matters: Nat is a type and nat a name.
   (setq-local font-lock-defaults '(fullsub-mode-font-lock-keywords nil nil)))
 

@@ -10,6 +10,9 @@ var katescript = {
 // How lines of fullsub files are indented. Kate calls `indent` with a line, and when one of these is typed.
 var triggerCharacters = ")}";
 
+// One step. The width that Kate passes is often the one that it guesses from the lines of a comment, which stand three columns in.
+var step = 4;
+
 // The last sign before the place that `wanted` takes and that stands outside of comments: its place and itself, or null.
 function back(line, column, wanted) {
     for (; line >= 0; line--, column = line >= 0 ? document.lineLength(line) : 0) {
@@ -41,15 +44,15 @@ function comment(line) {
 
 // A command begins in the first column. A broken line stands one step behind the line of the bracket around it, or one step in. The
 // lines of a comment stand below its words.
-function indent(line, width, typed) {
+function indent(line, _, typed) {
     var open = comment(line);
     if (open)
         return document.toVirtualColumn(open.line, open.column) + 3;
     var before = back(line, 0, /\S/);
     if (!before || before.sign == ";")
         return 0;
-    // Kate closes a bracket by itself: behind a line break in between comes what is to stand there, and not the closing one.
-    var closes = /^\s*[)}]/.test(document.line(line)) && !(typed == "\n" && /[({]/.test(before.sign));
+    // Kate closes a bracket by itself: behind a line break where something is missing, that comes first, and not the closing one.
+    var closes = /^\s*[)}]/.test(document.line(line)) && !(typed == "\n" && /[({,=:.>]/.test(before.sign));
     var closed = 0;
     for (var at = back(line, 0, /[;(){}]/); at && at.sign != ";"; at = back(at.line, at.column, /[;(){}]/)) {
         if (/[)}]/.test(at.sign))
@@ -57,7 +60,7 @@ function indent(line, width, typed) {
         else if (closed > 0)
             closed--;
         else
-            return document.firstVirtualColumn(at.line) + (closes ? 0 : width);
+            return document.firstVirtualColumn(at.line) + (closes ? 0 : step);
     }
-    return width;
+    return step;
 }

@@ -22,4 +22,10 @@ if vim.fn.maparg("]d", "n") == "" then
 end
 
 vim.bo.omnifunc = "v:lua.vim.lsp.omnifunc"
+-- Completion opens a preview window, in which there is nothing: close it after the choice.
+vim.api.nvim_create_autocmd("CompleteDone", {
+  group = vim.api.nvim_create_augroup("fullsub_preview", { clear = false }),
+  buffer = 0,
+  command = "silent! pclose",
+})
 vim.api.nvim_buf_create_user_command(0, "FullsubWhy", why, { desc = "Draw why the term under the cursor has its type" })

@@ -12,7 +12,13 @@ local config = {
   filetypes = { "fullsub" },
   on_attach = function(client)
     -- Faults are shown while a line is typed: the server keeps up with every key.
-    vim.diagnostic.config({ update_in_insert = true }, vim.lsp.diagnostic.get_namespace(client.id))
+    local options = { update_in_insert = true }
+    local shown = vim.diagnostic.config()
+    -- Neovim 0.11 and later show no messages behind the lines unless they are asked to.
+    if vim.lsp.config and not shown.virtual_text and not shown.virtual_lines then
+      options.virtual_text = vim.g.fullsub_virtual_text ~= false
+    end
+    vim.diagnostic.config(options, vim.lsp.diagnostic.get_namespace(client.id))
   end,
 }
 
@@ -20,6 +26,15 @@ local config = {
 local number
 
 local function start(event)
+  local program = config.cmd[1]
+  if vim.fn.executable(program) == 0 then
+    -- Some versions say nothing, and others more than this.
+    return vim.notify(program .. " is not on the PATH of Neovim, so there are only colours, indenting and comments", vim.log.levels.WARN)
+  end
+  if vim.lsp.config then
+    -- Neovim 0.11 and later start it by themselves.
+    return
+  end
   config.root_dir = vim.fn.fnamemodify(vim.api.nvim_buf_get_name(event.buf), ":p:h")
   if vim.lsp.start then
     vim.lsp.start(config, { bufnr = event.buf })
@@ -32,10 +47,8 @@ local function start(event)
 end
 
 if vim.lsp.config then
-  -- Neovim 0.11 and later start a server by themselves.
   vim.lsp.config("lam_server", config)
   vim.lsp.enable("lam_server")
-else
-  local group = vim.api.nvim_create_augroup("fullsub", {})
-  vim.api.nvim_create_autocmd("FileType", { group = group, pattern = "fullsub", callback = start })
 end
+local group = vim.api.nvim_create_augroup("fullsub", {})
+vim.api.nvim_create_autocmd("FileType", { group = group, pattern = "fullsub", callback = start })

@@ -22,6 +22,10 @@ endif
 if has('nvim') || !exists(':ALEHover')
   finish
 endif
+let s:server = get(g:, 'ale_fullsub_lam_server_executable', 'lam_server')
+if !executable(s:server)
+  echohl WarningMsg | echomsg s:server 'is not on the PATH of Vim, so there are only colours, indenting and comments' | echohl None
+endif
 setlocal omnifunc=fullsub#complete
 nnoremap <buffer> K <Cmd>ALEHover<CR>
 nnoremap <buffer> gd <Cmd>ALEGoToDefinition<CR>
