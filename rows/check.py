@@ -251,6 +251,11 @@ def step(rule, start, end, ty, *premises):
     return {"from": list(premises), "range": place(0, start, end), "rule": rule, "type": ty}
 
 
+def below(rule, lower, upper, *premises):
+    """A step that one type is below another."""
+    return {"from": list(premises), "lower": lower, "rule": rule, "upper": upper}
+
+
 def derived(text, *steps, **context):
     """The text in the file `a`, and a line with these steps about it, in a context of these names and types."""
     names = [{"name": name, "type": ty} for name, ty in context.items()]
@@ -384,6 +389,30 @@ CASES = [
     Case("control characters in the name of a file of derivations", ["--verify", "d\x1b[2J"], {"a": CALL, "d\x1b[2J": sent()}, ACCEPTED.replace("d:", "d\ufffd[2J:", 1), 0),
     Case("control characters in the name of a text", ["--verify", "d"], {"d": line({"derivation": STEPS, "file": "a\x1b[2J"})}, "", 4, refused("a\ufffd[2J", "No such file or directory (os error 2)")),
     Case("a derivation of standard input", ["--verify", "d"], {"d": line({"derivation": STEPS, "file": "<stdin>"})}, "d: it names no file that it is of: name it with --of\n", 1),
+    Case("a derivation of standard input, told by a dash", ["--verify", "d"], {"d": line({"derivation": STEPS, "file": "-"})}, "d: it names no file that it is of: name it with --of\n", 1, given=b"0"),
+    Case("a blank line before derivations", ["--verify", "d"], {"a": CALL, "d": "\n" + sent() + sent()}, ACCEPTED + ACCEPTED, 0),
+    Case(
+        "control characters in a label of a type",
+        ["--verify", "d"],
+        derived(
+            "lambda x:Top. 0", step("T-Num", 14, 15, "Nat"), step("T-Abs", 0, 15, "Top->Nat", 0), below("S-Top", "{a\n\x1b[2Jb:Nat}", "Top"), below("S-Refl", "Nat", "Nat"),
+            below("S-Arrow", "Top->Nat", "{a\n\x1b[2Jb:Nat}->Nat", 2, 3), step("T-Sub", 0, 15, "{a\n\x1b[2Jb:Nat}->Nat", 1, 4),
+        ),
+        "d: accepted: lambda x:Top. 0 : {a\ufffd\ufffd[2Jb:Nat}->Nat\n",
+        0,
+    ),
+    Case(
+        "a permutation only if a label may have a colon",
+        ["--verify", "d"],
+        derived(
+            "lambda r:{x:Nat}. r.x", step("T-Var", 18, 19, "{x:Nat}"), step("T-Proj", 18, 21, "Nat", 0), step("T-Abs", 0, 21, "{x:Nat}->Nat", 1),
+            below("S-RcdPerm", "{a:{b:Nat, x:Nat, y:Nat}, c:Nat}", "{x:Nat, a:{b:Nat, y:Nat}, c:Nat}"), below("S-RcdWidth", "{x:Nat, a:{b:Nat, y:Nat}, c:Nat}", "{x:Nat}"),
+            below("S-Trans", "{a:{b:Nat, x:Nat, y:Nat}, c:Nat}", "{x:Nat}", 3, 4), below("S-Refl", "Nat", "Nat"),
+            below("S-Arrow", "{x:Nat}->Nat", "{a:{b:Nat, x:Nat, y:Nat}, c:Nat}->Nat", 5, 6), step("T-Sub", 0, 21, "{a:{b:Nat, x:Nat, y:Nat}, c:Nat}->Nat", 2, 7),
+        ),
+        "d: " + BELOW.format(3) + "\n",
+        1,
+    ),
     Case("a text on standard input", ["--verify", "--of", "-", "d"], {"d": sent()}, "", 2, "error: --of takes the name of a file\n", given=CALL.encode()),
     Case("verifying and types", ["--verify", "--types", "a"], {"a": "0"}, "", 2, None),
     Case("a text of nothing", ["--of", "a", "a"], {"a": "0"}, "", 2, None),

@@ -10,10 +10,11 @@ use Rattle.lam_query.specs.Derivations.{Derivation}
 use Rattle.lam_session.specs.Derivations.{derivation_value}
 use Rattle.lam_check.specs.FirstFaults.{IsFirstFault, IsSound}
 use Rattle.lam_check.specs.Readable.{IsReadable}
-use Rattle.lam_check.specs.Verdicts.{accepted_line, refused_line, message, unread_text, IsVerdict, accepts, refuses, reads_none}
+use Rattle.lam_check.specs.Verdicts.{accepted_line, refused_line, message, unread_text, IsReadingOf, IsVerdict, accepts, refuses, reads_none}
 use Rattle.lam_check.specs.Verified.{IsVerifiedValue}
 use Rattle.lam_check.specs.declared.first_faults.FirstFault.{FirstFault}
 use Rattle.lam_check.specs.declared.read_derivations.Unread.{Unread}
+use Rattle.lam_check.specs.declared.read_derivations.Unread.TheVariants.{Memory}
 use Rattle.lam_check.specs.declared.reports.Checked.{Checked}
 
 -- what was read is what was sent
@@ -47,12 +48,12 @@ module _ (r : Result Checked AllocError) (name : Text) (text : List ℕ) (value 
       go (Ok v) = λ none. sent
       go (Err e) = tt
 
-  pub accepted_report : (read : Derivation) (is : value ≡ derivation_value Utf16 text (Some read)) (sound : IsSound text read d) → IfOk r (λ v. v.count ≡ 0) → IfOk r (λ v. string_bytes v.report ≡ accepted_line name text read)
+  pub accepted_report : (read : Derivation) (is : value ≡ derivation_value Utf16 text (Some read)) (only : IsReadingOf text value read) (sound : IsSound text read d) → IfOk r (λ v. v.count ≡ 0) → IfOk r (λ v. string_bytes v.report ≡ accepted_line name text read)
       → IfOk r (λ v. IsVerdict name text value d (string_bytes v.report) v.count)
-  accepted_report read is sound = go r
+  accepted_report read is only sound = go r
     where
       go : (q : Result Checked AllocError) → IfOk q (λ v. v.count ≡ 0) → IfOk q (λ v. string_bytes v.report ≡ accepted_line name text read) → IfOk q (λ v. IsVerdict name text value d (string_bytes v.report) v.count)
-      go (Ok v) none shown = subst (IsVerdict name text value d (string_bytes v.report)) (sym none) (accepts (record { sent = verified_value text value d read is sound; shown = shown }))
+      go (Ok v) none shown = subst (IsVerdict name text value d (string_bytes v.report)) (sym none) (accepts (record { sent = verified_value text value d read is sound; reading = only; shown = shown }))
       go (Err e) none shown = tt
 
   -- one that is counted is not accepted
@@ -71,22 +72,22 @@ module _ (r : Result Checked AllocError) (name : Text) (text : List ℕ) (value 
       go (Ok v) = λ sent readable. absurd (none sent readable)
       go (Err e) = tt
 
-  pub refused_report : (read : Derivation) (is : value ≡ derivation_value Utf16 text (Some read)) (not_sound : IsSound text read d → ⊥) (fault : FirstFault) (first : IsFirstFault text read d fault) (written : Text) → written ≡ message fault
+  pub refused_report : (read : Derivation) (is : value ≡ derivation_value Utf16 text (Some read)) (only : IsReadingOf text value read) (not_sound : IsSound text read d → ⊥) (fault : FirstFault) (first : IsFirstFault text read d fault) (written : Text) → written ≡ message fault
       → IfOk r (λ v. v.count ≡ 1) → IfOk r (λ v. string_bytes v.report ≡ refused_line name written) → IfOk r (λ v. IsVerdict name text value d (string_bytes v.report) v.count)
-  refused_report read is not_sound fault first written says = go r
+  refused_report read is only not_sound fault first written says = go r
     where
       go : (q : Result Checked AllocError) → IfOk q (λ v. v.count ≡ 1) → IfOk q (λ v. string_bytes v.report ≡ refused_line name written) → IfOk q (λ v. IsVerdict name text value d (string_bytes v.report) v.count)
       go (Ok v) one shown =
           subst (IsVerdict name text value d (string_bytes v.report)) (sym one)
-          (refuses (record { derivation = read; is_value = is; not_sound = not_sound; fault = fault; first = first; shown = subst (λ t. string_bytes v.report ≡ refused_line name t) says shown }))
+          (refuses (record { derivation = read; is_value = is; reading = only; not_sound = not_sound; fault = fault; first = first; shown = subst (λ t. string_bytes v.report ≡ refused_line name t) says shown }))
       go (Err e) one shown = tt
 
-  pub unread_report : ((sent : Derivation) → IsReadable text sent → value ≡ derivation_value Utf16 text (Some sent) → ⊥) → (fault : Unread) (written : Text) → written ≡ unread_text fault
+  pub unread_report : ((sent : Derivation) → IsReadable text sent → value ≡ derivation_value Utf16 text (Some sent) → ⊥) → (fault : Unread) → (fault ≡ Memory → ⊥) → (written : Text) → written ≡ unread_text fault
       → IfOk r (λ v. v.count ≡ 1) → IfOk r (λ v. string_bytes v.report ≡ refused_line name written) → IfOk r (λ v. IsVerdict name text value d (string_bytes v.report) v.count)
-  unread_report none fault written says = go r
+  unread_report none fault not_memory written says = go r
     where
       go : (q : Result Checked AllocError) → IfOk q (λ v. v.count ≡ 1) → IfOk q (λ v. string_bytes v.report ≡ refused_line name written) → IfOk q (λ v. IsVerdict name text value d (string_bytes v.report) v.count)
-      go (Ok v) one shown = subst (IsVerdict name text value d (string_bytes v.report)) (sym one) (reads_none (record { unread = none; fault = fault; shown = subst (λ t. string_bytes v.report ≡ refused_line name t) says shown }))
+      go (Ok v) one shown = subst (IsVerdict name text value d (string_bytes v.report)) (sym one) (reads_none (record { unreadable = none; fault = fault; not_memory = not_memory; shown = subst (λ t. string_bytes v.report ≡ refused_line name t) says shown }))
       go (Err e) one shown = tt
 
 -- a derivation that is not verified is none that was sent

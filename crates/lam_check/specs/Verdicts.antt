@@ -11,6 +11,7 @@ use Rattle.lam_query.specs.Steps.{Conclusion}
 use Rattle.lam_session.specs.Derivations.{derivation_value}
 use Rattle.lam_check.specs.Drawings.{claim_text, line}
 use Rattle.lam_check.specs.FirstFaults.{IsFirstFault, IsSound, last_conclusion}
+use Rattle.lam_check.specs.Lines.{shown_line}
 use Rattle.lam_check.specs.Readable.{IsReadable}
 use Rattle.lam_check.specs.Verified.{IsVerifiedValue}
 use Rattle.lam_check.specs.declared.first_faults.FirstFault.{FirstFault}
@@ -56,9 +57,9 @@ abbrev pub claim_in : List ℕ → Option Conclusion → Text
 claim_in text None = []
 claim_in text (Some c) = claim_text text roles.Other c
 
--- `NAME: accepted: CONTEXT |- CLAIM`
+-- `NAME: accepted: CONTEXT |- CLAIM`, or `NAME: accepted: CLAIM` if the context is empty. Labels can have any characters, so those that could control the terminal are replaced.
 abbrev pub accepted_line : (name : Text) → (text : List ℕ) → Derivation → Text
-accepted_line name text x = line (name ++ codes ": accepted: " ++ context_text x.context ++ claim_in text (last_conclusion x.steps))
+accepted_line name text x = line (name ++ codes ": accepted: " ++ shown_line (context_text x.context ++ claim_in text (last_conclusion x.steps)))
 
 -- ---- refused ones
 
@@ -93,15 +94,21 @@ refused_line name message = line (name ++ codes ": " ++ message)
 
 -- ---- reports
 
+-- A value that is that of a readable derivation is that of this one: the text of a type can be read in other ways if labels may have any characters.
+abbrev pub IsReadingOf : (text : List ℕ) → (value : Data) → Derivation → Type 0
+IsReadingOf text value x = (readable : Derivation) → IsReadable text readable → value ≡ derivation_value Utf16 text (Some readable) → x ≡ readable
+
 -- The value is that of a derivation that is verified, and the line says so, with its context and the conclusion of its last step.
 pub record IsAccepted (name : Text) (text : List ℕ) (value : Data) (d : Dialect) (report : Text) : Type 0 where
   pub sent : IsVerifiedValue text value d
+  pub reading : IsReadingOf text value sent.derivation
   pub shown : report ≡ accepted_line name text sent.derivation
 
 -- The value is that of a derivation that is not verified or has too many levels, and the line has the message of what is wrong with it first.
 pub record IsRefused (name : Text) (text : List ℕ) (value : Data) (d : Dialect) (report : Text) : Type 0 where
   pub derivation : Derivation
   pub is_value : value ≡ derivation_value Utf16 text (Some derivation)
+  pub reading : IsReadingOf text value derivation
   pub not_sound : IsSound text derivation d → ⊥
   pub fault : FirstFault
   pub first : IsFirstFault text derivation d fault
@@ -109,8 +116,9 @@ pub record IsRefused (name : Text) (text : List ℕ) (value : Data) (d : Dialect
 
 -- The value is that of no readable derivation, and the line says why it is not read: it is none of an accepted one.
 pub record IsUnreadable (name : Text) (text : List ℕ) (value : Data) (report : Text) : Type 0 where
-  pub unread : (derivation : Derivation) → IsReadable text derivation → value ≡ derivation_value Utf16 text (Some derivation) → ⊥
+  pub unreadable : (derivation : Derivation) → IsReadable text derivation → value ≡ derivation_value Utf16 text (Some derivation) → ⊥
   pub fault : Unread
+  pub not_memory : fault ≡ unread.Memory → ⊥
   pub shown : report ≡ refused_line name (unread_text fault)
 
 -- The report on a value that was sent as a derivation of a text under this name. It is counted unless it is accepted.

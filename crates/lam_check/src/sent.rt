@@ -1,5 +1,5 @@
 //! Files of derivations to verify: each is read along with the text that it is about.
-use crate::args::Asked;
+use crate::args::{Asked, INPUT};
 use crate::files::{ReadFault, text_of};
 use crate::lines::shown_line;
 use crate::verdicts::{sent_of, verdict};
@@ -35,7 +35,7 @@ fn tell_all<R: AllocGlobal + Files + Input + Print + Eprint>(
         Ok(value) => return tell_verdict(rt, asked, name, &value),
         Err(fault) => fault,
     };
-    let Some((first, rest)) = text.split_once('\n') else {
+    let Some((first, rest)) = text.trim_start().split_once('\n') else {
         return tell_no_json(rt, name, &fault);
     };
     match Value::from_str(rt.alloc(), first) {
@@ -94,9 +94,9 @@ fn tell_verdict<R: AllocGlobal + Files + Input + Print + Eprint>(
     )
 }
 
-/// Returns the name of a file that can be read again, so not that of standard input.
+/// Returns the name of a file that can be read again, so none of standard input.
 fn readable(file: Option<&str>) -> Option<&str> {
-    if file == Some(STANDARD_INPUT) {
+    if file == Some(STANDARD_INPUT) || file == Some(INPUT) {
         return None;
     }
     file

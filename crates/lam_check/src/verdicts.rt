@@ -10,6 +10,7 @@ ghost use Rattle.lam_check.specs.declared.read_derivations.Unread.TheVariants.{M
 
 use crate::drawings::claim_of;
 use crate::first_faults::FirstFault;
+use crate::lines::push_shown;
 use crate::read_derivations::{Unread, derivation_in};
 use crate::read_values::two_members;
 use crate::reports::Checked;
@@ -154,7 +155,7 @@ fn message_of(alloc: Global, fault: FirstFault) -> Result<String, AllocError>
     Ok(out)
 }
 
-/// Reports the accepted context, if not empty, and the conclusion of the last step.
+/// Reports the accepted context, if not empty, and the conclusion of the last step, on one line.
 fn accepted(
     alloc: Global,
     name: &str,
@@ -165,10 +166,12 @@ fn accepted(
     ensures count { IfOk result (λ verdict. verdict.count ≡ 0) }
     ensures report { IfOk result (λ verdict. string_bytes verdict.report ≡ accepted_line name.now text.now (derivation_of derivation.now)) }
 {
+    let mut said = String::new(alloc);
+    push_context(alloc, &mut said, &derivation.context)?;
+    push_claim(alloc, &mut said, text, &derivation.steps)?;
     let mut report = String::from_str(alloc, name)?;
     report.push_str(": accepted: ")?;
-    push_context(alloc, &mut report, &derivation.context)?;
-    push_claim(alloc, &mut report, text, &derivation.steps)?;
+    push_shown(&mut report, &said)?;
     report.push_str("\n")?;
     Ok(Checked { report, count: 0 })
 }
