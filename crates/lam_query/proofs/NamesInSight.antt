@@ -13,7 +13,7 @@ use Rattle.lam_rules.proofs.SharedTexts.{text_same}
 use Rattle.lam_syntax.specs.Trees.{CommandTree}
 use Rattle.lam_syntax.specs.Answers.{pieces_of}
 use Rattle.lam_scope.specs.Labels.{place_in}
-use Rattle.lam_scope.specs.Names.{Name, binds, count}
+use Rattle.lam_scope.specs.Names.{Name, binds, index_of}
 use Rattle.lam_scope.specs.Places.{Binding, written, of_term, Scope, Place}
 use Rattle.lam_scope.specs.PlacedTerms.{projection_at}
 use Rattle.lam_typing.specs.LeastTypes.{IsLeastAt, IsLeastEntry, AreLeastEntries}
@@ -57,20 +57,20 @@ one_detail commands n k _ _ d (untold s fault) (untold s' fault') = refl
 
 one_visible : (commands : List CommandTree) (n : ℕ) (d : Dialect) (i j : Item) → IsVisible commands n i d → IsVisible commands n j d → i.label ≡ j.label → i ≡ j
 one_visible commands n d i j a b labels =
-    let both : Some b.count_of ≡ Some a.count_of = sym b.counted ∙ ap (λ x. count x (names_in_sight commands n)) (sym labels) ∙ a.counted in
-    let counts : b.count_of ≡ a.count_of = cc in
-    let there = subst (λ k. IsDetail commands n k j.detail d) counts b.detail in
-    let details = one_detail commands n a.count_of i.detail j.detail d a.detail there in
+    let both : Some b.index ≡ Some a.index = sym b.indexed ∙ ap (λ x. index_of x (names_in_sight commands n)) (sym labels) ∙ a.indexed in
+    let indices : b.index ≡ a.index = cc in
+    let there = subst (λ k. IsDetail commands n k j.detail d) indices b.detail in
+    let details = one_detail commands n a.index i.detail j.detail d a.detail there in
     let fields : i.is_field ≡ j.is_field = a.no_field ∙ sym b.no_field in
     λ k. record { label = labels k; detail = details k; is_field = fields k }
 
 -- a name that one of these binders binds
-abbrev IsCounted : List (Option Name) → Name → Type 0
-IsCounted binders x = (k : ℕ) × (count x binders ≡ Some k)
+abbrev HasIndex : List (Option Name) → Name → Type 0
+HasIndex binders x = (k : ℕ) × (index_of x binders ≡ Some k)
 
 pub one_list_of_names : (commands : List CommandTree) (number : ℕ) (items others : List Item) (d : Dialect) → AreNames commands number items d → AreNames commands number others d → items ≡ others
 one_list_of_names commands n items others d a b =
-    one_ascending (λ i. IsVisible commands n i d) (IsCounted (names_in_sight commands n)) (λ i is. (is.count_of, is.counted)) (one_visible commands n d)
+    one_ascending (λ i. IsVisible commands n i d) (HasIndex (names_in_sight commands n)) (λ i is. (is.index, is.indexed)) (one_visible commands n d)
     items others a.ascending b.ascending a.each b.each (λ x is. a.every x is.0 is.1) (λ x is. b.every x is.0 is.1)
 
 -- the labels behind a dot have one list
@@ -119,60 +119,60 @@ one_list_of_labels tokens o items others d a b =
 
 -- names that binders bind
 
-counted_first : (y : Name) (binders : List (Option Name)) → IsCounted (Some y ∷ binders) y
-counted_first y binders = (0, ap (λ b. if b then Some 0 else option_map suc (count y binders)) ((bytes_eq-Decides y y).1 refl))
+indexed_first : (y : Name) (binders : List (Option Name)) → HasIndex (Some y ∷ binders) y
+indexed_first y binders = (0, ap (λ b. if b then Some 0 else option_map suc (index_of y binders)) ((bytes_eq-Decides y y).1 refl))
 
-counted_more : (b : Option Name) (binders : List (Option Name)) (x : Name) → IsCounted binders x → IsCounted (b ∷ binders) x
-counted_more b binders x (k, is) = by (binds b x)
+indexed_more : (b : Option Name) (binders : List (Option Name)) (x : Name) → HasIndex binders x → HasIndex (b ∷ binders) x
+indexed_more b binders x (k, is) = by (binds b x)
   where
-    by : (bound : Bool) → (j : ℕ) × ((if bound then Some 0 else option_map suc (count x binders)) ≡ Some j)
+    by : (bound : Bool) → (j : ℕ) × ((if bound then Some 0 else option_map suc (index_of x binders)) ≡ Some j)
     by true = (0, refl)
     by false = (suc k, ap (option_map suc) is)
 
-counted_behind : (x : Name) (binders : List (Option Name)) (k : ℕ) → option_map suc (count x binders) ≡ Some k → IsCounted binders x
-counted_behind x binders k is = by (count x binders) refl is
+indexed_behind : (x : Name) (binders : List (Option Name)) (k : ℕ) → option_map suc (index_of x binders) ≡ Some k → HasIndex binders x
+indexed_behind x binders k is = by (index_of x binders) refl is
   where
-    by : (found : Option ℕ) → count x binders ≡ found → option_map suc found ≡ Some k → IsCounted binders x
+    by : (found : Option ℕ) → index_of x binders ≡ found → option_map suc found ≡ Some k → HasIndex binders x
     by None at clash = absurd cc
     by (Some j) at more = (j, at)
 
-first_or_behind : (y x : Name) (binders : List (Option Name)) → IsCounted (Some y ∷ binders) x → (y ≡ x) ⊎ IsCounted binders x
+first_or_behind : (y x : Name) (binders : List (Option Name)) → HasIndex (Some y ∷ binders) x → (y ≡ x) ⊎ HasIndex binders x
 first_or_behind y x binders (k, is) = by (bytes_eq y x) refl is
   where
-    by : (bound : Bool) → bytes_eq y x ≡ bound → (if bound then Some 0 else option_map suc (count x binders)) ≡ Some k → (y ≡ x) ⊎ IsCounted binders x
+    by : (bound : Bool) → bytes_eq y x ≡ bound → (if bound then Some 0 else option_map suc (index_of x binders)) ≡ Some k → (y ≡ x) ⊎ HasIndex binders x
     by true same at = inl ((bytes_eq-Decides y x).0 same)
-    by false other at = inr (counted_behind x binders k at)
+    by false other at = inr (indexed_behind x binders k at)
 
-none_counted : (x : Name) → IsCounted [] x → ⊥
-none_counted x (k, is) = cc
+none_indexed : (x : Name) → HasIndex [] x → ⊥
+none_indexed x (k, is) = cc
 
 -- they can be listed
 
 record AreBound (binders : List (Option Name)) (names : List Name) : Type 0 where
   ascending : Ascend names
-  each : AllByRecursion (IsCounted binders) names
-  every : (x : Name) → IsCounted binders x → Contains names x
+  each : AllByRecursion (HasIndex binders) names
+  every : (x : Name) → HasIndex binders x → Contains names x
 
 no_binder : AreBound [] []
-no_binder = record { ascending = none_ascend; each = tt; every = λ x is. absurd (none_counted x is) }
+no_binder = record { ascending = none_ascend; each = tt; every = λ x is. absurd (none_indexed x is) }
 
 hidden : (binders : List (Option Name)) (names : List Name) → AreBound binders names → AreBound (None ∷ binders) names
 hidden binders names are = record {
   ascending = are.ascending;
-  each = weaker (IsCounted binders) (IsCounted (None ∷ binders)) (counted_more None binders) names are.each;
-  every = λ x is. are.every x (counted_behind x binders is.0 is.1);
+  each = weaker (HasIndex binders) (HasIndex (None ∷ binders)) (indexed_more None binders) names are.each;
+  every = λ x is. are.every x (indexed_behind x binders is.0 is.1);
 }
 
 bound : (y : Name) (binders : List (Option Name)) (names : List Name) → AreBound binders names → AreBound (Some y ∷ binders) (put y names)
 bound y binders names are = record {
   ascending = put_ascends y names are.ascending;
   each =
-      each_put (IsCounted (Some y ∷ binders)) y names (counted_first y binders)
-      (weaker (IsCounted binders) (IsCounted (Some y ∷ binders)) (counted_more (Some y) binders) names are.each);
+      each_put (HasIndex (Some y ∷ binders)) y names (indexed_first y binders)
+      (weaker (HasIndex binders) (HasIndex (Some y ∷ binders)) (indexed_more (Some y) binders) names are.each);
   every = λ x is. there x (first_or_behind y x binders is);
 }
   where
-    there : (x : Name) → (y ≡ x) ⊎ IsCounted binders x → Contains (put y names) x
+    there : (x : Name) → (y ≡ x) ⊎ HasIndex binders x → Contains (put y names) x
     there x (inl same) = subst (λ z. Contains (put y names) z) same (put_there y names)
     there x (inr is) = put_keeps y x names (are.every x is)
 
@@ -199,22 +199,22 @@ some_details commands n d = by (fault_or_small d commands)
 
 module _ (told : ℕ → Option Text) (binders : List (Option Name)) where
   abbrev named : Name → Item
-  named x = record { label = x; detail = told (unwrap_or (count x binders) 0); is_field = false }
+  named x = record { label = x; detail = told (unwrap_or (index_of x binders) 0); is_field = false }
 
   labels_named : (names : List Name) → map (λ (i : Item). i.label) (map named names) ≡ names
   labels_named [] = refl
   labels_named (x ∷ names) = ap (λ (xs : List Name). x ∷ xs) (labels_named names)
 
 module _ (commands : List CommandTree) (n : ℕ) (d : Dialect) (told : ℕ → Option Text) (is_told : (k : ℕ) → IsDetail commands n k (told k) d) where
-  name_visible : (x : Name) → IsCounted (names_in_sight commands n) x → IsVisible commands n (named told (names_in_sight commands n) x) d
+  name_visible : (x : Name) → HasIndex (names_in_sight commands n) x → IsVisible commands n (named told (names_in_sight commands n) x) d
   name_visible x (k, is) =
       let there = subst (λ j. IsDetail commands n k (told j) d) (sym (ap (λ o. unwrap_or o 0) is)) (is_told k) in
-      record { count_of = k; counted = is; detail = there; no_field = refl }
+      record { index = k; indexed = is; detail = there; no_field = refl }
 
-  names_visible : (names : List Name) → AllByRecursion (IsCounted (names_in_sight commands n)) names → All (λ i. IsVisible commands n i d) (map (named told (names_in_sight commands n)) names)
+  names_visible : (names : List Name) → AllByRecursion (HasIndex (names_in_sight commands n)) names → All (λ i. IsVisible commands n i d) (map (named told (names_in_sight commands n)) names)
   names_visible names each =
       let item = named told (names_in_sight commands n) in
-      let visible = weaker (IsCounted (names_in_sight commands n)) (λ x. IsVisible commands n (item x) d) name_visible names each in
+      let visible = weaker (HasIndex (names_in_sight commands n)) (λ x. IsVisible commands n (item x) d) name_visible names each in
       All-map (λ i. IsVisible commands n i d) item names (All-from_recursion (λ x. IsVisible commands n (item x) d) names visible)
 
 pub some_names : (commands : List CommandTree) (number : ℕ) (d : Dialect) → (items : List Item) × AreNames commands number items d

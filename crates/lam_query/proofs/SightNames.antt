@@ -16,7 +16,7 @@ use Rattle.lam_rules.specs.Texts.{Text}
 use Rattle.lam_rules.specs.Types.{Typ}
 use Rattle.lam_rules.specs.declared.rules.Dialect.{Dialect}
 use Rattle.lam_syntax.specs.Trees.{CommandTree}
-use Rattle.lam_scope.specs.Names.{Name, binds, count}
+use Rattle.lam_scope.specs.Names.{Name, binds, index_of}
 use Rattle.lam_query.specs.declared.binders.SeenBinder.{SeenBinder}
 use Rattle.lam_query.specs.Completions.{Item, AreAscending, names_in_sight, IsDetail, IsVisible, AreNames}
 use Rattle.lam_query.specs.inner.SeenBinders.{name_seen}
@@ -67,32 +67,32 @@ from_inside x (b ∷ bs) =
     ∙ told_behind x None (reverse bs) (b ∷ [])
     ∙ ap (λ o. told_with x o b) (from_inside x bs)
 
--- the innermost one of a name is the one of the name's count
+-- the innermost one of a name is the one of the name's index
 
-record IsCounted (x : Name) (bs : List Told) (t : Option Text) : Type 0 where
-  count_of : ℕ
-  counted : count x (told_names bs) ≡ Some count_of
-  there : t ≡ get_or (told_texts bs) count_of None
+record HasIndex (x : Name) (bs : List Told) (t : Option Text) : Type 0 where
+  index : ℕ
+  indexed : index_of x (told_names bs) ≡ Some index
+  there : t ≡ get_or (told_texts bs) index None
 
-first_is_counted : (x : Name) (bs : List Told) (t : Option Text) → told_first x bs ≡ Some t → IsCounted x bs t
-first_is_counted x [] t e = let no_way : ⊥ = cc in absurd no_way
-first_is_counted x (b ∷ bs) t e = by (binds b.0 x) refl e (first_is_counted x bs t)
+first_has_index : (x : Name) (bs : List Told) (t : Option Text) → told_first x bs ≡ Some t → HasIndex x bs t
+first_has_index x [] t e = let no_way : ⊥ = cc in absurd no_way
+first_has_index x (b ∷ bs) t e = by (binds b.0 x) refl e (first_has_index x bs t)
   where
-    by : (is : Bool) → binds b.0 x ≡ is → cond is (Some b.1) (told_first x bs) ≡ Some t → (told_first x bs ≡ Some t → IsCounted x bs t) → IsCounted x (b ∷ bs) t
+    by : (is : Bool) → binds b.0 x ≡ is → cond is (Some b.1) (told_first x bs) ≡ Some t → (told_first x bs ≡ Some t → HasIndex x bs t) → HasIndex x (b ∷ bs) t
     by true is e rest =
         let same : t ≡ b.1 = cc in
-        record { count_of = 0; counted = ap (λ k. cond k (Some 0) (option_map suc (count x (told_names bs)))) is; there = same }
+        record { index = 0; indexed = ap (λ k. cond k (Some 0) (option_map suc (index_of x (told_names bs)))) is; there = same }
     by false is e rest =
         let h = rest e in
         record {
-          count_of = suc h.count_of;
-          counted = ap (λ k. cond k (Some 0) (option_map suc (count x (told_names bs)))) is ∙ ap (option_map suc) h.counted;
+          index = suc h.index;
+          indexed = ap (λ k. cond k (Some 0) (option_map suc (index_of x (told_names bs)))) is ∙ ap (option_map suc) h.indexed;
           there = h.there;
         }
 
-counted_is_first : (x : Name) (bs : List Told) (k : ℕ) → count x (told_names bs) ≡ Some k → (t : Option Text) × (told_first x bs ≡ Some t)
-counted_is_first x [] k e = absurd cc
-counted_is_first x (b ∷ bs) k e = by (binds b.0 x) refl (count x (told_names bs)) e (counted_is_first x bs)
+indexed_is_first : (x : Name) (bs : List Told) (k : ℕ) → index_of x (told_names bs) ≡ Some k → (t : Option Text) × (told_first x bs ≡ Some t)
+indexed_is_first x [] k e = absurd cc
+indexed_is_first x (b ∷ bs) k e = by (binds b.0 x) refl (index_of x (told_names bs)) e (indexed_is_first x bs)
   where
     by : (is : Bool) → binds b.0 x ≡ is → (further : Option ℕ) → cond (binds b.0 x) (Some 0) (option_map suc further) ≡ Some k
         → ((j : ℕ) → further ≡ Some j → (t : Option Text) × (told_first x bs ≡ Some t)) → (t : Option Text) × (told_first x (b ∷ bs) ≡ Some t)
@@ -133,11 +133,11 @@ module _ (cs : List CommandTree) (d : Dialect) (n : ℕ) (bs : List Told) (m : B
   visible_entry e found =
       let x = string_bytes e.0 in
       let t = option_map (λ (s : String Global). string_bytes s) e.1 in
-      let h = first_is_counted x bs t (sym (each x) ∙ ap (option_map (option_map (λ (s : String Global). string_bytes s))) found) in
+      let h = first_has_index x bs t (sym (each x) ∙ ap (option_map (option_map (λ (s : String Global). string_bytes s))) found) in
       record {
-        count_of = h.count_of;
-        counted = ap (count x) (sym names) ∙ h.counted;
-        detail = subst (λ (o : Option Text). IsDetail cs n h.count_of o d) (sym h.there) (details h.count_of);
+        index = h.index;
+        indexed = ap (index_of x) (sym names) ∙ h.indexed;
+        detail = subst (λ (o : Option Text). IsDetail cs n h.index o d) (sym h.there) (details h.index);
         no_field = refl;
       }
 
@@ -146,9 +146,9 @@ module _ (cs : List CommandTree) (d : Dialect) (n : ℕ) (bs : List Told) (m : B
       All-map (λ i. IsVisible cs n i d) item_seen m.entries
       (λ k e lt. visible_entry (get_or m.entries k e) (btree_map_get_place string_cmp_total m k (get_or m.entries k e).0 (get_or m.entries k e).1 ordered (slice_get-get_or m.entries k e lt)))
 
-  every_name : (x : Name) (k : ℕ) → count x (names_in_sight cs n) ≡ Some k → Contains (map (λ i. i.label) (map item_seen m.entries)) x
-  every_name x k counted =
-      let h = counted_is_first x bs k (ap (count x) names ∙ counted) in
+  every_name : (x : Name) (k : ℕ) → index_of x (names_in_sight cs n) ≡ Some k → Contains (map (λ i. i.label) (map item_seen m.entries)) x
+  every_name x k indexed =
+      let h = indexed_is_first x bs k (ap (index_of x) names ∙ indexed) in
       by (get_by_text m x) refl (each x ∙ h.1)
     where
       by : (o : Option (Option (String Global))) → get_by_text m x ≡ o → {t : Option Text} → option_map (option_map (λ (s : String Global). string_bytes s)) o ≡ Some t

@@ -8,10 +8,10 @@ use Rattle.lam_syntax.specs.declared.terms.Prefix.{Prefix}
 use Rattle.lam_syntax.specs.declared.terms.Prefix.TheVariants as prefix
 use Rattle.lam_syntax.specs.Trees as tree
 use Rattle.lam_syntax.specs.Trees.{word, bound, TermTree, term_tree, TermNode, CommandTree, definition, declaration, evaluation, term_span}
-use Rattle.lam_scope.specs.Names.{Name, count}
+use Rattle.lam_scope.specs.Names.{Name, index_of}
 use Rattle.lam_scope.specs.Expansions.{Abbreviation, expansion}
 use Rattle.lam_scope.specs.Labels.{place_in}
-use Rattle.lam_scope.specs.Nameless.{use_counted, prefixed, nameless, nameless_node, nameless_fields, abbreviations_after, names_after}
+use Rattle.lam_scope.specs.Nameless.{use_indexed, prefixed, nameless, nameless_node, nameless_fields, abbreviations_after, names_after}
 use Rattle.lam_scope.specs.Places.{Scope, written, of_term, Place}
 use Rattle.lam_scope.specs.PlacedTerms.{no_word, PlacedTree, placed, term_of, parts_of, PlacedTrees, no_parts, part_first, one_part, two_parts, placed_at, letrec_function, placed_term, placed_parts, placed_fields, terms_in, terms_in_each, command_terms, scope_after, commands_terms, document_terms, tree_in, trees_in}
 use Rattle.lam_scope.specs.Tables.{table, place_row_numbered}
@@ -76,7 +76,7 @@ place_is bs xs s (term_tree r n) = refl
 real_is : (bs : List Abbreviation) (xs : List (Option Name)) (s : Scope) (t : TermTree) → IsReal (placed_term bs xs s t)
 real_is bs xs s (term_tree r n) = inl refl
 
-use_parts : (s : Scope) (x : Name) (k : Option ℕ) → [] ≡ part_places s (use_counted x k)
+use_parts : (s : Scope) (x : Name) (k : Option ℕ) → [] ≡ part_places s (use_indexed x k)
 use_parts s x None = refl
 use_parts s x (Some n) = refl
 
@@ -98,7 +98,7 @@ module _ (bs : List Abbreviation) where
   parts_are xs s tree.true_term = refl
   parts_are xs s tree.false_term = refl
   parts_are xs s tree.unit_term = refl
-  parts_are xs s (tree.variable (word x q)) = use_parts s x (count x xs)
+  parts_are xs s (tree.variable (word x q)) = use_parts s x (index_of x xs)
   parts_are xs s (tree.numeral (word x q)) = refl
   parts_are xs s (tree.lambda (bound b q) u t) = ap (λ (p : Place). p ∷ []) (place_is bs (b ∷ xs) (written (expansion bs u) ∷ s) t)
   parts_are xs s (tree.if_term c t u) =

@@ -17,7 +17,7 @@ use Rattle.lam_rules.specs.declared.rules.Dialect.{Dialect}
 use Rattle.lam_syntax.specs.Trees.{CommandTree}
 use Rattle.lam_syntax.specs.Answers.{pieces_of}
 use Rattle.lam_scope.specs.Labels.{place_in}
-use Rattle.lam_scope.specs.Names.{Name, count}
+use Rattle.lam_scope.specs.Names.{Name, index_of}
 use Rattle.lam_scope.specs.Nameless.{first_too_large}
 use Rattle.lam_scope.specs.Places.{Place}
 use Rattle.lam_scope.specs.PlacedTerms.{document_terms, term_of, tree_in, variable_at, projection_at}
@@ -129,27 +129,27 @@ abbrev pub names_in_sight : List CommandTree → ℕ → List (Option Name)
 names_in_sight commands n = (term_of (tree_in (document_terms commands) n)).names
 
 -- the least context entry of the binder with this de Bruijn index, as seen from the place
-abbrev pub IsEntryAt : Place → (count : ℕ) → Option Typ → Dialect → Type 0
+abbrev pub IsEntryAt : Place → (index : ℕ) → Option Typ → Dialect → Type 0
 IsEntryAt place k entry d = (g : Context) × AreLeastEntries place.scope g d × (entry ≡ get_or g k None)
 
 -- the detail of the binder with this de Bruijn index: its least entry as text; nothing if there is none, or a type of the commands is over the size limit
-pub data IsDetail : List CommandTree → (number count : ℕ) → Option Text → Dialect → Type 0 where
+pub data IsDetail : List CommandTree → (number index : ℕ) → Option Text → Dialect → Type 0 where
   of_entry : {commands : List CommandTree} {n k : ℕ} {d : Dialect} (entry : Option Typ)
       → IsSmall commands d → IsEntryAt (place_in commands n) k entry d → IsDetail commands n k (option_map text entry) d
   untold : {commands : List CommandTree} {n k : ℕ} {d : Dialect} (s : Span) → IsSizeFault commands s d → IsDetail commands n k None d
 
 -- an item is a name in scope at a term, with the detail of its innermost binder
 pub record IsVisible (commands : List CommandTree) (number : ℕ) (i : Item) (d : Dialect) : Type 0 where
-  pub count_of : ℕ
-  pub counted : count i.label (names_in_sight commands number) ≡ Some count_of
-  pub detail : IsDetail commands number count_of i.detail d
+  pub index : ℕ
+  pub indexed : index_of i.label (names_in_sight commands number) ≡ Some index
+  pub detail : IsDetail commands number index i.detail d
   pub no_field : i.is_field ≡ false
 
 -- exactly the names in scope at a term
 pub record AreNames (commands : List CommandTree) (number : ℕ) (items : List Item) (d : Dialect) : Type 0 where
   pub ascending : AreAscending items
   pub each : All (λ i. IsVisible commands number i d) items
-  pub every : (x : Name) (k : ℕ) → count x (names_in_sight commands number) ≡ Some k → Contains (map (λ i. i.label) items) x
+  pub every : (x : Name) (k : ℕ) → index_of x (names_in_sight commands number) ≡ Some k → Contains (map (λ i. i.label) items) x
 
 -- the touched word is a variable of the commands, the term with this number
 pub record IsOnVariable (commands : List CommandTree) (tokens : List Lexeme) (o : ℕ) (number : ℕ) : Type 0 where

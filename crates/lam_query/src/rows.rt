@@ -18,7 +18,7 @@ use lam_token::Span;
 /// the start of the piece, so a row stays valid when the piece moves.
 #[derive(Drop)]
 pub(crate) struct Row {
-    /// The length of the piece in bytes.
+    /// Where the piece ends, relative to its start like all offsets here: its length in bytes.
     pub(crate) end: usize,
     /// The lexical and syntactic diagnostics.
     pub(crate) syntax: Vec<Fault>,

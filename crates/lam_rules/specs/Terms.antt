@@ -13,7 +13,7 @@ mutual
     succ : (operand : Term) → Term
     pred : (operand : Term) → Term
     is_zero : (operand : Term) → Term
-    variable : (count : ℕ) → Term
+    variable : (index : ℕ) → Term
     free : (name : List ℕ) → Term
     lambda : (written : Option Typ) (body : Term) → Term
     apply : (function argument : Term) → Term

@@ -240,35 +240,35 @@ fn by_var(premises: &[TypeProof], entries: &Entries, term: &Core, ty: &Ty) -> bo
     if !premises.is_empty() {
         return false;
     }
-    let Core::Var(count) = term else {
+    let Core::Var(index) = term else {
         return false;
     };
-    is_entry(*count, entries, ty)
+    is_entry(*index, entries, ty)
 }
 
 /// Whether the entry of the variable with this index is this type.
-fn is_entry(count: usize, entries: &Entries, ty: &Ty) -> bool
-    ensures { IsTrue result ↔ IsEntry count (entries_of entries.now) (typ_of ty.now) }
+fn is_entry(index: usize, entries: &Entries, ty: &Ty) -> bool
+    ensures { IsTrue result ↔ IsEntry index (entries_of entries.now) (typ_of ty.now) }
 {
     match entries {
-        Entries::Given(outer) => is_given_entry(count, outer, ty),
+        Entries::Given(outer) => is_given_entry(index, outer, ty),
         Entries::Under(inner, rest) => {
-            if count == 0 {
+            if index == 0 {
                 return same(inner, ty);
             }
-            is_entry(count - 1, rest, ty)
+            is_entry(index - 1, rest, ty)
         }
     }
 }
 
 /// Whether the entry of the variable with this index is this type, given entries ordered from the outermost binder.
-fn is_given_entry(count: usize, context: &[Option<Ty>], ty: &Ty) -> bool
-    ensures { IsTrue result ↔ IsEntry count (context_of context.now) (typ_of ty.now) }
+fn is_given_entry(index: usize, context: &[Option<Ty>], ty: &Ty) -> bool
+    ensures { IsTrue result ↔ IsEntry index (context_of context.now) (typ_of ty.now) }
 {
-    if context.len() <= count {
+    if context.len() <= index {
         return false;
     }
-    let entry = &context[context.len() - 1 - count];
+    let entry = &context[context.len() - 1 - index];
     match entry {
         Some(given) => same(given, ty),
         None => false,

@@ -14,9 +14,9 @@ use Rattle.lam_syntax.specs.declared.terms.Prefix.TheVariants as prefix
 use Rattle.lam_syntax.specs.Trees as tree
 use Rattle.lam_syntax.specs.Trees.{word, bound, TypeTree, type_tree, TypeNode, bool, nat, unit, top, named, arrow, record_type, TypeFields, no_type_fields, type_field, joined_types, TermTree, term_tree, TermNode, CommandTree, definition, declaration, evaluation}
 use Rattle.lam_scope.specs.declared.type_fault.TypeFault.TheVariants.{UnboundTypeName, RepeatedLabel}
-use Rattle.lam_scope.specs.Names.{Name, count}
+use Rattle.lam_scope.specs.Names.{Name, index_of}
 use Rattle.lam_scope.specs.Expansions.{Abbreviation, stands_for, meaning, is_bound, has_label, both, expansion, expansion_of_node, expansion_of_fields, label_fault, type_faults, node_faults, field_faults}
-use Rattle.lam_scope.specs.Nameless.{use_counted, prefixed, nameless, nameless_node, nameless_fields, statements, written_in, written_in_node, written_in_fields, faults_in, faults}
+use Rattle.lam_scope.specs.Nameless.{use_indexed, prefixed, nameless, nameless_node, nameless_fields, statements, written_in, written_in_node, written_in_fields, faults_in, faults}
 use Rattle.lam_scope.specs.EachWritten.{EachWrittenInTerm, EachWrittenInTerms}
 use Rattle.lam_scope.specs.Expanded.{HasExpansion, IsExpanded}
 use Rattle.lam_scope.proofs.Forms.{faults_in-append}
@@ -257,7 +257,7 @@ in_first bs u us e = none_left (type_faults bs u) (faults_in bs us) e
 in_rest : (bs : List Abbreviation) (u : TypeTree) (us : List TypeTree) → faults_in bs (u ∷ us) ≡ [] → faults_in bs us ≡ []
 in_rest bs u us e = none_right (type_faults bs u) (faults_in bs us) e
 
-use_expands : (x : Name) (o : Option ℕ) → HasExpansions (use_counted x o)
+use_expands : (x : Name) (o : Option ℕ) → HasExpansions (use_indexed x o)
 use_expands x None = tt
 use_expands x (Some n) = tt
 
@@ -281,7 +281,7 @@ mutual
   node_expands bs h xs tree.true_term e = tt
   node_expands bs h xs tree.false_term e = tt
   node_expands bs h xs tree.unit_term e = tt
-  node_expands bs h xs (tree.variable (word x s)) e = use_expands x (count x xs)
+  node_expands bs h xs (tree.variable (word x s)) e = use_expands x (index_of x xs)
   node_expands bs h xs (tree.numeral (word x s)) e = tt
   node_expands bs h xs (tree.lambda (bound b s) u t) e = (type_there bs h u (in_first bs u (written_in t) e), term_expands bs h (b ∷ xs) t (in_rest bs u (written_in t) e))
   node_expands bs h xs (tree.if_term c t u) e =

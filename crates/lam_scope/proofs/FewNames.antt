@@ -2,7 +2,7 @@
 use Rattle.std.proofs.Common.{◌≡◌, ℕ, ◌+◌, ◌-◌, ◌<◌, ◌≤◌, arith, true, false, List, [], ◌∷◌, ◌++◌, length, get_or, suc, refl, ap, ◌∙◌, Option, Some, None, Bor, drop}
 use Rattle.std.specs.Prelude.{if◌then◌else◌}
 use Rattle.std.specs.Option.{option_map}
-use Rattle.lam_scope.specs.Names.{Name, binds, count}
+use Rattle.lam_scope.specs.Names.{Name, binds, index_of}
 use Rattle.lam_scope.specs.inner.FewNames.{few_names}
 use Rattle.lam_scope.proofs.StackViews.{stacked-push, stacked-drop, stacked-drop_all}
 
@@ -11,7 +11,7 @@ few_names-push stack b = stacked-push (option_map (λ x. x.now)) [] stack b
 
 pub ruleset entered = (few_names-push)
 
--- the count of a use, by what is found behind the first binders
+-- the index of a use, by what is found behind the first binders
 
 abbrev pub found_behind : ℕ → Option ℕ → Option ℕ
 found_behind n o = option_map (λ m. n + m) o
@@ -27,21 +27,21 @@ behind_one n (Some m) = ap (λ k. Some k) (omega arith)
 here_found : (n : ℕ) → found_behind n (Some 0) ≡ Some n
 here_found n = ap (λ k. Some k) (omega arith)
 
-pub counted_further : (x : Name) (stack : List (Option (Bor (List ℕ)))) (n : ℕ) (b : Option (Bor (List ℕ))) → n < length stack
+pub found_further : (x : Name) (stack : List (Option (Bor (List ℕ)))) (n : ℕ) (b : Option (Bor (List ℕ))) → n < length stack
     → ((d : Option (Bor (List ℕ))) → b ≡ get_or stack (length stack - 1 - n) d) → binds (option_map (λ y. y.now) b) x ≡ false
-    → found_behind n (count x (drop n (few_names stack))) ≡ found_behind (n + 1) (count x (drop (n + 1) (few_names stack)))
-counted_further x stack n b lt is other =
-    ap (λ bs. found_behind n (count x bs)) (stacked-drop (option_map (λ y. y.now)) stack n b lt is)
-    ∙ ap (λ v. found_behind n (if v then Some 0 else option_map suc (count x (drop (n + 1) (few_names stack))))) other
-    ∙ behind_one n (count x (drop (n + 1) (few_names stack)))
+    → found_behind n (index_of x (drop n (few_names stack))) ≡ found_behind (n + 1) (index_of x (drop (n + 1) (few_names stack)))
+found_further x stack n b lt is other =
+    ap (λ bs. found_behind n (index_of x bs)) (stacked-drop (option_map (λ y. y.now)) stack n b lt is)
+    ∙ ap (λ v. found_behind n (if v then Some 0 else option_map suc (index_of x (drop (n + 1) (few_names stack))))) other
+    ∙ behind_one n (index_of x (drop (n + 1) (few_names stack)))
 
-pub counted_here : (x : Name) (stack : List (Option (Bor (List ℕ)))) (n : ℕ) (b : Option (Bor (List ℕ))) → n < length stack
+pub found_here : (x : Name) (stack : List (Option (Bor (List ℕ)))) (n : ℕ) (b : Option (Bor (List ℕ))) → n < length stack
     → ((d : Option (Bor (List ℕ))) → b ≡ get_or stack (length stack - 1 - n) d) → binds (option_map (λ y. y.now) b) x ≡ true
-    → found_behind n (count x (drop n (few_names stack))) ≡ Some n
-counted_here x stack n b lt is same =
-    ap (λ bs. found_behind n (count x bs)) (stacked-drop (option_map (λ y. y.now)) stack n b lt is)
-    ∙ ap (λ v. found_behind n (if v then Some 0 else option_map suc (count x (drop (n + 1) (few_names stack))))) same
+    → found_behind n (index_of x (drop n (few_names stack))) ≡ Some n
+found_here x stack n b lt is same =
+    ap (λ bs. found_behind n (index_of x bs)) (stacked-drop (option_map (λ y. y.now)) stack n b lt is)
+    ∙ ap (λ v. found_behind n (if v then Some 0 else option_map suc (index_of x (drop (n + 1) (few_names stack))))) same
     ∙ here_found n
 
-pub counted_nowhere : (x : Name) (stack : List (Option (Bor (List ℕ)))) (n : ℕ) → length stack ≤ n → found_behind n (count x (drop n (few_names stack))) ≡ None
-counted_nowhere x stack n le = ap (λ bs. found_behind n (count x bs)) (stacked-drop_all (option_map (λ y. y.now)) stack n le)
+pub found_nowhere : (x : Name) (stack : List (Option (Bor (List ℕ)))) (n : ℕ) → length stack ≤ n → found_behind n (index_of x (drop n (few_names stack))) ≡ None
+found_nowhere x stack n le = ap (λ bs. found_behind n (index_of x bs)) (stacked-drop_all (option_map (λ y. y.now)) stack n le)

@@ -17,7 +17,7 @@ use Rattle.lam_syntax.specs.declared.terms.TmField.{TmField}
 use Rattle.lam_syntax.specs.Views.{fields_of}
 use Rattle.lam_scope.specs.Expansions.{Abbreviation, node_limit, expansion, type_faults, is_over_limit, capped_nodes, is_capped}
 use Rattle.lam_scope.specs.Nameless.{faults_in, first_over_limit}
-use Rattle.lam_scope.specs.Counted.{counted_fields}
+use Rattle.lam_scope.specs.Indexed.{indexed_fields}
 use Rattle.lam_scope.specs.Tables.{TextUse}
 use Rattle.lam_scope.proofs.Walks.{fields_of-drop}
 
@@ -36,7 +36,7 @@ joined_terms-push [] f gs = refl
 joined_terms-push (g ∷ fs) f gs = ap (λ r. term_field (string_bytes g.0) (term_of g.1) r) (joined_terms-push fs f gs)
 
 pub forms_all : (bs : List Abbreviation) (us : List TextUse) (forms : List (String Global × Core)) (fs : List TmField) (i : ℕ) (all : TermFields) → length fs ≤ i
-    → joined_terms (terms_of forms) (counted_fields bs (fields_of (drop i fs)) us) ≡ all → terms_of forms ≡ all
+    → joined_terms (terms_of forms) (indexed_fields bs (fields_of (drop i fs)) us) ≡ all → terms_of forms ≡ all
 forms_all bs us forms fs i all le so_far = sym (joined_terms-none (terms_of forms)) ∙ (rw (drop_all i fs le) at so_far)
 
 -- the written types of a term

@@ -8,7 +8,7 @@ use Rattle.std.proofs.Math.Bool.{or-false, or_assoc}
 use Rattle.std.proofs.lemmas.Slice.Eq.{bytes_eq-Decides}
 use Rattle.lam_syntax.specs.Trees.{TypeTree}
 use Rattle.lam_syntax.proofs.Shapes.{type_node_of-Bool, type_node_of-Nat, type_node_of-Unit, type_node_of-Top, type_node_of-Named, type_node_of-Arrow, type_node_of-Record, term_node_of-True, term_node_of-False, term_node_of-Unit, term_node_of-Variable, term_node_of-Numeral, term_node_of-Lambda, term_node_of-If, term_node_of-Let, term_node_of-Letrec, term_node_of-Prefixed, term_node_of-Apply, term_node_of-Project, term_node_of-Ascribe, term_node_of-Record}
-use Rattle.lam_scope.specs.Names.{Name, binds, count}
+use Rattle.lam_scope.specs.Names.{Name, binds, index_of}
 use Rattle.lam_scope.specs.FreeNames.{without, each_once, free_type_names_in, free_type_names_in_types}
 use Rattle.lam_scope.specs.inner.FoundNames.{letters_of, is_among, with_name, found_after, free_under}
 use Rattle.lam_scope.proofs.Walks.{fields_of-drop}
@@ -42,19 +42,19 @@ type_names-append (u ∷ us) vs = ap (λ xs. free_type_names_in u ++ xs) (type_n
 
 -- one use
 
-some_counted : (c : Bool) (o : Option ℕ) → is_some (if c then Some 0 else option_map suc o) ≡ c || is_some o
-some_counted true o = refl
-some_counted false None = refl
-some_counted false (Some n) = refl
+some_indexed : (c : Bool) (o : Option ℕ) → is_some (if c then Some 0 else option_map suc o) ≡ c || is_some o
+some_indexed true o = refl
+some_indexed false None = refl
+some_indexed false (Some n) = refl
 
-one_left : (bs : List (Option Name)) (c : Bool) (x : Name) → free_under bs (x ∷ []) ≡ (if is_some (count x bs) then [] else x ∷ [])
-    → free_under bs (if c then [] else x ∷ []) ≡ (if c || is_some (count x bs) then [] else x ∷ [])
+one_left : (bs : List (Option Name)) (c : Bool) (x : Name) → free_under bs (x ∷ []) ≡ (if is_some (index_of x bs) then [] else x ∷ [])
+    → free_under bs (if c then [] else x ∷ []) ≡ (if c || is_some (index_of x bs) then [] else x ∷ [])
 one_left bs true x e = free_under-none bs
 one_left bs false x e = e
 
-pub free_under-one : (bs : List (Option Name)) (x : Name) → free_under bs (x ∷ []) ≡ (if is_some (count x bs) then [] else x ∷ [])
+pub free_under-one : (bs : List (Option Name)) (x : Name) → free_under bs (x ∷ []) ≡ (if is_some (index_of x bs) then [] else x ∷ [])
 free_under-one [] x = refl
-free_under-one (b ∷ bs) x = one_left bs (binds b x) x (free_under-one bs x) ∙ ap (λ c. if c then [] else x ∷ []) (sym (some_counted (binds b x) (count x bs)))
+free_under-one (b ∷ bs) x = one_left bs (binds b x) x (free_under-one bs x) ∙ ap (λ c. if c then [] else x ∷ []) (sym (some_indexed (binds b x) (index_of x bs)))
 
 -- one more name
 

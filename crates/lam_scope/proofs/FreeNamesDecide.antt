@@ -12,9 +12,9 @@ use Rattle.lam_syntax.specs.declared.terms.Prefix.TheVariants as prefix
 use Rattle.lam_syntax.specs.Trees as tree
 use Rattle.lam_syntax.specs.Trees.{word, bound, TypeTree, type_tree, TypeNode, named, arrow, record_type, TypeFields, no_type_fields, type_field, joined_types, TermTree, term_tree, TermNode, CommandTree, definition, declaration, evaluation, type_span}
 use Rattle.lam_scope.specs.declared.type_fault.TypeFault.TheVariants.{UnboundTypeName}
-use Rattle.lam_scope.specs.Names.{Name, binds, count}
+use Rattle.lam_scope.specs.Names.{Name, binds, index_of}
 use Rattle.lam_scope.specs.Expansions.{Abbreviation, meaning, is_bound, has_label, both, expansion, expansion_of_node, expansion_of_fields, label_fault, type_faults, node_faults, field_faults, is_over_limit}
-use Rattle.lam_scope.specs.Nameless.{use_counted, prefixed, nameless, nameless_node, nameless_fields, statement, written_in, written_in_node, written_in_fields, written_in_command, faults_in, first_over_limit}
+use Rattle.lam_scope.specs.Nameless.{use_indexed, prefixed, nameless, nameless_node, nameless_fields, statement, written_in, written_in_node, written_in_fields, written_in_command, faults_in, first_over_limit}
 use Rattle.lam_scope.specs.FreeNames.{without, free_in, free_in_node, free_in_fields, free_type_names_in, free_type_names_in_node, free_type_names_in_fields, free_type_names_in_types, free_in_command, free_type_names_in_command}
 use Rattle.lam_scope.specs.Meanings.{entry_named, MeanTheSame, StandForTheSame}
 use Rattle.lam_scope.specs.Alike.{AreAlike, AreAlikeTerms, AreAlikeStatements}
@@ -96,16 +96,16 @@ module _ (bs cs : List Abbreviation) where
 
 -- ---- a use of a name
 
--- a count comes to an entry, or there is neither
+-- an index comes to an entry, or there is neither
 abbrev ComesTo : Context → Option ℕ → Option (Option Typ) → Type 0
 ComesTo g None None = Unit {0}
 ComesTo g (Some n) (Some entry) = slice_get g n ≡ Some entry
 ComesTo g o e = ⊥
 
-count_comes_to : (x : Name) (xs : List (Option Name)) (g : Context) → length xs ≡ length g → ComesTo g (count x xs) (entry_named x xs g)
-count_comes_to x [] g sizes = tt
-count_comes_to x (b ∷ xs) [] sizes = absurd (omega (arith, sizes))
-count_comes_to x (b ∷ xs) (entry ∷ g) sizes = pick (binds b x) (count x xs) (entry_named x xs g) (count_comes_to x xs g (omega (arith, sizes)))
+index_comes_to : (x : Name) (xs : List (Option Name)) (g : Context) → length xs ≡ length g → ComesTo g (index_of x xs) (entry_named x xs g)
+index_comes_to x [] g sizes = tt
+index_comes_to x (b ∷ xs) [] sizes = absurd (omega (arith, sizes))
+index_comes_to x (b ∷ xs) (entry ∷ g) sizes = pick (binds b x) (index_of x xs) (entry_named x xs g) (index_comes_to x xs g (omega (arith, sizes)))
   where
     pick : (c : Bool) (o : Option ℕ) (e : Option (Option Typ)) → ComesTo g o e
         → ComesTo (entry ∷ g) (if c then Some 0 else option_map suc o) (if c then Some entry else e)
@@ -115,19 +115,19 @@ count_comes_to x (b ∷ xs) (entry ∷ g) sizes = pick (binds b x) (count x xs) 
     pick false (Some n) None comes = comes
     pick false (Some n) (Some other) comes = comes
 
-alike_counts : (x : Name) (g : Context) (p : Option ℕ) (h : Context) (q : Option ℕ) (e : Option (Option Typ)) → ComesTo g p e → ComesTo h q e
-    → AreAlike g (use_counted x p) h (use_counted x q)
-alike_counts x g None h None None comes other = refl
-alike_counts x g None h (Some m) None comes other = absurd other
-alike_counts x g None h q (Some entry) comes other = absurd comes
-alike_counts x g (Some n) h q None comes other = absurd comes
-alike_counts x g (Some n) h None (Some entry) comes other = absurd other
-alike_counts x g (Some n) h (Some m) (Some entry) comes other = comes ∙ sym other
+alike_indices : (x : Name) (g : Context) (p : Option ℕ) (h : Context) (q : Option ℕ) (e : Option (Option Typ)) → ComesTo g p e → ComesTo h q e
+    → AreAlike g (use_indexed x p) h (use_indexed x q)
+alike_indices x g None h None None comes other = refl
+alike_indices x g None h (Some m) None comes other = absurd other
+alike_indices x g None h q (Some entry) comes other = absurd comes
+alike_indices x g (Some n) h q None comes other = absurd comes
+alike_indices x g (Some n) h None (Some entry) comes other = absurd other
+alike_indices x g (Some n) h (Some m) (Some entry) comes other = comes ∙ sym other
 
 alike_use : (x : Name) (xs : List (Option Name)) (g : Context) (ys : List (Option Name)) (h : Context) → length xs ≡ length g → length ys ≡ length h
-    → entry_named x xs g ≡ entry_named x ys h → AreAlike g (use_counted x (count x xs)) h (use_counted x (count x ys))
+    → entry_named x xs g ≡ entry_named x ys h → AreAlike g (use_indexed x (index_of x xs)) h (use_indexed x (index_of x ys))
 alike_use x xs g ys h m n same =
-    alike_counts x g (count x xs) h (count x ys) (entry_named x xs g) (count_comes_to x xs g m) (subst (ComesTo h (count x ys)) (sym same) (count_comes_to x ys h n))
+    alike_indices x g (index_of x xs) h (index_of x ys) (entry_named x xs g) (index_comes_to x xs g m) (subst (ComesTo h (index_of x ys)) (sym same) (index_comes_to x ys h n))
 
 -- ---- under a binder
 

@@ -7,7 +7,7 @@ use Rattle.lam_syntax.specs.Trees as tree
 use Rattle.lam_syntax.specs.Trees.{word, bound, TypeTree, type_tree, TypeNode, named, arrow, record_type, TypeFields, no_type_fields, type_field, TermTree, term_tree, TermNode, CommandTree, definition, declaration, evaluation, term_span}
 use Rattle.lam_scope.specs.declared.numbers.Origin.{Origin}
 use Rattle.lam_scope.specs.declared.numbers.Origin.TheVariants.{Declaration, TypeName}
-use Rattle.lam_scope.specs.Names.{Name, count}
+use Rattle.lam_scope.specs.Names.{Name, index_of}
 use Rattle.lam_scope.specs.Sights.{lambda_at, term_at}
 use Rattle.lam_scope.specs.Tables.{TextBinder, TextUse, Table, ◌⊕◌, Entry, entry, entry_names, binder_row, use_row, place_row, root, behind, roots, below, binders_in, type_uses, node_uses, field_uses, term_table, node_table, fields_table, letrec_rows, commands_table, table, binder_in}
 use Rattle.lam_scope.specs.Forms.{use_form, named_form, arrow_form, record_type_form, type_field_form, type_form, type_node_form, type_field_forms, variable_form, lambda_form, if_form, let_form, letrec_form, prefixed_form, apply_form, project_form, ascribe_form, record_form, field_form, term_form, node_form, field_forms, definition_form, declaration_form, abbreviation_form, evaluation_form, forms_from}
@@ -89,7 +89,7 @@ module _ (b : ℕ) (new : Name) (bs : List TextBinder) where
   later es = entry_names (renamed_entries b new es)
 
   use_kept : (n : ℕ) (x : Name) (s : Span) (es : List Entry) → AreInSight bs n es
-      → Just kept (use_row x s es) (use_form (renamed_use b new es x) (count (renamed_use b new es x) (later es)) ≡ use_form x (count x (entry_names es)))
+      → Just kept (use_row x s es) (use_form (renamed_use b new es x) (index_of (renamed_use b new es x) (later es)) ≡ use_form x (index_of x (entry_names es)))
   use_kept n x s es sight = (
     (λ same. and_both _ true (kept_if_form b new bs n x s es sight same) refl),
     (λ e. form_if_kept b new bs n x s es sight (and_parts _ true e).0),

@@ -20,7 +20,7 @@ pub mod Slices
 pub mod TableRows
 pub mod TokenLists
 pub mod UseChains
-pub mod CountedForms
+pub mod IndexedForms
 pub mod Reading
 pub mod PlaceCounts
 pub mod BinderRows

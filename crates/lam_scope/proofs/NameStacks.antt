@@ -8,7 +8,7 @@ use Rattle.std.proofs.lemmas.Map.Text.{hash_map_updates_str}
 use Rattle.std.specs.Str.{bytes_eq}
 use Rattle.std.proofs.lemmas.Slice.Eq.{bytes_eq-Decides}
 use Rattle.lam_scope.specs.declared.names.Named.{Named}
-use Rattle.lam_scope.specs.Names.{Name, binds, count}
+use Rattle.lam_scope.specs.Names.{Name, binds, index_of}
 use Rattle.lam_scope.specs.Stacks.{stacked, outside}
 use Rattle.lam_scope.proofs.StackViews.{stacked-push, stacked-popped}
 use Rattle.lam_scope.specs.inner.NameStacks.{name_in, names_of, Standing, nowhere, with_binder, standing_on, standing, at_name, reset, AreShadowed, NameIndex, flattened, found_in, IsNameStack}
@@ -126,38 +126,38 @@ pub some_is_found : (stack more : List Named) (before : NameIndex) (b : Named) (
 some_is_found stack more before b x is pushed name =
     subst IsSome (sym (top_is_found stack more before b x.now is pushed (ap (option_map (λ z. z.now)) name))) refl
 
--- the count of a use
+-- the index of a use
 
 abbrev IsWithin : ℕ → Option ℕ → Type 0
 IsWithin n None = Unit {0}
 IsWithin n (Some i) = i < n
 
-abbrev pub counted : ℕ → Option ℕ → Option ℕ
-counted n None = None
-counted n (Some i) = Some (n - 1 - i)
+abbrev pub indexed : ℕ → Option ℕ → Option ℕ
+indexed n None = None
+indexed n (Some i) = Some (n - 1 - i)
 
 within_more : (v : Bool) (n : ℕ) (o : Option ℕ) → IsWithin n o → IsWithin (n + 1) (if v then Some n else o)
 within_more true n o h = omega arith
 within_more false n None h = tt
 within_more false n (Some i) h = omega arith
 
-counted_more : (v : Bool) (n : ℕ) (o p : Option ℕ) → IsWithin n o → p ≡ counted n o → (if v then Some 0 else option_map suc p) ≡ counted (n + 1) (if v then Some n else o)
-counted_more true n o p h e = ap (λ k. Some k) (omega arith)
-counted_more false n None p h e = ap (option_map suc) e
-counted_more false n (Some i) p h e = ap (option_map suc) e ∙ ap (λ k. Some k) (omega arith)
+indexed_more : (v : Bool) (n : ℕ) (o p : Option ℕ) → IsWithin n o → p ≡ indexed n o → (if v then Some 0 else option_map suc p) ≡ indexed (n + 1) (if v then Some n else o)
+indexed_more true n o p h e = ap (λ k. Some k) (omega arith)
+indexed_more false n None p h e = ap (option_map suc) e
+indexed_more false n (Some i) p h e = ap (option_map suc) e ∙ ap (λ k. Some k) (omega arith)
 
-count_on : (x : Name) (n : ℕ) (bs : List (Option Name)) (f : Standing) (stack : List Named) → IsWithin n (f x) → count x bs ≡ counted n (f x)
-    → count x (stacked name_in bs stack) ≡ counted (n + length stack) (standing_on f n stack x)
-count_on x n bs f [] h e = let same : n ≡ n + length {A = Named} [] = omega arith in e ∙ ap (λ k. counted k (f x)) same
-count_on x n bs f (b ∷ stack) h e =
+index_on : (x : Name) (n : ℕ) (bs : List (Option Name)) (f : Standing) (stack : List Named) → IsWithin n (f x) → index_of x bs ≡ indexed n (f x)
+    → index_of x (stacked name_in bs stack) ≡ indexed (n + length stack) (standing_on f n stack x)
+index_on x n bs f [] h e = let same : n ≡ n + length {A = Named} [] = omega arith in e ∙ ap (λ k. indexed k (f x)) same
+index_on x n bs f (b ∷ stack) h e =
     let same : n + 1 + length stack ≡ n + length (b ∷ stack) = omega arith in
-    count_on x (n + 1) (name_in b ∷ bs) (with_binder (name_in b) n f) stack (within_more (binds (name_in b) x) n (f x) h) (counted_more (binds (name_in b) x) n (f x) (count x bs) h e)
-    ∙ ap (λ k. counted k (standing_on (with_binder (name_in b) n f) (n + 1) stack x)) same
+    index_on x (n + 1) (name_in b ∷ bs) (with_binder (name_in b) n f) stack (within_more (binds (name_in b) x) n (f x) h) (indexed_more (binds (name_in b) x) n (f x) (index_of x bs) h e)
+    ∙ ap (λ k. indexed k (standing_on (with_binder (name_in b) n f) (n + 1) stack x)) same
 
-pub count_standing : (stack : List Named) (index : NameIndex) (x : Name) → IsNameStack stack index → count x (names_of stack) ≡ counted (length stack) (found_in index x)
-count_standing stack index x is =
+pub index_standing : (stack : List Named) (index : NameIndex) (x : Name) → IsNameStack stack index → index_of x (names_of stack) ≡ indexed (length stack) (found_in index x)
+index_standing stack index x is =
     let same : 0 + length stack ≡ length stack = omega arith in
-    count_on x 0 [] nowhere stack tt refl ∙ (λ i. counted (same i) (sym (is.found x) i))
+    index_on x 0 [] nowhere stack tt refl ∙ (λ i. indexed (same i) (sym (is.found x) i))
 
 within_on : (x : Name) (n : ℕ) (f : Standing) (stack : List Named) → IsWithin n (f x) → IsWithin (n + length stack) (standing_on f n stack x)
 within_on x n f [] h = let same : n ≡ n + length {A = Named} [] = omega arith in subst (λ k. IsWithin k (f x)) same h

@@ -7,12 +7,12 @@ use Rattle.std.proofs.lemmas.Slice.Eq.{bytes_eq-Decides}
 use lib.ListN.{get_or-append}
 use lib.Seq.{get_or-append_seam}
 use Rattle.lam_token.specs.declared.span.Span.{Span}
-use Rattle.lam_scope.specs.Names.{Name, binds, count}
+use Rattle.lam_scope.specs.Names.{Name, binds, index_of}
 use Rattle.lam_scope.specs.Tables.{TextBinder, Entry, entry, entry_names, innermost, bound_to, use_of, free_name, binder_in, is_number}
 use Rattle.lam_scope.specs.Forms.{unbound, use_form}
 use Rattle.lam_scope.specs.Renames.{renamed_use, renamed_binder}
 use Rattle.lam_scope.specs.inner.Bearers.{bears, told_of, bearer, bearers_behind, bearers, name_by, takes, is_answer, keeps}
-use Rattle.lam_scope.proofs.Lookups.{unbound_by_count}
+use Rattle.lam_scope.proofs.Lookups.{unbound_by_index}
 use Rattle.lam_scope.proofs.UseChains.{same_number}
 
 -- the binders in sight as they are then
@@ -175,7 +175,7 @@ module _ (b : ℕ) (new : Name) (bs : List TextBinder) where
       by outside None differs = outside differs
       by outside (Some y) differs = step outside (e.answer == b) (bytes_eq y x) y refl refl differs
 
--- ---- one binder is found just where one count is
+-- ---- one binder is found just where one index is
 
 abbrev Descend : ℕ → List Entry → Type 0
 Descend n [] = Unit {0}
@@ -215,35 +215,35 @@ not_first None e = cc
 not_first (Some n) e = cc
 
 module _ (b : ℕ) (new x y : Name) where
-  counts_agree : (n : ℕ) (es : List Entry) → Descend n es → bound_to x (renamed_entries b new es) ≡ bound_to y es → count x (entry_names (renamed_entries b new es)) ≡ count y (entry_names es)
-  counts_agree n [] h e = refl
-  counts_agree n (f ∷ es) h e = by (λ same. counts_agree f.answer es h.1 same) (binds (renamed_binder b new f.answer f.name) x) (binds f.name y) e
+  indices_agree : (n : ℕ) (es : List Entry) → Descend n es → bound_to x (renamed_entries b new es) ≡ bound_to y es → index_of x (entry_names (renamed_entries b new es)) ≡ index_of y (entry_names es)
+  indices_agree n [] h e = refl
+  indices_agree n (f ∷ es) h e = by (λ same. indices_agree f.answer es h.1 same) (binds (renamed_binder b new f.answer f.name) x) (binds f.name y) e
     where
-      by : (bound_to x (renamed_entries b new es) ≡ bound_to y es → count x (entry_names (renamed_entries b new es)) ≡ count y (entry_names es)) → (c d : Bool) → (if c then Some f.answer else bound_to x (renamed_entries b new es)) ≡ (if d then Some f.answer else bound_to y es)
-          → (if c then Some 0 else option_map suc (count x (entry_names (renamed_entries b new es)))) ≡ (if d then Some 0 else option_map suc (count y (entry_names es)))
+      by : (bound_to x (renamed_entries b new es) ≡ bound_to y es → index_of x (entry_names (renamed_entries b new es)) ≡ index_of y (entry_names es)) → (c d : Bool) → (if c then Some f.answer else bound_to x (renamed_entries b new es)) ≡ (if d then Some f.answer else bound_to y es)
+          → (if c then Some 0 else option_map suc (index_of x (entry_names (renamed_entries b new es)))) ≡ (if d then Some 0 else option_map suc (index_of y (entry_names es)))
       by outside true true same = refl
       by outside true false same = absurd (never_here f.answer y es h.1 same)
       by outside false true same = absurd (never_here f.answer x (renamed_entries b new es) (renamed_descend b new f.answer es h.1) (sym same))
       by outside false false same = ap (option_map suc) (outside same)
 
-  binders_agree : (es : List Entry) → count x (entry_names (renamed_entries b new es)) ≡ count y (entry_names es) → bound_to x (renamed_entries b new es) ≡ bound_to y es
+  binders_agree : (es : List Entry) → index_of x (entry_names (renamed_entries b new es)) ≡ index_of y (entry_names es) → bound_to x (renamed_entries b new es) ≡ bound_to y es
   binders_agree [] e = refl
   binders_agree (f ∷ es) e = by (λ same. binders_agree es same) (binds (renamed_binder b new f.answer f.name) x) (binds f.name y) e
     where
-      by : (count x (entry_names (renamed_entries b new es)) ≡ count y (entry_names es) → bound_to x (renamed_entries b new es) ≡ bound_to y es) → (c d : Bool) → (if c then Some 0 else option_map suc (count x (entry_names (renamed_entries b new es)))) ≡ (if d then Some 0 else option_map suc (count y (entry_names es)))
+      by : (index_of x (entry_names (renamed_entries b new es)) ≡ index_of y (entry_names es) → bound_to x (renamed_entries b new es) ≡ bound_to y es) → (c d : Bool) → (if c then Some 0 else option_map suc (index_of x (entry_names (renamed_entries b new es)))) ≡ (if d then Some 0 else option_map suc (index_of y (entry_names es)))
           → (if c then Some f.answer else bound_to x (renamed_entries b new es)) ≡ (if d then Some f.answer else bound_to y es)
       by outside true true same = refl
-      by outside true false same = absurd (not_first (count y (entry_names es)) same)
-      by outside false true same = absurd (not_first (count x (entry_names (renamed_entries b new es))) (sym same))
+      by outside true false same = absurd (not_first (index_of y (entry_names es)) same)
+      by outside false true same = absurd (not_first (index_of x (entry_names (renamed_entries b new es))) (sym same))
       by outside false false same = outside (suc_same _ _ same)
 
 -- ---- the form of a use
 
-counts_of_forms : (x y : Name) (o p : Option ℕ) → use_form x o ≡ use_form y p → o ≡ p
-counts_of_forms x y None None e = refl
-counts_of_forms x y (Some m) (Some n) e = ap Some cc
-counts_of_forms x y None (Some n) e = cc
-counts_of_forms x y (Some m) None e = cc
+indices_of_forms : (x y : Name) (o p : Option ℕ) → use_form x o ≡ use_form y p → o ≡ p
+indices_of_forms x y None None e = refl
+indices_of_forms x y (Some m) (Some n) e = ap Some cc
+indices_of_forms x y None (Some n) e = cc
+indices_of_forms x y (Some m) None e = cc
 
 module _ (b : ℕ) (new : Name) (bs : List TextBinder) (n : ℕ) (x : Name) (s : Span) (es : List Entry) (sight : AreInSight bs n es) where
   abbrev told : Name
@@ -280,17 +280,17 @@ module _ (b : ℕ) (new : Name) (bs : List TextBinder) (n : ℕ) (x : Name) (s :
       by false is = refl
 
   -- a use is kept just where it has the form that it had
-  pub form_if_kept : keeps b new bs (bearers b new bs) (use_of x s es) ≡ true → use_form (renamed_use b new es x) (count (renamed_use b new es x) (entry_names (renamed_entries b new es))) ≡ use_form x (count x (entry_names es))
-  form_if_kept is = by (count x (entry_names es)) refl
+  pub form_if_kept : keeps b new bs (bearers b new bs) (use_of x s es) ≡ true → use_form (renamed_use b new es x) (index_of (renamed_use b new es x) (entry_names (renamed_entries b new es))) ≡ use_form x (index_of x (entry_names es))
+  form_if_kept is = by (index_of x (entry_names es)) refl
     where
-      counts : count told (entry_names (renamed_entries b new es)) ≡ count x (entry_names es)
-      counts = counts_agree b new told x n es (sight_descends bs n es sight) (bound_if_kept is)
+      indices : index_of told (entry_names (renamed_entries b new es)) ≡ index_of x (entry_names es)
+      indices = indices_agree b new told x n es (sight_descends bs n es sight) (bound_if_kept is)
 
-      by : (o : Option ℕ) → count x (entry_names es) ≡ o → use_form told (count told (entry_names (renamed_entries b new es))) ≡ use_form x o
+      by : (o : Option ℕ) → index_of x (entry_names es) ≡ o → use_form told (index_of told (entry_names (renamed_entries b new es))) ≡ use_form x o
       by None none =
-          let free = unbound_by_count x es none in
-          ap (use_form told) (counts ∙ none) ∙ ap (λ o. unbound (if is_number b o then new else x)) free
-      by (Some m) some = ap (use_form told) (counts ∙ some)
+          let free = unbound_by_index x es none in
+          ap (use_form told) (indices ∙ none) ∙ ap (λ o. unbound (if is_number b o then new else x)) free
+      by (Some m) some = ap (use_form told) (indices ∙ some)
 
-  pub kept_if_form : use_form (renamed_use b new es x) (count (renamed_use b new es x) (entry_names (renamed_entries b new es))) ≡ use_form x (count x (entry_names es)) → keeps b new bs (bearers b new bs) (use_of x s es) ≡ true
-  kept_if_form same = kept_if_bound (binders_agree b new told x es (counts_of_forms told x _ _ same))
+  pub kept_if_form : use_form (renamed_use b new es x) (index_of (renamed_use b new es x) (entry_names (renamed_entries b new es))) ≡ use_form x (index_of x (entry_names es)) → keeps b new bs (bearers b new bs) (use_of x s es) ≡ true
+  kept_if_form same = kept_if_bound (binders_agree b new told x es (indices_of_forms told x _ _ same))

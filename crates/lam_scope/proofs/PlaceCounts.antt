@@ -7,9 +7,9 @@ use Rattle.lam_syntax.specs.Trees as tree
 use Rattle.lam_syntax.specs.Trees.{word, bound, TypeTree, type_tree, TypeNode, bool, nat, unit, top, named, arrow, record_type, TypeFields, no_type_fields, type_field, TermTree, term_tree, TermNode, CommandTree, definition, declaration, evaluation, term_span}
 use Rattle.lam_scope.specs.declared.numbers.Origin.TheVariants.{Declaration, TypeName}
 use Rattle.lam_scope.specs.declared.rows.Rows.{Rows}
-use Rattle.lam_scope.specs.Names.{Name, count}
+use Rattle.lam_scope.specs.Names.{Name, index_of}
 use Rattle.lam_scope.specs.Expansions.{Abbreviation, expansion}
-use Rattle.lam_scope.specs.Nameless.{use_counted, prefixed, nameless, nameless_node, nameless_fields, statements, abbreviations_after, names_after}
+use Rattle.lam_scope.specs.Nameless.{use_indexed, prefixed, nameless, nameless_node, nameless_fields, statements, abbreviations_after, names_after}
 use Rattle.lam_scope.specs.Places.{written, of_term, Scope, places, field_places, places_of}
 use Rattle.lam_scope.specs.TableViews.{rows_of, terms_start, text_place}
 use Rattle.lam_scope.specs.Sights.{inside, inside_fields, lambda_at, term_at}
@@ -101,7 +101,7 @@ mutual
 
 -- of the nameless form
 
-use_inside : (x : Name) (o : Option ℕ) → inside (use_counted x o) ≡ 0
+use_inside : (x : Name) (o : Option ℕ) → inside (use_indexed x o) ≡ 0
 use_inside x None = refl
 use_inside x (Some n) = refl
 
@@ -119,7 +119,7 @@ mutual
   inside-node bs xs tree.true_term = refl
   inside-node bs xs tree.false_term = refl
   inside-node bs xs tree.unit_term = refl
-  inside-node bs xs (tree.variable (word x s)) = use_inside x (count x xs)
+  inside-node bs xs (tree.variable (word x s)) = use_inside x (index_of x xs)
   inside-node bs xs (tree.numeral (word x s)) = refl
   inside-node bs xs (tree.lambda (bound b s) u t) = ap (λ m. m + 1) (inside-nameless bs (b ∷ xs) t)
   inside-node bs xs (tree.if_term c t u) = λ i. inside-nameless bs xs c i + 1 + inside-nameless bs xs t i + 1 + inside-nameless bs xs u i + 1

@@ -7,9 +7,9 @@ use Rattle.lam_syntax.specs.declared.terms.Prefix.{Prefix}
 use Rattle.lam_syntax.specs.declared.terms.Prefix.TheVariants as prefix
 use Rattle.lam_syntax.specs.Trees as tree
 use Rattle.lam_syntax.specs.Trees.{word, bound, TermTree, term_tree, TermNode, CommandTree, definition, declaration, evaluation, term_span}
-use Rattle.lam_scope.specs.Names.{Name, count}
+use Rattle.lam_scope.specs.Names.{Name, index_of}
 use Rattle.lam_scope.specs.Expansions.{Abbreviation, expansion}
-use Rattle.lam_scope.specs.Nameless.{use_counted, prefixed, nameless, nameless_node, nameless_fields, statements, abbreviations_after}
+use Rattle.lam_scope.specs.Nameless.{use_indexed, prefixed, nameless, nameless_node, nameless_fields, statements, abbreviations_after}
 use Rattle.lam_scope.specs.Places.{Scope, written, of_term, Place, places, field_places, places_of}
 use Rattle.lam_scope.specs.PlacedTerms.{OwnWord, no_word, name_at, label_at, PlacedTree, term_of, PlacedTrees, no_parts, part_first, one_part, two_parts, placed_at, letrec_function, letrec_fix, placed_term, placed_parts, placed_fields, terms_in, terms_in_each, commands_terms, document_terms}
 
@@ -34,7 +34,7 @@ told_own : (o : OwnWord) (ps : List Place) (r : Span) (w : Bool) (xs : List (Opt
     → ps ++ record { scope = s; here = e } ∷ [] ≡ places_told (terms_in (placed_at r o w xs s e parts))
 told_own o ps r w xs s e parts told = told_both ps (record { scope = s; here = e } ∷ []) (terms_in_each parts) (placed_at r o w xs s e parts ∷ []) told refl
 
-use_told : (o : OwnWord) (r : Span) (xs : List (Option Name)) (s : Scope) (x : Name) (k : Option ℕ) → places s (use_counted x k) ≡ places_told (terms_in (placed_at r o true xs s (use_counted x k) no_parts))
+use_told : (o : OwnWord) (r : Span) (xs : List (Option Name)) (s : Scope) (x : Name) (k : Option ℕ) → places s (use_indexed x k) ≡ places_told (terms_in (placed_at r o true xs s (use_indexed x k) no_parts))
 use_told o r xs s x None = refl
 use_told o r xs s x (Some n) = refl
 
@@ -53,7 +53,7 @@ mutual
   node_told bs xs s r tree.true_term = refl
   node_told bs xs s r tree.false_term = refl
   node_told bs xs s r tree.unit_term = refl
-  node_told bs xs s r (tree.variable (word x q)) = use_told (name_at q) r xs s x (count x xs)
+  node_told bs xs s r (tree.variable (word x q)) = use_told (name_at q) r xs s x (index_of x xs)
   node_told bs xs s r (tree.numeral (word x q)) = refl
   node_told bs xs s r (tree.lambda (bound b q) u t) =
       let e = nameless bs (b ∷ xs) t in

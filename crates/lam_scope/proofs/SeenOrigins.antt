@@ -8,9 +8,9 @@ use Rattle.lam_syntax.specs.Trees.{word, bound, TermTree, term_tree, TermNode, C
 use Rattle.lam_token.specs.declared.span.Span.{Span}
 use Rattle.lam_scope.specs.declared.numbers.Origin.{Origin}
 use Rattle.lam_scope.specs.declared.numbers.Origin.TheVariants.{Declaration, TypeName}
-use Rattle.lam_scope.specs.Names.{Name, count}
+use Rattle.lam_scope.specs.Names.{Name, index_of}
 use Rattle.lam_scope.specs.Expansions.{Abbreviation}
-use Rattle.lam_scope.specs.Nameless.{use_counted, prefixed, nameless, nameless_node, nameless_fields, statements, abbreviations_after}
+use Rattle.lam_scope.specs.Nameless.{use_indexed, prefixed, nameless, nameless_node, nameless_fields, statements, abbreviations_after}
 use Rattle.lam_scope.specs.Sights.{Sight, inside, place_of_term, behind_term, lambda_at, term_at, sights, sights_in, sights_of, sight_numbered}
 use Rattle.lam_scope.specs.Tables.{TextBinder, TextPlace, Table, ◌⊕◌, Entry, entry, binder_row, place_row, root, behind, roots, below, binders_in, type_uses, term_table, node_table, fields_table, letrec_rows, commands_table, table, binder_in, place_at_number, seen_in, visible_at}
 use Rattle.lam_scope.proofs.PlaceCounts.{type_places, inside-nameless, places-plus}
@@ -32,7 +32,7 @@ same_root bs xs k t = ap (λ m. k + m) (sym (inside-nameless bs xs t))
 same_behind : (bs : List Abbreviation) (xs : List (Option Name)) (k : ℕ) (t : TermTree) → behind k t ≡ behind_term k (nameless bs xs t)
 same_behind bs xs k t = ap (λ m. m + 1) (same_root bs xs k t)
 
-use_sight : (k : ℕ) (s : Sight) (x : Name) (o : Option ℕ) → sights k s (use_counted x o) ≡ s ∷ []
+use_sight : (k : ℕ) (s : Sight) (x : Name) (o : Option ℕ) → sights k s (use_indexed x o) ≡ s ∷ []
 use_sight k s x None = refl
 use_sight k s x (Some n) = refl
 
@@ -72,7 +72,7 @@ mutual
   node_sees bs types names n k known xs s tree.true_term under seen stand = ([], tt, refl)
   node_sees bs types names n k known xs s tree.false_term under seen stand = ([], tt, refl)
   node_sees bs types names n k known xs s tree.unit_term under seen stand = ([], tt, refl)
-  node_sees bs types names n k known xs s (tree.variable (word x r)) under seen stand = ([], tt, use_sight k s x (count x xs))
+  node_sees bs types names n k known xs s (tree.variable (word x r)) under seen stand = ([], tt, use_sight k s x (index_of x xs))
   node_sees bs types names n k known xs s (tree.numeral (word x r)) under seen stand = ([], tt, refl)
   node_sees bs types names n k known xs s (tree.lambda (bound b r) u t) under seen stand =
       let own = binder_row b r names n (lambda_at (behind k t)) in

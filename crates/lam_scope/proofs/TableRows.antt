@@ -16,7 +16,7 @@ use Rattle.lam_scope.specs.declared.numbers.Place.{Place}
 use Rattle.lam_scope.specs.declared.rows.BinderRow.{BinderRow}
 use Rattle.lam_scope.specs.declared.rows.UseRow.{UseRow}
 use Rattle.lam_scope.specs.declared.rows.PlaceRow.{PlaceRow}
-use Rattle.lam_scope.specs.Names.{Name, count}
+use Rattle.lam_scope.specs.Names.{Name, index_of}
 use Rattle.lam_scope.specs.Slices.{AreInOrder}
 use Rattle.lam_scope.specs.Sights.{lambda_at, term_at}
 use Rattle.lam_scope.specs.Tables.{TextBinder, Table, ◌⊕◌, empty_table, Entry, entry, entry_names, letrec_rows, innermost, bound_to, binder_row, use_row, free_name, place_row, root, behind, roots_of_fields, binders_in, binders_in_fields, below_fields, field_uses, term_table, fields_table, command_table, types_seen_after, names_seen_after, binders_in_command, places_in_command, commands_table}
@@ -53,14 +53,14 @@ new_binder bs more us ps ts b x seen pushed named outer = λ i. record {
 }
 
 pub new_use : (bs : List BinderRow) (us more : List UseRow) (ps : List PlaceRow) (ts : List Place) (u : UseRow) (x : Name) (seen : List Entry)
-    → more ≡ us ++ u ∷ [] → option_map binder_of u.bound ≡ bound_to x seen → option_map between_of u.bound ≡ count x (entry_names seen)
+    → more ≡ us ++ u ∷ [] → option_map binder_of u.bound ≡ bound_to x seen → option_map between_of u.bound ≡ index_of x (entry_names seen)
     → option_map binder_number u.inner ≡ innermost seen → option_map (λ s. letters s) u.free ≡ free_name x (option_map binder_of u.bound)
     → rows_table bs more ps ts ≡ rows_table bs us ps ts ⊕ use_row x u.token seen
 unfolding ◌⊕◌
-new_use bs us more ps ts u x seen pushed own counted inner free = λ i. record {
+new_use bs us more ps ts u x seen pushed own indexed inner free = λ i. record {
   binders = sym (append-nil (map text_binder bs)) i;
   uses = (ap (map text_use) pushed ∙ map-append text_use us (u ∷ [])
-      ∙ (λ j. map text_use us ++ record { token = u.token; binder = own j; between = counted j; inner = inner j; free = (free ∙ ap (free_name x) own) j } ∷ [])) i;
+      ∙ (λ j. map text_use us ++ record { token = u.token; binder = own j; between = indexed j; inner = inner j; free = (free ∙ ap (free_name x) own) j } ∷ [])) i;
   places = sym (append-nil (text_places ts ps)) i;
 }
 

@@ -12,9 +12,9 @@ use Rattle.lam_syntax.specs.declared.terms.Prefix.TheVariants as prefix
 use Rattle.lam_rules.specs.Terms.{Term}
 use Rattle.lam_syntax.specs.Trees as tree
 use Rattle.lam_syntax.specs.Trees.{word, bound, TypeTree, type_tree, TypeNode, bool, nat, unit, top, named, arrow, record_type, TypeFields, no_type_fields, type_field, TermTree, term_tree, TermNode, CommandTree, definition, declaration, evaluation}
-use Rattle.lam_scope.specs.Names.{Name, count}
+use Rattle.lam_scope.specs.Names.{Name, index_of}
 use Rattle.lam_scope.specs.Expansions.{Abbreviation, stands_for, meaning, has_label, both, expansion, expansion_of_node, expansion_of_fields}
-use Rattle.lam_scope.specs.Nameless.{use_counted, prefixed, nameless, nameless_node, nameless_fields, statement, statements, abbreviations_after, names_after}
+use Rattle.lam_scope.specs.Nameless.{use_indexed, prefixed, nameless, nameless_node, nameless_fields, statement, statements, abbreviations_after, names_after}
 use Rattle.lam_scope.specs.WellFormed.{IsWellFormedTerm, AreWellFormedTerms, IsWellFormedStatement, AreWellFormedStatements}
 
 -- what the abbreviations stand for has distinct labels
@@ -95,7 +95,7 @@ mutual
   fields-wf bs w no_type_fields = tt
   fields-wf bs w (type_field (word l s) t rest) = first-wf bs l t rest (expansion-wf bs w t) (fields-wf bs w rest) (has_label l rest) refl
 
-use-wf : (x : Name) (o : Option ℕ) → IsWellFormedTerm (use_counted x o)
+use-wf : (x : Name) (o : Option ℕ) → IsWellFormedTerm (use_indexed x o)
 use-wf x None = tt
 use-wf x (Some n) = tt
 
@@ -113,7 +113,7 @@ mutual
   nameless_node-wf bs w xs tree.true_term = tt
   nameless_node-wf bs w xs tree.false_term = tt
   nameless_node-wf bs w xs tree.unit_term = tt
-  nameless_node-wf bs w xs (tree.variable (word x s)) = use-wf x (count x xs)
+  nameless_node-wf bs w xs (tree.variable (word x s)) = use-wf x (index_of x xs)
   nameless_node-wf bs w xs (tree.numeral (word x s)) = tt
   nameless_node-wf bs w xs (tree.lambda (bound b s) u t) = (expansion-wf bs w u, nameless-wf bs w (b ∷ xs) t)
   nameless_node-wf bs w xs (tree.if_term c t u) = (nameless-wf bs w xs c, nameless-wf bs w xs t, nameless-wf bs w xs u)

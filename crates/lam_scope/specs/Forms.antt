@@ -2,12 +2,12 @@
 use Rattle.std.specs.Prelude.{ℕ, List, [], ◌∷◌, Option, Some, None}
 use Rattle.lam_syntax.specs.declared.terms.Prefix.{Prefix}
 use Rattle.lam_syntax.specs.Trees.{word, bound, TypeTree, type_tree, TypeNode, bool, nat, unit, top, named, arrow, record_type, TypeFields, no_type_fields, type_field, TermTree, term_tree, TermNode, true_term, false_term, unit_term, variable, numeral, lambda, if_term, let_term, letrec_term, prefixed, apply, project, ascribe, record_term, FieldTrees, no_fields, field, CommandTree, definition, declaration, abbreviation, evaluation}
-use Rattle.lam_scope.specs.Names.{Name, count}
+use Rattle.lam_scope.specs.Names.{Name, index_of}
 use Rattle.lam_scope.specs.Nameless.{names_after}
 
 -- a use of a name or type name: its de Bruijn index among binders of its kind, or the name itself if it is unbound
 pub data UseForm : Type 0 where
-  counted : ℕ → UseForm
+  indexed : ℕ → UseForm
   unbound : Name → UseForm
 
 mutual
@@ -59,7 +59,7 @@ pub data CommandForm : Type 0 where
 -- the form of a use of this name with this de Bruijn index
 abbrev pub use_form : Name → Option ℕ → UseForm
 use_form x None = unbound x
-use_form x (Some n) = counted n
+use_form x (Some n) = indexed n
 
 -- the form of a written type under these binders of type names, innermost first
 abbrev mutual
@@ -71,7 +71,7 @@ abbrev mutual
   type_node_form types nat = nat_form
   type_node_form types unit = unit_form
   type_node_form types top = top_form
-  type_node_form types (named (word x s)) = named_form (use_form x (count x types))
+  type_node_form types (named (word x s)) = named_form (use_form x (index_of x types))
   type_node_form types (arrow a b) = arrow_form (type_form types a) (type_form types b)
   type_node_form types (record_type fs) = record_type_form (type_field_forms types fs)
 
@@ -88,7 +88,7 @@ abbrev mutual
   node_form types names true_term = true_form
   node_form types names false_term = false_form
   node_form types names unit_term = unit_term_form
-  node_form types names (variable (word x s)) = variable_form (use_form x (count x names))
+  node_form types names (variable (word x s)) = variable_form (use_form x (index_of x names))
   node_form types names (numeral (word x s)) = numeral_form x
   node_form types names (lambda (bound b s) u t) = lambda_form (type_form types u) (term_form types (b ∷ names) t)
   node_form types names (if_term c t u) = if_form (term_form types names c) (term_form types names t) (term_form types names u)

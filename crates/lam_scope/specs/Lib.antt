@@ -8,7 +8,7 @@ pub mod Nameless
 pub mod Tables
 pub mod Slices
 pub mod TableViews
-pub mod Counted
+pub mod Indexed
 pub mod EachWritten
 pub mod WellFormed
 pub mod Abbreviations

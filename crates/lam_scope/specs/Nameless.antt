@@ -8,14 +8,14 @@ use Rattle.lam_syntax.specs.declared.terms.Prefix.TheVariants as prefix
 use Rattle.lam_syntax.specs.Trees as tree
 use Rattle.lam_syntax.specs.Trees.{word, bound, TypeTree, TermTree, term_tree, TermNode, CommandTree, definition, declaration, evaluation, type_span}
 use Rattle.lam_scope.specs.declared.type_fault.TypeFault.{TypeFault}
-use Rattle.lam_scope.specs.Names.{Name, count}
+use Rattle.lam_scope.specs.Names.{Name, index_of}
 use Rattle.lam_scope.specs.Expansions.{Abbreviation, stands_for, expansion, type_faults, is_over_limit}
 use Rattle.lam_scope.specs.Places.{Statement, defines, declares, abbreviates, states}
 
 -- a use of a name: its de Bruijn index, or the name itself if it is unbound
-abbrev pub use_counted : Name → Option ℕ → Term
-use_counted x None = free x
-use_counted x (Some n) = variable n
+abbrev pub use_indexed : Name → Option ℕ → Term
+use_indexed x None = free x
+use_indexed x (Some n) = variable n
 
 -- a term with a prefix keyword
 abbrev pub prefixed : Prefix → Term → Term
@@ -34,7 +34,7 @@ abbrev mutual
   nameless_node bs xs tree.true_term = true_term
   nameless_node bs xs tree.false_term = false_term
   nameless_node bs xs tree.unit_term = unit_term
-  nameless_node bs xs (tree.variable (word x s)) = use_counted x (count x xs)
+  nameless_node bs xs (tree.variable (word x s)) = use_indexed x (index_of x xs)
   nameless_node bs xs (tree.numeral (word x s)) = numeral x
   nameless_node bs xs (tree.lambda (bound b s) u t) = lambda (expansion bs u) (nameless bs (b ∷ xs) t)
   nameless_node bs xs (tree.if_term c t u) = if_then_else (nameless bs xs c) (nameless bs xs t) (nameless bs xs u)

@@ -13,9 +13,9 @@ binds None x = false
 binds (Some y) x = bytes_eq y x
 
 -- the de Bruijn index of a use of a name: the number of binders inside of the innermost one of that name; none if it is unbound
-abbrev pub count : Name → List (Option Name) → Option ℕ
-count x [] = None
-count x (b ∷ bs) = if binds b x then Some 0 else option_map suc (count x bs)
+abbrev pub index_of : Name → List (Option Name) → Option ℕ
+index_of x [] = None
+index_of x (b ∷ bs) = if binds b x then Some 0 else option_map suc (index_of x bs)
 
 -- the displayed name of a binder
 abbrev pub shown_name : Option Name → Name

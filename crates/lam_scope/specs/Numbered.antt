@@ -17,7 +17,7 @@ mutual
     succ : (operand : Numbered) → Numbered
     pred : (operand : Numbered) → Numbered
     is_zero : (operand : Numbered) → Numbered
-    variable : (count : ℕ) → Numbered
+    variable : (index : ℕ) → Numbered
     free : (name : List ℕ) → Numbered
     lambda : (written : Option TyNo) (body : Numbered) → Numbered
     apply : (function argument : Numbered) → Numbered

@@ -5,7 +5,7 @@ use Rattle.lam_token.specs.declared.span.Span.{Span}
 use Rattle.lam_syntax.specs.Trees.{word, bound, TypeTree, type_tree, TypeNode, named, arrow, record_type, TypeFields, no_type_fields, type_field, TermTree, term_tree, TermNode, variable, lambda, if_term, let_term, letrec_term, prefixed, apply, project, ascribe, record_term, FieldTrees, no_fields, field, CommandTree, definition, declaration, abbreviation, evaluation, term_span}
 use Rattle.lam_scope.specs.declared.numbers.Origin.{Origin}
 use Rattle.lam_scope.specs.declared.numbers.Origin.TheVariants.{Declaration, TypeName}
-use Rattle.lam_scope.specs.Names.{Name, binds, count}
+use Rattle.lam_scope.specs.Names.{Name, binds, index_of}
 use Rattle.lam_scope.specs.Sights.{lambda_at, term_at}
 
 -- A binder of names or of type names, in text order. A letrec's token is two binders: the derived lambda's, and then the let's.
@@ -91,7 +91,7 @@ free_name x (Some n) = None
 
 -- one use of a name, given the binders of its kind in scope
 abbrev pub use_of : Name → Span → List Entry → TextUse
-use_of x s seen = record { token = s; binder = bound_to x seen; between = count x (entry_names seen); inner = innermost seen; free = free_name x (bound_to x seen) }
+use_of x s seen = record { token = s; binder = bound_to x seen; between = index_of x (entry_names seen); inner = innermost seen; free = free_name x (bound_to x seen) }
 
 -- the table of one use of a name, given the binders of its kind in scope
 abbrev pub use_row : Name → Span → List Entry → Table

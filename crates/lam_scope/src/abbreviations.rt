@@ -72,10 +72,10 @@ fn find_in<'s, 'a>(
     ensures unbound { IfNone result (is_bound name.now (abbreviations_in items.now) ≡ false) }
     ensures none { IfNone result (meaning name.now (abbreviations_in items.now) ≡ None) }
 {
-    match names.count(name) {
+    match names.index_of(name) {
         None => None,
-        Some(count) => {
-            let found = item_under(items, count);
+        Some(index) => {
+            let found = item_under(items, index);
             Some(found)
         }
     }

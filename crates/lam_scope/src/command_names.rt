@@ -126,7 +126,7 @@ fn find_use<'a>(finding: &mut Finding<'a>, name: &'a Identifier) -> Result<(), A
     ensures { AreFound (letters name.now.text ∷ []) [] finding.old finding.new result }
 {
     let text = name.text.as_str();
-    if finding.bound.count(text).is_some() {
+    if finding.bound.index_of(text).is_some() {
         return Ok(());
     }
     finding.names.add(text)

@@ -1,7 +1,7 @@
 //! The binders of names in scope for a term of one command.
 ghost use Rattle.std.specs.Prelude.{◌≡◌, ◌∷◌, [], OnOk, OnErr};
 ghost use Rattle.std.specs.Option.{option_map};
-ghost use Rattle.lam_scope.specs.Names.{binds, count};
+ghost use Rattle.lam_scope.specs.Names.{binds, index_of};
 ghost use Rattle.lam_scope.specs.Stacks.{outside};
 ghost use Rattle.lam_scope.specs.inner.FewNames.{few_names};
 
@@ -55,15 +55,15 @@ impl<'a> FewNames<'a> {
     }
 
     /// Returns the de Bruijn index of a use of the name, or `None` if it is unbound.
-    pub(crate) fn count(&self, name: &str) -> Option<usize>
-        ensures { result ≡ count name.now self.now }
+    pub(crate) fn index_of(&self, name: &str) -> Option<usize>
+        ensures { result ≡ index_of name.now self.now }
     {
-        count_in(&self.stack, name)
+        index_in(&self.stack, name)
     }
 }
 
-fn count_in(stack: &[Option<&str>], name: &str) -> Option<usize>
-    ensures { result ≡ count name.now (few_names stack.now) }
+fn index_in(stack: &[Option<&str>], name: &str) -> Option<usize>
+    ensures { result ≡ index_of name.now (few_names stack.now) }
 {
     for between in 0..stack.len() {
         let binder = item_under(stack, between);

@@ -6,9 +6,9 @@ ghost use Rattle.lam_rules.specs.Types.{Typ};
 ghost use Rattle.lam_syntax.specs.Letters.{letters};
 ghost use Rattle.lam_syntax.specs.Trees.{lambda, if_term, let_term, letrec_term, prefixed as prefixed_term, apply, project, ascribe, record_term};
 ghost use Rattle.lam_syntax.specs.Views.{term_of as tree_of, term_node_of, fields_of, bound_of, word_of, type_of};
-ghost use Rattle.lam_scope.specs.Names.{count};
+ghost use Rattle.lam_scope.specs.Names.{index_of};
 ghost use Rattle.lam_scope.specs.Expansions.{is_over_limit};
-ghost use Rattle.lam_scope.specs.Nameless.{use_counted};
+ghost use Rattle.lam_scope.specs.Nameless.{use_indexed};
 ghost use Rattle.lam_scope.specs.Numbered.{written_over, StandsIfAny};
 ghost use Rattle.lam_scope.specs.NumberedNames.{TypeIdsStand};
 ghost use Rattle.lam_scope.specs.InternedViews.{interned_term, StandIn};
@@ -296,12 +296,12 @@ fn intern_fields<'a>(
 /// The de Bruijn index of a use, or its name if it is unbound.
 #[tactic(auto, using(crate::proofs::InternedForms::use_forms))]
 fn use_of<'a>(names: &FewNames<'_>, name: &'a Identifier) -> InternedTerm<'a>
-    ensures form { (ts : List Typ) → interned_term ts result ≡ use_counted (letters name.now.text) (count (letters name.now.text) names.now) }
+    ensures form { (ts : List Typ) → interned_term ts result ≡ use_indexed (letters name.now.text) (index_of (letters name.now.text) names.now) }
     ensures stands { (ts : List Typ) → StandIn ts result }
 {
     let text = name.text.as_str();
-    match names.count(text) {
-        Some(count) => InternedTerm::Var(count),
+    match names.index_of(text) {
+        Some(index) => InternedTerm::Var(index),
         None => InternedTerm::Free(text),
     }
 }

@@ -11,8 +11,8 @@ ghost use Rattle.lam_syntax.specs.Respelled.{Letters, respelled_command};
 ghost use Rattle.lam_scope.specs.declared.rename_fault.RenameFault.{RenameFault};
 ghost use Rattle.lam_scope.specs.declared.rename_fault.RenameFault.TheVariants.{Memory};
 ghost use Rattle.lam_scope.specs.declared.type_fault.TypeFault.TheVariants.{UnboundTypeName};
-ghost use Rattle.lam_scope.specs.Counted.{statements_counted, past_commands};
-ghost use Rattle.lam_scope.specs.Names.{Name, count};
+ghost use Rattle.lam_scope.specs.Indexed.{statements_indexed, past_commands};
+ghost use Rattle.lam_scope.specs.Names.{Name, index_of};
 ghost use Rattle.lam_scope.specs.Forms.{forms};
 ghost use Rattle.lam_scope.specs.Expansions.{Abbreviation, expansion, type_faults};
 ghost use Rattle.lam_scope.specs.Nameless.{nameless, statement, statements, written_in, written_in_command, faults_in, faults, first_over_limit};
@@ -67,8 +67,8 @@ pub fn one_term()
 /// Given the binders of names in scope for a term, a use is reported to be bound to the binder that its de Bruijn index selects,
 /// and to be unbound where it has no index.
 pub fn one_binder()
-    ensures bound { (x : Name) (seen : List Entry) (n : ℕ) (e : Entry) → count x (entry_names seen) ≡ Some n → get_or seen n e ≡ e → bound_to x seen ≡ Some e.answer }
-    ensures unbound { (x : Name) (seen : List Entry) → count x (entry_names seen) ≡ None → bound_to x seen ≡ None }
+    ensures bound { (x : Name) (seen : List Entry) (n : ℕ) (e : Entry) → index_of x (entry_names seen) ≡ Some n → get_or seen n e ≡ e → bound_to x seen ≡ Some e.answer }
+    ensures unbound { (x : Name) (seen : List Entry) → index_of x (entry_names seen) ≡ None → bound_to x seen ≡ None }
 {}
 
 /// A type name stands for the abbreviation that it is reported to be bound to: the last one of that name in the commands before,
@@ -83,8 +83,8 @@ pub fn one_abbreviation()
 
 /// The uses of a table give the de Bruijn indices of the nameless form, one after another in text order, and none is left after
 /// the last command.
-pub fn one_count()
-    ensures counts { (cs : List CommandTree) → statements_counted [] cs (table cs).uses ≡ statements [] [] cs }
+pub fn one_index()
+    ensures indices { (cs : List CommandTree) → statements_indexed [] cs (table cs).uses ≡ statements [] [] cs }
     ensures left { (cs : List CommandTree) → past_commands cs (table cs).uses ≡ [] }
 {}
 

@@ -71,7 +71,7 @@ pub use interned::{InternedField, InternedStatement, InternedTerm};
 pub use laws::{
     a_label_is_free, faultless_is_expanded, forms_have_no_places, free_names_decide,
     innermost_place, mentions_are_rows, mentions_ascend, one_abbreviation, one_answer_to_a_rename,
-    one_binder, one_count, one_scope, one_sight, one_term, renamed_at_tokens,
+    one_binder, one_index, one_scope, one_sight, one_term, renamed_at_tokens,
 };
 pub use numbers::{Binder, Origin, Place};
 pub use rename_fault::RenameFault;

@@ -1,7 +1,7 @@
 //! The operations that keep a stack of names and its index in step.
 ghost use Rattle.std.specs.Prelude.{◌≡◌, ◌∷◌, Some, IsSome, IfOk, OnOk, OnErr};
 ghost use Rattle.std.specs.Option.{option_map};
-ghost use Rattle.lam_scope.specs.Names.{Name, count};
+ghost use Rattle.lam_scope.specs.Names.{Name, index_of};
 ghost use Rattle.lam_scope.specs.Stacks.{outside};
 ghost use Rattle.lam_scope.specs.inner.NameStacks.{names_of, found_in, with_binder, at_name, reset, IsNameStack};
 
@@ -75,13 +75,13 @@ fn reset_innermost(innermost: &mut HashMap<&str, Option<usize>>, name: &str, bef
 }
 
 /// Returns the number of binders above the innermost one of a name.
-pub(crate) fn count_in(
+pub(crate) fn index_in(
     stack: &[Named<'_>],
     innermost: &HashMap<&str, Option<usize>>,
     name: &str,
 ) -> Option<usize>
     requires { IsNameStack stack.now innermost.now }
-    ensures { result ≡ count name.now (names_of stack.now) }
+    ensures { result ≡ index_of name.now (names_of stack.now) }
 {
     match position_in(innermost, name) {
         None => None,

@@ -6,10 +6,10 @@ ghost use Rattle.lam_rules.specs.TermViews.{term_of, terms_of, written_of};
 ghost use Rattle.lam_rules.specs.Terms.{numeral};
 ghost use Rattle.lam_syntax.specs.Trees.{lambda, if_term, let_term, letrec_term, prefixed as prefixed_term, apply, project, ascribe, record_term};
 ghost use Rattle.lam_syntax.specs.Views.{term_of as tree_of, term_node_of, fields_of, bound_of, word_of, type_of};
-ghost use Rattle.lam_scope.specs.Counted.{first_between, past_first, past_type, past_fields, counted_fields};
+ghost use Rattle.lam_scope.specs.Indexed.{first_between, past_first, past_type, past_fields, indexed_fields};
 ghost use Rattle.lam_scope.specs.Expansions.{expansion, type_faults, is_capped};
 ghost use Rattle.lam_scope.specs.inner.Formed.{IsFormed};
-ghost use Rattle.lam_scope.specs.Nameless.{use_counted, prefixed, written_in_fields, faults_in, first_over_limit};
+ghost use Rattle.lam_scope.specs.Nameless.{use_indexed, prefixed, written_in_fields, faults_in, first_over_limit};
 ghost use Rattle.lam_scope.specs.Views.{abbreviations_of, IsLimit};
 
 use crate::abbreviations::Abbreviations;
@@ -228,7 +228,7 @@ fn nameless_fields(
     seen: &Abbreviations<'_>,
     fields: &[TmField],
 ) -> Result<Vec<(String, Core)>, ScopeFault>
-    ensures form { IfOk result (λ forms. terms_of forms.items ≡ counted_fields (abbreviations_of seen.now) (fields_of fields.now) forming.old.uses) }
+    ensures form { IfOk result (λ forms. terms_of forms.items ≡ indexed_fields (abbreviations_of seen.now) (fields_of fields.now) forming.old.uses) }
     ensures uses { OnOk result (forming.new.uses ≡ past_fields (fields_of fields.now) forming.old.uses) }
     ensures faults { OnOk result (forming.new.faults.items ≡ forming.old.faults.items ++ faults_in (abbreviations_of seen.now) (written_in_fields (fields_of fields.now))) }
     ensures limit { IsLimit (first_over_limit (abbreviations_of seen.now) (written_in_fields (fields_of fields.now))) result }
@@ -246,11 +246,11 @@ fn nameless_fields(
 /// The de Bruijn index of a use, or its name if it is unbound.
 #[tactic(auto, using(crate::proofs::Forms::use_forms))]
 fn use_of(alloc: Global, name: &Identifier, uses: &mut UsesLeft<'_>) -> Result<Core, AllocError>
-    ensures form { IfOk result (λ e. term_of e ≡ use_counted (letters name.now.text) (first_between uses.old)) }
+    ensures form { IfOk result (λ e. term_of e ≡ use_indexed (letters name.now.text) (first_between uses.old)) }
     ensures uses { OnOk result (uses.new ≡ past_first uses.old) }
 {
     match uses.pass() {
-        Some(count) => Ok(Core::Var(count)),
+        Some(index) => Ok(Core::Var(index)),
         None => {
             let copy = String::from_str(alloc, name.text.as_str())?;
             Ok(Core::Free(copy))

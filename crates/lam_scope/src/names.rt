@@ -2,10 +2,10 @@
 ghost use Rattle.std.specs.Prelude.{◌≡◌, ◌∷◌, [], IfOk, OnOk, OnErr};
 ghost use Rattle.lam_syntax.specs.Letters.{letters};
 ghost use Rattle.std.specs.Option.{option_map};
-ghost use Rattle.lam_scope.specs.Names.{count};
+ghost use Rattle.lam_scope.specs.Names.{index_of};
 ghost use Rattle.lam_scope.specs.Stacks.{outside};
 
-use crate::name_stack::{count_in, enter_in, leave_in};
+use crate::name_stack::{index_in, enter_in, leave_in};
 use lam_syntax::{Binder, Text};
 use std::alloc::{AllocError, Global};
 use std::collections::HashMap;
@@ -78,10 +78,10 @@ impl<'a> Names<'a> {
     }
 
     /// Returns the de Bruijn index of a use of the name, or `None` if it is unbound.
-    pub(crate) fn count(&self, name: &str) -> Option<usize>
-        ensures { result ≡ count name.now self.now }
+    pub(crate) fn index_of(&self, name: &str) -> Option<usize>
+        ensures { result ≡ index_of name.now self.now }
     {
-        count_in(&self.stack, &self.innermost, name)
+        index_in(&self.stack, &self.innermost, name)
     }
 }
 

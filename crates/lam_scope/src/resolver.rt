@@ -1,7 +1,7 @@
 //! Resolves the commands of a document one after another.
 ghost use Rattle.std.specs.Prelude.{◌≡◌, ◌++◌, ◌∷◌, [], map, IfOk, OnOk};
 ghost use Rattle.lam_syntax.specs.Views.{command_of};
-ghost use Rattle.lam_scope.specs.Counted.{statement_counted};
+ghost use Rattle.lam_scope.specs.Indexed.{statement_indexed};
 ghost use Rattle.lam_scope.specs.inner.Formed.{IsPassed};
 ghost use Rattle.lam_scope.specs.TableViews.{text_use};
 ghost use Rattle.lam_scope.specs.Views.{statement_of, abbreviations_of};
@@ -50,7 +50,7 @@ impl<'a> Resolver<'a> {
     /// Resolves the next command and appends its statement.
     #[tactic(auto, using(crate::proofs::Resolving::resolving))]
     pub(crate) fn add(&mut self, command: &'a Command) -> Result<(), ScopeFault>
-        ensures statement { OnOk result (map statement_of self.new.statements.items ≡ map statement_of self.old.statements.items ++ statement_counted (abbreviations_of self.old.abbreviations) (command_of command.now) self.old.forming.uses ∷ []) }
+        ensures statement { OnOk result (map statement_of self.new.statements.items ≡ map statement_of self.old.statements.items ++ statement_indexed (abbreviations_of self.old.abbreviations) (command_of command.now) self.old.forming.uses ∷ []) }
         ensures passed { IsPassed (command_of command.now) self.old self.new result }
     {
         let statement = self.state(command)?;
@@ -61,7 +61,7 @@ impl<'a> Resolver<'a> {
     /// Returns what a command states. The type name that it binds is then in scope for the commands after it.
     #[tactic(auto, using(crate::proofs::Resolving::resolving))]
     fn state(&mut self, command: &'a Command) -> Result<Statement, ScopeFault>
-        ensures statement { IfOk result (λ s. statement_of s ≡ statement_counted (abbreviations_of self.old.abbreviations) (command_of command.now) self.old.forming.uses) }
+        ensures statement { IfOk result (λ s. statement_of s ≡ statement_indexed (abbreviations_of self.old.abbreviations) (command_of command.now) self.old.forming.uses) }
         ensures passed { IsPassed (command_of command.now) self.old self.new result }
         ensures statements { self.new.statements ≡ self.old.statements }
     {

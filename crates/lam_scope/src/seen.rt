@@ -2,7 +2,7 @@
 ghost use Rattle.std.specs.Prelude.{◌≡◌, ◌∷◌, [], IfOk, OnOk};
 ghost use Rattle.std.specs.Option.{option_map};
 ghost use Rattle.lam_scope.specs.Stacks.{outside};
-ghost use Rattle.lam_scope.specs.Names.{count};
+ghost use Rattle.lam_scope.specs.Names.{index_of};
 ghost use Rattle.lam_scope.specs.Tables.{innermost, bound_to, entry_names};
 ghost use Rattle.lam_scope.specs.TableViews.{entry_of, entries_of, binder_number, binder_of, between_of};
 
@@ -95,7 +95,7 @@ impl<'a> Seen<'a> {
     /// Returns what a use of that name is bound to.
     pub(crate) fn find(&self, name: &str) -> Option<Bound>
         ensures binder { option_map binder_of result ≡ bound_to name.now self.now }
-        ensures between { option_map between_of result ≡ count name.now (entry_names self.now) }
+        ensures between { option_map between_of result ≡ index_of name.now (entry_names self.now) }
     {
         find_in(&self.stack, &self.names, name)
     }
@@ -140,9 +140,9 @@ fn innermost_in(stack: &[SeenBinder<'_>]) -> Option<Binder>
 fn find_in(stack: &[SeenBinder<'_>], names: &Names<'_>, name: &str) -> Option<Bound>
     requires { names.now ≡ entry_names (entries_of stack.now) }
     ensures binder { option_map binder_of result ≡ bound_to name.now (entries_of stack.now) }
-    ensures between { option_map between_of result ≡ count name.now (entry_names (entries_of stack.now)) }
+    ensures between { option_map between_of result ≡ index_of name.now (entry_names (entries_of stack.now)) }
 {
-    match names.count(name) {
+    match names.index_of(name) {
         None => None,
         Some(between) => {
             let seen = item_under(stack, between);

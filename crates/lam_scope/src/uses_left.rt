@@ -1,7 +1,7 @@
 //! The uses that a walk over the commands has not reached yet.
 ghost use Rattle.std.specs.Prelude.{◌≡◌, map};
 ghost use Rattle.lam_syntax.specs.Views.{type_of, type_fields_of};
-ghost use Rattle.lam_scope.specs.Counted.{first_between, past_first, past_type, past_type_fields};
+ghost use Rattle.lam_scope.specs.Indexed.{first_between, past_first, past_type, past_type_fields};
 ghost use Rattle.lam_scope.specs.TableViews.{text_use};
 
 use crate::rows::UseRow;
@@ -46,7 +46,7 @@ impl<'a> UsesLeft<'a> {
 
 /// Consumes the uses of type names in a written type.
 #[cycle(pass_type)]
-#[tactic(auto, using(crate::proofs::CountedForms::passing))]
+#[tactic(auto, using(crate::proofs::IndexedForms::passing))]
 pub(crate) fn pass_type(uses: &mut UsesLeft<'_>, ty: &WrittenTy)
     ensures { uses.new ≡ past_type (type_of ty.now) uses.old }
 {
@@ -67,7 +67,7 @@ pub(crate) fn pass_type(uses: &mut UsesLeft<'_>, ty: &WrittenTy)
 }
 
 #[cycle(pass_type)]
-#[tactic(auto, using(crate::proofs::CountedForms::passing))]
+#[tactic(auto, using(crate::proofs::IndexedForms::passing))]
 fn pass_type_fields(uses: &mut UsesLeft<'_>, fields: &[TyField])
     ensures { uses.new ≡ past_type_fields (type_fields_of fields.now) uses.old }
 {

@@ -57,7 +57,7 @@ length-under ts g (o ∷ os) = let e = length-under ts (answer ts o ∷ g) os in
 pub length-context : (ts : List Typ) (os : List (Option TyNo)) → length (context_under ts os) ≡ length os
 length-context ts os = let e = length-under ts [] os in omega arith
 
--- the entry that a count finds, and the item that it counts to from the end
+-- the entry that an index finds, and the item that it stands for from the end
 
 entry_behind : (ts : List Typ) (g : Context) (os : List (Option TyNo)) (n : ℕ) → entry_at (length os + n) (under_entries ts g os) ≡ entry_at n g
 entry_behind ts g [] n = let e : 0 + n ≡ n = omega arith in rw e
@@ -74,9 +74,9 @@ entry_under ts g (p ∷ os) n zero o e is =
     rw here (rw there (ap (λ x. answer ts x) is))
 entry_under ts g (p ∷ os) n (suc k) o e is = entry_under ts (answer ts p ∷ g) os n k o (omega arith) is
 
-pub entry_of_count : (ts : List Typ) (os : List (Option TyNo)) (n : ℕ) (o : Option TyNo) → n < length os → o ≡ get_or os (length os - 1 - n) o
+pub entry_of_index : (ts : List Typ) (os : List (Option TyNo)) (n : ℕ) (o : Option TyNo) → n < length os → o ≡ get_or os (length os - 1 - n) o
     → answer ts o ≡ entry_at n (context_under ts os)
-entry_of_count ts os n o lt is = entry_under ts [] os n (length os - 1 - n) o (omega arith) is
+entry_of_index ts os n o lt is = entry_under ts [] os n (length os - 1 - n) o (omega arith) is
 
 pub stands_at : (ts : List Typ) (os : List (Option TyNo)) (k : ℕ) (o : Option TyNo) → k < length os → o ≡ get_or os k o → AllStandIn ts os → StandsWhereFound ts o
 stands_at ts [] k o lt is stand = absurd (omega arith)

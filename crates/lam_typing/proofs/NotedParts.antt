@@ -65,9 +65,9 @@ entry_onto found g (x ∷ es) n zero default count =
     rw here (sym there)
 entry_onto found g (x ∷ es) n (suc k) default count = entry_onto found (entry_of_source found x ∷ g) es n k default (omega arith)
 
--- the entry that a count finds, counted from the innermost
-pub entry_of_count : (found : List (Option Typ)) (es : List Source) (n : ℕ) (default : Source) → n < length es → entry_of_source found (get_or es (length es - 1 - n) default) ≡ entry_at n (context_in found es)
-entry_of_count found es n default lt = entry_onto found [] es n (length es - 1 - n) default (omega arith)
+-- the entry that an index finds, counted from the innermost
+pub entry_of_index : (found : List (Option Typ)) (es : List Source) (n : ℕ) (default : Source) → n < length es → entry_of_source found (get_or es (length es - 1 - n) default) ≡ entry_at n (context_in found es)
+entry_of_index found es n default lt = entry_onto found [] es n (length es - 1 - n) default (omega arith)
 
 -- more notes, and more behind them
 

@@ -65,7 +65,7 @@ impl<'t> Grounds<'t> {
     }
 
     /// Returns the context entry of the binder of the variable at a subterm index.
-    pub(crate) fn entry_counted(
+    pub(crate) fn entry_of(
         &self,
         alloc: Global,
         place: usize,

@@ -63,7 +63,7 @@ fn intern_term<'t>(
         Core::Succ(operand) => Ok(InternedTerm::Succ(intern_part(alloc, table, operand)?)),
         Core::Pred(operand) => Ok(InternedTerm::Pred(intern_part(alloc, table, operand)?)),
         Core::IsZero(operand) => Ok(InternedTerm::IsZero(intern_part(alloc, table, operand)?)),
-        Core::Var(count) => Ok(InternedTerm::Var(*count)),
+        Core::Var(index) => Ok(InternedTerm::Var(*index)),
         Core::Free(name) => Ok(InternedTerm::Free(name.as_str())),
         Core::Abs(parts) => intern_lambda(alloc, table, &parts.0, &parts.1),
         Core::App(parts) => intern_apply(alloc, table, &parts.0, &parts.1),

@@ -5,7 +5,7 @@ ghost use Rattle.std.specs.Prelude.{map, IfOk, OnOk};
 ghost use Rattle.lam_rules.specs.Terms.{Term, if_then_else, variable, lambda, apply, let_in, record_term};
 ghost use Rattle.lam_rules.specs.TermViews.{term_of, terms_of, written_of};
 ghost use Rattle.lam_scope.specs.Views.{statement_of};
-ghost use Rattle.lam_typing.specs.inner.Notes.{IsEntryCounted, NotesTerm, NotesFields, NotesOne, NotesStatement, NotesDocument, IsLeaf, IsOver};
+ghost use Rattle.lam_typing.specs.inner.Notes.{IsEntryAt, NotesTerm, NotesFields, NotesOne, NotesStatement, NotesDocument, IsLeaf, IsOver};
 
 use lam_rules::{Core, Ty};
 use lam_scope::{Place, Statement};
@@ -92,7 +92,7 @@ fn note_term<'t>(notes: &mut Notes<'t>, term: &'t Core) -> Result<Place, AllocEr
         Core::Succ(operand) => note_over(notes, operand),
         Core::Pred(operand) => note_over(notes, operand),
         Core::IsZero(operand) => note_over(notes, operand),
-        Core::Var(count) => note_variable(notes, *count),
+        Core::Var(index) => note_variable(notes, *index),
         Core::Free(_) => note_leaf(notes),
         Core::Abs(parts) => note_lambda(notes, &parts.0, &parts.1),
         Core::App(parts) => note_apply(notes, &parts.0, &parts.1),
@@ -137,10 +137,10 @@ fn note_if<'t>(
 }
 
 /// Notes a variable, which has the entry of its binder.
-fn note_variable<'t>(notes: &mut Notes<'t>, count: usize) -> Result<Place, AllocError>
-    ensures { IfOk result (λ place. NotesTerm notes.old notes.new (variable count) place.0) }
+fn note_variable<'t>(notes: &mut Notes<'t>, index: usize) -> Result<Place, AllocError>
+    ensures { IfOk result (λ place. NotesTerm notes.old notes.new (variable index) place.0) }
 {
-    let note = note_of_count(&notes.sources, count);
+    let note = note_of_index(&notes.sources, index);
     note_here(notes, note)
 }
 
@@ -213,11 +213,11 @@ fn note_here<'t>(notes: &mut Notes<'t>, note: Note<'t>) -> Result<Place, AllocEr
 }
 
 /// Returns the note of a variable with this de Bruijn index.
-fn note_of_count<'t>(sources: &[Source<'t>], count: usize) -> Note<'t>
-    ensures { IsEntryCounted result count sources.now }
+fn note_of_index<'t>(sources: &[Source<'t>], index: usize) -> Note<'t>
+    ensures { IsEntryAt result index sources.now }
 {
-    if count >= sources.len() {
+    if index >= sources.len() {
         return Note::Nothing;
     }
-    Note::Variable(sources[sources.len() - 1 - count])
+    Note::Variable(sources[sources.len() - 1 - index])
 }

@@ -133,9 +133,9 @@ fn prove_variable(
     place: usize,
     ty: &Ty,
 ) -> Result<Option<Proven>, AllocError>
-    ensures { (count : ℕ) → IfOk result (BuildsForm grounds.now (variable count) place (typ_of ty.now)) }
+    ensures { (index : ℕ) → IfOk result (BuildsForm grounds.now (variable index) place (typ_of ty.now)) }
 {
-    let Some(entry) = grounds.entry_counted(alloc, place)? else {
+    let Some(entry) = grounds.entry_of(alloc, place)? else {
         return Ok(None);
     };
     let premises = Vec::new(alloc);

@@ -155,7 +155,7 @@ fn walk_term(walk: &mut Walk, term: &InternedTerm<'_>) -> Result<Option<TyNo>, S
         InternedTerm::Succ(operand) => walk_number(walk, operand, walk.leaves.natural),
         InternedTerm::Pred(operand) => walk_number(walk, operand, walk.leaves.natural),
         InternedTerm::IsZero(operand) => walk_number(walk, operand, walk.leaves.boolean),
-        InternedTerm::Var(count) => walk_variable(walk, *count),
+        InternedTerm::Var(index) => walk_variable(walk, *index),
         InternedTerm::Free(_) => {
             let blame = blame_if(true, None, "E1");
             settle(walk, None, blame)
@@ -371,27 +371,27 @@ fn walk_fields(
 
 /// Walks a variable, which has the entry of its binder; if that is `None`, the variable is not at fault. An index past all
 /// binders is an unbound name.
-fn walk_variable(walk: &mut Walk, count: usize) -> Result<Option<TyNo>, Stop>
+fn walk_variable(walk: &mut Walk, index: usize) -> Result<Option<TyNo>, Stop>
     requires sound { IsSoundWalk walk.old }
     ensures grows { Grows walk.old walk.new }
-    ensures walked { HasWalked result walk.old walk.new (variable count) }
+    ensures walked { HasWalked result walk.old walk.new (variable index) }
 {
     let depth = walk.entries.len();
-    if count >= depth {
+    if index >= depth {
         let blame = blame_if(true, None, "E1");
         return settle(walk, None, blame);
     }
-    let entry = entry_of(&walk.entries, count);
+    let entry = entry_of(&walk.entries, index);
     settle(walk, entry, None)
 }
 
 /// Returns the context entry at a de Bruijn index.
-pub(crate) fn entry_of(entries: &[Option<TyNo>], count: usize) -> Option<TyNo>
-    requires { count < length entries.now }
-    ensures entry { (ts : List Typ) → answer ts result ≡ entry_at count (context_under ts entries.now) }
+pub(crate) fn entry_of(entries: &[Option<TyNo>], index: usize) -> Option<TyNo>
+    requires { index < length entries.now }
+    ensures entry { (ts : List Typ) → answer ts result ≡ entry_at index (context_under ts entries.now) }
     ensures stands { (ts : List Typ) → AllStandIn ts entries.now → StandsWhereFound ts result }
 {
-    entries[entries.len() - 1 - count]
+    entries[entries.len() - 1 - index]
 }
 
 /// Returns the code for an application at fault, by the type of its first term.

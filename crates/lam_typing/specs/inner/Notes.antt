@@ -89,8 +89,8 @@ noted_by found [] = []
 noted_by found (n ∷ ns) = noted_as found n ∷ noted_by found ns
 
 -- a note refers to the entry at a de Bruijn index
-abbrev pub IsEntryCounted : Note → ℕ → List Source → Type 0
-IsEntryCounted n count sources = (found : List (Option Typ)) → noted_as found n ≡ record { written = None; bound = entry_at count (context_in found sources) }
+abbrev pub IsEntryAt : Note → ℕ → List Source → Type 0
+IsEntryAt n index sources = (found : List (Option Typ)) → noted_as found n ≡ record { written = None; bound = entry_at index (context_in found sources) }
 
 -- these notes were appended, this many, with the same binders in scope as before
 pub record NotesMore (before after : Notes) (more : List (Option Typ) → List Noted) (count : ℕ) : Type 0 where

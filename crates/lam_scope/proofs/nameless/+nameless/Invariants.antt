@@ -1,7 +1,7 @@
 use Rattle.std.proofs.Common.{◌≡◌, ◌+◌, ◌*◌, ◌++◌, drop}
 use Rattle.lam_rules.specs.TermViews.{terms_of}
 use Rattle.lam_syntax.specs.Views.{term_of, fields_of}
-use Rattle.lam_scope.specs.Counted.{counted_fields, past_fields}
+use Rattle.lam_scope.specs.Indexed.{indexed_fields, past_fields}
 use Rattle.lam_scope.specs.Nameless.{written_in_fields, faults_in, first_over_limit}
 use Rattle.lam_scope.specs.Views.{abbreviations_of}
 use Rattle.lam_scope.proofs.Forms.{joined_terms}
@@ -10,8 +10,8 @@ use Rattle.lam_scope.proofs.nameless.+nameless.Given as goal
 
 abbrev pub invariant-nameless_fields-loop-i : goal.invariant-nameless_fields-loop-i
 invariant-nameless_fields-loop-i l = record {
-  form : joined_terms (terms_of l.forms.items) (counted_fields (abbreviations_of l.seen) (fields_of (drop l.i l.fields)) l.forming.uses)
-      ≡ counted_fields (abbreviations_of l.seen) (fields_of l.fields) l.initial.forming.uses;
+  form : joined_terms (terms_of l.forms.items) (indexed_fields (abbreviations_of l.seen) (fields_of (drop l.i l.fields)) l.forming.uses)
+      ≡ indexed_fields (abbreviations_of l.seen) (fields_of l.fields) l.initial.forming.uses;
   uses : past_fields (fields_of (drop l.i l.fields)) l.forming.uses ≡ past_fields (fields_of l.fields) l.initial.forming.uses;
   faults : l.forming.faults.items ++ faults_in (abbreviations_of l.seen) (written_in_fields (fields_of (drop l.i l.fields)))
       ≡ l.initial.forming.faults.items ++ faults_in (abbreviations_of l.seen) (written_in_fields (fields_of l.fields));

@@ -1,6 +1,6 @@
 use Rattle.std.proofs.Common.{◌≡◌, drop}
 use Rattle.lam_syntax.specs.Views.{type_fields_of}
-use Rattle.lam_scope.specs.Counted.{past_type_fields}
+use Rattle.lam_scope.specs.Indexed.{past_type_fields}
 use Rattle.lam_scope.proofs.uses_left.+pass_type.Given as goal
 
 abbrev pub invariant-pass_type_fields-loop-i : goal.invariant-pass_type_fields-loop-i

@@ -27,7 +27,7 @@ intern_term-returns-in-Free-clause-form t c =
     rw (ap term_of c.in-Free.is ∙ term_of-Free _) (form_free c.args.table.now c.as_str-in-Free.result (string_bytes c.in-Free.name) c.as_str-in-Free.ensures.value)
 
 pub intern_term-returns-in-Var-clause-form : goal.intern_term-returns-in-Var-clause-form
-intern_term-returns-in-Var-clause-form t c = rw (ap term_of c.in-Var.is ∙ term_of-Var c.in-Var.count) (form_variable c.args.table.now c.in-Var.count)
+intern_term-returns-in-Var-clause-form t c = rw (ap term_of c.in-Var.is ∙ term_of-Var c.in-Var.index) (form_variable c.args.table.now c.in-Var.index)
 
 pub intern_term-intern_part-requires : goal.intern_term-intern_part-requires
 intern_term-intern_part-requires t c =

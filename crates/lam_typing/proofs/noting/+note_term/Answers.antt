@@ -72,7 +72,7 @@ pub note_term-returns-in-Num : goal.note_term-returns-in-Num
 note_term-returns-in-Num t c = rw (ap term_of c.in-Num.is ∙ term_of-Num _) (c.note_leaf-in-Num.ensures _ tt)
 
 pub note_term-returns-in-Var : goal.note_term-returns-in-Var
-note_term-returns-in-Var t c = rw (ap term_of c.in-Var.is ∙ term_of-Var c.in-Var.count) c.note_variable.ensures
+note_term-returns-in-Var t c = rw (ap term_of c.in-Var.is ∙ term_of-Var c.in-Var.index) c.note_variable.ensures
 
 pub note_term-returns-in-Free : goal.note_term-returns-in-Free
 note_term-returns-in-Free t c = rw (ap term_of c.in-Free.is ∙ term_of-Free _) (c.note_leaf-in-Free.ensures _ tt)

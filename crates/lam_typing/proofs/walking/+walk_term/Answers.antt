@@ -60,7 +60,7 @@ walk_term-returns-in-Free-clause-walked t c =
 
 pub walk_term-returns-in-Var-clause-walked : goal.walk_term-returns-in-Var-clause-walked
 walk_term-returns-in-Var-clause-walked t c =
-    rw (ap numbered_of c.in-Var.is ∙ numbered_of-Var c.in-Var.count) c.walk_variable.ensures.walked
+    rw (ap numbered_of c.in-Var.is ∙ numbered_of-Var c.in-Var.index) c.walk_variable.ensures.walked
 
 pub walk_term-walk_if-requires : goal.walk_term-walk_if-requires
 walk_term-walk_if-requires t c =

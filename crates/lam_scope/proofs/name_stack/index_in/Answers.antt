@@ -1,6 +1,6 @@
 use Rattle.std.proofs.Common.{sym, ap, ◌∙◌, arith, length}
-use Rattle.lam_scope.proofs.NameStacks.{counted, count_standing, found_within}
-use Rattle.lam_scope.proofs.name_stack.count_in.Goals as goal
+use Rattle.lam_scope.proofs.NameStacks.{indexed, index_standing, found_within}
+use Rattle.lam_scope.proofs.name_stack.index_in.Goals as goal
 
 pub overflow_sub-result : goal.overflow_sub-result
 overflow_sub-result c =
@@ -12,8 +12,8 @@ overflow_sub-result-in-Some c =
 
 pub returns-in-None : goal.returns-in-None
 returns-in-None c =
-    sym (count_standing c.args.stack.now c.args.innermost.now c.args.name.now c.requires ∙ ap (counted (length c.args.stack.now)) (sym c.position_in.ensures ∙ c.in-None.is))
+    sym (index_standing c.args.stack.now c.args.innermost.now c.args.name.now c.requires ∙ ap (indexed (length c.args.stack.now)) (sym c.position_in.ensures ∙ c.in-None.is))
 
 pub returns-in-Some : goal.returns-in-Some
 returns-in-Some c =
-    sym (count_standing c.args.stack.now c.args.innermost.now c.args.name.now c.requires ∙ ap (counted (length c.args.stack.now)) (sym c.position_in.ensures ∙ c.in-Some.is))
+    sym (index_standing c.args.stack.now c.args.innermost.now c.args.name.now c.requires ∙ ap (indexed (length c.args.stack.now)) (sym c.position_in.ensures ∙ c.in-Some.is))

@@ -3,7 +3,7 @@ use Rattle.std.proofs.lemmas.Result.{IfOk-weaker}
 use Rattle.lam_typing.specs.inner.Notes.{noted_by}
 use Rattle.lam_typing.specs.inner.Seeing.{note_among}
 use Rattle.lam_typing.specs.inner.Grounds.{found_in}
-use Rattle.lam_typing.proofs.grounds.Grounds.entry_counted.Goals as goal
+use Rattle.lam_typing.proofs.grounds.Grounds.entry_of.Goals as goal
 
 pub returns : goal.returns
 returns c =

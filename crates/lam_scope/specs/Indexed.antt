@@ -4,7 +4,7 @@ use Rattle.lam_rules.specs.Terms.{Term, true_term, false_term, if_then_else, num
 use Rattle.lam_syntax.specs.Trees as tree
 use Rattle.lam_syntax.specs.Trees.{word, TypeTree, type_tree, TypeNode, named, arrow, record_type, TypeFields, no_type_fields, type_field, TermTree, term_tree, TermNode, CommandTree, definition, declaration, evaluation}
 use Rattle.lam_scope.specs.Expansions.{Abbreviation, expansion}
-use Rattle.lam_scope.specs.Nameless.{use_counted, prefixed, abbreviations_after}
+use Rattle.lam_scope.specs.Nameless.{use_indexed, prefixed, abbreviations_after}
 use Rattle.lam_scope.specs.Places.{Statement, defines, declares, abbreviates, states}
 use Rattle.lam_scope.specs.Tables.{TextUse}
 
@@ -73,39 +73,39 @@ past_commands (c ∷ cs) us = past_commands cs (past_command c us)
 
 -- The nameless form of a term under these abbreviations, where its uses begin with the first of these.
 abbrev mutual
-  pub counted : List Abbreviation → TermTree → List TextUse → Term
-  counted bs (term_tree s n) us = counted_node bs n us
+  pub indexed : List Abbreviation → TermTree → List TextUse → Term
+  indexed bs (term_tree s n) us = indexed_node bs n us
 
   -- that of the form of a term
-  pub counted_node : List Abbreviation → TermNode → List TextUse → Term
-  counted_node bs tree.true_term us = true_term
-  counted_node bs tree.false_term us = false_term
-  counted_node bs tree.unit_term us = unit_term
-  counted_node bs (tree.variable (word x s)) us = use_counted x (first_between us)
-  counted_node bs (tree.numeral (word x s)) us = numeral x
-  counted_node bs (tree.lambda b u t) us = lambda (expansion bs u) (counted bs t (past_type u us))
-  counted_node bs (tree.if_term c t u) us = if_then_else (counted bs c us) (counted bs t (past c us)) (counted bs u (past t (past c us)))
-  counted_node bs (tree.let_term b t u) us = let_in (counted bs t us) (counted bs u (past t us))
-  counted_node bs (tree.letrec_term b w t u) us = letrec_in (expansion bs w) (counted bs t (past_type w us)) (counted bs u (past t (past_type w us)))
-  counted_node bs (tree.prefixed p t) us = prefixed p (counted bs t us)
-  counted_node bs (tree.apply t u) us = apply (counted bs t us) (counted bs u (past t us))
-  counted_node bs (tree.project t (word l s)) us = project (counted bs t us) l
-  counted_node bs (tree.ascribe t u) us = ascribe (counted bs t us) (expansion bs u)
-  counted_node bs (tree.record_term fs) us = record_term (counted_fields bs fs us)
+  pub indexed_node : List Abbreviation → TermNode → List TextUse → Term
+  indexed_node bs tree.true_term us = true_term
+  indexed_node bs tree.false_term us = false_term
+  indexed_node bs tree.unit_term us = unit_term
+  indexed_node bs (tree.variable (word x s)) us = use_indexed x (first_between us)
+  indexed_node bs (tree.numeral (word x s)) us = numeral x
+  indexed_node bs (tree.lambda b u t) us = lambda (expansion bs u) (indexed bs t (past_type u us))
+  indexed_node bs (tree.if_term c t u) us = if_then_else (indexed bs c us) (indexed bs t (past c us)) (indexed bs u (past t (past c us)))
+  indexed_node bs (tree.let_term b t u) us = let_in (indexed bs t us) (indexed bs u (past t us))
+  indexed_node bs (tree.letrec_term b w t u) us = letrec_in (expansion bs w) (indexed bs t (past_type w us)) (indexed bs u (past t (past_type w us)))
+  indexed_node bs (tree.prefixed p t) us = prefixed p (indexed bs t us)
+  indexed_node bs (tree.apply t u) us = apply (indexed bs t us) (indexed bs u (past t us))
+  indexed_node bs (tree.project t (word l s)) us = project (indexed bs t us) l
+  indexed_node bs (tree.ascribe t u) us = ascribe (indexed bs t us) (expansion bs u)
+  indexed_node bs (tree.record_term fs) us = record_term (indexed_fields bs fs us)
 
   -- that of the terms of a record, with their labels
-  pub counted_fields : List Abbreviation → tree.FieldTrees → List TextUse → TermFields
-  counted_fields bs tree.no_fields us = no_terms
-  counted_fields bs (tree.field (word l s) t fs) us = term_field l (counted bs t us) (counted_fields bs fs (past t us))
+  pub indexed_fields : List Abbreviation → tree.FieldTrees → List TextUse → TermFields
+  indexed_fields bs tree.no_fields us = no_terms
+  indexed_fields bs (tree.field (word l s) t fs) us = term_field l (indexed bs t us) (indexed_fields bs fs (past t us))
 
 -- what a command states
-abbrev pub statement_counted : List Abbreviation → CommandTree → List TextUse → Statement
-statement_counted bs (definition w t) us = defines (counted bs t us)
-statement_counted bs (declaration w u) us = declares (expansion bs u)
-statement_counted bs (tree.abbreviation w u) us = abbreviates (expansion bs u)
-statement_counted bs (evaluation t) us = states (counted bs t us)
+abbrev pub statement_indexed : List Abbreviation → CommandTree → List TextUse → Statement
+statement_indexed bs (definition w t) us = defines (indexed bs t us)
+statement_indexed bs (declaration w u) us = declares (expansion bs u)
+statement_indexed bs (tree.abbreviation w u) us = abbreviates (expansion bs u)
+statement_indexed bs (evaluation t) us = states (indexed bs t us)
 
 -- what commands state, one after another
-abbrev pub statements_counted : List Abbreviation → List CommandTree → List TextUse → List Statement
-statements_counted bs [] us = []
-statements_counted bs (c ∷ cs) us = statement_counted bs c us ∷ statements_counted (abbreviations_after bs c) cs (past_command c us)
+abbrev pub statements_indexed : List Abbreviation → List CommandTree → List TextUse → List Statement
+statements_indexed bs [] us = []
+statements_indexed bs (c ∷ cs) us = statement_indexed bs c us ∷ statements_indexed (abbreviations_after bs c) cs (past_command c us)
