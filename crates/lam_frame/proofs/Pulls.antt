@@ -117,9 +117,6 @@ module _ {S : Type 0} (from : SourceView S) where
   PulledWhile-end P held source last [] p = subst (λ (s : S). IsAtEnd (from.coming s)) p.2.2 (p.2.1.ended refl)
   PulledWhile-end P held source last (piece ∷ front) p = PulledWhile-end P (held ++ piece) p.2.0 last front p.2.2
 
-  pub pulling_none : (P : List ℕ → Type 0) (held : List ℕ) (pulls : ℕ) (source : S) → pulls ≤ 2 ^ 48 → Pulling from P held pulls source held pulls source
-  pulling_none P held pulls source few = record { pieces = []; needed = refl; some = tt; heard_is = sym (append-nil held); counted = omega arith; few = few }
-
   pub pulling_more : (P : List ℕ → Type 0) (held : List ℕ) (pulls : ℕ) (source : S) (heard : List ℕ) (count : ℕ) (middle : S) (front rest rest_after : List ℕ) (n : ℕ) (last : S)
       → Pulling from P held pulls source heard count middle → P heard → heard ≡ front ++ rest → count < 2 ^ 48 → (n ≡ 0 → ⊥) → (p : PulledPiece from rest middle n rest_after last)
       → Pulling from P held pulls source (front ++ rest_after) (count + 1) last

@@ -101,12 +101,6 @@ pub distinct_drop : (fs : List (String Global × TyNo)) (i : ℕ) (f : String Gl
     → HaveDistinctLabels (drop i fs) ↔ (IsNotAmong (string_bytes f.0) (drop (i + 1) fs) × HaveDistinctLabels (drop (i + 1) fs))
 distinct_drop fs i f lt is = rw (drop_more_read fs i f lt is) ((λ h. h), (λ h. h))
 
-pub among_end : (l : Label) (fs : List (String Global × TyNo)) (i : ℕ) → length fs ≤ i → IsNotAmong l (drop i fs)
-among_end l fs i le = rw (drop_all i fs le) tt
-
-pub distinct_end : (fs : List (String Global × TyNo)) (i : ℕ) → length fs ≤ i → HaveDistinctLabels (drop i fs)
-distinct_end fs i le = rw (drop_all i fs le) tt
-
 -- numbers below a bound
 
 -- the least number that is above each of the numbers

@@ -75,13 +75,6 @@ pub kept_terms : (old now : List Typ) (fs : List InternedField) → Keeps old no
     → (interned_terms now fs ≡ interned_terms old fs) × StandInTerms now fs
 kept_terms old now fs k h = kept_all_over old now (numbered_terms fs) k h
 
-pub kept_statement : (old now : List Typ) (s : InternedStatement) → Keeps old now → StandInStatement old s
-    → (interned_statement now s ≡ interned_statement old s) × StandInStatement now s
-kept_statement old now (interned.Definition e) k h = let one = kept old now e k h in (ap defines one.0, one.1)
-kept_statement old now (interned.Declaration w) k h = let one = kept_written old now w k h in (ap declares one.0, one.1)
-kept_statement old now (interned.Abbreviation w) k h = let one = kept_written old now w k h in (ap abbreviates one.0, one.1)
-kept_statement old now (interned.Evaluation e) k h = let one = kept old now e k h in (ap states one.0, one.1)
-
 -- the types of the table have distinct labels
 
 -- each type of a table has distinct labels at every depth
@@ -122,15 +115,3 @@ mutual
   all_over_wf : (ts : List Typ) (es : NumberedFields) → EachIsWellFormed ts → AreWellFormedTerms (terms_over ts es)
   all_over_wf ts no_terms each = tt
   all_over_wf ts (term_field l e es) each = (over_wf ts e each, all_over_wf ts es each)
-
-pub interned_wf : (ts : List Typ) (e : InternedTerm) → EachIsWellFormed ts → IsWellFormedTerm (interned_term ts e)
-interned_wf ts e each = over_wf ts (numbered_of e) each
-
-pub interned_terms_wf : (ts : List Typ) (fs : List InternedField) → EachIsWellFormed ts → AreWellFormedTerms (interned_terms ts fs)
-interned_terms_wf ts fs each = all_over_wf ts (numbered_terms fs) each
-
-pub interned_statement_wf : (ts : List Typ) (s : InternedStatement) → EachIsWellFormed ts → IsWellFormedStatement (interned_statement ts s)
-interned_statement_wf ts (interned.Definition e) each = interned_wf ts e each
-interned_statement_wf ts (interned.Declaration w) each = written_wf ts w each
-interned_statement_wf ts (interned.Abbreviation w) each = written_wf ts w each
-interned_statement_wf ts (interned.Evaluation e) each = interned_wf ts e each

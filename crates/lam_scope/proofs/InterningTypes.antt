@@ -45,10 +45,6 @@ arrow_interned names s t a b old mid low new before between after p q (Ok w) sta
 arrow_interned names s t a b old mid low new before between after p q (Err x) stand one two keeps number stands =
     record { keeps = keeps_trans old low new (keeps_trans old mid low one.keeps two.keeps) keeps; number = tt; stands = tt; faults = tt }
 
-pub names_stand_on : (names : List NumberedName) (a : TypeNode) (old mid : List Typ) (before after : List TypeFault) (p : Option TyNo)
-    → IsTypeInterned names a old mid before after (Ok p) → TypeIdsStand old names → TypeIdsStand mid names
-names_stand_on names a old mid before after p one stand = (kept_names old mid names one.keeps stand).1
-
 -- labelled numbers
 
 pub kept_given : (old now : List Typ) (items : List (Bor (List ℕ) × TyNo)) → Keeps old now → AllStand old items → (fields_given now items ≡ fields_given old items) × AllStand now items

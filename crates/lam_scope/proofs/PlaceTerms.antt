@@ -61,10 +61,6 @@ terms-places_of s (declares w ∷ ss) = terms-places_of (written w ∷ s) ss
 terms-places_of s (abbreviates w ∷ ss) = terms-places_of s ss
 terms-places_of s (states e ∷ ss) = two (places s e) (places_of s ss) (terms_at e) (terms_in ss) (terms-places s e) (terms-places_of s ss)
 
-terms-length : (ps : List Place) → length (terms_of_places ps) ≡ length ps
-terms-length [] = refl
-terms-length (p ∷ ps) = let e = terms-length ps in omega arith
-
 seek-here : (ps : List Place) (n : ℕ) (d : Place) → n < length ps → seek (terms_of_places ps) n ≡ here (get_or ps n d).here
 seek-here [] n d lt = absurd (omega arith)
 seek-here (p ∷ ps) zero d lt = refl

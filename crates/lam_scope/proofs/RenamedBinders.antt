@@ -46,12 +46,6 @@ renamed_tokens s cs n new spans of named kind keeps told = record {
   tokens = told ∙ (λ i. (binder_numbered (of.same_table i) n).token ∷ uses_listed cs (table_of s) (uses_in s) n of.same_table of.same_uses named.inside i);
 }
 
-pub unfit_refused : (s : Scopes) (cs : List CommandTree) (n : ℕ) (new : Name) (f : RenameFault) → AreScopesOf s cs → IsUnfit (kind_bound (binder_numbered (table_of s) n).origin) new f → IsRefused cs n new f
-unfit_refused s cs n new fault.NotAName of unfit = unfit
-unfit_refused s cs n new fault.WrongKind of unfit = subst (λ (t : Table). IsUnfit (kind_bound (binder_numbered t n).origin) new fault.WrongKind) of.same_table unfit
-unfit_refused s cs n new fault.ChangesBinding of unfit = absurd unfit
-unfit_refused s cs n new fault.Memory of unfit = tt
-
 pub change_refused : (s : Scopes) (cs : List CommandTree) (n : ℕ) (new : Name) → AreScopesOf s cs → IsOne (kind_bound (binder_numbered (table_of s) n).origin) new
     → all_keep (binder_numbered (table_of s) n).answer new (table_of s).binders (table_of s).uses ≡ false → IsRefused cs n new fault.ChangesBinding
 change_refused s cs n new of kind keeps = (

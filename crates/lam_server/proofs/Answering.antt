@@ -62,25 +62,6 @@ module _ {S V W : Type 0} (items : V → List ℕ) (from : SourceView S) (to : S
     says = says;
   }
 
-  -- a message was answered, and the session goes on
-  pub turn_more : (held : List ℕ) (pulls : ℕ) (old : Snapshot) (source : S) (sink : W) (body : V) (held_after : List ℕ) (pulls_after : ℕ) (new : Snapshot) (source_after : S) (sink_after : W)
-      → Reads from IsOpen (Says items) held pulls source (Ok (Some body)) held_after pulls_after source_after
-      → AnswersBody to old (items body) sink (Ok tt) new sink_after → ended_status new.state.life ≡ None
-      → TakesTurn from to (waiting held pulls old) source sink (Ok (More (waiting held_after pulls_after new))) source_after sink_after
-  turn_more held pulls old source sink body held_after pulls_after new source_after sink_after r a live =
-      turn held pulls old source sink (Ok (Some body)) held_after pulls_after source_after sink_after (Ok (More (waiting held_after pulls_after new))) r (
-        record {
-          answers = record {
-            out = frames_of a.0;
-            takes = takes_body old new (held ++ concat r.pieces) (items body) held_after a.0 r.says a.1;
-            sends = a.2;
-          };
-          live = live;
-          counted = r.counted;
-        },
-        r.after,
-      )
-
   -- a message was answered, and the session is over
   pub turn_end : (held : List ℕ) (pulls : ℕ) (old : Snapshot) (source : S) (sink : W) (body : V) (held_after : List ℕ) (pulls_after : ℕ) (new : Snapshot) (source_after : S) (sink_after : W) (status : ℕ)
       → Reads from IsOpen (Says items) held pulls source (Ok (Some body)) held_after pulls_after source_after
@@ -92,13 +73,6 @@ module _ {S V W : Type 0} (items : V → List ℕ) (from : SourceView S) (to : S
             (record { out = frames_of a.0; takes = takes_body old new (held ++ concat r.pieces) (items body) held_after a.0 r.says a.1; sends = a.2 }) over,
         r.after,
       )
-
-  -- the clean end
-  pub turn_silent : (held : List ℕ) (pulls : ℕ) (old : Snapshot) (source : S) (sink : W) (held_after : List ℕ) (pulls_after : ℕ) (source_after : S)
-      → Reads from IsOpen (Says items) held pulls source (Ok None) held_after pulls_after source_after
-      → TakesTurn from to (waiting held pulls old) source sink (Ok (End 1)) source_after sink
-  turn_silent held pulls old source sink held_after pulls_after source_after r =
-      turn held pulls old source sink (Ok None) held_after pulls_after source_after sink (Ok (End 1)) r (by_silence r.says.0 r.says.1 refl refl, r.after)
 
   -- no frame was read
   pub turn_unread : (held : List ℕ) (pulls : ℕ) (old : Snapshot) (source : S) (sink : W) (fault : FrameFault) (held_after : List ℕ) (pulls_after : ℕ) (source_after : S)

@@ -85,9 +85,6 @@ module _ {W : Type 0} (to : SinkView W) where
     pub sends : Sends to old (frames_of done) now
     pub all : values ≡ done ++ rest
 
-  pub none_sent : (values : List Data) (sink : W) → SentBefore values values sink sink
-  none_sent values sink = record { done = []; sends = Sends-nothing sink; all = refl }
-
   pub one_more_sent : (values rest : List Data) (value : Data) (old middle new : W) → SentBefore values (value ∷ rest) old middle
       → Sends to middle (frame_text (compact_text value)) new → SentBefore values rest old new
   one_more_sent values rest value old middle new s p = record {
@@ -97,12 +94,6 @@ module _ {W : Type 0} (to : SinkView W) where
         (Sends-both old middle new (frames_of s.done) (frame_text (compact_text value)) s.sends p);
     all = s.all ∙ sym (append_assoc s.done (value ∷ []) rest);
   }
-
-  pub all_sent : (values : List Data) (old now : W) → SentBefore values [] old now → Sends to old (frames_of values) now
-  all_sent values old now s = subst (λ (l : List Data). Sends to old (frames_of l) now) (sym (append-nil s.done) ∙ sym s.all) s.sends
-
-  pub stops_sending : (values rest : List Data) (old now : W) → SentBefore values rest old now → StopsSending to old values now
-  stops_sending values rest old now s = record { done = s.done; others = rest; split = s.all; sends = s.sends }
 
   pub fails_to_send : (values rest : List Data) (value : Data) (old middle new : W) → SentBefore values (value ∷ rest) old middle
       → AppendsFront (to.taken middle) (to.taken new) (frame_text (compact_text value)) → to.failed new ≡ to.failed middle + 1 → FailsToSend to old (frames_of values) new

@@ -145,14 +145,6 @@ module _ (encoding : Encoding) (lines : List Line) (last front : List ℕ) (spel
           ap (λ ls. offset_on encoding ls end_of_front) (sym (lines_of-only (front ++ after) (Cut (lines ++ more) end) (joined_spell lines more last end front after spell no_lf cut)))
           ∙ lines_sum encoding lines more last end front (units_in encoding last) spell here
 
--- the place behind a front has one position, whatever follows
-pub position_of_front : (encoding : Encoding) (front after other : List ℕ) → NoLfAfterCr front after → NoLfAfterCr front other
-    → position_of encoding (front ++ after) (length front) ≡ position_of encoding (front ++ other) (length front)
-position_of_front encoding front after other no_lf no_other = go (lines_of front) (IsCutOf-lines_of front)
-  where
-    go : (lines : Lines) → IsCutOf front lines → position_of encoding (front ++ after) (length front) ≡ position_of encoding (front ++ other) (length front)
-    go (Cut lines last) cut = position_behind encoding lines last front cut after no_lf ∙ sym (position_behind encoding lines last front cut other no_other)
-
 -- and this means the place behind the front in each text that begins so
 pub comes_back_to_front : (encoding : Encoding) (front after other : List ℕ) → IsUtf8 front → NoLfAfterCr front after → NoLfAfterCr front other
     → offset_of encoding (front ++ other) (position_of encoding (front ++ after) (length front)) ≡ length front

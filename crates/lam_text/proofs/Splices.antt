@@ -104,12 +104,6 @@ open_at-ascii text at h =
     let cut : drop start (take at text) ≡ take (at - start) (drop start text) = rw far at (drop-take start (at - start) text) in
     known ∙ ap all_ascii cut
 
--- of two tests of which the first covers more
-pub or-covered : (a b : Bool) → ((a && b) || a) ≡ a
-or-covered true true = refl
-or-covered true false = refl
-or-covered false b = refl
-
 all_ascii-line : (bytes : List ℕ) (ending : LineEnd) → all_ascii (bytes ++ end_bytes ending) ≡ all_ascii bytes
 all_ascii-line bytes ending = list_all-append (λ b. ltb b 128) bytes (end_bytes ending) ∙ go ending where
   go : (ending : LineEnd) → (all_ascii bytes && all_ascii (end_bytes ending)) ≡ all_ascii bytes

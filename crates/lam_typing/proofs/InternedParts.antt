@@ -112,10 +112,6 @@ module _ (ts : List Typ) where
 
 -- the terms of a record
 
-pub no_more_forms : (ts : List Typ) (forms : List InternedField) (fs : List (String Global × Core)) → length fs ≡ 0 → AreMoreForms ts forms forms (terms_of fs)
-no_more_forms ts forms [] none = record { more = []; are = sym (append-nil forms); stand = tt; same = refl }
-no_more_forms ts forms (f ∷ fs) none = absurd (omega arith)
-
 pub more_forms : {old now : List Typ} {before pushed after : List InternedField} (l : Bor Text) {label : Label} {form : InternedTerm} {e : Term} {es : TermFields}
     → Keeps old now → IsForm old form e → l.now ≡ label → pushed ≡ before ++ record { label = l; term = form } ∷ [] → AreMoreForms now pushed after es
     → AreMoreForms now before after (rules.term_field label e es)
