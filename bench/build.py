@@ -57,12 +57,16 @@ def chains(below, work):
 
 
 def prove(name, jobs):
-    """Proves a crate by that many processes, and keeps what it printed for where it fails."""
+    """Proves a crate by that many processes; returns the minutes of processor time, or None where it fails, and prints then what it said."""
     words = ["rt", "run", "--jobs", str(jobs), "--", "--help"] if name in PROGRAMS else ["rt", "lib", "--jobs", str(jobs)]
-    done = subprocess.run(words, cwd=f"{ROOT}/crates/{name}", stdout=subprocess.PIPE, stderr=subprocess.STDOUT, text=True, errors="replace", check=False)
-    if done.returncode:
-        print(done.stdout[-6000:], file=sys.stderr)
-    return done.returncode == 0
+    with subprocess.Popen(words, cwd=f"{ROOT}/crates/{name}", stdout=subprocess.PIPE, stderr=subprocess.STDOUT, text=True, errors="replace") as run:
+        said = run.stdout.read()
+        _, status, used = os.wait4(run.pid, 0)
+        run.returncode = os.waitstatus_to_exitcode(status)
+    if run.returncode:
+        print(said[-6000:], file=sys.stderr)
+        return None
+    return (used.ru_utime + used.ru_stime) / 60
 
 
 def seconds_left(below, done, cores):
@@ -89,13 +93,13 @@ def main():
                 left.remove(name)
                 running[pool.submit(prove, name, jobs)] = name
             for it in concurrent.futures.wait(running, return_when=concurrent.futures.FIRST_COMPLETED).done:
-                name = running.pop(it)
-                if not it.result():
+                name, minutes = running.pop(it), it.result()
+                if minutes is None:
                     sys.exit(f"{name} is not proved")
                 done.add(name)
                 rest = seconds_left(below, done, cores)
                 ahead = f", at most about {clock(rest)} left" if rest else ""
-                print(f"{name} is proved: {len(done)} of {count} crates, {clock(time.monotonic() - start)}{ahead}", flush=True)
+                print(f"{name} is proved, {minutes:.1f} min of one processor: {len(done)} of {count} crates, {clock(time.monotonic() - start)}{ahead}", flush=True)
 
 
 if __name__ == "__main__":
