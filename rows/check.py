@@ -345,7 +345,7 @@ CASES = [
     Case("no step", ["--verify", "d"], {"a": CALL, "d": sent(steps=[])}, "d: it has no step\n", 1),
     Case("the first of two wrong steps", ["--verify", "d"], {"a": CALL, "d": sent((4, {"type": "Bool"}), steps=[*PROOF[:1], {**PROOF[1], "rule": "T-Unit"}, *PROOF[2:]])}, "d: " + BELOW.format(1) + "\n", 1),
     Case("a premise about no part of the term", ["--verify", "d"], {"a": CALL, "d": sent(steps=[*PROOF[:4], PROOF[1], {**PROOF[4], "from": [0, 3, 4]}])}, "d: " + BELOW.format(5) + "\n", 1),
-    Case("a premise is dropped", ["--verify", "d"], {"a": CALL, "d": sent((3, {"from": [1]}))}, "d: the steps that step 3 follows from are not the last ones before it\n", 1),
+    Case("a premise is dropped", ["--verify", "d"], {"a": CALL, "d": sent((3, {"from": [1]}))}, "d: the premises of step 3 are not the last steps of the proofs directly before it\n", 1),
     Case("steps are cut", ["--verify", "d"], {"a": CALL, "d": sent(steps=PROOF[:4])}, "d: the steps do not make one proof of typing that ends in step 3\n", 1),
     Case("another range", ["--verify", "d"], {"a": CALL, "d": sent((0, {"range": place(2, 0, 3)}))}, "d: step 0 has the range of another term\n", 1),
     Case("a range outside", ["--verify", "d"], {"a": CALL, "d": sent((0, {"range": place(9, 0, 4)}))}, "d: step 0 has a range that is not in the text\n", 1),

@@ -8,11 +8,11 @@ use Rattle.lam_text.specs.declared.units.Encoding.{Encoding}
 use Rattle.lam_text.specs.declared.units.Encoding.TheVariants.{Utf16}
 use Rattle.lam_query.specs.Derivations.{Derivation}
 use Rattle.lam_session.specs.Derivations.{derivation_value}
-use Rattle.lam_check.specs.FirstFaults.{IsFirstFault, IsSound}
+use Rattle.lam_query.specs.FirstFaults.{IsFirstFault, IsSound}
 use Rattle.lam_check.specs.Readable.{IsReadable}
 use Rattle.lam_check.specs.Verdicts.{accepted_line, refused_line, message, unread_text, IsReadingOf, IsVerdict, accepts, refuses, reads_none}
 use Rattle.lam_check.specs.Verified.{IsVerifiedValue}
-use Rattle.lam_check.specs.declared.first_faults.FirstFault.{FirstFault}
+use Rattle.lam_query.specs.declared.answers.FirstFault.{FirstFault}
 use Rattle.lam_check.specs.declared.read_derivations.Unread.{Unread}
 use Rattle.lam_check.specs.declared.read_derivations.Unread.TheVariants.{Memory}
 use Rattle.lam_check.specs.declared.reports.Checked.{Checked}

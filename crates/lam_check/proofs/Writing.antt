@@ -44,11 +44,6 @@ chars_end f was total cs n left past all = sym (append-nil was) ∙ (ap (λ ds. 
     take-nil zero = refl
     take-nil (suc n) = refl
 
--- one more mark
-pub marks_more : (was now start : List ℕ) (n : ℕ) → now ≡ was ++ 94 ∷ [] → was ≡ start ++ replicate n 94 → now ≡ start ++ replicate (n + 1) 94
-marks_more was now start n is all =
-    is ∙ (ap (λ text. text ++ 94 ∷ []) all ∙ (append_assoc start (replicate n 94) (94 ∷ []) ∙ ap (λ text. start ++ text) (replicate-append-replicate n 1 94)))
-
 -- the text of the next character, and those of the characters behind it, are those of the characters that were left
 pub each_more : (f : ℕ → List ℕ) (was now total cs : List ℕ) (n c : ℕ) → (n < length cs) × (c ≡ get_or cs n c)
     → now ≡ was ++ f c → was ++ flat_map f (drop n cs) ≡ total → now ++ flat_map f (drop (n + 1) cs) ≡ total

@@ -7,9 +7,6 @@ pub mod Absences
 pub mod Types
 pub mod Json
 pub mod Readable
-pub mod Levels
 pub mod Verified
-pub mod Judgements
-pub mod FirstFaults
 pub mod Verdicts
 pub mod inner

@@ -10,12 +10,12 @@ use Rattle.lam_query.specs.Derivations.{ContextEntry, Derivation}
 use Rattle.lam_query.specs.Steps.{Conclusion}
 use Rattle.lam_session.specs.Derivations.{derivation_value}
 use Rattle.lam_check.specs.Drawings.{claim_text, line}
-use Rattle.lam_check.specs.FirstFaults.{IsFirstFault, IsSound, last_conclusion}
+use Rattle.lam_query.specs.FirstFaults.{IsFirstFault, IsSound, last_conclusion}
 use Rattle.lam_check.specs.Lines.{shown_line}
 use Rattle.lam_check.specs.Readable.{IsReadable}
 use Rattle.lam_check.specs.Verified.{IsVerifiedValue}
-use Rattle.lam_check.specs.declared.first_faults.FirstFault.{FirstFault}
-use Rattle.lam_check.specs.declared.first_faults.FirstFault.TheVariants as faults
+use Rattle.lam_query.specs.declared.answers.FirstFault.{FirstFault}
+use Rattle.lam_query.specs.declared.answers.FirstFault.TheVariants as faults
 use Rattle.lam_check.specs.declared.read_derivations.Unread.{Unread}
 use Rattle.lam_check.specs.declared.read_derivations.Unread.TheVariants as unread
 use Rattle.lam_check.specs.declared.terms.Role.TheVariants as roles
@@ -57,9 +57,9 @@ abbrev pub claim_in : List ℕ → Option Conclusion → Text
 claim_in text None = []
 claim_in text (Some c) = claim_text text roles.Other c
 
--- `NAME: accepted: CONTEXT |- CLAIM`, or `NAME: accepted: CLAIM` if the context is empty. Labels can have any characters, so those that could control the terminal are replaced.
+-- `NAME: accepted: CONTEXT |- CLAIM`, or `NAME: accepted: CLAIM` if the context is empty. Labels and names of files can have any characters, so those that could control the terminal are replaced.
 abbrev pub accepted_line : (name : Text) → (text : List ℕ) → Derivation → Text
-accepted_line name text x = line (name ++ codes ": accepted: " ++ shown_line (context_text x.context ++ claim_in text (last_conclusion x.steps)))
+accepted_line name text x = line (shown_line name ++ codes ": accepted: " ++ shown_line (context_text x.context ++ claim_in text (last_conclusion x.steps)))
 
 -- ---- refused ones
 
@@ -67,7 +67,7 @@ accepted_line name text x = line (name ++ codes ": accepted: " ++ shown_line (co
 unfoldable pub message : FirstFault → Text
 message faults.NoStep = codes "it has no step"
 message faults.TooDeep = codes "its steps follow from each other on more than 16,384 levels"
-message (faults.Premises n) = codes "the steps that step " ++ decimal n ++ codes " follows from are not the last ones before it"
+message (faults.Premises n) = codes "the premises of step " ++ decimal n ++ codes " are not the last steps of the proofs directly before it"
 message (faults.Loose n) = codes "the steps do not make one proof of typing that ends in step " ++ decimal n
 message faults.TooLarge = codes "the text has a type of more than 4,096 nodes"
 message (faults.NoTerm n) = codes "step " ++ decimal n ++ codes " is about no term of the text"
@@ -90,7 +90,7 @@ unread_text unread.Memory = codes "out of memory"
 
 -- `NAME: MESSAGE`
 abbrev pub refused_line : (name message : Text) → Text
-refused_line name message = line (name ++ codes ": " ++ message)
+refused_line name message = line (shown_line name ++ codes ": " ++ message)
 
 -- ---- reports
 

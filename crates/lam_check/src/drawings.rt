@@ -5,7 +5,7 @@ ghost use Rattle.lam_query.specs.Steps.{Proof, Proofs, steps_of, steps_before, n
 ghost use Rattle.lam_query.specs.Views.{step_of, derivation_of, StepStandsIn};
 ghost use Rattle.lam_check.specs.Drawings.{claim_text, rule_text, before, behind, html_head, latex_claim, drawn, drawn_each, IsDerivedAt, IsDrawnAt, latex_step, arity, axiom_text, written, pack_text};
 ghost use Rattle.lam_check.specs.Terms.{first_role};
-ghost use Rattle.lam_check.specs.Verified.{IsVerified};
+ghost use Rattle.lam_query.specs.Verified.{IsVerified};
 ghost use Rattle.lam_check.specs.inner.Drawing.{Stands, AllStand};
 ghost use Rattle.lam_check.specs.inner.Roles.{RoleStandsIn};
 

@@ -6,10 +6,8 @@
 
 mod absences;
 mod args;
-mod commands;
 mod drawings;
 mod files;
-mod first_faults;
 mod forms;
 mod json;
 mod lines;
@@ -22,8 +20,6 @@ mod sent;
 mod terms;
 mod types;
 mod verdicts;
-mod verify;
-mod wrong_steps;
 
 use absences::absence_at;
 use args::{ArgsFault, Asked, Shown, read_args};

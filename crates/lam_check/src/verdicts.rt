@@ -2,20 +2,19 @@
 ghost use Rattle.std.specs.Prelude.{◌≡◌, ◌++◌, ◌∷◌, [], All, IfOk, OnOk, codes, flat_map, map, option_map, string_bytes};
 ghost use Rattle.serde_json.specs.View.{view};
 ghost use Rattle.lam_query.specs.Views.{StepStandsIn, derivation_of, entry_of, step_of};
-ghost use Rattle.lam_check.specs.FirstFaults.{last_conclusion};
+ghost use Rattle.lam_query.specs.FirstFaults.{last_conclusion};
 ghost use Rattle.lam_check.specs.Readable.{IsReadable};
 ghost use Rattle.lam_check.specs.Verdicts.{IsSent, IsVerdict, accepted_line, claim_in, context_text, entry_text, message, next_entry, refused_line, unread_text};
 ghost use Rattle.lam_check.specs.Verified.{IsVerifiedValue};
 ghost use Rattle.lam_check.specs.declared.read_derivations.Unread.TheVariants.{Memory};
 
 use crate::drawings::claim_of;
-use crate::first_faults::FirstFault;
 use crate::lines::push_shown;
 use crate::read_derivations::{Unread, derivation_in};
 use crate::read_values::two_members;
 use crate::reports::Checked;
-use crate::verify::first_fault;
-use lam_query::answers::{Derivation, Step};
+use lam_query::answers::{Derivation, FirstFault, Step};
+use lam_query::first_fault;
 use lam_rules::{Dialect, Ty, plain_text_of};
 use lam_text::{Doc, Encoding};
 use serde_json::Value;
@@ -103,7 +102,8 @@ fn refused(alloc: Global, name: &str, message: &str) -> Result<Checked, AllocErr
     ensures count { IfOk result (λ verdict. verdict.count ≡ 1) }
     ensures report { IfOk result (λ verdict. string_bytes verdict.report ≡ refused_line name.now message.now) }
 {
-    let mut report = String::from_str(alloc, name)?;
+    let mut report = String::new(alloc);
+    push_shown(&mut report, name)?;
     report.push_str(": ")?;
     report.push_str(message)?;
     report.push_str("\n")?;
@@ -124,7 +124,7 @@ fn message_of(alloc: Global, fault: FirstFault) -> Result<String, AllocError>
         FirstFault::Premises(step) => {
             write!(
                 out,
-                "the steps that step {step} follows from are not the last ones before it"
+                "the premises of step {step} are not the last steps of the proofs directly before it"
             )?;
         }
         FirstFault::Loose(step) => {
@@ -169,7 +169,8 @@ fn accepted(
     let mut said = String::new(alloc);
     push_context(alloc, &mut said, &derivation.context)?;
     push_claim(alloc, &mut said, text, &derivation.steps)?;
-    let mut report = String::from_str(alloc, name)?;
+    let mut report = String::new(alloc);
+    push_shown(&mut report, name)?;
     report.push_str(": accepted: ")?;
     push_shown(&mut report, &said)?;
     report.push_str("\n")?;

@@ -56,8 +56,8 @@ module _ (c : CommandTree) (row : CommandRow) (old now : Analyst) (numbered : Bo
     (keeps : Keeps (types_in old.types) (types_in now.types)) (dialect : dialect_in now.types ≡ dialect_in old.types)
     (binding : IsBinding now.bound c row.binds) (after : IsBoundAfter c (bound_by row.found) numbered now.bound)
     (second : KeepsNumbers numbered now.bound) (numbers : HaveNumbers now.bound) where
-  pub command_kept : now.rows ≡ old.rows → now.reader ≡ old.reader → now.end ≡ old.end → IsKeptBy (c ∷ []) (Some row) old now
-  command_kept rows reader end = record {
+  pub command_kept : now.rows ≡ old.rows → now.reader ≡ old.reader → now.end ≡ old.end → now.bytes_read ≡ old.bytes_read → IsKeptBy (c ∷ []) (Some row) old now
+  command_kept rows reader end bytes_read = record {
     keeps = keeps;
     numbers = numbers_trans old.bound numbered now.bound first second;
     kept = λ names others bound. subst (IsFoundOf names others c (types_in now.types) row.found) (sym dialect) (found names others bound);
@@ -69,6 +69,7 @@ module _ (c : CommandTree) (row : CommandRow) (old now : Analyst) (numbered : Bo
     rows = rows;
     reader = reader;
     end = end;
+    bytes_read = bytes_read;
   }
 
   pub command_sound : IsSound now

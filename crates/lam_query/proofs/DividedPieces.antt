@@ -117,14 +117,6 @@ pub no_tokens_own : (piece : List Lexeme) → length piece ≡ 0 → IsOwnOf pie
 no_tokens_own [] none = no_command (λ c is. nothing_spelled c is.spelled)
 no_tokens_own (t ∷ ts) none = absurd (omega arith)
 
-pub own_commands : (piece : List Lexeme) → (own : List CommandTree) × IsOwnOf piece own
-own_commands piece = by (command_or_none piece)
-  where
-    by : ((c : CommandTree) × IsCommandOf piece c) ⊎ ((c : CommandTree) → IsCommandOf piece c → ⊥)
-        → (own : List CommandTree) × IsOwnOf piece own
-    by (inl is) = (is.0 ∷ [], one_command is.1)
-    by (inr none) = ([], no_command none)
-
 -- the commands of tokens in front of a piece, its own and those behind it are all
 pub commands_around : (front piece behind : List Lexeme) (commands before own after : List CommandTree)
     → EndInSemicolon front → HaveNoSemicolon piece → BeginWithSemicolon behind
@@ -136,14 +128,3 @@ commands_around front piece behind commands before own after ends none begins ar
     let joined = commands_joined (pieces_of front) (with_piece piece (pieces_of behind)) before (own ++ after) are_before
     (own_first piece (pieces_of behind) own after is_own are_after) in
     one_commands ps commands (before ++ (own ++ after)) (subst (λ qs. AreCommandsOf qs commands) cut are) joined
-
-pub commands_divided : (front piece behind : List Lexeme) (commands own : List CommandTree)
-    → EndInSemicolon front → HaveNoSemicolon piece → BeginWithSemicolon behind → IsOwnOf piece own
-    → AreCommandsOf (pieces_of (front ++ (piece ++ behind))) commands
-    → (before : List CommandTree) × (after : List CommandTree)
-    × AreCommandsOf (pieces_of front) before × AreCommandsOf (pieces_of behind) after × (commands ≡ before ++ (own ++ after))
-commands_divided front piece behind commands own ends none begins is_own are =
-    let before = some_commands (pieces_of front) in
-    let after = some_commands (pieces_of behind) in
-    let same = commands_around front piece behind commands before.0 own after.0 ends none begins before.1 is_own after.1 are in
-    (before.0, after.0, before.1, after.1, same)

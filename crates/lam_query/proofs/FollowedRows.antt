@@ -287,9 +287,6 @@ module _ (text : List ℕ) (n : ℕ) (ts : List Typ) (b : Bound) (changed : Chan
       first_of f.old_sight f.left (row_of q) (rows_of (drop (n + 1) Rows)) f.old_last ts b ItsDialect
       (subst (λ rows. AreRows f.old_sight f.left (rows_of rows) f.old_last ts b ItsDialect) split f.old_rows)
 
-  done_is_text : IsUtf8 (joined f.done)
-  done_is_text = joined_is_text outset f.done (rows_of (take n Rows)) f.sight (types_in a.types) a.bound ItsDialect f.rows
-
   behind_is_text : IsUtf8 (joined here.behind)
   behind_is_text =
       joined_is_text (sight_with f.old_sight here.own ts (row_of q).command) here.behind (rows_of (drop (n + 1) Rows)) f.old_last ts b ItsDialect here.others

@@ -32,7 +32,3 @@ if_both (Some x) P Q R so p q = so x p q
 pub if_one : {A : Type 0} (o : Option A) (P R : A → Type 0) → ((x : A) → P x → R x) → IfSome o P → IfSome o R
 if_one None P R so p = tt
 if_one (Some x) P R so p = so x p
-
-pub if_any : {A : Type 0} (o : Option A) (R : A → Type 0) → ((x : A) → R x) → IfSome o R
-if_any None R all = tt
-if_any (Some x) R all = all x

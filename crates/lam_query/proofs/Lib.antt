@@ -129,7 +129,6 @@ pub mod SmallEntries
 pub mod StandInsSeen
 pub mod MeaningsBehind
 pub mod StandInsMade
-pub mod AloneSeen
 pub mod OwnWordsThere
 pub mod TreeParts
 pub mod BlamedParts
@@ -143,3 +142,13 @@ pub mod ExplainedRows
 pub mod BindersBehind
 pub mod ExplainedTexts
 pub mod ExplainedPieces
+pub mod PiecesRead
+pub mod Levels
+pub mod Verifying
+pub mod ListedEntries
+pub mod Misplaced
+pub mod Judging
+pub mod Counting
+pub mod OneFault
+pub mod OwnDerivations
+pub mod Results

@@ -108,10 +108,6 @@ module _ (before : List CommandTree) (o : ℕ) (none_before : place_at (table be
   number_nowhere after none =
       number_behind after ∙ ap (option_map Further) (sym (place_alone Types Names Seen after o) ∙ none)
 
-  pub innermost_none : (after : List CommandTree) → place_at (table after) o ≡ None
-      → innermost_at o (document_terms (before ++ after)) ≡ None
-  innermost_none after none = found_nowhere (λ t. has_byte o (term_of t)) (document_terms (before ++ after)) (number_nowhere after none)
-
   pub none_between : (after : List CommandTree) → place_at (table after) o ≡ None → place_at (table (before ++ after)) o ≡ None
   none_between after none = place_alone [] [] [] (before ++ after) o ∙ number_nowhere after none
 

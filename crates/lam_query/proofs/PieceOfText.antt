@@ -116,24 +116,6 @@ ends_with start piece rest tokens (before_semicolon t are kind ends) =
 ends_with start piece rest tokens (at_end are none) =
     ([], subst (λ ts. AreTokensFrom start piece ts) (sym (append-nil tokens)) are, tt, refl)
 
--- those in front of a piece, and its own
-pub commands_through : (text ahead piece rest : List ℕ) (tokens : List Lexeme) (before own : List CommandTree)
-    → IsPieceOf text ahead piece rest tokens → AreCommandsOfText ahead before → IsOwnOf tokens own
-    → AreCommandsOfText (ahead ++ piece) (before ++ own)
-commands_through text ahead piece rest tokens before own is are_before is_own =
-    let found = ends_with (length ahead) piece rest tokens is.are_own in
-    let all = is.front ++ (tokens ++ found.0) in
-    let are_tokens = front_joined ahead piece is.front (tokens ++ found.0) is.is_front is.are_front is.ends found.1 in
-    let of_all = some_commands (pieces_of all) in
-    let none_behind : AreCommandsOf (pieces_of found.0) [] = subst (λ ps. AreCommandsOf ps []) (sym found.3) refl in
-    let same = commands_around is.front tokens found.0 of_all.0 before own []
-    (front_ends ahead is.front is.are_front is.ends) is.one_piece found.2 (tokens_are ahead is.front before is.are_front are_before) is_own none_behind of_all.1 in
-    record {
-      tokens = all;
-      are_tokens = are_tokens;
-      are_commands = subst (AreCommandsOf (pieces_of all)) (same ∙ ap (λ cs. before ++ cs) (append-nil own)) of_all.1;
-    }
-
 -- Those of the whole text are those in front of the piece, its own and those behind it; at a byte of the piece neither the first nor the
 -- last have a place.
 pub commands_of_piece : (text ahead piece rest : List ℕ) (tokens : List Lexeme) (commands before own : List CommandTree) (o : ℕ)

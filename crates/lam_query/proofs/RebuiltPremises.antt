@@ -79,12 +79,6 @@ premises_put ts = put_behind ts [] ∙ only_behind (typing_premises ts)
 
 -- steps of a list that are read one by one
 
-pub step_done : (i : ℕ) (steps : List RustStep) (step : RustStep) (stack next : List Rebuilt) → i < length steps → step ≡ get_or steps i step → Some next ≡ after_step i (step_of step) stack
-    → after_steps i (map step_of (drop i steps)) stack ≡ after_steps (i + 1) (map step_of (drop (i + 1) steps)) next
-step_done i steps step stack next lt is done =
-    let rest : drop i steps ≡ step ∷ drop (i + 1) steps = rw add-one (drop-cons steps i step lt ∙ ap (λ s. s ∷ drop (suc i) steps) (sym is)) in
-    ap (λ ss. after_steps i (map step_of ss) stack) rest ∙ ap (option_and_then (λ more. after_steps (i + 1) (map step_of (drop (i + 1) steps)) more)) (sym done)
-
 pub step_not_done : (i : ℕ) (steps : List RustStep) (step : RustStep) (stack : List Rebuilt) → i < length steps → step ≡ get_or steps i step → None ≡ after_step i (step_of step) stack
     → after_steps i (map step_of (drop i steps)) stack ≡ None
 step_not_done i steps step stack lt is done =

@@ -196,21 +196,3 @@ pub stand_ins_seen : (s : Sight) (c : CommandTree) (done : List CommandTree) (g 
 stand_ins_seen s c done g found blames d checked sees = seen_alike s c done g found blames d checked sees
 
 -- ---- the binders of its own
-
--- the binders of names that a term of the command sees, but for those of the stand-ins, are the term's own
-pub binders_counted : (s : Sight) (c : CommandTree) (n : ℕ) (own : List (Option Name))
-    → (term_of (tree_in (document_terms (stand_ins s c ++ c ∷ [])) n)).names ≡ own ++ names_behind (stand_ins s c)
-    → map (λ b. (binder_numbered (table (stand_ins s c ++ c ∷ [])) b).name)
-    (drop (length (entered s.names (each_once (free_in_command c)))) (visible_at (table (stand_ins s c ++ c ∷ [])) n))
-    ≡ reverse own
-binders_counted s c n own names =
-    let cs = stand_ins s c ++ c ∷ [] in
-    let t = table cs in
-    let outer = names_behind (stand_ins s c) in
-    let count = length (entered s.names (each_once (free_in_command c))) in
-    let seen = seen_in t.binders (length t.binders) (place_row_numbered t n).inner in
-    let all : map (λ b. (binder_numbered t b).name) (visible_at t n) ≡ reverse outer ++ reverse own =
-    map-reverse (λ b. (binder_numbered t b).name) seen ∙ ap reverse ((row_told cs n).names ∙ names) ∙ reverse-append own outer in
-    sym (drop-map (λ b. (binder_numbered t b).name) count (visible_at t n))
-    ∙ ap (drop count) all
-    ∙ drop_at (reverse outer) (reverse own) count (length-reverse outer ∙ stand_ins_count s c)

@@ -122,9 +122,6 @@ same_span (placed t ps) = refl
 pub same_own : (p : PlacedTree) → (term_of (bare p)).own ≡ (term_of p).own
 same_own (placed t ps) = refl
 
-pub same_written : (p : PlacedTree) → (term_of (bare p)).is_written ≡ (term_of p).is_written
-same_written (placed t ps) = refl
-
 same_byte : (o : ℕ) (p : PlacedTree) → has_byte o (term_of (bare p)) ≡ has_byte o (term_of p)
 same_byte o (placed t ps) = refl
 

@@ -18,4 +18,8 @@ pub mod Views
 pub mod Completions
 pub mod WellTypedDocuments
 pub mod Analyses
+pub mod Levels
+pub mod Verified
+pub mod Judgements
+pub mod FirstFaults
 pub mod inner

@@ -27,3 +27,5 @@ pub mod StandIns
 pub mod SeenBinders
 pub mod Typings
 pub mod Explained
+pub mod Levels
+pub mod Verifying

@@ -83,3 +83,28 @@ pub enum Step {
         premises: Vec<usize>,
     },
 }
+
+/// The first error in a derivation of a term of a text. Steps and entries are indices into the lists of the derivation.
+#[derive(Clone, Copy, Debug, PartialEq, Eq)]
+pub enum FirstFault {
+    /// There is no step.
+    NoStep,
+    /// The steps follow from each other on more than 16,384 levels.
+    TooDeep,
+    /// The premises of this step are not the last steps of the proofs directly before it.
+    Premises(usize),
+    /// This is the last step, and all steps are not those of one proof of typing.
+    Loose(usize),
+    /// A type of the text is too large.
+    TooLarge,
+    /// No term has the range of this step, the last one.
+    NoTerm(usize),
+    /// The names in the context are not those that the term sees.
+    Names,
+    /// This entry of the context does not fit its binder.
+    Entry(usize),
+    /// This step does not follow by its rule from its premises.
+    Step(usize),
+    /// This step has another range than the term that it is about.
+    Range(usize),
+}

@@ -77,6 +77,7 @@ impl<'t> Analyst<'t> {
         ensures none { result.0.rows.items ≡ [] }
         ensures end { result.0.end ≡ front.end }
         ensures commands_typed { result.0.commands_typed ≡ analysis.commands_typed }
+        ensures bytes_read { result.0.bytes_read ≡ analysis.bytes_read }
         ensures between { IsBetweenPieces result.0 }
         ensures bound { AreBoundBy (rows_of (take front.count analysis.rows.items)) analysis.bound result.0.bound }
         ensures stand { StandBy (rows_of (take front.count analysis.rows.items)) analysis.bound result.0.bound }
@@ -139,6 +140,7 @@ impl<'t> Analyst<'t> {
         ensures bound { self.new.bound ≡ self.old.bound }
         ensures end { self.new.end ≡ self.old.end }
         ensures commands_typed { self.new.commands_typed ≡ self.old.commands_typed }
+        ensures bytes_read { self.new.bytes_read ≡ self.old.bytes_read }
     {
         let mut rows = rows;
         let read = mem::replace(&mut self.rows, Vec::new(self.alloc));
@@ -154,6 +156,7 @@ impl<'t> Analyst<'t> {
         requires sound { IsSound self.old }
         requires followed { (ts : List Typ) × (b : Bound) × IsFollowedTo text.now next ts b (λ was now. IsMeantBy was ts b earlier.now) self.old }
         ensures read { OnOk result (IsReadThrough [] outset text.now self.new) }
+        ensures bytes_read { OnOk result (self.old.bytes_read ≤ self.new.bytes_read) }
         ensures sound { OnOk result (IsSound self.new) }
         ensures dialect { dialect_in self.new.types ≡ dialect_in self.old.types }
     {
@@ -179,6 +182,7 @@ impl<'t> Analyst<'t> {
         requires followed { (ts : List Typ) × (b : Bound) × IsFollowedTo text.now number ts b (AgreeOnUnchanged b changed.old) self.old }
         ensures followed { OnOk result ((ts : List Typ) (b : Bound) → IsFollowedTo text.now number ts b (AgreeOnUnchanged b changed.old) self.old → IsFollowedTo text.now (number + 1) ts b (AgreeOnUnchanged b changed.new) self.new) }
         ensures count { OnOk result (length self.new.rows.items ≡ length self.old.rows.items) }
+        ensures bytes_read { OnOk result (self.old.bytes_read ≤ self.new.bytes_read) }
         ensures sound { OnOk result (IsSound self.new) }
         ensures dialect { dialect_in self.new.types ≡ dialect_in self.old.types }
     {
@@ -211,6 +215,7 @@ impl<'t> Analyst<'t> {
         requires followed { (ts : List Typ) × (b : Bound) × IsFollowedTo text.now number ts b (AgreeOnUnchanged b changed.old) self.old }
         ensures followed { OnOk result ((ts : List Typ) (b : Bound) → IsFollowedTo text.now number ts b (AgreeOnUnchanged b changed.old) self.old → IsFollowedTo text.now (number + 1) ts b (AgreeOnUnchanged b changed.new) self.new) }
         ensures count { OnOk result (length self.new.rows.items ≡ length self.old.rows.items) }
+        ensures bytes_read { OnOk result (self.old.bytes_read ≤ self.new.bytes_read) }
         ensures sound { OnOk result (IsSound self.new) }
         ensures dialect { dialect_in self.new.types ≡ dialect_in self.old.types }
     {

@@ -1,5 +1,6 @@
 //! What a language server answers about a text: its diagnostics; the type that each command shows; the type at an offset, and a
-//! derivation of it; the definition, the references and a rename of the name there; and the completions there.
+//! derivation of it; the definition, the references and a rename of the name there; the completions there; and what is wrong first
+//! with a derivation that somebody else made.
 //!
 //! Each answer is a function of the text, an offset and the dialect, except the derivation, which may be any that the rules
 //! accept. Offsets and spans are byte offsets into the UTF-8 text.
@@ -11,6 +12,7 @@ mod binders;
 mod bound;
 mod changed_names;
 mod changes;
+mod commands;
 mod completions;
 mod contexts;
 mod cursor;
@@ -19,6 +21,7 @@ mod derivations;
 mod ends;
 mod entries;
 mod fields;
+mod first_faults;
 mod fronts;
 mod hovers;
 mod laws;
@@ -37,6 +40,8 @@ mod touched;
 mod typed_commands;
 mod types_of_commands;
 mod typings;
+mod verify;
+mod wrong_steps;
 
 pub use analyses::Analysis;
 pub use completions::complete;
@@ -51,6 +56,6 @@ pub use laws::{
 pub use mismatches::explained_faults;
 pub use rebuilding::proof_of_steps;
 pub use renames::{RenameFault, rename};
-pub use steps::steps_of_proof;
 pub use text_faults::faults;
 pub use types_of_commands::command_types;
+pub use verify::first_fault;

@@ -22,7 +22,7 @@ use std::alloc::{AllocError, Global};
 
 /// Returns the steps of a proof about a subterm, each after its premises; the last one concludes the proof. The types of the proof
 /// are moved, since a copy of each would take as long as the proof itself.
-pub fn steps_of_proof(
+pub(crate) fn steps_of_proof(
     alloc: Global,
     scopes: &Scopes,
     place: Place,

@@ -204,7 +204,7 @@ mutual
   fields_tell no_fields = fields_none
   fields_tell (field l t fs) = fields_more l t fs (tells_both t).1 (fields_tell fs)
 
-plain_text_tells : (s t : Typ) → HasReadableLabels s → HasReadableLabels t → plain_text s ≡ plain_text t → s ≡ t
+pub plain_text_tells : (s t : Typ) → HasReadableLabels s → HasReadableLabels t → plain_text s ≡ plain_text t → s ≡ t
 plain_text_tells s t hs ht e = ((tells_both s).1 t [] [] hs ht no_arrow_at_end no_arrow_at_end (ap (λ x. x ++ []) e)).0
 
 pub text_tells : (s t : Typ) (d : Dialect) → HasReadableLabels s → HasReadableLabels t → IsWellFormed s → IsWellFormed t → text s ≡ text t → IsBelow s t d × IsBelow t s d

@@ -12,5 +12,6 @@ pub mod Walk
 pub mod Entries
 pub mod Typings
 pub mod Checking
+pub mod Fitting
 pub mod Causes
 pub mod inner

@@ -13,6 +13,7 @@ mod blame;
 mod checker;
 mod entries;
 mod fault;
+mod fitting;
 mod grounds;
 mod interning;
 mod laws;

@@ -42,6 +42,7 @@ pub record IsKeptBy (own : List CommandTree) (row : Option CommandRow) (old now 
   pub rows : now.rows ≡ old.rows
   pub reader : now.reader ≡ old.reader
   pub end : now.end ≡ old.end
+  pub bytes_read : now.bytes_read ≡ old.bytes_read
 
 -- the row of one more piece is added, before which names have these meanings
 pub record IsRowAdded (piece : List ℕ) (s : Sight) (old now : Analyst) : Type 0 where

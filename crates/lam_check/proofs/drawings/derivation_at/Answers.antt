@@ -1,5 +1,5 @@
-use Rattle.lam_check.proofs.OwnDerivations.{own_verified}
-use Rattle.lam_check.proofs.Verifying.{if_ok}
+use Rattle.lam_query.proofs.OwnDerivations.{own_verified}
+use Rattle.lam_query.proofs.Verifying.{if_ok}
 use Rattle.lam_check.proofs.drawings.derivation_at.Goals as goal
 
 pub returns-clause-verified : goal.returns-clause-verified

@@ -1,7 +1,7 @@
 use Rattle.std.proofs.Common.{◌≡◌, ap, sym, ◌∙◌}
 use Rattle.lam_rules.specs.Texts.{plain_text}
 use Rattle.lam_check.proofs.PlainTypes.{type_there, not_read, type_read}
-use Rattle.lam_check.proofs.Verifying.{other_texts}
+use Rattle.lam_query.proofs.Verifying.{other_texts}
 use Rattle.lam_check.proofs.plain_types.type_of_text.Goals as goal
 
 pub returns-in_default-clause-none : goal.returns-in_default-clause-none

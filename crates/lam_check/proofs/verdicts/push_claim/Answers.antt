@@ -1,6 +1,6 @@
 use Rattle.std.proofs.Common.{◌++◌, string_bytes, Some, ap, sym, ◌∙◌}
 use Rattle.lam_check.specs.Verdicts.{claim_in}
-use Rattle.lam_check.proofs.Verifying.{last_concluded}
+use Rattle.lam_query.proofs.Verifying.{last_concluded}
 use Rattle.lam_check.proofs.verdicts.push_claim.Goals as goal
 
 pub returns-in_ok-push_str-in-Some : goal.returns-in_ok-push_str-in-Some

@@ -12,6 +12,7 @@ loop-i-init c = record {
   sound = c.requires.sound;
   dialect = refl;
   count = sym (c.len-i-end.ensures ∙ c.args.self.now.rows.ok.0);
+  bytes_read = omega arith;
   followed =
       let f = c.requires.followed in
       (f.0, f.1, begun_followed c.args.text.now c.args.next f.0 f.1 c.args.earlier.now c.in_ok-changed.changed c.args.self.now f.2 c.in_ok-changed.ensures.same);
@@ -25,6 +26,7 @@ loop-i-preserved c =
       sound = c.in_ok-follow_row.ensures.sound;
       dialect = c.follow_row.ensures.dialect ∙ before.dialect;
       count = c.in_ok-follow_row.ensures.count ∙ before.count;
+      bytes_read = omega (arith, before.bytes_read, c.in_ok-follow_row.ensures.bytes_read);
       followed = (f.0, f.1, c.in_ok-follow_row.ensures.followed f.0 f.1 f.2);
     }
 

@@ -19,7 +19,7 @@ returns-clause-kept c =
     (c.in_ok-free_numbers.ensures.asked (command_of c.args.command.now) free) c.in_ok-free_numbers.ensures.same c.in_ok-free_numbers.ensures.keeps
     (λ names others. c.in_ok-found.ensures.found c.args.self.now.bound names others seen) c.found_of.ensures.keeps c.found_of.ensures.dialect c.in_ok-binds.ensures.binding
     (subst (λ n. IsBoundAfter (command_of c.args.command.now) n c.around.new.self c.bind.new.self) c.bound.ensures c.in_ok-binds.ensures.bound)
-    c.in_ok-binds.ensures.keeps c.in_ok-binds.ensures.numbers refl refl refl
+    c.in_ok-binds.ensures.keeps c.in_ok-binds.ensures.numbers refl refl refl refl
 
 pub returns-clause-sound : goal.returns-clause-sound
 returns-clause-sound c =

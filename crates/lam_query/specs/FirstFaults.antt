@@ -1,0 +1,152 @@
+-- What is wrong first with a derivation that is not verified, or too deep. Steps and entries are counted from 0, entries from the outermost.
+use Rattle.std.specs.Prelude.{◌≡◌, ◌≢◌, ◌⊎◌, ℕ, suc, ◌<◌, List, [], ◌∷◌, length, take, map, reverse, slice_get, Option, Some, None, true}
+use Rattle.lam_token.specs.declared.span.Span.{Span}
+use Rattle.lam_rules.specs.Typing.{Context, TypingTree, IsTyping}
+use Rattle.lam_rules.specs.declared.rules.Dialect.{Dialect}
+use Rattle.lam_syntax.specs.Trees.{CommandTree}
+use Rattle.lam_scope.specs.Places.{Scope}
+use Rattle.lam_scope.specs.PlacedTerms.{PlacedTree, document_terms, term_of, tree_in}
+use Rattle.lam_typing.specs.Contexts.{Fits, IsContext}
+use Rattle.lam_query.specs.Commands.{AreCommandsOfText}
+use Rattle.lam_query.specs.Derivations.{Derivation, names_seen}
+use Rattle.lam_query.specs.ProofTrees.{typing_tree_in}
+use Rattle.lam_query.specs.Sizes.{IsSizeFault, IsSmall, span_numbered}
+use Rattle.lam_query.specs.Steps.{Conclusion, typing, subtyping, Proof, Proofs, Step, steps_of, steps_of_each, typing_proof}
+use Rattle.lam_query.specs.Judgements.{judgements, IsFirstFailing}
+use Rattle.lam_query.specs.Levels.{AreTooDeep}
+use Rattle.lam_query.specs.Verified.{IsVerified}
+use Rattle.lam_query.specs.declared.answers.FirstFault.{FirstFault}
+use Rattle.lam_query.specs.declared.answers.FirstFault.TheVariants as faults
+
+-- ---- the steps by themselves
+
+-- The steps are those of proofs, one after another: the premises of each step are the last steps of the proofs directly before it.
+pub record AreOfProofs (steps : List Step) : Type 0 where
+  pub proofs : Proofs
+  pub are : steps ≡ steps_of_each 0 proofs
+
+-- This step is the first whose premises are not the last steps of the proofs directly before it: the steps before it are those of proofs, and none with it are.
+pub record IsFirstMisplaced (steps : List Step) (number : ℕ) : Type 0 where
+  pub inside : number < length steps
+  pub before : AreOfProofs (take number steps)
+  pub not_with_it : (n : ℕ) → number < n → AreOfProofs (take n steps) → ⊥
+
+-- The steps are those of one proof of typing, which has this tree.
+pub record MakeTree (steps : List Step) (tree : TypingTree) : Type 0 where
+  pub whole : Proof
+  pub are_steps : steps ≡ steps_of 0 whole
+  pub is_tree : typing_tree_in whole ≡ Some tree
+
+-- the span of the term that a typing conclusion is about
+abbrev pub span_in : Option Conclusion → Option Span
+span_in None = None
+span_in (Some (typing rule s type)) = Some s
+span_in (Some (subtyping rule lower upper)) = None
+
+-- the last conclusion
+abbrev pub last_conclusion : List Step → Option Conclusion
+last_conclusion [] = None
+last_conclusion (s ∷ []) = Some s.conclusion
+last_conclusion (s ∷ t ∷ steps) = last_conclusion (t ∷ steps)
+
+-- the range of the last step
+abbrev pub last_span : List Step → Option Span
+last_span steps = span_in (last_conclusion steps)
+
+-- ---- as a derivation about one term
+
+-- the entries of the context, innermost first
+abbrev pub entries_listed : Derivation → Context
+entries_listed x = reverse (map (λ e. e.type) x.context)
+
+-- the context lists the names in scope at the term
+abbrev pub HasNames : PlacedTree → Derivation → Type 0
+HasNames term x = map (λ e. e.name) x.context ≡ names_seen term
+
+-- The outermost entry that does not fit its binder has this index: it is further out, or else it is this one.
+abbrev pub IsFirstUnfitEntry : Scope → Context → Dialect → ℕ → Type 0
+IsFirstUnfitEntry (b ∷ outside) (entry ∷ g) d number =
+    IsFirstUnfitEntry outside g d number ⊎ (IsContext outside g d × (Fits b (λ h. IsContext outside h d) entry d → ⊥) × (number ≡ length outside))
+IsFirstUnfitEntry _ _ d number = ⊥
+
+-- the lists differ at this index, and not before
+pub record DifferFirst (xs ys : List Step) (number : ℕ) : Type 0 where
+  pub same : take number xs ≡ take number ys
+  pub differ : slice_get xs number ≢ slice_get ys number
+
+-- The context has the names in scope at the term, each with an entry that fits.
+pub record HasContext (term : PlacedTree) (x : Derivation) (d : Dialect) : Type 0 where
+  pub names : HasNames term x
+  pub context : IsContext (term_of term).place.scope (entries_listed x) d
+
+-- in this order: the names in the context, its entries, the steps by their rules, and their ranges
+abbrev pub IsFaultAt : PlacedTree → Derivation → Dialect → FirstFault → Type 0
+IsFaultAt term x d faults.Names = HasNames term x → ⊥
+IsFaultAt term x d (faults.Entry number) = HasNames term x × IsFirstUnfitEntry (term_of term).place.scope (entries_listed x) d number
+IsFaultAt term x d (faults.Step number) =
+    HasContext term x d × (tree : TypingTree) × MakeTree x.steps tree × IsFirstFailing d 0 (judgements (entries_listed x) (term_of term).place.here tree) number
+IsFaultAt term x d (faults.Range number) =
+    HasContext term x d × (tree : TypingTree) × MakeTree x.steps tree × IsTyping (entries_listed x) (term_of term).place.here tree d
+    × DifferFirst x.steps (steps_of 0 (typing_proof term tree)) number
+IsFaultAt term x d _ = ⊥
+
+-- ---- as a derivation about a term of a text
+
+-- The subterm with this index is in the text (a letrec's derived terms are not), and has the range of the last step.
+abbrev pub HasRange : List CommandTree → List Step → ℕ → Type 0
+HasRange commands steps n = ((term_of (tree_in (document_terms commands) n)).is_written ≡ true) × (last_span steps ≡ Some (span_numbered commands n))
+
+-- the subterm with this index is the first such one
+pub record IsFirstWithRange (commands : List CommandTree) (steps : List Step) (number : ℕ) : Type 0 where
+  pub inside : number < length (document_terms commands)
+  pub here : HasRange commands steps number
+  pub first : (n : ℕ) → n < number → HasRange commands steps n → ⊥
+
+-- what is wrong with it as a derivation about the first term with the range of its last step; or there is none
+abbrev pub IsFaultIn : List CommandTree → Derivation → Dialect → FirstFault → Type 0
+IsFaultIn commands x d (faults.NoTerm number) =
+    (suc number ≡ length x.steps) × ((n : ℕ) → n < length (document_terms commands) → HasRange commands x.steps n → ⊥)
+IsFaultIn commands x d fault = (number : ℕ) × IsFirstWithRange commands x.steps number × IsFaultAt (tree_in (document_terms commands) number) x d fault
+
+-- ---- in a text
+
+-- The steps are those of one proof of typing, on at most 16,384 levels.
+pub record AreOfOneProof (steps : List Step) : Type 0 where
+  pub not_deep : AreTooDeep steps → ⊥
+  pub tree : TypingTree
+  pub make : MakeTree steps tree
+
+-- Its steps are those of one proof, and the text has no type of more than 4,096 nodes: what is wrong is in the text.
+pub record IsFaultInText (text : List ℕ) (x : Derivation) (d : Dialect) (fault : FirstFault) : Type 0 where
+  pub of_one_proof : AreOfOneProof x.steps
+  pub commands : List CommandTree
+  pub are_commands : AreCommandsOfText text commands
+  pub small : IsSmall commands d
+  pub is_fault : IsFaultIn commands x d fault
+
+-- The text has a type of more than 4,096 nodes.
+pub record IsTooLarge (text : List ℕ) (d : Dialect) : Type 0 where
+  pub commands : List CommandTree
+  pub are_commands : AreCommandsOfText text commands
+  pub span : Span
+  pub is_fault : IsSizeFault commands span d
+
+-- What is wrong with a derivation, in this order: it has no step, or too many levels; its steps are not those of proofs, or not of one; the text is too large; it is about
+-- no term of the text, or what is wrong with it as one about that term.
+abbrev pub IsFirstFault : List ℕ → Derivation → Dialect → FirstFault → Type 0
+IsFirstFault text x d faults.NoStep = x.steps ≡ []
+IsFirstFault text x d faults.TooDeep = AreTooDeep x.steps
+IsFirstFault text x d (faults.Premises number) = (AreTooDeep x.steps → ⊥) × IsFirstMisplaced x.steps number
+IsFirstFault text x d (faults.Loose number) =
+    (AreTooDeep x.steps → ⊥) × AreOfProofs x.steps × (suc number ≡ length x.steps) × ((tree : TypingTree) → MakeTree x.steps tree → ⊥)
+IsFirstFault text x d faults.TooLarge = AreOfOneProof x.steps × IsTooLarge text d
+IsFirstFault text x d fault = IsFaultInText text x d fault
+
+-- The derivation is verified, and its steps follow from each other on at most 16,384 levels.
+abbrev pub IsSound : List ℕ → Derivation → Dialect → Type 0
+IsSound text x d = IsVerified text x d × (AreTooDeep x.steps → ⊥)
+
+-- what is wrong first, and alone, if it is not
+abbrev pub IsResult : List ℕ → Derivation → Dialect → Option FirstFault → Type 0
+IsResult text x d None = IsSound text x d
+IsResult text x d (Some fault) = (IsSound text x d → ⊥) × IsFirstFault text x d fault × ((other : FirstFault) → IsFirstFault text x d other → other ≡ fault)

@@ -1,0 +1,401 @@
+//! Verification of a derivation against its text.
+//!
+//! Whoever made the derivation is not trusted: the context must list the names that a term of the text sees, each with a type
+//! that it may have there, the steps are built into a proof tree that the proof checker accepts for that term, and the steps of
+//! the tree, with the ranges of the term's parts, must equal those given. The first of these that fails is named.
+ghost use Rattle.std.specs.List.{AllZip};
+ghost use Rattle.std.specs.Prelude.{◌≡◌, ◌<◌, ◌↔◌, IsTrue, List, [], length, Some, None, map, reverse, IfOk, MatchOption, false};
+ghost use Rattle.lam_rules.specs.TermViews.{term_of as core_of, written_of};
+ghost use Rattle.lam_rules.specs.Typing.{IsTyping, TypingTree};
+ghost use Rattle.lam_rules.specs.TypingViews.{context_of, typing_tree_of};
+ghost use Rattle.lam_rules.specs.TypeViews.{typ_of};
+ghost use Rattle.lam_rules.specs.declared.types.Ty.{Ty as RustTy};
+ghost use Rattle.lam_scope.specs.Names.{shown_name};
+ghost use Rattle.lam_scope.specs.Places.{places_of};
+ghost use Rattle.lam_scope.specs.PlacedTerms.{document_terms, term_of, tree_in};
+ghost use Rattle.lam_scope.specs.Tables.{binder_numbered, place_row_numbered, visible_at};
+ghost use Rattle.lam_scope.specs.TableViews.{binder_number};
+ghost use Rattle.lam_scope.specs.Views.{AreScopesOf, table_of, statements_of};
+ghost use Rattle.lam_syntax.specs.Trees.{CommandTree};
+ghost use Rattle.lam_typing.specs.Contexts.{IsContext};
+ghost use Rattle.lam_query.specs.Steps.{typing, subtyping, steps_of, typing_proof};
+ghost use Rattle.lam_query.specs.Views.{derivation_of, entry_of, step_of};
+ghost use Rattle.lam_query.specs.FirstFaults.{DifferFirst, IsFirstUnfitEntry, IsResult, MakeTree, entries_listed, last_span, span_in};
+ghost use Rattle.lam_query.specs.Judgements.{IsFirstFailing, judgements};
+ghost use Rattle.lam_query.specs.Levels.{AreTooDeep};
+ghost use Rattle.lam_typing.specs.Fitting.{FitsAt};
+ghost use Rattle.lam_query.specs.inner.Verifying.{AreFormsOf, IsFirstNot, IsResultAt, IsResultIn};
+
+use crate::answers::{Derivation, FirstFault, Step};
+use crate::commands::commands_of;
+use crate::first_faults::{first_misplaced, is_too_deep};
+use crate::wrong_steps::{copy_of_entry, wrong_step};
+use crate::rebuilding::proof_of_steps;
+use crate::steps::steps_of_proof;
+use lam_rules::{Core, Dialect, SubRule, Ty, TypeProof, TypeRule, check_type, same};
+use lam_scope::{Binder, Origin, Place, Resolved, ScopeFault, Scopes, bind, resolve};
+use lam_token::Span;
+use lam_typing::{Typing, TypingFault, analyse};
+use std::alloc::{AllocError, Global};
+
+/// Returns the first error in a derivation, or `None` if it is about a term of the text.
+pub fn first_fault(
+    alloc: Global,
+    text: &str,
+    derivation: &Derivation,
+    dialect: Dialect,
+) -> Result<Option<FirstFault>, AllocError>
+    ensures { IfOk result (λ fault. IsResult text.now (derivation_of derivation.now) dialect fault) }
+{
+    if derivation.steps.is_empty() {
+        return Ok(Some(FirstFault::NoStep));
+    }
+    if is_too_deep(alloc, &derivation.steps)? {
+        return Ok(Some(FirstFault::TooDeep));
+    }
+    if let Some(number) = first_misplaced(alloc, &derivation.steps)? {
+        return Ok(Some(FirstFault::Premises(number)));
+    }
+    match proof_of_steps(alloc, &derivation.steps)? {
+        Some(proof) => fault_in_text(alloc, text, derivation, &proof, dialect),
+        None => Ok(Some(FirstFault::Loose(derivation.steps.len() - 1))),
+    }
+}
+
+/// The first error in a derivation whose steps are those of this proof.
+fn fault_in_text(
+    alloc: Global,
+    text: &str,
+    derivation: &Derivation,
+    proof: &TypeProof,
+    dialect: Dialect,
+) -> Result<Option<FirstFault>, AllocError>
+    requires not_deep { AreTooDeep (map step_of derivation.now.steps.items) → ⊥ }
+    requires tree { MakeTree (derivation_of derivation.now).steps (typing_tree_of proof.now) }
+    ensures { IfOk result (λ fault. IsResult text.now (derivation_of derivation.now) dialect fault) }
+{
+    let commands = commands_of(alloc, text)?;
+    let scopes = bind(alloc, &commands)?;
+    let resolved = match resolve(alloc, &commands, &scopes) {
+        Ok(resolved) => resolved,
+        Err(ScopeFault::TooLarge(_)) => return Ok(Some(FirstFault::TooLarge)),
+        Err(ScopeFault::Memory) => return Err(AllocError),
+    };
+    let typing = match analyse(alloc, &resolved, dialect) {
+        Ok(typing) => typing,
+        Err(TypingFault::TooLarge(_)) => return Ok(Some(FirstFault::TooLarge)),
+        Err(TypingFault::Memory) => return Err(AllocError),
+    };
+    let entries = entries_of(alloc, &derivation.context)?;
+    fault_of_terms(
+        alloc, &scopes, &resolved, &typing, derivation, &entries, proof, dialect,
+    )
+}
+
+/// The types of a context.
+fn entries_of(
+    alloc: Global,
+    context: &[(String, Option<Ty>)],
+) -> Result<Vec<Option<Ty>>, AllocError>
+    ensures { IfOk result (λ entries. map written_of entries.items ≡ map (λ e. e.type) (map entry_of context.now)) }
+{
+    let mut entries = Vec::with_capacity(alloc, context.len())?;
+    for i in 0..context.len() {
+        let entry = &context[i];
+        entries.push(copy_of_entry(alloc, &entry.1)?)?;
+    }
+    Ok(entries)
+}
+
+/// The first error in a derivation as one about the first term of the text with the range of its last step, or `None` if it is
+/// about a term with that range. `entries` are the types of its context, and `proof` is the tree of its steps.
+fn fault_of_terms(
+    alloc: Global,
+    scopes: &Scopes,
+    resolved: &Resolved,
+    typing: &Typing,
+    derivation: &Derivation,
+    entries: &[Option<Ty>],
+    proof: &TypeProof,
+    dialect: Dialect,
+) -> Result<Option<FirstFault>, AllocError>
+    requires entries { map written_of entries.now ≡ map (λ e. e.type) (derivation_of derivation.now).context }
+    requires tree { MakeTree (derivation_of derivation.now).steps (typing_tree_of proof.now) }
+    ensures { IfOk result (λ fault. (commands : List CommandTree) → AreFormsOf commands scopes.now resolved.now typing.now dialect
+        → IsResultIn commands (derivation_of derivation.now) dialect fault) }
+{
+    let mut first = None;
+    for i in 0..resolved.place_count() {
+        let place = Place(i);
+        if !ends_at(scopes, place, &derivation.steps) {
+            continue;
+        }
+        let found = fault_of_term(
+            alloc, scopes, resolved, typing, derivation, entries, proof, place, dialect,
+        )?;
+        let Some(fault) = found else {
+            return Ok(None);
+        };
+        first = Some(first.unwrap_or(fault));
+    }
+    let last = derivation.steps.len().saturating_sub(1);
+    Ok(Some(first.unwrap_or(FirstFault::NoTerm(last))))
+}
+
+/// The first error in a derivation as one about the term with this id, or `None` if it is about that term.
+fn fault_of_term(
+    alloc: Global,
+    scopes: &Scopes,
+    resolved: &Resolved,
+    typing: &Typing,
+    derivation: &Derivation,
+    entries: &[Option<Ty>],
+    proof: &TypeProof,
+    place: Place,
+    dialect: Dialect,
+) -> Result<Option<FirstFault>, AllocError>
+    requires written { (place_row_numbered (table_of scopes.now) place.0).derived ≡ false }
+    requires inside { place.0 < length (places_of [] (statements_of resolved.now)) }
+    requires entries { map written_of entries.now ≡ map (λ e. e.type) (derivation_of derivation.now).context }
+    requires tree { MakeTree (derivation_of derivation.now).steps (typing_tree_of proof.now) }
+    ensures { IfOk result (λ fault. (commands : List CommandTree) → AreFormsOf commands scopes.now resolved.now typing.now dialect
+        → IsResultAt (tree_in (document_terms commands) place.0) (derivation_of derivation.now) dialect fault) }
+{
+    if !has_names(alloc, scopes, place, &derivation.context)? {
+        return Ok(Some(FirstFault::Names));
+    }
+    if let Some(number) = unfit_entry(alloc, scopes, resolved, typing, place, entries, dialect)? {
+        return Ok(Some(FirstFault::Entry(number)));
+    }
+    let term = resolved.core_at(place);
+    if !check_type(entries, term, proof, dialect) {
+        let number = wrong_step_of(alloc, derivation, term, proof, dialect)?;
+        return Ok(Some(FirstFault::Step(number)));
+    }
+    let steps = steps_about(alloc, scopes, place, derivation)?;
+    match first_other(&derivation.steps, &steps) {
+        Some(number) => Ok(Some(FirstFault::Range(number))),
+        None => Ok(None),
+    }
+}
+
+/// The steps that a derivation with this tree would have if it were about this term. They are given the types of a tree of their own.
+fn steps_about(
+    alloc: Global,
+    scopes: &Scopes,
+    place: Place,
+    derivation: &Derivation,
+) -> Result<Vec<Step>, AllocError>
+    requires { (tree : TypingTree) × MakeTree (derivation_of derivation.now).steps tree }
+    ensures { IfOk result (λ steps. (commands : List CommandTree) (tree : TypingTree) → AreScopesOf scopes.now commands → MakeTree (derivation_of derivation.now).steps tree
+        → map step_of steps.items ≡ steps_of 0 (typing_proof (tree_in (document_terms commands) place.0) tree)) }
+{
+    let Some(proof) = proof_of_steps(alloc, &derivation.steps)? else {
+        unreachable!();
+    };
+    steps_of_proof(alloc, scopes, place, proof)
+}
+
+/// The index of the first step that does not follow by its rule, in a derivation whose tree is not valid for the term.
+fn wrong_step_of(
+    alloc: Global,
+    derivation: &Derivation,
+    term: &Core,
+    proof: &TypeProof,
+    dialect: Dialect,
+) -> Result<usize, AllocError>
+    requires tree { MakeTree (derivation_of derivation.now).steps (typing_tree_of proof.now) }
+    requires wrong { IsTyping (entries_listed (derivation_of derivation.now)) (core_of term.now) (typing_tree_of proof.now) dialect → ⊥ }
+    ensures { IfOk result (λ number. IsFirstFailing dialect 0 (judgements (entries_listed (derivation_of derivation.now)) (core_of term.now) (typing_tree_of proof.now)) number) }
+{
+    let mut context = entries_of(alloc, &derivation.context)?;
+    wrong_step(alloc, &mut context, term, proof, 0, dialect)
+}
+
+/// Whether the term with this id is in the text, and the last step is one of typing and has its span.
+fn ends_at(scopes: &Scopes, place: Place, steps: &[Step]) -> bool
+    ensures { let row = place_row_numbered (table_of scopes.now) place.0 in
+        IsTrue result ↔ ((row.derived ≡ false) × (last_span (map step_of steps.now) ≡ Some row.span)) }
+{
+    if scopes.is_derived(place) {
+        return false;
+    }
+    match steps.last() {
+        Some(step) => is_at(step, scopes.span_of(place)),
+        None => false,
+    }
+}
+
+/// Whether a step is a typing step with this span.
+fn is_at(step: &Step, span: Span) -> bool
+    ensures { IsTrue result ↔ (span_in (Some (step_of step.now).conclusion) ≡ Some span) }
+{
+    match step {
+        Step::Typing { span: own, .. } => *own == span,
+        Step::Sub { .. } => false,
+    }
+}
+
+/// Whether the context lists the names in scope at a subterm.
+fn has_names(
+    alloc: Global,
+    scopes: &Scopes,
+    place: Place,
+    context: &[(String, Option<Ty>)],
+) -> Result<bool, AllocError>
+    ensures { IfOk result (λ has. IsTrue has
+        ↔ (map (λ e. e.name) (map entry_of context.now) ≡ map (λ b. shown_name (binder_numbered (table_of scopes.now) b).name) (visible_at (table_of scopes.now) place.0))) }
+{
+    let binders = scopes.visible_at(alloc, place)?;
+    Ok(are_named(scopes, &binders, context))
+}
+
+fn are_named(scopes: &Scopes, binders: &[Binder], context: &[(String, Option<Ty>)]) -> bool
+    ensures { IsTrue result
+        ↔ (map (λ e. e.name) (map entry_of context.now) ≡ map (λ b. shown_name (binder_numbered (table_of scopes.now) b).name) (map binder_number binders.now)) }
+{
+    if context.len() != binders.len() {
+        return false;
+    }
+    for i in 0..binders.len() {
+        let entry = &context[i];
+        if entry.0.as_str() != scopes.name_of(binders[i]) {
+            return false;
+        }
+    }
+    true
+}
+
+/// The index of the first entry of a context, outermost first, that does not fit its binder, or `None` if the entries are a
+/// context of a subterm.
+fn unfit_entry(
+    alloc: Global,
+    scopes: &Scopes,
+    resolved: &Resolved,
+    typing: &Typing,
+    place: Place,
+    entries: &[Option<Ty>],
+    dialect: Dialect,
+) -> Result<Option<usize>, AllocError>
+    requires { length entries.now ≡ length (visible_at (table_of scopes.now) place.0) }
+    ensures { IfOk result (λ unfit. (commands : List CommandTree) → AreFormsOf commands scopes.now resolved.now typing.now dialect
+        → place.0 < length (document_terms commands)
+        → let scope = (term_of (tree_in (document_terms commands) place.0)).place.scope in
+        MatchOption unfit (IsContext scope (context_of entries.now) dialect) (λ number. IsFirstUnfitEntry scope (context_of entries.now) dialect number)) }
+{
+    let binders = scopes.visible_at(alloc, place)?;
+    first_unfit(typing, resolved.origins(), &binders, entries, dialect)
+}
+
+fn first_unfit(
+    typing: &Typing,
+    origins: &[Origin],
+    binders: &[Binder],
+    entries: &[Option<Ty>],
+    dialect: Dialect,
+) -> Result<Option<usize>, AllocError>
+    requires { length entries.now ≡ length binders.now }
+    ensures { IfOk result (λ unfit. let fits = FitsAt origins.now typing.now dialect in
+        MatchOption unfit (AllZip fits (map binder_number binders.now) (map written_of entries.now))
+        (λ number. IsFirstNot fits (map binder_number binders.now) (map written_of entries.now) number)) }
+{
+    for i in 0..binders.len() {
+        let entry = &entries[i];
+        if !typing.fits(origins, binders[i], entry, dialect)? {
+            return Ok(Some(i));
+        }
+    }
+    Ok(None)
+}
+
+/// The index of the first step that differs from the one in the other list, or `None` if both lists are the same.
+fn first_other(steps: &[Step], others: &[Step]) -> Option<usize>
+    ensures { MatchOption result (map step_of steps.now ≡ map step_of others.now) (λ number. DifferFirst (map step_of steps.now) (map step_of others.now) number) }
+{
+    let both = steps.len().min(others.len());
+    for i in 0..both {
+        let step = &steps[i];
+        let other = &others[i];
+        if !is_same(step, other) {
+            return Some(i);
+        }
+    }
+    if steps.len() == others.len() {
+        return None;
+    }
+    Some(both)
+}
+
+/// Whether two steps are equal.
+fn is_same(left: &Step, right: &Step) -> bool
+    ensures { IsTrue result ↔ (step_of left.now ≡ step_of right.now) }
+{
+    match left {
+        Step::Typing {
+            rule,
+            span,
+            ty,
+            premises,
+        } => is_typing(right, *rule, *span, ty, premises),
+        Step::Sub {
+            rule,
+            lower,
+            upper,
+            premises,
+        } => is_subtyping(right, *rule, lower, upper, premises),
+    }
+}
+
+fn is_typing(step: &Step, rule: TypeRule, span: Span, ty: &Ty, premises: &[usize]) -> bool
+    ensures { IsTrue result ↔ (record { conclusion = typing rule span (typ_of ty.now); premises = premises.now } ≡ step_of step.now) }
+{
+    let Step::Typing {
+        rule: own_rule,
+        span: own_span,
+        ty: own_ty,
+        premises: own_premises,
+    } = step
+    else {
+        return false;
+    };
+    if rule != *own_rule {
+        return false;
+    }
+    if span != *own_span {
+        return false;
+    }
+    if !same(ty, own_ty) {
+        return false;
+    }
+    are_equal(premises, own_premises)
+}
+
+fn is_subtyping(step: &Step, rule: SubRule, lower: &Ty, upper: &Ty, premises: &[usize]) -> bool
+    ensures { IsTrue result ↔ (record { conclusion = subtyping rule (typ_of lower.now) (typ_of upper.now); premises = premises.now } ≡ step_of step.now) }
+{
+    let Step::Sub {
+        rule: own_rule,
+        lower: own_lower,
+        upper: own_upper,
+        premises: own_premises,
+    } = step
+    else {
+        return false;
+    };
+    if rule != *own_rule {
+        return false;
+    }
+    if !same(lower, own_lower) {
+        return false;
+    }
+    if !same(upper, own_upper) {
+        return false;
+    }
+    are_equal(premises, own_premises)
+}
+
+fn are_equal(left: &[usize], right: &[usize]) -> bool
+    ensures { IsTrue result ↔ (left.now ≡ right.now) }
+{
+    left == right
+}

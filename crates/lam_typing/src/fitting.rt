@@ -1,0 +1,50 @@
+//! Whether a context that is given may be one of a scope.
+ghost use Rattle.std.specs.Prelude.{◌≡◌, ◌↔◌, IsTrue, IfOk};
+ghost use Rattle.lam_rules.specs.Subtyping.{IsBelow};
+ghost use Rattle.lam_rules.specs.TermViews.{written_of};
+ghost use Rattle.lam_rules.specs.TypeViews.{typ_of};
+ghost use Rattle.lam_rules.specs.Types.{IsWellFormed};
+ghost use Rattle.lam_typing.specs.Fitting.{FitsAt};
+
+use crate::typing::Typing;
+use lam_rules::{Dialect, Ty, same, wf};
+use lam_scope::{Binder, Origin};
+use lam_sub::is_sub;
+use std::alloc::AllocError;
+
+impl Typing {
+    /// Whether an entry fits a binder: that of a term may be any type that is above the least one, any other is the one found.
+    pub fn fits(
+        &self,
+        origins: &[Origin],
+        binder: Binder,
+        entry: &Option<Ty>,
+        dialect: Dialect,
+    ) -> Result<bool, AllocError>
+        ensures { IfOk result (λ does. IsTrue does ↔ FitsAt origins.now self.now dialect binder.0 (written_of entry.now)) }
+    {
+        let Some(number) = self.type_of_binder(binder) else {
+            return Ok(entry.is_none());
+        };
+        let Some(ty) = entry else {
+            return Ok(false);
+        };
+        self.table().types_differ();
+        let least = self.table().tree(number)?;
+        match origins.get(binder.0) {
+            Some(Origin::Term(_)) => Ok(is_above(&least, ty, dialect)),
+            _ => Ok(same(&least, ty)),
+        }
+    }
+}
+
+/// Whether a type is well formed and a supertype of the other.
+fn is_above(lower: &Ty, ty: &Ty, dialect: Dialect) -> bool
+    requires { IsWellFormed (typ_of lower.now) }
+    ensures { IsTrue result ↔ IsBelow (typ_of lower.now) (typ_of ty.now) dialect }
+{
+    if !wf(ty) {
+        return false;
+    }
+    is_sub(lower, ty, dialect)
+}
