@@ -4,7 +4,7 @@ import json
 import re
 
 from client import Failed, bodies_of, compact, compare_end, framed, ran
-from texts import edited
+from texts import edited, units
 
 SAVED = "file:///saved"
 
@@ -19,11 +19,17 @@ def bodies_in(recording):
     return [json.loads(it) if it.startswith('"') else it for it in recording.split("\n") if it]
 
 
-def hovers(uri, text, name):
-    """Requests for the type at each column of each line of the text, as a client counts in UTF-16."""
+def encoding_of(messages):
+    """What columns are counted in: the first encoding that the editor offers as it begins, else UTF-16."""
+    offered = messages[0]["params"]["capabilities"].get("general", {}).get("positionEncodings")
+    return offered[0] if offered else "utf-16"
+
+
+def hovers(uri, text, name, encoding):
+    """Requests for the type at each column of each line of the text."""
     frames = []
     for line, content in enumerate(re.split("\r\n|\n|\r", text)):
-        for column in range(len(content.encode("utf-16-le")) // 2 + 1):
+        for column in range(units(content, encoding) + 1):
             position = {"line": line, "character": column}
             params = {"textDocument": {"uri": uri}, "position": position}
             frames.append(framed(compact({"id": f"{name} {line}:{column}", "method": "textDocument/hover", "params": params})))
@@ -32,7 +38,7 @@ def hovers(uri, text, name):
 
 def left_by(messages):
     """The text that the opening and the changes among these messages leave, by the player's own reading of the protocol."""
-    text = ""
+    text, encoding = "", encoding_of(messages)
     for message in messages:
         if message.get("method") == "textDocument/didOpen":
             text = message["params"]["textDocument"]["text"]
@@ -40,7 +46,7 @@ def left_by(messages):
             for change in message["params"]["contentChanges"]:
                 where = change.get("range")
                 places = where and [(where[it]["line"], where[it]["character"]) for it in ("start", "end")]
-                text = edited(text, (places, change["text"]), "utf-16")
+                text = edited(text, (places, change["text"]), encoding)
     return text
 
 
@@ -66,7 +72,7 @@ def check_renames(messages, results):
         text, edits = left_by(messages[:at]), answer["changes"][message["params"]["textDocument"]["uri"]]
         for edit in reversed(edits):
             places = [(edit["range"][it]["line"], edit["range"][it]["character"]) for it in ("start", "end")]
-            text = edited(text, (places, edit["newText"]), "utf-16")
+            text = edited(text, (places, edit["newText"]), encoding_of(messages))
         changes = [it for it in range(at, len(messages)) if messages[it].get("method") == "textDocument/didChange"]
         if all(left_by(messages[: it + 1]) != text for it in changes[: len(edits)]):
             raise Failed(f"  the edits of the rename to {message['params']['newName']!r} do not leave the editor's next text")
@@ -76,17 +82,21 @@ def check_recording(program, script):
     """Plays the bodies; in front of the one that closes the document, a document with the saved text is opened, and both are asked about each place."""
     bodies, saved = bodies_in(read(script.recording)), read(script.saved)
     messages = [json.loads(body) for body in bodies]
+    encoding = encoding_of(messages)
     close = next(at for at, it in enumerate(messages) if it.get("method") == "textDocument/didClose")
     uri = messages[close]["params"]["textDocument"]["uri"]
     if left_by(messages[:close]) != saved:
         raise Failed("  the recorded changes do not leave the saved text")
     document = {"textDocument": {"uri": SAVED, "text": saved}}
     opened = framed(compact({"method": "textDocument/didOpen", "params": document}))
-    asked = [*hovers(uri, saved, "edited"), opened, *hovers(SAVED, saved, "saved")]
+    asked = [*hovers(uri, saved, "edited", encoding), opened, *hovers(SAVED, saved, "saved", encoding)]
     given = [*map(framed, bodies[:close]), *asked, *map(framed, bodies[close:])]
     done = ran(program, script, b"".join(given))
     compare_end(script, done, script.status, "")
     results, faults = answers_of(done.stdout)
+    chosen = results[messages[0]["id"]]["capabilities"]["positionEncoding"]
+    if chosen != encoding:
+        raise Failed(f"  columns are to be counted in {encoding}, and the server counts in {chosen}")
     check_renames(messages, results)
     if faults[uri] != faults[SAVED]:
         raise Failed(f"  the faults of the edited text are {faults[uri]}, those of the saved one {faults[SAVED]}")

@@ -1,4 +1,6 @@
-"""kate.py SERVER: types into Kate on a screen of its own, and writes what it sent to rows/recordings/, as record.py does.
+"""kate.py SERVER [NAME]: types into Kate on a screen of its own, and writes what it sent to rows/recordings/, as record.py does.
+
+The files are named NAME, without it kate.
 
 It needs Kate, Xvfb, openbox (a dialog gets no keys without a window manager) and xdotool.
 """
@@ -12,13 +14,16 @@ import time
 from record import START, bodies, write
 from terminal import ENVIRONMENT, FILE, ROOM, SENT, prepare
 
+# By the number of its key: in newer keyboard layouts xdotool finds F2 with a modifier too, and presses that.
+F2 = "<68>"
+
 # What is typed, a pause after each: keys in angle brackets, else letters.
 TYPED = [
     "<alt+y>",  # yes, the server may be started
     "<ctrl+g>", "4", "<Return>", "<Right> <Right> <Right> <Right>", "<alt+l>", "<Return>",  # where a name comes from
     "<ctrl+alt+l>", "<Escape>",  # who uses it
-    "<ctrl+g>", "3", "<Return>", "<F2>", "<ctrl+a>", "größe", "<Return>", "<ctrl+z>", "<ctrl+shift+z>",
-    "<ctrl+g>", "2", "<Return>", "<F2>", "<ctrl+a>", "t", "<Return>",  # which a type name can't have
+    "<ctrl+g>", "3", "<Return>", F2, "<ctrl+a>", "größe", "<Return>", "<ctrl+z>", "<ctrl+shift+z>",
+    "<ctrl+g>", "2", "<Return>", F2, "<ctrl+a>", "t", "<Return>",  # which a type name can't have
     "<ctrl+End>", "z = succ y;", " /* äöü */", "<Return>", "<ctrl+z>", "<ctrl+shift+z>",
     "<ctrl+Home>", "<End>", "<Left> <Left> <Left>", " é", "<BackSpace>",  # types behind the emoji
     "<ctrl+g>", "3", "<Return>", "<shift+Down>", "<ctrl+c>", "<ctrl+v>", "<ctrl+v>",  # copies a line
@@ -55,7 +60,7 @@ def main():
     with open(FILE, newline="") as file:
         saved = file.read()
     print(f"kate: status {status}, {len(messages)} messages")
-    write("kate", messages, saved)
+    write(sys.argv[2] if len(sys.argv) > 2 else "kate", messages, saved)
     shutil.rmtree(ROOM)
 
 

@@ -1,10 +1,15 @@
-"""record.py SERVER [NAME ..]: types into real editors, and writes what they sent to rows/recordings/.
+"""record.py SERVER [NAME[=AS] ..]: types into real editors, and writes what they sent to rows/recordings/.
 
 It needs Neovim, Emacs with eglot and lsp-mode, Vim with ALE, and the built server. Each editor
 runs in a terminal of its own with what `make editors` copies, opens a file, edits it as a person
 would, saves it, closes it and ends. Of each session there are two files: the bodies that came to
 the server, byte for byte, one a line (as a string of JSON where line ends are in it), and the text
 that was saved, with the line ends that the editor sent. rows/recordings.rows plays them.
+
+Without names all sessions are played, with the editors of Debian 12. With `neovim-lf=neovim-0.12` the
+session neovim-lf is played, and its files are named neovim-0.12. So the newer versions were recorded, in
+a folder that held another release of Debian (by debootstrap and chroot): neovim-0.10 in Debian 13, the
+others in unstable, in the autumn of 2026.
 """
 
 import json
@@ -74,14 +79,14 @@ EMACS_END = ["\x18\x13", "\x18k\r", "\x1bxeglot-shutdown-all\r", "\x18\x03"]
 def for_lsp_mode(keys):
     """The keys where lsp-mode talks to the server: it asks which folder the file belongs to, which name's uses are meant, and
     offers the old name as the new one."""
-    changed = ["i"]
+    changed = ["i", "", "", ""]  # pauses, since the server is only then started
     for piece in keys:
         changed += [piece, "\r"] if piece == "\x1b?" else [piece, "\x01\x0b"] if piece == "\x1bxeglot-rename\r" else [piece]
-    return [plain(it).replace("eglot-rename", "lsp-rename") for it in changed]
+    return [it.replace("eglot-rename", "lsp-rename") for it in changed]
 
 
 def plain(text):
-    """The text without characters of four bytes, behind which lsp-mode sends wrong positions."""
+    """The text without characters of four bytes, behind which lsp-mode 8 sends wrong positions."""
     return text.replace("😀", "→").replace("👩‍🔬", "→")
 
 
@@ -111,8 +116,13 @@ SESSIONS = [
     ("neovim-cr-lf", START.replace("\n", "\r\n"), ["nvim", "-i", "NONE", FILE], NEOVIM_KEYS, NEOVIM_END, ""),
     ("emacs-lf", START, ["emacs", "-nw", FILE], EMACS_KEYS, EMACS_END, ""),
     ("emacs-cr-lf", START.replace("\n", "\r\n"), ["emacs", "-nw", FILE], EMACS_KEYS, EMACS_END, ""),
-    ("emacs-lsp-mode", plain(START), ["emacs", "-nw", FILE], for_lsp_mode(EMACS_KEYS), LSP_MODE_END, LSP_MODE),
+    ("emacs-lsp-mode", plain(START), ["emacs", "-nw", FILE], list(map(plain, for_lsp_mode(EMACS_KEYS))), LSP_MODE_END, LSP_MODE),
     ("vim-ale", START, VIM, VIM_KEYS, VIM_END, ""),
+]
+
+# Played only where it is named: lsp-mode 10 sends right positions behind all characters.
+NEWER = [
+    ("emacs-30-lsp-mode", START, ["emacs", "-nw", FILE], for_lsp_mode(EMACS_KEYS), LSP_MODE_END, LSP_MODE),
 ]
 
 
@@ -145,8 +155,9 @@ def write(name, messages, text):
 
 def main():
     server = os.path.abspath(sys.argv[1])
-    chosen = sys.argv[2:]
-    for name, text, command, keys, end, init in SESSIONS:
+    # The name of a session's files, by the name of the session.
+    chosen = {it.split("=")[0]: it.split("=")[-1] for it in sys.argv[2:]}
+    for name, text, command, keys, end, init in SESSIONS + (NEWER if chosen else []):
         if chosen and name not in chosen:
             continue
         prepare(server, text, init)
@@ -157,7 +168,7 @@ def main():
             saved = file.read()
         print(f"{name}: status {status}, {len(messages)} messages")
         line_end = "\r\n" if "\\r\\n" in "".join(messages) else "\n"
-        write(name, messages, saved.replace("\r\n", line_end))
+        write(chosen.get(name, name), messages, saved.replace("\r\n", line_end))
     shutil.rmtree(ROOM)
 
 
