@@ -1,20 +1,22 @@
--- Where a line stands in a document, and how far lines and columns go.
-use Rattle.std.proofs.Common.{◌≡◌, ℕ, zero, suc, ◌+◌, ◌-◌, ◌*◌, ◌<◌, ◌≤◌, List, [], ◌∷◌, length, take, drop, refl, ap, ◌∙◌, inl, inr, arith}
-use Rattle.std.proofs.lemmas.Bool.{cases_lt, le-leb}
-use Rattle.std.proofs.lemmas.List.{length-append, take_at, length-take}
+-- Where a line stands in a document, that no position is between a CR and its LF, and how far lines and columns go.
+use Rattle.std.proofs.Common.{◌≡◌, ℕ, zero, suc, ◌+◌, ◌-◌, ◌*◌, ◌<◌, ◌≤◌, List, [], ◌∷◌, ◌++◌, length, take, drop, get_or, refl, sym, ap, ◌∙◌, inl, inr, arith, append_assoc, true≢false}
+use Rattle.std.proofs.lemmas.Bool.{cases_lt, le-leb, and_parts, eq-eqb}
+use Rattle.std.proofs.lemmas.List.{length-append, take_at, length-take, get_or_append_left, get_or-append-add}
+use Rattle.std.specs.List.{list_all}
 use Rattle.std.proofs.lemmas.Str.{encodes-chars}
 use Rattle.std.specs.Str.{chars, chars_after, continuation_len, lead_bits, IsUtf8}
 use Rattle.lam_text.specs.declared.units.Encoding.{Encoding}
 use Rattle.lam_text.specs.declared.units.Encoding.TheVariants.{Utf32}
 use Rattle.lam_text.specs.Units.{units_of, units, front_within, bytes_within}
-use Rattle.lam_text.specs.Lines.{Line, Ended, Lines, Cut, end_bytes, Spell, IsCutOf, lines_of}
-use Rattle.lam_text.specs.Positions.{offset_in, offset_on, offset_of, position_in, position_on, position_of}
+use Rattle.lam_text.specs.Lines.{Line, Ended, LineEnd, CrLf, Lf, Cr, Lines, Cut, end_bytes, is_plain, IsPlain, EndStands, Spell, IsCutOf, lines_of}
+use Rattle.lam_text.specs.declared.places.Position.{Position}
+use Rattle.lam_text.specs.Positions.{offset_in, offset_on, offset_of, position_in, position_on, position_of, IsInsideCrLf}
 use Rattle.lam_text.specs.inner.Rows.{start_in, content_in}
-use Rattle.lam_text.proofs.Cuts.{IsCutOf-lines_of}
-use Rattle.lam_text.proofs.Walks.{units-cons, units-le-length}
+use Rattle.lam_text.proofs.Cuts.{IsCutOf-lines_of, plain_tests}
+use Rattle.lam_text.proofs.Walks.{units-cons, units-le-length, bytes_within-le}
 use Rattle.lam_text.proofs.Lookups.{some_end}
 use Rattle.lam_text.proofs.LawLemmas.{front_within-units}
-use Rattle.lam_text.proofs.RowLemmas.{row_of, offset_in-row, offset_in-past, position_in-bounds, position_in-character, length-line_bytes}
+use Rattle.lam_text.proofs.RowLemmas.{row_of, IsUtf8-around, offset_in-row, offset_in-past, position_in-bounds, position_in-character, length-line_bytes}
 use Rattle.lam_check.specs.Lines.{line_in, line_on, line_of}
 
 -- ---- what a line holds
@@ -79,6 +81,57 @@ slice_of_line encoding text n far utf8 h = go (lines_of text) (IsCutOf-lines_of 
   go : (lines : Lines) → IsCutOf text lines
       → Slice text (offset_on encoding lines (record { line = n; character = 0 })) (offset_on encoding lines (record { line = n; character = far })) (line_on lines n)
   go (Cut lines last) cut = elim (cases_lt (length lines) n) [ inl many ↦ past lines last cut many | inr few ↦ inside lines last cut few ]
+
+-- ---- no position is between a CR and its LF
+
+no_cr : (bytes : List ℕ) (k : ℕ) → IsPlain bytes → get_or bytes k 0 ≡ 13 → ⊥
+no_cr [] k plain cr = absurd (omega arith)
+no_cr (b ∷ bytes) zero plain cr = true≢false (sym (eq-eqb b 13 cr) ∙ (plain_tests b (and_parts (is_plain b) (list_all is_plain bytes) plain).0).1)
+no_cr (b ∷ bytes) (suc k) plain cr = no_cr bytes k (and_parts (is_plain b) (list_all is_plain bytes) plain).1 cr
+
+-- after a line end that a CR ends no LF follows
+no_lf_after : (bytes : List ℕ) (ending : LineEnd) (after : List ℕ) → EndStands ending after
+    → get_or (bytes ++ (end_bytes ending ++ after)) (length (bytes ++ end_bytes ending) - 1) 0 ≡ 13 → get_or after 0 0 ≡ 10 → ⊥
+no_lf_after bytes CrLf after stands cr lf =
+    let place : length (bytes ++ 13 ∷ 10 ∷ []) - 1 ≡ length bytes + 1 = omega (arith, length-append bytes (13 ∷ 10 ∷ [])) in
+    let last : ◌≡◌ {A = ℕ} 10 13 = sym (get_or-append-add bytes (13 ∷ 10 ∷ after) 1 0) ∙ rw place at cr in
+    absurd (omega arith)
+no_lf_after bytes Lf after stands cr lf =
+    let place : length (bytes ++ 10 ∷ []) - 1 ≡ length bytes + 0 = omega (arith, length-append bytes (10 ∷ [])) in
+    let last : ◌≡◌ {A = ℕ} 10 13 = sym (get_or-append-add bytes (10 ∷ after) 0 0) ∙ rw place at cr in
+    absurd (omega arith)
+no_lf_after bytes Cr [] stands cr lf = absurd (omega arith)
+no_lf_after bytes Cr (b ∷ after) stands cr lf = stands lf
+
+outside_in : (encoding : Encoding) (lines : List Line) (last text : List ℕ) (n character : ℕ) → Spell lines last text → IsUtf8 text
+    → ¬ (IsInsideCrLf text (offset_in encoding lines last n character))
+outside_in encoding [] last text n character spell utf8 inside = no_cr last (offset_in encoding [] last n character - 1) spell.1 (rw spell.0 at inside.cr)
+outside_in encoding (Ended bytes ending ∷ lines) last text zero character spell utf8 inside =
+    let offset = bytes_within encoding character bytes in
+    let within = bytes_within-le encoding character bytes (IsUtf8-around bytes ending spell.0 (rw spell.1 at utf8)).0 in
+    let some = inside.after_start in
+    no_cr bytes (offset - 1) spell.2 (sym (get_or_append_left bytes (end_bytes ending ++ spell.0) 0 (offset - 1) (omega arith)) ∙ rw spell.1 at inside.cr)
+outside_in encoding (Ended bytes ending ∷ lines) last text (suc n) character spell utf8 inside =
+    let front = bytes ++ end_bytes ending in
+    let offset = offset_in encoding lines last n character in
+    let split : text ≡ front ++ spell.0 = spell.1 ∙ sym (append_assoc bytes (end_bytes ending) spell.0) in
+    let lf : get_or spell.0 offset 0 ≡ 10 = sym (get_or-append-add front spell.0 offset 0) ∙ rw split at inside.lf in
+    elim (cases_lt 0 offset) [
+      | inl some ↦
+          let place : length front + offset - 1 ≡ length front + (offset - 1) = omega arith in
+          outside_in encoding lines last spell.0 n character spell.4 (IsUtf8-around bytes ending spell.0 (rw spell.1 at utf8)).1.1
+          (record { after_start = some; cr = sym (get_or-append-add front spell.0 (offset - 1) 0) ∙ rw (split, place) at inside.cr; lf = lf })
+      | inr none ↦
+          let first : offset ≡ 0 = omega arith in
+          let place : length front + offset - 1 ≡ length front - 1 = omega arith in
+          no_lf_after bytes ending spell.0 spell.3 (rw (spell.1, place) at inside.cr) (rw first at lf)
+    ]
+
+pub offset_outside : (encoding : Encoding) (text : List ℕ) (position : Position) → IsUtf8 text → ¬ (IsInsideCrLf text (offset_of encoding text position))
+unfolding offset_of
+offset_outside encoding text position utf8 = go (lines_of text) (IsCutOf-lines_of text) where
+  go : (lines : Lines) → IsCutOf text lines → ¬ (IsInsideCrLf text (offset_on encoding lines position))
+  go (Cut lines last) cut = outside_in encoding lines last text position.line position.character cut utf8
 
 -- ---- how far lines and columns go
 

@@ -1,18 +1,18 @@
 -- What is read of plain texts of types.
-use Rattle.std.proofs.Common.{◌≡◌, ◌≢◌, ℕ, ◌+◌, ◌-◌, ◌<◌, ◌≤◌, zero, suc, List, [], ◌∷◌, ◌++◌, length, get_or, All, MatchOption, IsSomeAnd, Option, Some, None, Bor, String, string_bytes, codes, refl, sym, ap, subst, ◌∙◌, append_assoc, append-nil, arith}
+use Rattle.std.proofs.Common.{◌≡◌, ◌≢◌, ◌↔◌, ℕ, ◌+◌, ◌-◌, ◌<◌, ◌≤◌, List, [], ◌∷◌, ◌++◌, length, get_or, All, MatchOption, IsSomeAnd, Option, Some, None, Bor, String, string_bytes, codes, refl, sym, ap, subst, ◌∙◌, append_assoc, append-nil, arith}
 use Rattle.std.specs.Str.{byte}
 use Rattle.std.proofs.lemmas.List.{append_cancel_left}
-use Rattle.std.proofs.lemmas.List.Elements.{All-head, All-tail}
+use Rattle.std.proofs.lemmas.List.Elements.{All-from_get_or}
 use Rattle.std.proofs.lemmas.Str.Pattern.{IsSplitOnceResult, split_after}
 use Rattle.lam_rules.specs.Types.{Label, Typ, bool, nat, unit, top, arrow, record_of, Fields, no_fields, field, joined}
 use Rattle.std.specs.declared.alloc.Global.{Global}
 use Rattle.lam_rules.specs.TypeViews.{typ_of, fields_of}
 use Rattle.lam_rules.specs.declared.types.Ty.{Ty}
 use Rattle.lam_rules.specs.Texts.{Text, left_of_arrow, separator_before, plain_text, plain_fields}
-use Rattle.lam_rules.specs.ReadableLabels.{HasReadableLabels, HaveReadableLabels}
+use Rattle.lam_rules.specs.ReadableLabels.{IsReadable, HasReadableLabels, HaveReadableLabels}
 use Rattle.lam_rules.proofs.ReadTexts.{apart, not_an_end, fields_text}
 use Rattle.lam_rules.proofs.TypeShapes.{joined-none, joined-push}
-use Rattle.lam_check.specs.Readable.{depth, depth_in}
+use Rattle.lam_check.specs.Readable.{depth, depth_in, IsReadableType}
 use Rattle.lam_check.specs.inner.PlainTypes.{NoArrow, IsTypeRead, levels_on_left}
 
 -- texts by their first bytes
@@ -22,22 +22,28 @@ cut front text x y e f = append_cancel_left front x y (sym e ∙ f)
 
 -- a label with its colon
 
-not_in : (label : Label) → All (λ b. b ≢ byte ":") label → (i : ℕ) → i < length label → get_or label i 0 ≢ 58
-not_in [] all i inside = absurd (omega arith)
-not_in (b ∷ label) all zero inside = All-head (λ b. b ≢ byte ":") b label all
-not_in (b ∷ label) all (suc i) inside = not_in label (All-tail (λ b. b ≢ byte ":") b label all) i (omega arith)
-
 pub label_found : (text : Text) (found : Option (Bor Text × Bor Text)) → IsSplitOnceResult 58 text found
     → (label rest : Text) → All (λ b. b ≢ byte ":") label → text ≡ label ++ (codes ":" ++ rest) → IsSomeAnd found (λ x. (x.0.now ≡ label) × (x.1.now ≡ rest))
-label_found text found split label rest none is = by found (split_after 58 text label rest found split (omega arith) is (not_in label none))
+label_found text found split label rest none is = by found (split_after 58 text label rest found split (omega arith) is (λ i inside. none i 0 inside))
   where
     by : (f : Option (Bor Text × Bor Text)) → MatchOption f ⊥ (λ x. (x.0.now ≡ label) × (x.1.now ≡ rest)) → IsSomeAnd f (λ x. (x.0.now ≡ label) × (x.1.now ≡ rest))
     by None h = absurd h
     by (Some x) h = h
 
+-- a label without colons is readable unless it begins with a brace
+pub readable_label : (l : Label) → ((k : ℕ) → k < length l → get_or l k 0 ≢ 58) → (get_or l 0 0 ≢ 125) ↔ IsReadable l
+readable_label l none = (
+  (λ other. record { no_colon = All-from_get_or (λ b. b ≢ byte ":") l 0 none; no_brace_first = λ rest e. other (ap (λ x. get_or x 0 0) e) }),
+  (λ readable first. begins l first readable),
+)
+  where
+    begins : (l : Label) → get_or l 0 0 ≡ 125 → IsReadable l → ⊥
+    begins [] first readable = absurd (omega arith)
+    begins (b ∷ l) first readable = readable.no_brace_first l (ap (λ a. a ∷ l) first)
+
 -- ---- a type and what follows it
 
-has_depth : (t : Typ) → 0 < depth t
+pub has_depth : (t : Typ) → 0 < depth t
 has_depth bool = omega arith
 has_depth nat = omega arith
 has_depth unit = omega arith
@@ -252,11 +258,13 @@ fields_left items label levels found f fs rest next h is comma none =
 no_arrow_at_end : NoArrow []
 no_arrow_at_end rest e = cc
 
-pub type_there : (text : Text) (levels : ℕ) (found : Option (Ty × Bor Text)) → ReadsType text levels found → (t : Typ) → HasReadableLabels t → depth t ≤ levels → text ≡ plain_text t → IsTypeRead found t []
-type_there text levels found reads t readable small is = reads t [] readable small no_arrow_at_end (is ∙ sym (append-nil (plain_text t)))
+-- the type that was found is the only one that is readable
+pub the_type : (text : Text) (found : Option (Ty × Bor Text)) → ReadsType text 4096 found → (f : Ty × Bor Text) → found ≡ Some f
+    → (t : Typ) → IsReadableType t → text ≡ plain_text t → typ_of f.0 ≡ t
+the_type text found reads f is t readable there =
+    let read : IsTypeRead (Some f) t [] = subst (λ g. IsTypeRead g t []) is (reads t [] readable.labels readable.not_deep no_arrow_at_end (there ∙ sym (append-nil (plain_text t)))) in
+    read.0
 
-pub not_read : (found : Option (Ty × Bor Text)) (t : Typ) → found ≡ None → IsTypeRead found t [] → ⊥
-not_read found t none read = subst (λ f. IsTypeRead f t []) none read
-
-pub type_read : (found : Option (Ty × Bor Text)) (f : Ty × Bor Text) (t : Typ) → found ≡ Some f → IsTypeRead found t [] → typ_of f.0 ≡ t
-type_read found f t is read = let there : IsTypeRead (Some f) t [] = subst (λ g. IsTypeRead g t []) is read in there.0
+pub no_type : (text : Text) (found : Option (Ty × Bor Text)) → ReadsType text 4096 found → found ≡ None → (t : Typ) → IsReadableType t → text ≡ plain_text t → ⊥
+no_type text found reads none t readable there =
+    subst (λ g. IsTypeRead g t []) none (reads t [] readable.labels readable.not_deep no_arrow_at_end (there ∙ sym (append-nil (plain_text t))))

@@ -1,8 +1,10 @@
 -- What is read of values, one after another.
 use Rattle.std.proofs.Common.{◌≡◌, Some, None, Result, Ok, Err, eqb, ℕ, ◌+◌, ◌<◌, ◌≤◌, zero, suc, List, [], ◌∷◌, ◌++◌, length, get_or, map, take, true, not, ◌&&◌, refl, sym, ap, subst, ◌∙◌, arith, true≢false}
+use Rattle.std.specs.List.{All}
 use Rattle.std.proofs.lemmas.List.{take_more, take_all, map-append}
+use Rattle.std.proofs.lemmas.List.Elements.{All-head, All-push, All-same, All-tail}
 use Rattle.std.proofs.lemmas.Simd.{map-map}
-use Rattle.std.specs.Str.{IsCharBoundary, IsUtf8}
+use Rattle.std.specs.Str.{IsUtf8}
 use Rattle.std.specs.Option.{option_and_then}
 use Rattle.std.proofs.lemmas.Bool.{eq-eqb}
 use Rattle.serde_json.specs.Data.{Data, array, object, member, no_members, item, no_items}
@@ -11,13 +13,10 @@ use Rattle.serde_json.specs.View.{view, items_of, items_view}
 use Rattle.serde_json.specs.declared.value.Value.{Value}
 use Rattle.lam_text.specs.declared.places.Position.{Position}
 use Rattle.lam_text.specs.declared.units.Encoding.{Encoding}
-use Rattle.lam_text.specs.Positions.{position_of, offset_of, IsInsideCrLf}
+use Rattle.lam_text.specs.Positions.{position_of, offset_of}
 use Rattle.lam_text.proofs.LawLemmas.{comes_back}
-use Rattle.lam_query.specs.Derivations.{ContextEntry}
-use Rattle.lam_query.specs.Steps.{Step}
-use Rattle.lam_session.specs.Derivations.{entry_value, step_value}
 use Rattle.lam_session.specs.Ranges.{position_value}
-use Rattle.lam_check.specs.Readable.{IsReadableEntry, AreReadableEntries, IsReadableConclusion, AreReadableSteps}
+use Rattle.lam_check.specs.Readable.{IsReadableOffset}
 use Rattle.lam_check.specs.declared.read_derivations.Unread.{Unread}
 use Rattle.lam_check.specs.inner.Read.{IsUnread, number_value}
 
@@ -42,49 +41,38 @@ pub all_read_through : {A B : Type 0} (f : B → Data) (g : A → B) (values : L
     → map view values ≡ map f (map g items)
 all_read_through f g values i items past so_far = all_read (λ x. f (g x)) values i items past so_far ∙ sym (map-map f g items)
 
+pub one_more_readable : {A : Type 0} (P : A → Type 0) (items more : List A) (x : A) → more ≡ items ++ x ∷ [] → All P items → P x → All P more
+one_more_readable P items more x pushed all here = All-same P more (items ++ x ∷ []) pushed (All-push P items x all here)
+
 -- ---- one of the values
 
-pub number_there : (values : List Value) (ns : List ℕ) (i : ℕ) (v : Value) → i < length values → map view values ≡ map number_value ns → (n : ℕ) × (view (get_or values i v) ≡ number_value n)
-number_there [] ns i v inside are = absurd (omega arith)
-number_there (w ∷ values) [] i v inside are = let clash : view w ∷ map view values ≡ [] = are in absurd cc
-number_there (w ∷ values) (n ∷ ns) zero v inside are = let both : view w ∷ map view values ≡ number_value n ∷ map number_value ns = are in (n, cc)
-number_there (w ∷ values) (n ∷ ns) (suc i) v inside are =
-    let both : view w ∷ map view values ≡ number_value n ∷ map number_value ns = are in
-    let rest : map view values ≡ map number_value ns = cc in
-    number_there values ns i v (omega arith) rest
-
-pub entry_there : (values : List Value) (es : List ContextEntry) (i : ℕ) (v : Value) → i < length values → AreReadableEntries es → map view values ≡ map entry_value es
-    → (e : ContextEntry) × IsReadableEntry e.type × (view (get_or values i v) ≡ entry_value e)
-entry_there [] es i v inside readable are = absurd (omega arith)
-entry_there (w ∷ values) [] i v inside readable are = let clash : view w ∷ map view values ≡ [] = are in absurd cc
-entry_there (w ∷ values) (e ∷ es) zero v inside readable are = let both : view w ∷ map view values ≡ entry_value e ∷ map entry_value es = are in (e, readable.0, cc)
-entry_there (w ∷ values) (e ∷ es) (suc i) v inside readable are =
-    let both : view w ∷ map view values ≡ entry_value e ∷ map entry_value es = are in
-    let rest : map view values ≡ map entry_value es = cc in
-    entry_there values es i v (omega arith) readable.1 rest
-
-pub step_there : (encoding : Encoding) (text : List ℕ) (values : List Value) (steps : List Step) (i : ℕ) (v : Value) → i < length values → AreReadableSteps text steps
-    → map view values ≡ map (step_value encoding text) steps → (s : Step) × IsReadableConclusion text s.conclusion × (view (get_or values i v) ≡ step_value encoding text s)
-step_there encoding text [] steps i v inside readable are = absurd (omega arith)
-step_there encoding text (w ∷ values) [] i v inside readable are = let clash : view w ∷ map view values ≡ [] = are in absurd cc
-step_there encoding text (w ∷ values) (s ∷ steps) zero v inside readable are =
-    let both : view w ∷ map view values ≡ step_value encoding text s ∷ map (step_value encoding text) steps = are in
-    (s, readable.0, cc)
-step_there encoding text (w ∷ values) (s ∷ steps) (suc i) v inside readable are =
-    let both : view w ∷ map view values ≡ step_value encoding text s ∷ map (step_value encoding text) steps = are in
-    let rest : map view values ≡ map (step_value encoding text) steps = cc in
-    step_there encoding text values steps i v (omega arith) readable.1 rest
+pub value_there : {A : Type 0} (f : A → Data) (P : A → Type 0) (values : List Value) (xs : List A) (i : ℕ) (v : Value) → i < length values → All P xs → map view values ≡ map f xs
+    → (x : A) × P x × (view (get_or values i v) ≡ f x)
+value_there f P [] xs i v inside all are = absurd (omega arith)
+value_there f P (w ∷ values) [] i v inside all are = let clash : view w ∷ map view values ≡ [] = are in absurd cc
+value_there f P (w ∷ values) (x ∷ xs) zero v inside all are =
+    let both : view w ∷ map view values ≡ f x ∷ map f xs = are in
+    (x, All-head P x xs all, cc)
+value_there f P (w ∷ values) (x ∷ xs) (suc i) v inside all are =
+    let both : view w ∷ map view values ≡ f x ∷ map f xs = are in
+    let rest : map view values ≡ map f xs = cc in
+    value_there f P values xs i v (omega arith) (All-tail P x xs all) rest
 
 -- ---- positions
 
-pub position_is : (encoding : Encoding) (text : List ℕ) (value : Data) (offset : ℕ) (p : Position) → IsUtf8 text → IsCharBoundary text offset → ¬ (IsInsideCrLf text offset)
+pub same_position : (p q : Position) → position_value p ≡ position_value q → p ≡ q
+same_position p q is =
+    let character : p.character ≡ q.character = cc in
+    let line : p.line ≡ q.line = cc in
+    λ i. record { line = line i; character = character i }
+
+pub position_is : (encoding : Encoding) (text : List ℕ) (value : Data) (offset : ℕ) (p : Position) → IsUtf8 text → IsReadableOffset text offset
     → value ≡ position_value p → value ≡ position_value (position_of encoding text offset) → position_of encoding text (offset_of encoding text p) ≡ p
-position_is encoding text value offset p is_text boundary outside is there =
-    let both : position_value p ≡ position_value (position_of encoding text offset) = sym is ∙ there in
-    let character : p.character ≡ (position_of encoding text offset).character = cc in
-    let line : p.line ≡ (position_of encoding text offset).line = cc in
-    let same : p ≡ position_of encoding text offset = λ i. record { line = line i; character = character i } in
-    ap (λ q. position_of encoding text (offset_of encoding text q)) same ∙ ap (position_of encoding text) (comes_back encoding text offset is_text boundary outside) ∙ sym same
+position_is encoding text value offset p utf8 readable is there =
+    let same = same_position p (position_of encoding text offset) (sym is ∙ there) in
+    ap (λ q. position_of encoding text (offset_of encoding text q)) same
+    ∙ ap (position_of encoding text) (comes_back encoding text offset utf8 readable.boundary readable.outside)
+    ∙ sym same
 
 pub not_other_place : (a b : Position) → true ≡ not (eqb a.line b.line && eqb a.character b.character) → a ≡ b → ⊥
 not_other_place a b differ same =

@@ -1,136 +1,73 @@
--- The one derivation of a value.
-use Rattle.std.proofs.Common.{◌≡◌, if◌then◌else◌, ◌==◌, ℕ, ◌+◌, ◌<◌, ◌≤◌, zero, suc, List, [], ◌∷◌, ◌++◌, length, get_or, map, take, Option, String, codes, refl, sym, ap, ◌∙◌, arith}
-use Rattle.std.proofs.lemmas.List.{take_more, take_all, map-append}
-use Rattle.std.specs.Str.{IsCharBoundary, IsUtf8}
-use Rattle.std.specs.declared.alloc.Global.{Global}
-use Rattle.serde_json.specs.Data.{Data, array, string, object, member, no_members}
-use Rattle.serde_json.specs.View.{view, items_of}
-use Rattle.serde_json.specs.declared.value.Value.{Value}
+-- A value is that of one readable derivation.
+use Rattle.std.proofs.Common.{◌≡◌, if◌then◌else◌, ◌==◌, ℕ, List, [], ◌∷◌, get_or, map, Option, Some, None, refl, sym, ap, ◌∙◌}
+use Rattle.std.specs.List.{All}
+use Rattle.std.specs.Option.{IfSome}
+use Rattle.std.specs.Str.{IsUtf8}
+use Rattle.std.proofs.lemmas.List.Elements.{All-head, All-tail}
+use Rattle.serde_json.specs.Data.{Data, null, array, string}
+use Rattle.serde_json.specs.View.{items_of}
 use Rattle.lam_rules.specs.Rules.{name_of_sub_rule, name_of_type_rule}
 use Rattle.lam_rules.specs.Texts.{Text, plain_text}
 use Rattle.lam_rules.specs.Types.{Typ}
 use Rattle.lam_rules.specs.declared.rules.SubRule.{SubRule}
 use Rattle.lam_rules.specs.declared.rules.TypeRule.{TypeRule}
-use Rattle.lam_rules.specs.declared.types.Ty.{Ty}
-use Rattle.lam_text.specs.declared.places.Position.{Position}
+use Rattle.lam_rules.proofs.ReadTexts.{plain_text_tells}
 use Rattle.lam_text.specs.declared.units.Encoding.{Encoding}
-use Rattle.lam_text.specs.Positions.{position_of, offset_of, IsInsideCrLf}
+use Rattle.lam_text.specs.Positions.{position_of, offset_of}
 use Rattle.lam_text.proofs.LawLemmas.{comes_back}
 use Rattle.lam_token.specs.declared.span.Span.{Span}
-use Rattle.lam_query.specs.Derivations.{ContextEntry}
+use Rattle.lam_query.specs.Derivations.{ContextEntry, Derivation}
 use Rattle.lam_query.specs.Steps.{Conclusion, typing, subtyping, Step}
-use Rattle.lam_query.specs.Views.{entry_of, step_of}
-use Rattle.lam_query.specs.declared.answers.Step.{Step as RustStep}
-use Rattle.lam_session.specs.Derivations.{entry_value, premises_value, conclusion_value, step_value}
+use Rattle.lam_session.specs.Derivations.{type_value, entry_value, premises_value, conclusion_value, step_value, derivation_value}
 use Rattle.lam_session.specs.Ranges.{position_value, range_value}
-use Rattle.lam_check.specs.Readable.{IsReadableEntry, AreReadableEntries, IsReadableConclusion, AreReadableSteps, IsReadableSpan, IsReadableType}
+use Rattle.lam_check.specs.Readable.{IsReadable, IsReadableConclusion, IsReadableOffset, IsReadableSpan, IsReadableType}
 use Rattle.lam_check.specs.inner.Read.{number_value, typing_members, subtyping_members}
-use Rattle.lam_check.proofs.ReadValues.{items_same, two_views}
+use Rattle.lam_check.proofs.ReadValues.{items_same, same_position, two_views}
 
--- ---- the only things that the values are of
+-- ---- lists
 
-pub as_many : {A : Type 0} (f : A → Data) (values : List Value) (xs : List A) → map view values ≡ map f xs → length values ≡ length xs
-as_many f [] [] are = refl
-as_many f [] (x ∷ xs) are = let clash : [] ≡ f x ∷ map f xs = are in absurd cc
-as_many f (w ∷ values) [] are = let clash : view w ∷ map view values ≡ [] = are in absurd cc
-as_many f (w ∷ values) (x ∷ xs) are =
-    let both : view w ∷ map view values ≡ f x ∷ map f xs = are in
-    let rest : map view values ≡ map f xs = cc in
-    ap suc (as_many f values xs rest)
+-- if things are determined by their values, so are lists of them
+same_list : {A : Type 0} (P : A → Type 0) (f : A → Data) → ((x y : A) → P x → P y → f x ≡ f y → x ≡ y)
+    → (xs ys : List A) → All P xs → All P ys → array (items_of (map f xs)) ≡ array (items_of (map f ys)) → xs ≡ ys
+same_list {A = A} P f one xs ys some others is =
+    let items : items_of (map f xs) ≡ items_of (map f ys) = cc in
+    by xs ys some others (items_same (map f xs) (map f ys) items)
+  where
+    by : (xs ys : List A) → All P xs → All P ys → map f xs ≡ map f ys → xs ≡ ys
+    by [] [] p q e = refl
+    by [] (y ∷ ys) p q e = let clash : [] ≡ f y ∷ map f ys = e in absurd cc
+    by (x ∷ xs) [] p q e = let clash : f x ∷ map f xs ≡ [] = e in absurd cc
+    by (x ∷ xs) (y ∷ ys) p q e =
+        let both : f x ∷ map f xs ≡ f y ∷ map f ys = e in
+        let first : f x ≡ f y = cc in
+        let rest : map f xs ≡ map f ys = cc in
+        let here = one x y (All-head P x xs p) (All-head P y ys q) first in
+        let more = by xs ys (All-tail P x xs p) (All-tail P y ys q) rest in
+        λ i. here i ∷ more i
 
--- all of them are those that were sent
-pub only_these : {A B : Type 0} (f : A → Data) (g : B → A) (values : List Value) (i : ℕ) (items : List B) (sent : List A)
-    → length values ≤ i → map view values ≡ map f sent → map g items ≡ take i sent → map g items ≡ sent
-only_these f g values i items sent past are so_far =
-    let many = as_many f values sent are in
-    so_far ∙ take_all i sent (omega arith)
+same_premises : (ms ns : List ℕ) → premises_value ms ≡ premises_value ns → ms ≡ ns
+same_premises ms ns e = same_list (λ n. Unit {0}) number_value (λ m n one other is. cc) ms ns (λ k d inside. tt) (λ k d inside. tt) e
 
--- one more of them
-pub one_more_sent : {A B : Type 0} (g : B → A) (items more : List B) (b : B) (sent : List A) (i : ℕ) (x : A)
-    → i < length sent → x ≡ get_or sent i x → g b ≡ x → more ≡ items ++ b ∷ [] → map g items ≡ take i sent → map g more ≡ take (i + 1) sent
-one_more_sent g items more b sent i x inside at is pushed so_far =
-    ap (map g) pushed
-    ∙ map-append g items (b ∷ [])
-    ∙ (λ k. so_far k ++ ((is ∙ at) k) ∷ [])
-    ∙ sym (take_more sent i x inside)
+-- ---- types and entries
 
--- this entry was sent
-pub record IsEntrySent (sent : List ContextEntry) (i : ℕ) (d : Data) : Type 0 where
-  pub entry : ContextEntry
-  pub inside : i < length sent
-  pub at : entry ≡ get_or sent i entry
-  pub readable : IsReadableEntry entry.type
-  pub is : d ≡ entry_value entry
+same_type : (s t : Typ) → IsReadableType s → IsReadableType t → string (plain_text s) ≡ string (plain_text t) → s ≡ t
+same_type s t one other is =
+    let texts : plain_text s ≡ plain_text t = cc in
+    plain_text_tells s t one.labels other.labels texts
 
-pub entry_sent : (values : List Value) (sent : List ContextEntry) (i : ℕ) (v : Value) → i < length values → AreReadableEntries sent → map view values ≡ map entry_value sent
-    → IsEntrySent sent i (view (get_or values i v))
-entry_sent [] sent i v inside readable are = absurd (omega arith)
-entry_sent (w ∷ values) [] i v inside readable are = let clash : view w ∷ map view values ≡ [] = are in absurd cc
-entry_sent (w ∷ values) (e ∷ sent) zero v inside readable are =
-    let both : view w ∷ map view values ≡ entry_value e ∷ map entry_value sent = are in
-    record { entry = e; inside = omega arith; at = refl; readable = readable.0; is = cc }
-entry_sent (w ∷ values) (e ∷ sent) (suc i) v inside readable are =
-    let both : view w ∷ map view values ≡ entry_value e ∷ map entry_value sent = are in
-    let rest : map view values ≡ map entry_value sent = cc in
-    let there = entry_sent values sent i v (omega arith) readable.1 rest in
-    let within = there.inside in
-    record { entry = there.entry; inside = omega arith; at = there.at; readable = there.readable; is = there.is }
+same_entry_type : (a b : Option Typ) → IfSome a IsReadableType → IfSome b IsReadableType → type_value a ≡ type_value b → a ≡ b
+same_entry_type None None one other is = refl
+same_entry_type None (Some t) one other is = let clash : null ≡ string (plain_text t) = is in absurd cc
+same_entry_type (Some s) None one other is = let clash : string (plain_text s) ≡ null = is in absurd cc
+same_entry_type (Some s) (Some t) one other is = ap (λ u. Some u) (same_type s t one other is)
 
--- this step was sent
-pub record IsStepSent (encoding : Encoding) (text : List ℕ) (sent : List Step) (i : ℕ) (d : Data) : Type 0 where
-  pub step : Step
-  pub inside : i < length sent
-  pub at : step ≡ get_or sent i step
-  pub readable : IsReadableConclusion text step.conclusion
-  pub is : d ≡ step_value encoding text step
-
-pub step_sent : (encoding : Encoding) (text : List ℕ) (values : List Value) (sent : List Step) (i : ℕ) (v : Value) → i < length values → AreReadableSteps text sent
-    → map view values ≡ map (step_value encoding text) sent → IsStepSent encoding text sent i (view (get_or values i v))
-step_sent encoding text [] sent i v inside readable are = absurd (omega arith)
-step_sent encoding text (w ∷ values) [] i v inside readable are = let clash : view w ∷ map view values ≡ [] = are in absurd cc
-step_sent encoding text (w ∷ values) (s ∷ sent) zero v inside readable are =
-    let both : view w ∷ map view values ≡ step_value encoding text s ∷ map (step_value encoding text) sent = are in
-    record { step = s; inside = omega arith; at = refl; readable = readable.0; is = cc }
-step_sent encoding text (w ∷ values) (s ∷ sent) (suc i) v inside readable are =
-    let both : view w ∷ map view values ≡ step_value encoding text s ∷ map (step_value encoding text) sent = are in
-    let rest : map view values ≡ map (step_value encoding text) sent = cc in
-    let there = step_sent encoding text values sent i v (omega arith) readable.1 rest in
-    let within = there.inside in
-    record { step = there.step; inside = omega arith; at = there.at; readable = there.readable; is = there.is }
-
-pub entries_until : (values : List Value) (i : ℕ) (v : Value) (items more : List (String Global × Option Ty)) (b : String Global × Option Ty) → i < length values → v ≡ get_or values i v
-    → ((sent : ContextEntry) → IsReadableEntry sent.type → view v ≡ entry_value sent → entry_of b ≡ sent) → more ≡ items ++ b ∷ []
-    → ((sent : List ContextEntry) → AreReadableEntries sent → map view values ≡ map entry_value sent → map entry_of items ≡ take i sent)
-    → (sent : List ContextEntry) → AreReadableEntries sent → map view values ≡ map entry_value sent → map entry_of more ≡ take (i + 1) sent
-entries_until values i v items more b inside at only pushed so_far sent readable are =
-    let there = entry_sent values sent i v inside readable are in
-    one_more_sent entry_of items more b sent i there.entry there.inside there.at (only there.entry there.readable (ap view at ∙ there.is)) pushed (so_far sent readable are)
-
-pub steps_until : (encoding : Encoding) (text : List ℕ) (values : List Value) (i : ℕ) (v : Value) (items more : List RustStep) (b : RustStep) → i < length values → v ≡ get_or values i v
-    → ((sent : Step) → IsReadableConclusion text sent.conclusion → view v ≡ step_value encoding text sent → step_of b ≡ sent) → more ≡ items ++ b ∷ []
-    → ((sent : List Step) → AreReadableSteps text sent → map view values ≡ map (step_value encoding text) sent → map step_of items ≡ take i sent)
-    → (sent : List Step) → AreReadableSteps text sent → map view values ≡ map (step_value encoding text) sent → map step_of more ≡ take (i + 1) sent
-steps_until encoding text values i v items more b inside at only pushed so_far sent readable are =
-    let there = step_sent encoding text values sent i v inside readable are in
-    one_more_sent step_of items more b sent i there.step there.inside there.at (only there.step there.readable (ap view at ∙ there.is)) pushed (so_far sent readable are)
-
--- numbers of premises have one value
-pub same_numbers : (ms ns : List ℕ) → map number_value ms ≡ map number_value ns → ms ≡ ns
-same_numbers [] [] e = refl
-same_numbers [] (n ∷ ns) e = let clash : [] ≡ number_value n ∷ map number_value ns = e in absurd cc
-same_numbers (m ∷ ms) [] e = let clash : number_value m ∷ map number_value ms ≡ [] = e in absurd cc
-same_numbers (m ∷ ms) (n ∷ ns) e =
-    let both : number_value m ∷ map number_value ms ≡ number_value n ∷ map number_value ns = e in
-    let first : m ≡ n = cc in
-    let rest : map number_value ms ≡ map number_value ns = cc in
-    let others = same_numbers ms ns rest in
-    λ i. first i ∷ others i
-
-pub same_premises : (ms ns : List ℕ) → premises_value ms ≡ premises_value ns → ms ≡ ns
-same_premises ms ns e =
-    let both : array (items_of (map number_value ms)) ≡ array (items_of (map number_value ns)) = e in
-    let items : items_of (map number_value ms) ≡ items_of (map number_value ns) = cc in
-    same_numbers ms ns (items_same (map number_value ms) (map number_value ns) items)
+same_entry : (a b : ContextEntry) → IfSome a.type IsReadableType → IfSome b.type IsReadableType → entry_value a ≡ entry_value b → a ≡ b
+same_entry a b one other is =
+    let both : (string a.name ≡ string b.name) × (type_value a.type ≡ type_value b.type) = two_views refl is in
+    let names : string a.name ≡ string b.name = both.0 in
+    let name : a.name ≡ b.name = cc in
+    let type = same_entry_type a.type b.type one other both.1 in
+    λ i. record { name = name i; type = type i }
 
 -- ---- the names of rules
 
@@ -171,7 +108,7 @@ named_type_rule TypeRule.Proj = refl
 named_type_rule TypeRule.Fix = refl
 named_type_rule TypeRule.Sub = refl
 
-pub same_type_rule : (r s : TypeRule) → name_of_type_rule r ≡ name_of_type_rule s → r ≡ s
+same_type_rule : (r s : TypeRule) → name_of_type_rule r ≡ name_of_type_rule s → r ≡ s
 same_type_rule r s e = sym (named_type_rule r) ∙ ap type_rule_of e ∙ named_type_rule s
 
 abbrev sub_rule_of : Text → SubRule
@@ -194,84 +131,69 @@ named_sub_rule SubRule.RcdDepth = refl
 named_sub_rule SubRule.RcdPerm = refl
 named_sub_rule SubRule.BoolNat = refl
 
-pub same_sub_rule : (r s : SubRule) → name_of_sub_rule r ≡ name_of_sub_rule s → r ≡ s
+same_sub_rule : (r s : SubRule) → name_of_sub_rule r ≡ name_of_sub_rule s → r ≡ s
 same_sub_rule r s e = sym (named_sub_rule r) ∙ ap sub_rule_of e ∙ named_sub_rule s
 
--- ---- the one step of its members
+-- ---- spans and steps
 
-same_step : (a : Conclusion) (ms : List ℕ) (step : Step) → a ≡ step.conclusion → ms ≡ step.premises → record { conclusion = a; premises = ms } ≡ step
-same_step a ms step c p = λ i. record { conclusion = c i; premises = p i }
+same_offset : (encoding : Encoding) (text : List ℕ) (a b : ℕ) → IsUtf8 text → IsReadableOffset text a → IsReadableOffset text b
+    → position_value (position_of encoding text a) ≡ position_value (position_of encoding text b) → a ≡ b
+same_offset encoding text a b utf8 one other is =
+    sym (comes_back encoding text a utf8 one.boundary one.outside)
+    ∙ ap (offset_of encoding text) (same_position (position_of encoding text a) (position_of encoding text b) is)
+    ∙ comes_back encoding text b utf8 other.boundary other.outside
 
-pub typing_sent : (encoding : Encoding) (text : List ℕ) (from range rule type : Data) (r : TypeRule) (s : Span) (t : Typ) (ns : List ℕ)
-    → rule ≡ string (name_of_type_rule r) → from ≡ premises_value ns
-    → ((sent : Span) → IsReadableSpan text sent → range ≡ range_value encoding text sent → s ≡ sent)
-    → ((sent : Typ) → IsReadableType sent → type ≡ string (plain_text sent) → t ≡ sent)
-    → (sent : Step) → IsReadableConclusion text sent.conclusion → typing_members from range rule type ≡ step_value encoding text sent
-    → record { conclusion = typing r s t; premises = ns } ≡ sent
-typing_sent encoding text from range rule type r s t ns named numbers span typ sent readable is = by sent.conclusion readable is refl
-  where
-    by : (c : Conclusion) → IsReadableConclusion text c → typing_members from range rule type ≡ conclusion_value encoding text sent.premises c → c ≡ sent.conclusion
-        → record { conclusion = typing r s t; premises = ns } ≡ sent
-    by (subtyping q lower upper) readable is there =
-        let clash : typing_members from range rule type ≡ subtyping_members (premises_value sent.premises) (string (plain_text lower)) (string (name_of_sub_rule q)) (string (plain_text upper)) = is in
-        absurd cc
-    by (typing q u v) readable is there =
-        let both : typing_members from range rule type ≡ typing_members (premises_value sent.premises) (range_value encoding text u) (string (name_of_type_rule q)) (string (plain_text v)) = is in
-        let first : from ≡ premises_value sent.premises = cc in
-        let second : range ≡ range_value encoding text u = cc in
-        let third : rule ≡ string (name_of_type_rule q) = cc in
-        let fourth : type ≡ string (plain_text v) = cc in
-        let names : string (name_of_type_rule r) ≡ string (name_of_type_rule q) = sym named ∙ third in
-        let name : name_of_type_rule r ≡ name_of_type_rule q = cc in
-        let same_rule = same_type_rule r q name in
-        let same_span = span u readable.0 second in
-        let same_type = typ v readable.1 fourth in
-        same_step (typing r s t) ns sent ((λ i. typing (same_rule i) (same_span i) (same_type i)) ∙ there) (same_premises ns sent.premises (sym numbers ∙ first))
+same_span : (encoding : Encoding) (text : List ℕ) (s u : Span) → IsUtf8 text → IsReadableSpan text s → IsReadableSpan text u → range_value encoding text s ≡ range_value encoding text u → s ≡ u
+same_span encoding text s u utf8 one other is =
+    let both : (position_value (position_of encoding text s.end) ≡ position_value (position_of encoding text u.end)) × (position_value (position_of encoding text s.start) ≡ position_value (position_of encoding text u.start)) =
+    two_views refl is in
+    let end = same_offset encoding text s.end u.end utf8 one.end other.end both.0 in
+    let start = same_offset encoding text s.start u.start utf8 one.start other.start both.1 in
+    λ i. record { start = start i; end = end i }
 
-pub subtyping_sent : (encoding : Encoding) (text : List ℕ) (from lower rule upper : Data) (r : SubRule) (t u : Typ) (ns : List ℕ)
-    → rule ≡ string (name_of_sub_rule r) → from ≡ premises_value ns
-    → ((sent : Typ) → IsReadableType sent → lower ≡ string (plain_text sent) → t ≡ sent)
-    → ((sent : Typ) → IsReadableType sent → upper ≡ string (plain_text sent) → u ≡ sent)
-    → (sent : Step) → IsReadableConclusion text sent.conclusion → subtyping_members from lower rule upper ≡ step_value encoding text sent
-    → record { conclusion = subtyping r t u; premises = ns } ≡ sent
-subtyping_sent encoding text from lower rule upper r t u ns named numbers low up sent readable is = by sent.conclusion readable is refl
-  where
-    by : (c : Conclusion) → IsReadableConclusion text c → subtyping_members from lower rule upper ≡ conclusion_value encoding text sent.premises c → c ≡ sent.conclusion
-        → record { conclusion = subtyping r t u; premises = ns } ≡ sent
-    by (typing q v w) readable is there =
-        let clash : subtyping_members from lower rule upper ≡ typing_members (premises_value sent.premises) (range_value encoding text v) (string (name_of_type_rule q)) (string (plain_text w)) = is in
-        absurd cc
-    by (subtyping q v w) readable is there =
-        let both : subtyping_members from lower rule upper ≡ subtyping_members (premises_value sent.premises) (string (plain_text v)) (string (name_of_sub_rule q)) (string (plain_text w)) = is in
-        let first : from ≡ premises_value sent.premises = cc in
-        let second : lower ≡ string (plain_text v) = cc in
-        let third : rule ≡ string (name_of_sub_rule q) = cc in
-        let fourth : upper ≡ string (plain_text w) = cc in
-        let names : string (name_of_sub_rule r) ≡ string (name_of_sub_rule q) = sym named ∙ third in
-        let name : name_of_sub_rule r ≡ name_of_sub_rule q = cc in
-        let same_rule = same_sub_rule r q name in
-        let same_lower = low v readable.0 second in
-        let same_upper = up w readable.1 fourth in
-        same_step (subtyping r t u) ns sent ((λ i. subtyping (same_rule i) (same_lower i) (same_upper i)) ∙ there) (same_premises ns sent.premises (sym numbers ∙ first))
+same_conclusion : (encoding : Encoding) (text ms ns : List ℕ) (a b : Conclusion) → IsUtf8 text → IsReadableConclusion text a → IsReadableConclusion text b
+    → conclusion_value encoding text ms a ≡ conclusion_value encoding text ns b → (a ≡ b) × (ms ≡ ns)
+same_conclusion encoding text ms ns (typing r s t) (typing q u v) utf8 one other is =
+    let both : typing_members (premises_value ms) (range_value encoding text s) (string (name_of_type_rule r)) (string (plain_text t))
+    ≡ typing_members (premises_value ns) (range_value encoding text u) (string (name_of_type_rule q)) (string (plain_text v)) = is in
+    let first : premises_value ms ≡ premises_value ns = cc in
+    let second : range_value encoding text s ≡ range_value encoding text u = cc in
+    let third : name_of_type_rule r ≡ name_of_type_rule q = cc in
+    let fourth : string (plain_text t) ≡ string (plain_text v) = cc in
+    let rule = same_type_rule r q third in
+    let span = same_span encoding text s u utf8 one.0 other.0 second in
+    let type = same_type t v one.1 other.1 fourth in
+    ((λ i. typing (rule i) (span i) (type i)), same_premises ms ns first)
+same_conclusion encoding text ms ns (subtyping r s t) (subtyping q u v) utf8 one other is =
+    let both : subtyping_members (premises_value ms) (string (plain_text s)) (string (name_of_sub_rule r)) (string (plain_text t))
+    ≡ subtyping_members (premises_value ns) (string (plain_text u)) (string (name_of_sub_rule q)) (string (plain_text v)) = is in
+    let first : premises_value ms ≡ premises_value ns = cc in
+    let second : string (plain_text s) ≡ string (plain_text u) = cc in
+    let third : name_of_sub_rule r ≡ name_of_sub_rule q = cc in
+    let fourth : string (plain_text t) ≡ string (plain_text v) = cc in
+    let rule = same_sub_rule r q third in
+    let lower = same_type s u one.0 other.0 second in
+    let upper = same_type t v one.1 other.1 fourth in
+    ((λ i. subtyping (rule i) (lower i) (upper i)), same_premises ms ns first)
+same_conclusion encoding text ms ns (typing r s t) (subtyping q u v) utf8 one other is =
+    let clash : typing_members (premises_value ms) (range_value encoding text s) (string (name_of_type_rule r)) (string (plain_text t))
+    ≡ subtyping_members (premises_value ns) (string (plain_text u)) (string (name_of_sub_rule q)) (string (plain_text v)) = is in
+    absurd cc
+same_conclusion encoding text ms ns (subtyping r s t) (typing q u v) utf8 one other is =
+    let clash : subtyping_members (premises_value ms) (string (plain_text s)) (string (name_of_sub_rule r)) (string (plain_text t))
+    ≡ typing_members (premises_value ns) (range_value encoding text u) (string (name_of_type_rule q)) (string (plain_text v)) = is in
+    absurd cc
 
--- ---- the one span of its range
+same_step : (encoding : Encoding) (text : List ℕ) → IsUtf8 text → (a b : Step) → IsReadableConclusion text a.conclusion → IsReadableConclusion text b.conclusion
+    → step_value encoding text a ≡ step_value encoding text b → a ≡ b
+same_step encoding text utf8 a b one other is =
+    let both = same_conclusion encoding text a.premises b.premises a.conclusion b.conclusion utf8 one other is in
+    λ i. record { conclusion = both.0 i; premises = both.1 i }
 
-pub offset_sent : (encoding : Encoding) (text : List ℕ) (value : Data) (sent offset : ℕ) (p : Position) → IsUtf8 text → IsCharBoundary text sent → ¬ (IsInsideCrLf text sent)
-    → value ≡ position_value p → offset ≡ offset_of encoding text p → value ≡ position_value (position_of encoding text sent) → offset ≡ sent
-offset_sent encoding text value sent offset p is_text boundary outside is made there =
-    let both : position_value p ≡ position_value (position_of encoding text sent) = sym is ∙ there in
-    let character : p.character ≡ (position_of encoding text sent).character = cc in
-    let line : p.line ≡ (position_of encoding text sent).line = cc in
-    let same : p ≡ position_of encoding text sent = λ i. record { line = line i; character = character i } in
-    made ∙ ap (offset_of encoding text) same ∙ comes_back encoding text sent is_text boundary outside
-
-pub span_sent : (encoding : Encoding) (text : List ℕ) (value first second : Data) (start end : ℕ)
-    → value ≡ object (member (codes "end") first (member (codes "start") second no_members))
-    → ((sent : ℕ) → IsCharBoundary text sent → ¬ (IsInsideCrLf text sent) → first ≡ position_value (position_of encoding text sent) → end ≡ sent)
-    → ((sent : ℕ) → IsCharBoundary text sent → ¬ (IsInsideCrLf text sent) → second ≡ position_value (position_of encoding text sent) → start ≡ sent)
-    → (sent : Span) → IsReadableSpan text sent → value ≡ range_value encoding text sent → record { start = start; end = end } ≡ sent
-span_sent encoding text value first second start end parts one other sent readable is =
-    let both = two_views parts is in
-    let ends = one sent.end readable.whole_characters.1 readable.end both.0 in
-    let starts = other sent.start readable.whole_characters.0 readable.start both.1 in
-    λ i. record { start = starts i; end = ends i }
+pub one_readable : (encoding : Encoding) (text : List ℕ) → IsUtf8 text → (a b : Derivation) → IsReadable text a → IsReadable text b
+    → derivation_value encoding text (Some a) ≡ derivation_value encoding text (Some b) → a ≡ b
+one_readable encoding text utf8 a b one other is =
+    let both = two_views refl is in
+    let context = same_list (λ e. IfSome e.type IsReadableType) entry_value same_entry a.context b.context one.context other.context both.0 in
+    let steps = same_list (λ s. IsReadableConclusion text s.conclusion) (step_value encoding text) (same_step encoding text utf8) a.steps b.steps one.steps other.steps both.1 in
+    λ i. record { context = context i; steps = steps i }

@@ -1,12 +1,12 @@
 -- Derivations that can be read back from their JSON form.
-use Rattle.std.specs.Prelude.{◌≤◌, ◌+◌, max, ℕ, List, [], ◌∷◌, Option, Some, None}
+use Rattle.std.specs.Prelude.{◌≤◌, ◌+◌, max, ℕ, List, All, IfSome}
+use Rattle.std.specs.Str.{IsCharBoundary}
 use Rattle.lam_rules.specs.ReadableLabels.{HasReadableLabels}
 use Rattle.lam_rules.specs.Types.{Typ, bool, nat, unit, top, arrow, record_of, Fields, no_fields, field}
 use Rattle.lam_text.specs.Positions.{IsInsideCrLf}
 use Rattle.lam_token.specs.declared.span.Span.{Span}
-use Rattle.lam_query.specs.Derivations.{ContextEntry, Derivation}
-use Rattle.lam_query.specs.Steps.{Conclusion, typing, subtyping, Step}
-use Rattle.lam_query.specs.Within.{IsSpanOfText}
+use Rattle.lam_query.specs.Derivations.{Derivation}
+use Rattle.lam_query.specs.Steps.{Conclusion, typing, subtyping}
 
 -- the depth of a type as a tree: how many nodes its longest branch has
 abbrev mutual
@@ -28,31 +28,21 @@ pub record IsReadableType (t : Typ) : Type 0 where
   pub labels : HasReadableLabels t
   pub not_deep : depth t ≤ 4096
 
--- the type of a context entry, if it has one
-abbrev pub IsReadableEntry : Option Typ → Type 0
-IsReadableEntry None = Unit {0}
-IsReadableEntry (Some t) = IsReadableType t
+-- The offset is at a character boundary, but not between a CR and its LF: the position there means the CR.
+pub record IsReadableOffset (text : List ℕ) (offset : ℕ) : Type 0 where
+  pub boundary : IsCharBoundary text offset
+  pub outside : ¬ (IsInsideCrLf text offset)
 
--- The span begins and ends at character boundaries, but not between a CR and its LF, whose position means the CR.
+-- both ends of a span
 pub record IsReadableSpan (text : List ℕ) (s : Span) : Type 0 where
-  pub whole_characters : IsSpanOfText text s
-  pub start : ¬ (IsInsideCrLf text s.start)
-  pub end : ¬ (IsInsideCrLf text s.end)
+  pub start : IsReadableOffset text s.start
+  pub end : IsReadableOffset text s.end
 
 abbrev pub IsReadableConclusion : List ℕ → Conclusion → Type 0
 IsReadableConclusion text (typing rule s type) = IsReadableSpan text s × IsReadableType type
 IsReadableConclusion text (subtyping rule lower upper) = IsReadableType lower × IsReadableType upper
 
--- every entry of a context
-abbrev pub AreReadableEntries : List ContextEntry → Type 0
-AreReadableEntries [] = Unit {0}
-AreReadableEntries (e ∷ es) = IsReadableEntry e.type × AreReadableEntries es
-
--- every step
-abbrev pub AreReadableSteps : List ℕ → List Step → Type 0
-AreReadableSteps text [] = Unit {0}
-AreReadableSteps text (step ∷ steps) = IsReadableConclusion text step.conclusion × AreReadableSteps text steps
-
+-- The types of the context and each step are readable.
 pub record IsReadable (text : List ℕ) (d : Derivation) : Type 0 where
-  pub context : AreReadableEntries d.context
-  pub steps : AreReadableSteps text d.steps
+  pub context : All (λ e. IfSome e.type IsReadableType) d.context
+  pub steps : All (λ s. IsReadableConclusion text s.conclusion) d.steps

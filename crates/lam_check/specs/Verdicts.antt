@@ -94,27 +94,23 @@ refused_line name message = line (shown_line name ++ codes ": " ++ message)
 
 -- ---- reports
 
--- A value that is that of a readable derivation is that of this one: the text of a type can be read in other ways if labels may have any characters.
-abbrev pub IsReadingOf : (text : List ℕ) → (value : Data) → Derivation → Type 0
-IsReadingOf text value x = (readable : Derivation) → IsReadable text readable → value ≡ derivation_value Utf16 text (Some readable) → x ≡ readable
-
--- The value is that of a derivation that is verified, and the line says so, with its context and the conclusion of its last step.
+-- The value is that of a readable derivation that is verified, and the line says so, with its context and the conclusion of its last step.
 pub record IsAccepted (name : Text) (text : List ℕ) (value : Data) (d : Dialect) (report : Text) : Type 0 where
   pub sent : IsVerifiedValue text value d
-  pub reading : IsReadingOf text value sent.derivation
+  pub readable : IsReadable text sent.derivation
   pub shown : report ≡ accepted_line name text sent.derivation
 
--- The value is that of a derivation that is not verified or has too many levels, and the line has the message of what is wrong with it first.
+-- The value is that of a readable derivation that is not verified or has too many levels, and the line has the message of what is wrong with it first.
 pub record IsRefused (name : Text) (text : List ℕ) (value : Data) (d : Dialect) (report : Text) : Type 0 where
   pub derivation : Derivation
   pub is_value : value ≡ derivation_value Utf16 text (Some derivation)
-  pub reading : IsReadingOf text value derivation
+  pub readable : IsReadable text derivation
   pub not_sound : IsSound text derivation d → ⊥
   pub fault : FirstFault
   pub first : IsFirstFault text derivation d fault
   pub shown : report ≡ refused_line name (message fault)
 
--- The value is that of no readable derivation, and the line says why it is not read: it is none of an accepted one.
+-- The value is that of no readable derivation, and the line says why it is not read.
 pub record IsUnreadable (name : Text) (text : List ℕ) (value : Data) (report : Text) : Type 0 where
   pub unreadable : (derivation : Derivation) → IsReadable text derivation → value ≡ derivation_value Utf16 text (Some derivation) → ⊥
   pub fault : Unread

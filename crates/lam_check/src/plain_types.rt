@@ -1,11 +1,11 @@
 //! Parsing of types from their plain text.
-ghost use Rattle.std.specs.Prelude.{◌≡◌, ◌≢◌, ◌<◌, ◌≤◌, ◌++◌, All, length, codes, IfOk, IfSome, IfNone, IsSomeAnd};
+ghost use Rattle.std.specs.Prelude.{◌≡◌, ◌≢◌, ◌<◌, ◌≤◌, ◌↔◌, ◌++◌, All, length, codes, IfOk, IfSome, IfNone, IsSomeAnd, IsTrue};
 ghost use Rattle.std.specs.Str.{byte};
-ghost use Rattle.lam_rules.specs.ReadableLabels.{HasReadableLabels, HaveReadableLabels};
-ghost use Rattle.lam_rules.specs.TypeViews.{typ_of};
+ghost use Rattle.lam_rules.specs.ReadableLabels.{HasReadableLabels, HaveReadableLabels, IsReadable as IsReadableLabel};
+ghost use Rattle.lam_rules.specs.TypeViews.{fields_of, typ_of};
 ghost use Rattle.lam_rules.specs.Types.{Typ, Fields, bool, nat, unit, top, record_of};
 ghost use Rattle.lam_rules.specs.Texts.{Text, left_of_arrow, plain_text, plain_fields};
-ghost use Rattle.lam_check.specs.Readable.{depth, depth_in};
+ghost use Rattle.lam_check.specs.Readable.{depth, depth_in, IsReadableType};
 ghost use Rattle.lam_check.specs.inner.PlainTypes.{NoArrow, IsTypeRead, levels_on_left};
 
 use lam_rules::{Ty, make_arrow, make_record, plain_text_of};
@@ -14,21 +14,75 @@ use std::alloc::{AllocError, Global};
 /// The maximum depth of a type that is parsed. No type of a document is deeper, since none has more nodes.
 const LEVELS: usize = 4_096;
 
-/// Returns the type with this text, keeping the order of the fields in each record. It finds every type whose depth is
-/// at most 4,096 and whose labels can be read in only one way.
+/// Returns the type with this text, keeping the order of the fields in each record, if its depth is at most 4,096 and its labels
+/// can be read in only one way.
 pub fn type_of_text(alloc: Global, text: &str) -> Result<Option<Ty>, AllocError>
     ensures some { IfOk result (λ found. IfSome found (λ ty. plain_text (typ_of ty) ≡ text.now)) }
-    ensures none { IfOk result (λ found. IfNone found ((t : Typ) → HasReadableLabels t → depth t ≤ 4096 → text.now ≡ plain_text t → ⊥)) }
-    ensures only { IfOk result (λ found. IfSome found (λ ty. (t : Typ) → HasReadableLabels t → depth t ≤ 4096 → text.now ≡ plain_text t → typ_of ty ≡ t)) }
+    ensures readable { IfOk result (λ found. IfSome found (λ ty. IsReadableType (typ_of ty))) }
+    ensures none { IfOk result (λ found. IfNone found ((t : Typ) → IsReadableType t → text.now ≡ plain_text t → ⊥)) }
 {
     let Some((ty, _)) = type_at(alloc, text, LEVELS)? else {
         return Ok(None);
     };
+    if !is_readable(&ty, LEVELS) {
+        return Ok(None);
+    }
     let again = plain_text_of(alloc, &ty)?;
     if again.as_str() != text {
         return Ok(None);
     }
     Ok(Some(ty))
+}
+
+/// Whether a type is at most this deep, and its labels can be read in only one way.
+#[cycle(readable)]
+#[tactic(auto, using(lam_rules::proofs::TypeShapes::shapes))]
+fn is_readable(ty: &Ty, levels: usize) -> bool
+    ensures { IsTrue result ↔ (HasReadableLabels (typ_of ty.now) × (depth (typ_of ty.now) ≤ levels)) }
+{
+    if levels == 0 {
+        return false;
+    }
+    match ty {
+        Ty::Bool => true,
+        Ty::Nat => true,
+        Ty::Unit => true,
+        Ty::Top => true,
+        Ty::Arrow(parameter, outcome) => {
+            if !is_readable(parameter, levels - 1) {
+                return false;
+            }
+            is_readable(outcome, levels - 1)
+        }
+        Ty::Record(fields) => are_readable(&fields.items, levels - 1),
+    }
+}
+
+#[cycle(readable)]
+#[tactic(auto, using(lam_rules::proofs::TypeShapes::shapes))]
+fn are_readable(fields: &[(String, Ty)], levels: usize) -> bool
+    ensures { IsTrue result ↔ (HaveReadableLabels (fields_of fields.now) × (depth_in (fields_of fields.now) ≤ levels)) }
+{
+    for i in 0..fields.len() {
+        let field = &fields[i];
+        if !is_readable_label(&field.0) {
+            return false;
+        }
+        if !is_readable(&field.1, levels) {
+            return false;
+        }
+    }
+    true
+}
+
+/// Whether a label ends at the first colon in the text of its field, and does not look like the end of a record type.
+fn is_readable_label(label: &str) -> bool
+    ensures { IsTrue result ↔ IsReadableLabel label.now }
+{
+    if label.contains(':') {
+        return false;
+    }
+    !label.starts_with('}')
 }
 
 /// Parses a type at the start of a text, and returns it with the rest of the text.

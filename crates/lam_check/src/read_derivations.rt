@@ -1,6 +1,6 @@
 //! Derivations read back from JSON values.
 ghost use Rattle.std.specs.Prelude.{◌≡◌, ℕ, List, Option, codes, map, All, IfOk, IfSome, IfNone};
-ghost use Rattle.std.specs.Str.{IsCharBoundary, IsUtf8};
+ghost use Rattle.std.specs.Str.{IsUtf8};
 ghost use Rattle.serde_json.specs.Data.{string, object, member, no_members};
 ghost use Rattle.serde_json.specs.View.{view};
 ghost use Rattle.lam_rules.specs.Types.{Typ};
@@ -8,15 +8,14 @@ ghost use Rattle.lam_rules.specs.TypeViews.{typ_of};
 ghost use Rattle.lam_rules.specs.TermViews.{written_of};
 ghost use Rattle.lam_rules.specs.Texts.{plain_text};
 ghost use Rattle.lam_rules.specs.Rules.{name_of_sub_rule, name_of_type_rule};
-ghost use Rattle.lam_text.specs.Positions.{position_of, IsInsideCrLf};
+ghost use Rattle.lam_text.specs.Positions.{position_of};
 ghost use Rattle.lam_text.specs.declared.units.Encoding.{Encoding};
-ghost use Rattle.lam_query.specs.Views.{derivation_of, entry_of, step_of, StepStandsIn};
-ghost use Rattle.lam_query.specs.Within.{IsSpanOfText};
+ghost use Rattle.lam_query.specs.Views.{derivation_of, entry_of, step_of};
 ghost use Rattle.lam_query.specs.Derivations.{ContextEntry, Derivation as DerivationTree};
 ghost use Rattle.lam_query.specs.Steps.{Step as StepTree, typing, subtyping};
 ghost use Rattle.lam_session.specs.Derivations.{derivation_value, entry_value, premises_value, conclusion_value, step_value, type_value};
 ghost use Rattle.lam_session.specs.Ranges.{position_value, range_value};
-ghost use Rattle.lam_check.specs.Readable.{IsReadable, AreReadableEntries, AreReadableSteps, IsReadableConclusion, IsReadableEntry, IsReadableSpan, IsReadableType};
+ghost use Rattle.lam_check.specs.Readable.{IsReadable, IsReadableConclusion, IsReadableOffset, IsReadableSpan, IsReadableType};
 ghost use Rattle.lam_check.specs.inner.Read.{IsUnread, number_value, typing_members, subtyping_members};
 
 use crate::plain_types::type_of_text;
@@ -55,9 +54,8 @@ pub enum Unread {
 pub fn derivation_in(alloc: Global, doc: &Doc, value: &Value) -> Result<Derivation, Unread>
     requires { IsUtf8 doc.now.text }
     ensures read { IfOk result (λ d. view value.now ≡ derivation_value doc.now.encoding doc.now.text (Some (derivation_of d))) }
+    ensures readable { IfOk result (λ d. IsReadable doc.now.text (derivation_of d)) }
     ensures unread { IsUnread result ((d : DerivationTree) × IsReadable doc.now.text d × (view value.now ≡ derivation_value doc.now.encoding doc.now.text (Some d))) }
-    ensures only { IfOk result (λ d. (sent : DerivationTree) → IsReadable doc.now.text sent → view value.now ≡ derivation_value doc.now.encoding doc.now.text (Some sent) → derivation_of d ≡ sent) }
-    ensures whole_characters { IfOk result (λ d. All (StepStandsIn doc.now.text) d.steps.items) }
 {
     let Some((context, steps)) = two_members(value, "context", "steps") else {
         return Err(Unread::Derivation);
@@ -78,10 +76,16 @@ pub fn derivation_in(alloc: Global, doc: &Doc, value: &Value) -> Result<Derivati
     }
 }
 
+/// A value is that of at most one readable derivation of a text.
+pub fn one_derivation(text: &str)
+    ensures { (encoding : Encoding) (one other : DerivationTree) → IsReadable text.now one → IsReadable text.now other
+        → derivation_value encoding text.now (Some one) ≡ derivation_value encoding text.now (Some other) → one ≡ other }
+{}
+
 fn context_in(alloc: Global, values: &[Value]) -> Result<Vec<(String, Option<Ty>)>, Unread>
     ensures read { IfOk result (λ context. map view values.now ≡ map entry_value (map entry_of context.items)) }
-    ensures unread { IsUnread result ((context : List ContextEntry) × AreReadableEntries context × (map view values.now ≡ map entry_value context)) }
-    ensures only { IfOk result (λ context. (sent : List ContextEntry) → AreReadableEntries sent → map view values.now ≡ map entry_value sent → map entry_of context.items ≡ sent) }
+    ensures readable { IfOk result (λ context. All (λ e. IfSome e.type IsReadableType) (map entry_of context.items)) }
+    ensures unread { IsUnread result ((context : List ContextEntry) × All (λ e. IfSome e.type IsReadableType) context × (map view values.now ≡ map entry_value context)) }
 {
     let mut context = Vec::new(alloc);
     for i in 0..values.len() {
@@ -100,8 +104,8 @@ fn context_in(alloc: Global, values: &[Value]) -> Result<Vec<(String, Option<Ty>
 /// Reads the context entry with this index.
 fn entry_in(alloc: Global, number: usize, value: &Value) -> Result<(String, Option<Ty>), Unread>
     ensures read { IfOk result (λ entry. view value.now ≡ entry_value (entry_of entry)) }
-    ensures unread { IsUnread result ((entry : ContextEntry) × IsReadableEntry entry.type × (view value.now ≡ entry_value entry)) }
-    ensures only { IfOk result (λ entry. (sent : ContextEntry) → IsReadableEntry sent.type → view value.now ≡ entry_value sent → entry_of entry ≡ sent) }
+    ensures readable { IfOk result (λ entry. IfSome (entry_of entry).type IsReadableType) }
+    ensures unread { IsUnread result ((entry : ContextEntry) × IfSome entry.type IsReadableType × (view value.now ≡ entry_value entry)) }
 {
     let Some((name, ty)) = two_members(value, "name", "type") else {
         return Err(Unread::Entry(number));
@@ -119,8 +123,8 @@ fn entry_in(alloc: Global, number: usize, value: &Value) -> Result<(String, Opti
 /// Reads the type of the context entry with this index; `None` if it has no type.
 fn entry_type_in(alloc: Global, number: usize, value: &Value) -> Result<Option<Ty>, Unread>
     ensures read { IfOk result (λ ty. view value.now ≡ type_value (written_of ty)) }
-    ensures unread { IsUnread result ((type : Option Typ) × IsReadableEntry type × (view value.now ≡ type_value type)) }
-    ensures only { IfOk result (λ ty. (sent : Option Typ) → IsReadableEntry sent → view value.now ≡ type_value sent → written_of ty ≡ sent) }
+    ensures readable { IfOk result (λ ty. IfSome (written_of ty) IsReadableType) }
+    ensures unread { IsUnread result ((type : Option Typ) × IfSome type IsReadableType × (view value.now ≡ type_value type)) }
 {
     if value.is_null() {
         return Ok(None);
@@ -135,8 +139,8 @@ fn entry_type_in(alloc: Global, number: usize, value: &Value) -> Result<Option<T
 /// Reads a value as the text of a type.
 fn type_in(alloc: Global, value: &Value) -> Result<Option<Ty>, AllocError>
     ensures some { IfOk result (λ found. IfSome found (λ ty. view value.now ≡ string (plain_text (typ_of ty)))) }
+    ensures readable { IfOk result (λ found. IfSome found (λ ty. IsReadableType (typ_of ty))) }
     ensures none { IfOk result (λ found. IfNone found ((t : Typ) → IsReadableType t → view value.now ≡ string (plain_text t) → ⊥)) }
-    ensures only { IfOk result (λ found. IfSome found (λ ty. (sent : Typ) → IsReadableType sent → view value.now ≡ string (plain_text sent) → typ_of ty ≡ sent)) }
 {
     match value.as_str() {
         Some(text) => type_of_text(alloc, text),
@@ -147,9 +151,8 @@ fn type_in(alloc: Global, value: &Value) -> Result<Option<Ty>, AllocError>
 fn steps_in(alloc: Global, doc: &Doc, values: &[Value]) -> Result<Vec<Step>, Unread>
     requires { IsUtf8 doc.now.text }
     ensures read { IfOk result (λ steps. map view values.now ≡ map (step_value doc.now.encoding doc.now.text) (map step_of steps.items)) }
-    ensures unread { IsUnread result ((steps : List StepTree) × AreReadableSteps doc.now.text steps × (map view values.now ≡ map (step_value doc.now.encoding doc.now.text) steps)) }
-    ensures only { IfOk result (λ steps. (sent : List StepTree) → AreReadableSteps doc.now.text sent → map view values.now ≡ map (step_value doc.now.encoding doc.now.text) sent → map step_of steps.items ≡ sent) }
-    ensures whole_characters { IfOk result (λ steps. All (StepStandsIn doc.now.text) steps.items) }
+    ensures readable { IfOk result (λ steps. All (λ s. IsReadableConclusion doc.now.text s.conclusion) (map step_of steps.items)) }
+    ensures unread { IsUnread result ((steps : List StepTree) × All (λ s. IsReadableConclusion doc.now.text s.conclusion) steps × (map view values.now ≡ map (step_value doc.now.encoding doc.now.text) steps)) }
 {
     let mut steps = Vec::new(alloc);
     for i in 0..values.len() {
@@ -169,9 +172,8 @@ fn steps_in(alloc: Global, doc: &Doc, values: &[Value]) -> Result<Vec<Step>, Unr
 fn step_in(alloc: Global, doc: &Doc, number: usize, value: &Value) -> Result<Step, Unread>
     requires { IsUtf8 doc.now.text }
     ensures read { IfOk result (λ step. view value.now ≡ step_value doc.now.encoding doc.now.text (step_of step)) }
+    ensures readable { IfOk result (λ step. IsReadableConclusion doc.now.text (step_of step).conclusion) }
     ensures unread { IsUnread result ((step : StepTree) × IsReadableConclusion doc.now.text step.conclusion × (view value.now ≡ step_value doc.now.encoding doc.now.text step)) }
-    ensures only { IfOk result (λ step. (sent : StepTree) → IsReadableConclusion doc.now.text sent.conclusion → view value.now ≡ step_value doc.now.encoding doc.now.text sent → step_of step ≡ sent) }
-    ensures whole_characters { IfOk result (λ step. StepStandsIn doc.now.text step) }
 {
     if let Some((from, range, rule, ty)) = four_members(value, "from", "range", "rule", "type") {
         return typing_in(alloc, doc, number, from, range, rule, ty);
@@ -195,11 +197,9 @@ fn typing_in(
 ) -> Result<Step, Unread>
     requires { IsUtf8 doc.now.text }
     ensures read { IfOk result (λ step. typing_members (view from.now) (view range.now) (view rule.now) (view ty.now) ≡ step_value doc.now.encoding doc.now.text (step_of step)) }
+    ensures readable { IfOk result (λ step. IsReadableConclusion doc.now.text (step_of step).conclusion) }
     ensures unread { IsUnread result ((step : StepTree) × IsReadableConclusion doc.now.text step.conclusion
         × (typing_members (view from.now) (view range.now) (view rule.now) (view ty.now) ≡ step_value doc.now.encoding doc.now.text step)) }
-    ensures only { IfOk result (λ step. (sent : StepTree) → IsReadableConclusion doc.now.text sent.conclusion
-        → typing_members (view from.now) (view range.now) (view rule.now) (view ty.now) ≡ step_value doc.now.encoding doc.now.text sent → step_of step ≡ sent) }
-    ensures whole_characters { IfOk result (λ step. StepStandsIn doc.now.text step) }
 {
     let Some(rule) = type_rule_in(rule) else {
         return Err(Unread::Rule(number));
@@ -228,11 +228,9 @@ fn subtyping_in(
 ) -> Result<Step, Unread>
     ensures read { IfOk result (λ step. (encoding : Encoding) (text : List ℕ)
         → subtyping_members (view from.now) (view lower.now) (view rule.now) (view upper.now) ≡ step_value encoding text (step_of step)) }
+    ensures readable { (text : List ℕ) → IfOk result (λ step. IsReadableConclusion text (step_of step).conclusion) }
     ensures unread { (encoding : Encoding) (text : List ℕ) → IsUnread result ((step : StepTree) × IsReadableConclusion text step.conclusion
         × (subtyping_members (view from.now) (view lower.now) (view rule.now) (view upper.now) ≡ step_value encoding text step)) }
-    ensures only { IfOk result (λ step. (encoding : Encoding) (text : List ℕ) (sent : StepTree) → IsReadableConclusion text sent.conclusion
-        → subtyping_members (view from.now) (view lower.now) (view rule.now) (view upper.now) ≡ step_value encoding text sent → step_of step ≡ sent) }
-    ensures whole_characters { IfOk result (λ step. (text : List ℕ) → StepStandsIn text step) }
 {
     let Some(rule) = sub_rule_in(rule) else {
         return Err(Unread::Rule(number));
@@ -251,8 +249,8 @@ fn subtyping_in(
 /// Reads a type in the step with this index.
 fn step_type_in(alloc: Global, number: usize, value: &Value) -> Result<Ty, Unread>
     ensures read { IfOk result (λ ty. view value.now ≡ string (plain_text (typ_of ty))) }
+    ensures readable { IfOk result (λ ty. IsReadableType (typ_of ty)) }
     ensures unread { IsUnread result ((t : Typ) × IsReadableType t × (view value.now ≡ string (plain_text t))) }
-    ensures only { IfOk result (λ ty. (sent : Typ) → IsReadableType sent → view value.now ≡ string (plain_text sent) → typ_of ty ≡ sent) }
 {
     match type_in(alloc, value) {
         Ok(Some(ty)) => Ok(ty),
@@ -293,9 +291,8 @@ fn numbers_in(alloc: Global, number: usize, values: &[Value]) -> Result<Vec<usiz
 fn span_in(doc: &Doc, value: &Value) -> Option<Span>
     requires { IsUtf8 doc.now.text }
     ensures some { IfSome result (λ span. view value.now ≡ range_value doc.now.encoding doc.now.text span) }
+    ensures readable { IfSome result (IsReadableSpan doc.now.text) }
     ensures none { IfNone result ((span : Span) → IsReadableSpan doc.now.text span → view value.now ≡ range_value doc.now.encoding doc.now.text span → ⊥) }
-    ensures only { IfSome result (λ span. (sent : Span) → IsReadableSpan doc.now.text sent → view value.now ≡ range_value doc.now.encoding doc.now.text sent → span ≡ sent) }
-    ensures whole_characters { IfSome result (λ span. IsSpanOfText doc.now.text span) }
 {
     let Some((end, start)) = two_members(value, "end", "start") else {
         return None;
@@ -309,11 +306,8 @@ fn span_in(doc: &Doc, value: &Value) -> Option<Span>
 fn offset_in(doc: &Doc, value: &Value) -> Option<usize>
     requires { IsUtf8 doc.now.text }
     ensures some { IfSome result (λ offset. view value.now ≡ position_value (position_of doc.now.encoding doc.now.text offset)) }
-    ensures none { IfNone result ((offset : ℕ) → IsCharBoundary doc.now.text offset → ¬ (IsInsideCrLf doc.now.text offset)
-        → view value.now ≡ position_value (position_of doc.now.encoding doc.now.text offset) → ⊥) }
-    ensures only { IfSome result (λ offset. (sent : ℕ) → IsCharBoundary doc.now.text sent → ¬ (IsInsideCrLf doc.now.text sent)
-        → view value.now ≡ position_value (position_of doc.now.encoding doc.now.text sent) → offset ≡ sent) }
-    ensures boundary { IfSome result (λ offset. IsCharBoundary doc.now.text offset) }
+    ensures readable { IfSome result (IsReadableOffset doc.now.text) }
+    ensures none { IfNone result ((offset : ℕ) → IsReadableOffset doc.now.text offset → view value.now ≡ position_value (position_of doc.now.encoding doc.now.text offset) → ⊥) }
 {
     let position = position_in(value)?;
     let offset = doc.offset_of(position);

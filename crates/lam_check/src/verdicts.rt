@@ -1,5 +1,5 @@
 //! The results of verifying derivations.
-ghost use Rattle.std.specs.Prelude.{◌≡◌, ◌++◌, ◌∷◌, [], All, IfOk, OnOk, codes, flat_map, map, option_map, string_bytes};
+ghost use Rattle.std.specs.Prelude.{◌≡◌, ◌↔◌, ◌++◌, ◌∷◌, [], All, IfOk, OnOk, codes, flat_map, map, option_map, string_bytes};
 ghost use Rattle.serde_json.specs.View.{view};
 ghost use Rattle.lam_query.specs.Views.{StepStandsIn, derivation_of, entry_of, step_of};
 ghost use Rattle.lam_query.specs.FirstFaults.{last_conclusion};
@@ -30,9 +30,7 @@ pub fn sent_of(value: &Value) -> (&Value, Option<&str>)
     }
 }
 
-/// Verifies that a value is a derivation of a term of the text. The report says so, or names the first error. A value can be
-/// accepted although its derivation is not readable, as one with a type that is a little deeper than 4,096; so there are two
-/// clauses.
+/// Verifies that a value is a readable derivation of a term of the text. The report says so, or names the first error.
 pub fn verdict(
     alloc: Global,
     name: &str,
@@ -40,8 +38,7 @@ pub fn verdict(
     value: &Value,
     dialect: Dialect,
 ) -> Result<Checked, AllocError>
-    ensures accepted { IfOk result (λ verdict. verdict.count ≡ 0 → IsVerifiedValue text.now (view value.now) dialect) }
-    ensures every_readable { IfOk result (λ verdict. (sent : IsVerifiedValue text.now (view value.now) dialect) → IsReadable text.now sent.derivation → verdict.count ≡ 0) }
+    ensures accepted { IfOk result (λ verdict. (verdict.count ≡ 0) ↔ ((sent : IsVerifiedValue text.now (view value.now) dialect) × IsReadable text.now sent.derivation)) }
     ensures report { IfOk result (λ verdict. IsVerdict name.now text.now (view value.now) dialect (string_bytes verdict.report) verdict.count) }
 {
     let doc = Doc::new(alloc, text, Encoding::Utf16)?;

@@ -15,12 +15,3 @@ returns-in-Err-steps_in-clause-unread c = λ other h.
     let both = two_views c.in-Some.ensures.some h.2 in
     c.in-Err-steps_in.ensures.unread other
     (h.0.steps, h.1.steps, listed_there (view c.in-Some.steps.now) c.in-Some-as_array-2.steps.now.items c.deref-2.result.now (map (step_value c.args.doc.now.encoding c.args.doc.now.text) h.0.steps) c.in-Some-as_array-2.ensures c.deref-2.ensures.value both.1)
-
-pub returns-in-Ok-steps_in-clause-only : goal.returns-in-Ok-steps_in-clause-only
-returns-in-Ok-steps_in-clause-only c = λ sent readable is.
-    let both = two_views c.in-Some.ensures.some is in
-    let context = c.in-Ok.ensures.only sent.context readable.context
-    (listed_there (view c.in-Some.context.now) c.in-Some-as_array.context.now.items c.deref.result.now (map entry_value sent.context) c.in-Some-as_array.ensures c.deref.ensures.value both.0) in
-    let steps = c.in-Ok-steps_in.ensures.only sent.steps readable.steps
-    (listed_there (view c.in-Some.steps.now) c.in-Some-as_array-2.steps.now.items c.deref-2.result.now (map (step_value c.args.doc.now.encoding c.args.doc.now.text) sent.steps) c.in-Some-as_array-2.ensures c.deref-2.ensures.value both.1) in
-    λ i. record { context = context i; steps = steps i }

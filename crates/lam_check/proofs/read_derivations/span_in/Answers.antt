@@ -1,14 +1,7 @@
-use Rattle.serde_json.specs.View.{view}
 use Rattle.lam_session.specs.Ranges.{position_value, range_of}
-use Rattle.lam_check.proofs.SentValues.{span_sent}
 use Rattle.lam_check.proofs.read_derivations.span_in.Goals as goal
 
 pub returns-in_default-clause-none : goal.returns-in_default-clause-none
 returns-in_default-clause-none c = λ s readable is.
     let range = range_of c.args.doc.now.encoding c.args.doc.now.text s in
     c.in_default.ensures.none (position_value range.end) (position_value range.start) is
-
-pub returns-clause-only : goal.returns-clause-only
-returns-clause-only c =
-    let d = c.args.doc.now in
-    span_sent d.encoding d.text (view c.args.value.now) _ _ c.in_ok-start.start c.in_ok-end.end c.in-Some.ensures.some c.in_ok-end.ensures.only c.in_ok-start.ensures.only

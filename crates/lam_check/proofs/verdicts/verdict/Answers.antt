@@ -1,42 +1,50 @@
-use Rattle.std.proofs.Common.{◌∙◌}
+use Rattle.std.proofs.Common.{◌≡◌, Some, ◌∙◌}
 use Rattle.serde_json.specs.View.{view}
+use Rattle.lam_query.specs.Derivations.{Derivation}
 use Rattle.lam_query.specs.Views.{derivation_of}
-use Rattle.lam_check.proofs.Accepting.{value_read, readable_read, unreadable, verified_value, accepted_value, accepted_report, counted_value, no_readable, refused_report, unread_report, not_sent}
+use Rattle.lam_session.specs.Derivations.{derivation_value}
+use Rattle.lam_check.specs.Readable.{IsReadable}
+use Rattle.lam_check.proofs.Accepting.{IsProof, in_text, steps_stand, no_proof, none_counted, one_counted, accepted_report, refused_report, unread_report}
 use Rattle.lam_check.proofs.verdicts.verdict.Goals as goal
+
+pub accepted-requires : goal.accepted-requires
+accepted-requires c = steps_stand c.args.text.now c.in-Ok.derivation.steps.items (rw c.in_ok-doc.ensures.text at c.in-Ok.ensures.readable).steps
 
 pub returns-in-Err : goal.returns-in-Err
 returns-in-Err c =
-    let none = unreadable _ _ c.args.text.now (view c.args.value.now) c.in_ok-doc.ensures.encoding c.in_ok-doc.ensures.text (c.in-Err.ensures.unread c.in_ok-unread_message-in-Err.ensures.not_memory) in
+    let text = c.args.text.now in
+    let value = view c.args.value.now in
+    let told = c.in_ok-unread_message-in-Err.ensures in
+    let none = in_text (λ e t. (x : Derivation) → IsReadable t x → value ≡ derivation_value e t (Some x) → ⊥) c.in_ok-doc.ensures.encoding c.in_ok-doc.ensures.text
+    (λ x readable is. c.in-Err.ensures.unread told.not_memory (x, readable, is)) in
     record {
-      accepted = counted_value c.refused.result c.args.name.now c.args.text.now (view c.args.value.now) c.args.dialect c.refused.ensures.count;
-      every_readable = no_readable c.refused.result c.args.name.now c.args.text.now (view c.args.value.now) c.args.dialect (λ sent readable. none sent.derivation readable sent.is_value);
-      report = unread_report c.refused.result c.args.name.now c.args.text.now (view c.args.value.now) c.args.dialect none c.in-Err.fault c.in_ok-unread_message-in-Err.ensures.not_memory _ (c.deref.ensures ∙ c.in_ok-unread_message-in-Err.ensures.text) c.refused.ensures.count c.refused.ensures.report;
+      accepted = one_counted text value c.args.dialect c.refused.result (λ proof. none proof.0.derivation proof.1 proof.0.is_value) c.refused.ensures.count;
+      report = unread_report c.args.name.now text value c.args.dialect c.refused.result none c.in-Err.fault told.not_memory c.refused.ensures.count (rw (c.deref.ensures ∙ told.text) at c.refused.ensures.report);
     }
 
-pub returns-in-None-clause-accepted : goal.returns-in-None-clause-accepted
-returns-in-None-clause-accepted c =
+pub returns-in-None : goal.returns-in-None
+returns-in-None c =
+    let text = c.args.text.now in
+    let value = view c.args.value.now in
     let x = derivation_of c.in-Ok.derivation in
-    let is = value_read _ _ c.args.text.now (view c.args.value.now) x c.in_ok-doc.ensures.encoding c.in_ok-doc.ensures.text c.in-Ok.ensures.read in
-    accepted_value c.accepted.result c.args.name.now c.args.text.now (view c.args.value.now) c.args.dialect (verified_value c.args.text.now (view c.args.value.now) c.args.dialect x is (rw c.in-None.is at c.in_ok-first_fault.ensures))
+    let read = in_text (λ e t. (value ≡ derivation_value e t (Some x)) × IsReadable t x) c.in_ok-doc.ensures.encoding c.in_ok-doc.ensures.text (c.in-Ok.ensures.read, c.in-Ok.ensures.readable) in
+    let sound = rw c.in-None.is at c.in_ok-first_fault.ensures in
+    let proof : IsProof text value c.args.dialect = (record { derivation = x; is_value = read.0; verified = sound.0; not_deep = sound.1 }, read.1) in
+    record {
+      accepted = none_counted text value c.args.dialect c.accepted.result proof c.accepted.ensures.count;
+      report = accepted_report c.args.name.now text value c.args.dialect c.accepted.result proof c.accepted.ensures.count c.accepted.ensures.report;
+    }
 
-pub returns-in-None-clause-report : goal.returns-in-None-clause-report
-returns-in-None-clause-report c =
+pub returns : goal.returns
+returns c =
+    let text = c.args.text.now in
+    let value = view c.args.value.now in
     let x = derivation_of c.in-Ok.derivation in
-    let is = value_read _ _ c.args.text.now (view c.args.value.now) x c.in_ok-doc.ensures.encoding c.in_ok-doc.ensures.text c.in-Ok.ensures.read in
-    accepted_report c.accepted.result c.args.name.now c.args.text.now (view c.args.value.now) c.args.dialect x is
-    (readable_read _ _ c.args.text.now (view c.args.value.now) x c.in_ok-doc.ensures.encoding c.in_ok-doc.ensures.text c.in-Ok.ensures.only) (rw c.in-None.is at c.in_ok-first_fault.ensures) c.accepted.ensures.count c.accepted.ensures.report
-
-pub returns-clause-every_readable : goal.returns-clause-every_readable
-returns-clause-every_readable c =
-    let x = derivation_of c.in-Ok.derivation in
+    let read = in_text (λ e t. (value ≡ derivation_value e t (Some x)) × IsReadable t x) c.in_ok-doc.ensures.encoding c.in_ok-doc.ensures.text (c.in-Ok.ensures.read, c.in-Ok.ensures.readable) in
     let found = rw c.in-Some.is at c.in_ok-first_fault.ensures in
-    no_readable c.refused-in-Some.result c.args.name.now c.args.text.now (view c.args.value.now) c.args.dialect (not_sent c.args.text.now (view c.args.value.now) c.args.dialect x (readable_read _ _ c.args.text.now (view c.args.value.now) x c.in_ok-doc.ensures.encoding c.in_ok-doc.ensures.text c.in-Ok.ensures.only) found.0)
-
-pub returns-clause-report : goal.returns-clause-report
-returns-clause-report c =
-    let x = derivation_of c.in-Ok.derivation in
-    let is = value_read _ _ c.args.text.now (view c.args.value.now) x c.in_ok-doc.ensures.encoding c.in_ok-doc.ensures.text c.in-Ok.ensures.read in
-    let found = rw c.in-Some.is at c.in_ok-first_fault.ensures in
-    refused_report c.refused-in-Some.result c.args.name.now c.args.text.now (view c.args.value.now) c.args.dialect x is
-    (readable_read _ _ c.args.text.now (view c.args.value.now) x c.in_ok-doc.ensures.encoding c.in_ok-doc.ensures.text c.in-Ok.ensures.only) found.0 c.in-Some.fault found.1 _ (c.deref-in-Some.ensures ∙ c.in_ok-message_of-in-Some.ensures)
-    c.refused-in-Some.ensures.count c.refused-in-Some.ensures.report
+    let r = c.refused-in-Some in
+    record {
+      accepted = one_counted text value c.args.dialect r.result (no_proof text value c.args.dialect x c.utf8.text read.0 read.1 found.0) r.ensures.count;
+      report = refused_report c.args.name.now text value c.args.dialect r.result x read.0 read.1 found.0 c.in-Some.fault found.1 r.ensures.count
+          (rw (c.deref-in-Some.ensures ∙ c.in_ok-message_of-in-Some.ensures) at r.ensures.report);
+    }
