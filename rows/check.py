@@ -262,6 +262,19 @@ def derived(text, *steps, **context):
     return {"a": text, "d": line({"derivation": {"context": names, "steps": list(steps)}, "file": "a"})}
 
 
+def nested(depth):
+    """A type of this depth."""
+    return "{a:" * (depth - 1) + "Nat" + "}" * (depth - 1)
+
+
+def function_of(ty):
+    """A derivation that a function of anything is one of this type."""
+    return derived(
+        "lambda x:Top. 0", step("T-Num", 14, 15, "Nat"), step("T-Abs", 0, 15, "Top->Nat", 0), below("S-Top", ty, "Top"), below("S-Refl", "Nat", "Nat"),
+        below("S-Arrow", "Top->Nat", ty + "->Nat", 2, 3), step("T-Sub", 0, 15, ty + "->Nat", 1, 4),
+    )
+
+
 def sent(change=None, names=None, steps=None):
     """A line with the derivation of the call in the file `a`, with one step changed."""
     told = [dict(step) for step in (PROOF if steps is None else steps)]
@@ -394,13 +407,12 @@ CASES = [
     Case(
         "control characters in a label of a type",
         ["--verify", "d"],
-        derived(
-            "lambda x:Top. 0", step("T-Num", 14, 15, "Nat"), step("T-Abs", 0, 15, "Top->Nat", 0), below("S-Top", "{a\n\x1b[2Jb:Nat}", "Top"), below("S-Refl", "Nat", "Nat"),
-            below("S-Arrow", "Top->Nat", "{a\n\x1b[2Jb:Nat}->Nat", 2, 3), step("T-Sub", 0, 15, "{a\n\x1b[2Jb:Nat}->Nat", 1, 4),
-        ),
+        function_of("{a\n\x1b[2Jb:Nat}"),
         "d: accepted: lambda x:Top. 0 : {a\ufffd\ufffd[2Jb:Nat}->Nat\n",
         0,
     ),
+    Case("a type with a depth of 4,096", ["--verify", "d"], function_of(nested(4095)), f"d: accepted: lambda x:Top. 0 : {nested(4095)}->Nat\n", 0),
+    Case("a type with a depth of 4,097", ["--verify", "d"], function_of(nested(4096)), "d: step 4 has a type that is none of the language\n", 1),
     Case(
         "a permutation only if a label may have a colon",
         ["--verify", "d"],
