@@ -34,13 +34,13 @@ pub enum Unread {
     Derivation,
     /// This entry of the context is no object of a name and a type.
     Entry(usize),
-    /// The text of this entry's type is none of a type.
+    /// The text of this entry's type is none of a type, or of one that is too deep.
     EntryType(usize),
     /// This step has not the members that a step has.
     Step(usize),
     /// There is no rule with the name in this step.
     Rule(usize),
-    /// The text of a type in this step is none of a type.
+    /// The text of a type in this step is none of a type, or of one that is too deep.
     Type(usize),
     /// The range of this step is not one of the text.
     Range(usize),
