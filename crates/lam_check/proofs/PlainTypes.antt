@@ -182,9 +182,6 @@ field_left done now levels fs rest h none = by h.left h.whole h.readable h.small
       stands = stands ∙ fields_text l t more (codes "}" ++ rest);
     }
 
-pub all_left : (now : Text) (levels : ℕ) (fs : Fields) (rest : Text) → HaveReadableLabels fs → depth_in fs ≤ levels → now ≡ plain_fields fs ++ (codes "}" ++ rest) → AreFieldsLeft no_fields now levels fs rest
-all_left now levels fs rest readable small stands = record { left = fs; whole = refl; readable = readable; small = small; stands = stands }
-
 pub none_left : (done : Fields) (now left : Text) (levels : ℕ) (fs : Fields) (rest : Text) → AreFieldsLeft done now levels fs rest → now ≡ codes "}" ++ left → (done ≡ fs) × (left ≡ rest)
 none_left done now left levels fs rest h ends = by h.left h.whole h.readable h.stands
   where

@@ -31,9 +31,6 @@ front_more f was now total cs n c (suc left) h some is all =
     rw less (ap (λ text. text ++ rest) is ∙ (append_assoc was (encode_utf8 (f c)) rest ∙ (ap (λ ds. was ++ encode_utf8_all (map f (take (suc left) ds))) (sym (next_char cs n c h)) ∙ all)))
 
 -- where none is left, what is written is all
-pub front_all : (f : ℕ → ℕ) (was total cs : List ℕ) (n left : ℕ) → left ≡ 0 → was ++ encode_utf8_all (map f (take left (drop n cs))) ≡ total → was ≡ total
-front_all f was total cs n left none all = sym (append-nil was) ∙ rw none at all
-
 pub chars_all : (f : ℕ → ℕ) (was total cs : List ℕ) (n : ℕ) → length cs ≤ n → was ++ encode_utf8_all (map f (drop n cs)) ≡ total → was ≡ total
 chars_all f was total cs n past all = sym (append-nil was) ∙ rw (drop_all n cs past) at all
 
