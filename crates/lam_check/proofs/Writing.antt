@@ -1,7 +1,7 @@
 -- Texts that are written piece by piece.
-use Rattle.std.proofs.Common.{◌≡◌, ℕ, zero, suc, ◌+◌, ◌-◌, ◌<◌, ◌≤◌, List, [], ◌∷◌, ◌++◌, length, take, drop, map, flat_map, get_or, refl, ap, sym, ◌∙◌, arith, add-one, replicate, encode_utf8, encode_utf8_all, Result, Ok, Err, OnOk}
+use Rattle.std.proofs.Common.{◌≡◌, ℕ, zero, suc, ◌+◌, ◌-◌, ◌<◌, ◌≤◌, List, [], ◌∷◌, ◌++◌, length, take, drop, map, flat_map, get_or, refl, ap, sym, ◌∙◌, arith, add-one, encode_utf8, encode_utf8_all, Result, Ok, Err, OnOk}
 use Rattle.std.specs.List.{repeat}
-use Rattle.std.proofs.lemmas.List.{drop_more, drop_all, append_assoc, append-nil, replicate-append-replicate}
+use Rattle.std.proofs.lemmas.List.{drop_more, drop_all, append_assoc, append-nil}
 
 -- the characters that are left, by the next one and those behind it
 pub next_char : (cs : List ℕ) (n c : ℕ) → (n < length cs) × (c ≡ get_or cs n c) → drop n cs ≡ c ∷ drop (n + 1) cs

@@ -1,5 +1,5 @@
 -- Tokens that are divided at semicolons: their pieces are those of the parts, and so are their commands.
-use Rattle.std.proofs.Common.{◌≡◌, ◌⊎◌, Bool, true, false, cond, List, [], ◌∷◌, ◌++◌, append-nil, filter, length, refl, sym, ap, subst, ◌∙◌, inl, inr, arith}
+use Rattle.std.proofs.Common.{◌≡◌, Bool, true, false, cond, List, [], ◌∷◌, ◌++◌, append-nil, filter, length, refl, sym, ap, subst, ◌∙◌, inl, inr, arith}
 use Rattle.std.proofs.lemmas.List.Elements.{filter-append, All-from_recursion}
 use Rattle.lam_token.specs.Lexeme.{Lexeme}
 use Rattle.lam_syntax.specs.Trees.{word, CommandTree, definition, declaration, abbreviation, evaluation}
@@ -7,10 +7,9 @@ use Rattle.lam_syntax.specs.Grammar.{Spells}
 use Rattle.lam_syntax.specs.Answers.{is_semicolon, onto_first, runs_of, has_tokens, pieces_of}
 use Rattle.lam_syntax.specs.inner.Reads.{with_piece}
 use Rattle.lam_syntax.proofs.Runs.{GoesOn, piece_ended, last_piece}
-use Rattle.lam_query.specs.Commands.{IsCommandOf, AreCommandsOf}
+use Rattle.lam_query.specs.Commands.{AreCommandsOf}
 use Rattle.lam_query.specs.inner.OnePiece.{EndInSemicolon, BeginWithSemicolon, HaveNoSemicolon, IsOwnOf, one_command, no_command}
 use Rattle.lam_query.proofs.OneAnswer.{one_commands}
-use Rattle.lam_query.proofs.PieceLaws.{some_commands, command_or_none}
 use Rattle.lam_query.proofs.Spans.{term_place, in_command}
 use Rattle.lam_query.proofs.TreePlaces.{InCommand}
 

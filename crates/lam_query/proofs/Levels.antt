@@ -2,7 +2,7 @@
 use Rattle.std.proofs.Common.{◌≡◌, ◌↔◌, ◌⊎◌, inl, inr, ℕ, ◌+◌, ◌<◌, ◌≤◌, zero, suc, List, [], ◌∷◌, ◌++◌, length, get_or, max, map, drop, true, false, IsTrue, true≢false, refl, sym, ap, subst, ◌∙◌, arith}
 use Rattle.std.specs.List.{Contains}
 use Rattle.std.proofs.lemmas.Bool.{cases_lt}
-use Rattle.std.proofs.lemmas.List.{length-map, drop_more, drop_all}
+use Rattle.std.proofs.lemmas.List.{length-map}
 use Rattle.lam_query.specs.Steps.{Step}
 use Rattle.lam_query.specs.Views.{step_of}
 use Rattle.lam_query.specs.declared.answers.Step.{Step as RustStep}

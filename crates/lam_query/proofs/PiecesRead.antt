@@ -1,12 +1,9 @@
 -- The commands of pieces, one piece after the other.
-use Rattle.std.proofs.Common.{◌≡◌, ℕ, ◌+◌, ◌<◌, ◌≤◌, List, [], ◌∷◌, ◌++◌, length, map, drop, get_or, refl, inl, inr, append_assoc, append-nil, Err}
+use Rattle.std.proofs.Common.{◌≡◌, ℕ, ◌+◌, ◌<◌, ◌≤◌, List, [], ◌∷◌, ◌++◌, length, map, drop, get_or, refl, inl, inr, append_assoc, append-nil}
 use Rattle.std.specs.Borrow.{Bor}
 use Rattle.std.proofs.lemmas.List.{drop_more, drop_all}
 use Rattle.lam_token.specs.Lexeme.{Lexeme}
 use Rattle.lam_syntax.specs.Trees.{CommandTree}
-use Rattle.lam_syntax.specs.Views.{Accepts}
-use Rattle.lam_syntax.specs.declared.fault.ParseFault.{ParseFault}
-use Rattle.lam_syntax.specs.declared.fault.ParseFault.TheVariants as faults
 use Rattle.lam_query.specs.Commands.{IsCommandOf, AreCommandsOf}
 
 abbrev read : List (Bor (List Lexeme)) → List (List Lexeme)

@@ -1,8 +1,7 @@
 -- A command behind its stand-ins sees what it sees behind the commands that these stand in for.
-use Rattle.std.proofs.Common.{◌≡◌, ℕ, ◌+◌, List, [], ◌∷◌, ◌++◌, length, drop, map, reverse, fold, Option, Some, None, refl, sym, ap, subst, ◌∙◌, arith, Contains}
+use Rattle.std.proofs.Common.{◌≡◌, ◌+◌, List, [], ◌∷◌, ◌++◌, length, map, fold, Option, Some, None, refl, sym, ap, subst, ◌∙◌, arith, Contains}
 use Rattle.std.specs.List.{AllByRecursion}
 use Rattle.std.specs.Option.{option_or}
-use Rattle.std.proofs.lemmas.List.{reverse-append, drop-map, drop_at, length-reverse}
 use Rattle.std.proofs.lemmas.List.Elements.{Contains-append_left, Contains-append_right}
 use Rattle.lam_rules.specs.Types.{Typ}
 use Rattle.lam_rules.specs.Typing.{Context}
@@ -14,10 +13,7 @@ use Rattle.lam_scope.specs.Meanings.{MeanTheSame, StandForTheSame}
 use Rattle.lam_scope.specs.Names.{Name}
 use Rattle.lam_scope.specs.Nameless.{abbreviations_after, names_after, first_too_large}
 use Rattle.lam_scope.specs.Places.{written, Scope}
-use Rattle.lam_scope.specs.PlacedTerms.{term_of, tree_in, commands_terms, document_terms}
-use Rattle.lam_scope.specs.Tables.{table, binder_numbered, place_row_numbered, seen_in, visible_at}
-use Rattle.lam_scope.proofs.PlacedRows.{row_told}
-use Rattle.lam_scope.proofs.Reading.{map-reverse}
+use Rattle.lam_scope.specs.PlacedTerms.{commands_terms, document_terms}
 use Rattle.lam_typing.specs.Blaming.{Blamed}
 use Rattle.lam_typing.specs.LeastTypes.{AreLeastEntries}
 use Rattle.lam_typing.specs.Progress.{IsLowest}

@@ -1,5 +1,5 @@
 -- Verification of a derivation against its text.
-use Rattle.std.specs.Prelude.{◌≡◌, ◌<◌, ℕ, List, length, map, reverse, Some, true}
+use Rattle.std.specs.Prelude.{◌≡◌, ◌<◌, ℕ, List, length, map, reverse, true}
 use Rattle.lam_rules.specs.Typing.{Context, TypingTree, IsTyping}
 use Rattle.lam_rules.specs.declared.rules.Dialect.{Dialect}
 use Rattle.lam_syntax.specs.Trees.{CommandTree}

@@ -29,9 +29,9 @@ ghost use Rattle.lam_query.specs.inner.Verifying.{AreFormsOf, IsFirstNot, IsResu
 use crate::answers::{Derivation, FirstFault, Step};
 use crate::commands::commands_of;
 use crate::first_faults::{first_misplaced, is_too_deep};
-use crate::wrong_steps::{copy_of_entry, wrong_step};
 use crate::rebuilding::proof_of_steps;
 use crate::steps::steps_of_proof;
+use crate::wrong_steps::{copy_of_entry, wrong_step};
 use lam_rules::{Core, Dialect, SubRule, Ty, TypeProof, TypeRule, check_type, same};
 use lam_scope::{Binder, Origin, Place, Resolved, ScopeFault, Scopes, bind, resolve};
 use lam_token::Span;

@@ -4,8 +4,8 @@ use Rattle.std.specs.declared.alloc.Global.{Global}
 use Rattle.lam_rules.specs.Types.{Label, Typ}
 use Rattle.lam_rules.specs.Terms as rules
 use Rattle.lam_rules.specs.declared.numbers.TyNo.{TyNo}
-use Rattle.lam_scope.specs.Numbered.{Numbered, true_term, false_term, if_then_else, numeral, succ, pred, is_zero, variable, free, lambda, apply, unit_term, ascribe, let_in, record_term, project, fix, term_field, term_over, written_over, NumbersStand, StandsIfAny}
-use Rattle.lam_scope.specs.InternedViews.{numbered_made, numbered_step, numbered_field_step, numbered_of, numbered_terms, interned_term, interned_terms, StandIn, StandInTerms}
+use Rattle.lam_scope.specs.Numbered.{Numbered, true_term, false_term, if_then_else, numeral, succ, pred, is_zero, variable, free, lambda, apply, unit_term, ascribe, let_in, record_term, project, fix, term_field, term_over, written_over}
+use Rattle.lam_scope.specs.InternedViews.{numbered_made, numbered_step, numbered_field_step, numbered_of, numbered_terms, interned_term, interned_terms}
 use Rattle.lam_scope.specs.declared.interned.InternedTerm.{InternedTerm, fold-roll-InternedTerm}
 use Rattle.lam_scope.specs.declared.interned.InternedTerm.TheOpen.{InternedTerm-F}
 use Rattle.lam_scope.specs.declared.interned.InternedTerm.TheVariants.{True, False, If, Num, Succ, Pred, IsZero, Var, Free, Abs, App, Unit as UnitTerm, Ascribe, Let, Record, Proj, Fix, rolls-True, rolls-False, rolls-If, rolls-Num, rolls-Succ, rolls-Pred, rolls-IsZero, rolls-Var, rolls-Free, rolls-Abs, rolls-App, rolls-Unit, rolls-Ascribe, rolls-Let, rolls-Record, rolls-Proj, rolls-Fix}

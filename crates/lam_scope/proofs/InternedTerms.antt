@@ -9,13 +9,10 @@ use Rattle.lam_rules.specs.Terms as rules
 use Rattle.lam_rules.specs.declared.numbers.TyNo.{TyNo}
 use Rattle.lam_rules.proofs.Tables.{kept_type, keeps_length}
 use Rattle.lam_scope.specs.Numbered.{Numbered, true_term, false_term, if_then_else, numeral, succ, pred, is_zero, variable, free, lambda, apply, unit_term, ascribe, let_in, record_term, project, fix, NumberedFields, no_terms, term_field, term_over, terms_over, written_over, NumbersStand, NumbersStandInAll, StandsIfAny}
-use Rattle.lam_scope.specs.InternedViews.{numbered_of, numbered_terms, interned_term, interned_terms, interned_statement, StandIn, StandInTerms, StandInStatement}
-use Rattle.lam_scope.specs.WellFormed.{IsWellFormedTerm, AreWellFormedTerms, IsWellFormedStatement}
-use Rattle.lam_scope.specs.Places.{defines, declares, abbreviates, states}
+use Rattle.lam_scope.specs.InternedViews.{numbered_of, numbered_terms, interned_term, interned_terms, StandIn, StandInTerms}
+use Rattle.lam_scope.specs.WellFormed.{IsWellFormedTerm, AreWellFormedTerms}
 use Rattle.lam_scope.specs.declared.interned.InternedTerm.{InternedTerm}
 use Rattle.lam_scope.specs.declared.interned.InternedField.{InternedField}
-use Rattle.lam_scope.specs.declared.interned.InternedStatement.{InternedStatement}
-use Rattle.lam_scope.specs.declared.interned.InternedStatement.TheVariants as interned
 
 -- a table that grows
 

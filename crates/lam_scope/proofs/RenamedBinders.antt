@@ -6,14 +6,13 @@ use Rattle.lam_token.specs.Edits.{IsNameKind, IsOne}
 use Rattle.lam_syntax.specs.Trees.{CommandTree}
 use Rattle.lam_scope.specs.declared.numbers.Origin.{Origin}
 use Rattle.lam_scope.specs.declared.numbers.Origin.TheVariants as origin
-use Rattle.lam_scope.specs.declared.rename_fault.RenameFault.{RenameFault}
 use Rattle.lam_scope.specs.declared.rename_fault.RenameFault.TheVariants as fault
 use Rattle.lam_scope.specs.declared.scopes.Scopes.{Scopes}
 use Rattle.lam_scope.specs.Names.{Name}
 use Rattle.lam_scope.specs.Tables.{Table, table, binder_numbered, use_tokens, tokens_by}
 use Rattle.lam_scope.specs.Views.{AreScopesOf, table_of, uses_in}
 use Rattle.lam_scope.specs.Renames.{kind_bound, HasName, AreRenamed, IsRefused, answer_for}
-use Rattle.lam_scope.specs.inner.Bearers.{all_keep, IsUnfit}
+use Rattle.lam_scope.specs.inner.Bearers.{all_keep}
 use Rattle.lam_scope.proofs.AnswerNumbers.{answer_within}
 use Rattle.lam_scope.proofs.TokenLists.{tokens_by-at}
 use Rattle.lam_scope.proofs.KeptForms.{keeps_if_all, all_if_keeps}

@@ -5,7 +5,7 @@ ghost use Rattle.std.specs.Option.{option_map};
 ghost use Rattle.lam_scope.specs.Names.{index_of};
 ghost use Rattle.lam_scope.specs.Stacks.{outside};
 
-use crate::name_stack::{index_in, enter_in, leave_in};
+use crate::name_stack::{enter_in, index_in, leave_in};
 use lam_syntax::{Binder, Text};
 use std::alloc::{AllocError, Global};
 use std::collections::HashMap;

@@ -65,11 +65,7 @@ impl<'t> Grounds<'t> {
     }
 
     /// Returns the context entry of the binder of the variable at a subterm index.
-    pub(crate) fn entry_of(
-        &self,
-        alloc: Global,
-        place: usize,
-    ) -> Result<Option<Ty>, AllocError>
+    pub(crate) fn entry_of(&self, alloc: Global, place: usize) -> Result<Option<Ty>, AllocError>
         ensures { IfOk result (λ entry. written_of entry ≡ (note_among (noted_in self.now) place).bound) }
     {
         let source = bound_at(&self.noted, place);
