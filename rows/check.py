@@ -391,7 +391,7 @@ CASES = [
     Case("a label twice in a context", ["--verify", "d"], {"a": USED, "d": used("{a:Nat, b:Bool, b:Bool}", "{b:Bool, a:Nat}")}, ENTRY.format(0), 1),
     Case("a derivation of a text with a type that is too large", ["--verify", "d"], {"a": "0;\n" + LARGE, "d": line({"derivation": STEPS, "file": "a"})}, "d: the text has a type of more than 4,096 nodes\n", 1),
     Case("no such rule", ["--verify", "d"], {"a": CALL, "d": sent((0, {"rule": "T-Foo"}))}, "d: step 0 names a rule that there is not\n", 1),
-    Case("no type", ["--verify", "d"], {"a": CALL, "d": sent((0, {"type": "{x:Nat"}))}, "d: step 0 has a type that is none of the language, or more than 4,096 levels deep\n", 1),
+    Case("no type", ["--verify", "d"], {"a": CALL, "d": sent((0, {"type": "{x:Nat"}))}, "d: step 0 has no type of at most 4,096 levels\n", 1),
     Case("no derivation", ["--verify", "d"], {"a": CALL, "d": line({"derivation": None, "file": "a"})}, "d: it is no derivation: an object of `context` and `steps`, both lists\n", 1),
     Case("JSON is cut", ["--verify", "d"], {"a": CALL, "d": sent()[:14]}, "d: it is no JSON: EOF while parsing at line 1 column 14\n", 1),
     Case("derivations not in UTF-8", ["--verify", "d"], {"d": b"\xff"}, "", 4, refused("d", "it is not UTF-8 from byte 0 on")),
@@ -412,7 +412,7 @@ CASES = [
         0,
     ),
     Case("a type with a depth of 4,096", ["--verify", "d"], function_of(nested(4095)), f"d: accepted: lambda x:Top. 0 : {nested(4095)}->Nat\n", 0),
-    Case("a type with a depth of 4,097", ["--verify", "d"], function_of(nested(4096)), "d: step 4 has a type that is none of the language, or more than 4,096 levels deep\n", 1),
+    Case("a type with a depth of 4,097", ["--verify", "d"], function_of(nested(4096)), "d: step 4 has no type of at most 4,096 levels\n", 1),
     Case(
         "a permutation only if a label may have a colon",
         ["--verify", "d"],

@@ -80,10 +80,10 @@ message (faults.Range n) = codes "step " ++ decimal n ++ codes " has the range o
 unfoldable pub unread_text : Unread → Text
 unread_text unread.Derivation = codes "it is no derivation: an object of `context` and `steps`, both lists"
 unread_text (unread.Entry n) = codes "entry " ++ decimal n ++ codes " of the context is no object of `name` and `type`"
-unread_text (unread.EntryType n) = codes "entry " ++ decimal n ++ codes " of the context has no type of the language, or one more than 4,096 levels deep"
+unread_text (unread.EntryType n) = codes "entry " ++ decimal n ++ codes " of the context has no type of at most 4,096 levels"
 unread_text (unread.Step n) = codes "step " ++ decimal n ++ codes " has no object of `from`, `range`, `rule` and `type`, or of `from`, `lower`, `rule` and `upper`"
 unread_text (unread.Rule n) = codes "step " ++ decimal n ++ codes " names a rule that there is not"
-unread_text (unread.Type n) = codes "step " ++ decimal n ++ codes " has a type that is none of the language, or more than 4,096 levels deep"
+unread_text (unread.Type n) = codes "step " ++ decimal n ++ codes " has no type of at most 4,096 levels"
 unread_text (unread.Range n) = codes "step " ++ decimal n ++ codes " has a range that is not in the text"
 unread_text (unread.From n) = codes "step " ++ decimal n ++ codes " follows `from` no list of numbers of steps"
 unread_text unread.Memory = codes "out of memory"

@@ -72,7 +72,7 @@ fn unread_message(alloc: Global, fault: Unread) -> Result<String, AllocError>
         Unread::EntryType(entry) => {
             write!(
                 out,
-                "entry {entry} of the context has no type of the language, or one more than 4,096 levels deep"
+                "entry {entry} of the context has no type of at most 4,096 levels"
             )?;
         }
         Unread::Step(step) => {
@@ -82,12 +82,7 @@ fn unread_message(alloc: Global, fault: Unread) -> Result<String, AllocError>
             )?;
         }
         Unread::Rule(step) => write!(out, "step {step} names a rule that there is not")?,
-        Unread::Type(step) => {
-            write!(
-                out,
-                "step {step} has a type that is none of the language, or more than 4,096 levels deep"
-            )?;
-        }
+        Unread::Type(step) => write!(out, "step {step} has no type of at most 4,096 levels")?,
         Unread::Range(step) => write!(out, "step {step} has a range that is not in the text")?,
         Unread::From(step) => {
             write!(
