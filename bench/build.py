@@ -3,8 +3,8 @@
 
 As many crates are proved at a time as there are processors, each once those below it are, those with the longest chain above
 them first. Each is proved by one process, since each process reads the libraries anew; where fewer crates are ready than there are
-processors, the processors that are left are shared out among them, up to four processes a crate. What was built before and has
-not changed is not built again.
+processors, the processors that are left are shared out among them, up to four processes a crate. `rt` locks what a crate stands
+on, so those that stand on one crate wait for each other. What was built before and has not changed is not built again.
 """
 
 import concurrent.futures
