@@ -166,9 +166,6 @@ pub record IsLeft (d : Dialect) (start : ℕ) (all : List Judgement) (at : ℕ) 
   pub follow : AllFollow d left → AllFollow d all
   pub failing : (n : ℕ) → IsFirstFailing d at left n → IsFirstFailing d start all n
 
-pub all_left : (d : Dialect) (start : ℕ) (all : List Judgement) → IsLeft d start all start all
-all_left d start all = record { forth = omega arith; size = refl; follow = λ h. h; failing = λ n h. h }
-
 pub fewer_left : (d : Dialect) (start : ℕ) (all : List Judgement) (at : ℕ) (here left : List Judgement) (next : ℕ) → AllFollow d here → next ≡ at + length here
     → IsLeft d start all at (here ++ left) → IsLeft d start all next left
 fewer_left d start all at here left next follows far h =
@@ -300,9 +297,13 @@ module _ (d : Dialect) (start : ℕ) (about : List Subject) (at : ℕ) (ps : Lis
 pub premise_says : (about : List Subject) (k : ℕ) (s : Subject) (p : TypeProof) → Some s ≡ slice_get about k → judgements_each (drop k about) (typings_of (p ∷ [])) ≡ judgements s.context s.term (typing_tree_of p)
 premise_says about k s p is = ap (λ l. judgements_each l (typings_of (p ∷ []))) (next_of about k s is) ∙ append-nil (judgements s.context s.term (typing_tree_of p))
 
-pub premise_says_nothing : (d : Dialect) (about : List Subject) (k : ℕ) (p : TypeProof) → None ≡ slice_get about k → AllFollow d (judgements_each (drop k about) (typings_of (p ∷ [])))
-premise_says_nothing d about k p is =
-    subst (λ l. AllFollow d (judgements_each l (typings_of (p ∷ [])))) (sym (none_left_of about k is)) (all_append d (replicate (steps_in (typing_tree_of p)) about_no_part) [] (none_says d (steps_in (typing_tree_of p))) tt)
+-- premises that are about no part
+no_parts : (d : Dialect) (ps : TypingTrees) → AllFollow d (judgements_each [] ps)
+no_parts d no_typings = tt
+no_parts d (typing_first p ps) = all_append d (replicate (steps_in p) about_no_part) (judgements_each [] ps) (none_says d (steps_in p)) (no_parts d ps)
+
+pub no_part_left : (d : Dialect) (about : List Subject) (k : ℕ) (ps : TypingTrees) → None ≡ slice_get about k → AllFollow d (judgements_each (drop k about) ps)
+no_part_left d about k ps is = subst (λ l. AllFollow d (judgements_each l ps)) (sym (none_left_of about k is)) (no_parts d ps)
 
 -- ---- a step of a typing proof, from its premises
 

@@ -1,12 +1,11 @@
 //! The first step of a typing proof that does not follow by its rule.
-ghost use Rattle.std.specs.Prelude.{◌≡◌, ◌+◌, ◌<◌, ◌^◌, ◌∷◌, [], IfNone, IfOk, OnOk, MatchOption, drop, length, slice_get, take};
+ghost use Rattle.std.specs.Prelude.{◌≡◌, ◌+◌, ◌<◌, ◌^◌, ◌∷◌, [], IfOk, OnOk, MatchOption, length, slice_get, take};
 ghost use Rattle.std.specs.Option.{option_map};
 ghost use Rattle.lam_rules.specs.SubViews.{sub_tree_of, sub_trees_of};
 ghost use Rattle.lam_rules.specs.TermViews.{term_of, terms_of, written_of};
-ghost use Rattle.lam_rules.specs.Typing.{Context, IsTyping, TypingTrees};
+ghost use Rattle.lam_rules.specs.Typing.{Context, IsTyping};
 ghost use Rattle.lam_rules.specs.TypingViews.{context_of, typing_tree_of, typings_of};
-ghost use Rattle.lam_rules.specs.Subtyping.{AreSubProofs, IsSubProof};
-ghost use Rattle.lam_query.specs.Judgements.{AllFollow, IsFirstFailing, Subject, about, fields_in, first_type, judgements, judgements_each, parts_in, side_judgements, side_steps_in, steps_in, steps_in_each, sub_judgements, sub_judgements_each, sub_steps_in, sub_steps_in_each, subjects};
+ghost use Rattle.lam_query.specs.Judgements.{AllFollow, IsFirstFailing, about, fields_in, first_type, judgements, judgements_each, parts_in, side_judgements, side_steps_in, steps_in, steps_in_each, sub_judgements, sub_judgements_each, sub_steps_in, sub_steps_in_each, subjects};
 
 use lam_rules::{Core, Dialect, SubProof, Ty, TypeProof, TypeRule, check_sub, check_type, copy_of};
 use std::alloc::{AllocError, Global};
@@ -64,44 +63,18 @@ fn wrong_premise(
     let mut at = start;
     for k in 0..premises.len() {
         let premise = &premises[k];
-        let found = wrong_in(
-            alloc, context, term, rule, premises, k, premise, at, dialect,
-        )?;
-        if let Some(number) = found {
+        let Some(part) = enter(alloc, context, term, rule, premises, k)? else {
+            // No later premise is about a part either.
+            return Ok(None);
+        };
+        if !check_type(context, part, premise, dialect) {
+            let number = wrong_step(alloc, context, part, premise, at, dialect)?;
             return Ok(Some(number));
         }
         context.truncate(depth);
         at += steps_in(premise);
     }
     Ok(None)
-}
-
-/// The same for the proof of premise `k`.
-#[cycle(wrong_step)]
-fn wrong_in(
-    alloc: Global,
-    context: &mut Vec<Option<Ty>>,
-    term: &Core,
-    rule: TypeRule,
-    premises: &[TypeProof],
-    k: usize,
-    premise: &TypeProof,
-    start: usize,
-    dialect: Dialect,
-) -> Result<Option<usize>, AllocError>
-    requires room { start + steps_in (typing_tree_of premise.now) < 2 ^ 64 }
-    ensures found { IfOk result (λ found. let own = judgements_each (drop k (subjects rule (context_of context.old.items) (term_of term.now) (typings_of premises.now))) (typings_of (premise.now ∷ [])) in
-        MatchOption found (AllFollow dialect own) (λ number. IsFirstFailing dialect start own number)) }
-    ensures outer { IfOk result (λ found. IfNone found (take (length context.old.items) context.new.items ≡ context.old.items)) }
-{
-    let Some(part) = enter(alloc, context, term, rule, premises, k)? else {
-        return Ok(None);
-    };
-    if check_type(context, part, premise, dialect) {
-        return Ok(None);
-    }
-    let number = wrong_step(alloc, context, part, premise, start, dialect)?;
-    Ok(Some(number))
 }
 
 /// Returns the part of the term that premise `k` of a step by this rule is about, if there is one, and adds the context entry of

@@ -3,59 +3,62 @@ use Rattle.lam_rules.specs.TermViews.{term_of}
 use Rattle.lam_rules.specs.Typing.{IsTyping}
 use Rattle.lam_rules.specs.TypingViews.{context_of, typing_tree_of, typings_of}
 use Rattle.lam_query.specs.Judgements.{AllFollow, IsFirstFailing, about, steps_in_each, subjects}
-use Rattle.lam_query.proofs.Judging.{follows, typing_room, typing_next, typing_found, premise_says, premise_says_nothing, typing_node_size, premise_fails, side_fails, itself_fails}
+use Rattle.lam_query.proofs.Judging.{follows, typing_room, typing_next, typing_found, premise_says, no_part_left, typing_node_size, premise_fails, side_fails, itself_fails}
+use Rattle.lam_query.proofs.Verifying.{not_so}
 use Rattle.lam_query.proofs.wrong_steps.+wrong_step.Goals as goal
 
-pub wrong_in-returns-in_default-clause-found : goal.wrong_in-returns-in_default-clause-found
-wrong_in-returns-in_default-clause-found t c =
-    premise_says_nothing c.args.dialect (subjects c.args.rule (context_of c.args.context.now.items) (term_of c.args.term.now) (typings_of c.args.premises.now)) c.args.k c.args.premise.now (rw c.in_default.is at c.in_ok-part.ensures.subject)
+pub wrong_premise-returns-in_default : goal.wrong_premise-returns-in_default
+wrong_premise-returns-in_default t c =
+    let all = (subjects c.args.rule (context_of c.args.context.now.items) (term_of c.args.term.now) (typings_of c.args.premises.now)) in
+    c.loop-k.invariant.left.follow (no_part_left c.args.dialect all c.loop-k.k _ (rw (c.in_default.is, c.loop-k.invariant.same) at c.in_ok-part.ensures.subject))
 
-pub wrong_in-returns-then-check_type-clause-found : goal.wrong_in-returns-then-check_type-clause-found
-wrong_in-returns-then-check_type-clause-found t c =
-    let g = context_of c.enter.new.context.items in
-    let e = term_of c.in-Some.part.now in
-    let p = typing_tree_of c.args.premise.now in
-    let typing = subst (λ xs. IsTyping (context_of xs) e p c.args.dialect) c.deref.ensures.value (c.check_type.ensures.0 c.if-check_type.true) in
-    subst (AllFollow c.args.dialect) (sym (premise_says (subjects c.args.rule (context_of c.args.context.now.items) (term_of c.args.term.now) (typings_of c.args.premises.now)) c.args.k (about g e) c.args.premise.now (rw c.in-Some.is at c.in_ok-part.ensures.subject))) (follows c.args.dialect g e p typing)
+pub wrong_premise-wrong_step-requires : goal.wrong_premise-wrong_step-requires
+wrong_premise-wrong_step-requires t c =
+    let all = (subjects c.args.rule (context_of c.args.context.now.items) (term_of c.args.term.now) (typings_of c.args.premises.now)) in
+    let room = typing_room c.args.dialect c.args.start all c.loop-k.at c.args.premises.now c.loop-k.k c.index-premises-k.result c.loop-k.invariant.left c.loop-k-test.true c.index-premises-k.is in
+    let wrong : IsTyping (context_of c.enter.new.context.items) (term_of c.in-Some.part.now) (typing_tree_of c.index-premises-k.result) c.args.dialect → ⊥ =
+    λ h. not_so c.check_type.result c.if-not-check_type.true (c.check_type.ensures.1 (rw (sym c.deref.ensures.value) at h)) in
+    (omega (arith, c.decreases, room.1), (wrong, omega (arith, c.requires.room, room.0)))
 
-pub wrong_in-returns-clause-found : goal.wrong_in-returns-clause-found
-wrong_in-returns-clause-found t c =
-    let g = context_of c.enter.new.context.items in
-    let e = term_of c.in-Some.part.now in
-    subst (λ l. IsFirstFailing c.args.dialect c.args.start l c.in_ok-number.number)
-    (sym (premise_says (subjects c.args.rule (context_of c.args.context.now.items) (term_of c.args.term.now) (typings_of c.args.premises.now)) c.args.k (about g e) c.args.premise.now (rw c.in-Some.is at c.in_ok-part.ensures.subject))) c.in_ok-number.ensures
-
-pub wrong_premise-wrong_in-requires : goal.wrong_premise-wrong_in-requires
-wrong_premise-wrong_in-requires t c =
-    let room = typing_room c.args.dialect c.args.start (subjects c.args.rule (context_of c.args.context.now.items) (term_of c.args.term.now) (typings_of c.args.premises.now)) c.loop-k.at c.args.premises.now c.loop-k.k c.index-premises-k.result c.loop-k.invariant.left c.loop-k-test.true c.index-premises-k.is in
-    (omega (arith, c.decreases, room.1), omega (arith, c.requires.room, room.0))
-
-pub wrong_premise-returns-in-Some : goal.wrong_premise-returns-in-Some
-wrong_premise-returns-in-Some t c =
-    typing_found c.args.dialect c.args.start (subjects c.args.rule (context_of c.args.context.now.items) (term_of c.args.term.now) (typings_of c.args.premises.now)) c.loop-k.at c.args.premises.now c.loop-k.k c.index-premises-k.result c.loop-k.invariant.left c.loop-k-test.true c.index-premises-k.is
-    c.in-Some.number (rw (c.in-Some.is, c.loop-k.invariant.same) at c.in_ok-found.ensures.found)
+pub wrong_premise-returns-then-not-check_type : goal.wrong_premise-returns-then-not-check_type
+wrong_premise-returns-then-not-check_type t c =
+    let all = (subjects c.args.rule (context_of c.args.context.now.items) (term_of c.args.term.now) (typings_of c.args.premises.now)) in
+    let part = about (context_of c.enter.new.context.items) (term_of c.in-Some.part.now) in
+    let says = premise_says all c.loop-k.k part c.index-premises-k.result (rw (c.in-Some.is, c.loop-k.invariant.same) at c.in_ok-part.ensures.subject) in
+    typing_found c.args.dialect c.args.start all c.loop-k.at c.args.premises.now c.loop-k.k c.index-premises-k.result c.loop-k.invariant.left c.loop-k-test.true c.index-premises-k.is
+    c.in_ok-number.number (subst (λ l. IsFirstFailing c.args.dialect c.loop-k.at l c.in_ok-number.number) (sym says) c.in_ok-number.ensures)
 
 pub wrong_premise-steps_in-at-requires : goal.wrong_premise-steps_in-at-requires
 wrong_premise-steps_in-at-requires t c =
-    let room = typing_room c.args.dialect c.args.start (subjects c.args.rule (context_of c.args.context.now.items) (term_of c.args.term.now) (typings_of c.args.premises.now)) c.loop-k.at c.args.premises.now c.loop-k.k c.index-premises-k.result c.loop-k.invariant.left c.loop-k-test.true c.index-premises-k.is in
+    let all = (subjects c.args.rule (context_of c.args.context.now.items) (term_of c.args.term.now) (typings_of c.args.premises.now)) in
+    let room = typing_room c.args.dialect c.args.start all c.loop-k.at c.args.premises.now c.loop-k.k c.index-premises-k.result c.loop-k.invariant.left c.loop-k-test.true c.index-premises-k.is in
     omega (arith, c.requires.room, room.0)
 
 pub wrong_premise-overflow_add-at : goal.wrong_premise-overflow_add-at
 wrong_premise-overflow_add-at t c =
-    let room = typing_room c.args.dialect c.args.start (subjects c.args.rule (context_of c.args.context.now.items) (term_of c.args.term.now) (typings_of c.args.premises.now)) c.loop-k.at c.args.premises.now c.loop-k.k c.index-premises-k.result c.loop-k.invariant.left c.loop-k-test.true c.index-premises-k.is in
+    let all = (subjects c.args.rule (context_of c.args.context.now.items) (term_of c.args.term.now) (typings_of c.args.premises.now)) in
+    let room = typing_room c.args.dialect c.args.start all c.loop-k.at c.args.premises.now c.loop-k.k c.index-premises-k.result c.loop-k.invariant.left c.loop-k-test.true c.index-premises-k.is in
     omega (arith, c.requires.room, room.0, c.steps_in-at.ensures)
 
 pub wrong_premise-loop-k-preserved : goal.wrong_premise-loop-k-preserved
-wrong_premise-loop-k-preserved t c = record {
-  same =
-      c.truncate.ensures.items
-      ∙ ap (λ n. take n c.wrong_in.new.context.items) (c.len-depth.ensures ∙ c.args.context.now.ok.0 ∙ ap length (sym c.loop-k.invariant.same))
-      ∙ (rw c.in_default.is at c.in_ok-found.ensures.outer)
-      ∙ c.loop-k.invariant.same;
-  left =
-      typing_next c.args.dialect c.args.start (subjects c.args.rule (context_of c.args.context.now.items) (term_of c.args.term.now) (typings_of c.args.premises.now)) c.loop-k.at c.args.premises.now c.loop-k.k c.index-premises-k.result c.loop-k.invariant.left c.loop-k-test.true c.index-premises-k.is
-      _ (rw (c.in_default.is, c.loop-k.invariant.same) at c.in_ok-found.ensures.found) (ap (λ n. c.loop-k.at + n) c.steps_in-at.ensures);
-}
+wrong_premise-loop-k-preserved t c =
+    let all = (subjects c.args.rule (context_of c.args.context.now.items) (term_of c.args.term.now) (typings_of c.args.premises.now)) in
+    let d = c.args.dialect in
+    let e = term_of c.in-Some.part.now in
+    let g = context_of c.enter.new.context.items in
+    let p = typing_tree_of c.index-premises-k.result in
+    let says = premise_says all c.loop-k.k (about g e) c.index-premises-k.result (rw (c.in-Some.is, c.loop-k.invariant.same) at c.in_ok-part.ensures.subject) in
+    let typing = subst (λ xs. IsTyping (context_of xs) e p d) c.deref.ensures.value (c.check_type.ensures.0 c.if-not-check_type.false) in
+    record {
+      same =
+          c.truncate.ensures.items
+          ∙ ap (λ n. take n c.enter.new.context.items) (c.len-depth.ensures ∙ c.args.context.now.ok.0 ∙ ap length (sym c.loop-k.invariant.same))
+          ∙ c.in_ok-part.ensures.outer
+          ∙ c.loop-k.invariant.same;
+      left =
+          typing_next d c.args.start all c.loop-k.at c.args.premises.now c.loop-k.k c.index-premises-k.result c.loop-k.invariant.left c.loop-k-test.true c.index-premises-k.is
+          _ (subst (AllFollow d) (sym says) (follows d g e p typing)) (ap (λ n. c.loop-k.at + n) c.steps_in-at.ensures);
+    }
 
 pub wrong_step-wrong_premise-requires : goal.wrong_step-wrong_premise-requires
 wrong_step-wrong_premise-requires t c =

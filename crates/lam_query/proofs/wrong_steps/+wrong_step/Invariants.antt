@@ -6,13 +6,10 @@ use Rattle.lam_query.proofs.Judging.{IsLeft}
 use Rattle.lam_query.proofs.wrong_steps.+wrong_step.Given as goal
 
 abbrev pub decreases-wrong_step : goal.decreases-wrong_step
-decreases-wrong_step l = 3 * steps_in (typing_tree_of l.proof.now)
+decreases-wrong_step l = 2 * steps_in (typing_tree_of l.proof.now)
 
 abbrev pub decreases-wrong_premise : goal.decreases-wrong_premise
-decreases-wrong_premise l = 3 * steps_in_each (typings_of l.premises.now) + 2
-
-abbrev pub decreases-wrong_in : goal.decreases-wrong_in
-decreases-wrong_in l = 3 * steps_in (typing_tree_of l.premise.now) + 1
+decreases-wrong_premise l = 2 * steps_in_each (typings_of l.premises.now) + 1
 
 abbrev pub invariant-wrong_premise-loop-k : goal.invariant-wrong_premise-loop-k
 invariant-wrong_premise-loop-k l = record {
